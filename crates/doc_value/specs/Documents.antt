@@ -1,0 +1,72 @@
+-- Which lists of fields are a schema, and which documents are of a schema.
+use Rattle.std.specs.Prelude.{◌≡◌, ℕ, suc, true, ◌<◌, ◌≤◌, List, [], ◌∷◌, length, slice_get, IfSome, MatchOption, Option, Some, None}
+use Rattle.std.specs.Ordering.{nat_cmp}
+use Rattle.std.specs.Cmp.Lexicographic.{slice_cmp}
+use Rattle.std.specs.declared.cmp.Ordering.{Ordering}
+use Rattle.std.specs.declared.cmp.Ordering.TheVariants.{Less}
+use Rattle.doc_value.specs.declared.schema.Field.{Field}
+use Rattle.doc_value.specs.declared.schema.Kind.{Kind}
+use Rattle.doc_value.specs.declared.schema.Kind.TheVariants as kinds
+use Rattle.doc_value.specs.declared.schema.Schema.{Schema}
+use Rattle.doc_value.specs.declared.doc.Value.{Value}
+use Rattle.doc_value.specs.declared.doc.Value.TheVariants as values
+use Rattle.doc_value.specs.declared.doc.DocField.{DocField}
+
+-- a schema has at most so many fields
+abbrev pub max_fields : ℕ
+max_fields = 256
+
+-- one path comes before another in byte order
+abbrev pub IsBefore : List ℕ → List ℕ → Type 0
+IsBefore a b = slice_cmp nat_cmp a b ≡ Less
+
+-- each path comes before the next
+abbrev pub PathsRise : List Field → Type 0
+PathsRise [] = Unit {0}
+PathsRise (f ∷ []) = Unit {0}
+PathsRise (f ∷ g ∷ fs) = IsBefore f.path g.path × PathsRise (g ∷ fs)
+
+-- the timestamp field is a fast field of datetimes
+abbrev pub IsTimestamp : List Field → ℕ → Type 0
+IsTimestamp fields number =
+    MatchOption (slice_get fields number) ⊥ (λ f. (f.kind ≡ kinds.Datetime) × (f.fast ≡ true))
+
+-- at most 256 fields whose paths rise in byte order, and the number of a fast datetime field if there is a timestamp
+pub record IsSchema (schema : Schema) : Type 0 where
+  pub few : length schema.fields ≤ max_fields
+  pub rise : PathsRise schema.fields
+  pub timestamp : IfSome schema.timestamp (IsTimestamp schema.fields)
+
+-- a value is of its field's kind
+abbrev pub IsOfKind : Kind → Value → Type 0
+IsOfKind kinds.Text (values.Text t) = Unit {0}
+IsOfKind kinds.TextList (values.Text t) = Unit {0}
+IsOfKind kinds.I64 (values.I64 n) = Unit {0}
+IsOfKind kinds.U64 (values.U64 n) = Unit {0}
+IsOfKind kinds.Bool (values.Bool b) = Unit {0}
+IsOfKind kinds.Datetime (values.Datetime s) = Unit {0}
+IsOfKind _ _ = ⊥
+
+abbrev pub AreOfKind : Kind → List Value → Type 0
+AreOfKind kind [] = Unit {0}
+AreOfKind kind (v ∷ vs) = IsOfKind kind v × AreOfKind kind vs
+
+-- how many values a document may have of a field of this kind: lists of texts alone may have more than one
+abbrev pub HasGoodCount : Kind → List Value → Type 0
+HasGoodCount kinds.TextList vs = 0 < length vs
+HasGoodCount _ vs = length vs ≡ 1
+
+-- a field's values in a document: the field stands in the schema, and each value is of its kind
+abbrev pub FitsField : List Field → DocField → Type 0
+FitsField fields part =
+    MatchOption (slice_get fields part.number) ⊥ (λ f. AreOfKind f.kind part.values × HasGoodCount f.kind part.values)
+
+-- the document's fields stand in rising order of their numbers, from `least` on, and each fits
+abbrev pub FitsFrom : List Field → ℕ → List DocField → Type 0
+FitsFrom fields least [] = Unit {0}
+FitsFrom fields least (part ∷ parts) =
+    (least ≤ part.number) × FitsField fields part × FitsFrom fields (suc part.number) parts
+
+-- a document is of a schema
+abbrev pub IsOfSchema : Schema → List DocField → Type 0
+IsOfSchema schema doc = FitsFrom schema.fields 0 doc
