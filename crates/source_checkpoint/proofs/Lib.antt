@@ -1,0 +1,4 @@
+pub mod NameLemmas
+pub mod Ranges
+pub mod Covering
+pub mod Loops

@@ -1,0 +1,5 @@
+use Rattle.source_checkpoint.proofs.NameLemmas.{fields_of}
+use Rattle.source_checkpoint.proofs.partition.Partition.of.Goals as goal
+
+pub invariant_of-result : goal.invariant_of-result
+invariant_of-result c = fields_of c.args.name.now c.copy_from_slice.new.self c.copy_from_slice.ensures.after c.requires.short

@@ -1,0 +1,4 @@
+pub mod Names
+pub mod NameFields
+pub mod Deltas
+pub mod Checkpoints
