@@ -1,0 +1,5 @@
+pub mod Causes
+pub mod Spelling
+pub mod Reading
+pub mod ClientName
+pub mod ClientFields
