@@ -34,10 +34,11 @@ impl Model for Partition {
     ghost Value = { List ℕ };
 
     ghost use Rattle.source_checkpoint.specs.NameFields.{name_again};
+    ghost use Rattle.source_checkpoint.specs.Names.{IsPartition};
 
     ghost view = { λ p. take p.len p.bytes };
 
-    ghost invariant = { λ p. (p.len ≤ 64) × (length p.bytes ≡ 64) × (drop p.len p.bytes ≡ replicate (64 - p.len) 0) };
+    ghost invariant = { λ p. (p.len ≤ 64) × (length p.bytes ≡ 64) × (drop p.len p.bytes ≡ replicate (64 - p.len) 0) × IsPartition (take p.len p.bytes) };
 
     ghost inverse = { λ v. record { bytes = v ++ replicate (64 - length v) 0; len = length v } };
 
@@ -91,7 +92,9 @@ impl Partition {
 
     /// The bytes of the name.
     pub fn as_bytes(&self) -> &[u8]
-        ensures { result.now ≡ self.now }
+        ensures value { result.now ≡ self.now }
+        // Every partition has a name of this form.
+        ensures good { IsPartition self.now }
     {
         &self.bytes[..self.len]
     }
