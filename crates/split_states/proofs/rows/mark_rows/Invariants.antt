@@ -1,0 +1,6 @@
+use Rattle.std.proofs.Common.{◌≡◌, drop}
+use Rattle.split_states.specs.Rows.{change_each, marked}
+use Rattle.split_states.proofs.rows.mark_rows.Given as goal
+
+abbrev pub invariant-loop-number : goal.invariant-loop-number
+invariant-loop-number l = change_each (drop l.number-index l.numbers) (marked l.moment) l.rows ≡ change_each l.numbers (marked l.moment) l.initial.rows
