@@ -10,6 +10,7 @@ mod sink;
 mod source;
 mod take;
 mod text;
+mod texts;
 
 pub use bytes::Bytes;
 pub use calls::{Calls, Failed};
@@ -20,3 +21,4 @@ pub use sink::{MemorySink, Sink};
 pub use source::{MemorySource, Source};
 pub use take::{take_bytes, take_eight, take_flag, take_four, take_signed, take_text, take_varint};
 pub use text::Text;
+pub use texts::Texts;

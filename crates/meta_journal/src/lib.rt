@@ -3,4 +3,4 @@
 
 pub mod entry;
 
-pub use entry::{Act, Entry, Texts};
+pub use entry::{Act, Entry};
