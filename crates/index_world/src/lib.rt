@@ -2,7 +2,15 @@
 #![tactic(auto)]
 
 mod accepting;
+mod keys;
 mod placed;
+mod split_reading;
+mod split_writing;
+mod words;
 
 pub use accepting::accept;
+pub use keys::split_key;
 pub use placed::{Placed, PlacedList};
+pub use split_reading::{SplitError, read_split};
+pub use split_writing::{BuiltSplit, build, weight_of};
+pub use words::{put_number, put_word};
