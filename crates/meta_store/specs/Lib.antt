@@ -1,0 +1,7 @@
+pub mod History
+pub mod Ledgers
+pub mod Rows
+pub mod State
+pub mod Answers
+pub mod Laws
+pub mod Contents
