@@ -3,3 +3,4 @@ pub mod Spelling
 pub mod Reading
 pub mod ClientName
 pub mod ClientFields
+pub mod Places

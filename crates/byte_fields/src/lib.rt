@@ -4,6 +4,7 @@
 mod bytes;
 mod calls;
 mod client;
+mod corrupt;
 mod field_error;
 mod put;
 mod sink;
@@ -15,6 +16,7 @@ mod texts;
 pub use bytes::Bytes;
 pub use calls::{Calls, Failed};
 pub use client::Client;
+pub use corrupt::Corrupt;
 pub use field_error::FieldError;
 pub use put::{put_bytes, put_eight, put_flag, put_four, put_signed, put_varint};
 pub use sink::{MemorySink, Sink};
