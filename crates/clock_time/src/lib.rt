@@ -1,0 +1,11 @@
+//! The clock of the outside, and datetimes in texts and numbers.
+#![tactic(auto)]
+
+pub mod clock;
+pub mod dates;
+
+pub use clock::{Clock, ScriptClock};
+pub use dates::{DateError, print_rfc3339, read_rfc3339, read_unix};
+
+#[cfg(test)]
+mod tests;
