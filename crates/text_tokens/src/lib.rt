@@ -1,13 +1,9 @@
-// A library with one function.
+//! The three tokenizers.
 #![tactic(auto)]
 
-ghost use Rattle.std.specs.Prelude.{◌≡◌};
-ghost use Rattle.text_tokens.specs.Echo.{echo_of};
+pub mod runs;
+pub mod token_text;
+pub mod tokens;
 
-// The `ensures` clause is the contract: what `echo` returns is `echo_of` of its argument, a definition
-// in `specs/Echo.antt`, which a caller's clause can cite too.
-pub fn echo(x: usize) -> usize
-    ensures { result ≡ echo_of x }
-{
-    x
-}
+pub use token_text::TokenText;
+pub use tokens::{Token, Tokens, default_tokens, raw_tokens, whitespace_tokens};
