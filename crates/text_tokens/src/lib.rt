@@ -2,6 +2,8 @@
 #![tactic(auto)]
 
 pub mod runs;
+#[cfg(test)]
+mod tests;
 pub mod token_text;
 pub mod tokens;
 

@@ -2,11 +2,9 @@ ghost use Rattle.std.specs.Prelude.{◌≡◌, ◌++◌, IfOk, OnOk};
 ghost use Rattle.std.specs.Str.{chars};
 ghost use Rattle.text_tokens.specs.Runs.{is_number as is_numeral, is_inside as belongs, runs_from, closed};
 
-use std::alloc::{AllocError, Global};
-
-use unicode::properties::{GeneralCategory, is_alphabetic};
-
 use crate::token_text::TokenText;
+use std::alloc::{AllocError, Global};
+use unicode::properties::{GeneralCategory, is_alphabetic};
 
 /// How a text is cut into runs: between blanks, or into words of letters and numbers.
 #[derive(Clone, Copy, Debug, PartialEq, Eq)]

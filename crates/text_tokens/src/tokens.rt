@@ -3,13 +3,11 @@ ghost use Rattle.std.specs.Str.{chars};
 ghost use Rattle.text_tokens.specs.Runs.{runs_from};
 ghost use Rattle.text_tokens.specs.Tokens as spec;
 
-use std::alloc::{AllocError, Global};
-use std::marker::Model;
-
-use caseless::default_case_fold_str;
-
 use crate::runs::{Cut, Run, runs_of};
 use crate::token_text::TokenText;
+use caseless::default_case_fold_str;
+use std::alloc::{AllocError, Global};
+use std::marker::Model;
 
 /// The longest text in bytes that makes a raw token, and the longest run that makes a default token.
 pub const MAX_TOKEN: usize = 255;

@@ -1,5 +1,5 @@
 use Rattle.std.proofs.Common.{◌≡◌, ◌+◌, ◌++◌, length}
-use Rattle.std.specs.Str.{chars}
+use Rattle.std.specs.Str.{chars, IsUtf8}
 use Rattle.std.specs.Str.Iter.{chars_rest}
 use Rattle.text_tokens.specs.Runs.{runs_from}
 use Rattle.text_tokens.proofs.Joined.{grown}
@@ -10,3 +10,5 @@ abbrev pub invariant-loop-letter : goal.invariant-loop-letter
 invariant-loop-letter l =
     (runs_from l.cut 0 (chars l.text) ≡ l.runs.items ++ grown l.run (runs_from l.cut l.run.to (chars (chars_rest l.letter-iterator))))
     × (l.run.to + length (chars_rest l.letter-iterator) ≡ length l.text)
+    × (l.run.from + length l.run.text ≡ l.run.to)
+    × IsUtf8 (chars_rest l.letter-iterator)
