@@ -1,7 +1,8 @@
 -- Which records of the log are seen, by the ledger and by the rows. What a record and its document are is a parameter.
 use Rattle.std.specs.Prelude.{ℕ, ◌&&◌, Bool, not, List, filter, flat_map, nat_lt}
 use Rattle.source_checkpoint.specs.declared.span.Span.{Span}
-use Rattle.source_checkpoint.specs.Deltas.{range_of}
+use Rattle.source_checkpoint.specs.Deltas.{Partition, range_of}
+use Rattle.doc_value.specs.declared.doc.Doc.{Doc}
 use Rattle.split_states.specs.declared.rows.Row.{Row}
 use Rattle.split_states.specs.Rows.{is_published}
 use Rattle.delete_tasks.specs.declared.tasks.Task.{Task}
@@ -38,3 +39,9 @@ published_rows rows = filter (λ row. is_published row.state) rows
 
 abbrev pub published_contents : {X : Type 0} → Meaning X → History → List X → List X
 published_contents meaning h records = flat_map (contents meaning (ledger h).tasks records) (published_rows (rows h))
+
+-- a document and where its record stands
+pub record Placed : Type 0 where
+  pub partition : Partition
+  pub offset : ℕ
+  pub doc : Doc

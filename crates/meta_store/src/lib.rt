@@ -2,6 +2,7 @@
 #![tactic(auto)]
 
 pub mod config;
+pub mod laws;
 pub mod refusal;
 
 pub use config::{Config, Reading, Settings};
