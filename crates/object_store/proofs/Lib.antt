@@ -1,1 +1,6 @@
 mod KeyFields
+pub mod Entries
+pub mod Positions
+pub mod States
+pub mod Landings
+pub mod Plans

@@ -1,3 +1,9 @@
 pub mod Key
 pub mod KeyFields
 pub mod Store
+pub mod Entries
+pub mod Shelved
+pub mod Kept
+pub mod Plan
+pub mod MemoryStore
+pub mod SteadyStore

@@ -1,10 +1,19 @@
 //! Objects under keys: what every store of them promises, and two that keep them in memory.
 #![tactic(auto)]
 
+mod kept;
 mod key;
 mod keys;
+mod memory;
+mod objects;
+mod plan;
+mod shelf;
+mod steady;
 mod store;
 
 pub use key::{Key, KeyError};
 pub use keys::Keys;
+pub use memory::MemoryStore;
+pub use plan::Landing;
+pub use steady::SteadyStore;
 pub use store::{CreateError, GetError, ListError, ObjectStore, Piece};

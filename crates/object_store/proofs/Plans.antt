@@ -1,0 +1,59 @@
+-- Looking through the calls that are to fail, an entry at a time.
+use Rattle.std.proofs.Common.{◌≡◌, ◌≢◌, ℕ, suc, ◌+◌, ◌≤◌, ◌<◌, Bool, true, false, cond, List, [], ◌∷◌, ◌++◌, length, get_or, take, drop, Option, Some, None, refl, sym, ap, ◌∙◌, append_assoc, add-one}
+use Rattle.std.specs.Prelude.{remove}
+use Rattle.std.specs.Ordering.{nat_cmp, eq_by_cmp, is_eq}
+use Rattle.std.specs.Cmp.Lexicographic.{slice_cmp}
+use Rattle.std.proofs.lemmas.List.{get_or_default, at_drop_more, at_drop_all, take_more, take_all, append-nil}
+use Rattle.object_store.specs.declared.plan.Landing.{Landing}
+use Rattle.object_store.specs.Plan.{landing_of_key, without_key, IsFirstOf, IsNowhere}
+use Rattle.object_store.proofs.Entries.{ties_itself, not_tied}
+
+abbrev KeyEntry : Type 0
+KeyEntry = List ℕ × Landing
+
+-- what is behind a place answers for all, and so for what is left
+pub record IsPassed (key : List ℕ) (keys : List (List ℕ × Landing)) (i : ℕ) : Type 0 where
+  pub landing : landing_of_key key (drop i keys) ≡ landing_of_key key keys
+  pub rest : take i keys ++ without_key key (drop i keys) ≡ without_key key keys
+
+pub passed_none : (key : List ℕ) (keys : List (List ℕ × Landing)) → IsPassed key keys 0
+passed_none key keys = record { landing = refl; rest = refl }
+
+landing_at : (key : List ℕ) (keys : List (List ℕ × Landing)) (i : ℕ) (e : List ℕ × Landing) (b : Bool) → i < length keys → e ≡ get_or keys i e → eq_by_cmp (slice_cmp nat_cmp) e.0 key ≡ b
+    → landing_of_key key (drop i keys) ≡ cond b (Some e.1) (landing_of_key key (drop (i + 1) keys))
+landing_at key keys i e b lt is tie =
+    at_drop_more (λ (l : List KeyEntry). landing_of_key key l) keys i e lt ∙ ap (λ (x : KeyEntry). landing_of_key key (x ∷ drop (i + 1) keys)) (sym is)
+    ∙ ap (λ (b : Bool). cond b (Some e.1) (landing_of_key key (drop (i + 1) keys))) tie
+
+without_at : (key : List ℕ) (keys : List (List ℕ × Landing)) (i : ℕ) (e : List ℕ × Landing) (b : Bool) → i < length keys → e ≡ get_or keys i e → eq_by_cmp (slice_cmp nat_cmp) e.0 key ≡ b
+    → without_key key (drop i keys) ≡ cond b (drop (i + 1) keys) (e ∷ without_key key (drop (i + 1) keys))
+without_at key keys i e b lt is tie =
+    at_drop_more (λ (l : List KeyEntry). without_key key l) keys i e lt ∙ ap (λ (x : KeyEntry). without_key key (x ∷ drop (i + 1) keys)) (sym is)
+    ∙ ap (λ (b : Bool). cond b (drop (i + 1) keys) (e ∷ without_key key (drop (i + 1) keys))) tie
+
+tie_is : (a b : List ℕ) → a ≡ b → eq_by_cmp (slice_cmp nat_cmp) a b ≡ true
+tie_is a b same = ap (λ (k : List ℕ). eq_by_cmp (slice_cmp nat_cmp) k b) same ∙ ap is_eq (ties_itself b)
+
+pub key_found : (key : List ℕ) (keys : List (List ℕ × Landing)) (i : ℕ) (e : List ℕ × Landing) → IsPassed key keys i → i < length keys → e ≡ get_or keys i e → e.0 ≡ key → IsFirstOf key keys i
+key_found key keys i e p lt here same =
+    record {
+      within = lt;
+      landing_is = λ d. sym p.landing ∙ landing_at key keys i e true lt here (tie_is e.0 key same) ∙ ap (λ (x : KeyEntry). Some x.1) (here ∙ get_or_default keys i e d lt);
+      rest_is = sym p.rest ∙ ap (λ (l : List KeyEntry). take i keys ++ l) (without_at key keys i e true lt here (tie_is e.0 key same)) ∙ ap (λ (n : ℕ). take i keys ++ drop n keys) (add-one i);
+    }
+
+pub key_passed : (key : List ℕ) (keys : List (List ℕ × Landing)) (i : ℕ) (e : List ℕ × Landing) → IsPassed key keys i → i < length keys → e ≡ get_or keys i e → e.0 ≢ key → IsPassed key keys (i + 1)
+key_passed key keys i e p lt is other =
+    let tie = not_tied e.0 key other in
+    let front : take (i + 1) keys ≡ take i keys ++ e ∷ [] = take_more keys i e lt ∙ ap (λ (x : KeyEntry). take i keys ++ x ∷ []) (sym is) in
+    record {
+      landing = sym (landing_at key keys i e false lt is tie) ∙ p.landing;
+      rest = ap (λ (l : List KeyEntry). l ++ without_key key (drop (i + 1) keys)) front ∙ append_assoc (take i keys) (e ∷ []) (without_key key (drop (i + 1) keys))
+          ∙ ap (λ (l : List KeyEntry). take i keys ++ l) (sym (without_at key keys i e false lt is tie)) ∙ p.rest;
+    }
+
+pub key_nowhere : (key : List ℕ) (keys : List (List ℕ × Landing)) (i : ℕ) → IsPassed key keys i → length keys ≤ i → IsNowhere key keys
+key_nowhere key keys i p le = record {
+  absent = sym p.landing ∙ at_drop_all (λ (l : List KeyEntry). landing_of_key key l) keys i le;
+  rest_is = sym p.rest ∙ ap (λ (l : List KeyEntry). take i keys ++ l) (at_drop_all (λ (l : List KeyEntry). without_key key l) keys i le) ∙ append-nil (take i keys) ∙ take_all i keys le;
+}

@@ -1,0 +1,17 @@
+use Rattle.std.proofs.Common.{◌≡◌, ◌<◌, List, ℕ, ◌∙◌, ap, length, subst, sym, None}
+use Rattle.std.specs.Prelude.{slice_index_or}
+use Rattle.object_store.specs.declared.objects.Object.{Object}
+use Rattle.object_store.specs.Entries.{entries, found, IsPlaceOf}
+use Rattle.object_store.proofs.Positions.{removed_at, removed_absent}
+use Rattle.object_store.proofs.objects.remove.Goals as goal
+
+pub returns-in-Ok-clause-entries : goal.returns-in-Ok-clause-entries
+returns-in-Ok-clause-entries c =
+    let place = subst (λ (l : List Object). IsPlaceOf c.args.key.now l c.in-Ok.at) c.deref.ensures.value c.in-Ok.ensures.ok in
+    ap entries c.remove-object.ensures.items
+    ∙ removed_at c.args.key.now c.args.objects.now.items c.in-Ok.at c.remove-object.result c.requires.order place.within (place.key_is c.remove-object.result)
+
+pub returns-in-Err-clause-entries : goal.returns-in-Err-clause-entries
+returns-in-Err-clause-entries c =
+    let none : found c.args.key.now (entries c.args.objects.now.items) ≡ None = ap (λ (l : List Object). found c.args.key.now (entries l)) (sym c.deref.ensures.value) ∙ c.in-Err.ensures.err.absent in
+    removed_absent c.args.key.now c.args.objects.now.items none

@@ -1,0 +1,7 @@
+use Rattle.std.proofs.Common.{refl}
+use Rattle.object_store.specs.SteadyStore.{steady_state}
+use Rattle.object_store.proofs.Landings.{HasLanded-refl}
+use Rattle.object_store.proofs.steady.SteadyStoreObjectStore.delete.Goals as goal
+
+pub returns-clause-step : goal.returns-clause-step
+returns-clause-step c = (steady_state c.args.self.now, HasLanded-refl (steady_state c.args.self.now), c.take_out.ensures)

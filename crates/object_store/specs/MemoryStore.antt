@@ -1,0 +1,7 @@
+-- What a store in memory tells.
+use Rattle.object_store.specs.declared.memory.MemoryStore.{MemoryStore}
+use Rattle.object_store.specs.Kept.{state_of}
+use Rattle.object_store.specs.Store.{State}
+
+abbrev pub state : MemoryStore → State
+state s = state_of s.kept

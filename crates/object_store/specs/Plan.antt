@@ -1,0 +1,60 @@
+-- Which calls are to fail.
+use Rattle.std.specs.Prelude.{◌≡◌, ◌<◌, length, slice_index_or, remove, ℕ, List, [], ◌∷◌, Option, Some, None, Result, Ok, Err, ⊤, ◌==◌, nat_eq, if◌then◌else◌}
+use Rattle.std.specs.Ordering.{nat_cmp, eq_by_cmp}
+use Rattle.std.specs.Cmp.Lexicographic.{slice_cmp}
+use Rattle.object_store.specs.declared.plan.Landing.{Landing}
+use Rattle.object_store.specs.declared.store.CreateError.{CreateError}
+use Rattle.object_store.specs.declared.store.CreateError.TheVariants as creates
+
+-- when the call with a number lands, where it is to fail: by the first entry with its number
+abbrev pub landing_of_call : ℕ → List (ℕ × Landing) → Option Landing
+landing_of_call number [] = None
+landing_of_call number (e ∷ es) = if e.0 == number then Some e.1 else landing_of_call number es
+
+-- the same of the next create of a key
+abbrev pub landing_of_key : List ℕ → List (List ℕ × Landing) → Option Landing
+landing_of_key key [] = None
+landing_of_key key (e ∷ es) = if eq_by_cmp (slice_cmp nat_cmp) e.0 key then Some e.1 else landing_of_key key es
+
+-- without the first entry of a key
+abbrev pub without_key : List ℕ → List (List ℕ × Landing) → List (List ℕ × Landing)
+without_key key [] = []
+without_key key (e ∷ es) = if eq_by_cmp (slice_cmp nat_cmp) e.0 key then es else e ∷ without_key key es
+
+-- the first entry of a key stands at this place
+pub record IsFirstOf (key : List ℕ) (keys : List (List ℕ × Landing)) (at : ℕ) : Type 0 where
+  pub within : at < length keys
+  pub landing_is : (d : List ℕ × Landing) → landing_of_key key keys ≡ Some (slice_index_or keys at d).1
+  pub rest_is : without_key key keys ≡ remove keys at
+
+-- no entry is of this key
+pub record IsNowhere (key : List ℕ) (keys : List (List ℕ × Landing)) : Type 0 where
+  pub absent : landing_of_key key keys ≡ None
+  pub rest_is : without_key key keys ≡ keys
+
+-- what is to fail fails, or finds no memory, and nothing else fails
+abbrev pub FailsWhere : Option Landing → Result (Unit {0}) CreateError → Type 0
+FailsWhere None (Ok done) = ⊤
+FailsWhere None (Err creates.Exists) = ⊤
+FailsWhere None (Err creates.Failed) = ⊥
+FailsWhere None (Err (creates.Memory e)) = ⊤
+FailsWhere (Some landing) (Ok done) = ⊥
+FailsWhere (Some landing) (Err creates.Exists) = ⊥
+FailsWhere (Some landing) (Err creates.Failed) = ⊤
+FailsWhere (Some landing) (Err (creates.Memory e)) = ⊤
+
+-- when a create lands, where it is to fail: by its number, or else by its key
+abbrev pub either : Option Landing → Option Landing → Option Landing
+either (Some landing) other = Some landing
+either None other = other
+
+abbrev pub landing_of_create : ℕ → List ℕ → List (ℕ × Landing) → List (List ℕ × Landing) → Option Landing
+landing_of_create number key calls keys = either (landing_of_call number calls) (landing_of_key key keys)
+
+-- the keys that are still to fail behind a create: one that failed by its key is spent
+abbrev pub keys_left : Option Landing → List ℕ → Result (Unit {0}) CreateError → List (List ℕ × Landing) → List (List ℕ × Landing)
+keys_left (Some by_number) key result keys = keys
+keys_left None key (Ok done) keys = keys
+keys_left None key (Err creates.Exists) keys = keys
+keys_left None key (Err creates.Failed) keys = without_key key keys
+keys_left None key (Err (creates.Memory e)) keys = keys

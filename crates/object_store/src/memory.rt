@@ -1,0 +1,243 @@
+ghost use Rattle.std.specs.Prelude.{◌≡◌, ◌≤◌, ◌+◌, ◌∷◌, ◌++◌, [], ℕ, Option, None, Some, IfOk, OnOk, OnErr, IsErr, IsErrOf, IsSome, ◌↔◌, length};
+ghost use Rattle.std.specs.Option.{option_copied};
+ghost use Rattle.std.specs.FinMap as finmap;
+ghost use Rattle.byte_fields.specs.Causes.{HasCause, following};
+ghost use Rattle.object_store.specs.Store.{AfterLanding, Creates, Gets, Deletes, Lists};
+ghost use Rattle.object_store.specs.Plan.{landing_of_call, landing_of_key};
+
+use crate::kept::Kept;
+use crate::plan::{Landing, Plan};
+use crate::{CreateError, GetError, Key, Keys, ListError, ObjectStore, Piece};
+use byte_fields::Failed;
+use std::alloc::{AllocError, Global};
+
+/// Objects in memory. Some of its calls fail, as `fail_key` and `fail_call` say.
+#[derive(Debug, Drop)]
+pub struct MemoryStore {
+    kept: Kept,
+    plan: Plan,
+}
+
+impl MemoryStore {
+    ghost use Rattle.object_store.specs.MemoryStore.{state};
+
+    /// No objects, nothing late, and no call that is to fail.
+    pub fn vacant(alloc: Global) -> MemoryStore
+        ensures objects { (state result).objects ≡ finmap.empty }
+        ensures late { (state result).late ≡ [] }
+        ensures faults { result.plan.faults ≡ 0 }
+        ensures made { result.plan.made ≡ 0 }
+        ensures calls { result.plan.calls.items ≡ [] }
+        ensures keys { result.plan.keys.items ≡ [] }
+    {
+        MemoryStore {
+            kept: Kept::vacant(alloc),
+            plan: Plan::vacant(alloc),
+        }
+    }
+
+    /// Makes the next create of that key fail. Where its number is to fail too, that call fails by its number, and the one behind it by its key.
+    pub fn fail_key(&mut self, key: Key, landing: Landing) -> Result<(), AllocError>
+        ensures ok { OnOk result (self.new.plan.keys.items ≡ self.old.plan.keys.items ++ (key, landing) ∷ []) }
+        ensures err { OnErr result (self.new.plan.keys.items ≡ self.old.plan.keys.items) }
+        ensures calls { self.new.plan.calls.items ≡ self.old.plan.calls.items }
+        ensures made { self.new.plan.made ≡ self.old.plan.made }
+        ensures faults { self.new.plan.faults ≡ self.old.plan.faults }
+        ensures state { state self.new ≡ state self.old }
+    {
+        self.plan.keys.push((key, landing))?;
+        Ok(())
+    }
+
+    /// Makes the call with this number, counted from 1 over all calls but `faults`, fail.
+    pub fn fail_call(&mut self, number: u64, landing: Landing) -> Result<(), AllocError>
+        ensures ok { OnOk result (self.new.plan.calls.items ≡ self.old.plan.calls.items ++ (number, landing) ∷ []) }
+        ensures err { OnErr result (self.new.plan.calls.items ≡ self.old.plan.calls.items) }
+        ensures keys { self.new.plan.keys.items ≡ self.old.plan.keys.items }
+        ensures made { self.new.plan.made ≡ self.old.plan.made }
+        ensures faults { self.new.plan.faults ≡ self.old.plan.faults }
+        ensures state { state self.new ≡ state self.old }
+    {
+        self.plan.calls.push((number, landing))?;
+        Ok(())
+    }
+}
+
+// How a call of a store in memory goes.
+impl MemoryStore {
+    ghost use Rattle.object_store.specs.Store.{HasLanded};
+    ghost use Rattle.object_store.specs.Plan.{FailsWhere, keys_left};
+    ghost use Rattle.object_store.specs.MemoryStore.{state};
+
+    // A call begins: what is due lands. Says whether it fails by its number, and when it lands then.
+    fn begin(&mut self) -> Option<Landing>
+        ensures lands { HasLanded (state self.old) (state self.new) }
+        ensures answer { result ≡ landing_of_call (following self.old.plan.made) self.old.plan.calls.items }
+        ensures plan { self.new.plan ≡ record self.old.plan { made = following self.old.plan.made } }
+    {
+        let landing = self.plan.begin();
+        self.kept.land(self.plan.made);
+        landing
+    }
+
+    // The change of a create that fails. Where it is to land later, it makes the room for that first.
+    fn fall(
+        &mut self,
+        alloc: Global,
+        key: &Key,
+        content: &[u8],
+        landing: Landing,
+    ) -> Result<(), AllocError>
+        ensures ok { OnOk result (Creates key.now content.now (Err CreateError.Failed) (state self.old) (state self.new)) }
+        ensures err { OnErr result (state self.new ≡ state self.old) }
+        ensures plan { self.new.plan ≡ self.old.plan }
+    {
+        match landing {
+            Landing::AtOnce => self.kept.put_where_absent(alloc, key, content),
+            Landing::AfterCalls(count) => {
+                let call = self.plan.made.saturating_add(u64::from(count));
+                self.kept.put_late(alloc, key, content, Some(call))
+            }
+            Landing::Never => self.kept.put_late(alloc, key, content, None),
+        }
+    }
+
+    // A create that fails by its number.
+    fn create_failing(
+        &mut self,
+        alloc: Global,
+        key: &Key,
+        content: &[u8],
+        landing: Landing,
+    ) -> Result<(), CreateError>
+        ensures step { Creates key.now content.now result (state self.old) (state self.new) }
+        ensures cause { HasCause self.old.plan.faults self.new.plan.faults (IsErrOf result CreateError.Failed) }
+        ensures fails { FailsWhere (Some landing) result }
+        ensures keys { self.new.plan.keys.items ≡ self.old.plan.keys.items }
+        ensures calls { self.new.plan.calls.items ≡ self.old.plan.calls.items }
+        ensures made { self.new.plan.made ≡ self.old.plan.made }
+    {
+        self.fall(alloc, key, content, landing)?;
+        self.plan.count_fault();
+        Err(CreateError::Failed)
+    }
+
+    // A create that does not fail by its number.
+    fn create_by_key(&mut self, alloc: Global, key: &Key, content: &[u8]) -> Result<(), CreateError>
+        ensures step { Creates key.now content.now result (state self.old) (state self.new) }
+        ensures cause { HasCause self.old.plan.faults self.new.plan.faults (IsErrOf result CreateError.Failed) }
+        ensures fails { FailsWhere (landing_of_key key.now self.old.plan.keys.items) result }
+        ensures keys { self.new.plan.keys.items ≡ keys_left None key.now result self.old.plan.keys.items }
+        ensures calls { self.new.plan.calls.items ≡ self.old.plan.calls.items }
+        ensures made { self.new.plan.made ≡ self.old.plan.made }
+    {
+        match self.plan.landing_of_key(key) {
+            None => self.kept.create(alloc, key, content),
+            Some(landing) => {
+                self.fall(alloc, key, content, landing)?;
+                self.plan.spend(key);
+                self.plan.count_fault();
+                Err(CreateError::Failed)
+            }
+        }
+    }
+}
+
+impl ObjectStore for MemoryStore {
+    ghost use Rattle.object_store.specs.MemoryStore.{state};
+    ghost use Rattle.object_store.specs.Plan.{FailsWhere, keys_left, landing_of_create};
+
+    ghost told = { λ s. Some (state s) };
+
+    ghost fault_count = { λ s. s.plan.faults };
+
+    fn create(&mut self, alloc: Global, key: &Key, content: &[u8]) -> Result<(), CreateError>
+        ensures step { AfterLanding (Some (state self.old)) (Some (state self.new)) (Creates key.now content.now result) }
+        ensures cause { HasCause self.old.plan.faults self.new.plan.faults (IsErrOf result CreateError.Failed) }
+        // It fails exactly where its number or else its key is to fail, but for want of memory.
+        ensures fails { FailsWhere (landing_of_create (following self.old.plan.made) key.now self.old.plan.calls.items self.old.plan.keys.items) result }
+        ensures keys { self.new.plan.keys.items ≡ keys_left (landing_of_call (following self.old.plan.made) self.old.plan.calls.items) key.now result self.old.plan.keys.items }
+        ensures calls { self.new.plan.calls.items ≡ self.old.plan.calls.items }
+        ensures made { self.new.plan.made ≡ following self.old.plan.made }
+    {
+        match self.begin() {
+            None => self.create_by_key(alloc, key, content),
+            Some(landing) => self.create_failing(alloc, key, content, landing),
+        }
+    }
+
+    fn get(&mut self, alloc: Global, key: &Key, from: u64, len: u64) -> Result<Piece, GetError>
+        ensures step { AfterLanding (Some (state self.old)) (Some (state self.new)) (Gets key.now from len result) }
+        ensures bound { IfOk result (λ piece. length piece.bytes ≤ len) }
+        ensures cause { HasCause self.old.plan.faults self.new.plan.faults (IsErrOf result GetError.Failed) }
+        // It fails exactly where its number is to fail.
+        ensures fails { IsErrOf result GetError.Failed ↔ IsSome (landing_of_call (following self.old.plan.made) self.old.plan.calls.items) }
+        ensures keys { self.new.plan.keys.items ≡ self.old.plan.keys.items }
+        ensures calls { self.new.plan.calls.items ≡ self.old.plan.calls.items }
+        ensures made { self.new.plan.made ≡ following self.old.plan.made }
+    {
+        match self.begin() {
+            None => self.kept.shelf.get(alloc, key, from, len),
+            Some(_) => {
+                self.plan.count_fault();
+                Err(GetError::Failed)
+            }
+        }
+    }
+
+    fn delete(&mut self, key: &Key) -> Result<(), Failed>
+        ensures step { AfterLanding (Some (state self.old)) (Some (state self.new)) (Deletes key.now result) }
+        ensures cause { HasCause self.old.plan.faults self.new.plan.faults (IsErr result) }
+        // It fails exactly where its number is to fail.
+        ensures fails { IsErr result ↔ IsSome (landing_of_call (following self.old.plan.made) self.old.plan.calls.items) }
+        ensures keys { self.new.plan.keys.items ≡ self.old.plan.keys.items }
+        ensures calls { self.new.plan.calls.items ≡ self.old.plan.calls.items }
+        ensures made { self.new.plan.made ≡ following self.old.plan.made }
+    {
+        match self.begin() {
+            None => {
+                self.kept.take_out(key);
+                Ok(())
+            }
+            Some(Landing::AtOnce) => {
+                self.kept.take_out(key);
+                self.plan.count_fault();
+                Err(Failed)
+            }
+            Some(_) => {
+                self.plan.count_fault();
+                Err(Failed)
+            }
+        }
+    }
+
+    fn list(
+        &mut self,
+        alloc: Global,
+        prefix: &Key,
+        after: Option<&Key>,
+        max: u32,
+    ) -> Result<Keys, ListError>
+        requires { 1 ≤ max }
+        ensures step { AfterLanding (Some (state self.old)) (Some (state self.new)) (Lists prefix.now (option_copied after.entry) max result) }
+        ensures bound { IfOk result (λ keys. length keys ≤ max) }
+        ensures cause { HasCause self.old.plan.faults self.new.plan.faults (IsErrOf result ListError.Failed) }
+        // It fails exactly where its number is to fail.
+        ensures fails { IsErrOf result ListError.Failed ↔ IsSome (landing_of_call (following self.old.plan.made) self.old.plan.calls.items) }
+        ensures keys { self.new.plan.keys.items ≡ self.old.plan.keys.items }
+        ensures calls { self.new.plan.calls.items ≡ self.old.plan.calls.items }
+        ensures made { self.new.plan.made ≡ following self.old.plan.made }
+    {
+        match self.begin() {
+            None => self.kept.shelf.list(alloc, prefix, after, max),
+            Some(_) => {
+                self.plan.count_fault();
+                Err(ListError::Failed)
+            }
+        }
+    }
+
+    fn faults(&self) -> u64 {
+        self.plan.faults
+    }
+}

@@ -1,0 +1,111 @@
+// Which calls of a store in memory fail, and how many did.
+ghost use Rattle.std.specs.Prelude.{◌≡◌, ◌≤◌, ◌+◌, ◌∷◌, ◌++◌, [], OnOk, OnErr, IfSome, IfNone};
+ghost use Rattle.byte_fields.specs.Causes.{Rose, following};
+ghost use Rattle.object_store.specs.Plan.{landing_of_call, landing_of_key, without_key, IsFirstOf, IsNowhere};
+
+use crate::Key;
+use std::alloc::{AllocError, Global};
+
+/// When a failed create takes effect.
+#[derive(Clone, Copy, Debug, PartialEq, Eq)]
+pub enum Landing {
+    /// Within the call that fails.
+    AtOnce,
+    /// As the call begins that is so many calls later, if the key is absent then.
+    AfterCalls(u32),
+    Never,
+}
+
+/// The calls that are to fail, by their numbers and by the keys that they create.
+#[derive(Debug, Drop)]
+pub struct Plan {
+    pub made: u64,
+    pub faults: u64,
+    pub calls: Vec<(u64, Landing)>,
+    pub keys: Vec<(Key, Landing)>,
+}
+
+// When the call with a number lands, where it is to fail.
+fn landing_of_call(number: u64, calls: &[(u64, Landing)]) -> Option<Landing>
+    ensures { result ≡ landing_of_call number calls.now }
+{
+    for &(call, landing) in calls {
+        if call == number {
+            return Some(landing);
+        }
+    }
+    None
+}
+
+// Where the first entry of a key stands.
+fn place_of_key(key: &Key, keys: &[(Key, Landing)]) -> Option<usize>
+    ensures some { IfSome result (IsFirstOf key.now keys.now) }
+    ensures none { IfNone result (IsNowhere key.now keys.now) }
+{
+    for (at, (failing, _)) in keys.iter().enumerate() {
+        if failing.is_same(key) {
+            return Some(at);
+        }
+    }
+    None
+}
+
+impl Plan {
+    /// No call is to fail.
+    pub fn vacant(alloc: Global) -> Plan
+        ensures made { result.made ≡ 0 }
+        ensures faults { result.faults ≡ 0 }
+        ensures calls { result.calls.items ≡ [] }
+        ensures keys { result.keys.items ≡ [] }
+    {
+        Plan {
+            made: 0,
+            faults: 0,
+            calls: Vec::new(alloc),
+            keys: Vec::new(alloc),
+        }
+    }
+
+    /// A call begins. Says whether it fails by its number, and when it lands then.
+    pub fn begin(&mut self) -> Option<Landing>
+        ensures answer { result ≡ landing_of_call (following self.old.made) self.old.calls.items }
+        ensures counted { self.new ≡ record self.old { made = following self.old.made } }
+    {
+        self.made = self.made.saturating_add(1);
+        landing_of_call(self.made, &self.calls)
+    }
+
+    /// Whether the next create of a key fails, and when it lands then.
+    pub fn landing_of_key(&self, key: &Key) -> Option<Landing>
+        ensures { result ≡ landing_of_key key.now self.now.keys.items }
+    {
+        match place_of_key(key, &self.keys) {
+            Some(at) => Some(self.keys[at].1),
+            None => None,
+        }
+    }
+
+    /// The next create of a key has failed.
+    pub fn spend(&mut self, key: &Key)
+        ensures keys { self.new.keys.items ≡ without_key key.now self.old.keys.items }
+        ensures made { self.new.made ≡ self.old.made }
+        ensures calls { self.new.calls.items ≡ self.old.calls.items }
+        ensures faults { self.new.faults ≡ self.old.faults }
+    {
+        match place_of_key(key, &self.keys) {
+            Some(at) => {
+                let _spent = self.keys.remove(at);
+            }
+            None => {}
+        }
+    }
+
+    /// Counts a fault.
+    pub fn count_fault(&mut self)
+        ensures counted { self.new ≡ record self.old { faults = following self.old.faults } }
+        ensures later { self.old.faults ≤ self.new.faults }
+        ensures rose { Rose self.old.faults self.new.faults }
+    {
+        self.faults = self.faults.saturating_add(1);
+    }
+}
