@@ -1,0 +1,9 @@
+pub mod Orders
+pub mod Runs
+pub mod Areas
+pub mod Scans
+pub mod Starts
+pub mod Places
+pub mod Ranges
+pub mod Lending
+pub mod Builds

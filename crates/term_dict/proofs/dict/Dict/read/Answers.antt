@@ -1,0 +1,10 @@
+use Rattle.std.proofs.Common.{◌≡◌, arith, length, List, ap}
+use Rattle.term_dict.specs.declared.index.BlockStart.{BlockStart}
+use Rattle.term_dict.proofs.Starts.{no_blocks}
+use Rattle.term_dict.proofs.dict.Dict.read.Goals as goal
+
+pub returns-then-len-gt0 : goal.returns-then-len-gt0
+returns-then-len-gt0 c terms d =
+    let none : length c.args.area.now ≡ 0 = grind arith in
+    let empty = ap (λ (l : List BlockStart). length l) (no_blocks c.args.area.now c.args.index.now terms d none) in
+    absurd (omega (arith, c.len.ensures))

@@ -1,0 +1,5 @@
+pub mod Keys
+pub mod Terms
+pub mod Blocks
+pub mod Readers
+pub mod Lent

@@ -1,0 +1,113 @@
+ghost use Rattle.std.specs.Prelude.{◌≡◌, ◌≢◌, ◌≤◌, ◌<◌, ◌++◌, [], List, ℕ, length, drop, IfOk, IsOkAnd, Ok};
+ghost use Rattle.term_dict.specs.Terms.{AreTerms, Fits, area, term_bytes, info_bytes, lookup, from_key};
+ghost use Rattle.term_dict.specs.Readers.{IsReadTerm};
+ghost use Rattle.term_dict.specs.declared.term.Term.{Term};
+
+use crate::TermInfo;
+use crate::index::{is_below, is_same};
+use byte_fields::{Corrupt, take_bytes, take_varint};
+
+/// The terms of one block, in bytes.
+#[derive(Clone, Copy, Debug)]
+pub struct Block<'a> {
+    pub(crate) bytes: &'a [u8],
+}
+
+impl<'a> Block<'a> {
+    ghost use Rattle.term_dict.specs.Readers.{IsBlock};
+
+    /// The block that these bytes are. Its terms are read when they are looked for.
+    pub fn read(bytes: &'a [u8]) -> Result<Block<'a>, Corrupt>
+        ensures { (terms : List Term) → terms ≢ [] → AreTerms terms → bytes.now ≡ area terms → IsOkAnd result (λ b. IsBlock b terms) }
+    {
+        if bytes.is_empty() {
+            return Err(Corrupt { at: 0 });
+        }
+        Ok(Block { bytes })
+    }
+
+    /// What the block has at a key.
+    pub fn find(&self, key: &[u8]) -> Result<Option<TermInfo>, Corrupt>
+        ensures { (terms : List Term) → IsBlock self.now terms → result ≡ Ok (lookup key.now terms) }
+    {
+        find_from(self.bytes, 0, key)
+    }
+}
+
+/// A key and its numbers, as they stand in the bytes.
+#[derive(Clone, Copy)]
+pub(crate) struct Entry<'a> {
+    pub(crate) key: &'a [u8],
+    pub(crate) info: TermInfo,
+}
+
+// The first term from a place on whose key is not below a key: its place, or the end.
+pub(crate) fn scan(bytes: &[u8], from: usize, key: &[u8]) -> Result<usize, Corrupt>
+    requires { from ≤ length bytes.now }
+    ensures within { IfOk result (λ at. at ≤ length bytes.now) }
+    ensures only { (terms : List Term) → AreTerms terms → drop from bytes.now ≡ area terms
+        → IsOkAnd result (λ at. drop at bytes.now ≡ area (from_key key.now terms)) }
+{
+    let mut at = from;
+    while at < bytes.len() {
+        let (entry, next) = read_term(bytes, at)?;
+        if !is_below(entry.key, key) {
+            break;
+        }
+        at = next;
+    }
+    Ok(at)
+}
+
+// What the terms from a place on have at a key.
+pub(crate) fn find_from(bytes: &[u8], from: usize, key: &[u8]) -> Result<Option<TermInfo>, Corrupt>
+    requires { from ≤ length bytes.now }
+    ensures { (terms : List Term) → AreTerms terms → drop from bytes.now ≡ area terms → result ≡ Ok (lookup key.now terms) }
+{
+    let at = scan(bytes, from, key)?;
+    if at == bytes.len() {
+        return Ok(None);
+    }
+    let (entry, _behind) = read_term(bytes, at)?;
+    if !is_same(entry.key, key) {
+        return Ok(None);
+    }
+    Ok(Some(entry.info))
+}
+
+// The term at a place, and the place behind it.
+pub(crate) fn read_term(bytes: &[u8], at: usize) -> Result<(Entry<'_>, usize), Corrupt>
+    requires { at ≤ length bytes.now }
+    ensures forward { IfOk result (λ x. (at < x.1) × (x.1 ≤ length bytes.now)) }
+    ensures only { (t : Term) (rest : List ℕ) → Fits t → drop at bytes.now ≡ term_bytes t ++ rest
+        → IsOkAnd result (λ x. IsReadTerm t rest (drop x.1 bytes.now) x.0) }
+{
+    let (key, next) = take_bytes(bytes, at)?;
+    let (info, next) = read_info(bytes, next)?;
+    Ok((Entry { key, info }, next))
+}
+
+// The numbers at a place, and the place behind them.
+fn read_info(bytes: &[u8], at: usize) -> Result<(TermInfo, usize), Corrupt>
+    requires { at ≤ length bytes.now }
+    ensures forward { IfOk result (λ x. (at ≤ x.1) × (x.1 ≤ length bytes.now)) }
+    ensures only { (t : Term) (rest : List ℕ) → Fits t → drop at bytes.now ≡ info_bytes t.info ++ rest
+        → IsOkAnd result (λ x. (x.0 ≡ t.info) × (drop x.1 bytes.now ≡ rest)) }
+{
+    let (docs, next) = take_varint(bytes, at)?;
+    if docs > u64::from(u32::MAX) {
+        return Err(Corrupt { at });
+    }
+    let (postings, after_postings) = take_varint(bytes, next)?;
+    let (postings_len, after_len) = take_varint(bytes, after_postings)?;
+    let (positions, after_positions) = take_varint(bytes, after_len)?;
+    let (positions_len, end) = take_varint(bytes, after_positions)?;
+    let info = TermInfo {
+        docs: docs as u32,
+        postings,
+        postings_len,
+        positions,
+        positions_len,
+    };
+    Ok((info, end))
+}

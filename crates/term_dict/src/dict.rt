@@ -1,0 +1,110 @@
+ghost use Rattle.std.specs.Prelude.{◌≡◌, ◌≤◌, ◌+◌, ◌*◌, ◌&&◌, List, ℕ, length, take, drop, filter, not, IfOk, IsOkAnd, Ok, nat_eq};
+ghost use Rattle.std.specs.List.{starts_with};
+ghost use Rattle.term_dict.specs.Keys.{is_below};
+ghost use Rattle.term_dict.specs.Terms.{IsDict, area, lookup, from_key};
+ghost use Rattle.term_dict.specs.Blocks.{IsAround};
+ghost use Rattle.term_dict.specs.Readers.{Lends};
+ghost use Rattle.term_dict.specs.declared.term.Term.{Term};
+
+use crate::block::{find_from, scan};
+use crate::range::End;
+use crate::{BlockIndex, TermInfo, TermRange};
+use byte_fields::Corrupt;
+
+/// A dictionary over its area of blocks and its index.
+#[derive(Clone, Copy, Debug)]
+pub struct Dict<'a> {
+    pub(crate) area: &'a [u8],
+    pub(crate) index: &'a BlockIndex,
+}
+
+impl<'a> Dict<'a> {
+    ghost use Rattle.term_dict.specs.Readers.{IsOver};
+
+    /// The dictionary that these bytes are. Its blocks are read when they are looked into.
+    pub fn read(area: &'a [u8], index: &'a BlockIndex) -> Result<Dict<'a>, Corrupt>
+        ensures { (terms : List Term) → IsDict area.now index.now terms → IsOkAnd result (λ d. IsOver d terms) }
+    {
+        if index.is_empty() && !area.is_empty() {
+            return Err(Corrupt { at: 0 });
+        }
+        if area.is_empty() && index.len() > 0 {
+            return Err(Corrupt { at: 0 });
+        }
+        Ok(Dict { area, index })
+    }
+
+    /// What the dictionary has at a key. It reads one block.
+    pub fn find(&self, key: &[u8]) -> Result<Option<TermInfo>, Corrupt>
+        ensures { (terms : List Term) → IsOver self.now terms → result ≡ Ok (lookup key.now terms) }
+    {
+        let (start, end) = self.block_of(key)?;
+        find_from(&self.area[..end], start, key)
+    }
+
+    /// The terms whose keys begin with a prefix.
+    pub fn prefix_range<'b>(&'b self, prefix: &'b [u8]) -> Result<TermRange<'b>, Corrupt>
+        ensures { (terms : List Term) → IsOver self.now terms
+            → IsOkAnd result (λ r. Lends r (filter (λ t. starts_with nat_eq t.key prefix.now) terms)) }
+    {
+        let at = self.place_of(prefix)?;
+        Ok(TermRange {
+            area: self.area,
+            at,
+            end: End::Prefix(prefix),
+        })
+    }
+
+    /// The terms from the key `low` up to and without the key `high`.
+    pub fn key_range<'b>(&'b self, low: &[u8], high: &'b [u8]) -> Result<TermRange<'b>, Corrupt>
+        ensures { (terms : List Term) → IsOver self.now terms
+            → IsOkAnd result (λ r. Lends r (filter (λ t. not (is_below t.key low.now) && is_below t.key high.now) terms)) }
+    {
+        let at = self.place_of(low)?;
+        Ok(TermRange {
+            area: self.area,
+            at,
+            end: End::Below(high),
+        })
+    }
+
+    // The place of the first term whose key is not below a key.
+    fn place_of(&self, key: &[u8]) -> Result<usize, Corrupt>
+        ensures within { IfOk result (λ at. at ≤ length self.now.area.now) }
+        ensures only { (terms : List Term) → IsOver self.now terms
+            → IsOkAnd result (λ at. drop at self.now.area.now ≡ area (from_key key.now terms)) }
+    {
+        let (start, end) = self.block_of(key)?;
+        scan(&self.area[..end], start, key)
+    }
+
+    // From where to where the block stands that can have a key.
+    fn block_of(&self, key: &[u8]) -> Result<(usize, usize), Corrupt>
+        ensures within { IfOk result (λ x. (x.0 ≤ x.1) × (x.1 ≤ length self.now.area.now)) }
+        ensures only { (terms : List Term) → IsOver self.now terms → IsOkAnd result (λ x. IsAround self.now.area.now terms key.now x.0 x.1) }
+    {
+        let count = self.index.count_up_to(key);
+        if count == 0 {
+            return Ok((0, 0));
+        }
+        let start = self.start_of(count - 1);
+        let end = self.start_of(count);
+        if start > end || end > self.area.len() {
+            return Err(Corrupt {
+                at: start.min(self.area.len()),
+            });
+        }
+        Ok((start, end))
+    }
+
+    // Where a block starts, or the end behind the last one.
+    fn start_of(&self, number: usize) -> usize
+        requires { number ≤ length self.now.index.now }
+        ensures { (terms : List Term) → IsOver self.now terms → result ≡ length (area (take (64 * number) terms)) }
+    {
+        if number == self.index.len() {
+            return self.area.len();
+        }
+        self.index.at(number).start as usize
+    }
+}

@@ -1,0 +1,16 @@
+//! A dictionary of terms: blocks of 64 terms by rising keys, and an index of the blocks' first keys.
+#![tactic(auto)]
+
+mod block;
+mod build;
+mod dict;
+mod index;
+mod range;
+mod term;
+
+pub use block::Block;
+pub use build::build_dict;
+pub use dict::Dict;
+pub use index::{BlockIndex, BlockStart};
+pub use range::TermRange;
+pub use term::{Term, TermInfo, TermList};
