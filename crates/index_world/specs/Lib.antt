@@ -1,0 +1,13 @@
+pub mod Config
+pub mod Accepted
+pub mod Tokens
+pub mod Words
+pub mod Seen
+pub mod SplitFile
+pub mod Journal
+pub mod Index
+pub mod Core
+pub mod Calls
+pub mod Standing
+pub mod World
+pub mod Gate

@@ -1,0 +1,91 @@
+-- What one life of a world knows of its store and its clock, whatever its actors do.
+use Rattle.std.specs.Prelude.{◌≡◌, ℕ, ◌-◌, ◌^◌, Bool, true, false, List, [], ◌∷◌, ◌++◌, Option, Some, None, bytes_eq, if◌then◌else◌}
+use Rattle.std.specs.List.{AllByRecursion}
+use Rattle.index_world.specs.Journal.{spelling, meta_key}
+use Rattle.meta_journal.specs.declared.entry.Entry.{Entry}
+use Rattle.source_checkpoint.specs.declared.delta.Part.{Part}
+use Rattle.source_log.specs.Log.{Log}
+use Rattle.split_states.specs.declared.facts.RowFacts.{RowFacts}
+use Rattle.index_world.specs.Index.{split_key, has_staged, was_published, HasStaged}
+
+-- an object outside the journal
+pub record File : Type 0 where
+  pub key : List ℕ
+  pub bytes : List ℕ
+
+abbrev pub file_at : List File → List ℕ → Option (List ℕ)
+file_at [] key = None
+file_at (file ∷ files) key = if bytes_eq file.key key then Some file.bytes else file_at files key
+
+-- A create that failed and may land later: an entry under its number, an object under a number of the journal that
+-- stands already and so never lands, or an object outside the journal.
+pub data Late : Type 0 where
+  late_entry : (number : ℕ) → Entry → Late
+  late_dead : (key : List ℕ) → (bytes : List ℕ) → Late
+  late_file : (key : List ℕ) → (bytes : List ℕ) → Late
+
+abbrev pub late_key : Late → List ℕ
+late_key (late_entry number entry) = meta_key number
+late_key (late_dead key bytes) = key
+late_key (late_file key bytes) = key
+
+abbrev pub late_bytes : Late → List ℕ
+late_bytes (late_entry number entry) = spelling entry
+late_bytes (late_dead key bytes) = bytes
+late_bytes (late_file key bytes) = bytes
+
+pub record Core : Type 0 where
+  pub history : List Entry  -- as it was taken in
+  pub store_faults : ℕ
+  pub moment : ℕ  -- the greatest of this life
+  pub clock : ℕ  -- what the clock tells
+  pub files : List File  -- what stands outside the journal
+  pub unsure : Bool  -- whether the number behind the history is unsure
+  pub standing : Option Entry  -- the entry that stands there unread
+  pub late : List Late  -- the creates that failed and may land later, in the store's order
+
+-- a count stands still at its type's end
+abbrev pub last_count : ℕ
+last_count = 2 ^ 64 - 1
+
+-- these entries, and the one that stands unread behind them
+abbrev pub with_unread : List Entry → Option Entry → List Entry
+with_unread entries None = entries
+with_unread entries (Some entry) = entries ++ entry ∷ []
+
+-- the whole journal
+abbrev pub journal_of : Core → List Entry
+journal_of core = with_unread core.history core.standing
+
+-- ---- numbers in hand, in the words of the core
+
+abbrev pub IsNotLateIn : Core → List ℕ → Type 0
+IsNotLateIn core key = AllByRecursion (λ late. late_key late ≡ key → ⊥) core.late
+
+-- a staged value in hand: its key neither stands nor is late
+pub record IsUnusedIn (core : Core) (number : ℕ) : Type 0 where
+  pub staged : has_staged (journal_of core) number ≡ true
+  pub unpublished : was_published (journal_of core) number ≡ false
+  pub absent : file_at core.files (split_key number) ≡ None
+  pub not_late : IsNotLateIn core (split_key number)
+
+-- an uploaded value in hand: its file stands with these bytes, and no create of it is late
+pub record IsUploadedIn (core : Core) (number : ℕ) (bytes : List ℕ) : Type 0 where
+  pub staged : has_staged (journal_of core) number ≡ true
+  pub file : file_at core.files (split_key number) ≡ Some bytes
+  pub not_late : IsNotLateIn core (split_key number)
+
+-- what a number in hand was staged with
+abbrev pub HasStagedIn : Core → ℕ → List Part → RowFacts → Type 0
+HasStagedIn core number delta facts = HasStaged (journal_of core) number delta facts
+
+-- whether a number is another than the one that a call is about, if it is about one
+abbrev pub IsOther : Option ℕ → ℕ → Type 0
+IsOther None number = Unit {0}
+IsOther (Some one) number = number ≡ one → ⊥
+
+-- from one call to the next numbers in hand stay as they were, all but this one
+pub record KeepsBut (one : Option ℕ) (core after : Core) : Type 0 where
+  pub unused : (number : ℕ) → IsOther one number → IsUnusedIn core number → IsUnusedIn after number
+  pub uploaded : (number : ℕ) (bytes : List ℕ) → IsUploadedIn core number bytes → IsUploadedIn after number bytes
+  pub staged : (number : ℕ) (delta : List Part) (facts : RowFacts) → HasStagedIn core number delta facts → HasStagedIn after number delta facts

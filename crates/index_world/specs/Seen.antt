@@ -1,0 +1,67 @@
+-- What this index takes of the log, and what is seen of it.
+use Rattle.std.specs.Prelude.{ℕ, suc, Bool, false, List, [], ◌∷◌, Option, Some, None, ◌-◌, ◌+◌, ◌++◌, take, filter, flat_map}
+use Rattle.doc_value.specs.declared.doc.DocField.{DocField}
+use Rattle.source_checkpoint.specs.declared.delta.Part.{Part}
+use Rattle.source_log.specs.Log.{Log}
+use Rattle.meta_journal.specs.declared.entry.Entry.{Entry}
+use Rattle.split_states.specs.declared.rows.Row.{Row}
+use Rattle.delete_tasks.specs.declared.tasks.Task.{Task}
+use Rattle.delete_tasks.specs.Ledger.{Ledger}
+use Rattle.delete_tasks.specs.Removed.{Place, lies_in}
+use Rattle.meta_store.specs.History.{History, history}
+use Rattle.meta_store.specs.Ledgers.{ledger}
+use Rattle.meta_store.specs.Contents.{Meaning}
+use Rattle.meta_store.specs.Contents as by
+use Rattle.index_world.specs.declared.placed.Placed.{Placed}
+use Rattle.index_world.specs.Accepted.{accepted}
+
+abbrev pub place_of : Placed → Place
+place_of placed = record { partition = placed.partition; offset = placed.offset }
+
+-- no task matches a document yet
+abbrev pub matches_task : Placed → Task → Bool
+matches_task placed task = false
+
+abbrev pub meaning : Meaning Placed
+meaning = record { place = place_of; matches = matches_task }
+
+-- ---- the accepted records of a log
+
+abbrev pub onto : List ℕ → ℕ → Option (List DocField) → List Placed → List Placed
+onto name offset None more = more
+onto name offset (Some doc) more = record { partition = name; offset = offset; doc = doc } ∷ more
+
+-- the accepted ones of these records, the first of which stands at this offset
+abbrev pub accepted_from : List ℕ → ℕ → List (List ℕ) → List Placed
+accepted_from name offset [] = []
+accepted_from name offset (bytes ∷ more) = onto name offset (accepted bytes) (accepted_from name (suc offset) more)
+
+-- by partition and then offset
+abbrev pub accepted_records : Log → List Placed
+accepted_records log = flat_map (λ part. accepted_from part.partition 0 part.records) log
+
+-- the accepted records of a delta's parts, in their order and then by offset
+abbrev pub accepted_part : Log → Part → List Placed
+accepted_part log part = filter (λ x. lies_in part (place_of x)) (accepted_records log)
+
+abbrev pub accepted_in : Log → List Part → List Placed
+accepted_in log delta = flat_map (accepted_part log) delta
+
+-- how many records the parts have
+abbrev pub record_count : List Part → ℕ
+record_count [] = 0
+record_count (part ∷ parts) = part.to - part.from + record_count parts
+
+-- ---- what a history shows of them
+
+-- the accepted records of a row's spans, without those that a task removed
+abbrev pub contents : History → Row → Log → List Placed
+contents h row log = by.contents meaning (ledger h).tasks (accepted_records log) row
+
+-- the accepted records below the checkpoints, by partition and then offset, without the removed ones
+abbrev pub visible : Ledger → Log → List Placed
+visible l log = by.visible meaning l (accepted_records log)
+
+-- what is visible at a revision: behind that many entries
+abbrev pub visible_at : ℕ → List Entry → Log → List Placed
+visible_at revision entries log = visible (ledger (history (take revision entries))) log

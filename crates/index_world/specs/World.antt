@@ -1,0 +1,74 @@
+-- What holds of a store and of the core that stands for it, from one call of the world to the next.
+use Rattle.std.specs.Prelude.{◌≡◌, ◌≤◌, ◌<◌, ◌^◌, ◌+◌, ℕ, Bool, List, ◌++◌, length, Option, Some, None, Result, Ok, Err}
+use Rattle.std.specs.List.{AllByRecursion}
+use Rattle.index_world.specs.Journal.{CanSpell}
+use Rattle.meta_journal.specs.declared.entry.Entry.{Entry}
+use Rattle.meta_store.specs.History.{history, moment_of}
+use Rattle.object_store.specs.Store.{State}
+use Rattle.source_log.specs.Log.{Log}
+use Rattle.meta_store.specs.State as meta
+use Rattle.index_world.specs.Config.{reads}
+use Rattle.index_world.specs.Core.{Core, Late, late_entry, late_dead, late_file, KeepsBut, journal_of}
+use Rattle.index_world.specs.Index.{IsIndexOf}
+use Rattle.index_world.specs.Standing.{StandsFor}
+
+abbrev pub CanUnread : Option Entry → Type 0
+CanUnread None = Unit {0}
+CanUnread (Some entry) = CanSpell entry
+
+abbrev pub CanLate : Late → Type 0
+CanLate (late_entry number entry) = CanSpell entry
+CanLate (late_dead key bytes) = Unit {0}
+CanLate (late_file key bytes) = Unit {0}
+
+-- the format can spell each entry of the core
+pub record CanCore (core : Core) : Type 0 where
+  pub history : AllByRecursion CanSpell core.history
+  pub standing : CanUnread core.standing
+  pub late : AllByRecursion CanLate core.late
+
+-- THE WORLD'S INVARIANT: the core stands for the store, and the store is an index whose journal is the core's
+-- history with what stands unread behind it.
+pub record IsWorld (kept : State) (core : Core) (log : Log) : Type 0 where
+  pub stands_for : StandsFor kept core
+  pub index : IsIndexOf kept.objects kept.late (journal_of core) log
+  pub can : CanCore core
+
+-- the moment is at least those of the history, and the format can spell it
+pub record IsTimely (core : Core) : Type 0 where
+  pub greatest : moment_of (history core.history) ≤ core.moment
+  pub moment : core.moment < 2 ^ 62
+  pub clock : core.clock < 2 ^ 62
+
+-- what a world keeps: the count of its store, what its clock tells, its moment, its state, the number behind the entries
+-- that it took in, and whether that one is unsure
+pub record Keeping : Type 0 where
+  pub told : Option State
+  pub store_faults : ℕ
+  pub clock : Option ℕ
+  pub moment : ℕ
+  pub meta : meta.State
+  pub next : ℕ
+  pub unsure : Bool
+
+-- a world that keeps this stands for the core, over the log
+pub record WorldStands (keeping : Keeping) (core : Core) (log : Log) : Type 0 where
+  pub kept : State
+  pub told : keeping.told ≡ Some kept
+  pub world : IsWorld kept core log
+  pub timely : IsTimely core
+  pub store_faults : keeping.store_faults ≡ core.store_faults
+  pub clock : keeping.clock ≡ Some core.clock
+  pub moment : keeping.moment ≡ core.moment
+  pub meta : keeping.meta ≡ meta.state_of reads (history core.history)
+  pub next : keeping.next ≡ length core.history
+  pub unsure : keeping.unsure ≡ core.unsure
+  -- an index that was opened has an entry
+  pub opened : 0 < length core.history
+
+-- the core went on: its history grew at its end, its counts didn't fall, and numbers in hand stay, all but this one
+pub record GoesOn (one : Option ℕ) (core after : Core) : Type 0 where
+  pub grown : (more : List Entry) × (after.history ≡ core.history ++ more)
+  pub faults : core.store_faults ≤ after.store_faults
+  pub moment : core.moment ≤ after.moment
+  pub keeps : KeepsBut one core after
