@@ -1,7 +1,8 @@
 -- What the calls of the store and of the world do to a core, given the fate of each call. With a calm fate (nothing lands,
 -- nothing fails, memory is there) each is a function of the core alone.
 use Rattle.std.specs.Prelude.{ℕ, ◌+◌, ◌==◌, ◌&&◌, ◌||◌, Bool, true, false, List, [], ◌∷◌, ◌++◌, length, min, max, nat_lt, nat_le, remove, slice_get, Option, Some, None, is_some, Result, Ok, Err, ⊤}
-use Rattle.index_world.specs.Journal.{meta_key}
+use Rattle.meta_journal.specs.Places.{meta_key, split_key}
+use Rattle.meta_journal.specs.Spelling.{spelling}
 use Rattle.meta_journal.specs.declared.entry.Act.{Act}
 use Rattle.meta_journal.specs.declared.entry.Act.TheVariants.{Fence}
 use Rattle.meta_journal.specs.declared.entry.Entry.{Entry}
@@ -10,7 +11,7 @@ use Rattle.meta_store.specs.History.{history, moment_of}
 use Rattle.meta_store.specs.State.{state_of, config_of, reading_of}
 use Rattle.meta_store.specs.declared.refusal.Refusal.{Refusal}
 use Rattle.index_world.specs.Config.{reads}
-use Rattle.index_world.specs.Index.{max_entries, split_key}
+use Rattle.index_world.specs.Index.{max_entries}
 use Rattle.index_world.specs.Core.{File, file_at, Late, late_entry, late_dead, late_file, Core, last_count}
 
 -- The fate of one store call: which late creates come to stand before it works, by their places in the list of those that
@@ -82,7 +83,7 @@ file_lands true key bytes core = core
 file_lands false key bytes core = with_file key bytes core
 
 abbrev pub late_lands : Late → Core → Core
-late_lands (late_entry number entry) core = entry_lands core.standing (number == length core.history) entry core
+late_lands (late_entry number entry bytes) core = entry_lands core.standing (number == length core.history) entry core
 late_lands (late_dead key bytes) core = core
 late_lands (late_file key bytes) core = file_lands (is_some (file_at core.files key)) key bytes core
 
@@ -121,7 +122,7 @@ with_late late core = record core { late = core.late ++ late ∷ [] }
 abbrev pub tried : Bool → Option Entry → Entry → Core → Core
 tried true None entry core = record core { unsure = true; standing = Some entry }
 tried true (Some standing) entry core = record core { unsure = true }
-tried false standing entry core = record (with_late (late_entry (length core.history) entry) core) { unsure = true }
+tried false standing entry core = record (with_late (late_entry (length core.history) entry (spelling entry)) core) { unsure = true }
 
 -- a create that didn't fail
 abbrev pub made_behind : Option Entry → Entry → Core → Making

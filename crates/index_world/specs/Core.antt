@@ -1,12 +1,12 @@
 -- What one life of a world knows of its store and its clock, whatever its actors do.
 use Rattle.std.specs.Prelude.{◌≡◌, ℕ, ◌-◌, ◌^◌, Bool, true, false, List, [], ◌∷◌, ◌++◌, Option, Some, None, bytes_eq, if◌then◌else◌}
 use Rattle.std.specs.List.{AllByRecursion}
-use Rattle.index_world.specs.Journal.{spelling, meta_key}
+use Rattle.meta_journal.specs.Places.{meta_key, split_key}
 use Rattle.meta_journal.specs.declared.entry.Entry.{Entry}
 use Rattle.source_checkpoint.specs.declared.delta.Part.{Part}
 use Rattle.source_log.specs.Log.{Log}
 use Rattle.split_states.specs.declared.facts.RowFacts.{RowFacts}
-use Rattle.index_world.specs.Index.{split_key, has_staged, was_published, HasStaged}
+use Rattle.index_world.specs.Index.{has_staged, was_published, HasStaged}
 
 -- an object outside the journal
 pub record File : Type 0 where
@@ -17,20 +17,20 @@ abbrev pub file_at : List File → List ℕ → Option (List ℕ)
 file_at [] key = None
 file_at (file ∷ files) key = if bytes_eq file.key key then Some file.bytes else file_at files key
 
--- A create that failed and may land later: an entry under its number, an object under a number of the journal that
+-- A create that failed and may land later: an entry under its number with its bytes, an object under a number of the journal that
 -- stands already and so never lands, or an object outside the journal.
 pub data Late : Type 0 where
-  late_entry : (number : ℕ) → Entry → Late
+  late_entry : (number : ℕ) → Entry → (bytes : List ℕ) → Late
   late_dead : (key : List ℕ) → (bytes : List ℕ) → Late
   late_file : (key : List ℕ) → (bytes : List ℕ) → Late
 
 abbrev pub late_key : Late → List ℕ
-late_key (late_entry number entry) = meta_key number
+late_key (late_entry number entry bytes) = meta_key number
 late_key (late_dead key bytes) = key
 late_key (late_file key bytes) = key
 
 abbrev pub late_bytes : Late → List ℕ
-late_bytes (late_entry number entry) = spelling entry
+late_bytes (late_entry number entry bytes) = bytes
 late_bytes (late_dead key bytes) = bytes
 late_bytes (late_file key bytes) = bytes
 

@@ -1,8 +1,9 @@
 -- When a store is a sound index over a log.
-use Rattle.std.specs.Prelude.{◌≡◌, ◌⊎◌, ℕ, ◌-◌, ◌^◌, ◌<◌, ◌≤◌, ◌==◌, Bool, true, false, nat_eq, List, [], ◌∷◌, ◌++◌, length, map, min, IsSome, Option, Some, None, Ok, ⊤, codes}
+use Rattle.std.specs.Prelude.{◌≡◌, ◌⊎◌, ℕ, ◌-◌, ◌^◌, ◌<◌, ◌≤◌, ◌==◌, Bool, true, false, nat_eq, List, [], ◌∷◌, ◌++◌, length, map, min, IsSome, Option, Some, None, Ok, ⊤}
 use Rattle.std.specs.List.{AllByRecursion, list_any, starts_with}
-use Rattle.std.specs.FinMap.{get, insert}
-use Rattle.index_world.specs.Journal.{digits, spelling, CanSpell, meta_key, IsJournal}
+use Rattle.std.specs.FinMap.{get}
+use Rattle.meta_journal.specs.Places.{meta_prefix, split_prefix, meta_key, split_key, IsJournal}
+use Rattle.meta_journal.specs.Spelling.{Spells, CanSpell}
 use Rattle.index_world.specs.declared.placed.Placed.{Placed}
 use Rattle.meta_journal.specs.declared.entry.Act.{Act}
 use Rattle.meta_journal.specs.declared.entry.Act.TheVariants.{Fence, Create, Stage, Publish, Replace, Raise, Task, MarkStaged, Remove, Retire}
@@ -11,7 +12,7 @@ use Rattle.meta_store.specs.History.{History, history, reach}
 use Rattle.meta_store.specs.Ledgers.{ledger}
 use Rattle.meta_store.specs.Rows.{rows}
 use Rattle.meta_store.specs.State.{Legal, MayFollow, state_of, config_of, reading_of}
-use Rattle.object_store.specs.Store.{Objects}
+use Rattle.object_store.specs.Store.{State, with_object}
 use Rattle.source_checkpoint.specs.Deltas.{range_of}
 use Rattle.source_checkpoint.specs.declared.delta.Part.{Part}
 use Rattle.source_log.specs.Log.{Log, records_of}
@@ -27,17 +28,14 @@ use Rattle.index_world.specs.SplitFile.{split_file, weight, max_documents, max_w
 abbrev pub max_entries : ℕ
 max_entries = 10000000
 
-unfoldable pub split_key : ℕ → List ℕ
-split_key number = codes "splits/" ++ digits 20 number
-
 abbrev pub begins : List ℕ → List ℕ → Bool
 begins prefix key = starts_with nat_eq key prefix
 
 abbrev pub is_meta : List ℕ → Bool
-is_meta key = begins (codes "meta/") key
+is_meta key = begins meta_prefix key
 
 abbrev pub is_split : List ℕ → Bool
-is_split key = begins (codes "splits/") key
+is_split key = begins split_prefix key
 
 -- the greatest number that 64 bits hold
 abbrev pub most : ℕ
@@ -61,15 +59,15 @@ abbrev pub ranges_of : Row → List Part
 ranges_of row = map range_of row.spans
 
 -- the file and the facts of a row are those of its contents, within a split's limits
-pub record IsRowSound (objects : Objects) (h : History) (log : Log) (row : Row) : Type 0 where
-  pub file : get objects (split_key row.number) ≡ Some (split_file (contents h row log))
+pub record IsRowSound (kept : State) (h : History) (log : Log) (row : Row) : Type 0 where
+  pub file : get kept.objects (split_key row.number) ≡ Some (split_file (contents h row log))
   pub facts : row.facts ≡ facts_of (contents h row log) (record_count (ranges_of row) - length (contents h row log))
   pub documents : length (contents h row log) ≤ max_documents
   pub weight : weight (contents h row log) ≤ max_weight
 
 -- where the row is published, it is sound
-abbrev pub IsRowKept : Objects → History → Log → Row → Type 0
-IsRowKept objects h log row = row.state ≡ Published → IsRowSound objects h log row
+abbrev pub IsRowKept : State → History → Log → Row → Type 0
+IsRowKept kept h log row = row.state ≡ Published → IsRowSound kept h log row
 
 -- ---- what the entries say of numbers
 
@@ -130,47 +128,47 @@ IsLateKey entries late = is_split late.0 ≡ true →
     (number : ℕ) × (late.0 ≡ split_key number) × (has_staged entries number ≡ true) × (was_published entries number ≡ false)
 
 -- the parts that speak of what stands
-pub record Stands (objects : Objects) (late : List (List ℕ × List ℕ)) (entries : List Entry) (log : Log) : Type 0 where
-  pub journal : IsJournal objects entries
+pub record Stands (kept : State) (entries : List Entry) (log : Log) : Type 0 where
+  pub journal : IsJournal kept entries
   pub built : AllByRecursion (λ e. IsBuilt e.act) entries
   pub legal : Legal reads (history entries)
   pub within : length entries ≤ max_entries
-  pub no_other : (key : List ℕ) → is_meta key ≡ true → IsSome (get objects key) →
+  pub no_other : (key : List ℕ) → is_meta key ≡ true → IsSome (get kept.objects key) →
       (number : ℕ) × (number < length entries) × (key ≡ meta_key number)
   pub checkpoints : (name : List ℕ) → (ledger (history entries)).checkpoints name ≤ length (records_of log name)
-  pub rows : AllByRecursion (IsRowKept objects (history entries) log) (rows (history entries))
-  pub split_keys : (key : List ℕ) → is_split key ≡ true → IsSome (get objects key) → IsStagedKey entries key
-  pub late_keys : AllByRecursion (IsLateKey entries) late
+  pub rows : AllByRecursion (IsRowKept kept (history entries) log) (rows (history entries))
+  pub split_keys : (key : List ℕ) → is_split key ≡ true → IsSome (get kept.objects key) → IsStagedKey entries key
+  pub late_keys : AllByRecursion (IsLateKey entries) kept.late
 
 -- ---- which entry may come to stand next
 
 -- no late create has this key
-abbrev pub IsNotLate : List (List ℕ × List ℕ) → List ℕ → Type 0
-IsNotLate late key = AllByRecursion (λ l. l.0 ≡ key → ⊥) late
+abbrev pub IsNotLate : State → List ℕ → Type 0
+IsNotLate kept key = AllByRecursion (λ late. late.0 ≡ key → ⊥) kept.late
 
 -- What a Publish of this number needs beside being legal: its parts lie within the log, its file stands for their
 -- accepted records, the facts agree with both and keep a split's limits, and no create of its file is late.
-pub record MayPublish (objects : Objects) (late : List (List ℕ × List ℕ)) (entries : List Entry) (log : Log) (number : ℕ) : Type 0 where
+pub record MayPublish (kept : State) (entries : List Entry) (log : Log) (number : ℕ) : Type 0 where
   pub ends : AllByRecursion (λ part. part.to ≤ length (records_of log part.partition)) (reach (history entries) number)
-  pub file : get objects (split_key number) ≡ Some (split_file (accepted_in log (reach (history entries) number)))
+  pub file : get kept.objects (split_key number) ≡ Some (split_file (accepted_in log (reach (history entries) number)))
   pub facts : (row : Row) → row_at (rows (history entries)) number ≡ Some row →
       row.facts ≡ facts_of (accepted_in log (reach (history entries) number)) (record_count (reach (history entries) number) - length (accepted_in log (reach (history entries) number)))
   pub documents : length (accepted_in log (reach (history entries) number)) ≤ max_documents
   pub weight : weight (accepted_in log (reach (history entries) number)) ≤ max_weight
-  pub not_late : IsNotLate late (split_key number)
+  pub not_late : IsNotLate kept (split_key number)
 
 -- nothing is asked of a file but by a Publish
-abbrev pub HasFile : Objects → List (List ℕ × List ℕ) → List Entry → Log → Act → Type 0
-HasFile objects late entries log Fence = ⊤
-HasFile objects late entries log (Create config) = ⊤
-HasFile objects late entries log (Stage number delta facts) = ⊤
-HasFile objects late entries log (Publish number) = MayPublish objects late entries log number
-HasFile objects late entries log (Replace new old upto) = ⊥
-HasFile objects late entries log (Raise number upto) = ⊥
-HasFile objects late entries log (Task opstamp text fields times) = ⊥
-HasFile objects late entries log (MarkStaged numbers) = ⊥
-HasFile objects late entries log (Remove numbers) = ⊥
-HasFile objects late entries log (Retire numbers) = ⊥
+abbrev pub HasFile : State → List Entry → Log → Act → Type 0
+HasFile kept entries log Fence = ⊤
+HasFile kept entries log (Create config) = ⊤
+HasFile kept entries log (Stage number delta facts) = ⊤
+HasFile kept entries log (Publish number) = MayPublish kept entries log number
+HasFile kept entries log (Replace new old upto) = ⊥
+HasFile kept entries log (Raise number upto) = ⊥
+HasFile kept entries log (Task opstamp text fields times) = ⊥
+HasFile kept entries log (MarkStaged numbers) = ⊥
+HasFile kept entries log (Remove numbers) = ⊥
+HasFile kept entries log (Retire numbers) = ⊥
 
 -- the entry is allowed behind these
 abbrev pub IsAllowed : List Entry → Entry → Type 0
@@ -178,49 +176,49 @@ IsAllowed entries entry =
     MayFollow (reading_of reads (config_of reads (history entries)) entry.act) (state_of reads (history entries)) entry
 
 -- with this entry behind its journal the store stays an index
-pub record MayEnter (objects : Objects) (late : List (List ℕ × List ℕ)) (entries : List Entry) (log : Log) (entry : Entry) : Type 0 where
+pub record MayEnter (kept : State) (entries : List Entry) (log : Log) (entry : Entry) : Type 0 where
   pub can : CanSpell entry
   pub legal : IsAllowed entries entry
   pub room : length entries < max_entries
-  pub file : HasFile objects late entries log entry.act
+  pub file : HasFile kept entries log entry.act
 
 -- a late create of the journal that may still come to stand behind its end
-pub record MayLand (objects : Objects) (late : List (List ℕ × List ℕ)) (entries : List Entry) (log : Log) (object : List ℕ × List ℕ) : Type 0 where
+pub record MayLand (kept : State) (entries : List Entry) (log : Log) (object : List ℕ × List ℕ) : Type 0 where
   pub key : object.0 ≡ meta_key (length entries)
   pub entry : Entry
-  pub spelled : object.1 ≡ spelling entry
-  pub enters : MayEnter objects late entries log entry
+  pub spelled : Spells object.1 entry
+  pub enters : MayEnter kept entries log entry
 
 -- a late create under a number of the journal that stands already, which changes nothing
 abbrev pub IsBelowEnd : List Entry → List ℕ × List ℕ → Type 0
 IsBelowEnd entries object = (number : ℕ) × (number < length entries) × (object.0 ≡ meta_key number)
 
-abbrev pub IsLateEntry : Objects → List (List ℕ × List ℕ) → List Entry → Log → List ℕ × List ℕ → Type 0
-IsLateEntry objects late entries log object = is_meta object.0 ≡ true →
-    IsBelowEnd entries object ⊎ MayLand objects late entries log object
+abbrev pub IsLateEntry : State → List Entry → Log → List ℕ × List ℕ → Type 0
+IsLateEntry kept entries log object = is_meta object.0 ≡ true →
+    IsBelowEnd entries object ⊎ MayLand kept entries log object
 
 -- the store is an index over the log, and this is its journal
-pub record IsIndexOf (objects : Objects) (late : List (List ℕ × List ℕ)) (entries : List Entry) (log : Log) : Type 0 where
-  pub stands : Stands objects late entries log
-  pub late_entries : AllByRecursion (IsLateEntry objects late entries log) late
+pub record IsIndexOf (kept : State) (entries : List Entry) (log : Log) : Type 0 where
+  pub stands : Stands kept entries log
+  pub late_entries : AllByRecursion (IsLateEntry kept entries log) kept.late
 
-abbrev pub IsIndex : Objects → List (List ℕ × List ℕ) → Log → Type 0
-IsIndex objects late log = (entries : List Entry) × IsIndexOf objects late entries log
+abbrev pub IsIndex : State → Log → Type 0
+IsIndex kept log = (entries : List Entry) × IsIndexOf kept entries log
 
 -- ---- numbers in hand
 
 -- a staged value in hand: the key neither stands nor is late
-pub record IsUnused (objects : Objects) (late : List (List ℕ × List ℕ)) (entries : List Entry) (number : ℕ) : Type 0 where
+pub record IsUnused (kept : State) (entries : List Entry) (number : ℕ) : Type 0 where
   pub staged : has_staged entries number ≡ true
   pub unpublished : was_published entries number ≡ false
-  pub absent : get objects (split_key number) ≡ None
-  pub not_late : IsNotLate late (split_key number)
+  pub absent : get kept.objects (split_key number) ≡ None
+  pub not_late : IsNotLate kept (split_key number)
 
 -- an uploaded value in hand: the file stands, and no create of it is late
-pub record IsUploaded (objects : Objects) (late : List (List ℕ × List ℕ)) (entries : List Entry) (number : ℕ) (bytes : List ℕ) : Type 0 where
+pub record IsUploaded (kept : State) (entries : List Entry) (number : ℕ) (bytes : List ℕ) : Type 0 where
   pub staged : has_staged entries number ≡ true
-  pub file : get objects (split_key number) ≡ Some bytes
-  pub not_late : IsNotLate late (split_key number)
+  pub file : get kept.objects (split_key number) ≡ Some bytes
+  pub not_late : IsNotLate kept (split_key number)
 
 -- what a number in hand was staged with
 pub record HasStaged (entries : List Entry) (number : ℕ) (delta : List Part) (facts : RowFacts) : Type 0 where
@@ -239,17 +237,17 @@ pub record IsMade (log : Log) (delta : List Part) (facts : RowFacts) (bytes : Li
 -- ---- the index in one sentence
 
 -- the late create stands at the end, and with it the parts on what stands hold again
-pub record HoldsAgain (objects : Objects) (late : List (List ℕ × List ℕ)) (entries : List Entry) (log : Log) (object : List ℕ × List ℕ) : Type 0 where
+pub record HoldsAgain (kept : State) (entries : List Entry) (log : Log) (object : List ℕ × List ℕ) : Type 0 where
   pub key : object.0 ≡ meta_key (length entries)
   pub entry : Entry
-  pub spelled : object.1 ≡ spelling entry
-  pub stands : Stands (insert objects object.0 object.1) late (entries ++ entry ∷ []) log
+  pub spelled : Spells object.1 entry
+  pub stands : Stands (with_object kept object.0 object.1) (entries ++ entry ∷ []) log
 
-abbrev pub IsBelowOrAgain : Objects → List (List ℕ × List ℕ) → List Entry → Log → List ℕ × List ℕ → Type 0
-IsBelowOrAgain objects late entries log object = is_meta object.0 ≡ true →
-    IsBelowEnd entries object ⊎ HoldsAgain objects late entries log object
+abbrev pub IsBelowOrAgain : State → List Entry → Log → List ℕ × List ℕ → Type 0
+IsBelowOrAgain kept entries log object = is_meta object.0 ≡ true →
+    IsBelowEnd entries object ⊎ HoldsAgain kept entries log object
 
 -- each late create of the journal is below its end, or at it and holds again
-pub record IsWholeIndexOf (objects : Objects) (late : List (List ℕ × List ℕ)) (entries : List Entry) (log : Log) : Type 0 where
-  pub stands : Stands objects late entries log
-  pub late_entries : AllByRecursion (IsBelowOrAgain objects late entries log) late
+pub record IsWholeIndexOf (kept : State) (entries : List Entry) (log : Log) : Type 0 where
+  pub stands : Stands kept entries log
+  pub late_entries : AllByRecursion (IsBelowOrAgain kept entries log) kept.late

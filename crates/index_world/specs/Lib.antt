@@ -4,7 +4,6 @@ pub mod Tokens
 pub mod Words
 pub mod Seen
 pub mod SplitFile
-pub mod Journal
 pub mod Index
 pub mod Core
 pub mod Calls

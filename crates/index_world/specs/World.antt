@@ -1,38 +1,20 @@
 -- What holds of a store and of the core that stands for it, from one call of the world to the next.
-use Rattle.std.specs.Prelude.{◌≡◌, ◌≤◌, ◌<◌, ◌^◌, ◌+◌, ℕ, Bool, List, ◌++◌, length, Option, Some, None, Result, Ok, Err}
-use Rattle.std.specs.List.{AllByRecursion}
-use Rattle.index_world.specs.Journal.{CanSpell}
+use Rattle.std.specs.Prelude.{◌≡◌, ◌≤◌, ◌<◌, ◌^◌, ℕ, Bool, List, ◌++◌, length, Option, Some}
 use Rattle.meta_journal.specs.declared.entry.Entry.{Entry}
 use Rattle.meta_store.specs.History.{history, moment_of}
 use Rattle.object_store.specs.Store.{State}
 use Rattle.source_log.specs.Log.{Log}
 use Rattle.meta_store.specs.State as meta
 use Rattle.index_world.specs.Config.{reads}
-use Rattle.index_world.specs.Core.{Core, Late, late_entry, late_dead, late_file, KeepsBut, journal_of}
+use Rattle.index_world.specs.Core.{Core, KeepsBut, journal_of}
 use Rattle.index_world.specs.Index.{IsIndexOf}
 use Rattle.index_world.specs.Standing.{StandsFor}
-
-abbrev pub CanUnread : Option Entry → Type 0
-CanUnread None = Unit {0}
-CanUnread (Some entry) = CanSpell entry
-
-abbrev pub CanLate : Late → Type 0
-CanLate (late_entry number entry) = CanSpell entry
-CanLate (late_dead key bytes) = Unit {0}
-CanLate (late_file key bytes) = Unit {0}
-
--- the format can spell each entry of the core
-pub record CanCore (core : Core) : Type 0 where
-  pub history : AllByRecursion CanSpell core.history
-  pub standing : CanUnread core.standing
-  pub late : AllByRecursion CanLate core.late
 
 -- THE WORLD'S INVARIANT: the core stands for the store, and the store is an index whose journal is the core's
 -- history with what stands unread behind it.
 pub record IsWorld (kept : State) (core : Core) (log : Log) : Type 0 where
   pub stands_for : StandsFor kept core
-  pub index : IsIndexOf kept.objects kept.late (journal_of core) log
-  pub can : CanCore core
+  pub index : IsIndexOf kept (journal_of core) log
 
 -- the moment is at least those of the history, and the format can spell it
 pub record IsTimely (core : Core) : Type 0 where
