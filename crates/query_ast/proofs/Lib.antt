@@ -1,0 +1,2 @@
+pub mod RuledOut
+pub mod Numbers

@@ -1,0 +1,5 @@
+pub mod Sought
+pub mod FieldTokens
+pub mod Spelled
+pub mod Meaning
+pub mod Pruning
