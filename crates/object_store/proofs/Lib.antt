@@ -4,3 +4,4 @@ pub mod Positions
 pub mod States
 pub mod Landings
 pub mod Plans
+pub mod Told
