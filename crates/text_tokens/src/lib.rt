@@ -1,6 +1,7 @@
 //! The three tokenizers.
 #![tactic(auto)]
 
+pub mod laws;
 pub mod runs;
 #[cfg(test)]
 mod tests;
