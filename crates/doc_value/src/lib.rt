@@ -4,11 +4,18 @@
 pub mod bytes;
 pub mod doc;
 pub mod facts;
+pub mod printing;
+pub mod rows;
 pub mod schema;
 pub mod text;
+pub mod values;
 
 pub use bytes::Bytes;
 pub use doc::{Doc, DocField, Value, Values};
 pub use facts::{FieldTags, TagFacts, Tags, Terms, TimeRange};
+pub use printing::print_doc;
 pub use schema::{Field, Fields, Kind, Schema, Tokenizer};
 pub use text::Text;
+
+#[cfg(test)]
+mod tests;
