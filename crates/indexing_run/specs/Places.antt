@@ -1,0 +1,60 @@
+-- What an indexer holds between its steps.
+use Rattle.std.specs.Prelude.{ℕ, ◌-◌, Bool, List, length, Option, Some, None}
+use Rattle.index_world.specs.declared.placed.Placed.{Placed}
+use Rattle.source_checkpoint.specs.declared.delta.Part.{Part}
+use Rattle.source_checkpoint.specs.declared.ledger.Checkpoint.{Checkpoint}
+use Rattle.source_log.specs.Log.{Log}
+use Rattle.split_states.specs.declared.facts.RowFacts.{RowFacts}
+use Rattle.index_world.specs.Core.{Core, IsUnusedIn, IsUploadedIn, HasStagedIn}
+use Rattle.index_world.specs.Index.{facts_of, IsMade}
+use Rattle.index_world.specs.Seen.{record_count}
+use Rattle.index_world.specs.SplitFile.{split_file}
+
+-- what was read since the checkpoints were taken
+pub record Batch : Type 0 where
+  pub queue : List Checkpoint  -- what is still to be read, each from its place on; the first is current
+  pub parts : List Part  -- what was read, in the order of reading
+  pub documents : List Placed  -- the accepted ones
+  pub count : ℕ  -- how many records
+  pub first_read : Option ℕ  -- the moment of the first read
+  pub closed : Bool
+
+-- a delta and its documents under a staged number
+pub record Held : Type 0 where
+  pub number : ℕ
+  pub delta : List Part
+  pub documents : List Placed
+
+pub data Place : Type 0 where
+  idle : Place
+  reading : Batch → Place
+  staged : Held → Place
+  uploaded : Held → Place
+
+pub record Indexer : Type 0 where
+  pub assignment : Option (List (List ℕ))
+  pub place : Place
+  pub log_faults : ℕ
+
+-- ---- what is known of what it holds
+
+-- the facts of a delta's split
+abbrev pub held_facts : Held → RowFacts
+held_facts held = facts_of held.documents (record_count held.delta - length held.documents)
+
+pub record IsStagedHeld (log : Log) (core : Core) (held : Held) : Type 0 where
+  pub unused : IsUnusedIn core held.number
+  pub staged : HasStagedIn core held.number held.delta (held_facts held)
+  pub made : IsMade log held.delta (held_facts held) (split_file held.documents)
+
+pub record IsUploadedHeld (log : Log) (core : Core) (held : Held) : Type 0 where
+  pub uploaded : IsUploadedIn core held.number (split_file held.documents)
+  pub staged : HasStagedIn core held.number held.delta (held_facts held)
+  pub made : IsMade log held.delta (held_facts held) (split_file held.documents)
+
+-- the number that it holds, if it holds one
+abbrev pub number_held : Place → Option ℕ
+number_held idle = None
+number_held (reading batch) = None
+number_held (staged held) = Some held.number
+number_held (uploaded held) = Some held.number

@@ -1,0 +1,2 @@
+//! The steps of an indexer.
+#![tactic(auto)]

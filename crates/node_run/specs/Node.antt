@@ -1,0 +1,45 @@
+-- A node: what one life of the program holds, and what each line of a schedule says and is answered.
+use Rattle.std.specs.Prelude.{ℕ, Bool, List, Option}
+use Rattle.source_log.specs.Log.{Log}
+use Rattle.index_world.specs.Calls.{Fault}
+use Rattle.index_world.specs.Core.{Core}
+use Rattle.indexing_run.specs.Outcomes.{IndexerOutcome}
+use Rattle.indexing_run.specs.Places.{Indexer}
+use Rattle.root_search.specs.Steps.{Client, SearchStep}
+
+pub record Node : Type 0 where
+  pub log : Log
+  pub core : Core
+  pub down : Bool
+  pub indexers : List Indexer
+  pub clients : List Client
+
+pub data Line : Type 0 where
+  At : (moment : ℕ) → Line
+  Assign : (indexer : ℕ) → (partitions : List (List ℕ)) → Line
+  StepIndexer : (indexer : ℕ) → Line
+  RestartIndexer : (indexer : ℕ) → Line
+  RestartClient : (client : List ℕ) → Line
+  RestartNode : Line
+  Open : (client : List ℕ) → (text : List ℕ) → Line
+  StepClient : (client : List ℕ) → Line
+
+-- why a node isn't started again
+pub data NodeFault : Type 0 where
+  world_fault : Fault → NodeFault
+  no_index : NodeFault
+
+pub data Outcome : Type 0 where
+  at_said : (moment : ℕ) → Outcome
+  assigned : (indexer : ℕ) → (count : ℕ) → Outcome
+  indexer_busy : (indexer : ℕ) → Outcome
+  indexer_said : (indexer : ℕ) → IndexerOutcome → Outcome
+  indexer_down : (indexer : ℕ) → Outcome
+  indexer_restarted : (indexer : ℕ) → Outcome
+  client_restarted : (name : List ℕ) → Outcome
+  node_restarted : (revision : ℕ) → Outcome
+  node_failed : NodeFault → Outcome
+  request_opened : (name : List ℕ) → Outcome
+  request_busy : (name : List ℕ) → Outcome
+  client_said : (name : List ℕ) → SearchStep → Outcome
+  client_down : (name : List ℕ) → Outcome

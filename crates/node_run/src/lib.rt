@@ -1,0 +1,2 @@
+//! A node: one life of the world and its actors, line by line.
+#![tactic(auto)]

@@ -1,0 +1,325 @@
+-- The clause of the top call for the command `drive`.
+use Rattle.std.specs.Prelude.{◌≡◌, ◌⊎◌, ◌≢◌, ℕ, ◌<◌, ◌≤◌, List, [], ◌∷◌, ◌++◌, length, min, if◌then◌else◌, decimal, codes, map, Ok, Err, Result, ⊤, Option, Some, None, sum, All, bytes_eq}
+use Rattle.meta_journal.specs.declared.entry.Entry.{Entry}
+use Rattle.object_store.specs.Store.{State}
+use Rattle.source_log.specs.Log.{Log, Extends}
+use Rattle.byte_fields.specs.Causes.{MayFail}
+use Rattle.index_world.specs.Calls.{Fate, gives, faulted, no_memory, store_fault, Unread, not_read, loaded}
+use Rattle.index_world.specs.Calls as calls
+use Rattle.index_world.specs.Core.{Core, last_count}
+use Rattle.index_world.specs.Index.{IsIndexOf}
+use Rattle.index_world.specs.Seen.{visible_at}
+use Rattle.index_world.specs.Standing.{StandsFor}
+use Rattle.indexing_run.specs.Outcomes.{words}
+use Rattle.indexing_run.specs.Places.{Indexer}
+use Rattle.root_search.specs.Replies.{Reply, Said, Found, Refusal, answer}
+use Rattle.root_search.specs.Requests.{word_asked}
+use Rattle.root_search.specs.Steps.{Replied}
+use Rattle.node_run.specs.Lines.{printed}
+use Rattle.node_run.specs.Node.{Node, Line, Open, StepClient, Outcome, client_said, request_opened}
+use Rattle.node_run.specs.Turns.{Turn, Turns, turns, opened_node}
+use Rattle.quick_node.specs.Reading.{Ending, all_read, bad_line, clients_over, line_over, input_over, stopped, Reads, max_clients, max_line, max_input}
+
+abbrev pub IsPrefixOf : {X : Type 0} → List X → List X → Type 0
+IsPrefixOf {X} xs ys = (rest : List X) × (ys ≡ xs ++ rest)
+
+-- what the outside tells as the call begins
+pub record Before : Type 0 where
+  pub kept : State
+  pub store_faults : ℕ
+  pub log : Log
+  pub log_faults : List ℕ  -- of each reader
+  pub input : List ℕ
+  pub read_faults : ℕ
+  pub written : List ℕ
+  pub write_faults : ℕ
+
+-- and as it returns
+pub record After : Type 0 where
+  pub kept : State
+  pub store_faults : ℕ
+  pub log_faults : List ℕ  -- of each reader as it was let go
+  pub read_faults : ℕ
+  pub written : List ℕ
+  pub write_faults : ℕ
+
+-- how the call ends: by the reading, or by what is met before or beside it
+pub data End : Type 0 where
+  by_reading : Ending → End
+  no_index : End
+  opening_failed : (before : ℕ) → (after : ℕ) → End
+  read_failed : End
+  write_failed : End
+  out_of_memory : End
+
+abbrev pub reading_status : Ending → ℕ
+reading_status all_read = 0
+reading_status (bad_line number) = 3
+reading_status clients_over = 10
+reading_status line_over = 10
+reading_status input_over = 10
+reading_status stopped = 11
+
+abbrev pub status_of : End → ℕ
+status_of (by_reading ending) = reading_status ending
+status_of no_index = 8
+status_of (opening_failed before after) = 4
+status_of read_failed = 5
+status_of write_failed = 6
+status_of out_of_memory = 11
+
+abbrev pub error_line : List (List ℕ) → List ℕ
+error_line words_behind = words (codes "error" ∷ words_behind) ++ 10 ∷ []
+
+abbrev pub limit_line : List ℕ → ℕ → List ℕ
+limit_line name number = error_line (codes "10" ∷ codes "limit" ∷ name ∷ decimal number ∷ [])
+
+abbrev pub reading_error : Ending → List ℕ
+reading_error all_read = []
+reading_error (bad_line number) = error_line (codes "3" ∷ codes "badline" ∷ decimal number ∷ [])
+reading_error clients_over = limit_line (codes "clients") max_clients
+reading_error line_over = limit_line (codes "line") max_line
+reading_error input_over = limit_line (codes "input") max_input
+reading_error stopped = []
+
+-- the last line of a status
+abbrev pub error_of : End → List ℕ
+error_of (by_reading ending) = reading_error ending
+error_of no_index = error_line (codes "8" ∷ codes "noindex" ∷ [])
+error_of (opening_failed before after) = error_line (codes "4" ∷ codes "storefault" ∷ decimal before ∷ decimal after ∷ [])
+error_of read_failed = error_line (codes "5" ∷ codes "readfault" ∷ [])
+error_of write_failed = []
+error_of out_of_memory = []
+
+-- a last line was written, or a front of it where a write may have failed
+abbrev pub WroteLine : ℕ → ℕ → List ℕ → List ℕ → Type 0
+WroteLine before after line text = (text ≡ line) ⊎ (MayFail before after × IsPrefixOf text line)
+
+-- these lines and then the status's own; where writing failed or memory ran out a front of the lines
+abbrev pub Wrote : ℕ → ℕ → End → List ℕ → List ℕ → Type 0
+Wrote before after (by_reading ending) lines text = (last : List ℕ) × (text ≡ lines ++ last) × WroteLine before after (reading_error ending) last
+Wrote before after no_index lines text = (last : List ℕ) × (text ≡ lines ++ last) × WroteLine before after (error_of no_index) last
+Wrote before after (opening_failed low high) lines text = (last : List ℕ) × (text ≡ lines ++ last) × WroteLine before after (error_of (opening_failed low high)) last
+Wrote before after read_failed lines text = (last : List ℕ) × (text ≡ lines ++ last) × WroteLine before after (error_of read_failed) last
+Wrote before after write_failed lines text = IsPrefixOf text lines
+Wrote before after out_of_memory lines text = IsPrefixOf text lines
+
+-- which lines were read, and why no more were answered
+abbrev pub HasEnd : Before → After → List Line → End → Type 0
+HasEnd before after lines (by_reading ending) = (ending ≢ stopped) × Reads (length before.log_faults) before.input lines ending
+HasEnd before after lines no_index = lines ≡ []
+HasEnd before after lines (opening_failed low high) = lines ≡ []
+HasEnd before after lines read_failed =
+    Reads (length before.log_faults) before.input lines stopped × MayFail before.read_faults after.read_faults
+HasEnd before after lines write_failed =
+    Reads (length before.log_faults) before.input lines stopped × MayFail before.write_faults after.write_faults
+HasEnd before after lines out_of_memory = Reads (length before.log_faults) before.input lines stopped
+
+-- ---- the node's life
+
+-- a node as the call begins, before it reads the journal
+pub record IsFresh (before : Before) (history : List Entry) (node : Node) : Type 0 where
+  pub stands : StandsFor before.kept node.core
+  pub is : node ≡ opened_node (record {
+    log = before.log;
+    log_faults = before.log_faults;
+    history = history;
+    store_faults = before.store_faults;
+    files = node.core.files;
+    late = node.core.late;
+  })
+
+-- what opening makes of a node: the journal is read, and what lands in time is read too
+pub record Opens (fresh : Node) (answer : Result ⊤ Unread) (node : Node) : Type 0 where
+  pub fate : Fate
+  pub core : Core
+  pub did : loaded fate fresh.core ≡ gives answer core
+  pub is : node ≡ record fresh { core = core }
+
+-- an opened node answered these lines
+pub record Answers (fresh : Node) (lines : List Line) (outcomes : List Outcome) (last : Node) : Type 0 where
+  pub opened : Node
+  pub opens : Opens fresh (Ok tt) opened
+  pub turns : Turns opened lines outcomes last
+
+-- no node was opened, and no line answered
+pub record Unopened (fresh : Node) (lines : List Line) (outcomes : List Outcome) (why : Unread) (last : Node) : Type 0 where
+  pub no_lines : lines ≡ []
+  pub no_outcomes : outcomes ≡ []
+  pub opens : Opens fresh (Err why) last
+
+-- memory ran out in a line that was read
+pub record RanShort (before : Before) (fresh : Node) (lines : List Line) (outcomes : List Outcome) (last : Node) : Type 0 where
+  pub mid : Node
+  pub answers : Answers fresh lines outcomes mid
+  pub line : Line
+  pub read : Reads (length before.log_faults) before.input (lines ++ line ∷ []) stopped
+  pub turn : Turn mid line None last
+
+-- the node of each end: what it did with the store and the logs is all that the call did
+abbrev pub Lives : Before → End → Node → List Line → List Outcome → Node → Type 0
+Lives before (by_reading ending) fresh lines outcomes last = Answers fresh lines outcomes last
+Lives before no_index fresh lines outcomes last = Unopened fresh lines outcomes calls.no_index last
+Lives before (opening_failed low high) fresh lines outcomes last = Unopened fresh lines outcomes (not_read (faulted (store_fault low high))) last
+Lives before read_failed fresh lines outcomes last = Answers fresh lines outcomes last
+Lives before write_failed fresh lines outcomes last = Answers fresh lines outcomes last
+Lives before out_of_memory fresh lines outcomes last =
+    ((lines ≡ []) × (outcomes ≡ []) × (last ≡ fresh)) ⊎ (Unopened fresh lines outcomes (not_read no_memory) last
+    ⊎ (Answers fresh lines outcomes last ⊎ RanShort before fresh lines outcomes last))
+
+abbrev pub log_faults_of : Indexer → ℕ
+log_faults_of indexer = indexer.log_faults
+
+-- the node at the end is the one that the outside shows: its counts are those at exit, and it stands for the store
+pub record IsShown (after : After) (node : Node) : Type 0 where
+  pub store_count : node.core.store_faults ≡ after.store_faults
+  pub log_count : map log_faults_of node.indexers ≡ after.log_faults
+  pub stands : StandsFor after.kept node.core
+
+-- ---- the searches, without a node
+
+-- what is known of a client from the lines and their outcomes: the text that it opened last, and its front
+pub record Known : Type 0 where
+  pub name : List ℕ
+  pub text : List ℕ
+  pub front : ℕ
+
+abbrev pub known_of : List ℕ → List Known → Known
+known_of name [] = record { name = name; text = []; front = 0 }
+known_of name (known ∷ more) = if bytes_eq known.name name then known else known_of name more
+
+abbrev pub after_outcome : List Known → Line → Outcome → List Known
+after_outcome knowns (Open name text) (request_opened who) = record (known_of name knowns) { text = text } ∷ knowns
+after_outcome knowns (StepClient name) (client_said who (Replied reply)) =
+    record (known_of name knowns) { front = reply.revision } ∷ knowns
+after_outcome knowns line outcome = knowns
+
+-- The reply is the answer to the request that its client opened last, over what was visible at the revision that it
+-- names; that is at least the client's front and the journal's end at entry, and the journal at exit reaches it.
+pub record IsAnswered (history : List Entry) (log : Log) (least : ℕ) (known : Known) (reply : Reply) : Type 0 where
+  pub client : reply.client ≡ known.name
+  pub word : List ℕ
+  pub asked : word_asked known.text ≡ Some word
+  pub answer : reply.said ≡ answer word (visible_at reply.revision history log)
+  pub front : known.front ≤ reply.revision
+  pub entry : least ≤ reply.revision
+  pub exit : reply.revision ≤ length history
+
+abbrev pub IfFound : Said → Type 0 → Type 0
+IfFound (Found count hits) fact = fact
+IfFound (Refusal refused) fact = Unit {0}
+
+abbrev pub AnswersOne : List Entry → Log → ℕ → List Known → Line → Outcome → Type 0
+AnswersOne history log least knowns line (client_said who (Replied reply)) =
+    IfFound reply.said ((name : List ℕ) × (line ≡ StepClient name) × IsAnswered history log least (known_of name knowns) reply)
+AnswersOne history log least knowns line outcome = Unit {0}
+
+abbrev pub AnswersFrom : List Entry → Log → ℕ → List Known → List Line → List Outcome → Type 0
+AnswersFrom history log least knowns [] [] = Unit {0}
+AnswersFrom history log least knowns [] (outcome ∷ outcomes) = ⊥
+AnswersFrom history log least knowns (line ∷ lines) [] = ⊥
+AnswersFrom history log least knowns (line ∷ lines) (outcome ∷ outcomes) =
+    AnswersOne history log least knowns line outcome × AnswersFrom history log least (after_outcome knowns line outcome) lines outcomes
+
+-- ---- the clause
+
+abbrev pub StoodStill : ℕ → ℕ → Type 0
+StoodStill before after = (before ≡ after) × (after < last_count)
+
+-- no count rose, and none stands at its type's end
+pub record IsCalm (before : Before) (after : After) : Type 0 where
+  pub store : StoodStill before.store_faults after.store_faults
+  pub log : (before.log_faults ≡ after.log_faults) × All (λ n. n < last_count) after.log_faults
+  pub input : StoodStill before.read_faults after.read_faults
+  pub output : StoodStill before.write_faults after.write_faults
+
+-- Over a store that is an index with this journal, and a log, `drive` ends with this status.
+pub record Drives (history : List Entry) (before : Before) (after : After) (status : ℕ) : Type 0 where
+  pub end : End
+  pub status_is : status ≡ status_of end
+  pub lines : List Line
+  pub outcomes : List Outcome
+  -- why it ended, and which lines were answered
+  pub ends : HasEnd before after lines end
+  -- what was written: a line for each of these, and the last line of the status
+  pub text : List ℕ
+  pub written : after.written ≡ before.written ++ text
+  pub wrote : Wrote before.write_faults after.write_faults end (printed outcomes) text
+  -- the journal at entry is a prefix of the journal at exit, and the store is an index again
+  pub exit : List Entry
+  pub index : IsIndexOf after.kept exit before.log
+  pub goes_on : IsPrefixOf history exit
+  -- each search is answered, whatever failed
+  pub searches : AnswersFrom exit before.log (length history) [] lines outcomes
+  -- the node of the store at entry did all this, whatever failed
+  pub fresh : Node
+  pub is_fresh : IsFresh before history fresh
+  pub last : Node
+  pub lives : Lives before end fresh lines outcomes last
+  pub shown : IsShown after last
+  -- where nothing failed and nothing was late, the outcomes are those of the node
+  pub calm : IsCalm before after → before.kept.late ≡ [] → outcomes ≡ (turns fresh lines).outcomes
+  -- where nothing failed, the status is that of the input
+  pub exact : IsCalm before after → 0 < length history → (read : List Line) (ending : Ending) → ending ≢ stopped →
+      Reads (length before.log_faults) before.input read ending → (status ≡ reading_status ending) ⊎ (status ≡ 11)
+
+-- ---- the premises, at the objects that are handed in
+
+-- what these objects tell is this
+pub record Shows {S L R W : Type 0} (told : S → Option State) (count : S → ℕ) (log_told : L → Option Log) (log_count : L → ℕ)
+    (left : R → Option (List ℕ)) (read_count : R → ℕ) (taken : W → Option (List ℕ)) (write_count : W → ℕ)
+    (store : S) (logs : List L) (input : R) (output : W) (before : Before) : Type 0 where
+  pub kept : told store ≡ Some before.kept
+  pub store_faults : count store ≡ before.store_faults
+  pub log : All (λ l. log_told l ≡ Some before.log) logs
+  pub log_faults : map log_count logs ≡ before.log_faults
+  pub input_left : left input ≡ Some before.input
+  pub read_faults : read_count input ≡ before.read_faults
+  pub written : taken output ≡ Some before.written
+  pub write_faults : write_count output ≡ before.write_faults
+
+-- each reader was let go as a later state of itself
+abbrev pub AllSince : {L : Type 0} → (L → L → Type 0) → List L → List L → Type 0
+AllSince since [] [] = Unit {0}
+AllSince since [] (last ∷ lasts) = ⊥
+AllSince since (first ∷ firsts) [] = ⊥
+AllSince since (first ∷ firsts) (last ∷ lasts) = since first last × AllSince since firsts lasts
+
+-- the readers' counts as they were let go, and their sum
+pub record LetGo {L : Type 0} (since : L → L → Type 0) (log_count : L → ℕ) (firsts : List L) (total : ℕ) : Type 0 where
+  pub lasts : List L
+  pub later : AllSince since firsts lasts
+  pub sum_is : total ≡ min (sum (map log_count lasts)) last_count
+
+-- and behind the call this
+pub record ShowsAfter {S L R W : Type 0} (told : S → Option State) (log_count : L → ℕ) (since : L → L → Type 0) (read_count : R → ℕ)
+    (taken : W → Option (List ℕ)) (write_count : W → ℕ) (store : S) (store_faults log_faults : ℕ) (logs : List L) (input : R) (output : W)
+    (after : After) : Type 0 where
+  pub kept : told store ≡ Some after.kept
+  pub store_count : store_faults ≡ after.store_faults
+  pub let_go : LetGo since log_count logs log_faults
+  pub log_counts : map log_count let_go.lasts ≡ after.log_faults
+  pub read_faults : read_count input ≡ after.read_faults
+  pub written : taken output ≡ Some after.written
+  pub write_faults : write_count output ≡ after.write_faults
+
+-- the store is an index with this journal, over a log that the handed-in one extends
+abbrev pub EntersAs : List Entry → Before → Type 0
+EntersAs history before = (log : Log) × Extends log before.log × IsIndexOf before.kept history log
+
+-- the words of the command line are `drive` alone
+abbrev pub IsDrive : List (List ℕ) → Type 0
+IsDrive given = given ≡ codes "drive" ∷ []
+
+-- other words are answered before anything else: nothing is read, and the store is as it was
+pub record RefusesWords {S R : Type 0} (told : S → Option State) (count : S → ℕ) (left : R → Option (List ℕ)) (read_count : R → ℕ)
+    (store after_store : S) (input after_input : R) : Type 0 where
+  pub kept : told after_store ≡ told store
+  pub store_count : count after_store ≡ count store
+  pub left_same : left after_input ≡ left input
+  pub read_same : read_count after_input ≡ read_count input
+
+-- the one line of such words; without memory nothing is written
+abbrev pub WroteWords : ℕ → ℕ → ℕ → Option (List ℕ) → Option (List ℕ) → Type 0
+WroteWords status before after old new = (written : List ℕ) → old ≡ Some written → (text : List ℕ) × (new ≡ Some (written ++ text))
+    × (((status ≡ 1) × WroteLine before after (error_line (codes "1" ∷ codes "badwords" ∷ [])) text) ⊎ ((status ≡ 11) × (text ≡ [])))

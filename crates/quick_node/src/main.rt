@@ -1,0 +1,4 @@
+//! The node: words, input, output and status of one run.
+#![tactic(auto)]
+
+fn main() {}

@@ -1,0 +1,2 @@
+//! The steps of a client's search.
+#![tactic(auto)]
