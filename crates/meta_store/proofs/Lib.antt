@@ -6,3 +6,5 @@ pub mod Moves
 pub mod Sound
 pub mod Seen
 pub mod Current
+pub mod Answering
+pub mod Fitting

@@ -1,9 +1,13 @@
 //! The state of an index after the entries of its journal, and which entry may come next.
 #![tactic(auto)]
 
+mod checks;
 pub mod config;
 pub mod laws;
+pub mod meta;
 pub mod refusal;
+mod spans;
 
 pub use config::{Config, Reading, Settings};
+pub use meta::Meta;
 pub use refusal::Refusal;

@@ -36,7 +36,7 @@ pub enum Refusal {
     /// Rows in any state.
     #[error("{count} rows stand")]
     TooManyRows { count: usize },
-    /// The live spans, with those of the delta.
+    /// The live spans, with those of the delta. A sum of two counts may pass 64 bits.
     #[error("{count} spans")]
-    TooManySpans { count: usize },
+    TooManySpans { count: u128 },
 }

@@ -97,6 +97,13 @@ impl Spans {
         Spans { list }
     }
 
+    pub fn into_vec(self) -> Vec<Span>
+        ensures { result.items ≡ self }
+    {
+        let Spans { list } = self;
+        list
+    }
+
     pub fn push(&mut self, span: Span) -> Result<(), AllocError>
         ensures ok { OnOk result (self.new ≡ self.old ++ span ∷ []) }
         ensures err { OnErr result (self.new ≡ self.old) }

@@ -1,0 +1,15 @@
+use Rattle.std.proofs.Common.{◌≡◌, ◌+◌, ◌≤◌, length, map, refl, ap, sym, subst, ◌∙◌, arith}
+use Rattle.meta_store.specs.Room.{Kept, MergedUpTo}
+use Rattle.split_states.specs.Rows.{marked}
+use Rattle.meta_store.proofs.Fitting.{merged_each}
+use Rattle.meta_store.proofs.meta.Meta.take_marked.Goals as goal
+
+pub invariant_of-self : goal.invariant_of-self
+invariant_of-self c =
+    let now : c.self.inside.revision ≡ c.args.self.now.state.revision = ap (λ (k : Kept). k.state.revision) c.self.view_is in (
+      omega (arith, now, c.requires),
+      omega (arith, c.self.invariant.1),
+      omega (arith, c.self.invariant.2),
+      c.self.invariant.3,
+      subst (MergedUpTo (c.self.inside.revision + 1)) (sym c.mark.ensures) (merged_each c.self.inside.revision c.args.numbers.now (marked c.args.moment) c.self.inside.rows.list (λ row. refl) c.self.invariant.4),
+    )

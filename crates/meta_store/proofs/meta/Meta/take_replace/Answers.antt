@@ -1,0 +1,23 @@
+use Rattle.std.proofs.Common.{◌≡◌, ◌+◌, ◌≤◌, length, map, refl, ap, sym, subst, ◌∙◌, arith}
+use Rattle.meta_store.specs.Room.{Kept, MergedUpTo}
+use Rattle.std.specs.Prelude.{ℕ, List}
+use Rattle.split_states.specs.declared.rows.Row.{Row}
+use Rattle.split_states.specs.Rows.{marked, merged_ops, replacing, change}
+use Rattle.meta_store.proofs.Fitting.{merged_low, merged_replace}
+use Rattle.meta_store.proofs.meta.Meta.take_replace.Goals as goal
+
+pub merged-merge_ops-requires : goal.merged-merge_ops-requires
+merged-merge_ops-requires c = let low = merged_low c.self.inside.revision c.args.old.now c.self.inside.rows.list c.self.invariant.4 in omega (arith, low, c.self.invariant.0)
+
+pub invariant_of-self : goal.invariant_of-self
+invariant_of-self c =
+    let now : c.self.inside.revision ≡ c.args.self.now.state.revision = ap (λ (k : Kept). k.state.revision) c.self.view_is in (
+      omega (arith, now, c.requires.few),
+      omega (arith, c.self.invariant.1),
+      omega (arith, c.self.invariant.2),
+      c.self.invariant.3,
+      (let low = merged_low c.self.inside.revision c.args.old.now c.self.inside.rows.list c.self.invariant.4 in
+          let ops : c.merged-merge_ops.result ≤ c.self.inside.revision + 1 = omega (arith, low, c.merged-merge_ops.ensures) in
+          subst (MergedUpTo (c.self.inside.revision + 1)) (sym (c.replace-2.ensures ∙ ap (λ (rows : List Row). change c.args.new (replacing c.raise.new.self c.merged-merge_ops.result) rows) c.mark.ensures))
+          (merged_replace c.self.inside.revision c.args.moment c.args.new c.args.old.now c.raise.new.self c.merged-merge_ops.result c.self.inside.rows.list ops c.self.invariant.4)),
+    )

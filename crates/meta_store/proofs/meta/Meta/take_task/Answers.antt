@@ -1,0 +1,18 @@
+use Rattle.std.proofs.Common.{◌≡◌, ◌+◌, ◌≤◌, length, map, refl, ap, sym, subst, ◌∙◌, arith}
+use Rattle.meta_store.specs.Room.{Kept, MergedUpTo}
+use Rattle.delete_tasks.specs.Ledger.{last_of}
+use Rattle.delete_tasks.proofs.Last.{last_push}
+use Rattle.meta_store.proofs.Fitting.{merged_more}
+use Rattle.meta_store.proofs.meta.Meta.take_task.Goals as goal
+
+pub invariant_of-self : goal.invariant_of-self
+invariant_of-self c =
+    let now : c.self.inside.revision ≡ c.args.self.now.state.revision = ap (λ (k : Kept). k.state.revision) c.self.view_is in (
+      omega (arith, now, c.requires.few),
+      omega (arith, c.self.invariant.1),
+      (let pushed : last_of c.add_reserved.new.self.list ≡ c.args.task.opstamp = ap last_of c.add_reserved.ensures ∙ last_push c.self.inside.tasks.list c.args.task in
+          let was : last_of c.self.inside.tasks.list ≡ last_of c.args.self.now.state.tasks = ap (λ (k : Kept). last_of k.state.tasks) c.self.view_is in
+          omega (arith, pushed, was, c.requires.next, c.self.invariant.2)),
+      c.self.invariant.3,
+      merged_more c.self.inside.revision c.self.inside.rows.list c.self.invariant.4,
+    )

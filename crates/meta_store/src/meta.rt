@@ -1,0 +1,473 @@
+//! The state of an index after the entries of its journal.
+
+ghost use Rattle.std.specs.Prelude.{ℕ, ◌≡◌, ◌+◌, ◌-◌, ◌<◌, ◌≤◌, ◌^◌, [], length, OnOk, IsOk};
+ghost use Rattle.source_checkpoint.specs.Checkpoints.{checkpoint_at};
+ghost use Rattle.split_states.specs.Rows.{row_at, row_ranges, joined_spans};
+ghost use Rattle.delete_tasks.specs.Ledger.{last_of};
+ghost use Rattle.meta_store.specs.History.{at};
+ghost use Rattle.meta_store.specs.History.History.{Start};
+ghost use Rattle.meta_store.specs.State.{Reads, state_of, after};
+ghost use Rattle.meta_store.specs.Answers.{answer_to, answer_behind, answer_to_found, answer_to_next, answer_to_task, answer_to_tasks, answer_to_rows, in_delta};
+ghost use Rattle.source_checkpoint.specs.Deltas.{then_answer, answer_to_delta};
+ghost use Rattle.meta_store.specs.Room.{HasRoom};
+ghost use Rattle.meta_store.specs.declared.config.Reading.{Reading};
+
+use crate::checks::{
+    check_first, check_moment, check_next, check_reading, check_row_count, check_span_count,
+    check_task_count, check_upto, may_mark_each, may_remove_each, may_retire_each, of_delta,
+    of_state,
+};
+use crate::config::{Config, Reading, Settings};
+use crate::refusal::Refusal;
+use crate::spans::{admit_row, count_left, fill_spans, push_retired, reserve_retired, span_count};
+use byte_fields::Bytes;
+use delete_tasks::{Task, Tasks};
+use meta_journal::{Act, Entry};
+use source_checkpoint::{Delta, Ledger, Part, Partition, Span, Spans};
+use split_states::{
+    Numbers, Row, RowFacts, RowState, Rows, StateRefusal, may_publish, may_raise, may_replace,
+};
+use std::alloc::{AllocError, Global};
+use std::marker::Model;
+use std::mem;
+
+/// The state of an index after the entries of its journal, with the room that was made for the next one.
+#[derive(Drop)]
+pub struct Meta {
+    alloc: Global,
+    revision: u64,
+    moment: u64,
+    config: Option<Config>,
+    last_number: u64,
+    tasks: Tasks,
+    span_count: usize,
+    checkpoints: Ledger,
+    rows: Rows,
+    retired: Vec<Part>,
+    spare: Vec<Span>,
+}
+
+impl Model for Meta {
+    ghost use Rattle.std.specs.Prelude.{◌-◌, ◌+◌, ◌≤◌, ◌<◌, ◌^◌, vec_len, vec_capacity};
+    ghost use Rattle.delete_tasks.specs.Ledger.{last_of};
+    ghost use Rattle.meta_store.specs.Room.{Kept, MergedUpTo};
+
+    ghost Value = { Kept };
+
+    ghost view = { λ m. record {
+      state = record {
+        revision = m.revision;
+        moment = m.moment;
+        config = m.config;
+        last_number = m.last_number;
+        tasks = m.tasks.list;
+        span_count = m.span_count;
+        checkpoints = m.checkpoints.list;
+        rows = m.rows.list;
+        retired = m.retired.items;
+      };
+      checkpoint_room = m.checkpoints.spare;
+      row_room = m.rows.spare;
+      task_room = m.tasks.spare;
+      retired_room = vec_capacity m.retired - vec_len m.retired;
+      spare = m.spare.items;
+      spare_room = vec_capacity m.spare;
+    } };
+
+    ghost invariant = { λ m.
+        (m.revision + 1 < 2 ^ 64) × (m.last_number ≤ m.revision) × (last_of m.tasks.list ≤ m.revision)
+        × (m.span_count ≤ 1000000) × MergedUpTo m.revision m.rows.list };
+}
+
+impl Meta {
+    /// The state before the first entry.
+    pub fn vacant(alloc: Global) -> Meta
+        ensures { (reads : Reads) → result.state ≡ state_of reads Start }
+    {
+        Meta {
+            alloc,
+            revision: 0,
+            moment: 0,
+            config: None,
+            last_number: 0,
+            tasks: Tasks::vacant(alloc),
+            span_count: 0,
+            checkpoints: Ledger::vacant(alloc),
+            rows: Rows::vacant(alloc),
+            retired: Vec::new(alloc),
+            spare: Vec::new(alloc),
+        }
+    }
+
+    /// The number of entries that were taken in.
+    pub fn revision(&self) -> u64
+        ensures { result ≡ self.now.state.revision }
+    {
+        self.revision
+    }
+
+    /// The greatest moment of an entry, 0 before the first.
+    pub fn moment(&self) -> u64
+        ensures { result ≡ self.now.state.moment }
+    {
+        self.moment
+    }
+
+    /// The configuration, once there is one.
+    pub fn config(&self) -> &Option<Config>
+        ensures { result.now ≡ self.now.state.config }
+    {
+        &self.config
+    }
+
+    /// One more than the greatest number that was ever staged, from 1.
+    pub fn next_number(&self) -> u64
+        ensures { result ≡ self.now.state.last_number + 1 }
+    {
+        self.last_number + 1
+    }
+
+    /// The opstamp of the last task, 0 for none.
+    pub fn last_opstamp(&self) -> u64
+        ensures { result ≡ last_of self.now.state.tasks }
+    {
+        self.tasks.last_opstamp()
+    }
+
+    /// How far a partition was taken in, 0 for an unknown one.
+    pub fn checkpoint(&self, partition: &Partition) -> u64
+        ensures { result ≡ checkpoint_at self.now.state.checkpoints partition.now }
+    {
+        self.checkpoints.checkpoint(partition)
+    }
+
+    pub fn checkpoints(&self) -> &Ledger
+        ensures { result.now.list ≡ self.now.state.checkpoints }
+    {
+        &self.checkpoints
+    }
+
+    pub fn rows(&self) -> &Rows
+        ensures { result.now.list ≡ self.now.state.rows }
+    {
+        &self.rows
+    }
+
+    pub fn tasks(&self) -> &Tasks
+        ensures { result.now.list ≡ self.now.state.tasks }
+    {
+        &self.tasks
+    }
+
+    /// Whether an entry may come next, by what the readers say of it: its first refusal. It takes no memory.
+    pub fn check(&self, entry: &Entry, reading: Reading) -> Result<(), Refusal>
+        ensures { result ≡ answer_to reading self.now.state entry.now }
+    {
+        if let Err(refusal) = check_moment(entry.moment, self.moment) {
+            return Err(refusal);
+        }
+        match &self.config {
+            None => check_first(&entry.act, reading),
+            Some(config) => self.check_act(reading, config.settings, entry.moment, &entry.act),
+        }
+    }
+
+    fn check_act(
+        &self,
+        reading: Reading,
+        settings: Settings,
+        moment: u64,
+        act: &Act,
+    ) -> Result<(), Refusal>
+        ensures { result ≡ answer_behind reading settings self.now.state moment act.now }
+    {
+        match act {
+            Act::Fence => Ok(()),
+            Act::Create { .. } => Err(Refusal::AlreadyCreated),
+            Act::Stage { number, delta, .. } => self.check_stage(*number, delta),
+            Act::Publish { number } => self.check_publish(*number),
+            Act::Replace { new, old, upto } => {
+                of_state(may_replace(&self.rows, *new, old))?;
+                check_upto(*upto, self.last_opstamp())
+            }
+            Act::Raise { number, upto } => {
+                of_state(may_raise(&self.rows, *number))?;
+                check_upto(*upto, self.last_opstamp())
+            }
+            Act::Task { opstamp, .. } => self.check_task(*opstamp, reading.task),
+            Act::MarkStaged { numbers } => of_state(may_mark_each(
+                &self.rows,
+                numbers.as_slice(),
+                moment,
+                settings.staged_grace,
+            )),
+            Act::Remove { numbers } => of_state(may_remove_each(
+                &self.rows,
+                numbers.as_slice(),
+                moment,
+                settings.deletion_grace,
+            )),
+            Act::Retire { numbers } => of_state(may_retire_each(
+                &self.rows,
+                numbers.as_slice(),
+                moment,
+                settings.period,
+            )),
+        }
+    }
+
+    fn check_stage(&self, number: u64, delta: &Delta) -> Result<(), Refusal>
+        ensures { result ≡ then_answer (answer_to_next number (self.now.state.last_number + 1)) (then_answer (in_delta (answer_to_delta [] delta.now)) (answer_to_rows (length self.now.state.rows))) }
+    {
+        check_next(number, self.last_number + 1)?;
+        of_delta(delta.check())?;
+        check_row_count(self.rows.len())
+    }
+
+    fn check_task(&self, opstamp: u64, reads: bool) -> Result<(), Refusal>
+        ensures { result ≡ then_answer (answer_to_next opstamp (last_of self.now.state.tasks + 1)) (then_answer (answer_to_task reads) (answer_to_tasks (length self.now.state.tasks))) }
+    {
+        if let Err(refusal) = check_next(opstamp, self.next_opstamp()) {
+            return Err(refusal);
+        }
+        if let Err(refusal) = check_reading(reads) {
+            return Err(refusal);
+        }
+        check_task_count(self.tasks.len())
+    }
+
+    fn next_opstamp(&self) -> u64
+        ensures { result ≡ last_of self.now.state.tasks + 1 }
+    {
+        self.tasks.last_opstamp() + 1
+    }
+
+    fn check_publish(&self, number: u64) -> Result<(), Refusal>
+        ensures { result ≡ answer_to_found self.now.state number (row_at self.now.state.rows number) }
+    {
+        match self.rows.get(number) {
+            None => Err(Refusal::State(StateRefusal::NoRow { number })),
+            Some(row) => {
+                of_delta(self.checkpoints.check_spans(&row.spans))?;
+                of_state(may_publish(&self.rows, number))?;
+                check_span_count(self.span_count as u128 + row.spans.len() as u128)
+            }
+        }
+    }
+}
+
+/// Room for the next entry.
+impl Meta {
+    /// Makes the room for an entry. It changes nothing else.
+    pub fn reserve(&mut self, entry: &Entry) -> Result<(), AllocError>
+        ensures same { self.new.state ≡ self.old.state }
+        ensures room { OnOk result (HasRoom entry.now.act self.new) }
+    {
+        match &entry.act {
+            Act::Stage { delta, .. } => self.reserve_stage(delta),
+            Act::Publish { number } => self.reserve_publish(*number),
+            Act::Replace { old, .. } => self.reserve_replace(old),
+            Act::Task { .. } => self.tasks.reserve(),
+            Act::Retire { numbers } => {
+                reserve_retired(&mut self.retired, &self.rows, numbers.as_slice())
+            }
+            Act::Fence
+            | Act::Create { .. }
+            | Act::Raise { .. }
+            | Act::MarkStaged { .. }
+            | Act::Remove { .. } => Ok(()),
+        }
+    }
+
+    fn reserve_stage(&mut self, delta: &Delta) -> Result<(), AllocError>
+        ensures same { self.new.state ≡ self.old.state }
+        ensures room { OnOk result ((0 < self.new.row_room) × (self.new.spare ≡ []) × (length delta.now ≤ self.new.spare_room)) }
+    {
+        let mut spare = Vec::new(self.alloc);
+        spare.reserve(delta.len())?;
+        self.spare = spare;
+        self.rows.reserve()
+    }
+
+    fn reserve_publish(&mut self, number: u64) -> Result<(), AllocError>
+        ensures same { self.new.state ≡ self.old.state }
+        ensures room { OnOk result (length (row_ranges self.old.state.rows number) ≤ self.new.checkpoint_room) }
+    {
+        let count = span_count(self.rows.get(number));
+        self.checkpoints.reserve_parts(count)
+    }
+
+    fn reserve_replace(&mut self, old: &Numbers) -> Result<(), AllocError>
+        ensures same { self.new.state ≡ self.old.state }
+        ensures room { OnOk result (self.new.spare ≡ joined_spans self.old.state.rows old.now) }
+    {
+        let spans = self.rows.joined(self.alloc, old)?;
+        self.spare = spans.into_vec();
+        Ok(())
+    }
+}
+
+/// Entries that are taken in.
+impl Meta {
+    /// Takes an entry in that may come next and for which there is room, with what the readers say of it. It
+    /// can't fail. The number of entries stays below 2^64 - 1.
+    pub fn apply(&mut self, entry: Entry, reading: Reading)
+        requires may { IsOk (answer_to reading self.old.state entry) }
+        requires room { HasRoom entry.act self.old }
+        requires few { self.old.state.revision + 2 < 2 ^ 64 }
+        ensures { self.new.state ≡ after reading entry self.old.state }
+    {
+        let Entry { moment, act } = entry;
+        match act {
+            Act::Fence => self.take_fence(moment),
+            Act::Create { config } => self.take_create(moment, config, reading),
+            Act::Stage {
+                number,
+                delta,
+                facts,
+            } => self.take_stage(moment, number, &delta, facts),
+            Act::Publish { number } => self.take_publish(moment, number),
+            Act::Replace { new, old, upto } => self.take_replace(moment, new, &old, upto),
+            Act::Raise { number, upto } => self.take_raise(moment, number, upto),
+            Act::Task {
+                opstamp,
+                text,
+                fields,
+                times,
+            } => self.take_task(
+                moment,
+                Task {
+                    opstamp,
+                    text,
+                    fields,
+                    times,
+                },
+            ),
+            Act::MarkStaged { numbers } => self.take_marked(moment, &numbers),
+            Act::Remove { numbers } => self.take_removed(moment, &numbers),
+            Act::Retire { numbers } => self.take_retired(moment, &numbers),
+        }
+    }
+
+    fn take_fence(&mut self, moment: u64)
+        requires { self.old.state.revision + 2 < 2 ^ 64 }
+        ensures { (reading : Reading) → self.new.state ≡ after reading (at moment Act.Fence) self.old.state }
+    {
+        self.moment = self.moment.max(moment);
+        self.revision += 1;
+    }
+
+    fn take_create(&mut self, moment: u64, config: Bytes, reading: Reading)
+        requires { self.old.state.revision + 2 < 2 ^ 64 }
+        ensures { self.new.state ≡ after reading (at moment (Act.Create config)) self.old.state }
+    {
+        self.config = match reading.settings {
+            None => None,
+            Some(settings) => Some(Config {
+                text: config,
+                settings,
+            }),
+        };
+        self.moment = self.moment.max(moment);
+        self.revision += 1;
+    }
+
+    fn take_stage(&mut self, moment: u64, number: u64, delta: &Delta, facts: RowFacts)
+        requires next { number ≡ self.old.state.last_number + 1 }
+        requires room { (0 < self.old.row_room) × (self.old.spare ≡ []) × (length delta.now ≤ self.old.spare_room) }
+        requires few { self.old.state.revision + 2 < 2 ^ 64 }
+        ensures { (reading : Reading) → self.new.state ≡ after reading (at moment (Act.Stage number delta.now facts)) self.old.state }
+    {
+        let mut spans = mem::replace(&mut self.spare, Vec::new(self.alloc));
+        fill_spans(&mut spans, self.tasks.last_opstamp(), delta.as_slice());
+        self.rows.stage(Row {
+            number,
+            state: RowState::Staged,
+            spans: Spans::from_vec(spans),
+            facts,
+            staged_at: moment,
+            marked_at: 0,
+            merge_ops: 0,
+        });
+        self.last_number = self.last_number.max(number);
+        self.moment = self.moment.max(moment);
+        self.revision += 1;
+    }
+
+    fn take_publish(&mut self, moment: u64, number: u64)
+        requires room { length (row_ranges self.old.state.rows number) ≤ self.old.checkpoint_room }
+        requires spans { self.old.state.span_count + length (row_ranges self.old.state.rows number) ≤ 1000000 }
+        requires few { self.old.state.revision + 2 < 2 ^ 64 }
+        ensures { (reading : Reading) → self.new.state ≡ after reading (at moment (Act.Publish number)) self.old.state }
+    {
+        self.span_count += span_count(self.rows.get(number));
+        admit_row(&mut self.checkpoints, self.rows.get(number));
+        self.rows.publish(number);
+        self.moment = self.moment.max(moment);
+        self.revision += 1;
+    }
+
+    fn take_replace(&mut self, moment: u64, new: u64, old: &Numbers, upto: u64)
+        requires room { self.old.spare ≡ joined_spans self.old.state.rows old.now }
+        requires few { self.old.state.revision + 2 < 2 ^ 64 }
+        ensures { (reading : Reading) → self.new.state ≡ after reading (at moment (Act.Replace new old.now upto)) self.old.state }
+    {
+        let mut spans = Spans::from_vec(mem::replace(&mut self.spare, Vec::new(self.alloc)));
+        spans.raise(upto);
+        let merge_ops = self.rows.merged(old);
+        self.rows.mark(old, moment);
+        self.rows.replace(new, spans, merge_ops);
+        self.moment = self.moment.max(moment);
+        self.revision += 1;
+    }
+
+    fn take_raise(&mut self, moment: u64, number: u64, upto: u64)
+        requires { self.old.state.revision + 2 < 2 ^ 64 }
+        ensures { (reading : Reading) → self.new.state ≡ after reading (at moment (Act.Raise number upto)) self.old.state }
+    {
+        self.rows.raise(number, upto);
+        self.moment = self.moment.max(moment);
+        self.revision += 1;
+    }
+
+    fn take_task(&mut self, moment: u64, task: Task)
+        requires next { task.opstamp ≡ last_of self.old.state.tasks + 1 }
+        requires room { 0 < self.old.task_room }
+        requires few { self.old.state.revision + 2 < 2 ^ 64 }
+        ensures { (reading : Reading) → self.new.state ≡ after reading (at moment (Act.Task task.opstamp task.text task.fields task.times)) self.old.state }
+    {
+        self.tasks.add_reserved(task);
+        self.moment = self.moment.max(moment);
+        self.revision += 1;
+    }
+
+    fn take_marked(&mut self, moment: u64, numbers: &Numbers)
+        requires { self.old.state.revision + 2 < 2 ^ 64 }
+        ensures { (reading : Reading) → self.new.state ≡ after reading (at moment (Act.MarkStaged numbers.now)) self.old.state }
+    {
+        self.rows.mark(numbers, moment);
+        self.moment = self.moment.max(moment);
+        self.revision += 1;
+    }
+
+    fn take_removed(&mut self, moment: u64, numbers: &Numbers)
+        requires { self.old.state.revision + 2 < 2 ^ 64 }
+        ensures { (reading : Reading) → self.new.state ≡ after reading (at moment (Act.Remove numbers.now)) self.old.state }
+    {
+        self.rows.remove(numbers);
+        self.moment = self.moment.max(moment);
+        self.revision += 1;
+    }
+
+    fn take_retired(&mut self, moment: u64, numbers: &Numbers)
+        requires room { length (joined_spans self.old.state.rows numbers.now) ≤ self.old.retired_room }
+        requires few { self.old.state.revision + 2 < 2 ^ 64 }
+        ensures { (reading : Reading) → self.new.state ≡ after reading (at moment (Act.Retire numbers.now)) self.old.state }
+    {
+        push_retired(&mut self.retired, &self.rows, numbers.as_slice());
+        self.span_count = count_left(self.span_count, &self.rows, numbers.as_slice());
+        self.rows.mark(numbers, moment);
+        self.moment = self.moment.max(moment);
+        self.revision += 1;
+    }
+}
