@@ -1,3 +1,4 @@
 pub mod Walk
 pub mod Names
 pub mod RowLemmas
+pub mod Finding

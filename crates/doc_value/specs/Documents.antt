@@ -1,6 +1,7 @@
 -- Which lists of fields are a schema, and which documents are of a schema.
-use Rattle.std.specs.Prelude.{◌≡◌, ℕ, suc, true, ◌<◌, ◌≤◌, List, [], ◌∷◌, length, slice_get, IfSome, MatchOption, Option, Some, None}
+use Rattle.std.specs.Prelude.{◌≡◌, ℕ, suc, true, ◌<◌, ◌≤◌, List, [], ◌∷◌, length, slice_get, if◌then◌else◌, IfSome, MatchOption, Option, Some, None}
 use Rattle.std.specs.Ordering.{nat_cmp}
+use Rattle.std.specs.Str.{bytes_eq}
 use Rattle.std.specs.Cmp.Lexicographic.{slice_cmp}
 use Rattle.std.specs.declared.cmp.Ordering.{Ordering}
 use Rattle.std.specs.declared.cmp.Ordering.TheVariants.{Less}
@@ -70,3 +71,12 @@ FitsFrom fields least (part ∷ parts) =
 -- a document is of a schema
 abbrev pub IsOfSchema : Schema → List DocField → Type 0
 IsOfSchema schema doc = FitsFrom schema.fields 0 doc
+
+-- the number of the field with this path, where the first field has that number
+abbrev pub number_from : ℕ → List Field → List ℕ → Option ℕ
+number_from n [] path = None
+number_from n (f ∷ fs) path = if bytes_eq f.path path then Some n else number_from (suc n) fs path
+
+-- the number of the field with this path
+abbrev pub number_of : List Field → List ℕ → Option ℕ
+number_of fields path = number_from 0 fields path

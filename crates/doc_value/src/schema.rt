@@ -2,6 +2,7 @@ ghost use Rattle.std.specs.Prelude.{◌≡◌, ◌<◌, ◌∷◌, [], ◌++◌,
 
 use crate::text::Text;
 use std::alloc::{AllocError, Global};
+use std::cmp::Ordering;
 use std::marker::Model;
 
 /// What the values of a field are. A text field is one of kind Text or TextList.
@@ -127,6 +128,8 @@ pub struct Schema {
 }
 
 impl Schema {
+    ghost use Rattle.doc_value.specs.Documents.{PathsRise, number_of};
+
     pub fn copy(&self, alloc: Global) -> Result<Schema, AllocError>
         ensures { IfOk result (λ s. s ≡ self.now) }
     {
@@ -134,5 +137,23 @@ impl Schema {
             fields: self.fields.copy(alloc)?,
             timestamp: self.timestamp,
         })
+    }
+
+    /// The number of the field with this path, found in logarithmic time.
+    pub fn number_of(&self, path: &[u8]) -> Option<usize>
+        requires { PathsRise self.now.fields }
+        ensures { result ≡ number_of self.now.fields path.now }
+    {
+        let mut low = 0;
+        let mut high = self.fields.len();
+        while low < high {
+            let middle = low + (high - low) / 2;
+            match path.cmp(self.fields.at(middle).path.as_slice()) {
+                Ordering::Less => high = middle,
+                Ordering::Equal => return Some(middle),
+                Ordering::Greater => low = middle + 1,
+            }
+        }
+        None
     }
 }
