@@ -1,5 +1,5 @@
 -- Spans whose ranges are all different, as those that cover are.
-use Rattle.std.proofs.Common.{◌≡◌, ℕ, ◌+◌, ◌<◌, ◌≤◌, ◌==◌, ◌||◌, Bool, true, false, not, List, [], ◌∷◌, ◌++◌, map, sum_by, IsPermutation, bytes_eq, refl, ap, ap₂, ◌∙◌, inl, inr, arith, eqb-true, ne_eqb, filter}
+use Rattle.std.proofs.Common.{◌≡◌, ℕ, ◌+◌, ◌<◌, ◌≤◌, ◌==◌, ◌||◌, Bool, true, false, not, List, [], ◌∷◌, ◌++◌, map, sum_by, IsPermutation, bytes_eq, refl, ap, ap₂, ◌∙◌, inl, inr, arith, eqb-true, ne_eqb, filter, append-nil}
 use Rattle.std.proofs.lemmas.Bool.{cases_Bool, or_right, false_from_ne_true}
 use Rattle.std.proofs.lemmas.List.Sums.{sum_by-append, sum_by-cons}
 use Rattle.std.proofs.lemmas.List.Sorted.{sum_by-IsPermutation, IsPermutation-map, IsPermutation-sym}
@@ -181,4 +181,26 @@ IsPermutation-retired some others all once p =
     let split = sum_by-append (λ s. one_if (same_range (range_of s) r)) some others in
     let one = apart r in
     omega (arith, split, one)))) in
+    rw parts at (IsPermutation-filter test (some ++ others) all p)
+
+kept_among : (ranges : List Part) (xs : List Span) → AllOf (λ s. is_among ranges s ≡ true) xs → filter (is_among ranges) xs ≡ xs
+kept_among ranges [] h = refl
+kept_among ranges (x ∷ xs) h = rw h.0 (ap (λ rest. x ∷ rest) (kept_among ranges xs h.1))
+
+none_among : (ranges : List Part) (xs : List Span) → AllOf (λ s. is_among ranges s ≡ false) xs → filter (is_among ranges) xs ≡ []
+none_among ranges [] h = refl
+none_among ranges (x ∷ xs) h = rw h.0 (none_among ranges xs h.1)
+
+-- the spans with the ranges of some of them are these
+pub IsPermutation-taken : (some others all : List Span) → AtMostOnce all → IsPermutation (some ++ others) all → IsPermutation some (filter (is_among (map range_of some)) all)
+IsPermutation-taken some others all once p =
+    let apart : AtMostOnce (some ++ others) = apart_permuted all (some ++ others) (IsPermutation-sym (some ++ others) all p) once in
+    let test : Span → Bool = is_among (map range_of some) in
+    let parts : filter test (some ++ others) ≡ some =
+    filter-append test some others
+    ∙ (ap₂ ◌++◌ (kept_among (map range_of some) some (among_themselves some))
+    (none_among (map range_of some) others (apart_among some others (λ r.
+    let split = sum_by-append (λ s. one_if (same_range (range_of s) r)) some others in
+    let one = apart r in
+    omega (arith, split, one)))) ∙ append-nil some) in
     rw parts at (IsPermutation-filter test (some ++ others) all p)

@@ -8,3 +8,5 @@ pub mod Seen
 pub mod Current
 pub mod Answering
 pub mod Fitting
+pub mod Tallied
+pub mod Counted

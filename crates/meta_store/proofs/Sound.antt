@@ -74,7 +74,7 @@ ranges_of_spans k [] = refl
 ranges_of_spans k (part ∷ parts) = ap (λ rest. part ∷ rest) (ranges_of_spans k parts)
 
 -- what the moves do to all ranges
-ranges_admitted : (l : Ledger) (k : ℕ) (delta : List Part) → IsPermutation (all_ranges l ++ delta) (all_ranges (admit delta k l))
+pub ranges_admitted : (l : Ledger) (k : ℕ) (delta : List Part) → IsPermutation (all_ranges l ++ delta) (all_ranges (admit delta k l))
 ranges_admitted l k delta =
     let live : List Part = map range_of l.spans in
     rw (map_append range_of l.spans (spans_of k delta), ranges_of_spans k delta)
@@ -82,11 +82,11 @@ ranges_admitted l k delta =
     (IsPermutation-trans _ _ _ (IsPermutation-append_right live _ _ (IsPermutation-append_comm l.retired delta))
     (IsPermutation-same _ _ (sym (append_assoc live delta l.retired)))))
 
-ranges_kept : (ranges : List Part) (upto : ℕ) (spans : List Span) → map range_of (map (raised_among ranges upto) spans) ≡ map range_of spans
+pub ranges_kept : (ranges : List Part) (upto : ℕ) (spans : List Span) → map range_of (map (raised_among ranges upto) spans) ≡ map range_of spans
 ranges_kept ranges upto [] = refl
 ranges_kept ranges upto (s ∷ spans) = ap (λ rest. range_of s ∷ rest) (ranges_kept ranges upto spans)
 
-ranges_retired : (ranges : List Part) (l : Ledger) → IsPermutation (all_ranges l) (all_ranges (retire ranges l))
+pub ranges_retired : (ranges : List Part) (l : Ledger) → IsPermutation (all_ranges l) (all_ranges (retire ranges l))
 ranges_retired ranges l =
     let gone : Span → Bool = is_among ranges in
     let kept : Span → Bool = λ s. not (is_among ranges s) in
@@ -182,6 +182,16 @@ sound_publish h m number row s found still may =
               ∙ moved_by delta (checkpoint_at (checkpoints_of h)) (ledger h).checkpoints p (s.agree p));
         }
 
+-- a Staged row's ranges are those of its Stage's delta
+pub staged_ranges : (h : History) (number : ℕ) (row : Row) → IsSound h → row_at (rows h) number ≡ Some row → row.state ≡ Staged → row_ranges (rows h) number ≡ delta_of h number
+staged_ranges h number row s found still = by_row (row_stands (rows h) number row s.held.apart found)
+  where
+    by_row : StandsIn (rows h) number row → row_ranges (rows h) number ≡ delta_of h number
+    by_row r =
+        let t : Traced h row = held (Traced h) (last_number h) (rows h) number row r s.held in
+        let spans : row.spans ≡ spans_of (stamp_of h number) (delta_of h number) = rw r.number at (t.fresh still) in
+        ap (λ o. map range_of (row_spans o)) found ∙ (ap (map range_of) spans ∙ ranges_of_spans (stamp_of h number) (delta_of h number))
+
 -- a Marked row is traced whatever it has
 traced_marked : (h : History) (m : ℕ) (row : Row) → Traced h row → Traced h (marked m row)
 traced_marked h m row t = record { reaches = λ alive. absurd (alive refl); fresh = λ still. cc still }
@@ -206,7 +216,7 @@ sound_raise h m number upto row s r open' =
     }
 
 -- the joined spans of Published rows are of the joined ranges of their numbers
-joined_reach : (h : History) (old : List ℕ) → HoldRows (Traced h) (last_number h) (rows h) → AllOf (IsIn Published (rows h)) old → map range_of (joined_spans (rows h) old) ≡ flat_map (reach h) old
+pub joined_reach : (h : History) (old : List ℕ) → HoldRows (Traced h) (last_number h) (rows h) → AllOf (IsIn Published (rows h)) old → map range_of (joined_spans (rows h) old) ≡ flat_map (reach h) old
 joined_reach h [] s i = refl
 joined_reach h (n ∷ old) s i =
     let w = the_row (row_at (rows h) n) (λ row. (row.state ≡ Published) × ⊤) i.0 in

@@ -9,7 +9,7 @@ ghost use Rattle.meta_store.specs.History.{history};
 ghost use Rattle.meta_store.specs.Ledgers.{ledger};
 ghost use Rattle.meta_store.specs.Rows.{rows};
 ghost use Rattle.meta_store.specs.State.{Reads, Legal};
-ghost use Rattle.meta_store.specs.Laws.{Once};
+ghost use Rattle.meta_store.specs.Laws.{Once, IsCounted, IsNumbered};
 ghost use Rattle.meta_store.specs.Contents.{Meaning, Placed, visible, contents, published_contents};
 
 /// Every legal history keeps each record once, at each of its revisions.
@@ -33,3 +33,16 @@ pub fn contents_stay()
         let tasks = (ledger (history entries)).tasks in
         AllByRecursion (λ row. contents meaning (tasks ++ task ∷ []) records row ≡ contents meaning tasks records row) (rows (history entries)) }
 {}
+
+/// The state's counters are those of the ledger: the entries, the moments, the tasks, the live spans, the
+/// checkpoints and the retired ranges.
+pub fn counted()
+    ensures { (reads : Reads) (entries : List Entry) → Legal reads (history entries) → IsCounted reads entries }
+{
+}
+
+/// A number is staged once, an opstamp given once, and no two Publishes take in one record.
+pub fn numbered()
+    ensures { (reads : Reads) (entries : List Entry) → Legal reads (history entries) → IsNumbered (history entries) }
+{
+}

@@ -1,0 +1,61 @@
+-- The state's counters are those of the ledger, and each number is given once.
+use Rattle.std.proofs.Common.{◌≡◌, ℕ, ◌+◌, ◌≤◌, ◌<◌, cond, Bool, true, false, max, List, [], ◌∷◌, length, flat_map, fold, take, nat_lt, refl, ap, sym, ◌∙◌, arith}
+use Rattle.std.specs.List.{AllByRecursion}
+use Rattle.std.proofs.lemmas.List.Sorted.{sum_by-IsPermutation}
+use Rattle.source_checkpoint.specs.Deltas.{Partition}
+use Rattle.meta_journal.specs.declared.entry.Entry.{Entry}
+use Rattle.delete_tasks.specs.Ledger.{last_of}
+use Rattle.meta_store.specs.History.{History, history, revision_of, moment_of, tasks_of, delta_of, published_numbers}
+use Rattle.meta_store.specs.History.History.{Start, ◌▸◌}
+use Rattle.meta_store.specs.Ledgers.{ledger}
+use Rattle.meta_store.specs.State.{Reads, Legal}
+use Rattle.meta_store.specs.Laws.{IsCounted, IsNumbered, NumberedFrom, holds_place, times_at, all_ranges}
+use Rattle.meta_store.proofs.Covering.{one_if, once_at}
+use Rattle.meta_store.proofs.Current.{tasks_agree}
+use Rattle.meta_store.proofs.Sound.{IsSound, sound}
+use Rattle.meta_store.proofs.Tallied.{IsTallied, tallied}
+
+revisions : (h : History) (es : List Entry) → revision_of (fold ◌▸◌ h es) ≡ revision_of h + length es
+revisions h [] = omega arith
+revisions h (e ∷ es) = let rest = revisions (h ▸ e) es in omega (arith, rest)
+
+moment_grows : (h : History) (es : List Entry) → moment_of h ≤ moment_of (fold ◌▸◌ h es)
+moment_grows h [] = omega arith
+moment_grows h (e ∷ es) = let rest = moment_grows (h ▸ e) es in omega (arith, rest)
+
+moments : (h : History) (es : List Entry) → AllByRecursion (λ e. e.moment ≤ moment_of (fold ◌▸◌ h es)) es
+moments h [] = tt
+moments h (e ∷ es) = (let rest = moment_grows (h ▸ e) es in omega (arith, rest), moments (h ▸ e) es)
+
+pub counted : (reads : Reads) (es : List Entry) → Legal reads (history es) → IsCounted reads es
+counted reads es l = by_parts (sound reads (history es) l) (tallied reads (history es) l)
+  where
+    by_parts : IsSound (history es) → IsTallied (history es) → IsCounted reads es
+    by_parts s t = record {
+      revision = revisions Start es ∙ omega arith;
+      moment = moments Start es;
+      tasks = sym (tasks_agree (history es));
+      last_opstamp = rw (tasks_agree (history es)) t.last;
+      spans = t.spans;
+      checkpoints = s.agree;
+      retired = t.retired;
+    }
+
+at_most_one : (b : Bool) → one_if b ≤ 1
+at_most_one true = omega arith
+at_most_one false = omega arith
+
+pub numbered : (reads : Reads) (h : History) → Legal reads h → IsNumbered h
+numbered reads h l = by_parts (sound reads h l) (tallied reads h l)
+  where
+    by_parts : IsSound h → IsTallied h → IsNumbered h
+    by_parts s t = record {
+      staged = t.staged_apart;
+      tasks = rw (tasks_agree h) t.numbered;
+      published = t.published_apart;
+      taken_once = λ p offset.
+          let same = sum_by-IsPermutation (λ r. one_if (holds_place p offset r)) (flat_map (delta_of h) (published_numbers h)) (all_ranges (ledger h)) t.taken in
+          let once = once_at p offset ((ledger h).checkpoints p) (all_ranges (ledger h)) (s.once.covers p) in
+          let low = at_most_one (nat_lt offset ((ledger h).checkpoints p)) in
+          omega (arith, same, once, low);
+    }

@@ -1,0 +1,323 @@
+-- The counters of the state, and the numbers that are given, of every legal history.
+use Rattle.std.proofs.Common.{◌≡◌, ◌≢◌, ℕ, ◌+◌, ◌-◌, ◌<◌, ◌≤◌, ◌==◌, ◌||◌, Bool, true, false, cond, not, max, List, [], ◌∷◌, ◌++◌, length, map, filter, flat_map, fold, Option, Some, None, IsPermutation, refl, ap, sym, subst, ◌∙◌, arith, eqb-true, eq-eqb, ne_eqb, append-nil, inl, inr}
+use Rattle.std.specs.Prelude.{⊤}
+use Rattle.std.proofs.lemmas.Bool.{cases_Bool, or_parts}
+use Rattle.std.proofs.lemmas.List.{length-map, length-append}
+use Rattle.std.proofs.lemmas.Grind.{flat_map-append}
+use Rattle.std.proofs.lemmas.List.Sorted.{length_permutation, IsPermutation-refl, IsPermutation-sym, IsPermutation-trans, IsPermutation-append, IsPermutation-append_left, IsPermutation-map}
+use Rattle.doc_value.specs.declared.facts.TimeRange.{TimeRange}
+use Rattle.delete_tasks.proofs.Last.{last_push}
+use Rattle.meta_store.proofs.Lists.{IsPermutation-same}
+use Rattle.meta_store.proofs.RowLists.{AllOf, AllOf-append, AllOf-weaker, the_row, row_stands, HoldRows, held, HoldRows-change, HoldRows-weaker, HoldRows-push, HoldRows-to, HoldRows-change_each, HoldRows-without_each}
+use Rattle.meta_store.proofs.Moves.{spans_retired, spans_taken}
+use Rattle.meta_store.proofs.Distinct.{AtMostOnce, covering_apart, IsPermutation-taken}
+use Rattle.meta_store.proofs.Sound.{IsSound, Traced, sound, staged_ranges, joined_reach, published_of, apart_rising, ranges_admitted, ranges_kept, ranges_retired}
+use Rattle.delete_tasks.specs.Ledger.{Ledger, last_of, is_among, raised_among}
+use Rattle.delete_tasks.specs.declared.tasks.Task.{Task}
+use Rattle.meta_journal.specs.declared.entry.Act.{Act}
+use Rattle.meta_journal.specs.declared.entry.Act.TheVariants.{Fence, Create, Stage, Publish, Replace, Raise, MarkStaged, Remove, Retire, Task as AddTask}
+use Rattle.meta_journal.specs.declared.entry.Entry.{Entry}
+use Rattle.meta_store.specs.History.{stamp_of, History, history, at, task_of, tasks_of, last_number, delta_of, reach, staged_numbers, published_numbers}
+use Rattle.meta_store.specs.History.History.{Start, ◌▸◌}
+use Rattle.meta_store.specs.Laws.{NumberedFrom, all_ranges, published_spans, shown}
+use Rattle.meta_store.specs.Ledgers.{ledger}
+use Rattle.meta_store.specs.Rows.{rows}
+use Rattle.meta_store.specs.State.{Reads, State, state_of, reading_of, config_of, Follows, Begins, MayCome, Legal, span_count_of, retired_of}
+use Rattle.meta_store.specs.declared.config.Config.{Config}
+use Rattle.meta_store.specs.declared.config.Reading.{Reading}
+use Rattle.meta_store.specs.declared.config.Settings.{Settings}
+use Rattle.source_checkpoint.specs.Deltas.{span_of, raised, spans_of, range_of}
+use Rattle.source_checkpoint.specs.declared.delta.Part.{Part}
+use Rattle.source_checkpoint.specs.declared.span.Span.{Span}
+use Rattle.split_states.specs.Answers.{AreApart, Repeats, IsIn, IsOld, MayRetire}
+use Rattle.split_states.specs.Rows.{row_at, joined_spans, row_ranges, marked, published, staged, replacing, raised_row, merged_ops, change_each}
+use Rattle.split_states.specs.declared.facts.RowFacts.{RowFacts}
+use Rattle.split_states.specs.declared.rows.Row.{Row}
+use Rattle.split_states.specs.declared.rows.RowState.{RowState}
+use Rattle.split_states.specs.declared.rows.RowState.TheVariants.{Staged, Published, Marked}
+
+-- the counters, and what the Publishes took in
+pub record IsTallied (h : History) : Type 0 where
+  pub spans : span_count_of h ≡ length (ledger h).spans
+  pub retired : IsPermutation (retired_of h) (ledger h).retired
+  pub last : last_of (tasks_of h) ≡ length (tasks_of h)
+  pub numbered : NumberedFrom 1 (tasks_of h)
+  pub staged_low : AllOf (λ n. n ≤ last_number h) (staged_numbers h)
+  pub staged_apart : AreApart (staged_numbers h)
+  pub published_low : AllOf (λ n. n ≤ last_number h) (published_numbers h)
+  pub published_apart : AreApart (published_numbers h)
+  -- no Staged row was published
+  pub waiting : HoldRows (λ row. row.state ≡ Staged → Repeats (published_numbers h) row.number ≡ false) (last_number h) (rows h)
+  pub taken : IsPermutation (flat_map (delta_of h) (published_numbers h)) (all_ranges (ledger h))
+
+numbered_push : (first : ℕ) (tasks : List Task) (task : Task) → NumberedFrom first tasks → task.opstamp ≡ first + length tasks → NumberedFrom first (tasks ++ task ∷ [])
+numbered_push first [] task h e = (omega (arith, e), tt)
+numbered_push first (t ∷ tasks) task h e = (h.0, numbered_push (first + 1) tasks task h.1 (omega (arith, e)))
+
+repeats_push : (numbers : List ℕ) (n k : ℕ) → Repeats numbers k ≡ false → (n == k) ≡ false → Repeats (numbers ++ n ∷ []) k ≡ false
+repeats_push [] n k h other = rw other refl
+repeats_push (m ∷ numbers) n k h other =
+    let parts = or_parts (m == k) (Repeats numbers k) h in
+    rw (parts.0, repeats_push numbers n k parts.1 other) refl
+
+apart_push : (numbers : List ℕ) (n : ℕ) → AreApart numbers → Repeats numbers n ≡ false → AreApart (numbers ++ n ∷ [])
+apart_push [] n h r = (refl, tt)
+apart_push (m ∷ numbers) n h r =
+    let parts = or_parts (m == n) (Repeats numbers n) r in
+    let other : (n == m) ≡ false = ne_eqb n m (λ e. differ e parts.0) in
+    (repeats_push numbers n m h.0 other, apart_push numbers n h.1 parts.1)
+  where
+    differ : n ≡ m → (m == n) ≡ false → ⊥
+    differ e f = let t : (m == n) ≡ true = eq-eqb m n (sym e) in let g : true ≡ false = sym t ∙ f in cc g
+
+low_apart : (last : ℕ) (numbers : List ℕ) (n : ℕ) → AllOf (λ k. k ≤ last) numbers → last < n → Repeats numbers n ≡ false
+low_apart last [] n h lt = refl
+low_apart last (m ∷ numbers) n h lt =
+    let low : m ≤ last = h.0 in
+    let other : (m == n) ≡ false = ne_eqb m n (λ e. omega arith) in
+    rw (other, low_apart last numbers n h.1 lt) refl
+
+-- a delta of a new number changes none that was published
+deltas_stay : (last number : ℕ) (delta : List Part) (so_far : ℕ → List Part) (numbers : List ℕ) → AllOf (λ k. k ≤ last) numbers → last < number → flat_map (λ n. cond (n == number) delta (so_far n)) numbers ≡ flat_map so_far numbers
+deltas_stay last number delta so_far [] h lt = refl
+deltas_stay last number delta so_far (n ∷ numbers) h lt =
+    let low : n ≤ last = h.0 in
+    let other : (n == number) ≡ false = ne_eqb n number (λ e. omega arith) in
+    rw other (ap (λ l. so_far n ++ l) (deltas_stay last number delta so_far numbers h.1 lt))
+
+tallied_start : IsTallied Start
+tallied_start = record {
+  spans = refl; retired = IsPermutation-refl []; last = refl; numbered = tt; staged_low = tt; staged_apart = tt; published_low = tt; published_apart = tt;
+  waiting = record { apart = tt; below = tt; each = tt }; taken = IsPermutation-refl [];
+}
+
+tallied_fence : (h : History) (m : ℕ) → IsTallied h → IsTallied (h ▸ at m Fence)
+tallied_fence h m t = record {
+  spans = t.spans;
+  retired = t.retired;
+  last = t.last;
+  numbered = t.numbered;
+  staged_low = t.staged_low;
+  staged_apart = t.staged_apart;
+  published_low = t.published_low;
+  published_apart = t.published_apart;
+  waiting = t.waiting;
+  taken = t.taken;
+}
+
+tallied_create : (h : History) (m : ℕ) (config : List ℕ) → IsTallied h → IsTallied (h ▸ at m (Create config))
+tallied_create h m config t = record {
+  spans = t.spans;
+  retired = t.retired;
+  last = t.last;
+  numbered = t.numbered;
+  staged_low = t.staged_low;
+  staged_apart = t.staged_apart;
+  published_low = t.published_low;
+  published_apart = t.published_apart;
+  waiting = t.waiting;
+  taken = t.taken;
+}
+
+tallied_task : (h : History) (m opstamp : ℕ) (text : List ℕ) (fields : List (List ℕ)) (times : TimeRange) → IsTallied h → opstamp ≡ last_of (tasks_of h) + 1 → IsTallied (h ▸ at m (AddTask opstamp text fields times))
+tallied_task h m opstamp text fields times t next =
+    let pushed = last_push (tasks_of h) (task_of opstamp text fields times) in
+    let count = length-append (tasks_of h) (task_of opstamp text fields times ∷ []) in
+    record {
+      spans = t.spans;
+      retired = t.retired;
+      last = pushed ∙ omega (arith, next, count, t.last);
+      numbered = numbered_push 1 (tasks_of h) (task_of opstamp text fields times) t.numbered (omega (arith, next, t.last));
+      staged_low = t.staged_low;
+      staged_apart = t.staged_apart;
+      published_low = t.published_low;
+      published_apart = t.published_apart;
+      waiting = t.waiting;
+      taken = t.taken;
+    }
+
+tallied_stage : (h : History) (m number : ℕ) (delta : List Part) (facts : RowFacts) → IsTallied h → number ≡ last_number h + 1 → IsTallied (h ▸ at m (Stage number delta facts))
+tallied_stage h m number delta facts t next =
+    let last : last_number h + 1 ≡ max (last_number h) number = omega arith in
+    let waits : Row → Type 0 = λ row. row.state ≡ Staged → Repeats (published_numbers h) row.number ≡ false in
+    let new : Row = staged number (spans_of (last_of (tasks_of h)) delta) facts m in
+    let fresh : Repeats (published_numbers h) number ≡ false = low_apart (last_number h) (published_numbers h) number t.published_low (omega arith) in
+    let pushed : HoldRows waits (last_number h + 1) (rows h ++ new ∷ []) = HoldRows-push waits (last_number h) (rows h) new next t.waiting (λ e. fresh) in
+    record {
+      spans = t.spans;
+      retired = t.retired;
+      last = t.last;
+      numbered = t.numbered;
+      staged_low = AllOf-append (λ n. n ≤ max (last_number h) number) (staged_numbers h) (number ∷ []) (AllOf-weaker (λ n. n ≤ last_number h) (λ n. n ≤ max (last_number h) number) (staged_numbers h) (λ n le. omega arith) t.staged_low) (omega arith, tt);
+      staged_apart = apart_push (staged_numbers h) number t.staged_apart (low_apart (last_number h) (staged_numbers h) number t.staged_low (omega arith));
+      published_low = AllOf-weaker (λ n. n ≤ last_number h) (λ n. n ≤ max (last_number h) number) (published_numbers h) (λ n le. omega arith) t.published_low;
+      published_apart = t.published_apart;
+      waiting = rw last at pushed;
+      taken = rw (deltas_stay (last_number h) number delta (delta_of h) (published_numbers h) t.published_low (omega arith)) t.taken;
+    }
+
+tallied_publish : (h : History) (m number : ℕ) (row : Row) → IsSound h → IsTallied h → row_at (rows h) number ≡ Some row → row.state ≡ Staged → IsTallied (h ▸ at m (Publish number))
+tallied_publish h m number row s t found still =
+    let ranges = staged_ranges h number row s found still in
+    let waits : Row → Type 0 = λ r. r.state ≡ Staged → Repeats (published_numbers h) r.number ≡ false in
+    let waits_more : Row → Type 0 = λ r. r.state ≡ Staged → Repeats (published_numbers h ++ number ∷ []) r.number ≡ false in
+    let r = row_stands (rows h) number row s.held.apart found in
+    let low : row.number ≤ last_number h = held (λ x. x.number ≤ last_number h) (last_number h) (rows h) number row r (record { apart = t.waiting.apart; below = t.waiting.below; each = t.waiting.below }) in
+    let here : number ≤ last_number h = rw r.number at low in
+    let waited : Repeats (published_numbers h) row.number ≡ false = held waits (last_number h) (rows h) number row r t.waiting still in
+    let alone : Repeats (published_numbers h) number ≡ false = rw r.number at waited in
+    let delta : List Part = delta_of h number in
+    let live = length-append (ledger h).spans (spans_of (stamp_of h number) delta) in
+    let count = length-map delta (span_of (stamp_of h number)) in
+    let listed = ap length ranges in
+    record {
+      spans = omega (arith, t.spans, live, count, listed);
+      retired = t.retired;
+      last = t.last;
+      numbered = t.numbered;
+      staged_low = t.staged_low;
+      staged_apart = t.staged_apart;
+      published_low = AllOf-append (λ n. n ≤ last_number h) (published_numbers h) (number ∷ []) t.published_low (here, tt);
+      published_apart = apart_push (published_numbers h) number t.published_apart alone;
+      waiting = HoldRows-to waits waits_more (last_number h) (last_number h) (rows h) number published (λ x. refl) (omega arith)
+          (λ x other w e. repeats_push (published_numbers h) number x.number (w e) (ne_eqb number x.number (λ f. differ x f other)))
+          (λ x same w e. absurd (not_staged e)) t.waiting;
+      taken = rw (flat_map-append (delta_of h) (published_numbers h) (number ∷ []), append-nil) (IsPermutation-trans _ _ _ (IsPermutation-append_left delta (flat_map (delta_of h) (published_numbers h)) (all_ranges (ledger h)) t.taken) (ranges_admitted (ledger h) (stamp_of h number) delta));
+    }
+  where
+    differ : (x : Row) → number ≡ x.number → (x.number == number) ≡ false → ⊥
+    differ x f other = let t' : (x.number == number) ≡ true = eq-eqb x.number number (sym f) in let g : true ≡ false = sym t' ∙ other in cc g
+
+    not_staged : Published ≡ Staged → ⊥
+    not_staged e = cc e
+
+-- where no row becomes Staged and no number is given
+waiting_each : (h : History) (m : ℕ) (numbers : List ℕ) → IsTallied h → HoldRows (λ row. row.state ≡ Staged → Repeats (published_numbers h) row.number ≡ false) (last_number h) (change_each numbers (marked m) (rows h))
+waiting_each h m numbers t = HoldRows-change_each _ (last_number h) numbers (rows h) (marked m) (λ x. refl) (λ x w e. absurd (not_staged e)) t.waiting
+  where
+    not_staged : Marked ≡ Staged → ⊥
+    not_staged e = cc e
+
+tallied_raise : (h : History) (m number upto : ℕ) → IsTallied h → IsTallied (h ▸ at m (Raise number upto))
+tallied_raise h m number upto t =
+    let count = length-map (ledger h).spans (raised_among (reach h number) upto) in
+    record {
+      spans = omega (arith, t.spans, count);
+      retired = t.retired;
+      last = t.last;
+      numbered = t.numbered;
+      staged_low = t.staged_low;
+      staged_apart = t.staged_apart;
+      published_low = t.published_low;
+      published_apart = t.published_apart;
+      waiting = HoldRows-to _ _ (last_number h) (last_number h) (rows h) number (raised_row upto) (λ x. refl) (omega arith) (λ x other w. w) (λ x same w. w) t.waiting;
+      taken = rw (ranges_kept (reach h number) upto (ledger h).spans) t.taken;
+    }
+
+tallied_replace : (h : History) (m new upto : ℕ) (old : List ℕ) → IsTallied h → IsTallied (h ▸ at m (Replace new old upto))
+tallied_replace h m new upto old t =
+    let count = length-map (ledger h).spans (raised_among (flat_map (reach h) old) upto) in
+    record {
+      spans = omega (arith, t.spans, count);
+      retired = t.retired;
+      last = t.last;
+      numbered = t.numbered;
+      staged_low = t.staged_low;
+      staged_apart = t.staged_apart;
+      published_low = t.published_low;
+      published_apart = t.published_apart;
+      waiting = HoldRows-to _ _ (last_number h) (last_number h) (change_each old (marked m) (rows h)) new (replacing (map (raised upto) (joined_spans (rows h) old)) (merged_ops (rows h) old)) (λ x. refl) (omega arith) (λ x other w. w) (λ x same w e. absurd (not_staged e)) (waiting_each h m old t);
+      taken = rw (ranges_kept (flat_map (reach h) old) upto (ledger h).spans) t.taken;
+    }
+  where
+    not_staged : Published ≡ Staged → ⊥
+    not_staged e = cc e
+
+tallied_mark : (h : History) (m : ℕ) (numbers : List ℕ) → IsTallied h → IsTallied (h ▸ at m (MarkStaged numbers))
+tallied_mark h m numbers t = record {
+  spans = t.spans;
+  retired = t.retired;
+  last = t.last;
+  numbered = t.numbered;
+  staged_low = t.staged_low;
+  staged_apart = t.staged_apart;
+  published_low = t.published_low;
+  published_apart = t.published_apart;
+  waiting = waiting_each h m numbers t;
+  taken = t.taken;
+}
+
+tallied_remove : (h : History) (m : ℕ) (numbers : List ℕ) → IsTallied h → IsTallied (h ▸ at m (Remove numbers))
+tallied_remove h m numbers t = record {
+  spans = t.spans;
+  retired = t.retired;
+  last = t.last;
+  numbered = t.numbered;
+  staged_low = t.staged_low;
+  staged_apart = t.staged_apart;
+  published_low = t.published_low;
+  published_apart = t.published_apart;
+  waiting = HoldRows-without_each _ (last_number h) numbers (rows h) t.waiting;
+  taken = t.taken;
+}
+
+tallied_retire : (h : History) (m : ℕ) (numbers : List ℕ) → IsSound h → IsTallied h → AreApart numbers → AllOf (IsIn Published (rows h)) numbers → IsTallied (h ▸ at m (Retire numbers))
+tallied_retire h m numbers s t apart i =
+    let joined : List Span = joined_spans (rows h) numbers in
+    let ranges : map range_of joined ≡ flat_map (reach h) numbers = joined_reach h numbers s.held i in
+    let none : AtMostOnce (ledger h).spans = covering_apart (ledger h) s.once.covers in
+    let hidden : List Span = published_spans (change_each numbers (marked m) (rows h)) in
+    let all : IsPermutation (joined ++ hidden) (ledger h).spans = IsPermutation-trans _ _ _ (spans_taken numbers (rows h) m s.held.apart apart i) s.once.each_once in
+    let left = spans_retired numbers (rows h) m (ledger h).spans s.held.apart apart i none s.once.each_once in
+    let whole = length_permutation (joined ++ hidden) (ledger h).spans all in
+    let split = length-append joined hidden in
+    let rest = length_permutation hidden (filter (λ x. not (is_among (map range_of joined) x)) (ledger h).spans) left in
+    let gone : IsPermutation joined (filter (is_among (map range_of joined)) (ledger h).spans) = IsPermutation-taken joined hidden (ledger h).spans none all in
+    record {
+      spans = rw (← ranges) (omega (arith, t.spans, whole, split, rest));
+      retired = rw (← ranges) (IsPermutation-append (retired_of h) (ledger h).retired (map range_of joined) (map range_of (filter (is_among (map range_of joined)) (ledger h).spans)) t.retired (IsPermutation-map range_of _ _ gone));
+      last = t.last;
+      numbered = t.numbered;
+      staged_low = t.staged_low;
+      staged_apart = t.staged_apart;
+      published_low = t.published_low;
+      published_apart = t.published_apart;
+      waiting = waiting_each h m numbers t;
+      taken = IsPermutation-trans _ _ _ t.taken (ranges_retired (flat_map (reach h) numbers) (ledger h));
+    }
+
+tallied_after : (reads : Reads) (reading : Reading) (settings : Settings) (h : History) (m : ℕ) (act : Act) → IsSound h → IsTallied h → Follows reading settings (state_of reads h) m act → IsTallied (h ▸ at m act)
+tallied_after reads reading settings h m Fence s t f = tallied_fence h m t
+tallied_after reads reading settings h m (Create config) s t f = absurd f
+tallied_after reads reading settings h m (Stage number delta facts) s t f = tallied_stage h m number delta facts t f.0
+tallied_after reads reading settings h m (Publish number) s t f =
+    let w = the_row (row_at (rows h) number) (λ row. (row.state ≡ Staged) × (row.spans ≢ [])) f.0 in
+    tallied_publish h m number w.0 s t w.1 w.2.0
+tallied_after reads reading settings h m (Replace new old upto) s t f = tallied_replace h m new upto old t
+tallied_after reads reading settings h m (Raise number upto) s t f = tallied_raise h m number upto t
+tallied_after reads reading settings h m (AddTask opstamp text fields times) s t f = tallied_task h m opstamp text fields times t f.0
+tallied_after reads reading settings h m (MarkStaged numbers) s t f = tallied_mark h m numbers t
+tallied_after reads reading settings h m (Remove numbers) s t f = tallied_remove h m numbers t
+tallied_after reads reading settings h m (Retire numbers) s t f =
+    tallied_retire h m numbers s t (apart_rising numbers f.1)
+    (AllOf-weaker (MayRetire m settings.period (rows h)) (IsIn Published (rows h)) numbers (λ n i. published_of settings.period m (rows h) n i) f.2)
+
+tallied_first : (reading : Reading) (h : History) (m : ℕ) (act : Act) → IsTallied h → Begins reading act → IsTallied (h ▸ at m act)
+tallied_first reading h m (Create config) t b = tallied_create h m config t
+tallied_first reading h m Fence t b = absurd b
+tallied_first reading h m (Stage number delta facts) t b = absurd b
+tallied_first reading h m (Publish number) t b = absurd b
+tallied_first reading h m (Replace new old upto) t b = absurd b
+tallied_first reading h m (Raise number upto) t b = absurd b
+tallied_first reading h m (AddTask opstamp text fields times) t b = absurd b
+tallied_first reading h m (MarkStaged numbers) t b = absurd b
+tallied_first reading h m (Remove numbers) t b = absurd b
+tallied_first reading h m (Retire numbers) t b = absurd b
+
+tallied_next : (reads : Reads) (reading : Reading) (c : Option Config) (h : History) (m : ℕ) (act : Act) → IsSound h → IsTallied h → MayCome reading c (state_of reads h) m act → IsTallied (h ▸ at m act)
+tallied_next reads reading None h m act s t f = tallied_first reading h m act t f
+tallied_next reads reading (Some config) h m act s t f = tallied_after reads reading config.settings h m act s t f
+
+pub tallied : (reads : Reads) (h : History) → Legal reads h → IsTallied h
+tallied reads Start l = tallied_start
+tallied reads (h ▸ e) l = tallied_next reads (reading_of reads (config_of reads h) e.act) (config_of reads h) h e.moment e.act (sound reads h l.0) (tallied reads h l.0) l.1.1
