@@ -1,5 +1,8 @@
 -- The one configuration that is read so far, byte for byte, and what it says.
-use Rattle.std.specs.Prelude.{ℕ, Bool, false, List, Option, Some, None, codes, bytes_eq, if◌then◌else◌}
+use Rattle.std.specs.Prelude.{ℕ, Bool, true, false, List, [], ◌∷◌, Option, Some, None, codes, bytes_eq, if◌then◌else◌}
+use Rattle.doc_value.specs.declared.schema.Kind.TheVariants as kinds
+use Rattle.doc_value.specs.declared.schema.Schema.{Schema}
+use Rattle.doc_value.specs.declared.schema.Tokenizer.TheVariants as tokenizers
 use Rattle.meta_store.specs.State.{Reads}
 use Rattle.meta_store.specs.declared.config.Settings.{Settings}
 use Rattle.delete_tasks.specs.declared.tasks.Task.{Task as KeptTask}
@@ -12,6 +15,16 @@ logs_settings = record { staged_grace = 200; deletion_grace = 100; period = None
 
 abbrev pub read_config : List ℕ → Option Settings
 read_config text = if bytes_eq text logs_config then Some logs_settings else None
+
+-- its fields in byte order of their paths
+abbrev pub logs_schema : Schema
+logs_schema =
+    record {
+      fields =
+          record { path = codes "body"; kind = kinds.Text; fast = false; indexed = true; tag = false; tokenizer = tokenizers.Default; positions = true }
+          ∷ record { path = codes "level"; kind = kinds.Text; fast = true; indexed = true; tag = false; tokenizer = tokenizers.Raw; positions = false } ∷ [];
+      timestamp = None;
+    }
 
 -- no task is read yet
 abbrev pub read_task : List ℕ → KeptTask → Bool

@@ -8,7 +8,7 @@ use Rattle.index_world.specs.declared.placed.Placed.{Placed}
 use Rattle.meta_journal.specs.declared.entry.Act.{Act}
 use Rattle.meta_journal.specs.declared.entry.Act.TheVariants.{Fence, Create, Stage, Publish, Replace, Raise, Task, MarkStaged, Remove, Retire}
 use Rattle.meta_journal.specs.declared.entry.Entry.{Entry}
-use Rattle.meta_store.specs.History.{History, history, reach}
+use Rattle.meta_store.specs.History.{History, history, reach, staged_numbers, published_numbers}
 use Rattle.meta_store.specs.Ledgers.{ledger}
 use Rattle.meta_store.specs.Rows.{rows}
 use Rattle.meta_store.specs.State.{Legal, MayFollow, state_of, config_of, reading_of}
@@ -71,37 +71,13 @@ IsRowKept kept h log row = row.state ≡ Published → IsRowSound kept h log row
 
 -- ---- what the entries say of numbers
 
-abbrev pub is_stage_of : ℕ → Act → Bool
-is_stage_of n Fence = false
-is_stage_of n (Create config) = false
-is_stage_of n (Stage number delta facts) = n == number
-is_stage_of n (Publish number) = false
-is_stage_of n (Replace new old upto) = false
-is_stage_of n (Raise number upto) = false
-is_stage_of n (Task opstamp text fields times) = false
-is_stage_of n (MarkStaged numbers) = false
-is_stage_of n (Remove numbers) = false
-is_stage_of n (Retire numbers) = false
-
 -- whether a number was ever staged
 abbrev pub has_staged : List Entry → ℕ → Bool
-has_staged entries number = list_any (λ e. is_stage_of number e.act) entries
-
-abbrev pub is_publish_of : ℕ → Act → Bool
-is_publish_of n Fence = false
-is_publish_of n (Create config) = false
-is_publish_of n (Stage number delta facts) = false
-is_publish_of n (Publish number) = n == number
-is_publish_of n (Replace new old upto) = n == new
-is_publish_of n (Raise number upto) = false
-is_publish_of n (Task opstamp text fields times) = false
-is_publish_of n (MarkStaged numbers) = false
-is_publish_of n (Remove numbers) = false
-is_publish_of n (Retire numbers) = false
+has_staged entries number = list_any (λ n. n == number) (staged_numbers (history entries))
 
 -- whether a row of this number was ever published, by the entries and not by the rows
 abbrev pub was_published : List Entry → ℕ → Bool
-was_published entries number = list_any (λ e. is_publish_of number e.act) entries
+was_published entries number = list_any (λ n. n == number) (published_numbers (history entries))
 
 -- the kinds of entries that this index has so far
 abbrev pub IsBuilt : Act → Type 0
