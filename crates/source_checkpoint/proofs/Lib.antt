@@ -2,3 +2,4 @@ pub mod NameLemmas
 pub mod Ranges
 pub mod Covering
 pub mod Loops
+pub mod Answering

@@ -1,7 +1,7 @@
 //! The ranges of records that one split takes in.
 
-ghost use Rattle.std.specs.Prelude.{◌≡◌, ◌<◌, ◌++◌, ◌∷◌, [], length, take, slice_get, Some, OnOk, OnErr};
-ghost use Rattle.source_checkpoint.specs.Deltas.{answer_to_delta, answer_to_part, Names, Part};
+ghost use Rattle.std.specs.Prelude.{◌≡◌, ◌<◌, ◌++◌, ◌∷◌, [], length, take, slice_get, Some, OnOk, OnErr, IsOk, ◌↔◌};
+ghost use Rattle.source_checkpoint.specs.Deltas.{IsDelta, answer_to_delta, answer_to_part, Names, Part};
 
 use crate::partition::Partition;
 use std::alloc::{AllocError, Global};
@@ -116,14 +116,20 @@ impl Delta {
 
     /// The first part that is doubled or backward, in this order for each part. It takes no memory.
     pub fn check(&self) -> Result<(), StaleDelta>
-        ensures { result ≡ answer_to_delta [] self.now }
+        ensures answer { result ≡ answer_to_delta [] self.now }
+        ensures ok { IsOk result ↔ IsDelta self.now }
     {
-        let parts = self.as_slice();
-        for (i, part) in parts.iter().enumerate() {
-            check_part(&parts[..i], part)?;
-        }
-        Ok(())
+        check_parts(self.as_slice())
     }
+}
+
+fn check_parts(parts: &[Part]) -> Result<(), StaleDelta>
+    ensures { result ≡ answer_to_delta [] parts.now }
+{
+    for (i, part) in parts.iter().enumerate() {
+        check_part(&parts[..i], part)?;
+    }
+    Ok(())
 }
 
 /// Whether a part may stand behind these.

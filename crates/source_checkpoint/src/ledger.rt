@@ -1,7 +1,7 @@
 //! How far each partition was taken in.
 
-ghost use Rattle.std.specs.Prelude.{◌≡◌, ◌+◌, ◌<◌, ◌≤◌, ◌++◌, ◌∷◌, [], length, map, OnOk, OnErr, vec_len, vec_capacity, insert, MatchResult};
-ghost use Rattle.source_checkpoint.specs.Deltas.{answer_to_admit, answer_to_part, answer_at, then_answer, range_of, moved, Names, IsDelta, Part, Partition};
+ghost use Rattle.std.specs.Prelude.{◌≡◌, ◌+◌, ◌<◌, ◌≤◌, ◌++◌, ◌∷◌, [], length, map, OnOk, OnErr, IsOk, ◌↔◌, vec_len, vec_capacity, insert, MatchResult};
+ghost use Rattle.source_checkpoint.specs.Deltas.{answer_to_admit, answer_to_part, answer_at, then_answer, range_of, moved, MayAdmit, Names, IsDelta, Part, Partition};
 ghost use Rattle.source_checkpoint.specs.Checkpoints.{checkpoint_at, move_to, move_all, IsListedAt, IsPutAt};
 
 use crate::delta::{Delta, Part, StaleDelta, check_part};
@@ -125,6 +125,16 @@ fn check_start(checkpoints: &[Checkpoint], part: &Part) -> Result<(), StaleDelta
     Ok(())
 }
 
+fn check_parts(checkpoints: &[Checkpoint], parts: &[Part]) -> Result<(), StaleDelta>
+    ensures { result ≡ answer_to_admit (checkpoint_at checkpoints.now) [] parts.now }
+{
+    for (i, part) in parts.iter().enumerate() {
+        check_part(&parts[..i], part)?;
+        check_start(checkpoints, part)?;
+    }
+    Ok(())
+}
+
 /// Whether one of these spans is of the partition.
 fn spans_name(spans: &[Span], partition: &Partition) -> bool
     ensures { result ≡ Names (map range_of spans.now) partition.now }
@@ -175,14 +185,10 @@ impl Ledger {
     /// Whether a delta may be taken in: its first part that is doubled, backward or stale, in this order
     /// for each part. It takes no memory.
     pub fn check(&self, delta: &Delta) -> Result<(), StaleDelta>
-        ensures { result ≡ answer_to_admit (checkpoint_at self.now.list) [] delta.now }
+        ensures answer { result ≡ answer_to_admit (checkpoint_at self.now.list) [] delta.now }
+        ensures ok { IsOk result ↔ MayAdmit delta.now (checkpoint_at self.now.list) }
     {
-        let parts = delta.as_slice();
-        for (i, part) in parts.iter().enumerate() {
-            check_part(&parts[..i], part)?;
-            check_start(self.list.as_slice(), part)?;
-        }
-        Ok(())
+        check_parts(self.list.as_slice(), delta.as_slice())
     }
 
     /// The same of the ranges of spans.
