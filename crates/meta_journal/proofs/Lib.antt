@@ -1,0 +1,6 @@
+pub mod Names
+pub mod Steps
+pub mod Exact
+pub mod FieldLaws
+pub mod EntryLaws
+pub mod Spelled

@@ -1,0 +1,21 @@
+-- Members that are written one behind another.
+use Rattle.std.proofs.Common.{◌≡◌, ℕ, ◌+◌, ◌<◌, List, [], ◌∷◌, ◌++◌, length, get_or, take, refl, sym, ap, ◌∙◌, append_assoc}
+use Rattle.std.proofs.lemmas.List.{take_more, append-nil}
+use Rattle.meta_journal.specs.Spelling.{each_spelled}
+
+each-snoc : {A : Type 0} (spell : A → List ℕ) (xs : List A) (x : A) → each_spelled spell (xs ++ x ∷ []) ≡ each_spelled spell xs ++ spell x
+each-snoc spell [] x = append-nil (spell x)
+each-snoc spell (y ∷ xs) x = ap (λ (l : List ℕ). spell y ++ l) (each-snoc spell xs x) ∙ sym (append_assoc (spell y) (each_spelled spell xs) (spell x))
+
+pub more_written : {A : Type 0} (spell : A → List ℕ) (xs : List A) (i : ℕ) (x d : A) (before head out new : List ℕ) → i < length xs → x ≡ get_or xs i d
+    → out ≡ before ++ (head ++ each_spelled spell (take i xs)) → new ≡ out ++ spell x → new ≡ before ++ (head ++ each_spelled spell (take (i + 1) xs))
+more_written {A} spell xs i x d before head out new lt is so_far e =
+    let front : take (i + 1) xs ≡ take i xs ++ x ∷ [] = take_more xs i d lt ∙ ap (λ (y : A). take i xs ++ y ∷ []) (sym is) in
+    let each : each_spelled spell (take (i + 1) xs) ≡ each_spelled spell (take i xs) ++ spell x = ap (each_spelled spell) front ∙ each-snoc spell (take i xs) x in
+    e ∙ ap (λ (l : List ℕ). l ++ spell x) so_far ∙ append_assoc before (head ++ each_spelled spell (take i xs)) (spell x)
+    ∙ ap (λ (l : List ℕ). before ++ l) (append_assoc head (each_spelled spell (take i xs)) (spell x)) ∙ ap (λ (l : List ℕ). before ++ (head ++ l)) (sym each)
+
+-- seven pieces that are written one behind another
+pub seven_written : (old a b c d e f g o1 o2 o3 o4 o5 o6 o7 : List ℕ) → o1 ≡ old ++ a → o2 ≡ o1 ++ b → o3 ≡ o2 ++ c → o4 ≡ o3 ++ d → o5 ≡ o4 ++ e → o6 ≡ o5 ++ f → o7 ≡ o6 ++ g
+    → o7 ≡ old ++ (a ++ (b ++ (c ++ (d ++ (e ++ (f ++ g))))))
+seven_written old a b c d e f g o1 o2 o3 o4 o5 o6 o7 e1 e2 e3 e4 e5 e6 e7 = rw (e7, e6, e5, e4, e3, e2, e1) (simp append_assoc)

@@ -1,0 +1,16 @@
+use Rattle.std.proofs.Common.{[], arith}
+use Rattle.meta_journal.specs.Reading.{members, field_tags_at}
+use Rattle.meta_journal.proofs.Steps.{members_end, members_more, members_fault}
+use Rattle.meta_journal.proofs.fields.field_tags_from.Goals as goal
+
+pub returns-in-Err-clause-exact : goal.returns-in-Err-clause-exact
+returns-in-Err-clause-exact c = members_fault (field_tags_at c.args.bytes.now) c.args.count c.loop-taken.taken c.loop-taken.list.items c.loop-taken.next (members (field_tags_at c.args.bytes.now) c.args.count [] c.args.start) c.loop-taken.invariant.so_far c.in-Err.fault (omega arith) (rw c.deref.ensures.value at c.in-Err.ensures.exact)
+
+pub loop-taken-preserved : goal.loop-taken-preserved
+loop-taken-preserved c = record {
+  so_far = rw c.in_ok-push-in-Ok.ensures.items (members_more (field_tags_at c.args.bytes.now) c.args.count c.loop-taken.taken c.loop-taken.list.items c.loop-taken.next (members (field_tags_at c.args.bytes.now) c.args.count [] c.args.start) c.loop-taken.invariant.so_far c.in-Ok.field c.in-Ok.behind (omega arith) (rw c.deref.ensures.value at c.in-Ok.ensures.exact));
+  within = c.in-Ok.ensures.within;
+}
+
+pub returns-clause-exact : goal.returns-clause-exact
+returns-clause-exact c = rw c.from_vec.ensures (members_end (field_tags_at c.args.bytes.now) c.args.count c.loop-taken.taken c.loop-taken.list.items c.loop-taken.next (members (field_tags_at c.args.bytes.now) c.args.count [] c.args.start) c.loop-taken.invariant.so_far (omega arith))
