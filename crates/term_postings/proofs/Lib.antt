@@ -1,0 +1,6 @@
+pub mod Numbers
+pub mod Lists
+pub mod Heads
+pub mod Passes
+pub mod Walks
+pub mod Puts

@@ -1,0 +1,14 @@
+use Rattle.std.proofs.Common.{ap, sym, Option, Result, Ok, ℕ}
+use Rattle.byte_fields.specs.declared.corrupt.Corrupt.{Corrupt}
+use Rattle.term_postings.proofs.cursor.Cursor.next.Goals as goal
+
+abbrev given : Option ℕ → Result (Option ℕ) Corrupt
+given o = Ok o
+
+pub returns-in_err-document : goal.returns-in_err-document
+returns-in_err-document c told after left s = absurd (c.in_err-document.ensures.only told after left s).0
+
+pub returns : goal.returns
+returns c told after left s =
+    let step = c.in_ok-document.ensures.only told after left s in
+    (sym (ap given step.0), step.1)

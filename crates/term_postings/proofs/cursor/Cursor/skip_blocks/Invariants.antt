@@ -1,0 +1,11 @@
+use Rattle.std.proofs.Common.{◌≡◌, ◌+◌, ℕ, Bool, List}
+use Rattle.term_postings.specs.Cursors.{StandsBefore, StandsFrom}
+use Rattle.term_postings.specs.declared.list.Posting.{Posting}
+use Rattle.term_postings.proofs.cursor.Cursor.skip_blocks.Given as goal
+
+abbrev pub invariant-loop-document : goal.invariant-loop-document
+invariant-loop-document l = (l.self.positions.now ≡ l.initial.self.positions.now)
+    × ((told : Bool) (after : List Posting) (left : List ℕ) → StandsBefore told l.initial.self after left → StandsFrom told l.document after l.self)
+
+abbrev pub decreases-loop-document : goal.decreases-loop-document
+decreases-loop-document l = l.self.left + l.self.passed

@@ -1,0 +1,19 @@
+use Rattle.std.proofs.Common.{◌+◌, ◌++◌, drop, arith}
+use Rattle.term_postings.specs.Postings.{varints}
+use Rattle.term_postings.proofs.Numbers.{number_read, numbers_front}
+use Rattle.term_postings.proofs.moves.behind_numbers.Goals as goal
+
+pub returns-in_err-at-clause-only : goal.returns-in_err-at-clause-only
+returns-in_err-at-clause-only c numbers rest count fits within e =
+    let f = numbers_front c.args.bytes.now rest c.loop-number.at numbers c.loop-number._number (omega arith) (c.loop-number.invariant.1 numbers rest count fits e) fits in
+    let wrong = c.in_err-at.ensures.only f.0 (varints (drop (c.loop-number._number + 1) numbers) ++ rest) f.1 f.2 in
+    absurd cc
+
+pub loop-number-preserved : goal.loop-number-preserved
+loop-number-preserved c = (
+  c.in_ok-at.ensures.found.within,
+  λ numbers rest count fits e.
+      let f = numbers_front c.args.bytes.now rest c.loop-number.at numbers c.loop-number._number (omega arith) (c.loop-number.invariant.1 numbers rest count fits e) fits in
+      (number_read c.args.bytes.now (varints (drop (c.loop-number._number + 1) numbers) ++ rest) c.loop-number.at f.0 c.in_ok-at.field-0.0 c.in_ok-at.field-0.1 f.2
+      (c.in_ok-at.ensures.only f.0 (varints (drop (c.loop-number._number + 1) numbers) ++ rest) f.1 f.2)).1,
+)

@@ -1,0 +1,336 @@
+ghost use Rattle.std.specs.Prelude.{◌≡◌, ◌≤◌, ◌<◌, ◌+◌, ◌/◌, ◌-◌, ◌^◌, ◌++◌, [], List, ℕ, length, drop, take, Bool, true, false, None, IfOk, IsOkAnd, IsErr, OnOk, IsOk, Ok, Some, ◌∷◌, min};
+ghost use Rattle.std.specs.List.{AllByRecursion};
+ghost use Rattle.byte_fields.specs.Spelling.{varint};
+ghost use Rattle.term_postings.specs.Postings.{AreDocuments, list_bytes, position_bytes, head_bytes, head_list, document_bytes, count_bytes, Fits, varints};
+ghost use Rattle.term_postings.specs.Cursors.{AreBehind, IsHead, PositionsAt};
+ghost use Rattle.term_postings.specs.declared.list.Posting.{Posting};
+
+use crate::cursor::{Cursor, Place};
+use byte_fields::{Corrupt, take_varint};
+
+pub(crate) const BLOCK: u32 = 128;
+
+/// What a block's head says.
+#[derive(Clone, Copy)]
+pub(crate) struct Head {
+    /// From the document before the block to its last one.
+    gap: u64,
+    len: u64,
+    positions_len: u64,
+    /// The place behind the head.
+    next: usize,
+}
+
+// The head at a place.
+pub(crate) fn read_head(postings: &[u8], at: usize) -> Result<Head, Corrupt>
+    requires { at ≤ length postings.now }
+    ensures within { IfOk result (λ h. h.next ≤ length postings.now) }
+    ensures only { (counted : Bool) (before : ℕ) (block : List Posting) (rest : List ℕ) → AreBehind counted before block
+        → drop at postings.now ≡ head_bytes counted before block ++ rest
+        → IsOkAnd result (λ h. IsHead counted before block h.gap h.len h.positions_len × (drop h.next postings.now ≡ rest)) }
+{
+    let (gap, behind_gap) = take_varint(postings, at)?;
+    let (len, behind_len) = take_varint(postings, behind_gap)?;
+    let (positions_len, next) = take_varint(postings, behind_len)?;
+    Ok(Head {
+        gap,
+        len,
+        positions_len,
+        next,
+    })
+}
+
+// The place behind so many heads.
+fn behind_heads(postings: &[u8], count: u32) -> Result<usize, Corrupt>
+    ensures within { IfOk result (λ at. at ≤ length postings.now) }
+    ensures only { (counted : Bool) (before : ℕ) (ps : List Posting) (rest : List ℕ) → AreBehind counted before ps → count ≡ (length ps - 1) / 128
+        → postings.now ≡ head_list count counted before ps ++ rest → IsOkAnd result (λ at. drop at postings.now ≡ rest) }
+{
+    let mut at = 0;
+    for _number in 0..count {
+        at = read_head(postings, at)?.next;
+    }
+    Ok(at)
+}
+
+// The count of a document's positions at a place, where the field has positions.
+fn read_count(postings: &[u8], at: usize, counted: bool) -> Result<(u64, usize), Corrupt>
+    requires { at ≤ length postings.now }
+    ensures within { IfOk result (λ x. x.1 ≤ length postings.now) }
+    ensures only { (p : Posting) (rest : List ℕ) → Fits counted p → length p.positions < 2 ^ 64 → drop at postings.now ≡ count_bytes counted p.positions ++ rest
+        → IsOkAnd result (λ x. (x.0 ≡ length p.positions) × (drop x.1 postings.now ≡ rest)) }
+{
+    if !counted {
+        return Ok((0, at));
+    }
+    Ok(take_varint(postings, at)?)
+}
+
+impl<'a> Cursor<'a> {
+    ghost use Rattle.term_postings.specs.Cursors.{StandsBefore, StandsAt, StandsFrom, IsHeadOf, first_positions, first_document, from_document, first_number};
+
+    /// Before the first of `docs` documents. Both slices begin where the term's bytes start.
+    pub fn over(
+        postings: &'a [u8],
+        positions: &'a [u8],
+        docs: u32,
+        with_positions: bool,
+    ) -> Cursor<'a>
+        ensures { (told : Bool) (list : List Posting) (more more_positions : List ℕ) → AreDocuments with_positions list → docs ≡ length list
+            → postings.now ≡ list_bytes with_positions list ++ more → (told ≡ true → positions.now ≡ position_bytes list ++ more_positions)
+            → StandsBefore told result list [] }
+    {
+        let later = docs.saturating_sub(1) / BLOCK;
+        match behind_heads(postings, later) {
+            Ok(block) => {
+                Cursor::starting(postings, positions, docs, with_positions, block, None)
+            }
+            Err(corrupt) => {
+                Cursor::starting(postings, positions, docs, with_positions, 0, Some(corrupt))
+            }
+        }
+    }
+
+    // Before the first document, where the blocks start at a place.
+    fn starting(
+        postings: &'a [u8],
+        positions: &'a [u8],
+        docs: u32,
+        counted: bool,
+        block: usize,
+        fault: Option<Corrupt>,
+    ) -> Cursor<'a>
+        requires { block ≤ length postings.now }
+        ensures { (told : Bool) (list : List Posting) (more more_positions : List ℕ) → AreDocuments counted list → docs ≡ length list → fault ≡ None
+            → postings.now ≡ list_bytes counted list ++ more → drop block postings.now ≡ document_bytes counted 0 list ++ more
+            → (told ≡ true → positions.now ≡ position_bytes list ++ more_positions) → StandsBefore told result list [] }
+    {
+        Cursor {
+            postings,
+            positions,
+            counted,
+            fault,
+            left: docs,
+            passed: 0,
+            head: 0,
+            block,
+            at: block,
+            block_before: 0,
+            before: 0,
+            positions_block: 0,
+            place: Place {
+                at: 0,
+                skipped: 0,
+                count: 0,
+                last: 0,
+            },
+        }
+    }
+
+    /// The next document, if there is one. After an `Err` nothing is said of what the cursor gives.
+    pub fn next(&mut self) -> Result<Option<u32>, Corrupt>
+        ensures { (told : Bool) (after : List Posting) (left : List ℕ) → StandsBefore told self.old after left
+            → (result ≡ Ok (first_document after)) × StandsBefore told self.new (drop 1 after) (first_positions after left) }
+    {
+        if let Some(corrupt) = self.fault {
+            return Err(corrupt);
+        }
+        if self.left == 0 {
+            return Ok(None);
+        }
+        let document = self.step()?;
+        Ok(Some(document))
+    }
+
+    /// The first document to come that is not below `document`, if there is one. Whole blocks before it are passed
+    /// over by their heads. After an `Err` nothing is said of what the cursor gives.
+    pub fn seek(&mut self, document: u32) -> Result<Option<u32>, Corrupt>
+        ensures { (told : Bool) (after : List Posting) (left : List ℕ) → StandsBefore told self.old after left
+            → (result ≡ Ok (first_document (from_document document after)))
+            × StandsBefore told self.new (drop 1 (from_document document after)) (first_positions (from_document document after) left) }
+    {
+        if let Some(corrupt) = self.fault {
+            return Err(corrupt);
+        }
+        let place = self.place;
+        self.skip_blocks(document)?;
+        while self.left > 0 {
+            let found = self.step()?;
+            if found >= document {
+                return Ok(Some(found));
+            }
+        }
+        // The positions of the document given last are still to come.
+        self.place = place;
+        Ok(None)
+    }
+
+    /// The next position of the document given last, if there is one. After an `Err` nothing is said of what the
+    /// cursor gives.
+    pub fn next_position(&mut self) -> Result<Option<u64>, Corrupt>
+        ensures { (after : List Posting) (left : List ℕ) → StandsBefore true self.old after left
+            → (result ≡ Ok (first_number left)) × StandsBefore true self.new after (drop 1 left) }
+    {
+        if let Some(corrupt) = self.fault {
+            return Err(corrupt);
+        }
+        if self.place.count == 0 {
+            return Ok(None);
+        }
+        let (position, place) = read_position(self.positions, self.place)?;
+        self.place = place;
+        Ok(Some(position))
+    }
+
+    // Leaves the blocks whose last document is below a document.
+    fn skip_blocks(&mut self, document: u32) -> Result<(), Corrupt>
+        ensures same { self.new.positions.now ≡ self.old.positions.now }
+        ensures only { (told : Bool) (after : List Posting) (left : List ℕ) → StandsBefore told self.old after left
+            → IsOk result × (StandsFrom told document after self.new) }
+    {
+        while u64::from(self.left) + u64::from(self.passed) > u64::from(BLOCK) {
+            let head = read_head(self.postings, self.head)?;
+            if head.last(self.block_before) >= u64::from(document) {
+                break;
+            }
+            self.leave_block(head)?;
+        }
+        Ok(())
+    }
+
+    // The next document, of those that are to come.
+    fn step(&mut self) -> Result<u32, Corrupt>
+        requires { 0 < self.old.left }
+        ensures moves { OnOk result (self.new.left + 1 ≡ self.old.left) }
+        ensures same { self.new.positions.now ≡ self.old.positions.now }
+        ensures only { (told : Bool) (after : List Posting) (left : List ℕ) → StandsBefore told self.old after left
+            → IsOkAnd result (λ document. first_document after ≡ Some document) × StandsBefore told self.new (drop 1 after) (first_positions after left) }
+    {
+        self.begin_block()?;
+        self.pass()
+    }
+
+    // Goes on to the block of the next document.
+    fn begin_block(&mut self) -> Result<(), Corrupt>
+        requires { 0 < self.old.left }
+        ensures moves { OnOk result ((self.new.left ≡ self.old.left) × (self.new.passed < 128)) }
+        ensures same { self.new.positions.now ≡ self.old.positions.now }
+        ensures only { (told : Bool) (after : List Posting) (left : List ℕ) → StandsBefore told self.old after left
+            → IsOk result × ((now : List ℕ) × StandsBefore told self.new after now) }
+    {
+        if self.passed < BLOCK {
+            return Ok(());
+        }
+        let head = read_head(self.postings, self.head)?;
+        self.leave_block(head)
+    }
+
+    // Leaves a block by its head. An `Err` changes nothing.
+    fn leave_block(&mut self, head: Head) -> Result<(), Corrupt>
+        requires whole { 128 ≤ self.old.left + self.old.passed }
+        requires within { head.next ≤ length self.old.postings.now }
+        ensures same { self.new.positions.now ≡ self.old.positions.now }
+        ensures moves { OnOk result ((self.new.left + 128 ≡ self.old.left + self.old.passed) × (self.new.passed ≡ 0)) }
+        ensures only { (told : Bool) (passed after : List Posting) (left rest : List ℕ) → StandsAt told self.old passed after left
+            → IsHeadOf self.old passed after head rest → IsOk result × StandsAt told self.new [] (drop 128 (passed ++ after)) [] }
+    {
+        let last = head.last(self.block_before);
+        let Some(positions_block) = self.positions_block.checked_add(head.positions_len) else {
+            return Err(Corrupt { at: self.head });
+        };
+        if last > u64::from(u32::MAX) || head.len > (self.postings.len() - self.block) as u64 {
+            return Err(Corrupt { at: self.head });
+        }
+        self.left -= BLOCK - self.passed;
+        self.passed = 0;
+        self.head = head.next;
+        self.block += head.len as usize;
+        self.at = self.block;
+        self.block_before = last as u32;
+        self.before = last as u32;
+        self.positions_block = positions_block;
+        self.place = Place {
+            at: positions_block,
+            skipped: 0,
+            count: 0,
+            last: 0,
+        };
+        Ok(())
+    }
+
+    // Passes the next document of the block. An `Err` changes nothing.
+    fn pass(&mut self) -> Result<u32, Corrupt>
+        requires some { 0 < self.old.left }
+        requires room { self.old.passed < 128 }
+        ensures same { self.new.positions.now ≡ self.old.positions.now }
+        ensures moves { OnOk result (self.new.left + 1 ≡ self.old.left) }
+        ensures only { (told : Bool) (passed after : List Posting) (p : Posting) (left : List ℕ) → StandsAt told self.old passed (p ∷ after) left
+            → (result ≡ Ok p.document) × StandsAt told self.new (passed ++ p ∷ []) after p.positions }
+    {
+        let (gap, behind_gap) = take_varint(self.postings, self.at)?;
+        let (count, next) = read_count(self.postings, behind_gap, self.counted)?;
+        if gap > u64::from(u32::MAX - self.before) {
+            return Err(Corrupt { at: self.at });
+        }
+        let Some(skipped) = self.place.skipped.checked_add(self.place.count) else {
+            return Err(Corrupt { at: self.at });
+        };
+        self.at = next;
+        self.before += gap as u32;
+        self.left -= 1;
+        self.passed += 1;
+        self.place = Place {
+            at: self.place.at,
+            skipped,
+            count,
+            last: 0,
+        };
+        Ok(self.before)
+    }
+}
+
+impl Head {
+    // The last document of the block, where this is the one before it.
+    fn last(&self, before: u32) -> u64
+        ensures { result ≡ min (before + self.now.gap) (2 ^ 64 - 1) }
+    {
+        u64::from(before).saturating_add(self.gap)
+    }
+}
+
+// The next position, and where the one behind it is found.
+fn read_position(positions: &[u8], place: Place) -> Result<(u64, Place), Corrupt>
+    requires { 0 < place.count }
+    ensures moves { IfOk result (λ x. (x.1.skipped ≡ 0) × (x.1.count + 1 ≡ place.count)) }
+    ensures only { (position : ℕ) (left : List ℕ) (after : List Posting) → PositionsAt positions.now place (position ∷ left) after
+        → IsOkAnd result (λ x. (x.0 ≡ position) × PositionsAt positions.now x.1 left after) }
+{
+    let at = behind_numbers(positions, place.at, place.skipped)?;
+    let (gap, next) = take_varint(positions, at)?;
+    let Some(position) = place.last.checked_add(gap) else {
+        return Err(Corrupt { at });
+    };
+    let place = Place {
+        at: next as u64,
+        skipped: 0,
+        count: place.count - 1,
+        last: position,
+    };
+    Ok((position, place))
+}
+
+// The place behind so many numbers.
+fn behind_numbers(bytes: &[u8], from: u64, count: u64) -> Result<usize, Corrupt>
+    ensures within { IfOk result (λ at. at ≤ length bytes.now) }
+    ensures only { (numbers rest : List ℕ) → count ≡ length numbers → AllByRecursion (λ n. n < 2 ^ 64) numbers → from ≤ length bytes.now
+        → drop from bytes.now ≡ varints numbers ++ rest → IsOkAnd result (λ at. drop at bytes.now ≡ rest) }
+{
+    if from > bytes.len() as u64 {
+        return Err(Corrupt { at: bytes.len() });
+    }
+    let mut at = from as usize;
+    for _number in 0..count {
+        at = take_varint(bytes, at)?.1;
+    }
+    Ok(at)
+}
