@@ -1,6 +1,6 @@
 -- The two forms of a cause say the same.
-use Rattle.std.proofs.Common.{◌≡◌, ℕ, ◌+◌, ◌-◌, ◌^◌, ◌≤◌, ◌<◌, ◌⊎◌, inl, inr, arith}
-use Rattle.byte_fields.specs.Causes.{last_count, following, Rose, MayFail}
+use Rattle.std.proofs.Common.{◌≡◌, ℕ, ◌≤◌, ◌<◌, ◌⊎◌, inl, inr, arith}
+use Rattle.byte_fields.specs.Causes.{last_count, Rose, MayFail}
 
 pub MayFail-Rose : (before now : ℕ) → now ≤ last_count → before ≤ now → Rose before now → MayFail before now
 MayFail-Rose before now fits later rose = by (at_end before (omega (arith, fits, later)))

@@ -1,16 +1,16 @@
 -- The fields beside numbers and byte strings: what is read is spelled there, and what is spelled there is read.
-use Rattle.std.proofs.Common.{◌≡◌, ℕ, ℤ, pos, negsuc, zero, suc, ◌+◌, ◌-◌, ◌*◌, ◌^◌, ◌≤◌, ◌<◌, ◌/◌, ◌%◌, Bool, true, false, cond, eqb, ltb, leb, List, [], ◌∷◌, ◌++◌, length, get_or, take, drop, Result, Ok, Err, refl, sym, ap, subst, ◌∙◌, arith, inl, inr, ◌⊎◌}
-use Rattle.std.specs.Prelude.{IfOk, ◌==◌}
-use Rattle.std.specs.Int.{w32, to_le_bytes, from_le_bytes}
+use Rattle.std.proofs.Common.{◌≡◌, ℕ, ℤ, pos, negsuc, ◌+◌, ◌-◌, ◌*◌, ◌^◌, ◌≤◌, ◌<◌, ◌/◌, ◌%◌, Bool, true, false, cond, eqb, ltb, leb, List, [], ◌∷◌, ◌++◌, length, get_or, take, drop, Result, Ok, Err, refl, sym, ap, subst, ◌∙◌, arith, inl, inr, ◌⊎◌}
+use Rattle.std.specs.Prelude.{IfOk}
+use Rattle.std.specs.Int.{w32, from_le_bytes}
 use Rattle.std.specs.Str.{IsUtf8, is_utf8}
-use Rattle.std.proofs.lemmas.Bool.{le-ltb, le-leb, lt-leb, leb-false, eqb-true, eqb-false, ltb-false, ne_eqb}
+use Rattle.std.proofs.lemmas.Bool.{le-ltb, lt-leb, leb-false, eqb-true, ltb-false}
 use Rattle.std.proofs.lemmas.Nat.{le_bytes_4, from_le_bytes-to_le_bytes_4}
 use Rattle.std.proofs.lemmas.Str.{IsUtf8-from_is_utf8, is_utf8-from_IsUtf8}
 use Rattle.std.proofs.lemmas.List.{length-append, length-drop, length-take, take_at}
 use Rattle.byte_fields.specs.declared.field_error.FieldError.{FieldError}
 use Rattle.byte_fields.specs.declared.field_error.FieldError.TheVariants.{Short, BadFlag, NotText}
-use Rattle.byte_fields.specs.Spelling.{varint, zigzag, signed, byte_string, flag, four, SpelledAt}
-use Rattle.byte_fields.specs.Reading.{◌>>=◌, Gives, varint_at, bytes_at, text_at, unzigzag, signed_at, flag_at, four_at}
+use Rattle.byte_fields.specs.Spelling.{zigzag, signed, byte_string, flag, four, SpelledAt}
+use Rattle.byte_fields.specs.Reading.{Gives, varint_at, bytes_at, text_at, unzigzag, signed_at, flag_at, four_at}
 use Rattle.byte_fields.proofs.Taken.{IsBytes, IsBytes-take, IsBytes-drop, SpelledAt-byte, SpelledAt-piece, bind_ok, ok_is, guard_ok, guard_else_ok, head_at, varint_takes, varint_again, bytes_takes, bytes_again}
 
 -- ---- texts

@@ -1,5 +1,5 @@
 -- A read fills the front of the buffer.
-use Rattle.std.proofs.Common.{◌≡◌, ℕ, ◌+◌, ◌-◌, ◌≤◌, ◌<◌, List, [], ◌++◌, length, take, drop, min, refl, sym, ap, ◌∙◌, arith}
+use Rattle.std.proofs.Common.{◌≡◌, ℕ, ◌+◌, ◌-◌, ◌<◌, List, [], ◌++◌, length, take, drop, min, sym, ap, ◌∙◌, arith}
 use Rattle.std.proofs.lemmas.List.{length-append, length-drop, length-take, drop-drop, take_at, take-append-drop, drop_all, take_all}
 
 pub read_front : (at count : ℕ) (content seen buffer front : List ℕ) → seen ≡ content → front ≡ take count (take (length seen - at) (drop at seen))

@@ -4,7 +4,7 @@ use Rattle.std.proofs.Common.{◌≢◌}
 use Rattle.std.proofs.lemmas.Bool.{cases_lt, lt-ltb, le-ltb, le-leb, lt-leb, leb-false, eqb-false, ltb-true, ltb-false, ne_eqb}
 use Rattle.std.specs.Prelude.{IfOk}
 use Rattle.std.proofs.lemmas.Nat.{div_below, le_bytes_8, from_le_bytes-to_le_bytes_8}
-use Rattle.std.specs.Int.{w64, to_le_bytes, from_le_bytes}
+use Rattle.std.specs.Int.{w64, from_le_bytes}
 use Rattle.std.proofs.Math.Nat.{pow-suc}
 use Rattle.std.proofs.lemmas.List.{length-append, length-drop, length-take, drop_more, drop-drop, drop_at, take_at, take-append-drop, get_or-drop, get_or-take, get_or_past}
 use Rattle.std.proofs.Common.{add-zero}

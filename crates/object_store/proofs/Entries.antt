@@ -1,16 +1,15 @@
 -- Finding, placing and removing, a step at a time.
-use Rattle.std.proofs.Common.{◌≡◌, ◌≢◌, ℕ, ◌+◌, ◌≤◌, ◌<◌, Bool, true, false, cond, List, [], ◌∷◌, ◌++◌, length, get_or, take, drop, map, filter, Some, None, refl, sym, ap, ◌∙◌, add-one}
-use Rattle.std.specs.declared.cmp.Ordering.{Ordering}
+use Rattle.std.proofs.Common.{◌≡◌, ◌≢◌, ℕ, ◌+◌, ◌<◌, Bool, true, false, cond, List, [], ◌∷◌, ◌++◌, length, get_or, take, drop, map, filter, Some, None, refl, sym, ap, ◌∙◌, add-one}
 use Rattle.std.specs.declared.cmp.Ordering.TheVariants.{Less, Equal, Greater}
 use Rattle.std.specs.Ordering.{nat_cmp, eq_by_cmp, is_eq}
 use Rattle.std.specs.Cmp.{tied_itself}
 use Rattle.std.specs.Cmp.Lexicographic.{slice_cmp, nat_list_cmp_total}
 use Rattle.std.specs.FinMap.{slice_cmp-IsAntisymmetric, nat_cmp-IsAntisymmetric}
 use Rattle.std.specs.FinMap.Entries.{by_order}
-use Rattle.std.proofs.lemmas.List.{at_drop_more, at_drop_all, take_more, map_push, map-append, take_at, take-append-drop, take-map, drop-map, append-nil}
+use Rattle.std.proofs.lemmas.List.{take_more, map_push, map-append, take_at, take-append-drop, take-map, drop-map, append-nil}
 use Rattle.std.proofs.lemmas.List.Elements.{filter-append}
 use Rattle.object_store.specs.declared.objects.Object.{Object}
-use Rattle.object_store.specs.Entries.{entry, entries, found, placed, removed, rank_of}
+use Rattle.object_store.specs.Entries.{entry, entries, found, placed, rank_of}
 
 pub ties_itself : (key : List ℕ) → slice_cmp nat_cmp key key ≡ Equal
 ties_itself key = tied_itself nat_list_cmp_total key

@@ -1,16 +1,15 @@
 -- What a binary search finds among objects in order, and what is done at that place.
-use Rattle.std.proofs.Common.{◌≡◌, ◌≢◌, ℕ, zero, suc, ◌+◌, ◌-◌, ◌≤◌, ◌<◌, Bool, true, false, cond, T, ◌&&◌, List, [], ◌∷◌, ◌++◌, length, get_or, take, drop, map, Some, None, Result, Ok, Err, IfOk, IfErr, refl, sym, ap, subst, ◌∙◌, arith, not}
+use Rattle.std.proofs.Common.{◌≡◌, ◌≢◌, ℕ, zero, suc, ◌+◌, ◌≤◌, ◌<◌, Bool, true, false, cond, ◌&&◌, List, [], ◌∷◌, length, get_or, Some, None, Result, Ok, Err, IfOk, IfErr, refl, sym, ap, subst, ◌∙◌, arith, not}
 use Rattle.std.specs.Prelude.{remove}
 use Rattle.std.specs.declared.cmp.Ordering.{Ordering}
 use Rattle.std.specs.declared.cmp.Ordering.TheVariants.{Less, Equal, Greater}
 use Rattle.std.specs.Ordering.{nat_cmp, eq_by_cmp, is_eq, is_lt, ordering_reverse}
 use Rattle.std.specs.Cmp.Lexicographic.{slice_cmp, nat_list_cmp_total}
-use Rattle.std.specs.List.{AllWithin}
 use Rattle.std.specs.List.Sorted.{IsSearchInRange, IsBinarySearchResult, IsSortedBy}
-use Rattle.std.specs.FinMap.Entries.{is_sorted, below_all, by_order}
+use Rattle.std.specs.FinMap.Entries.{below_all, by_order}
 use Rattle.std.proofs.lemmas.List.Sorted.{searchable_from_sorted}
 use Rattle.object_store.specs.declared.objects.Object.{Object}
-use Rattle.object_store.specs.Entries.{entry, entries, IsInOrder, found, placed, removed, rank_of, IsPlaceOf, IsGapOf}
+use Rattle.object_store.specs.Entries.{entry, entries, IsInOrder, found, removed, rank_of, IsPlaceOf, IsGapOf}
 use Rattle.object_store.proofs.Entries.{ties_itself, same_from_tie, not_tied, found_here, found_later}
 
 abbrev order : List ℕ → List ℕ → Ordering

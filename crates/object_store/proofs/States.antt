@@ -1,6 +1,5 @@
 -- What lands, and what the objects of a list are as a map.
-use Rattle.std.proofs.Common.{◌≡◌, ◌⊎◌, ℕ, suc, ◌+◌, ◌<◌, Bool, true, false, cond, T, List, [], ◌∷◌, ◌++◌, length, get_or, take, drop, map, Option, Some, None, refl, sym, ap, subst, ◌∙◌, inl, inr}
-use Rattle.std.specs.Prelude.{Contains}
+use Rattle.std.proofs.Common.{◌≡◌, ℕ, Bool, true, false, cond, T, List, [], length, take, map, Option, Some, None, refl, sym, ap, subst, ◌∙◌}
 use Rattle.std.specs.Ordering.{nat_cmp, eq_by_cmp}
 use Rattle.std.proofs.Common.{not}
 use Rattle.std.specs.declared.cmp.Ordering.TheVariants.{Equal}
@@ -9,9 +8,6 @@ use Rattle.std.specs.Cmp.Lexicographic.{slice_cmp, nat_list_cmp_total}
 use Rattle.std.specs.FinMap as finmap
 use Rattle.std.specs.FinMap.{slice_cmp-IsAntisymmetric, nat_cmp-IsAntisymmetric, get-insert, get-remove, get-from_sorted, entries-from_sorted, entries-insert, same_entries_map, same_map, empty_of_len, len-entries}
 use Rattle.std.specs.FinMap.Entries.{is_sorted, is_sorted-put, is_sorted-where_key, find-where_key}
-use Rattle.std.proofs.Common.{add-one}
-use Rattle.std.proofs.lemmas.List.{take-append-drop, drop_more, map-append}
-use Rattle.std.proofs.lemmas.List.Elements.{Contains-append_left, Contains-append_right, Contains-append_cases, Contains-push}
 use Rattle.object_store.specs.Entries.{found, placed, removed}
 use Rattle.std.specs.Prelude.{IfOk, Result, Ok, Err}
 use Rattle.object_store.specs.declared.store.ListError.{ListError}

@@ -1,5 +1,5 @@
 -- Which calls are to fail.
-use Rattle.std.specs.Prelude.{◌≡◌, ◌<◌, length, slice_index_or, remove, ℕ, List, [], ◌∷◌, Option, Some, None, Result, Ok, Err, ⊤, ◌==◌, nat_eq, if◌then◌else◌}
+use Rattle.std.specs.Prelude.{◌≡◌, ◌<◌, length, slice_index_or, remove, ℕ, List, [], ◌∷◌, Option, Some, None, Result, Ok, Err, ⊤, ◌==◌, if◌then◌else◌}
 use Rattle.std.specs.Ordering.{nat_cmp, eq_by_cmp}
 use Rattle.std.specs.Cmp.Lexicographic.{slice_cmp}
 use Rattle.object_store.specs.declared.plan.Landing.{Landing}

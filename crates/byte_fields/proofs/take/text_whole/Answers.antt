@@ -1,4 +1,3 @@
-use Rattle.std.proofs.Common.{sym}
 use Rattle.byte_fields.proofs.Others.{text_is, text_is_not}
 use Rattle.byte_fields.proofs.take.text_whole.Goals as goal
 

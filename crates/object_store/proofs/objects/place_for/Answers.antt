@@ -1,6 +1,5 @@
 use Rattle.std.proofs.Common.{◌≡◌, ◌∙◌, sym, [], None, Some, List, ℕ, Option}
 use Rattle.object_store.specs.declared.objects.Object.{Object}
-use Rattle.object_store.specs.Entries.{entries, found}
 use Rattle.object_store.proofs.Positions.{found_at}
 use Rattle.object_store.proofs.objects.place_for.Goals as goal
 

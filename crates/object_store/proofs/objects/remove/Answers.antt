@@ -1,5 +1,4 @@
-use Rattle.std.proofs.Common.{◌≡◌, ◌<◌, List, ℕ, ◌∙◌, ap, length, subst, sym, None}
-use Rattle.std.specs.Prelude.{slice_index_or}
+use Rattle.std.proofs.Common.{◌≡◌, List, ◌∙◌, ap, subst, sym, None}
 use Rattle.object_store.specs.declared.objects.Object.{Object}
 use Rattle.object_store.specs.Entries.{entries, found, IsPlaceOf}
 use Rattle.object_store.proofs.Positions.{removed_at, removed_absent}

@@ -1,6 +1,5 @@
-use Rattle.std.proofs.Common.{◌≡◌, ◌<◌, ℕ, List, length, sym, ap, ◌∙◌, arith}
+use Rattle.std.proofs.Common.{◌<◌, length, sym, ◌∙◌, arith}
 use Rattle.object_store.specs.Kept.{late_entry, state_of}
-use Rattle.object_store.specs.Store.{State, Objects}
 use Rattle.object_store.proofs.Landings.{taken_out, lands_absent, lands_standing}
 use Rattle.object_store.proofs.kept.Kept.land_one.Goals as goal
 

@@ -1,4 +1,4 @@
-use Rattle.std.proofs.Common.{◌≡◌, List, ℕ, sym, ap, ◌∙◌, map, filter, take}
+use Rattle.std.proofs.Common.{List, ℕ, sym, ap, ◌∙◌, map, filter, take}
 use Rattle.std.specs.FinMap as finmap
 use Rattle.object_store.specs.declared.objects.Object.{Object}
 use Rattle.object_store.specs.Entries.{entries}

@@ -1,4 +1,3 @@
-use Rattle.std.proofs.Common.{refl}
 use Rattle.object_store.specs.SteadyStore.{steady_state}
 use Rattle.object_store.proofs.Landings.{HasLanded-refl}
 use Rattle.object_store.proofs.steady.SteadyStoreObjectStore.create.Goals as goal
