@@ -1,0 +1,87 @@
+ghost use Rattle.std.specs.Prelude.{◌≡◌, Ok, Err, Some, MatchResult};
+ghost use Rattle.serde_json.specs.View.{view};
+ghost use Rattle.doc_mapping.specs.Answer.{answer, read_answer, lacks_timestamp, IsMemory};
+ghost use Rattle.doc_mapping.specs.Documents.{has_number};
+
+use crate::documents::doc_of;
+use crate::levels::is_within;
+use crate::reject::Reject;
+use crate::walk::members_fault;
+use doc_value::{Doc, Text};
+use index_config::IndexConfig;
+use serde_json::Value;
+use std::alloc::{AllocError, Global};
+use std::str;
+
+/// The longest record in bytes.
+pub const MAX_RECORD: usize = 1_048_576;
+
+/// How deep objects and arrays may nest.
+pub const MAX_LEVELS: usize = 32;
+
+/// The document of a record, or the first refusal: TooLong over 1,048,576 bytes, NotJson, NotObject, TooDeep over 32
+/// levels, then key by key in byte order Unmapped (in strict mode), WrongType or BadDate, and last MissingTimestamp.
+pub fn accept(alloc: Global, config: &IndexConfig, bytes: &[u8]) -> Result<Doc, Reject>
+    ensures { MatchResult result
+        (λ doc. answer config.now bytes.now ≡ Ok doc)
+        (λ refusal. ¬ IsMemory refusal → answer config.now bytes.now ≡ Err refusal) }
+{
+    if bytes.len() > MAX_RECORD {
+        return Err(Reject::TooLong { size: bytes.len() });
+    }
+    let Ok(text) = str::from_utf8(bytes) else {
+        return Err(Reject::NotJson);
+    };
+    match Value::from_str(alloc, text) {
+        Ok(value) => accept_value(alloc, config, &value),
+        Err(error) => {
+            if error.is_memory() {
+                Err(Reject::Memory(AllocError))
+            } else {
+                Err(Reject::NotJson)
+            }
+        }
+    }
+}
+
+fn accept_value(alloc: Global, config: &IndexConfig, value: &Value) -> Result<Doc, Reject>
+    ensures { MatchResult result
+        (λ doc. read_answer config.now (Some (view value.now)) ≡ Ok doc)
+        (λ refusal. ¬ IsMemory refusal → read_answer config.now (Some (view value.now)) ≡ Err refusal) }
+{
+    let Some(map) = value.as_object() else {
+        return Err(Reject::NotObject);
+    };
+    if !is_within(value, MAX_LEVELS) {
+        return Err(Reject::TooDeep);
+    }
+    let root = Text::vacant(alloc);
+    if let Some(refusal) = members_fault(alloc, config, &root, map, MAX_LEVELS)? {
+        return Err(refusal);
+    }
+    let doc = doc_of(alloc, &config.schema.fields, value)?;
+    if is_timestamp_missing(config.timestamp_field, &doc) {
+        return Err(Reject::MissingTimestamp);
+    }
+    Ok(doc)
+}
+
+fn is_timestamp_missing(timestamp: Option<usize>, doc: &Doc) -> bool
+    ensures { result ≡ lacks_timestamp timestamp doc.now }
+{
+    match timestamp {
+        Some(number) => !has_field(doc, number),
+        None => false,
+    }
+}
+
+fn has_field(doc: &Doc, number: usize) -> bool
+    ensures { result ≡ has_number doc.now number }
+{
+    for part in doc.as_slice() {
+        if part.number == number {
+            return true;
+        }
+    }
+    false
+}

@@ -1,0 +1,155 @@
+ghost use Rattle.std.specs.Prelude.{◌≡◌, ◌++◌, IfOk, OnOk, option_map};
+ghost use Rattle.serde_json.specs.Find.{as_str, as_array};
+ghost use Rattle.serde_json.specs.View.{view, items_view};
+ghost use Rattle.doc_value.specs.Printed.{names_of};
+ghost use Rattle.doc_mapping.specs.Faults.{i64_of};
+ghost use Rattle.clock_time.specs.Datetimes.{rfc3339_seconds, unix_seconds};
+ghost use Rattle.doc_mapping.specs.Documents as spec;
+
+use clock_time::{read_rfc3339, read_unix};
+use doc_value::{Doc, DocField, Field, Fields, Kind, Text, Value as DocValue, Values};
+use serde_json::Value;
+use std::alloc::{AllocError, Global};
+
+/// The values that stand at the paths of these fields.
+pub fn doc_of(alloc: Global, fields: &Fields, root: &Value) -> Result<Doc, AllocError>
+    ensures { IfOk result (λ doc. doc ≡ spec.doc_from 0 fields.now (view root.now)) }
+{
+    let mut doc = Doc::vacant(alloc);
+    for (number, field) in fields.as_slice().iter().enumerate() {
+        push_part(alloc, &mut doc, number, field, root)?;
+    }
+    Ok(doc)
+}
+
+/// The values of a field, if it has any.
+fn push_part(
+    alloc: Global,
+    doc: &mut Doc,
+    number: usize,
+    field: &Field,
+    root: &Value,
+) -> Result<(), AllocError>
+    ensures { OnOk result (doc.new ≡ doc.old
+        ++ spec.part_of number (spec.found_values field.now.kind (spec.value_at (names_of field.now.path) (view root.now)))) }
+{
+    let values = match value_at(root, field.path.as_str()) {
+        Some(value) => values_of(alloc, field.kind, value)?,
+        None => Values::vacant(alloc),
+    };
+    push_values(doc, number, values)
+}
+
+fn push_values(doc: &mut Doc, number: usize, values: Values) -> Result<(), AllocError>
+    ensures { OnOk result (doc.new ≡ doc.old ++ spec.part_of number values) }
+{
+    if values.len() == 0 {
+        return Ok(());
+    }
+    doc.push(DocField { number, values })
+}
+
+/// What stands at a path.
+fn value_at<'a>(root: &'a Value, path: &str) -> Option<&'a Value>
+    ensures { option_map (λ v. view v.now) result ≡ spec.value_at (names_of path.now) (view root.now) }
+{
+    match path.split_once('.') {
+        None => root.get(path),
+        Some((name, rest)) => match root.get(name) {
+            Some(inner) => value_at(inner, rest),
+            None => None,
+        },
+    }
+}
+
+/// The values of a field of this kind.
+fn values_of(alloc: Global, kind: Kind, value: &Value) -> Result<Values, AllocError>
+    ensures { IfOk result (λ values. values ≡ spec.values_of kind (view value.now)) }
+{
+    match kind {
+        Kind::Text => text_values(alloc, value),
+        Kind::I64 => match value.as_i64() {
+            Some(number) => Values::one(alloc, DocValue::I64(number)),
+            None => Ok(Values::vacant(alloc)),
+        },
+        Kind::U64 => match value.as_u64() {
+            Some(number) => Values::one(alloc, DocValue::U64(number)),
+            None => Ok(Values::vacant(alloc)),
+        },
+        Kind::Bool => match value.as_bool() {
+            Some(truth) => Values::one(alloc, DocValue::Bool(truth)),
+            None => Ok(Values::vacant(alloc)),
+        },
+        Kind::Datetime => match second_of(value) {
+            Some(second) => Values::one(alloc, DocValue::Datetime(second)),
+            None => Ok(Values::vacant(alloc)),
+        },
+        Kind::TextList => list_values(alloc, value),
+    }
+}
+
+fn text_values(alloc: Global, value: &Value) -> Result<Values, AllocError>
+    ensures { IfOk result (λ values. values ≡ spec.text_values (as_str (view value.now))) }
+{
+    match value.as_str() {
+        Some(text) => Values::one(alloc, DocValue::Text(Text::from_str(alloc, text)?)),
+        None => Ok(Values::vacant(alloc)),
+    }
+}
+
+/// The second of a text or of a whole number.
+fn second_of(value: &Value) -> Option<i64>
+    ensures { result ≡ spec.second_of (as_str (view value.now)) (i64_of (view value.now)) }
+{
+    if let Some(text) = value.as_str() {
+        return second_of_text(text);
+    }
+    match value.as_i64() {
+        Some(number) => second_of_number(number),
+        None => None,
+    }
+}
+
+fn second_of_text(text: &str) -> Option<i64>
+    ensures { result ≡ rfc3339_seconds text.now }
+{
+    read_rfc3339(text).ok()
+}
+
+fn second_of_number(number: i64) -> Option<i64>
+    ensures { result ≡ unix_seconds number }
+{
+    read_unix(number).ok()
+}
+
+/// An array of strings, or one string, which is a list of one.
+fn list_values(alloc: Global, value: &Value) -> Result<Values, AllocError>
+    ensures { IfOk result (λ values. values ≡ spec.list_values (as_str (view value.now)) (as_array (view value.now))) }
+{
+    if value.is_string() {
+        return text_values(alloc, value);
+    }
+    match value.as_array() {
+        Some(items) => texts_in(alloc, items.as_slice()),
+        None => Ok(Values::vacant(alloc)),
+    }
+}
+
+fn texts_in(alloc: Global, items: &[Value]) -> Result<Values, AllocError>
+    ensures { IfOk result (λ values. values ≡ spec.texts_in (items_view items.now)) }
+{
+    let mut values = Values::vacant(alloc);
+    for item in items {
+        push_text(alloc, &mut values, item)?;
+    }
+    Ok(values)
+}
+
+fn push_text(alloc: Global, values: &mut Values, item: &Value) -> Result<(), AllocError>
+    ensures { OnOk result (values.new ≡ values.old ++ spec.text_values (as_str (view item.now))) }
+{
+    match item.as_str() {
+        Some(text) => values.push(DocValue::Text(Text::from_str(alloc, text)?)),
+        None => Ok(()),
+    }
+}

@@ -1,0 +1,152 @@
+ghost use Rattle.std.specs.Prelude.{◌≡◌, Some, None, is_some};
+ghost use Rattle.serde_json.specs.View.{view, items_view};
+ghost use Rattle.clock_time.specs.Datetimes.{rfc3339_seconds, unix_seconds};
+ghost use Rattle.serde_json.specs.Find.{as_str, as_array};
+ghost use Rattle.doc_value.specs.Documents as schema;
+ghost use Rattle.doc_mapping.specs.Faults as spec;
+
+use crate::reject::Reject;
+use clock_time::{read_rfc3339, read_unix};
+use doc_value::{Field, Kind, Text};
+use index_config::{FieldFormats, Formats, Mode};
+use serde_json::Value;
+
+/// A refusal unless a test passes.
+pub fn unless(passes: bool, refusal: Reject) -> Option<Reject>
+    ensures { result ≡ spec.unless passes refusal }
+{
+    if passes { None } else { Some(refusal) }
+}
+
+/// A key that the schema doesn't have is refused in strict mode.
+pub fn unmapped(mode: Mode, path: Text) -> Option<Reject>
+    ensures { result ≡ spec.unmapped mode path }
+{
+    match mode {
+        Mode::Strict => Some(Reject::Unmapped { path }),
+        Mode::Lenient => None,
+        Mode::Dynamic => None,
+    }
+}
+
+/// The first refusal of a value where a field of this kind stands.
+pub fn value_fault(kind: Kind, formats: Formats, path: Text, value: &Value) -> Option<Reject>
+    ensures { result ≡ spec.value_fault kind formats path (view value.now) }
+{
+    if value.is_null() {
+        return None;
+    }
+    match kind {
+        Kind::Text => unless(value.is_string(), Reject::WrongType { path }),
+        Kind::I64 => unless(value.is_i64(), Reject::WrongType { path }),
+        Kind::U64 => unless(value.is_u64(), Reject::WrongType { path }),
+        Kind::Bool => unless(value.is_boolean(), Reject::WrongType { path }),
+        Kind::Datetime => date_fault(formats, path, value),
+        Kind::TextList => unless(
+            value.is_string() || is_texts(value),
+            Reject::WrongType { path },
+        ),
+    }
+}
+
+fn date_fault(formats: Formats, path: Text, value: &Value) -> Option<Reject>
+    ensures { result ≡ spec.date_fault formats path (as_str (view value.now)) (spec.i64_of (view value.now)) (spec.u64_of (view value.now)) }
+{
+    if let Some(text) = value.as_str() {
+        return text_fault(formats, path, text);
+    }
+    if formats.unix && (value.is_i64() || value.is_u64()) {
+        number_fault(path, value.as_i64())
+    } else {
+        Some(Reject::WrongType { path })
+    }
+}
+
+fn text_fault(formats: Formats, path: Text, text: &str) -> Option<Reject>
+    ensures { result ≡ spec.date_fault formats path (Some text.now) None None }
+{
+    if formats.rfc3339 {
+        unless(is_date(text), Reject::BadDate { path })
+    } else {
+        Some(Reject::WrongType { path })
+    }
+}
+
+fn number_fault(path: Text, number: Option<i64>) -> Option<Reject>
+    ensures { result ≡ spec.number_fault path number }
+{
+    match number {
+        Some(number) => unless(is_unix(number), Reject::BadDate { path }),
+        None => Some(Reject::BadDate { path }),
+    }
+}
+
+fn is_date(text: &str) -> bool
+    ensures { result ≡ is_some (rfc3339_seconds text.now) }
+{
+    read_rfc3339(text).is_ok()
+}
+
+fn is_unix(number: i64) -> bool
+    ensures { result ≡ is_some (unix_seconds number) }
+{
+    read_unix(number).is_ok()
+}
+
+/// Whether a value is an array of strings.
+fn is_texts(value: &Value) -> bool
+    ensures { result ≡ spec.texts_only (as_array (view value.now)) }
+{
+    match value.as_array() {
+        Some(items) => are_texts(items.as_slice()),
+        None => false,
+    }
+}
+
+fn are_texts(items: &[Value]) -> bool
+    ensures { result ≡ spec.all_texts (items_view items.now) }
+{
+    for item in items {
+        if !item.is_string() {
+            return false;
+        }
+    }
+    true
+}
+
+/// The spellings that a field takes.
+pub fn formats_at(formats: &FieldFormats, number: usize) -> Formats
+    ensures { result ≡ spec.formats_at formats.now number }
+{
+    if number < formats.len() {
+        return formats.at(number);
+    }
+    Formats {
+        rfc3339: true,
+        unix: true,
+    }
+}
+
+/// Whether some field lies in the object whose path and dot these bytes are.
+pub fn is_object(fields: &[Field], start: &[u8]) -> bool
+    ensures { result ≡ spec.is_object fields.now start.now }
+{
+    for field in fields {
+        if field.path.as_slice().starts_with(start) {
+            return true;
+        }
+    }
+    false
+}
+
+/// The number of the field with this path.
+pub fn number_of(fields: &[Field], path: &[u8]) -> Option<usize>
+    ensures { result ≡ schema.number_of fields.now path.now }
+{
+    for (number, field) in fields.iter().enumerate() {
+        if field.path.as_slice() == path {
+            return Some(number);
+        }
+    }
+    None
+}

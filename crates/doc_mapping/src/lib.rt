@@ -1,0 +1,15 @@
+//! From a record in JSON to its document.
+#![tactic(auto)]
+
+mod accepting;
+mod documents;
+mod faults;
+mod levels;
+pub mod reject;
+mod walk;
+
+pub use accepting::{MAX_LEVELS, MAX_RECORD, accept};
+pub use reject::Reject;
+
+#[cfg(test)]
+mod tests;
