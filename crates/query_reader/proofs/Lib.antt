@@ -1,0 +1,9 @@
+pub mod Live
+pub mod Steps
+pub mod Parts
+pub mod Nest
+pub mod Specials
+pub mod Rows
+pub mod Each
+pub mod Complete
+pub mod Sound

@@ -1,0 +1,916 @@
+-- What the machine reads is in the grammar.
+use Rattle.std.proofs.Common.{◌≡◌, ◌≢◌, ◌⊎◌, inl, inr, Option, Some, None, ℕ, zero, suc, ◌+◌, ◌-◌, ◌<◌, ◌≤◌, ◌==◌, ◌&&◌, ◌||◌, Bool, true, false, not, List, [], ◌∷◌, ◌++◌, length, take, drop, get_or, Result, Ok, Err, refl, ap, sym, ◌∙◌, arith, length-drop, get_or-drop, if◌then◌else◌, subst, nat_lt}
+use Rattle.std.specs.Prelude.{slice_range}
+use Rattle.std.specs.Str.{bytes_eq}
+use Rattle.std.proofs.lemmas.Bool.{cases_lt, eqb-true, ltb-true}
+use Rattle.std.proofs.lemmas.List.{drop_all, length-take-le, get_or-take}
+use Rattle.query_reader.proofs.Steps.{steps, goes, ends, begins, in_word, in_quote, slice_more, quote_plain, quote_escape, quote_hidden, word_plain, word_escape, word_escaped}
+use Rattle.query_reader.proofs.Parts.{stuck_at, alike, want_operand, tight_operand, operand_word, no_joined, and_wants, or_wants, word_ends, word_prefix, named_field, behind_word, after_word, other_joined, after_end, behind_special, spaced_special}
+use Rattle.query_reader.proofs.Nest.{operand_plus, operand_minus, operand_open, operand_star, operand_quote, not_wants}
+use Rattle.query_reader.proofs.Complete.{slice_one, slice_two, bytes_two}
+use Rattle.query_reader.proofs.Specials.{set_begins, set_ends, word_in, letter_i, letter_n, unequal}
+use Rattle.query_reader.specs.Kinds.{kind_of, is_blank, is_one_of, is_reserved, said, names_set, ends_word, begins_word, is_escape_kind, StandsAt, ByteAt}
+use Rattle.query_reader.specs.Asking.{Asking}
+use Rattle.query_reader.specs.Asking as asks
+use Rattle.query_reader.specs.Tree.{Tree, Trees, no_trees, behind, and_tree, or_tree, Group, Not}
+use Rattle.query_reader.specs.Ranges.{ends_run, run_bound, edge_closed, edge_before, behind_low, close_range, want_bound, want_blank, quoting, behind_to, range_step, range_end, sign_of}
+use Rattle.query_reader.specs.Machine.{run, state, State, Frame, Mode, Step, Go, Stuck, go_on, step, finish, begin, from_operand, word, begun_word, Role, First, Joined, Fielded, InASet, Want, After, InWord, InQuote, Behind, Spaced, LetterI, BehindIn, InSet, InRange, with_operand, with_or, leaf, after_leaf, negated, deeper, fresh, reads, start, limit, nest, open_bracket, begin_special, step_want, step_after, step_behind, step_spaced, step_in, step_set, step_word, step_quote, end_word, end_field, end_prefix, end_plain, end_join, end_not, name_field, name_prefix, behind_operator, behind_not, behind_in, after_not, close_with, whole, whole_with, done_with, finished, finish_with, finish_plain, finish_not, finish_word, finish_range, move_range, more_of, Head, Deep}
+use Rattle.query_reader.specs.Reading.{IsOperatorEnd, IsSetOpening, operand_rest, set_rest, range_rest, special_rest, sunk}
+use Rattle.query_reader.specs.Grammar.{Blanks, Letters, Word, NoSetWord, Quotes, Asks, Run, RunEnds, Bounds, Compares, Items, Opens, Shuts, Specials, Gap, Ors, Ands, Unary, IsQuery, span, member}
+use Rattle.query_reader.specs.Grammar.{no_blank, blank, no_letter, letter, escaped_letter, no_quoted, quoted_byte, escaped_byte, a_word, a_prefix, a_quote, run_one, run_more, a_star, a_quoted, a_run, at_least, at_most, above, below, no_item, item_blank, item_word, item_quoted, any_value, a_range, compared, a_set, one_and, by_or, one_operand, next_operand, by_and, by_not, by_plus, by_minus, anything, by_bracket, of_defaults, of_field, of_special}
+use Rattle.query_reader.specs.declared.kind.Kind.{Kind}
+use Rattle.query_reader.specs.declared.kind.Kind.TheVariants.{Blank, Quote, Open, Close, Star, Colon, Plus, Minus, Escape, Angle, SquareOpen, SquareClose, CurlyOpen, CurlyClose, Reserved, Plain}
+use Rattle.query_reader.specs.declared.kind.Said.{Said}
+use Rattle.query_reader.specs.declared.kind.Said.TheVariants.{SaidWord, SaidAnd, SaidOr, SaidNot}
+use Rattle.query_reader.specs.declared.tree.Span.{Span}
+use Rattle.query_reader.specs.declared.special.Member.{Member}
+use Rattle.query_reader.specs.declared.special.Bound.{Bound}
+use Rattle.query_reader.specs.declared.special.Bound.TheVariants as bounds
+use Rattle.query_reader.specs.declared.special.Compare.{Compare}
+use Rattle.query_reader.specs.declared.special.Compare.TheVariants.{AtLeast, AtMost, Above, Below}
+use Rattle.query_reader.specs.declared.special.Ranged.TheVariants.{Between, Compared}
+use Rattle.query_reader.specs.declared.special.Spot.{Spot}
+use Rattle.query_reader.specs.declared.special.Spot.TheVariants.{Low, High, One}
+use Rattle.query_reader.specs.declared.special.RangeMode.TheVariants.{Wanted, Quoting, Running, BehindLow, LetterT, BehindTo, Closing, Sign}
+use Rattle.query_reader.specs.declared.special.RangeMode.{RangeMode}
+use Rattle.query_reader.specs.declared.special.Ranged.{Ranged}
+use Rattle.query_reader.specs.declared.special.RangeStep.{RangeStep}
+use Rattle.query_reader.specs.declared.special.RangeStep.TheVariants as moves
+use Rattle.query_reader.specs.declared.fault.Fault.{Fault}
+use Rattle.query_reader.specs.declared.fault.Fault.TheVariants as faults
+use Rattle.query_reader.specs.Tree.{nots}
+
+-- the members of a bracket of depth d that begins at `from`, up to a place
+data Chain (text : List ℕ) (d from : ℕ) : ℕ → Trees → Trees → Bool → Type 0 where
+  first : {s k : ℕ} {a : Trees} {b : Bool} → Blanks text from s → Ands text a s k b (64 - d) → Chain text d from k no_trees a b
+  later : {s j m l p k : ℕ} {o a : Trees} {b b' : Bool} → Blanks text from s → Ors text o s j b' (64 - d) → Gap text b' j m → Word text m l SaidOr → Gap text false l p → Ands text a p k b (64 - d) → Chain text d from k o a b
+
+chain_next : {text : List ℕ} {d from i j k : ℕ} {ors a : Trees} {t : Tree} {b b' : Bool} → Chain text d from i ors a b → Gap text b i j → Unary text t j k b' (64 - d) → Chain text d from k ors (behind a t) b'
+chain_next (first x a) g u = first x (next_operand a g u)
+chain_next (later x o g w h a) g' u = later x o g w h (next_operand a g' u)
+
+chain_and : {text : List ℕ} {d from i j l m k : ℕ} {ors a : Trees} {t : Tree} {b b' : Bool} → Chain text d from i ors a b → Gap text b i j → Word text j l SaidAnd → Gap text false l m → Unary text t m k b' (64 - d) → Chain text d from k ors (behind a t) b'
+chain_and (first x a) g w h u = first x (by_and a g w h u)
+chain_and (later x o g w h a) g' w' h' u = later x o g w h (by_and a g' w' h' u)
+
+chain_or : {text : List ℕ} {d from i j l m k : ℕ} {ors a t : Trees} {b b' : Bool} → Chain text d from i ors a b → Gap text b i j → Word text j l SaidOr → Gap text false l m → Ands text t m k b' (64 - d) → Chain text d from k (behind ors (and_tree a)) t b'
+chain_or (first x a) g w h u = later x (one_and a) g w h u
+chain_or (later x o g w h a) g' w' h' u = later x (by_or o g w h a) g' w' h' u
+
+chain_whole : {text : List ℕ} {d from k : ℕ} {ors a : Trees} {b : Bool} → Chain text d from k ors a b → (s : ℕ) × Blanks text from s × Ors text (behind ors (and_tree a)) s k b (64 - d)
+chain_whole (first {s} x a) = (s, x, one_and a)
+chain_whole (later {s} x o g w h a) = (s, x, by_or o g w h a)
+
+-- the operand that begins at a place completes the members
+abbrev OperandFn : List ℕ → ℕ → ℕ → Frame → Type 0
+OperandFn text from i f = (t : Tree) (k : ℕ) (b : Bool) → Unary text t i k b (64 - f.deep) → Chain text f.base from k f.ors (behind f.ands (nots f.negations t)) b
+
+-- the same with white space before it
+abbrev WantFn : List ℕ → ℕ → ℕ → Frame → Type 0
+WantFn text from at f = (i : ℕ) → Blanks text at i → (t : Tree) (k : ℕ) (b : Bool) → Unary text t i k b (64 - f.deep) → Chain text f.base from k f.ors (behind f.ands (nots f.negations t)) b
+
+record Ended (text : List ℕ) (from at : ℕ) (free : Bool) (f : Frame) : Type 0 where
+  pub front : Trees
+  pub last : Tree
+  pub end : ℕ
+  pub bracket : Bool
+  pub some : f.ands ≡ behind front last
+  pub clean : f.negations ≡ 0
+  pub level : f.deep ≡ f.base
+  pub chain : Chain text f.base from end f.ors (behind front last) bracket
+  pub blanks : Blanks text end at
+  pub gap : free ≡ true → (end < at) ⊎ (bracket ≡ true)
+
+-- the brackets that are open
+abbrev Outer : List ℕ → List Frame → ℕ → ℕ → Type 0
+Outer text [] from base = (from ≡ 0) × (base ≡ 0)
+Outer text (g ∷ gs) from base = (op from' : ℕ) × (from ≡ op + 1) × StandsAt text op Open × (base ≡ g.deep + 1) × (g.deep < 64) × OperandFn text from' op g × Outer text gs from' g.base
+
+-- a field and its colon, and white space behind it
+record FieldLead (text : List ℕ) (s : Span) (start q : ℕ) : Type 0 where
+  pub colon : ℕ
+  pub named : Word text start colon SaidWord
+  pub stands : StandsAt text colon Colon
+  pub same : s ≡ span start colon
+  pub blanks : Blanks text (colon + 1) q
+
+-- a set up to a member
+record SetLead (text : List ℕ) (s : Span) (start n : ℕ) (ms : List Member) (q : ℕ) : Type 0 where
+  pub lead : FieldLead text s start n
+  pub letter_i : ByteAt text n 73
+  pub letter_n : ByteAt text (n + 1) 78
+  pub bracket : ℕ
+  pub blanks : Blanks text (n + 1 + 1) bracket
+  pub opens : StandsAt text bracket SquareOpen
+  pub items : Items text (bracket + 1) q ms
+
+-- where a word or a quote begins: at once, behind a field and its colon, or in a set
+abbrev Lead : List ℕ → Role → ℕ → ℕ → Type 0
+Lead text First start q = q ≡ start
+Lead text Joined start q = q ≡ start
+Lead text (Fielded x) start q = (j : ℕ) × (x ≡ span start j) × Word text start j SaidWord × StandsAt text j Colon × (q ≡ j + 1) × (kind_of (get_or text q 0) ≡ Angle → ⊥)
+Lead text (InASet x n ms) start q = SetLead text x start n ms q
+
+abbrev LettersSoFar : List ℕ → ℕ → ℕ → Bool → Bool → Type 0
+LettersSoFar text i at p false = Letters text i at p × (i < at)
+LettersSoFar text i at p true = (j : ℕ) × (q : Bool) × (at ≡ j + 1) × Letters text i j q × StandsAt text j Escape
+
+abbrev QuotesSoFar : List ℕ → ℕ → ℕ → Bool → Type 0
+QuotesSoFar text i at false = Quotes text i at
+QuotesSoFar text i at true = (j : ℕ) × (at ≡ j + 1) × Quotes text i j × StandsAt text j Escape
+
+record InWordInv (text : List ℕ) (from at : ℕ) (h : Head) (f : Frame) : Type 0 where
+  pub start : ℕ
+  pub operand : OperandFn text from start f
+  pub lead : Lead text h.role start h.from
+  pub first : begins_word (kind_of (get_or text h.from 0)) ≡ true
+  pub bytes : h.bytes ≡ slice_range text h.from at
+  pub letters : LettersSoFar text h.from at h.plain h.escaped
+  pub joined : h.role ≡ Joined → Ended text from h.from true f
+
+record InQuoteInv (text : List ℕ) (from at : ℕ) (role : Role) (q : ℕ) (escaped : Bool) (f : Frame) : Type 0 where
+  pub start : ℕ
+  pub mark : ℕ
+  pub operand : OperandFn text from start f
+  pub lead : Lead text role start mark
+  pub quote : StandsAt text mark Quote
+  pub behind : q ≡ mark + 1
+  pub quotes : QuotesSoFar text q at escaped
+
+record BehindInv (text : List ℕ) (from at : ℕ) (x : Span) (f : Frame) : Type 0 where
+  pub start : ℕ
+  pub colon : ℕ
+  pub operand : OperandFn text from start f
+  pub named : Word text start colon SaidWord
+  pub stands : StandsAt text colon Colon
+  pub place : at ≡ colon + 1
+  pub same : x ≡ span start colon
+
+record SpacedInv (text : List ℕ) (from at : ℕ) (s : Span) (f : Frame) : Type 0 where
+  pub start : ℕ
+  pub operand : OperandFn text from start f
+  pub lead : FieldLead text s start at
+
+record LetterInv (text : List ℕ) (from at : ℕ) (s : Span) (n : ℕ) (f : Frame) : Type 0 where
+  pub start : ℕ
+  pub operand : OperandFn text from start f
+  pub lead : FieldLead text s start n
+  pub letter_i : ByteAt text n 73
+  pub place : at ≡ n + 1
+
+record BehindInInv (text : List ℕ) (from at : ℕ) (s : Span) (n : ℕ) (f : Frame) : Type 0 where
+  pub start : ℕ
+  pub operand : OperandFn text from start f
+  pub lead : FieldLead text s start n
+  pub letter_i : ByteAt text n 73
+  pub letter_n : ByteAt text (n + 1) 78
+  pub blanks : Blanks text (n + 1 + 1) at
+
+record InSetInv (text : List ℕ) (from at : ℕ) (s : Span) (n : ℕ) (ms : List Member) (f : Frame) : Type 0 where
+  pub start : ℕ
+  pub operand : OperandFn text from start f
+  pub lead : SetLead text s start n ms at
+
+-- an edge may begin here
+data Spotted (text : List ℕ) (n : ℕ) : Spot → ℕ → Type 0 where
+  low_spot : {c : Bool} {i : ℕ} → Opens text c n → Blanks text (n + 1) i → Spotted text n (Low c) i
+  high_spot : {c : Bool} {low : Bound} {j k l i : ℕ} → Opens text c n → Blanks text (n + 1) j → Bounds text j k low → Blanks text k l → k < l → ByteAt text l 84 → ByteAt text (l + 1) 79 → Blanks text (l + 1 + 1) i → l + 1 + 1 < i → Spotted text n (High c low) i
+  one_spot : {op : Compare} {i : ℕ} → Compares text n i op → Spotted text n (One op) i
+
+-- the low edge ends here
+record LowDone (text : List ℕ) (n : ℕ) (c : Bool) (low : Bound) (k : ℕ) : Type 0 where
+  pub from : ℕ
+  pub opens : Opens text c n
+  pub blanks : Blanks text (n + 1) from
+  pub bound : Bounds text from k low
+
+abbrev StarSoFar : List ℕ → ℕ → ℕ → Bool → Type 0
+StarSoFar text i at true = StandsAt text i Star × (at ≡ i + 1)
+StarSoFar text i at false = StandsAt text i Star → i + 1 < at
+
+abbrev sign_byte : Bool → ℕ
+sign_byte true = 62
+sign_byte false = 60
+
+abbrev RangeInv : List ℕ → ℕ → RangeMode → ℕ → Type 0
+RangeInv text n (Wanted spot) at = Spotted text n spot at
+RangeInv text n (Quoting spot q e) at = (mark : ℕ) × (q ≡ mark + 1) × StandsAt text mark Quote × Spotted text n spot mark × QuotesSoFar text q at e
+RangeInv text n (Running spot i star) at = Spotted text n spot i × Run text i at × StarSoFar text i at star
+RangeInv text n (BehindLow c low spaced) at = (k : ℕ) × LowDone text n c low k × Blanks text k at × (spaced ≡ true → k < at)
+RangeInv text n (LetterT c low) at = (k : ℕ) × (l : ℕ) × LowDone text n c low k × Blanks text k l × (k < l) × ByteAt text l 84 × (at ≡ l + 1)
+RangeInv text n (BehindTo c low) at = (k : ℕ) × (l : ℕ) × LowDone text n c low k × Blanks text k l × (k < l) × ByteAt text l 84 × ByteAt text (l + 1) 79 × (at ≡ l + 1 + 1)
+RangeInv text n (Closing c low high) at = (i : ℕ) × (j : ℕ) × Spotted text n (High c low) i × Bounds text i j high × Blanks text j at
+RangeInv text n (Sign up) at = ByteAt text n (sign_byte up) × (at ≡ n + 1)
+
+record InRangeInv (text : List ℕ) (from at : ℕ) (s : Span) (n : ℕ) (m : RangeMode) (f : Frame) : Type 0 where
+  pub start : ℕ
+  pub operand : OperandFn text from start f
+  pub lead : FieldLead text s start n
+  pub range : RangeInv text n m at
+
+abbrev RangeHolds : List ℕ → ℕ → ℕ → RangeStep → Type 0
+RangeHolds text n at (moves.More m) = RangeInv text n m (at + 1)
+RangeHolds text n at (moves.Done r) = Specials text n (at + 1) (asks.Within n r) true
+RangeHolds text n at (moves.Ended r) = Specials text n (at + 1) (asks.Within n r) false
+RangeHolds text n at (moves.Before r) = Specials text n at (asks.Within n r) false
+RangeHolds text n at moves.Refused = Unit {0}
+
+abbrev ModeInv : List ℕ → ℕ → ℕ → Mode → Frame → Type 0
+ModeInv text from at (Want true) f = WantFn text from at f
+ModeInv text from at (Want false) f = OperandFn text from at f
+ModeInv text from at (After free) f = Ended text from at free f
+ModeInv text from at (InWord h) f = InWordInv text from at h f
+ModeInv text from at (InQuote role q escaped) f = InQuoteInv text from at role q escaped f
+ModeInv text from at (Behind x) f = BehindInv text from at x f
+ModeInv text from at (Spaced x) f = SpacedInv text from at x f
+ModeInv text from at (LetterI x n) f = LetterInv text from at x n f
+ModeInv text from at (BehindIn x n) f = BehindInInv text from at x n f
+ModeInv text from at (InSet x n ms) f = InSetInv text from at x n ms f
+ModeInv text from at (InRange x n m) f = InRangeInv text from at x n m f
+
+abbrev Inv : List ℕ → ℕ → State → Type 0
+Inv text at s = (from : ℕ) × Outer text s.outer from s.frame.base × ModeInv text from at s.mode s.frame
+
+abbrev Holds : List ℕ → ℕ → Step → Type 0
+Holds text at (Go s) = Inv text (at + 1) s
+Holds text at Stuck = Unit {0}
+Holds text at (Deep n) = Unit {0}
+
+blanks_more : {text : List ℕ} {i j : ℕ} → Blanks text i j → StandsAt text j Blank → Blanks text i (j + 1)
+blanks_more no_blank s = blank s no_blank
+blanks_more (blank x r) s = blank x (blanks_more r s)
+
+deeper_index : (d : ℕ) → d < 64 → suc (64 - (d + 1)) ≡ 64 - d
+deeper_index d l = omega arith
+
+blanks_le : {text : List ℕ} {i j : ℕ} → Blanks text i j → i ≤ j
+blanks_le no_blank = omega arith
+blanks_le (blank x r) = omega (arith, blanks_le r)
+
+letters_below : {text : List ℕ} {i j : ℕ} {p : Bool} → Letters text i j p → i ≤ j
+letters_below no_letter = omega arith
+letters_below (letter r a b d) = omega (arith, letters_below r)
+letters_below (escaped_letter r a b) = omega (arith, letters_below r)
+
+so_far_below : (text : List ℕ) (i at : ℕ) (p b : Bool) → LettersSoFar text i at p b → i < at
+so_far_below text i at p false x = x.1
+so_far_below text i at p true x = omega (arith, x.2, letters_below x.3)
+
+nest_holds : (text : List ℕ) (at n d : ℕ) (s : State) → (d < 64 → Inv text (at + 1) s) → Holds text at (if nat_lt d limit then Go s else Deep n)
+nest_holds text at n d s g = go (nat_lt d limit) refl
+  where
+    go : (b : Bool) → nat_lt d limit ≡ b → Holds text at (if b then Go s else Deep n)
+    go true e = g (ltb-true d 64 e)
+    go false e = tt
+
+-- an operand has ended
+ended_at : {text : List ℕ} {from k : ℕ} {b : Bool} (f : Frame) (t : Tree) (free : Bool) → Chain text f.base from k f.ors (behind f.ands (nots f.negations t)) b → (free ≡ true → b ≡ true) → Ended text from k free (with_operand f t)
+ended_at f t free x g = record { front = _; last = _; end = _; bracket = _; some = refl; clean = refl; level = refl; chain = x; blanks = no_blank; gap = λ h. inr (g h) }
+
+-- behind an operand another may follow
+ended_operand : {text : List ℕ} {from at : ℕ} {free : Bool} {f : Frame} (x : Ended text from at free f) → (x.end < at) ⊎ ((x.bracket ≡ true) ⊎ StandsAt text at Open) → OperandFn text from at f
+ended_operand {text} {from} {at} {free} {f} x g = λ t k b u.
+    rw (x.some, x.clean) (chain_next x.chain (x.blanks, g) (subst (λ d. Unary text t at k b (64 - d)) x.level u))
+
+deep_unary : {text : List ℕ} {t : Tree} {i k d : ℕ} {b : Bool} → d < 64 → Unary text t i k b (suc (64 - (d + 1))) → Unary text t i k b (64 - d)
+deep_unary {text} {t} {i} {k} {d} {b} l u = subst (λ n. Unary text t i k b n) (deeper_index d l) u
+
+gap_of : {text : List ℕ} {from at : ℕ} {f : Frame} (x : Ended text from at true f) → (x.end < at) ⊎ ((x.bracket ≡ true) ⊎ StandsAt text at Open)
+gap_of x = near (x.gap refl)
+  where
+    near : {A B C : Type 0} → A ⊎ B → A ⊎ (B ⊎ C)
+    near (inl h) = inl h
+    near (inr h) = inr (inl h)
+
+-- `<` and `>` alone are of their kind
+tail_no : (b0 b1 b2 b3 b4 : Bool) → (if b0 then SquareOpen else if b1 then SquareClose else if b2 then CurlyOpen else if b3 then CurlyClose else if b4 then Reserved else Plain) ≡ Angle → ⊥
+tail_no true b1 b2 b3 b4 h = let x : SquareOpen ≡ Angle = h in cc
+tail_no false true b2 b3 b4 h = let x : SquareClose ≡ Angle = h in cc
+tail_no false false true b3 b4 h = let x : CurlyOpen ≡ Angle = h in cc
+tail_no false false false true b4 h = let x : CurlyClose ≡ Angle = h in cc
+tail_no false false false false true h = let x : Reserved ≡ Angle = h in cc
+tail_no false false false false false h = let x : Plain ≡ Angle = h in cc
+
+head_no : (a0 a1 a2 a3 a4 a5 a6 a7 a8 : Bool) (k : Kind) → (k ≡ Angle → ⊥) → (if a0 then Blank else if a1 then Quote else if a2 then Open else if a3 then Close else if a4 then Star else if a5 then Colon else if a6 then Plus else if a7 then Minus else if a8 then Escape else k) ≡ Angle → ⊥
+head_no true a1 a2 a3 a4 a5 a6 a7 a8 k f h = let x : Blank ≡ Angle = h in cc
+head_no false true a2 a3 a4 a5 a6 a7 a8 k f h = let x : Quote ≡ Angle = h in cc
+head_no false false true a3 a4 a5 a6 a7 a8 k f h = let x : Open ≡ Angle = h in cc
+head_no false false false true a4 a5 a6 a7 a8 k f h = let x : Close ≡ Angle = h in cc
+head_no false false false false true a5 a6 a7 a8 k f h = let x : Star ≡ Angle = h in cc
+head_no false false false false false true a6 a7 a8 k f h = let x : Colon ≡ Angle = h in cc
+head_no false false false false false false true a7 a8 k f h = let x : Plus ≡ Angle = h in cc
+head_no false false false false false false false true a8 k f h = let x : Minus ≡ Angle = h in cc
+head_no false false false false false false false false true k f h = let x : Escape ≡ Angle = h in cc
+head_no false false false false false false false false false k f h = f h
+
+last_no : (b : Bool) (k : Kind) → b ≡ false → (k ≡ Angle → ⊥) → (if b then Angle else k) ≡ Angle → ⊥
+last_no true k e f h = let x : true ≡ false = e in cc
+last_no false k e f h = f h
+
+false_or : (a b : Bool) → a ≡ false → b ≡ false → (a || (b || false)) ≡ false
+false_or true b p q = p
+false_or false true p q = q
+false_or false false p q = refl
+
+not_angle : (c : ℕ) → (c == 60) ≡ false → (c == 62) ≡ false → kind_of c ≡ Angle → ⊥
+unfolding kind_of
+not_angle c p q = head_no (is_blank c) (c == 34) (c == 40) (c == 41) (c == 42) (c == 58) (c == 43) (c == 45) (c == 92) _
+    (last_no (is_one_of (60 ∷ 62 ∷ []) c) _ (false_or (c == 60) (c == 62) p q) (tail_no (c == 91) (c == 93) (c == 123) (c == 125) (is_reserved c)))
+
+angle_byte : (text : List ℕ) (at : ℕ) → at < length text → kind_of (get_or text at 0) ≡ Angle → (b : Bool) → (get_or text at 0 == 62) ≡ b → ByteAt text at (sign_byte b)
+angle_byte text at l e true t = (l, eqb-true (get_or text at 0) 62 t)
+angle_byte text at l e false t = go (get_or text at 0 == 60) refl
+  where
+    go : (b : Bool) → (get_or text at 0 == 60) ≡ b → ByteAt text at 60
+    go true h = (l, eqb-true (get_or text at 0) 60 h)
+    go false h = absurd (not_angle (get_or text at 0) h t e)
+
+module _ (text : List ℕ) (at : ℕ) (l : at < length text) where
+  open_holds : (n : ℕ) (from : ℕ) (f : Frame) (fs : List Frame) → StandsAt text at Open → Outer text fs from f.base → OperandFn text from at f
+      → Holds text at (nest n f (state (Want true) (fresh (f.deep + 1)) (f ∷ fs)))
+  open_holds n from f fs s o g = nest_holds text at n f.deep _ (λ d. (at + 1, (at, from, refl, s, refl, d, g, o), λ i x t k b u. first x (one_operand u)))
+
+  begin_holds : (joined : Bool) (k : Kind) (from : ℕ) (f : Frame) (fs : List Frame) → kind_of (get_or text at 0) ≡ k → Outer text fs from f.base → OperandFn text from at f
+      → (joined ≡ true → Ended text from at true f) → Holds text at (begin joined at (get_or text at 0) k f fs)
+  begin_holds true Plain from f fs e o g j = (from, o, record { start = at; operand = g; lead = refl; first = rw e refl; bytes = sym (slice_one text at l); letters = (letter no_letter l (rw e refl) (λ h. let x : Plain ≡ Escape = sym e ∙ h in cc), omega arith); joined = λ h. j refl })
+  begin_holds true Angle from f fs e o g j = (from, o, record { start = at; operand = g; lead = refl; first = rw e refl; bytes = sym (slice_one text at l); letters = (letter no_letter l (rw e refl) (λ h. let x : Angle ≡ Escape = sym e ∙ h in cc), omega arith); joined = λ h. j refl })
+  begin_holds true Escape from f fs e o g j = (from, o, record { start = at; operand = g; lead = refl; first = rw e refl; bytes = sym (slice_one text at l); letters = (at, true, refl, no_letter, (l, e)); joined = λ h. j refl })
+  begin_holds false Plain from f fs e o g j = (from, o, record { start = at; operand = g; lead = refl; first = rw e refl; bytes = sym (slice_one text at l); letters = (letter no_letter l (rw e refl) (λ h. let x : Plain ≡ Escape = sym e ∙ h in cc), omega arith); joined = λ h. absurd (let x : First ≡ Joined = h in cc) })
+  begin_holds false Angle from f fs e o g j = (from, o, record { start = at; operand = g; lead = refl; first = rw e refl; bytes = sym (slice_one text at l); letters = (letter no_letter l (rw e refl) (λ h. let x : Angle ≡ Escape = sym e ∙ h in cc), omega arith); joined = λ h. absurd (let x : First ≡ Joined = h in cc) })
+  begin_holds false Escape from f fs e o g j = (from, o, record { start = at; operand = g; lead = refl; first = rw e refl; bytes = sym (slice_one text at l); letters = (at, true, refl, no_letter, (l, e)); joined = λ h. absurd (let x : First ≡ Joined = h in cc) })
+  begin_holds joined Quote from f fs e o g j = (from, o, record { start = at; mark = at; operand = g; lead = refl; quote = (l, e); behind = refl; quotes = no_quoted })
+  begin_holds joined Star from f fs e o g j = (from, o, ended_at f (leaf None asks.Any) false (g _ (at + 1) false (anything (l, e))) (λ h. absurd (let x : false ≡ true = h in cc)))
+  begin_holds joined Open from f fs e o g j = open_holds at from f fs (l, e) o g
+  begin_holds joined Plus from f fs e o g j = nest_holds text at at f.deep _ (λ d. (from, o, λ t k b u. g t k b (deep_unary d (by_plus (l, e) u))))
+  begin_holds joined Minus from f fs e o g j = nest_holds text at at f.deep _ (λ d. (from, o, λ t k b u. g (Not t) k b (deep_unary d (by_minus (l, e) u))))
+  begin_holds joined Blank from f fs e o g j = tt
+  begin_holds joined Colon from f fs e o g j = tt
+  begin_holds joined Close from f fs e o g j = tt
+  begin_holds joined SquareOpen from f fs e o g j = tt
+  begin_holds joined SquareClose from f fs e o g j = tt
+  begin_holds joined CurlyOpen from f fs e o g j = tt
+  begin_holds joined CurlyClose from f fs e o g j = tt
+  begin_holds joined Reserved from f fs e o g j = tt
+
+  want_holds : (k : Kind) (from : ℕ) (f : Frame) (fs : List Frame) → kind_of (get_or text at 0) ≡ k → Outer text fs from f.base → WantFn text from at f → Holds text at (step_want true at (get_or text at 0) k f fs)
+  want_holds Blank from f fs e o g = (from, o, λ i x. g i (blank (l, e) x))
+  want_holds k from f fs e o g = begin_holds false k from f fs e o (g at no_blank) (λ h. absurd (let x : false ≡ true = h in cc))
+
+  tight_holds : (k : Kind) (from : ℕ) (f : Frame) (fs : List Frame) → kind_of (get_or text at 0) ≡ k → Outer text fs from f.base → OperandFn text from at f → Holds text at (step_want false at (get_or text at 0) k f fs)
+  tight_holds Blank from f fs e o g = tt
+  tight_holds k from f fs e o g = begin_holds false k from f fs e o g (λ h. absurd (let x : false ≡ true = h in cc))
+
+  -- a closing bracket
+  close_holds : (fs : List Frame) (from : ℕ) (f : Frame) (free : Bool) → StandsAt text at Close → Outer text fs from f.base → (x : Ended text from at free f) → Holds text at (close_with (Some (or_tree (behind f.ors (and_tree (behind x.front x.last))))) fs)
+  close_holds [] from f free s o x = tt
+  close_holds (g ∷ gs) from f free s o x =
+      let w = chain_whole x.chain in
+      let ors : Ors text (behind f.ors (and_tree (behind x.front x.last))) w.0 x.end x.bracket (64 - (g.deep + 1)) = subst (λ d. Ors text (behind f.ors (and_tree (behind x.front x.last))) w.0 x.end x.bracket (64 - d)) o.4 w.2 in
+      let bl : Blanks text (o.0 + 1) w.0 = subst (λ i. Blanks text i w.0) o.2 w.1 in
+      (o.1, o.7, ended_at g (Group (or_tree (behind f.ors (and_tree (behind x.front x.last))))) true (o.6 _ (at + 1) true (deep_unary o.5 (by_bracket o.3 bl ors x.blanks s))) (λ h. refl))
+
+  after_holds : (free : Bool) (k : Kind) (from : ℕ) (f : Frame) (fs : List Frame) → kind_of (get_or text at 0) ≡ k → Outer text fs from f.base → Ended text from at free f → Holds text at (step_after free at (get_or text at 0) k f fs)
+  after_holds free Blank from f fs e o x = (from, o, record { front = x.front; last = x.last; end = x.end; bracket = x.bracket; some = x.some; clean = x.clean; level = x.level; chain = x.chain; blanks = blanks_more x.blanks (l, e); gap = λ h. inl (omega (arith, blanks_le x.blanks)) })
+  after_holds free Close from f fs e o x = rw x.some (close_holds fs from f free (l, e) o x)
+  after_holds free Open from f fs e o x = open_holds at from f fs (l, e) o (ended_operand x (inr (inr (l, e))))
+  after_holds true k from f fs e o x = begin_holds true k from f fs e o (ended_operand x (gap_of x)) (λ h. x)
+  after_holds false k from f fs e o x = tt
+
+  -- what is asked, of a field or of the default fields
+  asked_first : {start q k : ℕ} {n : ℕ} {a : Asking} → q ≡ start → Asks text q k a → Unary text (leaf None a) start k false n
+  asked_first {start} {q} {k} {n} {a} e x = subst (λ i. Unary text (leaf None a) i k false n) e (of_defaults x)
+
+  asked_field : {start q k : ℕ} {n : ℕ} {a : Asking} (s : Span) → Lead text (Fielded s) start q → NoSetWord text a → Asks text q k a → Unary text (leaf (Some s) a) start k false n
+  asked_field {start} {q} {k} {n} {a} s e m x =
+      let y : Asks text (e.0 + 1) k a = subst (λ i. Asks text i k a) e.4 x in
+      let z : kind_of (get_or text (e.0 + 1) 0) ≡ Angle → ⊥ = λ h. e.5 (ap (λ i. kind_of (get_or text i 0)) e.4 ∙ h) in
+      subst (λ s. Unary text (leaf (Some s) a) start k false n) (sym e.1) (of_field e.2 e.3 z m y)
+
+  special_unary : {start q k : ℕ} {n : ℕ} {a : Asking} {b : Bool} (s : Span) → FieldLead text s start q → Specials text q k a b → Unary text (leaf (Some s) a) start k b n
+  special_unary {start} {q} {k} {n} {a} {b} s x y = subst (λ s. Unary text (leaf (Some s) a) start k b n) (sym x.same) (of_special x.named x.stands x.blanks y)
+
+  no_true : {A : Type 0} → false ≡ true → A
+  no_true h = absurd (let y : false ≡ true = h in cc)
+
+  -- a byte of a set
+  set_byte : (k : Kind) (from : ℕ) (f : Frame) (fs : List Frame) (s : Span) (n : ℕ) (ms : List Member) (start : ℕ) → kind_of (get_or text at 0) ≡ k → Outer text fs from f.base → OperandFn text from start f → SetLead text s start n ms at
+      → Holds text at (step_set s n ms at (get_or text at 0) k f fs)
+  set_byte Blank from f fs s n ms start e o g x = (from, o, record { start = start; operand = g; lead = record { lead = x.lead; letter_i = x.letter_i; letter_n = x.letter_n; bracket = x.bracket; blanks = x.blanks; opens = x.opens; items = item_blank x.items (l, e) } })
+  set_byte SquareClose from f fs s n ms start e o g x =
+      (from, o, ended_at f (leaf (Some s) (asks.OneOf n ms)) true (g _ (at + 1) true (special_unary s x.lead (a_set x.letter_i x.letter_n x.blanks x.opens x.items (l, e)))) (λ h. refl))
+  set_byte Quote from f fs s n ms start e o g x = (from, o, record { start = start; mark = at; operand = g; lead = x; quote = (l, e); behind = refl; quotes = no_quoted })
+  set_byte Plain from f fs s n ms start e o g x = (from, o, record { start = start; operand = g; lead = x; first = rw e refl; bytes = sym (slice_one text at l); letters = (letter no_letter l (rw e refl) (λ h. let x : Plain ≡ Escape = sym e ∙ h in cc), omega arith); joined = λ h. absurd (let x : InASet s n ms ≡ Joined = h in cc) })
+  set_byte Angle from f fs s n ms start e o g x = (from, o, record { start = start; operand = g; lead = x; first = rw e refl; bytes = sym (slice_one text at l); letters = (letter no_letter l (rw e refl) (λ h. let x : Angle ≡ Escape = sym e ∙ h in cc), omega arith); joined = λ h. absurd (let x : InASet s n ms ≡ Joined = h in cc) })
+  set_byte Escape from f fs s n ms start e o g x = (from, o, record { start = start; operand = g; lead = x; first = rw e refl; bytes = sym (slice_one text at l); letters = (at, true, refl, no_letter, (l, e)); joined = λ h. absurd (let x : InASet s n ms ≡ Joined = h in cc) })
+  set_byte k from f fs s n ms start e o g x = tt
+
+  -- a word ends here
+  said_here : (q : ℕ) (bytes : List ℕ) (p : Bool) (s : Said) → begins_word (kind_of (get_or text q 0)) ≡ true → bytes ≡ slice_range text q at → Letters text q at p → q < at
+      → ends_word (kind_of (get_or text at 0)) ≡ true → said p bytes ≡ s → Word text q at s
+  said_here q bytes p s b y r m d h = record { plain = p; letters = r; begins = b; some = m; ends = λ _. d; says = ap (said p) (sym y) ∙ h }
+
+  operator_holds : (from : ℕ) (f : Frame) (fs : List Frame) (q : ℕ) (k : Kind) → kind_of (get_or text at 0) ≡ k → Outer text fs from f.base → Ended text from q true f → Word text q at SaidAnd
+      → Holds text at (behind_operator at (get_or text at 0) k f fs)
+  operator_holds from f fs q Blank e o x w = (from, o, λ i y t k b u. rw (x.some, x.clean) (chain_and x.chain (x.blanks, gap_of x) w (blank (l, e) y, inl (omega (arith, blanks_le y))) (subst (λ d. Unary text t i k b (64 - d)) x.level u)))
+  operator_holds from f fs q Open e o x w = open_holds at from f fs (l, e) o (λ t k b u. rw (x.some, x.clean) (chain_and x.chain (x.blanks, gap_of x) w (no_blank, inr (inr (l, e))) (subst (λ d. Unary text t at k b (64 - d)) x.level u)))
+  operator_holds from f fs q _ e o x w = tt
+
+  or_chain : {from q i kk : ℕ} {t : Tree} {b : Bool} (f : Frame) (x : Ended text from q true f) → Word text q at SaidOr → Gap text false at i → Unary text t i kk b (64 - f.base) → Chain text f.base from kk (behind f.ors (and_tree f.ands)) (behind no_trees t) b
+  or_chain f x w g u = rw x.some (chain_or x.chain (x.blanks, gap_of x) w g (one_operand u))
+
+  either_holds : (from : ℕ) (f : Frame) (fs : List Frame) (q : ℕ) (k : Kind) → kind_of (get_or text at 0) ≡ k → Outer text fs from f.base → Ended text from q true f → Word text q at SaidOr
+      → Holds text at (behind_operator at (get_or text at 0) k (with_or f) fs)
+  either_holds from f fs q Blank e o x w = (from, o, λ i y t k b u. or_chain f x w (blank (l, e) y, inl (omega (arith, blanks_le y))) u)
+  either_holds from f fs q Open e o x w = open_holds at from (with_or f) fs (l, e) o (λ t k b u. or_chain f x w (no_blank, inr (inr (l, e))) u)
+  either_holds from f fs q _ e o x w = tt
+
+  not_then : (from : ℕ) (f : Frame) (fs : List Frame) (q : ℕ) (k : Kind) → kind_of (get_or text at 0) ≡ k → f.deep < 64 → Outer text fs from f.base → OperandFn text from q f → Word text q at SaidNot
+      → Holds text at (after_not at (get_or text at 0) k f fs)
+  not_then from f fs q Blank e d o g w = (from, o, λ i y t k b u. g (Not t) k b (deep_unary d (by_not w (blank (l, e) y, inl (omega (arith, blanks_le y))) u)))
+  not_then from f fs q Open e d o g w = open_holds at from (negated f) fs (l, e) o (λ t k b u. g (Not t) k b (deep_unary d (by_not w (no_blank, inr (inr (l, e))) u)))
+  not_then from f fs q _ e d o g w = tt
+
+  not_holds : (from : ℕ) (f : Frame) (fs : List Frame) (q : ℕ) (k : Kind) → kind_of (get_or text at 0) ≡ k → Outer text fs from f.base → OperandFn text from q f → Word text q at SaidNot
+      → Holds text at (behind_not q at (get_or text at 0) k f fs)
+  not_holds from f fs q k e o g w = go (nat_lt f.deep limit) refl
+    where
+      go : (b : Bool) → nat_lt f.deep limit ≡ b → Holds text at (if b then after_not at (get_or text at 0) k f fs else Deep q)
+      go true h = not_then from f fs q k e (ltb-true f.deep 64 h) o g w
+      go false h = tt
+
+  abbrev Facts : ℕ → Role → ℕ → List ℕ → Bool → Frame → Type 0
+  Facts from role q bytes p f = (start : ℕ) × OperandFn text from start f × Lead text role start q × (begins_word (kind_of (get_or text q 0)) ≡ true) × (bytes ≡ slice_range text q at) × Letters text q at p × (q < at) × (role ≡ Joined → Ended text from q true f)
+
+  -- the word behind a field that is no `IN` of a set
+  plain_field : (from : ℕ) (f : Frame) (fs : List Frame) (s : Span) (q start : ℕ) (k : Kind) → kind_of (get_or text at 0) ≡ k → (k ≡ Colon → ⊥) → (k ≡ Star → ⊥) → Outer text fs from f.base → OperandFn text from start f → Lead text (Fielded s) start q
+      → (IsSetOpening text at → slice_range text q at ≡ 73 ∷ 78 ∷ [] → ⊥) → Word text q at SaidWord
+      → Holds text at (step_after false at (get_or text at 0) k (with_operand f (leaf (Some s) (asks.Word (span q at)))) fs)
+  plain_field from f fs s q start k e nc ns o g d m w = after_holds false k from (with_operand f (leaf (Some s) (asks.Word (span q at)))) fs e o
+      (ended_at f (leaf (Some s) (asks.Word (span q at))) false (g _ at false (asked_field s d m (a_word w (λ x c. nc (sym e ∙ c)) (λ x c. ns (sym e ∙ c))))) no_true)
+
+  set_lead : (s : Span) (q start : ℕ) → Lead text (Fielded s) start q → FieldLead text s start q
+  set_lead s q start d = record { colon = d.0; named = d.2; stands = d.3; same = d.1; blanks = subst (λ i. Blanks text (d.0 + 1) i) (sym d.4) no_blank }
+
+  behind_in_holds : (from : ℕ) (f : Frame) (fs : List Frame) (s : Span) (q start : ℕ) (k : Kind) → kind_of (get_or text at 0) ≡ k → (k ≡ Colon → ⊥) → (k ≡ Star → ⊥) → Outer text fs from f.base → OperandFn text from start f → Lead text (Fielded s) start q
+      → slice_range text q at ≡ 73 ∷ 78 ∷ [] → q < at → Word text q at SaidWord → Holds text at (behind_in s q at (get_or text at 0) k f fs)
+  behind_in_holds from f fs s q start Blank e nc ns o g d h lt w =
+      let two = slice_two text q at 73 78 (omega arith) (omega arith) h in
+      (from, o, record { start = start; operand = g; lead = set_lead s q start d; letter_i = (omega arith, two.1); letter_n = (omega (arith, two.0), two.2); blanks = subst (λ i. Blanks text i (at + 1)) two.0 (blank (l, e) no_blank) })
+  behind_in_holds from f fs s q start SquareOpen e nc ns o g d h lt w =
+      let two = slice_two text q at 73 78 (omega arith) (omega arith) h in
+      (from, o, record { start = start; operand = g; lead = record { lead = set_lead s q start d; letter_i = (omega arith, two.1); letter_n = (omega (arith, two.0), two.2); bracket = at; blanks = subst (λ i. Blanks text i at) two.0 no_blank; opens = (l, e); items = no_item } })
+  behind_in_holds from f fs s q start k e nc ns o g d h lt w = plain_field from f fs s q start k e nc ns o g d (λ z. absurd (other (z.1))) w
+    where
+      other : (kind_of (get_or text at 0) ≡ Blank) ⊎ (kind_of (get_or text at 0) ≡ SquareOpen) → ⊥
+      other (inl z) = let y = sym e ∙ z in cc
+      other (inr z) = let y = sym e ∙ z in cc
+
+  end_plain_holds : (from : ℕ) (f : Frame) (fs : List Frame) (role : Role) (q : ℕ) (bytes : List ℕ) (p : Bool) (k : Kind) → kind_of (get_or text at 0) ≡ k → (k ≡ Colon → ⊥) → (k ≡ Star → ⊥)
+      → Outer text fs from f.base → Facts from role q bytes p f → Word text q at SaidWord → (b : Bool) → names_set bytes ≡ b → Holds text at (end_plain role b q at (get_or text at 0) k f fs)
+  unfolding names_set
+  end_plain_holds from f fs First q bytes p k e nc ns o x w b h = after_holds false k from (with_operand f (leaf None (asks.Word (span q at)))) fs e o
+      (ended_at f (leaf None (asks.Word (span q at))) false (x.1 _ at false (asked_first x.2 (a_word w (λ m c. nc (sym e ∙ c)) (λ m c. ns (sym e ∙ c))))) no_true)
+  end_plain_holds from f fs Joined q bytes p k e nc ns o x w b h = after_holds false k from (with_operand f (leaf None (asks.Word (span q at)))) fs e o
+      (ended_at f (leaf None (asks.Word (span q at))) false (x.1 _ at false (asked_first x.2 (a_word w (λ m c. nc (sym e ∙ c)) (λ m c. ns (sym e ∙ c))))) no_true)
+  end_plain_holds from f fs (Fielded s) q bytes p k e nc ns o x w true h = behind_in_holds from f fs s q x.0 k e nc ns o x.1 x.2 (sym x.4 ∙ bytes_two bytes 73 78 h) x.6 w
+  end_plain_holds from f fs (Fielded s) q bytes p k e nc ns o x w false h =
+      plain_field from f fs s q x.0 k e nc ns o x.1 x.2 (λ z y. let t : true ≡ false = ap names_set (sym (x.4 ∙ y)) ∙ h in cc) w
+  end_plain_holds from f fs (InASet s n ms) q bytes p k e nc ns o x w b h =
+      set_byte k from f fs s n (ms ++ member q at false ∷ []) x.0 e o x.1 (record { lead = x.2.lead; letter_i = x.2.letter_i; letter_n = x.2.letter_n; bracket = x.2.bracket; blanks = x.2.blanks; opens = x.2.opens; items = item_word x.2.items w })
+
+  end_not_holds : (from : ℕ) (f : Frame) (fs : List Frame) (role : Role) (q : ℕ) (bytes : List ℕ) (p : Bool) (k : Kind) → kind_of (get_or text at 0) ≡ k → Outer text fs from f.base → Facts from role q bytes p f → Word text q at SaidNot
+      → Holds text at (end_not role q at (get_or text at 0) k f fs)
+  end_not_holds from f fs First q bytes p k e o x w = not_holds from f fs q k e o (subst (λ i. OperandFn text from i f) (sym x.2) x.1) w
+  end_not_holds from f fs Joined q bytes p k e o x w = not_holds from f fs q k e o (subst (λ i. OperandFn text from i f) (sym x.2) x.1) w
+  end_not_holds from f fs (Fielded s) q bytes p k e o x w = tt
+  end_not_holds from f fs (InASet s n ms) q bytes p k e o x w = tt
+
+  end_holds : (from : ℕ) (f : Frame) (fs : List Frame) (role : Role) (q : ℕ) (bytes : List ℕ) (p : Bool) (k : Kind) → kind_of (get_or text at 0) ≡ k → ends_word k ≡ true → (k ≡ Colon → ⊥) → (k ≡ Star → ⊥)
+      → Outer text fs from f.base → Facts from role q bytes p f → (s : Said) → said p bytes ≡ s
+      → Holds text at (end_word (record { role = role; from = q; bytes = bytes; plain = p; escaped = false }) at (get_or text at 0) k s f fs)
+  end_holds from f fs role q bytes p k e d nc ns o x SaidWord h = end_plain_holds from f fs role q bytes p k e nc ns o x (said_here q bytes p SaidWord x.3 x.4 x.5 x.6 (ap ends_word e ∙ d) h) (names_set bytes) refl
+  end_holds from f fs Joined q bytes p k e d nc ns o x SaidAnd h = operator_holds from f fs q k e o (x.7 refl) (said_here q bytes p SaidAnd x.3 x.4 x.5 x.6 (ap ends_word e ∙ d) h)
+  end_holds from f fs First q bytes p k e d nc ns o x SaidAnd h = tt
+  end_holds from f fs (Fielded s) q bytes p k e d nc ns o x SaidAnd h = tt
+  end_holds from f fs (InASet s n ms) q bytes p k e d nc ns o x SaidAnd h = tt
+  end_holds from f fs Joined q bytes p k e d nc ns o x SaidOr h = either_holds from f fs q k e o (x.7 refl) (said_here q bytes p SaidOr x.3 x.4 x.5 x.6 (ap ends_word e ∙ d) h)
+  end_holds from f fs First q bytes p k e d nc ns o x SaidOr h = tt
+  end_holds from f fs (Fielded s) q bytes p k e d nc ns o x SaidOr h = tt
+  end_holds from f fs (InASet s n ms) q bytes p k e d nc ns o x SaidOr h = tt
+  end_holds from f fs role q bytes p k e d nc ns o x SaidNot h = end_not_holds from f fs role q bytes p k e o x (said_here q bytes p SaidNot x.3 x.4 x.5 x.6 (ap ends_word e ∙ d) h)
+
+  colon_holds : (from : ℕ) (f : Frame) (fs : List Frame) (role : Role) (q : ℕ) (bytes : List ℕ) (p : Bool) → kind_of (get_or text at 0) ≡ Colon
+      → Outer text fs from f.base → Facts from role q bytes p f → (s : Said) → said p bytes ≡ s
+      → Holds text at (end_field (record { role = role; from = q; bytes = bytes; plain = p; escaped = false }) at (get_or text at 0) Colon s f fs)
+  colon_holds from f fs First q bytes p e o x SaidWord h =
+      (from, o, record { start = q; colon = at; operand = subst (λ i. OperandFn text from i f) (sym x.2) x.1; named = said_here q bytes p SaidWord x.3 x.4 x.5 x.6 (ap ends_word e) h; stands = (l, e); place = refl; same = refl })
+  colon_holds from f fs Joined q bytes p e o x SaidWord h =
+      (from, o, record { start = q; colon = at; operand = subst (λ i. OperandFn text from i f) (sym x.2) x.1; named = said_here q bytes p SaidWord x.3 x.4 x.5 x.6 (ap ends_word e) h; stands = (l, e); place = refl; same = refl })
+  colon_holds from f fs (Fielded s) q bytes p e o x SaidWord h = tt
+  colon_holds from f fs (InASet s n ms) q bytes p e o x SaidWord h = tt
+  colon_holds from f fs role q bytes p e o x SaidNot h = end_not_holds from f fs role q bytes p Colon e o x (said_here q bytes p SaidNot x.3 x.4 x.5 x.6 (ap ends_word e) h)
+  colon_holds from f fs role q bytes p e o x SaidAnd h = tt
+  colon_holds from f fs role q bytes p e o x SaidOr h = tt
+
+  star_holds : (from : ℕ) (f : Frame) (fs : List Frame) (role : Role) (q : ℕ) (bytes : List ℕ) (p : Bool) → kind_of (get_or text at 0) ≡ Star
+      → Outer text fs from f.base → Facts from role q bytes p f → (s : Said) → said p bytes ≡ s
+      → Holds text at (end_prefix (record { role = role; from = q; bytes = bytes; plain = p; escaped = false }) at (get_or text at 0) Star s f fs)
+  star_holds from f fs First q bytes p e o x SaidWord h =
+      (from, o, ended_at f (leaf None (asks.Prefix (span q at))) false (x.1 _ (at + 1) false (asked_first x.2 (a_prefix (said_here q bytes p SaidWord x.3 x.4 x.5 x.6 (ap ends_word e) h) (l, e)))) no_true)
+  star_holds from f fs Joined q bytes p e o x SaidWord h =
+      (from, o, ended_at f (leaf None (asks.Prefix (span q at))) false (x.1 _ (at + 1) false (asked_first x.2 (a_prefix (said_here q bytes p SaidWord x.3 x.4 x.5 x.6 (ap ends_word e) h) (l, e)))) no_true)
+  star_holds from f fs (Fielded s) q bytes p e o x SaidWord h =
+      (from, o, ended_at f (leaf (Some s) (asks.Prefix (span q at))) false (x.1 _ (at + 1) false (asked_field s x.2 tt (a_prefix (said_here q bytes p SaidWord x.3 x.4 x.5 x.6 (ap ends_word e) h) (l, e)))) no_true)
+  star_holds from f fs (InASet s n ms) q bytes p e o x SaidWord h = tt
+  star_holds from f fs role q bytes p e o x SaidNot h = end_not_holds from f fs role q bytes p Star e o x (said_here q bytes p SaidNot x.3 x.4 x.5 x.6 (ap ends_word e) h)
+  star_holds from f fs role q bytes p e o x SaidAnd h = tt
+  star_holds from f fs role q bytes p e o x SaidOr h = tt
+
+  -- one more byte of a word
+  letter_holds : (from : ℕ) (f : Frame) (fs : List Frame) (h : Head) (x : InWordInv text from at h f) → Outer text fs from f.base → (p b : Bool) → LettersSoFar text h.from (at + 1) p b
+      → Holds text at (more_of h (get_or text at 0) p b f fs)
+  letter_holds from f fs h x o p b y = (
+    from,
+    o,
+    record {
+      start = x.start;
+      operand = x.operand;
+      lead = x.lead;
+      first = x.first;
+      bytes = ap (λ bs. bs ++ get_or text at 0 ∷ []) x.bytes ∙ sym (slice_more text h.from at (let z : h.from < at = so_far_below text h.from at h.plain h.escaped x.letters in omega arith) l);
+      letters = y;
+      joined = x.joined;
+    },
+  )
+
+  word_holds : (k : Kind) (from : ℕ) (f : Frame) (fs : List Frame) (h : Head) → kind_of (get_or text at 0) ≡ k → Outer text fs from f.base → (x : InWordInv text from at h f) → Letters text h.from at h.plain → h.from < at
+      → Holds text at (step_word h at (get_or text at 0) k f fs)
+  word_holds Plain from f fs h e o x r m = letter_holds from f fs h x o h.plain false (letter r l (rw e refl) (λ z. let y : Plain ≡ Escape = sym e ∙ z in cc), omega arith)
+  word_holds Angle from f fs h e o x r m = letter_holds from f fs h x o h.plain false (letter r l (rw e refl) (λ z. let y : Angle ≡ Escape = sym e ∙ z in cc), omega arith)
+  word_holds Minus from f fs h e o x r m = letter_holds from f fs h x o h.plain false (letter r l (rw e refl) (λ z. let y : Minus ≡ Escape = sym e ∙ z in cc), omega arith)
+  word_holds Escape from f fs h e o x r m = letter_holds from f fs h x o false true (at, h.plain, refl, r, (l, e))
+  word_holds Colon from f fs h e o x r m = colon_holds from f fs h.role h.from h.bytes h.plain e o (x.start, x.operand, x.lead, x.first, x.bytes, r, m, x.joined) (said h.plain h.bytes) refl
+  word_holds Star from f fs h e o x r m = star_holds from f fs h.role h.from h.bytes h.plain e o (x.start, x.operand, x.lead, x.first, x.bytes, r, m, x.joined) (said h.plain h.bytes) refl
+  word_holds Blank from f fs h e o x r m = end_holds from f fs h.role h.from h.bytes h.plain Blank e refl (λ z. cc) (λ z. cc) o (x.start, x.operand, x.lead, x.first, x.bytes, r, m, x.joined) (said h.plain h.bytes) refl
+  word_holds Quote from f fs h e o x r m = end_holds from f fs h.role h.from h.bytes h.plain Quote e refl (λ z. cc) (λ z. cc) o (x.start, x.operand, x.lead, x.first, x.bytes, r, m, x.joined) (said h.plain h.bytes) refl
+  word_holds Open from f fs h e o x r m = end_holds from f fs h.role h.from h.bytes h.plain Open e refl (λ z. cc) (λ z. cc) o (x.start, x.operand, x.lead, x.first, x.bytes, r, m, x.joined) (said h.plain h.bytes) refl
+  word_holds Close from f fs h e o x r m = end_holds from f fs h.role h.from h.bytes h.plain Close e refl (λ z. cc) (λ z. cc) o (x.start, x.operand, x.lead, x.first, x.bytes, r, m, x.joined) (said h.plain h.bytes) refl
+  word_holds Plus from f fs h e o x r m = end_holds from f fs h.role h.from h.bytes h.plain Plus e refl (λ z. cc) (λ z. cc) o (x.start, x.operand, x.lead, x.first, x.bytes, r, m, x.joined) (said h.plain h.bytes) refl
+  word_holds SquareOpen from f fs h e o x r m = end_holds from f fs h.role h.from h.bytes h.plain SquareOpen e refl (λ z. cc) (λ z. cc) o (x.start, x.operand, x.lead, x.first, x.bytes, r, m, x.joined) (said h.plain h.bytes) refl
+  word_holds SquareClose from f fs h e o x r m = end_holds from f fs h.role h.from h.bytes h.plain SquareClose e refl (λ z. cc) (λ z. cc) o (x.start, x.operand, x.lead, x.first, x.bytes, r, m, x.joined) (said h.plain h.bytes) refl
+  word_holds CurlyOpen from f fs h e o x r m = end_holds from f fs h.role h.from h.bytes h.plain CurlyOpen e refl (λ z. cc) (λ z. cc) o (x.start, x.operand, x.lead, x.first, x.bytes, r, m, x.joined) (said h.plain h.bytes) refl
+  word_holds CurlyClose from f fs h e o x r m = end_holds from f fs h.role h.from h.bytes h.plain CurlyClose e refl (λ z. cc) (λ z. cc) o (x.start, x.operand, x.lead, x.first, x.bytes, r, m, x.joined) (said h.plain h.bytes) refl
+  word_holds Reserved from f fs h e o x r m = end_holds from f fs h.role h.from h.bytes h.plain Reserved e refl (λ z. cc) (λ z. cc) o (x.start, x.operand, x.lead, x.first, x.bytes, r, m, x.joined) (said h.plain h.bytes) refl
+
+  in_word_holds : (b : Bool) (k : Kind) (from : ℕ) (f : Frame) (fs : List Frame) (h : Head) → h.escaped ≡ b → kind_of (get_or text at 0) ≡ k → Outer text fs from f.base → InWordInv text from at h f
+      → Holds text at (step (InWord h) at (get_or text at 0) k f fs)
+  in_word_holds true k from f fs h z e o x =
+      let y : LettersSoFar text h.from at h.plain true = subst (λ b. LettersSoFar text h.from at h.plain b) z x.letters in
+      rw z (letter_holds from f fs h x o false false (subst (λ i. Letters text h.from (i + 1) false) (sym y.2) (escaped_letter y.3 y.4 (omega (arith, y.2))), omega (arith, so_far_below text h.from at h.plain true y)))
+  in_word_holds false k from f fs h z e o x =
+      let y : LettersSoFar text h.from at h.plain false = subst (λ b. LettersSoFar text h.from at h.plain b) z x.letters in
+      rw z (word_holds k from f fs h e o x y.0 y.1)
+
+  -- a quotation mark that closes
+  quote_closes : (from : ℕ) (f : Frame) (fs : List Frame) (role : Role) (q : ℕ) → kind_of (get_or text at 0) ≡ Quote → Outer text fs from f.base → InQuoteInv text from at role q false f
+      → Holds text at (step_quote role q false at Quote f fs)
+  quote_closes from f fs First q e o x = (from, o, ended_at f (leaf None (asks.Quoted (span q at))) false (x.operand _ (at + 1) false (asked_first x.lead (closed x))) no_true)
+    where
+      closed : (x : InQuoteInv text from at First q false f) → Asks text x.mark (at + 1) (asks.Quoted (span q at))
+      closed x = subst (λ i. Asks text x.mark (at + 1) (asks.Quoted (span i at))) (sym x.behind) (a_quote x.quote (subst (λ i. Quotes text i at) x.behind x.quotes) (l, e))
+  quote_closes from f fs Joined q e o x = (from, o, ended_at f (leaf None (asks.Quoted (span q at))) false (x.operand _ (at + 1) false (asked_first x.lead (closed x))) no_true)
+    where
+      closed : (x : InQuoteInv text from at Joined q false f) → Asks text x.mark (at + 1) (asks.Quoted (span q at))
+      closed x = subst (λ i. Asks text x.mark (at + 1) (asks.Quoted (span i at))) (sym x.behind) (a_quote x.quote (subst (λ i. Quotes text i at) x.behind x.quotes) (l, e))
+  quote_closes from f fs (Fielded s) q e o x = (from, o, ended_at f (leaf (Some s) (asks.Quoted (span q at))) false (x.operand _ (at + 1) false (asked_field s x.lead tt (closed x))) no_true)
+    where
+      closed : (x : InQuoteInv text from at (Fielded s) q false f) → Asks text x.mark (at + 1) (asks.Quoted (span q at))
+      closed x = subst (λ i. Asks text x.mark (at + 1) (asks.Quoted (span i at))) (sym x.behind) (a_quote x.quote (subst (λ i. Quotes text i at) x.behind x.quotes) (l, e))
+  quote_closes from f fs (InASet s n ms) q e o x = (
+    from,
+    o,
+    record {
+      start = x.start;
+      operand = x.operand;
+      lead = record {
+        lead = x.lead.lead;
+        letter_i = x.lead.letter_i;
+        letter_n = x.lead.letter_n;
+        bracket = x.lead.bracket;
+        blanks = x.lead.blanks;
+        opens = x.lead.opens;
+        items = subst (λ i. Items text (x.lead.bracket + 1) (at + 1) (ms ++ member i at true ∷ [])) (sym x.behind) (item_quoted x.lead.items x.quote (subst (λ i. Quotes text i at) x.behind x.quotes) (l, e));
+      };
+    },
+  )
+
+  in_quote_holds : (b : Bool) (k : Kind) (from : ℕ) (f : Frame) (fs : List Frame) (role : Role) (q : ℕ) → kind_of (get_or text at 0) ≡ k → Outer text fs from f.base → InQuoteInv text from at role q b f
+      → Holds text at (step_quote role q b at k f fs)
+  in_quote_holds true Quote from f fs role q e o x = (
+    from,
+    o,
+    record {
+      start = x.start;
+      mark = x.mark;
+      operand = x.operand;
+      lead = x.lead;
+      quote = x.quote;
+      behind = x.behind;
+      quotes = subst (λ i. Quotes text q (i + 1)) (sym x.quotes.1) (escaped_byte x.quotes.2 x.quotes.3 (inl (omega (arith, x.quotes.1), ap (λ i. kind_of (get_or text i 0)) (sym x.quotes.1) ∙ e)));
+    },
+  )
+  in_quote_holds true Escape from f fs role q e o x = (
+    from,
+    o,
+    record {
+      start = x.start;
+      mark = x.mark;
+      operand = x.operand;
+      lead = x.lead;
+      quote = x.quote;
+      behind = x.behind;
+      quotes = subst (λ i. Quotes text q (i + 1)) (sym x.quotes.1) (escaped_byte x.quotes.2 x.quotes.3 (inr (omega (arith, x.quotes.1), ap (λ i. kind_of (get_or text i 0)) (sym x.quotes.1) ∙ e)));
+    },
+  )
+  in_quote_holds true k from f fs role q e o x = tt
+  in_quote_holds false Quote from f fs role q e o x = quote_closes from f fs role q e o x
+  in_quote_holds false Escape from f fs role q e o x = (from, o, record { start = x.start; mark = x.mark; operand = x.operand; lead = x.lead; quote = x.quote; behind = x.behind; quotes = (at, refl, x.quotes, (l, e)) })
+  in_quote_holds false k from f fs role q e o x = (
+    from,
+    o,
+    record {
+      start = x.start;
+      mark = x.mark;
+      operand = x.operand;
+      lead = x.lead;
+      quote = x.quote;
+      behind = x.behind;
+      quotes = quoted_byte x.quotes l (λ z. let y = sym e ∙ z in cc) (λ z. let y = sym e ∙ z in cc);
+    },
+  )
+
+  -- a range
+  low_done : (n : ℕ) (c : Bool) (b : Bound) (i j : ℕ) → Spotted text n (Low c) i → Bounds text i j b → LowDone text n c b j
+  low_done n c b i j (low_spot o x) y = record { from = i; opens = o; blanks = x; bound = y }
+
+  range_shut : (n : ℕ) (c d : Bool) (low high : Bound) (i j o : ℕ) → Spotted text n (High c low) i → Bounds text i j high → Blanks text j o → Shuts text d o → Specials text n (o + 1) (asks.Within n (Between c low high d)) true
+  range_shut n c d low high i j o (high_spot op x lo y lt t to z mt) hi u sh = a_range op x lo y lt t to z mt hi u sh
+
+  one_compared : (n : ℕ) (op : Compare) (b : Bound) (i j : ℕ) → Spotted text n (One op) i → Bounds text i j b → (b ≡ bounds.Unbounded → ⊥) → Specials text n j (asks.Within n (Compared op b)) false
+  one_compared n op b i j (one_spot c) y h = compared c y h
+
+  quoted_edge : (n : ℕ) (spot : Spot) (i q : ℕ) → Spotted text n spot i → Bounds text i (at + 1) (bounds.Quoted (span q at)) → RangeHolds text n at (edge_closed spot (bounds.Quoted (span q at)))
+  quoted_edge n (Low c) i q x y = (at + 1, low_done n c _ i (at + 1) x y, no_blank, no_true)
+  quoted_edge n (High c low) i q x y = (i, at + 1, x, y, no_blank)
+  quoted_edge n (One op) i q x y = one_compared n op _ i (at + 1) x y (λ z. cc)
+
+  close_holds_range : (n : ℕ) (c : Bool) (low high : Bound) (i j : ℕ) (k : Kind) → kind_of (get_or text at 0) ≡ k → Spotted text n (High c low) i → Bounds text i j high → Blanks text j at → RangeHolds text n at (close_range c low high k)
+  close_holds_range n c low high i j Blank e x y u = (i, j, x, y, blanks_more u (l, e))
+  close_holds_range n c low high i j SquareClose e x y u = range_shut n c true low high i j at x y u (inl (refl, (l, e)))
+  close_holds_range n c low high i j CurlyClose e x y u = range_shut n c false low high i j at x y u (inr (refl, (l, e)))
+  close_holds_range n c low high i j k e x y u = tt
+
+  low_holds : (n : ℕ) (c : Bool) (low : Bound) (spaced : Bool) (j : ℕ) (k : Kind) → kind_of (get_or text at 0) ≡ k → LowDone text n c low j → Blanks text j at → (spaced ≡ true → j < at) → RangeHolds text n at (behind_low c low spaced (get_or text at 0) k)
+  low_holds n c low spaced j Blank e x u h = (j, x, blanks_more u (l, e), λ z. omega (arith, blanks_le u))
+  low_holds n c low true j Plain e x u h = go (get_or text at 0 == 84) refl
+    where
+      go : (b : Bool) → (get_or text at 0 == 84) ≡ b → RangeHolds text n at (if b then moves.More (LetterT c low) else moves.Refused)
+      go true t = (j, at, x, u, h refl, (l, eqb-true (get_or text at 0) 84 t), refl)
+      go false t = tt
+  low_holds n c low false j Plain e x u h = tt
+  low_holds n c low spaced j k e x u h = tt
+
+  before_holds : (n : ℕ) (spot : Spot) (b : Bound) (i : ℕ) (k : Kind) → kind_of (get_or text at 0) ≡ k → Spotted text n spot i → Bounds text i at b → RangeHolds text n at (edge_before spot b (get_or text at 0) k)
+  before_holds n (Low c) b i k e x y = low_holds n c b false at k e (low_done n c b i at x y) no_blank no_true
+  before_holds n (High c low) b i k e x y = close_holds_range n c low b i at k e x y no_blank
+  before_holds n (One op) bounds.Unbounded i k e x y = tt
+  before_holds n (One op) (bounds.Quoted s) i k e x y = one_compared n op _ i at x y (λ z. cc)
+  before_holds n (One op) (bounds.Run s) i k e x y = one_compared n op _ i at x y (λ z. cc)
+
+  want_more : (n : ℕ) (spot : Spot) → kind_of (get_or text at 0) ≡ Blank → Spotted text n spot at → RangeHolds text n at (want_blank spot)
+  want_more n (Low c) e (low_spot o x) = low_spot o (blanks_more x (l, e))
+  want_more n (High c low) e (high_spot op x lo y lt t to z mt) = high_spot op x lo y lt t to (blanks_more z (l, e)) (omega arith)
+  want_more n (One op) e x = tt
+
+  want_bound_holds : (n : ℕ) (spot : Spot) (k : Kind) → kind_of (get_or text at 0) ≡ k → Spotted text n spot at → RangeHolds text n at (want_bound spot at k)
+  want_bound_holds n spot Blank e x = want_more n spot e x
+  want_bound_holds n spot Quote e x = (at, refl, (l, e), x, no_quoted)
+  want_bound_holds n spot SquareClose e x = tt
+  want_bound_holds n spot CurlyClose e x = tt
+  want_bound_holds n spot Close e x = tt
+  want_bound_holds n spot Star e x = (x, run_one l (ap ends_run e) (λ z. let y = sym e ∙ z in cc), ((l, e), refl))
+  want_bound_holds n spot k e x = (x, run_one l (ap ends_run e) (λ z. let y = sym e ∙ z in cc), λ st. absurd (let y = sym e ∙ st.1 in cc))
+
+  run_lt : {i j : ℕ} → Run text i j → i < j
+  run_lt (run_one a b d) = omega arith
+  run_lt (run_more r a b) = omega (arith, run_lt r)
+
+  running_holds : (n : ℕ) (spot : Spot) (i : ℕ) (star : Bool) (k : Kind) (b : Bool) → kind_of (get_or text at 0) ≡ k → ends_run k ≡ b → Spotted text n spot i → Run text i at → StarSoFar text i at star
+      → RangeHolds text n at (if b then edge_before spot (run_bound i at star) (get_or text at 0) k else moves.More (Running spot i false))
+  running_holds n spot i true k true e d x r s = before_holds n spot _ i k e x (subst (λ j. Bounds text i j bounds.Unbounded) (sym s.1) (a_star s.0 (λ z. subst (λ j. ends_run (kind_of (get_or text j 0)) ≡ true) s.1 (ap ends_run e ∙ d))))
+  running_holds n spot i false k true e d x r s = before_holds n spot _ i k e x (a_run r (λ z. ap ends_run e ∙ d) s)
+  running_holds n spot i star k false e d x r s = (x, run_more r l (ap ends_run e ∙ d), λ st. omega (arith, run_lt r))
+
+  quoting_holds : (n : ℕ) (spot : Spot) (q : ℕ) (b : Bool) (k : Kind) → kind_of (get_or text at 0) ≡ k → RangeInv text n (Quoting spot q b) at → RangeHolds text n at (quoting spot q b at k)
+  quoting_holds n spot q true Quote e x = (x.0, x.1, x.2, x.3, subst (λ i. Quotes text q (i + 1)) (sym x.4.1) (escaped_byte x.4.2 x.4.3 (inl (omega (arith, x.4.1), ap (λ i. kind_of (get_or text i 0)) (sym x.4.1) ∙ e))))
+  quoting_holds n spot q true Escape e x = (x.0, x.1, x.2, x.3, subst (λ i. Quotes text q (i + 1)) (sym x.4.1) (escaped_byte x.4.2 x.4.3 (inr (omega (arith, x.4.1), ap (λ i. kind_of (get_or text i 0)) (sym x.4.1) ∙ e))))
+  quoting_holds n spot q true k e x = tt
+  quoting_holds n spot q false Quote e x = quoted_edge n spot x.0 q x.3 (subst (λ i. Bounds text x.0 (at + 1) (bounds.Quoted (span i at))) (sym x.1) (a_quoted x.2 (subst (λ i. Quotes text i at) x.1 x.4) (l, e)))
+  quoting_holds n spot q false Escape e x = (x.0, x.1, x.2, x.3, (at, refl, x.4, (l, e)))
+  quoting_holds n spot q false k e x = (x.0, x.1, x.2, x.3, quoted_byte x.4 l (λ z. let y = sym e ∙ z in cc) (λ z. let y = sym e ∙ z in cc))
+
+  letter_t_holds : (n : ℕ) (c : Bool) (low : Bound) (b : Bool) → (get_or text at 0 == 79) ≡ b → RangeInv text n (LetterT c low) at → RangeHolds text n at (if b then moves.More (BehindTo c low) else moves.Refused)
+  letter_t_holds n c low true t x = (x.0, x.1, x.2, x.3, x.4, x.5, subst (λ i. ByteAt text i 79) x.6 (l, eqb-true (get_or text at 0) 79 t), ap (λ i. i + 1) x.6)
+  letter_t_holds n c low false t x = tt
+
+  behind_to_holds : (n : ℕ) (c : Bool) (low : Bound) (k : Kind) → kind_of (get_or text at 0) ≡ k → RangeInv text n (BehindTo c low) at → RangeHolds text n at (behind_to c low k)
+  behind_to_holds n c low Blank e x = high_spot x.2.opens x.2.blanks x.2.bound x.3 x.4 x.5 x.6 (subst (λ i. Blanks text i (at + 1)) x.7 (blank (l, e) no_blank)) (omega (arith, x.7))
+  behind_to_holds n c low k e x = tt
+
+  not_equal : (n : ℕ) → at ≡ n + 1 → (get_or text at 0 == 61) ≡ false → ByteAt text (n + 1) 61 → ⊥
+  not_equal n e t b = let z : (get_or text at 0 == 61) ≡ true = ap (λ i. get_or text i 0 == 61) e ∙ ap (λ c. c == 61) b.1 in let y : true ≡ false = sym z ∙ t in cc
+
+  sign_holds : (n : ℕ) (up : Bool) (k : Kind) (b : Bool) → kind_of (get_or text at 0) ≡ k → (get_or text at 0 == 61) ≡ b → RangeInv text n (Sign up) at
+      → RangeHolds text n at (if b then moves.More (Wanted (One (sign_of up true))) else want_bound (One (sign_of up false)) at k)
+  sign_holds n true k true e t x = subst (λ i. Spotted text n (One AtLeast) (i + 1)) (sym x.1) (one_spot (at_least x.0 (subst (λ i. ByteAt text i 61) x.1 (l, eqb-true (get_or text at 0) 61 t))))
+  sign_holds n false k true e t x = subst (λ i. Spotted text n (One AtMost) (i + 1)) (sym x.1) (one_spot (at_most x.0 (subst (λ i. ByteAt text i 61) x.1 (l, eqb-true (get_or text at 0) 61 t))))
+  sign_holds n true k false e t x = want_bound_holds n (One Above) k e (subst (λ i. Spotted text n (One Above) i) (sym x.1) (one_spot (above x.0 (not_equal n x.1 t))))
+  sign_holds n false k false e t x = want_bound_holds n (One Below) k e (subst (λ i. Spotted text n (One Below) i) (sym x.1) (one_spot (below x.0 (not_equal n x.1 t))))
+
+  range_holds : (n : ℕ) (m : RangeMode) (k : Kind) → kind_of (get_or text at 0) ≡ k → RangeInv text n m at → RangeHolds text n at (range_step m at (get_or text at 0) k)
+  range_holds n (Wanted spot) k e x = want_bound_holds n spot k e x
+  range_holds n (Quoting spot q b) k e x = quoting_holds n spot q b k e x
+  range_holds n (Running spot i star) k e x = running_holds n spot i star k (ends_run k) e refl x.0 x.1 x.2
+  range_holds n (BehindLow c low spaced) k e x = low_holds n c low spaced x.0 k e x.1 x.2 x.3
+  range_holds n (LetterT c low) k e x = letter_t_holds n c low (get_or text at 0 == 79) refl x
+  range_holds n (BehindTo c low) k e x = behind_to_holds n c low k e x
+  range_holds n (Closing c low high) k e x = close_holds_range n c low high x.0 x.1 k e x.2 x.3 x.4
+  range_holds n (Sign up) k e x = sign_holds n up k (get_or text at 0 == 61) e refl x
+
+  move_holds : (p : RangeStep) (k : Kind) (from : ℕ) (f : Frame) (fs : List Frame) (s : Span) (n start : ℕ) → kind_of (get_or text at 0) ≡ k → Outer text fs from f.base → OperandFn text from start f → FieldLead text s start n → RangeHolds text n at p
+      → Holds text at (move_range s n p at (get_or text at 0) k f fs)
+  move_holds (moves.More m) k from f fs s n start e o g d h = (from, o, record { start = start; operand = g; lead = d; range = h })
+  move_holds (moves.Done r) k from f fs s n start e o g d h = (from, o, ended_at f (leaf (Some s) (asks.Within n r)) true (g _ (at + 1) true (special_unary s d h)) (λ z. refl))
+  move_holds (moves.Ended r) k from f fs s n start e o g d h = (from, o, ended_at f (leaf (Some s) (asks.Within n r)) false (g _ (at + 1) false (special_unary s d h)) no_true)
+  move_holds (moves.Before r) k from f fs s n start e o g d h = after_holds false k from (with_operand f (leaf (Some s) (asks.Within n r))) fs e o (ended_at f (leaf (Some s) (asks.Within n r)) false (g _ at false (special_unary s d h)) no_true)
+  move_holds moves.Refused k from f fs s n start e o g d h = tt
+
+  -- behind a field and its colon
+  special_holds : (k : Kind) (from : ℕ) (f : Frame) (fs : List Frame) (s : Span) (start : ℕ) → kind_of (get_or text at 0) ≡ k → Outer text fs from f.base → OperandFn text from start f → FieldLead text s start at
+      → Holds text at (begin_special s at (get_or text at 0) k f fs)
+  special_holds Star from f fs s start e o g d = (from, o, ended_at f (leaf (Some s) asks.Any) false (g _ (at + 1) false (special_unary s d (any_value (l, e)))) no_true)
+  special_holds SquareOpen from f fs s start e o g d = (from, o, record { start = start; operand = g; lead = d; range = low_spot (inl (refl, (l, e))) no_blank })
+  special_holds CurlyOpen from f fs s start e o g d = (from, o, record { start = start; operand = g; lead = d; range = low_spot (inr (refl, (l, e))) no_blank })
+  special_holds Angle from f fs s start e o g d = (from, o, record { start = start; operand = g; lead = d; range = (angle_byte text at l e (get_or text at 0 == 62) refl, refl) })
+  special_holds k from f fs s start e o g d = tt
+
+  field_lead : (from : ℕ) (f : Frame) (s : Span) (x : BehindInv text from at s f) → FieldLead text s x.start at
+  field_lead from f s x = record { colon = x.colon; named = x.named; stands = x.stands; same = x.same; blanks = subst (λ i. Blanks text (x.colon + 1) i) (sym x.place) no_blank }
+
+  behind_holds : (k : Kind) (from : ℕ) (f : Frame) (fs : List Frame) (s : Span) → kind_of (get_or text at 0) ≡ k → Outer text fs from f.base → BehindInv text from at s f
+      → Holds text at (step_behind s at (get_or text at 0) k f fs)
+  behind_holds Plain from f fs s e o x = (from, o, record { start = x.start; operand = x.operand; lead = (x.colon, x.same, x.named, x.stands, x.place, λ z. let y : Plain ≡ Angle = sym e ∙ z in cc); first = rw e refl; bytes = sym (slice_one text at l); letters = (letter no_letter l (rw e refl) (λ z. let y : Plain ≡ Escape = sym e ∙ z in cc), omega arith); joined = λ h. absurd (let y : Fielded s ≡ Joined = h in cc) })
+  behind_holds Escape from f fs s e o x = (from, o, record { start = x.start; operand = x.operand; lead = (x.colon, x.same, x.named, x.stands, x.place, λ z. let y : Escape ≡ Angle = sym e ∙ z in cc); first = rw e refl; bytes = sym (slice_one text at l); letters = (at, true, refl, no_letter, (l, e)); joined = λ h. absurd (let y : Fielded s ≡ Joined = h in cc) })
+  behind_holds Quote from f fs s e o x = (from, o, record { start = x.start; mark = at; operand = x.operand; lead = (x.colon, x.same, x.named, x.stands, x.place, λ z. let y : Quote ≡ Angle = sym e ∙ z in cc); quote = (l, e); behind = refl; quotes = no_quoted })
+  behind_holds Blank from f fs s e o x = (from, o, record { start = x.start; operand = x.operand; lead = record { colon = x.colon; named = x.named; stands = x.stands; same = x.same; blanks = subst (λ i. Blanks text i (at + 1)) x.place (blank (l, e) no_blank) } })
+  behind_holds k from f fs s e o x = special_holds k from f fs s x.start e o x.operand (field_lead from f s x)
+
+  more_lead : (s : Span) (start q : ℕ) → q ≡ at → kind_of (get_or text at 0) ≡ Blank → FieldLead text s start at → FieldLead text s start (at + 1)
+  more_lead s start q h e d = record { colon = d.colon; named = d.named; stands = d.stands; same = d.same; blanks = blanks_more d.blanks (l, e) }
+
+  spaced_letter : (b : Bool) (from : ℕ) (f : Frame) (fs : List Frame) (s : Span) → (get_or text at 0 == 73) ≡ b → Outer text fs from f.base → SpacedInv text from at s f → Holds text at (if b then Go (state (LetterI s at) f fs) else Stuck)
+  spaced_letter true from f fs s t o x = (from, o, record { start = x.start; operand = x.operand; lead = x.lead; letter_i = (l, eqb-true (get_or text at 0) 73 t); place = refl })
+  spaced_letter false from f fs s t o x = tt
+
+  spaced_holds : (k : Kind) (from : ℕ) (f : Frame) (fs : List Frame) (s : Span) → kind_of (get_or text at 0) ≡ k → Outer text fs from f.base → SpacedInv text from at s f → Holds text at (step_spaced s at (get_or text at 0) k f fs)
+  spaced_holds Blank from f fs s e o x = (from, o, record { start = x.start; operand = x.operand; lead = more_lead s x.start at refl e x.lead })
+  spaced_holds Plain from f fs s e o x = spaced_letter (get_or text at 0 == 73) from f fs s refl o x
+  spaced_holds k from f fs s e o x = special_holds k from f fs s x.start e o x.operand x.lead
+
+  letter_i_holds : (b : Bool) (from : ℕ) (f : Frame) (fs : List Frame) (s : Span) (n : ℕ) → (get_or text at 0 == 78) ≡ b → Outer text fs from f.base → LetterInv text from at s n f → Holds text at (if b then Go (state (BehindIn s n) f fs) else Stuck)
+  letter_i_holds true from f fs s n t o x = (from, o, record { start = x.start; operand = x.operand; lead = x.lead; letter_i = x.letter_i; letter_n = subst (λ i. ByteAt text i 78) x.place (l, eqb-true (get_or text at 0) 78 t); blanks = subst (λ i. Blanks text (n + 1 + 1) (i + 1)) (sym x.place) no_blank })
+  letter_i_holds false from f fs s n t o x = tt
+
+  in_holds : (k : Kind) (from : ℕ) (f : Frame) (fs : List Frame) (s : Span) (n : ℕ) → kind_of (get_or text at 0) ≡ k → Outer text fs from f.base → BehindInInv text from at s n f → Holds text at (step_in s n at (get_or text at 0) k f fs)
+  in_holds Blank from f fs s n e o x = (from, o, record { start = x.start; operand = x.operand; lead = x.lead; letter_i = x.letter_i; letter_n = x.letter_n; blanks = blanks_more x.blanks (l, e) })
+  in_holds SquareOpen from f fs s n e o x = (from, o, record { start = x.start; operand = x.operand; lead = record { lead = x.lead; letter_i = x.letter_i; letter_n = x.letter_n; bracket = at; blanks = x.blanks; opens = (l, e); items = no_item } })
+  in_holds k from f fs s n e o x = tt
+
+  step_holds : (m : Mode) (from : ℕ) (f : Frame) (fs : List Frame) → Outer text fs from f.base → ModeInv text from at m f → Holds text at (step m at (get_or text at 0) (kind_of (get_or text at 0)) f fs)
+  step_holds (Want true) from f fs o x = want_holds (kind_of (get_or text at 0)) from f fs refl o x
+  step_holds (Want false) from f fs o x = tight_holds (kind_of (get_or text at 0)) from f fs refl o x
+  step_holds (After free) from f fs o x = after_holds free (kind_of (get_or text at 0)) from f fs refl o x
+  step_holds (InWord h) from f fs o x = in_word_holds h.escaped (kind_of (get_or text at 0)) from f fs h refl refl o x
+  step_holds (InQuote role q b) from f fs o x = in_quote_holds b (kind_of (get_or text at 0)) from f fs role q refl o x
+  step_holds (Behind s) from f fs o x = behind_holds (kind_of (get_or text at 0)) from f fs s refl o x
+  step_holds (Spaced s) from f fs o x = spaced_holds (kind_of (get_or text at 0)) from f fs s refl o x
+  step_holds (LetterI s n) from f fs o x = letter_i_holds (get_or text at 0 == 78) from f fs s n refl o x
+  step_holds (BehindIn s n) from f fs o x = in_holds (kind_of (get_or text at 0)) from f fs s n refl o x
+  step_holds (InSet s n ms) from f fs o x = set_byte (kind_of (get_or text at 0)) from f fs s n ms x.start refl o x.operand x.lead
+  step_holds (InRange s n m) from f fs o x = move_holds (range_step m at (get_or text at 0) (kind_of (get_or text at 0))) (kind_of (get_or text at 0)) from f fs s n x.start refl o x.operand x.lead (range_holds n m (kind_of (get_or text at 0)) refl x.range)
+
+-- the whole text has ended
+whole_query : (text : List ℕ) (at from : ℕ) (free : Bool) (f : Frame) (fs : List Frame) (t : Tree) → at ≡ length text → Outer text fs from f.base → Ended text from at free f → finished at (done_with fs (whole f)) ≡ Ok t → IsQuery 64 text t
+whole_query text at from free f (g ∷ gs) t e o x h = absurd (let y : ◌≡◌ {A = Result Tree Fault} (Err (faults.Syntax at)) (Ok t) = h in cc)
+whole_query text at from free f [] t e o x h =
+    let w = chain_whole x.chain in
+    let same : ◌≡◌ {A = Result Tree Fault} (Ok (or_tree (behind f.ors (and_tree (behind x.front x.last))))) (Ok t) = ap (λ a. finished at (whole_with f.ors a)) (sym x.some) ∙ h in
+    let is : or_tree (behind f.ors (and_tree (behind x.front x.last))) ≡ t = cc in
+    record {
+      members = behind f.ors (and_tree (behind x.front x.last));
+      from = w.0;
+      to = x.end;
+      bracket = x.bracket;
+      before = subst (λ i. Blanks text i w.0) o.0 w.1;
+      ors = subst (λ d. Ors text (behind f.ors (and_tree (behind x.front x.last))) w.0 x.end x.bracket (64 - d)) o.1 w.2;
+      after = subst (λ i. Blanks text x.end i) e x.blanks;
+      whole = is;
+    }
+
+no_read : (text : List ℕ) (t : Tree) (e : Fault) → ◌≡◌ {A = Result Tree Fault} (Err e) (Ok t) → IsQuery 64 text t
+no_read text t e h = absurd (let y : ◌≡◌ {A = Result Tree Fault} (Err e) (Ok t) = h in cc)
+
+plain_query : (text : List ℕ) (at from : ℕ) (f : Frame) (fs : List Frame) (t : Tree) (role : Role) (q start : ℕ) → at ≡ length text → Outer text fs from f.base → OperandFn text from start f → Lead text role start q → Word text q at SaidWord
+    → finish_plain role q at f fs ≡ Ok t → IsQuery 64 text t
+plain_query text at from f fs t (InASet s n ms) q start e o g d w h = no_read text t _ h
+plain_query text at from f fs t First q start e o g d w h = whole_query text at from false (with_operand f (leaf None (asks.Word (span q at)))) fs t e o
+    (ended_at f (leaf None (asks.Word (span q at))) false (g _ at false (subst (λ i. Unary text (leaf None (asks.Word (span q at))) i at false (64 - f.deep)) d (of_defaults (a_word w (λ l. absurd (omega (arith, e, l))) (λ l. absurd (omega (arith, e, l))))))) (λ z. absurd (let y : false ≡ true = z in cc))) h
+plain_query text at from f fs t Joined q start e o g d w h = whole_query text at from false (with_operand f (leaf None (asks.Word (span q at)))) fs t e o
+    (ended_at f (leaf None (asks.Word (span q at))) false (g _ at false (subst (λ i. Unary text (leaf None (asks.Word (span q at))) i at false (64 - f.deep)) d (of_defaults (a_word w (λ l. absurd (omega (arith, e, l))) (λ l. absurd (omega (arith, e, l))))))) (λ z. absurd (let y : false ≡ true = z in cc))) h
+plain_query text at from f fs t (Fielded s) q start e o g d w h =
+    let y : Asks text (d.0 + 1) at (asks.Word (span q at)) = subst (λ i. Asks text i at (asks.Word (span q at))) d.4 (a_word w (λ l. absurd (omega (arith, e, l))) (λ l. absurd (omega (arith, e, l)))) in
+    let z : kind_of (get_or text (d.0 + 1) 0) ≡ Angle → ⊥ = λ h. d.5 (ap (λ i. kind_of (get_or text i 0)) d.4 ∙ h) in
+    whole_query text at from false (with_operand f (leaf (Some s) (asks.Word (span q at)))) fs t e o
+    (ended_at f (leaf (Some s) (asks.Word (span q at))) false (g _ at false (subst (λ s. Unary text (leaf (Some s) (asks.Word (span q at))) start at false (64 - f.deep)) (sym d.1) (of_field d.2 d.3 z (λ x. absurd (omega (arith, e, x.0))) y))) (λ z. absurd (let y : false ≡ true = z in cc))) h
+
+not_query : (text : List ℕ) (t : Tree) (role : Role) (q at : ℕ) (f : Frame) → finish_not role q at f ≡ Ok t → IsQuery 64 text t
+not_query text t First q at f h = go (nat_lt f.deep limit) h
+  where
+    go : (b : Bool) → ◌≡◌ {A = Result Tree Fault} (if b then Err (faults.Syntax at) else Err (faults.TooDeep q)) (Ok t) → IsQuery 64 text t
+    go true h = no_read text t _ h
+    go false h = no_read text t _ h
+not_query text t Joined q at f h = go (nat_lt f.deep limit) h
+  where
+    go : (b : Bool) → ◌≡◌ {A = Result Tree Fault} (if b then Err (faults.Syntax at) else Err (faults.TooDeep q)) (Ok t) → IsQuery 64 text t
+    go true h = no_read text t _ h
+    go false h = no_read text t _ h
+not_query text t (Fielded s) q at f h = no_read text t _ h
+not_query text t (InASet s n ms) q at f h = no_read text t _ h
+
+word_query : (text : List ℕ) (at from : ℕ) (f : Frame) (fs : List Frame) (h : Head) (t : Tree) → at ≡ length text → Outer text fs from f.base → InWordInv text from at h f → Letters text h.from at h.plain → h.from < at
+    → (s : Said) → said h.plain h.bytes ≡ s → finish_word h.role s h.from at f fs ≡ Ok t → IsQuery 64 text t
+word_query text at from f fs h t e o x r m SaidWord i d =
+    plain_query text at from f fs t h.role h.from x.start e o x.operand x.lead (record { plain = h.plain; letters = r; begins = x.first; some = m; ends = λ l. absurd (omega (arith, e, l)); says = ap (said h.plain) (sym x.bytes) ∙ i }) d
+word_query text at from f fs h t e o x r m SaidNot i d = not_query text t h.role h.from at f d
+word_query text at from f fs h t e o x r m SaidAnd i d = no_read text t _ d
+word_query text at from f fs h t e o x r m SaidOr i d = no_read text t _ d
+
+word_finish : (b : Bool) (text : List ℕ) (at from : ℕ) (f : Frame) (fs : List Frame) (h : Head) (t : Tree) → h.escaped ≡ b → at ≡ length text → Outer text fs from f.base → InWordInv text from at h f
+    → finish (InWord h) at f fs ≡ Ok t → IsQuery 64 text t
+word_finish true text at from f fs h t z e o x d = no_read text t (faults.Syntax at) (rw z at d)
+word_finish false text at from f fs h t z e o x d =
+    let y : LettersSoFar text h.from at h.plain false = subst (λ b. LettersSoFar text h.from at h.plain b) z x.letters in
+    word_query text at from f fs h t e o x y.0 y.1 (said h.plain h.bytes) refl (rw z at d)
+
+range_finish : (text : List ℕ) (at from : ℕ) (f : Frame) (fs : List Frame) (s : Span) (n : ℕ) (m : RangeMode) (t : Tree) (r : Option Ranged) → range_end m at ≡ r → at ≡ length text → Outer text fs from f.base → InRangeInv text from at s n m f
+    → finish_range s n r at f fs ≡ Ok t → IsQuery 64 text t
+range_finish text at from f fs s n m t None g e o x d = no_read text t _ d
+range_finish text at from f fs s n (Running (One op) i false) t (Some r) g e o x d =
+    let same : r ≡ Compared op (bounds.Run (span i at)) = cc in
+    let sp : Specials text n at (asks.Within n (Compared op (bounds.Run (span i at)))) false = of_run x.range.0 (a_run x.range.1 (λ l. absurd (omega (arith, e, l))) x.range.2) in
+    let u : Unary text (leaf (Some s) (asks.Within n (Compared op (bounds.Run (span i at))))) x.start at false (64 - f.deep)
+    = subst (λ s. Unary text (leaf (Some s) (asks.Within n (Compared op (bounds.Run (span i at))))) x.start at false (64 - f.deep)) (sym x.lead.same) (of_special x.lead.named x.lead.stands x.lead.blanks sp) in
+    whole_query text at from false (with_operand f (leaf (Some s) (asks.Within n (Compared op (bounds.Run (span i at)))))) fs t e o
+    (ended_at f (leaf (Some s) (asks.Within n (Compared op (bounds.Run (span i at))))) false (x.operand _ at false u) (λ z. absurd (let y : false ≡ true = z in cc)))
+    (ap (λ r. finish_range s n (Some r) at f fs) (sym same) ∙ d)
+  where
+    of_run : Spotted text n (One op) i → Bounds text i at (bounds.Run (span i at)) → Specials text n at (asks.Within n (Compared op (bounds.Run (span i at)))) false
+    of_run (one_spot c) b = compared c b (λ z. cc)
+range_finish text at from f fs s n (Running (One op) i true) t (Some r) g e o x d = absurd (let y : ◌≡◌ {A = Option Ranged} None (Some r) = g in cc)
+range_finish text at from f fs s n (Running (Low c) i b) t (Some r) g e o x d = absurd (let y : ◌≡◌ {A = Option Ranged} None (Some r) = g in cc)
+range_finish text at from f fs s n (Running (High c low) i b) t (Some r) g e o x d = absurd (let y : ◌≡◌ {A = Option Ranged} None (Some r) = g in cc)
+range_finish text at from f fs s n m t (Some r) g e o x d = absurd (let y : ◌≡◌ {A = Option Ranged} None (Some r) = g in cc)
+
+finish_query : (text : List ℕ) (at from : ℕ) (m : Mode) (f : Frame) (fs : List Frame) (t : Tree) → at ≡ length text → Outer text fs from f.base → ModeInv text from at m f → finish m at f fs ≡ Ok t → IsQuery 64 text t
+finish_query text at from (After free) f fs t e o x d = whole_query text at from free f fs t e o x d
+finish_query text at from (InWord h) f fs t e o x d = word_finish h.escaped text at from f fs h t refl e o x d
+finish_query text at from (InRange s n m) f fs t e o x d = range_finish text at from f fs s n m t (range_end m at) refl e o x d
+finish_query text at from m f fs t e o x d = no_read text t (faults.Syntax at) d
+
+go_query : (text : List ℕ) (at : ℕ) (p : Step) (t : Tree) → Holds text at p → go_on at p (λ next. run (at + 1) next (drop (at + 1) text)) ≡ Ok t
+    → ((s : State) → Inv text (at + 1) s → run (at + 1) s (drop (at + 1) text) ≡ Ok t → IsQuery 64 text t) → IsQuery 64 text t
+go_query text at (Go s) t h e next = next s h e
+go_query text at Stuck t h e next = no_read text t _ e
+go_query text at (Deep n) t h e next = no_read text t _ e
+
+run_query : (n : ℕ) (text : List ℕ) (at : ℕ) (s : State) (t : Tree) → at + n ≡ length text → Inv text at s → run at s (drop at text) ≡ Ok t → IsQuery 64 text t
+run_query zero text at s t l x e = finish_query text at x.0 s.mode s.frame s.outer t (omega arith) x.1 x.2 (sym (ends text at s.mode s.frame s.outer (omega arith)) ∙ e)
+run_query (suc n) text at s t l x e =
+    let m : at < length text = omega arith in
+    go_query text at (step s.mode at (get_or text at 0) (kind_of (get_or text at 0)) s.frame s.outer) t
+    (step_holds text at m s.mode x.0 s.frame s.outer x.1 x.2) (sym (steps text at s.mode s.frame s.outer (kind_of (get_or text at 0)) m refl) ∙ e)
+    (λ s' y. run_query n text (at + 1) s' t (omega arith) y)
+
+-- what is read is in the grammar
+pub reads_query : (text : List ℕ) (t : Tree) → reads text ≡ Ok t → IsQuery 64 text t
+reads_query text t e = run_query (length text) text 0 start t (omega arith) (0, (refl, refl), λ i x u k b v. first x (one_operand v)) e

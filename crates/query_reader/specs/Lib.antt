@@ -1,0 +1,9 @@
+pub mod Kinds
+pub mod Asking
+pub mod Tree
+pub mod Ranges
+pub mod Machine
+pub mod Reading
+pub mod Grammar
+pub mod Texts
+pub mod Resolve

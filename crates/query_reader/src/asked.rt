@@ -1,0 +1,357 @@
+// What a clause asks of one field, and where it is refused.
+
+ghost use Rattle.std.specs.Prelude.{◌≡◌, IfOk, is_some, map};
+ghost use Rattle.query_ast.specs.Meaning.{is_text};
+ghost use Rattle.query_ast.specs.Spelled.{spelled};
+ghost use Rattle.query_ast.specs.Sought.{view};
+ghost use Rattle.query_reader.specs.Tree.{view_ask};
+ghost use Rattle.query_reader.specs.Resolve as spec;
+
+use crate::special::{Bound, Compare, Member, Ranged};
+use crate::texts::{run_of, text_of};
+use crate::tree::{Ask, Span};
+use doc_value::{Field, Kind, Text, Value};
+use query_ast::{Edge, Item, Items, Query, tokens_of, value_of};
+use std::alloc::{AllocError, Global};
+
+fn is_text_kind(kind: Kind) -> bool
+    ensures { result ≡ is_text kind }
+{
+    matches!(kind, Kind::Text | Kind::TextList)
+}
+
+/// Ranges and comparisons are of numbers and datetimes.
+fn is_ordered(kind: Kind) -> bool
+    ensures { result ≡ spec.has_order kind }
+{
+    matches!(kind, Kind::I64 | Kind::U64 | Kind::Datetime)
+}
+
+fn unless(good: bool, at: usize) -> Option<usize>
+    ensures { result ≡ spec.place_unless good at }
+{
+    if good { None } else { Some(at) }
+}
+
+fn first(one: Option<usize>, other: Option<usize>) -> Option<usize>
+    ensures { result ≡ spec.first_of one other }
+{
+    match one {
+        Some(at) => Some(at),
+        None => other,
+    }
+}
+
+fn spells(alloc: Global, kind: Kind, text: &Text) -> Result<bool, AllocError>
+    ensures { IfOk result (λ b. b ≡ is_some (spelled kind text.now)) }
+{
+    let value = value_of(alloc, kind, text.as_str())?;
+    Ok(value.is_some())
+}
+
+/// The first byte of a member: of a quoted one, its quotation mark.
+fn member_byte(member: &Member) -> usize
+    ensures { result ≡ spec.member_byte member.now }
+{
+    if member.quoted {
+        member.place.from.saturating_sub(1)
+    } else {
+        member.place.from
+    }
+}
+
+fn bad_bound(
+    alloc: Global,
+    text: &[u8],
+    kind: Kind,
+    bound: Bound,
+) -> Result<Option<usize>, AllocError>
+    ensures { IfOk result (λ o. o ≡ spec.bad_bound text.now kind bound) }
+{
+    match bound {
+        Bound::Unbounded => Ok(None),
+        Bound::Quoted(span) => {
+            let value = text_of(alloc, text, span)?;
+            Ok(unless(spells(alloc, kind, &value)?, span.from.saturating_sub(1)))
+        }
+        Bound::Run(span) => {
+            let value = run_of(alloc, text, span)?;
+            Ok(unless(spells(alloc, kind, &value)?, span.from))
+        }
+    }
+}
+
+fn bad_range(
+    alloc: Global,
+    text: &[u8],
+    kind: Kind,
+    ranged: Ranged,
+) -> Result<Option<usize>, AllocError>
+    ensures { IfOk result (λ o. o ≡ spec.bad_range text.now kind ranged) }
+{
+    match ranged {
+        Ranged::Between { low, high, .. } => {
+            let below = bad_bound(alloc, text, kind, low)?;
+            let above = bad_bound(alloc, text, kind, high)?;
+            Ok(first(below, above))
+        }
+        Ranged::Compared { bound, .. } => bad_bound(alloc, text, kind, bound),
+    }
+}
+
+fn bad_members(
+    alloc: Global,
+    text: &[u8],
+    kind: Kind,
+    members: &[Member],
+) -> Result<Option<usize>, AllocError>
+    ensures { IfOk result (λ o. o ≡ spec.bad_members text.now kind members.now) }
+{
+    for member in members {
+        let value = text_of(alloc, text, member.place)?;
+        if !spells(alloc, kind, &value)? {
+            return Ok(Some(member_byte(member)));
+        }
+    }
+    Ok(None)
+}
+
+/// Where a clause has no value of the field.
+pub fn bad_value(
+    alloc: Global,
+    text: &[u8],
+    ask: &Ask,
+    field: &Field,
+) -> Result<Option<usize>, AllocError>
+    ensures { IfOk result (λ o. o ≡ spec.bad_value text.now (view_ask ask.now) field.now) }
+{
+    match ask {
+        Ask::Any => Ok(None),
+        Ask::Word(span) => {
+            let value = text_of(alloc, text, *span)?;
+            Ok(unless(spells(alloc, field.kind, &value)?, span.from))
+        }
+        Ask::Prefix(span) => Ok(unless(is_text_kind(field.kind), span.from)),
+        Ask::Quoted(span) => {
+            let value = text_of(alloc, text, *span)?;
+            Ok(unless(
+                spells(alloc, field.kind, &value)?,
+                span.from.saturating_sub(1),
+            ))
+        }
+        Ask::Within(from, ranged) => {
+            if is_ordered(field.kind) {
+                bad_range(alloc, text, field.kind, *ranged)
+            } else {
+                Ok(Some(*from))
+            }
+        }
+        Ask::OneOf(_, members) => bad_members(alloc, text, field.kind, members.as_slice()),
+    }
+}
+
+/// Whether a text has several tokens on a text field without positions.
+fn lacks_positions(alloc: Global, field: &Field, text: &Text) -> Result<bool, AllocError>
+    ensures { IfOk result (λ b. b ≡ spec.is_unplaced field.now text.now) }
+{
+    if is_text_kind(field.kind) && !field.positions {
+        let tokens = tokens_of(alloc, field, text.as_str())?;
+        Ok(1 < tokens.len())
+    } else {
+        Ok(false)
+    }
+}
+
+fn unplaced_members(
+    alloc: Global,
+    text: &[u8],
+    field: &Field,
+    members: &[Member],
+) -> Result<Option<usize>, AllocError>
+    ensures { IfOk result (λ o. o ≡ spec.unplaced_members text.now field.now members.now) }
+{
+    for member in members {
+        if member.quoted {
+            let value = text_of(alloc, text, member.place)?;
+            if lacks_positions(alloc, field, &value)? {
+                return Ok(Some(member_byte(member)));
+            }
+        }
+    }
+    Ok(None)
+}
+
+/// Where a clause needs positions that the field lacks.
+pub fn unplaced(
+    alloc: Global,
+    text: &[u8],
+    ask: &Ask,
+    field: &Field,
+) -> Result<Option<usize>, AllocError>
+    ensures { IfOk result (λ o. o ≡ spec.unplaced text.now (view_ask ask.now) field.now) }
+{
+    match ask {
+        Ask::Quoted(span) => {
+            let value = text_of(alloc, text, *span)?;
+            Ok(unless(
+                !lacks_positions(alloc, field, &value)?,
+                span.from.saturating_sub(1),
+            ))
+        }
+        Ask::OneOf(_, members) => unplaced_members(alloc, text, field, members.as_slice()),
+        _ => Ok(None),
+    }
+}
+
+fn edge_with(closed: bool, value: Option<Value>) -> Edge
+    ensures { result ≡ spec.edge_with closed value }
+{
+    match value {
+        None => Edge::Unbounded,
+        Some(value) => {
+            if closed {
+                Edge::Included(value)
+            } else {
+                Edge::Excluded(value)
+            }
+        }
+    }
+}
+
+fn edge_of(
+    alloc: Global,
+    text: &[u8],
+    kind: Kind,
+    closed: bool,
+    bound: Bound,
+) -> Result<Edge, AllocError>
+    ensures { IfOk result (λ e. e ≡ spec.edge_of text.now kind closed bound) }
+{
+    match bound {
+        Bound::Unbounded => Ok(Edge::Unbounded),
+        Bound::Quoted(span) => {
+            let value = text_of(alloc, text, span)?;
+            Ok(edge_with(closed, value_of(alloc, kind, value.as_str())?))
+        }
+        Bound::Run(span) => {
+            let value = run_of(alloc, text, span)?;
+            Ok(edge_with(closed, value_of(alloc, kind, value.as_str())?))
+        }
+    }
+}
+
+fn range_of(
+    alloc: Global,
+    text: &[u8],
+    kind: Kind,
+    field: usize,
+    ranged: Ranged,
+) -> Result<Query, AllocError>
+    ensures { IfOk result (λ q. view q ≡ spec.range_of text.now kind field ranged) }
+{
+    match ranged {
+        Ranged::Between {
+            low_closed,
+            low,
+            high,
+            high_closed,
+        } => {
+            let low = edge_of(alloc, text, kind, low_closed, low)?;
+            let high = edge_of(alloc, text, kind, high_closed, high)?;
+            Ok(Query::Range { field, low, high })
+        }
+        Ranged::Compared { compare, bound } => compared(alloc, text, kind, field, compare, bound),
+    }
+}
+
+fn compared(
+    alloc: Global,
+    text: &[u8],
+    kind: Kind,
+    field: usize,
+    compare: Compare,
+    bound: Bound,
+) -> Result<Query, AllocError>
+    ensures { IfOk result (λ q. view q ≡ spec.range_of text.now kind field (Ranged.Compared compare bound)) }
+{
+    match compare {
+        Compare::AtLeast => {
+            let low = edge_of(alloc, text, kind, true, bound)?;
+            Ok(Query::Range {
+                field,
+                low,
+                high: Edge::Unbounded,
+            })
+        }
+        Compare::Above => {
+            let low = edge_of(alloc, text, kind, false, bound)?;
+            Ok(Query::Range {
+                field,
+                low,
+                high: Edge::Unbounded,
+            })
+        }
+        Compare::AtMost => {
+            let high = edge_of(alloc, text, kind, true, bound)?;
+            Ok(Query::Range {
+                field,
+                low: Edge::Unbounded,
+                high,
+            })
+        }
+        Compare::Below => {
+            let high = edge_of(alloc, text, kind, false, bound)?;
+            Ok(Query::Range {
+                field,
+                low: Edge::Unbounded,
+                high,
+            })
+        }
+    }
+}
+
+fn items_of(alloc: Global, text: &[u8], members: &[Member]) -> Result<Items, AllocError>
+    ensures { IfOk result (λ items. items ≡ map (spec.item_of text.now) members.now) }
+{
+    let mut items = Items::vacant(alloc);
+    for member in members {
+        let value = text_of(alloc, text, member.place)?;
+        items.push(Item {
+            text: value,
+            quoted: member.quoted,
+        })?;
+    }
+    Ok(items)
+}
+
+/// What a clause asks of a field.
+pub fn asked_of(
+    alloc: Global,
+    text: &[u8],
+    ask: &Ask,
+    number: usize,
+    field: &Field,
+) -> Result<Query, AllocError>
+    ensures { IfOk result (λ q. view q ≡ spec.asked_of text.now (view_ask ask.now) number field.now) }
+{
+    match ask {
+        Ask::Any => Ok(Query::Exists { field: number }),
+        Ask::Word(span) => Ok(Query::Word {
+            field: number,
+            text: text_of(alloc, text, *span)?,
+        }),
+        Ask::Prefix(span) => Ok(Query::Prefix {
+            field: number,
+            text: text_of(alloc, text, *span)?,
+        }),
+        Ask::Quoted(span) => Ok(Query::Quoted {
+            field: number,
+            text: text_of(alloc, text, *span)?,
+        }),
+        Ask::Within(_, ranged) => range_of(alloc, text, field.kind, number, *ranged),
+        Ask::OneOf(_, members) => Ok(Query::AnyOf {
+            field: number,
+            items: items_of(alloc, text, members.as_slice())?,
+        }),
+    }
+}

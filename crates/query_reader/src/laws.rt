@@ -1,0 +1,17 @@
+// Laws of the query language, over its definitions alone.
+
+ghost use Rattle.std.specs.Prelude.{◌≡◌, ℕ, List, Ok, Err};
+ghost use Rattle.query_reader.specs.Grammar.{IsQuery, IsLongestFront};
+ghost use Rattle.query_reader.specs.Machine.{reads};
+ghost use Rattle.query_reader.specs.Tree.{Tree};
+ghost use Rattle.query_reader.specs.declared.fault.Fault.TheVariants.{Syntax};
+
+/// What is read of a text is what the grammar says.
+pub fn reading_laws()
+    // Each text of the grammar that nests at most 64 deep is read, as the tree that the grammar gives it.
+    ensures read { (text : List ℕ) (t : Tree) → IsQuery 64 text t → reads text ≡ Ok t }
+    // No other text is read.
+    ensures only { (text : List ℕ) (t : Tree) → reads text ≡ Ok t → IsQuery 64 text t }
+    // A fault of syntax is the length of the longest prefix that some query has as its prefix too.
+    ensures syntax { (text : List ℕ) (at : ℕ) → reads text ≡ Err (Syntax at) → IsLongestFront text at }
+{}

@@ -1,0 +1,23 @@
+//! Reads query texts.
+#![tactic(auto)]
+
+mod asked;
+mod fault;
+mod kind;
+mod laws;
+mod numbers;
+mod reader;
+mod refusal;
+mod resolve;
+mod scan;
+mod special;
+mod texts;
+mod tree;
+
+pub use fault::{Fault, ReadError};
+pub use laws::reading_laws;
+pub use numbers::FieldNumbers;
+pub use refusal::QueryError;
+pub use resolve::read_query;
+pub use special::{Bound, Compare, Member, Ranged};
+pub use tree::{Ask, Clause, Raw, Span};
