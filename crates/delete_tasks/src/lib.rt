@@ -2,5 +2,7 @@
 #![tactic(auto)]
 
 pub mod tasks;
+#[cfg(test)]
+mod tests;
 
 pub use tasks::{Task, TaskError, Tasks};

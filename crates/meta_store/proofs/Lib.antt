@@ -10,3 +10,7 @@ pub mod Answering
 pub mod Fitting
 pub mod Tallied
 pub mod Counted
+pub mod Worked
+pub mod Answered
+pub mod Formed
+pub mod ByWords

@@ -48,7 +48,7 @@ pub record IsSound (h : History) : Type 0 where
   -- the listed checkpoints are the ledger's
   pub agree : (p : Partition) → checkpoint_at (checkpoints_of h) p ≡ (ledger h).checkpoints p
 
-AllOf-ranges : (f g : Partition → ℕ) (delta : List Part) → ((p : Partition) → f p ≡ g p) → AllOf (λ part. part.from ≡ f part.partition) delta → AllOf (λ part. part.from ≡ g part.partition) delta
+pub AllOf-ranges : (f g : Partition → ℕ) (delta : List Part) → ((p : Partition) → f p ≡ g p) → AllOf (λ part. part.from ≡ f part.partition) delta → AllOf (λ part. part.from ≡ g part.partition) delta
 AllOf-ranges f g [] e h = tt
 AllOf-ranges f g (part ∷ parts) e h = (h.0 ∙ e part.partition, AllOf-ranges f g parts e h.1)
 

@@ -87,8 +87,16 @@ deltas_stay last number delta so_far (n ∷ numbers) h lt =
 
 tallied_start : IsTallied Start
 tallied_start = record {
-  spans = refl; retired = IsPermutation-refl []; last = refl; numbered = tt; staged_low = tt; staged_apart = tt; published_low = tt; published_apart = tt;
-  waiting = record { apart = tt; below = tt; each = tt }; taken = IsPermutation-refl [];
+  spans = refl;
+  retired = IsPermutation-refl [];
+  last = refl;
+  numbered = tt;
+  staged_low = tt;
+  staged_apart = tt;
+  published_low = tt;
+  published_apart = tt;
+  waiting = record { apart = tt; below = tt; each = tt };
+  taken = IsPermutation-refl [];
 }
 
 tallied_fence : (h : History) (m : ℕ) → IsTallied h → IsTallied (h ▸ at m Fence)

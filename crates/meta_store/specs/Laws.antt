@@ -83,8 +83,7 @@ pub record IsNumbered (h : History) : Type 0 where
 -- the numbers of rows rise, so each number stands in one row at most
 abbrev pub RowsRise : List Row → Type 0
 RowsRise [] = ⊤
-RowsRise (row ∷ []) = ⊤
-RowsRise (row ∷ next ∷ rows) = (row.number < next.number) × RowsRise (next ∷ rows)
+RowsRise (row ∷ rows) = AllByRecursion (λ behind. row.number < behind.number) rows × RowsRise rows
 
 -- rows and spans have their form
 pub record IsFormed (h : History) : Type 0 where

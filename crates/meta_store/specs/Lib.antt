@@ -5,4 +5,5 @@ pub mod State
 pub mod Room
 pub mod Answers
 pub mod Laws
+pub mod Words
 pub mod Contents

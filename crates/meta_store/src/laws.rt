@@ -1,6 +1,6 @@
 //! What holds of every legal history. Each law is the contract of a function that does nothing.
 
-ghost use Rattle.std.specs.Prelude.{ℕ, List, take, IsPermutation, ◌≡◌, ◌++◌, ◌∷◌, []};
+ghost use Rattle.std.specs.Prelude.{ℕ, List, None, IsOk, ◌↔◌, take, IsPermutation, ◌≡◌, ◌++◌, ◌∷◌, []};
 ghost use Rattle.std.specs.List.{AllByRecursion};
 ghost use Rattle.meta_journal.specs.declared.entry.Entry.{Entry};
 ghost use Rattle.delete_tasks.specs.declared.tasks.Task.{Task};
@@ -8,8 +8,13 @@ ghost use Rattle.delete_tasks.specs.Ledger.{MayAdd};
 ghost use Rattle.meta_store.specs.History.{history};
 ghost use Rattle.meta_store.specs.Ledgers.{ledger};
 ghost use Rattle.meta_store.specs.Rows.{rows};
-ghost use Rattle.meta_store.specs.State.{Reads, Legal};
-ghost use Rattle.meta_store.specs.Laws.{Once, IsCounted, IsNumbered};
+ghost use Rattle.meta_store.specs.State.{Reads, State, Legal, MayFollow, Follows, state_of, config_of};
+ghost use Rattle.meta_store.specs.Answers.{answer_to, HasNumbers};
+ghost use Rattle.meta_store.specs.Words.{IsFirst, FollowsLedger};
+ghost use Rattle.meta_store.specs.declared.config.Reading.{Reading};
+ghost use Rattle.meta_store.specs.declared.config.Settings.{Settings};
+ghost use Rattle.meta_journal.specs.declared.entry.Act.{Act};
+ghost use Rattle.meta_store.specs.Laws.{Once, IsCounted, IsNumbered, IsFormed};
 ghost use Rattle.meta_store.specs.Contents.{Meaning, Placed, visible, contents, published_contents};
 
 /// Every legal history keeps each record once, at each of its revisions.
@@ -38,11 +43,35 @@ pub fn contents_stay()
 /// checkpoints and the retired ranges.
 pub fn counted()
     ensures { (reads : Reads) (entries : List Entry) → Legal reads (history entries) → IsCounted reads entries }
-{
-}
+{}
 
 /// A number is staged once, an opstamp given once, and no two Publishes take in one record.
 pub fn numbered()
     ensures { (reads : Reads) (entries : List Entry) → Legal reads (history entries) → IsNumbered (history entries) }
-{
-}
+{}
+
+/// Rows rise by number; each span of a row and of the ledger goes forward, was taken in no later than it was
+/// applied, and was applied up to the last task at most.
+pub fn formed()
+    ensures { (reads : Reads) (entries : List Entry) → Legal reads (history entries) → IsFormed (history entries) }
+{}
+
+/// The answer to an entry is Ok exactly where the entry may come next. The numbers of a Retire are some and rise,
+/// as the journal can spell them.
+pub fn answered()
+    ensures { (reading : Reading) (state : State) (entry : Entry) → HasNumbers entry.act → (IsOk (answer_to reading state entry) ↔ MayFollow reading state entry) }
+{}
+
+/// Behind a legal history the conditions over its state are those over its ledger and its rows.
+pub fn in_words()
+    ensures { (reads : Reads) (entries : List Entry) → Legal reads (history entries) →
+        (reading : Reading) (settings : Settings) (moment : ℕ) (act : Act) →
+        let h = history entries in
+        (Follows reading settings (state_of reads h) moment act ↔ FollowsLedger reading settings h moment act) }
+{}
+
+/// A legal history has no configuration exactly where it has no entry, so a Create is the first.
+pub fn first_only()
+    ensures { (reads : Reads) (entries : List Entry) → Legal reads (history entries) →
+        ((config_of reads (history entries) ≡ None) ↔ IsFirst (history entries)) }
+{}
