@@ -8,7 +8,8 @@ use Rattle.index_world.specs.declared.placed.Placed.{Placed}
 use Rattle.meta_journal.specs.declared.entry.Act.{Act}
 use Rattle.meta_journal.specs.declared.entry.Act.TheVariants.{Fence, Create, Stage, Publish, Replace, Raise, Task, MarkStaged, Remove, Retire}
 use Rattle.meta_journal.specs.declared.entry.Entry.{Entry}
-use Rattle.meta_store.specs.History.{History, history, reach, staged_numbers, published_numbers}
+use Rattle.meta_store.specs.History.{history, delta_of, staged_numbers, published_numbers}
+use Rattle.delete_tasks.specs.declared.tasks.Task.{Task as KeptTask}
 use Rattle.meta_store.specs.Ledgers.{ledger}
 use Rattle.meta_store.specs.Rows.{rows}
 use Rattle.meta_store.specs.State.{Legal, MayFollow, state_of, config_of, reading_of}
@@ -59,15 +60,15 @@ abbrev pub ranges_of : Row → List Part
 ranges_of row = map range_of row.spans
 
 -- the file and the facts of a row are those of its contents, within a split's limits
-pub record IsRowSound (kept : State) (h : History) (log : Log) (row : Row) : Type 0 where
-  pub file : get kept.objects (split_key row.number) ≡ Some (split_file (contents h row log))
-  pub facts : row.facts ≡ facts_of (contents h row log) (record_count (ranges_of row) - length (contents h row log))
-  pub documents : length (contents h row log) ≤ max_documents
-  pub weight : weight (contents h row log) ≤ max_weight
+pub record IsRowSound (kept : State) (tasks : List KeptTask) (log : Log) (row : Row) : Type 0 where
+  pub file : get kept.objects (split_key row.number) ≡ Some (split_file (contents tasks row log))
+  pub facts : row.facts ≡ facts_of (contents tasks row log) (record_count (ranges_of row) - length (contents tasks row log))
+  pub documents : length (contents tasks row log) ≤ max_documents
+  pub weight : weight (contents tasks row log) ≤ max_weight
 
 -- where the row is published, it is sound
-abbrev pub IsRowKept : State → History → Log → Row → Type 0
-IsRowKept kept h log row = row.state ≡ Published → IsRowSound kept h log row
+abbrev pub IsRowKept : State → List KeptTask → Log → Row → Type 0
+IsRowKept kept tasks log row = row.state ≡ Published → IsRowSound kept tasks log row
 
 -- ---- what the entries say of numbers
 
@@ -112,7 +113,7 @@ pub record Stands (kept : State) (entries : List Entry) (log : Log) : Type 0 whe
   pub no_other : (key : List ℕ) → is_meta key ≡ true → IsSome (get kept.objects key) →
       (number : ℕ) × (number < length entries) × (key ≡ meta_key number)
   pub checkpoints : (name : List ℕ) → (ledger (history entries)).checkpoints name ≤ length (records_of log name)
-  pub rows : AllByRecursion (IsRowKept kept (history entries) log) (rows (history entries))
+  pub rows : AllByRecursion (IsRowKept kept (ledger (history entries)).tasks log) (rows (history entries))
   pub split_keys : (key : List ℕ) → is_split key ≡ true → IsSome (get kept.objects key) → IsStagedKey entries key
   pub late_keys : AllByRecursion (IsLateKey entries) kept.late
 
@@ -125,12 +126,12 @@ IsNotLate kept key = AllByRecursion (λ late. late.0 ≡ key → ⊥) kept.late
 -- What a Publish of this number needs beside being legal: its parts lie within the log, its file stands for their
 -- accepted records, the facts agree with both and keep a split's limits, and no create of its file is late.
 pub record MayPublish (kept : State) (entries : List Entry) (log : Log) (number : ℕ) : Type 0 where
-  pub ends : AllByRecursion (λ part. part.to ≤ length (records_of log part.partition)) (reach (history entries) number)
-  pub file : get kept.objects (split_key number) ≡ Some (split_file (accepted_in log (reach (history entries) number)))
+  pub ends : AllByRecursion (λ part. part.to ≤ length (records_of log part.partition)) (delta_of (history entries) number)
+  pub file : get kept.objects (split_key number) ≡ Some (split_file (accepted_in log (delta_of (history entries) number)))
   pub facts : (row : Row) → row_at (rows (history entries)) number ≡ Some row →
-      row.facts ≡ facts_of (accepted_in log (reach (history entries) number)) (record_count (reach (history entries) number) - length (accepted_in log (reach (history entries) number)))
-  pub documents : length (accepted_in log (reach (history entries) number)) ≤ max_documents
-  pub weight : weight (accepted_in log (reach (history entries) number)) ≤ max_weight
+      row.facts ≡ facts_of (accepted_in log (delta_of (history entries) number)) (record_count (delta_of (history entries) number) - length (accepted_in log (delta_of (history entries) number)))
+  pub documents : length (accepted_in log (delta_of (history entries) number)) ≤ max_documents
+  pub weight : weight (accepted_in log (delta_of (history entries) number)) ≤ max_weight
   pub not_late : IsNotLate kept (split_key number)
 
 -- nothing is asked of a file but by a Publish
@@ -199,7 +200,7 @@ pub record IsUploaded (kept : State) (entries : List Entry) (number : ℕ) (byte
 -- what a number in hand was staged with
 pub record HasStaged (entries : List Entry) (number : ℕ) (delta : List Part) (facts : RowFacts) : Type 0 where
   pub staged : has_staged entries number ≡ true
-  pub noted : reach (history entries) number ≡ delta
+  pub noted : delta_of (history entries) number ≡ delta
   pub kept : (row : Row) → row_at (rows (history entries)) number ≡ Some row → row.facts ≡ facts
 
 -- what a step knows of the file that it built from the log
@@ -227,3 +228,7 @@ IsBelowOrAgain kept entries log object = is_meta object.0 ≡ true →
 pub record IsWholeIndexOf (kept : State) (entries : List Entry) (log : Log) : Type 0 where
   pub stands : Stands kept entries log
   pub late_entries : AllByRecursion (IsBelowOrAgain kept entries log) kept.late
+
+-- bytes are read as one entry
+abbrev pub OneEntry : Type 0
+OneEntry = (bytes : List ℕ) (a b : Entry) → CanSpell a → CanSpell b → Spells bytes a → Spells bytes b → a ≡ b

@@ -10,3 +10,4 @@ pub mod Calls
 pub mod Standing
 pub mod World
 pub mod Gate
+pub mod Held

@@ -8,7 +8,7 @@ use Rattle.split_states.specs.declared.rows.Row.{Row}
 use Rattle.delete_tasks.specs.declared.tasks.Task.{Task}
 use Rattle.delete_tasks.specs.Ledger.{Ledger}
 use Rattle.delete_tasks.specs.Removed.{Place, lies_in}
-use Rattle.meta_store.specs.History.{History, history}
+use Rattle.meta_store.specs.History.{history}
 use Rattle.meta_store.specs.Ledgers.{ledger}
 use Rattle.meta_store.specs.Contents.{Meaning}
 use Rattle.meta_store.specs.Contents as by
@@ -54,9 +54,9 @@ record_count (part ∷ parts) = part.to - part.from + record_count parts
 
 -- ---- what a history shows of them
 
--- the accepted records of a row's spans, without those that a task removed
-abbrev pub contents : History → Row → Log → List Placed
-contents h row log = by.contents meaning (ledger h).tasks (accepted_records log) row
+-- the accepted records of a row's spans, without those that one of these tasks removed
+abbrev pub contents : List Task → Row → Log → List Placed
+contents tasks row log = by.contents meaning tasks (accepted_records log) row
 
 -- the accepted records below the checkpoints, by partition and then offset, without the removed ones
 abbrev pub visible : Ledger → Log → List Placed

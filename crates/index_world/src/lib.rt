@@ -3,6 +3,7 @@
 
 mod accepting;
 mod keys;
+pub mod laws;
 mod placed;
 mod split_reading;
 mod split_writing;

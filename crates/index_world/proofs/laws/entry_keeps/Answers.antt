@@ -1,0 +1,5 @@
+use Rattle.index_world.proofs.Indexing.{index-enters}
+use Rattle.index_world.proofs.laws.entry_keeps.Goals as goal
+
+pub returns : goal.returns
+returns c = index-enters

@@ -1,0 +1,54 @@
+//! What holds of every store that is a sound index. Each law is the contract of a function that does nothing.
+
+ghost use Rattle.std.specs.Prelude.{ℕ, List, length, Result, ◌≡◌, []};
+ghost use Rattle.std.specs.FinMap.{empty};
+ghost use Rattle.meta_journal.specs.declared.entry.Entry.{Entry};
+ghost use Rattle.meta_journal.specs.Places.{meta_key, split_key, IsJournal};
+ghost use Rattle.meta_journal.specs.Spelling.{Spells};
+ghost use Rattle.object_store.specs.Store.{State, landed, with_object, with_late, HasLanded, LandsThen, Creates};
+ghost use Rattle.object_store.specs.declared.store.CreateError.{CreateError};
+ghost use Rattle.source_log.specs.Log.{Log};
+ghost use Rattle.index_world.specs.Index.{IsIndexOf, MayEnter, IsUnused, OneEntry};
+ghost use Rattle.index_world.specs.Held.{Still, Enters, AfterLanding, AfterCreate, AfterUpload, Loads};
+
+/// Late creates that come to stand leave an index, of the same entries or with one that was late.
+pub fn landings_keep()
+    ensures { (old : State) (places : List ℕ) (entries : List Entry) (log : Log) → IsIndexOf old entries log → AfterLanding old (landed places old) entries log }
+{}
+
+/// An entry that may enter leaves an index when it comes to stand behind the journal.
+pub fn entry_keeps()
+    ensures { (old : State) (entries : List Entry) (log : Log) (entry : Entry) (bytes : List ℕ) → IsIndexOf old entries log →
+        Spells bytes entry → MayEnter old entries log entry → Enters old (with_object old (meta_key (length entries)) bytes) entries log entry }
+{}
+
+/// Its create that failed and is late leaves an index.
+pub fn late_entry_keeps()
+    ensures { (old : State) (entries : List Entry) (log : Log) (entry : Entry) (bytes : List ℕ) → IsIndexOf old entries log →
+        Spells bytes entry → MayEnter old entries log entry → Still old (with_late old (meta_key (length entries)) bytes) entries log }
+{}
+
+/// A create behind the journal leaves an index with each of its answers, whatever lands as it begins.
+pub fn create_keeps()
+    ensures { (old new : State) (entries : List Entry) (log : Log) (entry : Entry) (bytes : List ℕ) (answer : Result (Unit {0}) CreateError) →
+        IsIndexOf old entries log → Spells bytes entry → MayEnter old entries log entry →
+        LandsThen (Creates (meta_key (length entries)) bytes answer) old new → AfterCreate answer old new entries log entry }
+{}
+
+/// An upload under a number in hand leaves an index with each of its answers. It never meets a file there.
+pub fn upload_keeps()
+    ensures { (old new : State) (entries : List Entry) (log : Log) (number : ℕ) (bytes : List ℕ) (answer : Result (Unit {0}) CreateError) →
+        IsIndexOf old entries log → IsUnused old entries number →
+        LandsThen (Creates (split_key number) bytes answer) old new → AfterUpload answer old new entries log number bytes }
+{}
+
+/// What a load reads is the journal of which the store is an index.
+pub fn load_keeps()
+    ensures { (old mid new : State) (entries read : List Entry) (log : Log) → OneEntry → IsIndexOf old entries log →
+        HasLanded old mid → HasLanded mid new → IsJournal mid read → Loads mid new log read }
+{}
+
+/// A store without objects is an index of no entry, over each log.
+pub fn empty_store_is_an_index()
+    ensures { (log : Log) → IsIndexOf (record { objects = empty; late = [] }) [] log }
+{}
