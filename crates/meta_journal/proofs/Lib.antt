@@ -4,3 +4,5 @@ pub mod Exact
 pub mod FieldLaws
 pub mod EntryLaws
 pub mod Spelled
+pub mod Digits
+pub mod Calls

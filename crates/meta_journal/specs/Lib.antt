@@ -1,3 +1,4 @@
 pub mod Spelling
 pub mod Places
 pub mod Reading
+pub mod Journal

@@ -1,0 +1,147 @@
+//! The numbers of a journal, one entry at a time.
+
+ghost use Rattle.std.specs.Prelude.{◌≡◌, ◌≢◌, ◌≤◌, ◌<◌, ◌+◌, ◌^◌, ◌↔◌, true, false, IsErrOf, IfErr, IfOk, Ok, None};
+ghost use Rattle.object_store.specs.Store.{WhereTold};
+ghost use Rattle.meta_journal.specs.Spelling.{CanSpell};
+ghost use Rattle.meta_journal.specs.Journal.{max_entries, FaultIs, IsOfRead, Appends, Settles, IsTaken, place_appended, place_settled, next_appended};
+ghost use Rattle.meta_journal.specs.declared.place.Place.TheVariants.{Sure, Given};
+ghost use Rattle.meta_journal.specs.declared.journal_error.JournalError.TheVariants.{Full};
+
+use crate::place::{place_appended, place_read};
+use crate::trying::{append_at, settle_at};
+use crate::{Entry, JournalError, Place};
+use object_store::ObjectStore;
+use std::alloc::Global;
+use std::marker::Model;
+
+const MAX_ENTRIES: u64 = 10_000_000;
+
+/// How many entries were taken in, and what is known of the number behind them.
+#[derive(Drop)]
+pub struct Journal {
+    next: u64,
+    place: Place,
+    settled: bool,
+}
+
+impl Model for Journal {
+    ghost use Rattle.std.specs.Prelude.{◌≢◌, ◌<◌};
+    ghost use Rattle.meta_journal.specs.Journal.{Numbered, max_entries};
+    ghost use Rattle.meta_journal.specs.declared.place.Place.TheVariants.{Sure};
+
+    ghost Value = { Numbered };
+
+    ghost view = { λ j. record { next = j.next; place = j.place; settled = j.settled } };
+
+    ghost invariant = { λ j. j.place ≢ Sure → j.next < max_entries };
+}
+
+impl Journal {
+    /// How many entries were taken in, which is the next number.
+    pub fn next(&self) -> u64
+        ensures { result ≡ self.now.next }
+    {
+        self.next
+    }
+
+    /// What is known of the next number.
+    pub fn place(&self) -> Place
+        ensures value { result ≡ self.now.place }
+        // Only a number below the limit is in doubt.
+        ensures limit { self.now.place ≢ Place.Sure → self.now.next < max_entries }
+    {
+        self.place
+    }
+
+    /// Adds an entry at the next number.
+    pub fn append<S: ObjectStore>(
+        &mut self,
+        alloc: Global,
+        store: &mut S,
+        entry: &Entry,
+    ) -> Result<u64, JournalError>
+        requires sure { self.old.place ≡ Place.Sure }
+        requires can { CanSpell entry.now }
+
+        // What was tried and what landed, and what stands at the number, by the answer.
+        ensures answer { WhereTold (S.told store.old) (S.told store.new) (Appends self.old.next entry.now result) }
+
+        // A fault has both counts, and comes only where the count rose.
+        ensures faults { IfErr result (FaultIs (S.fault_count store.old) (S.fault_count store.new)) }
+        ensures later { S.fault_count store.old ≤ S.fault_count store.new }
+
+        // It is full exactly at the limit.
+        ensures full { IsErrOf result JournalError.Full ↔ (max_entries ≤ self.old.next) }
+
+        // A place that is taken is adopted, and is foreign behind a place that was settled.
+        ensures taken { IfErr result (IsTaken self.old.settled) }
+
+        ensures number { IfOk result (λ n. n ≡ self.old.next) }
+        ensures next { self.new.next ≡ next_appended self.old.next result }
+        ensures place { self.new.place ≡ place_appended result }
+        ensures settled { self.new.settled ≡ self.old.settled }
+    {
+        if self.next >= MAX_ENTRIES {
+            return Err(JournalError::Full);
+        }
+        let before = store.faults();
+        let number = self.next;
+        let answer = append_at(alloc, store, number, entry, self.settled, before);
+        self.place = place_appended(&answer);
+        if answer.is_ok() {
+            self.next += 1;
+        }
+        answer
+    }
+
+    /// Closes an unsure number: it gives the entry that stands there, a fence of this moment where none did. `None`
+    /// where nothing is unsure. It begins what counts as settled anew.
+    pub fn settle<S: ObjectStore>(
+        &mut self,
+        alloc: Global,
+        store: &mut S,
+        moment: u64,
+    ) -> Result<Option<Entry>, JournalError>
+        requires { moment < 2 ^ 62 }
+
+        // What was tried and what landed, and what stands at the number, by the answer.
+        ensures answer { WhereTold (S.told store.old) (S.told store.new) (Settles self.old.next moment result) }
+
+        // Where nothing is unsure the store is not called.
+        ensures sure { self.old.place ≡ Place.Sure → (result ≡ Ok None) × (S.told store.new ≡ S.told store.old) × (S.fault_count store.new ≡ S.fault_count store.old) }
+        ensures asked { result ≡ Ok None → self.old.place ≡ Place.Sure }
+
+        // A fault has both counts, and comes only where the count rose.
+        ensures faults { IfErr result (FaultIs (S.fault_count store.old) (S.fault_count store.new)) }
+        ensures later { S.fault_count store.old ≤ S.fault_count store.new }
+        ensures refusals { IfErr result IsOfRead }
+
+        ensures next { self.new.next ≡ self.old.next }
+        ensures place { self.new.place ≡ place_settled self.old.place result }
+        ensures settled { self.new.settled ≡ false }
+    {
+        self.settled = false;
+        if self.place == Place::Sure {
+            return Ok(None);
+        }
+        let before = store.faults();
+        let answer = settle_at(alloc, store, self.next, moment, before);
+        self.place = place_read(self.place, &answer);
+        match answer {
+            Ok(entry) => Ok(Some(entry)),
+            Err(refused) => Err(refused),
+        }
+    }
+
+    /// Moves past the entry that was given; the caller has applied it. It takes no memory.
+    pub fn step_over(&mut self)
+        requires { self.old.place ≡ Place.Given }
+        ensures next { self.new.next ≡ self.old.next + 1 }
+        ensures place { self.new.place ≡ Place.Sure }
+        ensures settled { self.new.settled ≡ true }
+    {
+        self.next += 1;
+        self.place = Place::Sure;
+        self.settled = true;
+    }
+}
