@@ -7,3 +7,4 @@ pub mod Places
 pub mod Ranges
 pub mod Lending
 pub mod Builds
+pub mod Rises

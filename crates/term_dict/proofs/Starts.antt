@@ -1,5 +1,5 @@
 -- The blocks of a dictionary and where they start.
-use Rattle.std.proofs.Common.{◌≡◌, ℕ, zero, suc, ◌*◌, ◌<◌, ◌≤◌, true, false, List, [], ◌∷◌, ◌++◌, length, take, drop, Some, refl, sym, ◌∙◌, ap, subst, arith, inl, inr, append_assoc, length-append}
+use Rattle.std.proofs.Common.{◌≡◌, ℕ, zero, suc, ◌*◌, ◌<◌, ◌≤◌, true, false, List, [], ◌∷◌, ◌++◌, length, take, drop, Some, refl, sym, ◌∙◌, ap, subst, arith, inl, inr, append_assoc, length-append, length-drop, length-take}
 use Rattle.std.specs.Prelude.{slice_get}
 use Rattle.std.specs.List.{AllByRecursion}
 use Rattle.std.proofs.lemmas.Bool.{cases_lt}
@@ -11,7 +11,7 @@ use Rattle.term_dict.specs.Terms.{AreTerms, Fits, IsDict, area, term_bytes}
 use Rattle.term_dict.specs.Blocks.{IsAround}
 use Rattle.term_dict.specs.declared.term.Term.{Term}
 use Rattle.term_dict.specs.declared.index.BlockStart.{BlockStart}
-use Rattle.term_dict.proofs.Areas.{area_nil}
+use Rattle.term_dict.proofs.Areas.{area_nil, term_some}
 use Rattle.term_dict.proofs.Runs.{AreBelow, AreAbove, take_below, drop_above, take_rising, drop_rising}
 
 pub get_some : {X : Type 0} (xs : List X) (i : ℕ) → i < length xs → (x : X) × (slice_get xs i ≡ Some x)
@@ -80,14 +80,7 @@ drop_bytes_of n ts =
     ap (λ (l : List ℕ). drop (length (area (take n ts))) l) (ap (λ (l : List Term). area l) (sym (take-append-drop n ts)) ∙ area-append (take n ts) (drop n ts))
     ∙ drop_at (area (take n ts)) (area (drop n ts)) (length (area (take n ts))) refl
 
--- the place of fewer terms is no later one
-pub starts_rise : (m n : ℕ) (ts : List Term) → m ≤ n → length (area (take m ts)) ≤ length (area (take n ts))
-starts_rise m n ts le =
-    let parts : area (take n ts) ≡ area (take m ts) ++ area (drop m (take n ts)) =
-    ap (λ (l : List Term). area l) (sym (take-append-drop m (take n ts))) ∙ area-append (take m (take n ts)) (drop m (take n ts))
-    ∙ ap (λ (l : List Term). area l ++ area (drop m (take n ts))) (take-take m n ts le) in
-    omega (arith, ap (λ (l : List ℕ). length l) parts, length-append (area (take m ts)) (area (drop m (take n ts))))
-
+-- each place is within the area
 pub starts_within : (m : ℕ) (ts : List Term) → length (area (take m ts)) ≤ length (area ts)
 starts_within m ts =
     let parts : area ts ≡ area (take m ts) ++ area (drop m ts) = ap (λ (l : List Term). area l) (sym (take-append-drop m ts)) ∙ area-append (take m ts) (drop m ts) in
@@ -139,3 +132,17 @@ above_block bytes index terms key n d behind =
           drop_above key terms (64 * n) at.0 d.are_terms.rising at.1 above
       | inr le ↦ above_nil key (drop (64 * n) terms) (drop_all (64 * n) terms (omega (arith, d.index_is.count)))
     ]
+
+-- terms take bytes
+area_some : (ts : List Term) → 0 < length ts → 0 < length (area ts)
+area_some [] lt = lt
+area_some (t ∷ ts) lt = omega (arith, term_some t, length-append (term_bytes t) (area ts))
+
+-- a block has bytes
+pub blocks_rise : (m n : ℕ) (ts : List Term) → m < n → m < length ts → length (area (take m ts)) < length (area (take n ts))
+blocks_rise m n ts lt within =
+    let parts : area (take n ts) ≡ area (take m ts) ++ area (drop m (take n ts)) =
+    ap (λ (l : List Term). area l) (sym (take-append-drop m (take n ts))) ∙ area-append (take m (take n ts)) (drop m (take n ts))
+    ∙ ap (λ (l : List Term). area l ++ area (drop m (take n ts))) (take-take m n ts (omega arith)) in
+    let some : 0 < length (drop m (take n ts)) = omega (arith, length-drop m (take n ts), length-take n ts) in
+    omega (arith, ap (λ (l : List ℕ). length l) parts, length-append (area (take m ts)) (area (drop m (take n ts))), area_some (drop m (take n ts)) some)

@@ -1,4 +1,5 @@
 pub mod Keys
+pub mod Firsts
 pub mod Terms
 pub mod Blocks
 pub mod Readers

@@ -89,7 +89,7 @@ impl<'a> Dict<'a> {
         }
         let start = self.start_of(count - 1);
         let end = self.start_of(count);
-        if start > end || end > self.area.len() {
+        if start >= end || end > self.area.len() {
             return Err(Corrupt {
                 at: start.min(self.area.len()),
             });

@@ -1,5 +1,7 @@
 ghost use Rattle.std.specs.Prelude.{◌≡◌, ◌<◌, ◌++◌, [], ◌∷◌, length, OnOk, OnErr, Some, slice_get, IsTrue, ◌↔◌};
+ghost use Rattle.term_dict.specs.Firsts.{before_first};
 
+use crate::index::is_below;
 use byte_fields::Bytes;
 use std::alloc::{AllocError, Global};
 use std::marker::Model;
@@ -40,6 +42,8 @@ impl Model for TermList {
 }
 
 impl TermList {
+    ghost use Rattle.term_dict.specs.Terms.{IsRising};
+
     /// No terms.
     pub fn vacant(alloc: Global) -> TermList
         ensures { result ≡ [] }
@@ -77,9 +81,33 @@ impl TermList {
         Ok(())
     }
 
+    /// Whether each key stands before the keys behind it.
+    pub fn is_rising(&self) -> bool
+        ensures { IsTrue result ↔ IsRising self.now }
+    {
+        let mut rest = self.as_slice();
+        while let Some((first, behind)) = rest.split_first() {
+            if !stands_before(&first.key, behind) {
+                return false;
+            }
+            rest = behind;
+        }
+        true
+    }
+
     pub fn as_slice(&self) -> &[Term]
         ensures { result.now ≡ self.now }
     {
         &self.terms
+    }
+}
+
+// Whether a key stands before the first of these terms, if there is one.
+fn stands_before(key: &Bytes, terms: &[Term]) -> bool
+    ensures { result ≡ before_first key.now terms.now }
+{
+    match terms.first() {
+        None => true,
+        Some(term) => is_below(key.as_slice(), term.key.as_slice()),
     }
 }

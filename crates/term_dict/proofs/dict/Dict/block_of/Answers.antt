@@ -1,5 +1,5 @@
 use Rattle.std.proofs.Common.{◌-◌, ◌*◌, ◌<◌, arith, length, List, ℕ, ap}
-use Rattle.term_dict.proofs.Starts.{around, below_block, above_block, starts_rise, starts_within}
+use Rattle.term_dict.proofs.Starts.{around, below_block, above_block, blocks_rise, starts_within}
 use Rattle.term_dict.proofs.dict.Dict.block_of.Goals as goal
 use Rattle.term_dict.proofs.dict.Dict.block_of.Goals.{then-start-end-via-then-start-end, then-start-end-via-else-start-end+then-end-self}
 
@@ -11,7 +11,7 @@ returns-then-count-eq0-clause-only c terms d =
 pub returns-then-start-end-clause-only : goal.returns-then-start-end-clause-only
 returns-then-start-end-clause-only c terms d =
     let count = c.count_up_to-count.result in
-    let rise = starts_rise (64 * (count - 1)) (64 * count) terms (omega arith) in
+    let rise = blocks_rise (64 * (count - 1)) (64 * count) terms (omega arith) (omega (arith, d.index_is.count, c.count_up_to-count.ensures.within)) in
     let within = starts_within (64 * count) terms in
     let start = c.start_of-start.ensures terms d in
     let end = c.start_of-end.ensures terms d in
