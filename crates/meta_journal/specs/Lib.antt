@@ -2,3 +2,4 @@ pub mod Spelling
 pub mod Places
 pub mod Reading
 pub mod Journal
+pub mod Loading

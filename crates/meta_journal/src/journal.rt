@@ -1,15 +1,17 @@
 //! The numbers of a journal, one entry at a time.
 
-ghost use Rattle.std.specs.Prelude.{◌≡◌, ◌≢◌, ◌≤◌, ◌<◌, ◌+◌, ◌^◌, ◌↔◌, true, false, IsErrOf, IfErr, IfOk, Ok, None};
+ghost use Rattle.std.specs.Prelude.{◌≡◌, ◌≢◌, ◌≤◌, ◌<◌, ◌+◌, ◌^◌, ◌↔◌, true, false, length, IsErrOf, IfErr, IfOk, Ok, None};
 ghost use Rattle.object_store.specs.Store.{WhereTold};
 ghost use Rattle.meta_journal.specs.Spelling.{CanSpell};
 ghost use Rattle.meta_journal.specs.Journal.{max_entries, FaultIs, IsOfRead, Appends, Settles, IsTaken, place_appended, place_settled, next_appended};
+ghost use Rattle.meta_journal.specs.Loading.{Loads, IsOfLoad, loaded};
 ghost use Rattle.meta_journal.specs.declared.place.Place.TheVariants.{Sure, Given};
 ghost use Rattle.meta_journal.specs.declared.journal_error.JournalError.TheVariants.{Full};
 
+use crate::loading::load_entries;
 use crate::place::{place_appended, place_read};
 use crate::trying::{append_at, settle_at};
-use crate::{Entry, JournalError, Place};
+use crate::{Entries, Entry, JournalError, Place};
 use object_store::ObjectStore;
 use std::alloc::Global;
 use std::marker::Model;
@@ -143,5 +145,32 @@ impl Journal {
         self.next += 1;
         self.place = Place::Sure;
         self.settled = true;
+    }
+}
+
+impl Journal {
+    /// The journal of a store, with its entries.
+    pub fn load<S: ObjectStore>(
+        alloc: Global,
+        store: &mut S,
+    ) -> Result<(Journal, Entries), JournalError>
+        // What was read, by the answer.
+        ensures answer { WhereTold (S.told store.old) (S.told store.new) (Loads result) }
+        ensures journal { IfOk result (λ x. x.0 ≡ loaded (length x.1)) }
+        ensures within { IfOk result (λ x. length x.1 ≤ max_entries) }
+
+        // A fault has both counts, and comes only where the count rose.
+        ensures faults { IfErr result (FaultIs (S.fault_count store.old) (S.fault_count store.new)) }
+        ensures later { S.fault_count store.old ≤ S.fault_count store.new }
+        ensures refusals { IfErr result IsOfLoad }
+    {
+        let before = store.faults();
+        let entries = load_entries(alloc, store, before)?;
+        let journal = Journal {
+            next: entries.len() as u64,
+            place: Place::Sure,
+            settled: false,
+        };
+        Ok((journal, entries))
     }
 }

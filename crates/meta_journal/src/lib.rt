@@ -2,18 +2,21 @@
 //! entry is in doubt is settled.
 #![tactic(auto)]
 
+pub mod entries;
 pub mod entry;
 pub mod entry_error;
 mod fields;
 pub mod journal;
 pub mod journal_error;
 pub mod keys;
+mod loading;
 mod objects;
 pub mod place;
 pub mod reading;
 mod trying;
 pub mod writing;
 
+pub use entries::Entries;
 pub use entry::{Act, Entry};
 pub use entry_error::EntryError;
 pub use journal::Journal;
