@@ -57,7 +57,7 @@ behind_end kept entries log s n h bound = by (get kept.objects (meta_key n)) ref
         let same : n ≡ there.0 = meta_key-injective n there.0 bound (omega (arith, lt, h, bound)) there.2 in
         absurd (omega (arith, same, lt, h))
 
-journal_more : (kept : State) (entries : List Entry) (log : Log) (entry : Entry) (bytes : List ℕ) → Stands kept entries log → length entries < max_entries → CanSpell entry → Spells bytes entry →
+pub journal_more : (kept : State) (entries : List Entry) (log : Log) (entry : Entry) (bytes : List ℕ) → Stands kept entries log → length entries < max_entries → CanSpell entry → Spells bytes entry →
     IsJournal (with_object kept (meta_key (length entries)) bytes) (entries ++ entry ∷ [])
 journal_more kept entries log entry bytes s room can spells =
     StandFrom-of new 0 (entries ++ entry ∷ []) None (length entries + 1) (omega (arith, length-append entries (entry ∷ [])))

@@ -51,7 +51,7 @@ All-get P (y ∷ xs) (suc i) x h e = All-get P xs i x h.1 e
 abbrev pub lates : State → List Object → State
 lates kept late = record { objects = kept.objects; late = late }
 
-journal_late : (kept : State) (late : List Object) (entries : List Entry) → IsJournal kept entries → IsJournal (lates kept late) entries
+pub journal_late : (kept : State) (late : List Object) (entries : List Entry) → IsJournal kept entries → IsJournal (lates kept late) entries
 journal_late kept late entries j =
     StandFrom-of (lates kept late) 0 entries None (length entries) (omega arith)
     (Stand-same kept (lates kept late) 0 entries (λ n low high. refl) (stand-of kept 0 entries None j)) (journal-end kept entries j)
@@ -205,7 +205,7 @@ index-enters old entries log entry bytes i spells e = enters-by old old.late ent
 
 -- ---- an object outside the journal
 
-journal_other : (kept : State) (key bytes : List ℕ) (entries : List Entry) → is_meta key ≡ false → IsJournal kept entries → IsJournal (with_object kept key bytes) entries
+pub journal_other : (kept : State) (key bytes : List ℕ) (entries : List Entry) → is_meta key ≡ false → IsJournal kept entries → IsJournal (with_object kept key bytes) entries
 journal_other kept key bytes entries outside j =
     StandFrom-of (with_object kept key bytes) 0 entries None (length entries) (omega arith)
     (Stand-same kept (with_object kept key bytes) 0 entries (λ n low high. get-other kept.objects key bytes (meta_key n) (outside_apart key n outside)) (stand-of kept 0 entries None j))
@@ -420,7 +420,7 @@ lands-one kept place entries log i = by (slice_get kept.late place) refl
     by None e = inl (Still-refl kept entries log i, λ none. none)
     by (Some o) e = where_taken o e (get kept.objects o.0) refl
 
-step : (old mid new : State) (entries : List Entry) (log : Log) → AfterLanding old mid entries log → ((more : List Entry) → IsIndexOf mid more log → Lands mid new more log) → AfterLanding old new entries log
+pub step : (old mid new : State) (entries : List Entry) (log : Log) → AfterLanding old mid entries log → ((more : List Entry) → IsIndexOf mid more log → Lands mid new more log) → AfterLanding old new entries log
 step old mid new entries log (inl still) lands = by (lands entries still.index)
   where
     by : Lands mid new entries log → AfterLanding old new entries log

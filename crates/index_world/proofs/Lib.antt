@@ -7,3 +7,11 @@ pub mod InHand
 pub mod Entering
 pub mod Indexing
 pub mod StoreCalls
+pub mod Landing
+pub mod Worlds
+pub mod WorldCalls
+pub mod JournalCalls
+pub mod Transactions
+pub mod Asking
+pub mod InCore
+pub mod FileCalls

@@ -36,7 +36,7 @@ made old mid new entries log entry bytes spells e (inl still) absent is =
     (Still-enters old mid (with_object mid (meta_key (length entries)) bytes) entries log entry still (index-enters mid entries log entry bytes still.index spells (still.enters entry e)))
 made old mid new entries log entry bytes spells e (inr adopts) absent is = absurd (adopted_stands old mid entries log adopts.0 adopts.1 absent)
 
-none-snoc : (late : List Object) (entries : List Entry) (o : Object) → NoneAtEnd late entries → Below entries o → NoneAtEnd (late ++ o ∷ []) entries
+pub none-snoc : (late : List Object) (entries : List Entry) (o : Object) → NoneAtEnd late entries → Below entries o → NoneAtEnd (late ++ o ∷ []) entries
 none-snoc late entries o h e = All-snoc (Below entries) late o h e
 
 was_late : (old mid new : State) (entries : List Entry) (log : Log) (entry : Entry) (bytes : List ℕ) → Spells bytes entry → MayEnter old entries log entry → AfterLanding old mid entries log →
@@ -72,7 +72,7 @@ index-creates old new entries log entry bytes answer i spells e c =
 
 -- ---- an upload
 
-split_apart : (kept : State) (entries : List Entry) (log : Log) (m n : ℕ) → Stands kept entries log → has_staged entries m ≡ true → has_staged entries n ≡ true →
+pub split_apart : (kept : State) (entries : List Entry) (log : Log) (m n : ℕ) → Stands kept entries log → has_staged entries m ≡ true → has_staged entries n ≡ true →
     (m ≡ n → ⊥) → split_key n ≡ split_key m → ⊥
 split_apart kept entries log m n s hm hn apart same =
     let within : length entries ≤ max_entries = s.within in

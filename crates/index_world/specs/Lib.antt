@@ -11,3 +11,4 @@ pub mod Standing
 pub mod World
 pub mod Gate
 pub mod Held
+pub mod Onward

@@ -1,5 +1,5 @@
 -- What holds of a store and of the core that stands for it, from one call of the world to the next.
-use Rattle.std.specs.Prelude.{◌≡◌, ◌≤◌, ◌<◌, ◌^◌, ℕ, Bool, List, ◌++◌, length, Option, Some}
+use Rattle.std.specs.Prelude.{◌≡◌, ◌≤◌, ◌<◌, ◌^◌, ℕ, Bool, true, List, ◌++◌, length, Option, Some}
 use Rattle.meta_journal.specs.declared.entry.Entry.{Entry}
 use Rattle.meta_store.specs.History.{history, moment_of}
 use Rattle.object_store.specs.Store.{State}
@@ -7,7 +7,7 @@ use Rattle.source_log.specs.Log.{Log}
 use Rattle.meta_store.specs.State as meta
 use Rattle.index_world.specs.Config.{reads}
 use Rattle.index_world.specs.Core.{Core, KeepsBut, journal_of}
-use Rattle.index_world.specs.Index.{IsIndexOf}
+use Rattle.index_world.specs.Index.{IsIndexOf, max_entries}
 use Rattle.index_world.specs.Standing.{StandsFor}
 
 -- THE WORLD'S INVARIANT: the core stands for the store, and the store is an index whose journal is the core's
@@ -16,11 +16,12 @@ pub record IsWorld (kept : State) (core : Core) (log : Log) : Type 0 where
   pub stands_for : StandsFor kept core
   pub index : IsIndexOf kept (journal_of core) log
 
--- the moment is at least those of the history, and the format can spell it
+-- The moment is at least those of the history, and the format can spell it. Only a number below the limit is unsure.
 pub record IsTimely (core : Core) : Type 0 where
   pub greatest : moment_of (history core.history) ≤ core.moment
   pub moment : core.moment < 2 ^ 62
   pub clock : core.clock < 2 ^ 62
+  pub room : core.unsure ≡ true → length core.history < max_entries
 
 -- what a world keeps: the count of its store, what its clock tells, its moment, its state, the number behind the entries
 -- that it took in, and whether that one is unsure

@@ -1,0 +1,332 @@
+-- What an upload, a fetch and a load did to the store, in the words of the core.
+use Rattle.std.proofs.Common.{◌≡◌, ◌⊎◌, ℕ, zero, suc, ◌<◌, ◌≤◌, ◌+◌, ◌-◌, ◌^◌, List, [], ◌∷◌, ◌++◌, refl, sym, ap, ◌∙◌, subst, inl, inr, Bool, true, false, length, arith}
+use Rattle.std.specs.FinMap.{get}
+use Rattle.std.specs.Prelude.{Option, Some, None, is_some, IsSome, Result, Ok, Err, ⊤, ◌==◌, ◌||◌, max}
+use Rattle.byte_fields.specs.Causes.{Rose}
+use Rattle.meta_journal.specs.Places.{split_key, IsJournal}
+use Rattle.meta_journal.specs.declared.entry.Entry.{Entry}
+use Rattle.meta_store.specs.History.{moment_of}
+use Rattle.meta_store.specs.History.{history as told}
+use Rattle.object_store.specs.Store.{State, landed, with_object, with_late, HasLanded, LandsThen, Creates}
+use Rattle.object_store.specs.declared.store.CreateError.TheVariants as creates
+use Rattle.source_log.specs.Log.{Log}
+use Rattle.index_world.specs.Calls.{Call, Fate, calm_call, Gives, gives, Trouble, no_memory, Unread, not_read, no_index, store_failed, begun, file_by, file_made, upload_made, got_file, file_got, or_short, with_file, taken_in, with_standing, reborn, read_journal, unless_empty, load_by, loaded, may_fail, risen}
+use Rattle.index_world.specs.Calls as calls
+use Rattle.index_world.specs.Core.{Core, late_file, file_at, last_count, with_unread, journal_of}
+use Rattle.index_world.specs.Index.{OneEntry, IsUnused, IsUploaded}
+use Rattle.index_world.specs.Standing.{StandsFor}
+use Rattle.index_world.specs.World.{IsWorld}
+use Rattle.index_world.specs.Held.{KeepsHeld, KeepsOthers}
+use Rattle.index_world.specs.Onward.{Onward}
+use Rattle.index_world.proofs.StoreKeys.{true_is_false, split_outside}
+use Rattle.index_world.proofs.Journals.{one-journal}
+use Rattle.index_world.proofs.InHand.{number_apart}
+use Rattle.index_world.proofs.Worlds.{Onward-trans, held-refl, world-same}
+use Rattle.index_world.proofs.WorldCalls.{Filed, world-file, world-file-late, world-taken}
+use Rattle.index_world.proofs.JournalCalls.{Counted, Begun, quiet, failing, risen_is, rose_may, world-begins}
+
+-- the fate of a call of the world that makes one store call, and of one that makes two
+abbrev pub one_call : Call → Fate
+one_call call = record { unasked = false; first = call; second = calm_call; third = calm_call }
+
+abbrev pub two_calls : Call → Call → Fate
+two_calls first second = record { unasked = false; first = first; second = second; third = calm_call }
+
+-- ---- an upload
+
+-- what an upload left: this answer, in the core and in the store
+pub record UploadLaw (old new : State) (core : Core) (log : Log) (n : ℕ) (bytes : List ℕ) (answer : Core → Result ⊤ Trouble) (now : ℕ) : Type 0 where
+  pub call : Call
+  pub after : Core
+  pub did : upload_made (one_call call) n bytes core ≡ gives (answer after) after
+  pub filed : Filed old new core after log n
+  pub history : after.history ≡ core.history
+  pub faults : after.store_faults ≡ now
+  pub moment : after.moment ≡ core.moment
+  pub clock : after.clock ≡ core.clock
+  pub unsure : after.unsure ≡ core.unsure
+
+filed-on : (old mid new : State) (core between after : Core) (log : Log) (n : ℕ) → Onward old mid core between log → Filed mid new between after log n → Filed old new core after log n
+filed-on old mid new core between after log n o f =
+    record { world = f.world; others = record { unused = λ m apart u. f.others.unused m apart (o.held.unused m u); uploaded = λ m b u. f.others.uploaded m b (o.held.uploaded m b u); staged = λ m d x s. f.others.staged m d x (o.held.staged m d x s) } }
+
+filed-of : (old new : State) (core after : Core) (log : Log) (n : ℕ) → Onward old new core after log → Filed old new core after log n
+filed-of old new core after log n o = record { world = o.world; others = record { unused = λ m apart u. o.held.unused m u; uploaded = o.held.uploaded; staged = o.held.staged } }
+
+absent_file : (kept : State) (core : Core) (n : ℕ) → StandsFor kept core → IsUnused kept (journal_of core) n → is_some (file_at core.files (split_key n)) ≡ false
+absent_file kept core n s u = ap is_some (s.files (split_key n) (split_outside n) ∙ u.absent)
+
+pub upload_is_made : OneEntry → (old new : State) (core : Core) (log : Log) (n : ℕ) (bytes : List ℕ) (now : ℕ) → IsWorld old core log → Counted core now → IsUnused old (journal_of core) n →
+    LandsThen (Creates (split_key n) bytes (Ok tt)) old new → (l : UploadLaw old new core log n bytes (λ c. Ok tt) now) × IsUploaded new (journal_of l.after) n bytes
+upload_is_made once old new core log n bytes now w c u t = (
+  record {
+    call = quiet t.1.0 (now - core.store_faults) false;
+    after = with_file (split_key n) bytes mid;
+    did = ap (λ there. file_by false false there core.store_faults (split_key n) bytes mid) (absent_file t.0 mid n b.onward.world.stands_for unused);
+    filed = filed-on old t.0 new core mid (with_file (split_key n) bytes mid) log n b.onward (subst (λ k. Filed t.0 k mid (with_file (split_key n) bytes mid) log n) (sym t.2.1) file.0);
+    history = b.history;
+    faults = b.faults;
+    moment = b.moment;
+    clock = b.clock;
+    unsure = b.unsure;
+  },
+  subst (λ k. IsUploaded k (journal_of mid) n bytes) (sym t.2.1) file.1,
+)
+  where
+    mid : Core
+    mid = begun (quiet t.1.0 (now - core.store_faults) false) core
+
+    b : Begun old t.0 core mid log now
+    b = world-begins once old t.0 core log now (quiet t.1.0 (now - core.store_faults) false) w c refl t.1.1
+
+    unused : IsUnused t.0 (journal_of mid) n
+    unused = b.onward.held.unused n u
+
+    file : Filed t.0 (with_object t.0 (split_key n) bytes) mid (with_file (split_key n) bytes mid) log n × IsUploaded (with_object t.0 (split_key n) bytes) (journal_of mid) n bytes
+    file = world-file t.0 mid log n bytes b.onward.world unused
+
+pub upload_failed : OneEntry → (old new : State) (core : Core) (log : Log) (n : ℕ) (bytes : List ℕ) (now : ℕ) → IsWorld old core log → Counted core now → Rose core.store_faults now → IsUnused old (journal_of core) n →
+    LandsThen (Creates (split_key n) bytes (Err creates.Failed)) old new → UploadLaw old new core log n bytes (λ after. Err (store_failed core.store_faults after)) now
+upload_failed once old new core log n bytes now w c rose u t = by t.2
+  where
+    call : Bool → Call
+    call at_once = failing t.1.0 (now - core.store_faults) at_once
+
+    mid : Core
+    mid = begun (call true) core
+
+    b : Begun old t.0 core mid log now
+    b = world-begins once old t.0 core log now (call true) w c refl t.1.1
+
+    unused : IsUnused t.0 (journal_of mid) n
+    unused = b.onward.held.unused n u
+
+    absent : is_some (file_at mid.files (split_key n)) ≡ false
+    absent = absent_file t.0 mid n b.onward.world.stands_for unused
+
+    fails : may_fail (call true) core.store_faults ≡ true
+    fails = rose_may core now c rose
+
+    by : ((get t.0.objects (split_key n) ≡ None) × (new ≡ with_object t.0 (split_key n) bytes))
+        ⊎ ((new ≡ with_late t.0 (split_key n) bytes) ⊎ (IsSome (get t.0.objects (split_key n)) × (new ≡ t.0))) → UploadLaw old new core log n bytes (λ after. Err (store_failed core.store_faults after)) now
+    by (inl d) =
+        record {
+          call = call true;
+          after = with_file (split_key n) bytes mid;
+          did = ap (λ f. file_by f true (is_some (file_at mid.files (split_key n))) core.store_faults (split_key n) bytes mid) fails
+              ∙ ap (λ there. file_by true true there core.store_faults (split_key n) bytes mid) absent;
+          filed = filed-on old t.0 new core mid (with_file (split_key n) bytes mid) log n b.onward
+              (subst (λ k. Filed t.0 k mid (with_file (split_key n) bytes mid) log n) (sym d.1) (world-file t.0 mid log n bytes b.onward.world unused).0);
+          history = b.history;
+          faults = b.faults;
+          moment = b.moment;
+          clock = b.clock;
+          unsure = b.unsure;
+        }
+    by (inr (inl d)) =
+        record {
+          call = call false;
+          after = calls.with_late (late_file (split_key n) bytes) mid;
+          did = ap (λ f. file_by f false (is_some (file_at mid.files (split_key n))) core.store_faults (split_key n) bytes mid) fails
+              ∙ ap (λ there. file_by true false there core.store_faults (split_key n) bytes mid) absent;
+          filed = filed-on old t.0 new core mid (calls.with_late (late_file (split_key n) bytes) mid) log n b.onward
+              (subst (λ k. Filed t.0 k mid (calls.with_late (late_file (split_key n) bytes) mid) log n) (sym d) (world-file-late t.0 mid log n bytes b.onward.world unused));
+          history = b.history;
+          faults = b.faults;
+          moment = b.moment;
+          clock = b.clock;
+          unsure = b.unsure;
+        }
+    by (inr (inr d)) = absurd (true_is_false (sym d.0 ∙ ap is_some unused.absent))
+
+-- it never meets a file there
+pub upload_never_exists : OneEntry → (old new : State) (core : Core) (log : Log) (n : ℕ) (bytes : List ℕ) → IsWorld old core log → core.store_faults ≤ last_count → IsUnused old (journal_of core) n →
+    LandsThen (Creates (split_key n) bytes (Err creates.Exists)) old new → ⊥
+upload_never_exists once old new core log n bytes w low u t =
+    true_is_false (sym t.2.0 ∙ ap is_some ((world-begins once old t.0 core log core.store_faults (quiet t.1.0 (core.store_faults - core.store_faults) false) w (record { later = omega arith; within = low }) refl t.1.1).onward.held.unused n u).absent)
+
+pub upload_short : OneEntry → (old new : State) (core : Core) (log : Log) (n : ℕ) (bytes : List ℕ) (now : ℕ) → IsWorld old core log → Counted core now → HasLanded old new →
+    UploadLaw old new core log n bytes (λ after. Err no_memory) now
+upload_short once old new core log n bytes now w c t =
+    record {
+      call = quiet t.0 (now - core.store_faults) true;
+      after = begun (quiet t.0 (now - core.store_faults) true) core;
+      did = refl;
+      filed = filed-of old new core (begun (quiet t.0 (now - core.store_faults) true) core) log n b.onward;
+      history = b.history;
+      faults = b.faults;
+      moment = b.moment;
+      clock = b.clock;
+      unsure = b.unsure;
+    }
+  where
+    b : Begun old new core (begun (quiet t.0 (now - core.store_faults) true) core) log now
+    b = world-begins once old new core log now (quiet t.0 (now - core.store_faults) true) w c refl t.1
+
+-- ---- a get of a file
+
+pub got_law : OneEntry → (old new : State) (core : Core) (log : Log) (now : ℕ) → IsWorld old core log → Counted core now → HasLanded old new →
+    (call : Call) × (after : Core) × (file_got call core ≡ gives (Ok tt) after) × Begun old new core after log now
+got_law once old new core log now w c t =
+    (quiet t.0 (now - core.store_faults) false, begun (quiet t.0 (now - core.store_faults) false) core, refl, world-begins once old new core log now (quiet t.0 (now - core.store_faults) false) w c refl t.1)
+
+pub got_failed_law : OneEntry → (old new : State) (core : Core) (log : Log) (now : ℕ) → IsWorld old core log → Counted core now → Rose core.store_faults now → HasLanded old new →
+    (call : Call) × (after : Core) × (file_got call core ≡ gives (Err (store_failed core.store_faults after)) after) × Begun old new core after log now
+got_failed_law once old new core log now w c rose t = (
+  failing t.0 (now - core.store_faults) false,
+  begun (failing t.0 (now - core.store_faults) false) core,
+  ap (λ f. got_file f core.store_faults (begun (failing t.0 (now - core.store_faults) false) core)) (rose_may core now c rose),
+  world-begins once old new core log now (failing t.0 (now - core.store_faults) false) w c refl t.1,
+)
+
+pub got_short_law : OneEntry → (old new : State) (core : Core) (log : Log) (now : ℕ) → IsWorld old core log → Counted core now → HasLanded old new →
+    (call : Call) × (after : Core) × (file_got call core ≡ gives (Err no_memory) after) × Begun old new core after log now
+got_short_law once old new core log now w c t =
+    (quiet t.0 (now - core.store_faults) true, begun (quiet t.0 (now - core.store_faults) true) core, refl, world-begins once old new core log now (quiet t.0 (now - core.store_faults) true) w c refl t.1)
+
+-- ---- a load
+
+standing_taken : (kept : State) (core : Core) (log : Log) (standing : Option Entry) → IsWorld kept core log → core.standing ≡ standing →
+    Onward kept kept core (with_standing standing core) log × ((with_standing standing core).history ≡ journal_of core) × ((with_standing standing core).standing ≡ None) × ((with_standing standing core).clock ≡ core.clock)
+    × ((with_standing standing core).store_faults ≡ core.store_faults)
+standing_taken kept core log None w e = (record { world = w; held = held-refl kept (journal_of core) }, ap (with_unread core.history) (sym e), e, refl, refl)
+standing_taken kept core log (Some entry) w e = (world-taken kept core log entry w e, ap (with_unread core.history) (sym e), refl, refl, refl)
+
+pub record LoadLaw (old new : State) (core : Core) (log : Log) (read : List Entry) (answer : Result ⊤ Unread) (now : ℕ) : Type 0 where
+  pub fate : Fate
+  pub after : Core
+  pub did : loaded fate core ≡ gives answer after
+  pub onward : Onward old new core after log
+  pub history : after.history ≡ read
+  pub faults : after.store_faults ≡ now
+  pub moment : after.moment ≡ moment_of (told read)
+  pub clock : after.clock ≡ core.clock
+  pub unsure : after.unsure ≡ false
+
+abbrev pub load_answer : List Entry → Result ⊤ Unread
+load_answer [] = Err no_index
+load_answer (e ∷ es) = Ok tt
+
+empty_or_not : (es : List Entry) (core : Core) → unless_empty (length es == 0) core ≡ gives (load_answer es) core
+empty_or_not [] core = refl
+empty_or_not (e ∷ es) core = ap (λ b. unless_empty b core) (number_apart (suc (length es)) 0 (λ same. omega (arith, same)))
+
+-- what lands before the journal is read is read, what lands later is not
+pub load_law : OneEntry → (old mid new : State) (core : Core) (log : Log) (read : List Entry) (now : ℕ) → IsWorld old core log → Counted core now → HasLanded old mid → IsJournal mid read → HasLanded mid new →
+    LoadLaw old new core log read (load_answer read) now
+load_law once old mid new core log read now w c t j u =
+    record {
+      fate = two_calls first second;
+      after = begun second whole;
+      did = ap (λ es. unless_empty (length es == 0) (begun second whole)) same ∙ empty_or_not read (begun second whole);
+      onward = Onward-trans old mid new core whole (begun second whole) log there last.onward;
+      history = last.history ∙ same;
+      faults = last.faults;
+      moment = last.moment ∙ ap (λ es. moment_of (told es)) same;
+      clock = last.clock ∙ s.3 ∙ b.clock;
+      unsure = last.unsure;
+    }
+  where
+    first : Call
+    first = quiet t.0 (now - core.store_faults) false
+
+    second : Call
+    second = quiet u.0 0 false
+
+    start : Core
+    start = begun first core
+
+    b : Begun old mid core start log now
+    b = world-begins once old mid core log now first w c refl t.1
+
+    s : Onward mid mid start (with_standing start.standing start) log × ((with_standing start.standing start).history ≡ journal_of start) × ((with_standing start.standing start).standing ≡ None) × ((with_standing start.standing start).clock ≡ start.clock)
+        × ((with_standing start.standing start).store_faults ≡ start.store_faults)
+    s = standing_taken mid start log start.standing b.onward.world refl
+
+    whole : Core
+    whole = read_journal start
+
+    same : whole.history ≡ read
+    same = s.1 ∙ one-journal once mid 0 (journal_of start) read b.onward.world.stands_for.journal j
+
+    there : Onward old mid core whole log
+    there = Onward-trans old mid mid core start whole log b.onward
+        (record {
+          world = world-same mid (with_standing start.standing start) log (with_standing start.standing start).store_faults (moment_of (told (with_standing start.standing start).history)) (with_standing start.standing start).clock false s.0.world;
+          held = s.0.held;
+        })
+
+    faults : whole.store_faults ≡ now
+    faults = s.4 ∙ b.faults
+
+    last : Begun mid new whole (begun second whole) log now
+    last = world-begins once mid new whole log now second there.world
+        (record { later = let e = faults in omega (arith, e); within = c.within }) (let e : now - whole.store_faults ≡ 0 = (let f = faults in omega (arith, f)) in sym e) u.1
+
+pub record UnreadLaw (old new : State) (core : Core) (log : Log) (answer : Core → Result ⊤ Unread) (now : ℕ) : Type 0 where
+  pub fate : Fate
+  pub after : Core
+  pub did : loaded fate core ≡ gives (answer after) after
+  pub onward : Onward old new core after log
+  pub history : after.history ≡ core.history
+  pub faults : after.store_faults ≡ now
+  pub clock : after.clock ≡ core.clock
+
+-- the first call failed, or one behind it: what landed is all that was done
+pub load_failed_law : OneEntry → (old new : State) (core : Core) (log : Log) (now : ℕ) → IsWorld old core log → Counted core now → Rose core.store_faults now → HasLanded old new →
+    UnreadLaw old new core log (λ after. Err (not_read (store_failed core.store_faults after))) now
+load_failed_law once old new core log now w c rose t =
+    record {
+      fate = two_calls first second;
+      after = begun second start;
+      did = ap (λ f. load_by false f second core.store_faults start) (ap (λ a. a || may_fail second start.store_faults) (rose_may core now c rose));
+      onward = Onward-trans old new new core start (begun second start) log b.onward last.onward;
+      history = last.history ∙ b.history;
+      faults = last.faults;
+      clock = last.clock ∙ b.clock;
+    }
+  where
+    first : Call
+    first = failing t.0 (now - core.store_faults) false
+
+    second : Call
+    second = quiet [] 0 false
+
+    start : Core
+    start = begun first core
+
+    b : Begun old new core start log now
+    b = world-begins once old new core log now first w c refl t.1
+
+    last : Begun new new start (begun second start) log now
+    last = world-begins once new new start log now second b.onward.world
+        (record { later = let e = b.faults in omega (arith, e); within = c.within }) (let e : now - start.store_faults ≡ 0 = (let f = b.faults in omega (arith, f)) in sym e) refl
+
+pub load_short_law : OneEntry → (old new : State) (core : Core) (log : Log) (now : ℕ) → IsWorld old core log → Counted core now → HasLanded old new →
+    UnreadLaw old new core log (λ after. Err (not_read no_memory)) now
+load_short_law once old new core log now w c t =
+    record {
+      fate = two_calls first second;
+      after = begun second start;
+      did = refl;
+      onward = Onward-trans old new new core start (begun second start) log b.onward last.onward;
+      history = last.history ∙ b.history;
+      faults = last.faults;
+      clock = last.clock ∙ b.clock;
+    }
+  where
+    first : Call
+    first = quiet t.0 (now - core.store_faults) true
+
+    second : Call
+    second = quiet [] 0 false
+
+    start : Core
+    start = begun first core
+
+    b : Begun old new core start log now
+    b = world-begins once old new core log now first w c refl t.1
+
+    last : Begun new new start (begun second start) log now
+    last = world-begins once new new start log now second b.onward.world
+        (record { later = let e = b.faults in omega (arith, e); within = c.within }) (let e : now - start.store_faults ≡ 0 = (let f = b.faults in omega (arith, f)) in sym e) refl

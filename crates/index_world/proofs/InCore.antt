@@ -1,0 +1,70 @@
+-- Numbers in hand in the words of the core.
+use Rattle.std.proofs.Common.{◌≡◌, ℕ, ◌+◌, ◌<◌, ◌≤◌, List, [], ◌∷◌, ◌++◌, refl, sym, ap, ◌∙◌, subst, map}
+use Rattle.std.specs.List.{AllByRecursion}
+use Rattle.std.specs.Prelude.{Option, Some, None}
+use Rattle.meta_journal.specs.Places.{split_key}
+use Rattle.meta_journal.specs.declared.entry.Entry.{Entry}
+use Rattle.object_store.specs.Store.{State}
+use Rattle.source_log.specs.Log.{Log}
+use Rattle.index_world.specs.Core.{Core, Late, late_key, IsNotLateIn, IsUnusedIn, IsUploadedIn, KeepsBut, journal_of}
+use Rattle.index_world.specs.Index.{IsNotLate, IsUnused, IsUploaded}
+use Rattle.index_world.specs.Standing.{late_object, StandsFor}
+use Rattle.index_world.specs.World.{GoesOn}
+use Rattle.index_world.specs.Onward.{Onward}
+use Rattle.index_world.proofs.StoreKeys.{split_outside}
+use Rattle.index_world.proofs.WorldCalls.{Filed}
+
+objects_apart : (key : List ℕ) (lates : List Late) → AllByRecursion (λ late. late_key late ≡ key → ⊥) lates → AllByRecursion (λ l. l.0 ≡ key → ⊥) (map late_object lates)
+objects_apart key [] h = tt
+objects_apart key (late ∷ lates) h = (h.0, objects_apart key lates h.1)
+
+lates_apart : (key : List ℕ) (lates : List Late) → AllByRecursion (λ l. l.0 ≡ key → ⊥) (map late_object lates) → AllByRecursion (λ late. late_key late ≡ key → ⊥) lates
+lates_apart key [] h = tt
+lates_apart key (late ∷ lates) h = (h.0, lates_apart key lates h.1)
+
+not_late-in : (kept : State) (core : Core) (key : List ℕ) → StandsFor kept core → IsNotLate kept key → IsNotLateIn core key
+not_late-in kept core key s h = lates_apart key core.late (subst (λ ls. AllByRecursion (λ l. l.0 ≡ key → ⊥) ls) (sym s.late) h)
+
+not_late-of : (kept : State) (core : Core) (key : List ℕ) → StandsFor kept core → IsNotLateIn core key → IsNotLate kept key
+not_late-of kept core key s h = subst (λ ls. AllByRecursion (λ l. l.0 ≡ key → ⊥) ls) s.late (objects_apart key core.late h)
+
+pub unused-in : (kept : State) (core : Core) (n : ℕ) → StandsFor kept core → IsUnused kept (journal_of core) n → IsUnusedIn core n
+unused-in kept core n s u =
+    record { staged = u.staged; unpublished = u.unpublished; absent = s.files (split_key n) (split_outside n) ∙ u.absent; not_late = not_late-in kept core (split_key n) s u.not_late }
+
+pub unused-of : (kept : State) (core : Core) (n : ℕ) → StandsFor kept core → IsUnusedIn core n → IsUnused kept (journal_of core) n
+unused-of kept core n s u =
+    record { staged = u.staged; unpublished = u.unpublished; absent = sym (s.files (split_key n) (split_outside n)) ∙ u.absent; not_late = not_late-of kept core (split_key n) s u.not_late }
+
+pub uploaded-in : (kept : State) (core : Core) (n : ℕ) (bytes : List ℕ) → StandsFor kept core → IsUploaded kept (journal_of core) n bytes → IsUploadedIn core n bytes
+uploaded-in kept core n bytes s u = record { staged = u.staged; file = s.files (split_key n) (split_outside n) ∙ u.file; not_late = not_late-in kept core (split_key n) s u.not_late }
+
+pub uploaded-of : (kept : State) (core : Core) (n : ℕ) (bytes : List ℕ) → StandsFor kept core → IsUploadedIn core n bytes → IsUploaded kept (journal_of core) n bytes
+uploaded-of kept core n bytes s u = record { staged = u.staged; file = sym (s.files (split_key n) (split_outside n)) ∙ u.file; not_late = not_late-of kept core (split_key n) s u.not_late }
+
+pub keeps_all : (old new : State) (core after : Core) (log : Log) → StandsFor old core → Onward old new core after log → KeepsBut None core after
+keeps_all old new core after log s o =
+    record {
+      unused = λ n other u. unused-in new after n o.world.stands_for (o.held.unused n (unused-of old core n s u));
+      uploaded = λ n bytes u. uploaded-in new after n bytes o.world.stands_for (o.held.uploaded n bytes (uploaded-of old core n bytes s u));
+      staged = o.held.staged;
+    }
+
+pub keeps_others : (old new : State) (core after : Core) (log : Log) (n : ℕ) → StandsFor old core → Filed old new core after log n → KeepsBut (Some n) core after
+keeps_others old new core after log n s f =
+    record {
+      unused = λ m other u. unused-in new after m f.world.stands_for (f.others.unused m other (unused-of old core m s u));
+      uploaded = λ m bytes u. uploaded-in new after m bytes f.world.stands_for (f.others.uploaded m bytes (uploaded-of old core m bytes s u));
+      staged = f.others.staged;
+    }
+
+pub goes-on : (old new : State) (core after : Core) (log : Log) → StandsFor old core → Onward old new core after log → (more : List Entry) → after.history ≡ core.history ++ more →
+    core.store_faults ≤ after.store_faults → core.moment ≤ after.moment → GoesOn None core after
+goes-on old new core after log s o more grown faults moment = record { grown = (more, grown); faults = faults; moment = moment; keeps = keeps_all old new core after log s o }
+
+pub KeepsBut-refl : (core : Core) → KeepsBut None core core
+KeepsBut-refl core = record { unused = λ n other u. u; uploaded = λ n bytes u. u; staged = λ n d f s. s }
+
+pub KeepsBut-trans : (one : Option ℕ) (a b c : Core) → KeepsBut one a b → KeepsBut one b c → KeepsBut one a c
+KeepsBut-trans one a b c h k =
+    record { unused = λ n other u. k.unused n other (h.unused n other u); uploaded = λ n bytes u. k.uploaded n bytes (h.uploaded n bytes u); staged = λ n d f s. k.staged n d f (h.staged n d f s) }

@@ -1,0 +1,410 @@
+-- What a call of the journal did to its store, in the words of the core: with some fate it is the core's call.
+use Rattle.std.proofs.Common.{◌≡◌, ◌⊎◌, ℕ, zero, suc, ◌<◌, ◌≤◌, ◌+◌, ◌-◌, ◌^◌, List, [], ◌∷◌, ◌++◌, refl, sym, ap, ◌∙◌, subst, inl, inr, Bool, true, false, length, arith, map}
+use Rattle.std.proofs.lemmas.List.{length-append}
+use Rattle.std.proofs.lemmas.Bool.Decides.{nat_tests}
+use Rattle.std.specs.FinMap.{get, insert}
+use Rattle.std.specs.Prelude.{Option, Some, None, is_some, IsSome, Result, Ok, Err, min, max, nat_lt, ◌==◌, ◌||◌, ◌&&◌, ⊤}
+use Rattle.byte_fields.specs.Causes.{Rose}
+use Rattle.meta_journal.specs.Places.{meta_key, numbered, HasEntry, Stand}
+use Rattle.meta_journal.specs.Spelling.{Spells, CanSpell, spelling}
+use Rattle.meta_journal.specs.declared.entry.Act.TheVariants.{Stage}
+use Rattle.meta_journal.specs.declared.entry.Entry.{Entry}
+use Rattle.object_store.specs.Store.{State, landed, with_object, with_late, HasLanded, LandsThen, Creates}
+use Rattle.object_store.specs.declared.store.CreateError.TheVariants as creates
+use Rattle.source_checkpoint.specs.declared.delta.Part.{Part}
+use Rattle.source_log.specs.Log.{Log}
+use Rattle.split_states.specs.declared.facts.RowFacts.{RowFacts}
+use Rattle.index_world.specs.Calls.{Call, Made, made, exists, failed, Making, made_behind, made_at, create_at_end, tried, begun, all_landed, risen, may_fail, taken_in, got_at, get_at_end, gives, Gives, Trouble, store_failed}
+use Rattle.index_world.specs.Core.{Core, late_entry, last_count, with_unread, journal_of}
+use Rattle.index_world.specs.Index.{OneEntry, IsIndexOf, MayEnter, IsUnused, HasStaged}
+use Rattle.index_world.specs.Standing.{StandsFor}
+use Rattle.index_world.specs.World.{IsWorld}
+use Rattle.index_world.specs.Held.{KeepsHeld}
+use Rattle.index_world.specs.Onward.{Onward, Landing}
+use Rattle.index_world.proofs.StoreKeys.{none_some, true_is_false}
+use Rattle.index_world.proofs.Journals.{journal-end, stand-of, Stand-at}
+use Rattle.index_world.proofs.Indexing.{longer, held-trans}
+use Rattle.index_world.proofs.Landing.{journal_none, journal_some, standing_number}
+use Rattle.index_world.proofs.Worlds.{Onward-trans, held-refl, world-lands, world-same}
+use Rattle.index_world.proofs.WorldCalls.{Entered, world-enters, world-tried, world-taken}
+
+-- ---- counts
+
+-- a count as the core has it, and as it is now
+pub record Counted (core : Core) (now : ℕ) : Type 0 where
+  pub later : core.store_faults ≤ now
+  pub within : now ≤ last_count
+
+pub risen_is : (core : Core) (now : ℕ) → Counted core now → risen core.store_faults (now - core.store_faults) ≡ now
+risen_is core now c = let a = c.later in let b = c.within in omega (arith, a, b)
+
+pub rose_may : (core : Core) (now : ℕ) → Counted core now → Rose core.store_faults now → (nat_lt core.store_faults (risen core.store_faults (now - core.store_faults)) || (core.store_faults == last_count)) ≡ true
+rose_may core now c rose = rw (risen_is core now c) (by core.store_faults now rose c.later c.within)
+  where
+    by : (a b : ℕ) → Rose a b → a ≤ b → b ≤ last_count → (nat_lt a b || (a == last_count)) ≡ true
+    by a b r l w = grind (arith, nat_tests)
+
+-- ---- a call begins
+
+-- the fate of a call that doesn't fail
+abbrev pub quiet : List ℕ → ℕ → Bool → Call
+quiet places rises short = record { lands = places; fails = false; at_once = false; rises = rises; short = short }
+
+abbrev pub failing : List ℕ → ℕ → Bool → Call
+failing places rises at_once = record { lands = places; fails = true; at_once = at_once; rises = rises; short = false }
+
+-- what landed as the call began
+pub record Begun (old mid : State) (core after : Core) (log : Log) (now : ℕ) : Type 0 where
+  pub onward : Onward old mid core after log
+  pub history : after.history ≡ core.history
+  pub faults : after.store_faults ≡ now
+  pub moment : after.moment ≡ core.moment
+  pub clock : after.clock ≡ core.clock
+  pub unsure : after.unsure ≡ core.unsure
+  pub enters : after.standing ≡ None → (entry : Entry) → (core.standing ≡ None → MayEnter old core.history log entry) → MayEnter mid core.history log entry
+
+pub world-begins : OneEntry → (old mid : State) (core : Core) (log : Log) (now : ℕ) (call : Call) → IsWorld old core log → Counted core now → call.rises ≡ now - core.store_faults → mid ≡ landed call.lands old →
+    Begun old mid core (begun call core) log now
+world-begins once old mid core log now call w c rises at =
+    subst (λ m. Begun old m core (begun call core) log now) (sym at)
+    (record {
+      onward = record { world = l.onward.world; held = l.onward.held };
+      history = l.same.history;
+      faults = l.same.store_faults ∙ ap (risen core.store_faults) rises ∙ risen_is core now c;
+      moment = l.same.moment;
+      clock = l.same.clock;
+      unsure = l.same.unsure;
+      enters = λ none entry may. l.enters none entry (may (l.was none));
+    })
+  where
+    counted : Core
+    counted = record core { store_faults = risen core.store_faults call.rises }
+
+    l : Landing old (landed call.lands old) counted (begun call core) log
+    l = world-lands once old counted log call.lands (world-same old core log (risen core.store_faults call.rises) core.moment core.clock core.unsure w)
+
+-- ---- what stands at the end
+
+nothing_stands : (kept : State) (core : Core) (log : Log) → IsWorld kept core log → numbered kept (length core.history) ≡ None → core.standing ≡ None
+nothing_stands kept core log w absent = by core.standing refl
+  where
+    by : (o : Option Entry) → core.standing ≡ o → core.standing ≡ None
+    by None e = e
+    by (Some u) e = absurd (standing_number kept (core.history ++ u ∷ []) (length core.history) (journal_some kept core u w.stands_for e) (omega (arith, longer core.history u)) absent)
+
+-- the entry that stands unread, where something does
+pub record Unread (kept : State) (core : Core) : Type 0 where
+  pub entry : Entry
+  pub is : core.standing ≡ Some entry
+
+something_stands : (kept : State) (core : Core) (log : Log) → IsWorld kept core log → IsSome (numbered kept (length core.history)) → Unread kept core
+something_stands kept core log w stands = by core.standing refl
+  where
+    by : (o : Option Entry) → core.standing ≡ o → Unread kept core
+    by None e = absurd (true_is_false (sym stands ∙ ap is_some (journal-end kept core.history (journal_none kept core w.stands_for e))))
+    by (Some u) e = record { entry = u; is = e }
+
+last_entry : (s : State) (k : ℕ) (es : List Entry) (u : Entry) (n : ℕ) → n ≡ k + length es → Stand s k (es ++ u ∷ []) → HasEntry s n u
+last_entry s k [] u n at h = let e : k ≡ n = omega (arith, at) in subst (λ i. HasEntry s i u) e h.0
+last_entry s k (e ∷ es) u n at h = last_entry s (k + 1) es u n (omega (arith, at)) h.1
+
+entry_stands : OneEntry → (kept : State) (core : Core) (log : Log) (f : Entry) → IsWorld kept core log → HasEntry kept (length core.history) f → core.standing ≡ Some f
+entry_stands once kept core log f w h = by (something_stands kept core log w (ap is_some h.stands))
+  where
+    by : Unread kept core → core.standing ≡ Some f
+    by u =
+        let there = last_entry kept 0 core.history u.entry (length core.history) (omega arith) (stand-of kept 0 (core.history ++ u.entry ∷ []) None (journal_some kept core u.entry w.stands_for u.is)) in
+        let same : ◌≡◌ {A = Option (List ℕ)} (Some there.bytes) (Some h.bytes) = sym there.stands ∙ h.stands in
+        let bytes : there.bytes ≡ h.bytes = cc same in
+        let e : u.entry ≡ f = once h.bytes u.entry f there.can h.can (subst (λ b. Spells b u.entry) bytes there.spells) h.spells in
+        u.is ∙ ap Some e
+
+-- ---- the create was Ok
+
+pub record MadeLaw (old new : State) (core : Core) (log : Log) (entry : Entry) (now : ℕ) : Type 0 where
+  pub places : List ℕ
+  pub after : Core
+  pub did : create_at_end (quiet places (now - core.store_faults) false) entry core ≡ record { answer = made; core = after }
+  -- it stands there unread, and then it is taken in
+  pub unread : (unsure : Bool) → Onward old new core (record after { unsure = unsure }) log
+  pub taken : Onward old new core (taken_in entry after) log
+  pub history : after.history ≡ core.history
+  pub faults : after.store_faults ≡ now
+  pub moment : after.moment ≡ core.moment
+  pub clock : after.clock ≡ core.clock
+  pub fresh : (number : ℕ) (delta : List Part) (facts : RowFacts) → entry.act ≡ Stage number delta facts →
+      IsUnused new (core.history ++ entry ∷ []) number × HasStaged (core.history ++ entry ∷ []) number delta facts
+
+pub made_law : OneEntry → (old new : State) (core : Core) (log : Log) (entry : Entry) (now : ℕ) → IsWorld old core log → Counted core now → CanSpell entry →
+    (core.standing ≡ None → MayEnter old core.history log entry) → Spells (spelling entry) entry → LandsThen (Creates (meta_key (length core.history)) (spelling entry) (Ok tt)) old new →
+    MadeLaw old new core log entry now
+made_law once old new core log entry now w c can may spells t =
+    record {
+      places = t.1.0;
+      after = record mid { standing = Some entry };
+      did = ap (λ o. made_behind o entry mid) none;
+      unread = λ u. Onward-trans old new new core (record mid { standing = Some entry }) (record mid { standing = Some entry; unsure = u }) log there
+          (record { world = world-same new (record mid { standing = Some entry }) log mid.store_faults mid.moment mid.clock u there.world; held = held-refl new (journal_of (record mid { standing = Some entry })) });
+      taken = Onward-trans old new new core (record mid { standing = Some entry }) (taken_in entry (record mid { standing = Some entry })) log there
+          (world-taken new (record mid { standing = Some entry }) log entry (subst (λ k. IsWorld k (record mid { standing = Some entry }) log) (sym is) entered.onward.world) refl);
+      history = b.history;
+      faults = b.faults;
+      moment = b.moment;
+      clock = b.clock;
+      fresh = λ number delta facts p. subst (λ k. IsUnused k (core.history ++ entry ∷ []) number × HasStaged (core.history ++ entry ∷ []) number delta facts) (sym is)
+          (subst (λ es. IsUnused (with_object t.0 (meta_key (length mid.history)) (spelling entry)) (es ++ entry ∷ []) number × HasStaged (es ++ entry ∷ []) number delta facts) b.history (entered.fresh number delta facts p));
+    }
+  where
+    call : Call
+    call = quiet t.1.0 (now - core.store_faults) false
+
+    mid : Core
+    mid = begun call core
+
+    b : Begun old t.0 core mid log now
+    b = world-begins once old t.0 core log now call w c refl t.1.1
+
+    none : mid.standing ≡ None
+    none = nothing_stands t.0 mid log b.onward.world (ap (λ es. numbered t.0 (length es)) b.history ∙ t.2.0)
+
+    entered : Entered t.0 (with_object t.0 (meta_key (length mid.history)) (spelling entry)) mid log entry mid.unsure
+    entered = world-enters t.0 mid log entry (spelling entry) mid.unsure b.onward.world none spells (subst (λ es. MayEnter t.0 es log entry) (sym b.history) (b.enters none entry may))
+
+    is : new ≡ with_object t.0 (meta_key (length mid.history)) (spelling entry)
+    is = t.2.1 ∙ ap (λ es. with_object t.0 (meta_key (length es)) (spelling entry)) (sym b.history)
+
+    there : Onward old new core (record mid { standing = Some entry }) log
+    there = Onward-trans old t.0 new core mid (record mid { standing = Some entry }) log b.onward (subst (λ k. Onward t.0 k mid (record mid { standing = Some entry }) log) (sym is) entered.onward)
+
+-- ---- something stood there, and was read
+
+pub record AdoptedLaw (old new : State) (core : Core) (log : Log) (tried_entry entry : Entry) (before now : ℕ) : Type 0 where
+  pub places : List ℕ
+  pub mid : Core
+  pub did : create_at_end (quiet places (now - core.store_faults) false) tried_entry core ≡ record { answer = exists entry; core = mid }
+  pub after : Core
+  pub got : get_at_end (quiet [] 0 false) entry before mid ≡ gives (Ok tt) after
+  pub onward : Onward old new core after log
+  -- without memory behind the get it stands there unread
+  pub unread : (known : Bool) → Onward old new core (record (begun (quiet [] 0 true) mid) { unsure = mid.unsure || known }) log
+  pub history : after.history ≡ core.history ++ entry ∷ []
+  pub faults : after.store_faults ≡ now
+  pub moment : after.moment ≡ max core.moment entry.moment
+  pub clock : after.clock ≡ core.clock
+
+-- a get that failed nowhere begins
+abbrev pub calm_get : Call
+calm_get = quiet [] 0 false
+
+calm_begun : (kept : State) (core : Core) (log : Log) → IsWorld kept core log → Onward kept kept core (begun calm_get core) log
+calm_begun kept core log w =
+    record { world = world-same kept core log (risen core.store_faults 0) core.moment core.clock core.unsure w; held = held-refl kept (journal_of core) }
+
+still_counted : (a now : ℕ) → a ≡ now → now ≤ last_count → risen a 0 ≡ now
+still_counted a now e w = omega (arith, e, w)
+
+at_length : (s : State) (f : Entry) (es fs : List Entry) → fs ≡ es → HasEntry s (length es) f → HasEntry s (length fs) f
+at_length s f es fs e h = subst (λ l. HasEntry s (length l) f) (sym e) h
+
+pub adopted_law : OneEntry → (old new : State) (core : Core) (log : Log) (tried_entry entry : Entry) (before now : ℕ) → IsWorld old core log → Counted core now →
+    HasLanded old new → HasEntry new (length core.history) entry → AdoptedLaw old new core log tried_entry entry before now
+adopted_law once old new core log tried_entry entry before now w c t h =
+    record {
+      places = t.0;
+      mid = mid;
+      did = ap (λ o. made_behind o tried_entry mid) stands;
+      after = taken_in entry (begun calm_get mid);
+      got = refl;
+      onward = Onward-trans old new new core (begun calm_get mid) (taken_in entry (begun calm_get mid)) log there (world-taken new (begun calm_get mid) log entry there.world stands);
+      unread = λ known. Onward-trans old new new core mid (record (begun (quiet [] 0 true) mid) { unsure = mid.unsure || known }) log b.onward
+          (record { world = world-same new mid log (risen mid.store_faults 0) mid.moment mid.clock (mid.unsure || known) b.onward.world; held = held-refl new (journal_of mid) });
+      history = ap (λ es. es ++ entry ∷ []) b.history;
+      faults = still_counted mid.store_faults now b.faults c.within;
+      moment = ap (λ m. max m entry.moment) b.moment;
+      clock = b.clock;
+    }
+  where
+    mid : Core
+    mid = begun (quiet t.0 (now - core.store_faults) false) core
+
+    b : Begun old new core mid log now
+    b = world-begins once old new core log now (quiet t.0 (now - core.store_faults) false) w c refl t.1
+
+    stands : mid.standing ≡ Some entry
+    stands = entry_stands once new mid log entry b.onward.world (at_length new entry core.history mid.history b.history h)
+
+    there : Onward old new core (begun calm_get mid) log
+    there = Onward-trans old new new core mid (begun calm_get mid) log b.onward (calm_begun new mid log b.onward.world)
+
+-- a create that failed
+abbrev has_failed : Core → Making
+has_failed core = record { answer = failed; core = core }
+
+-- ---- the create failed
+
+pub record FailedLaw (old new : State) (core : Core) (log : Log) (entry : Entry) (now : ℕ) : Type 0 where
+  pub call : Call
+  pub short : call.short ≡ false
+  pub after : Core
+  pub did : create_at_end call entry core ≡ record { answer = failed; core = after }
+  pub onward : Onward old new core after log
+  pub history : after.history ≡ core.history
+  pub faults : after.store_faults ≡ now
+  pub moment : after.moment ≡ core.moment
+  pub clock : after.clock ≡ core.clock
+  pub unsure : after.unsure ≡ true
+
+pub failed_law : OneEntry → (old new : State) (core : Core) (log : Log) (entry : Entry) (now : ℕ) → IsWorld old core log → Counted core now → Rose core.store_faults now → CanSpell entry →
+    (core.standing ≡ None → MayEnter old core.history log entry) → Spells (spelling entry) entry → LandsThen (Creates (meta_key (length core.history)) (spelling entry) (Err creates.Failed)) old new →
+    FailedLaw old new core log entry now
+failed_law once old new core log entry now w c rose can may spells t = by t.2
+  where
+    call : Bool → Call
+    call at_once = failing t.1.0 (now - core.store_faults) at_once
+
+    fails : (at_once : Bool) → may_fail (call at_once) core.store_faults ≡ true
+    fails at_once = rose_may core now c rose
+
+    mid : Core
+    mid = begun (call true) core
+
+    b : Begun old t.0 core mid log now
+    b = world-begins once old t.0 core log now (call true) w c refl t.1.1
+
+    by : ((get t.0.objects (meta_key (length core.history)) ≡ None) × (new ≡ with_object t.0 (meta_key (length core.history)) (spelling entry)))
+        ⊎ ((new ≡ with_late t.0 (meta_key (length core.history)) (spelling entry)) ⊎ (IsSome (get t.0.objects (meta_key (length core.history))) × (new ≡ t.0))) → FailedLaw old new core log entry now
+    by (inl d) =
+        let none : mid.standing ≡ None = nothing_stands t.0 mid log b.onward.world (ap (λ es. numbered t.0 (length es)) b.history ∙ d.0) in
+        let entered = world-enters t.0 mid log entry (spelling entry) true b.onward.world none spells (subst (λ es. MayEnter t.0 es log entry) (sym b.history) (b.enters none entry may)) in
+        let is : new ≡ with_object t.0 (meta_key (length mid.history)) (spelling entry) = d.1 ∙ ap (λ es. with_object t.0 (meta_key (length es)) (spelling entry)) (sym b.history) in
+        record {
+          call = call true;
+          short = refl;
+          after = record mid { standing = Some entry; unsure = true };
+          did = ap (λ f. made_at f true entry mid) (fails true) ∙ ap (λ o. has_failed (tried true o entry mid)) none;
+          onward = Onward-trans old t.0 new core mid (record mid { standing = Some entry; unsure = true }) log b.onward (subst (λ k. Onward t.0 k mid (record mid { standing = Some entry; unsure = true }) log) (sym is) entered.onward);
+          history = b.history;
+          faults = b.faults;
+          moment = b.moment;
+          clock = b.clock;
+          unsure = refl;
+        }
+    by (inr (inl d)) =
+        let is : new ≡ with_late t.0 (meta_key (length mid.history)) (spelling entry) = d ∙ ap (λ es. with_late t.0 (meta_key (length es)) (spelling entry)) (sym b.history) in
+        let onward = world-tried t.0 mid log entry (spelling entry) b.onward.world can spells (λ none. subst (λ es. MayEnter t.0 es log entry) (sym b.history) (b.enters none entry may)) in
+        record {
+          call = call false;
+          short = refl;
+          after = record mid { late = mid.late ++ late_entry (length mid.history) entry (spelling entry) ∷ []; unsure = true };
+          did = ap (λ f. made_at f false entry mid) (fails false);
+          onward = Onward-trans old t.0 new core mid (record mid { late = mid.late ++ late_entry (length mid.history) entry (spelling entry) ∷ []; unsure = true }) log b.onward (subst (λ k. Onward t.0 k mid (record mid { late = mid.late ++ late_entry (length mid.history) entry (spelling entry) ∷ []; unsure = true }) log) (sym is) onward);
+          history = b.history;
+          faults = b.faults;
+          moment = b.moment;
+          clock = b.clock;
+          unsure = refl;
+        }
+    by (inr (inr d)) =
+        let u = something_stands t.0 mid log b.onward.world (subst (λ es. IsSome (numbered t.0 (length es))) (sym b.history) d.0) in
+        record {
+          call = call true;
+          short = refl;
+          after = record mid { unsure = true };
+          did = ap (λ f. made_at f true entry mid) (fails true) ∙ ap (λ o. has_failed (tried true o entry mid)) u.is;
+          onward = Onward-trans old t.0 new core mid (record mid { unsure = true }) log b.onward
+              (subst (λ k. Onward t.0 k mid (record mid { unsure = true }) log) (sym d.1)
+              (record { world = world-same t.0 mid log mid.store_faults mid.moment mid.clock true b.onward.world; held = held-refl t.0 (journal_of mid) }));
+          history = b.history;
+          faults = b.faults;
+          moment = b.moment;
+          clock = b.clock;
+          unsure = refl;
+        }
+
+-- ---- something stood there
+
+pub record ExistsLaw (old new : State) (core : Core) (log : Log) (entry : Entry) (now : ℕ) : Type 0 where
+  pub places : List ℕ
+  pub other : Entry
+  pub after : Core
+  pub did : create_at_end (quiet places (now - core.store_faults) false) entry core ≡ record { answer = exists other; core = after }
+  pub stands : after.standing ≡ Some other
+  pub onward : Onward old new core after log
+  pub history : after.history ≡ core.history
+  pub faults : after.store_faults ≡ now
+  pub moment : after.moment ≡ core.moment
+  pub clock : after.clock ≡ core.clock
+  pub unsure : after.unsure ≡ core.unsure
+
+pub exists_law : OneEntry → (old new : State) (core : Core) (log : Log) (entry : Entry) (now : ℕ) → IsWorld old core log → Counted core now →
+    HasLanded old new → IsSome (numbered new (length core.history)) → ExistsLaw old new core log entry now
+exists_law once old new core log entry now w c t h =
+    record {
+      places = t.0;
+      other = u.entry;
+      after = mid;
+      did = ap (λ o. made_behind o entry mid) u.is;
+      stands = u.is;
+      onward = b.onward;
+      history = b.history;
+      faults = b.faults;
+      moment = b.moment;
+      clock = b.clock;
+      unsure = b.unsure;
+    }
+  where
+    mid : Core
+    mid = begun (quiet t.0 (now - core.store_faults) false) core
+
+    b : Begun old new core mid log now
+    b = world-begins once old new core log now (quiet t.0 (now - core.store_faults) false) w c refl t.1
+
+    u : Unread new mid
+    u = something_stands new mid log b.onward.world (subst (λ es. IsSome (numbered new (length es))) (sym b.history) h)
+
+-- ---- something stood there, and the get failed
+
+pub record GetFailedLaw (old new : State) (core : Core) (log : Log) (entry : Entry) (before now : ℕ) : Type 0 where
+  pub places : List ℕ
+  pub other : Entry
+  pub mid : Core
+  pub did : create_at_end (quiet places (core.store_faults - core.store_faults) false) entry core ≡ record { answer = exists other; core = mid }
+  pub after : Core
+  pub got : get_at_end (failing [] (now - core.store_faults) false) other before mid ≡ gives (Err (store_failed before after)) after
+  pub onward : Onward old new core after log
+  pub history : after.history ≡ core.history
+  pub faults : after.store_faults ≡ now
+  pub moment : after.moment ≡ core.moment
+  pub clock : after.clock ≡ core.clock
+  pub unsure : after.unsure ≡ true
+
+pub get_failed_law : OneEntry → (old new : State) (core : Core) (log : Log) (entry : Entry) (before now : ℕ) → IsWorld old core log → Counted core now → Rose core.store_faults now →
+    HasLanded old new → IsSome (numbered new (length core.history)) → GetFailedLaw old new core log entry before now
+get_failed_law once old new core log entry before now w c rose t h =
+    record {
+      places = e.places;
+      other = e.other;
+      mid = e.after;
+      did = e.did;
+      after = record second { unsure = true };
+      got = ap (λ f. got_at f get_call before e.other second) fails;
+      onward = Onward-trans old new new core e.after (record second { unsure = true }) log e.onward
+          (record { world = world-same new e.after log (risen e.after.store_faults (now - core.store_faults)) e.after.moment e.after.clock true e.onward.world; held = held-refl new (journal_of e.after) });
+      history = e.history;
+      faults = ap (λ n. risen n (now - core.store_faults)) e.faults ∙ risen_is core now c;
+      moment = e.moment;
+      clock = e.clock;
+      unsure = refl;
+    }
+  where
+    e : ExistsLaw old new core log entry core.store_faults
+    e = exists_law once old new core log entry core.store_faults w (record { later = omega arith; within = let a = c.later in let b = c.within in omega (arith, a, b) }) t h
+
+    get_call : Call
+    get_call = failing [] (now - core.store_faults) false
+
+    second : Core
+    second = begun get_call e.after
+
+    fails : may_fail get_call e.after.store_faults ≡ true
+    fails = subst (λ n. may_fail get_call n ≡ true) (sym e.faults) (rose_may core now c rose)

@@ -1,0 +1,142 @@
+-- The world's calls, put together from what their calls of the journal did.
+use Rattle.std.proofs.Common.{◌≡◌, ℕ, ◌-◌, List, [], ◌∷◌, refl, sym, ap, ◌∙◌, subst, Bool, true, false, length}
+use Rattle.std.specs.Prelude.{Result, Ok, Err, ⊤, ◌||◌}
+use Rattle.meta_journal.specs.Places.{meta_key}
+use Rattle.meta_journal.specs.declared.entry.Act.{Act}
+use Rattle.meta_journal.specs.declared.entry.Entry.{Entry}
+use Rattle.object_store.specs.Store.{State}
+use Rattle.source_log.specs.Log.{Log}
+use Rattle.index_world.specs.Calls.{Call, Fate, Making, Made, made, exists, failed, Gives, gives, Trouble, faulted, no_memory, Unmade, refused, troubled, Fault, is_foreign, store_failed, begun, taken_in, create_at_end, get_at_end, fence_of, settle_with, settle_making, settle_made, settled, unless_short, entry_of, may_append, last_unless, last_making, last_create, adopted_making, adopted_made, first_unless, transact, asking, appended, asked_clock, and_then, as_unmade, troubled_by, or_short}
+use Rattle.index_world.specs.Core.{Core}
+use Rattle.index_world.proofs.JournalCalls.{quiet, failing, calm_get, MadeLaw, AdoptedLaw, FailedLaw, ExistsLaw, GetFailedLaw}
+
+-- ---- settling
+
+-- where nothing is unsure there is nothing to do
+pub settled_sure : (core : Core) (first second : Call) → core.unsure ≡ false → first.short ≡ false → settled first second core ≡ gives (Ok tt) core
+settled_sure core first second sure long = ap (λ u. settle_with u first second core) sure ∙ ap (λ s. unless_short s core) long
+
+settled_by : (core : Core) (first second : Call) → core.unsure ≡ true → first.short ≡ false →
+    settled first second core ≡ settle_making second core.store_faults (fence_of core) (create_at_end first (fence_of core) core)
+settled_by core first second unsure long =
+    ap (λ u. settle_with u first second core) unsure
+    ∙ ap (λ s. or_short s no_memory first core (settle_making second core.store_faults (fence_of core) (create_at_end first (fence_of core) core))) long
+
+pub settled_made : (old new : State) (core : Core) (log : Log) (now : ℕ) → core.unsure ≡ true → (m : MadeLaw old new core log (fence_of core) now) →
+    settled (quiet m.places (now - core.store_faults) false) calm_get core ≡ gives (Ok tt) (taken_in (fence_of core) m.after)
+settled_made old new core log now unsure m =
+    settled_by core (quiet m.places (now - core.store_faults) false) calm_get unsure refl ∙ ap (settle_making calm_get core.store_faults (fence_of core)) m.did
+
+-- the fence stands there, and no memory is found to take it in
+pub settled_made_short : (old new : State) (core : Core) (log : Log) (now : ℕ) → core.unsure ≡ true → (m : MadeLaw old new core log (fence_of core) now) →
+    settled (quiet m.places (now - core.store_faults) false) (quiet [] 0 true) core ≡ gives (Err no_memory) (record (m.after) { unsure = true })
+settled_made_short old new core log now unsure m =
+    settled_by core (quiet m.places (now - core.store_faults) false) (quiet [] 0 true) unsure refl ∙ ap (settle_making (quiet [] 0 true) core.store_faults (fence_of core)) m.did
+
+pub settled_adopted : (old new : State) (core : Core) (log : Log) (entry : Entry) (now : ℕ) → core.unsure ≡ true → (a : AdoptedLaw old new core log (fence_of core) entry core.store_faults now) →
+    settled (quiet a.places (now - core.store_faults) false) calm_get core ≡ gives (Ok tt) a.after
+settled_adopted old new core log entry now unsure a =
+    settled_by core (quiet a.places (now - core.store_faults) false) calm_get unsure refl ∙ ap (settle_making calm_get core.store_faults (fence_of core)) a.did ∙ a.got
+
+pub settled_failed : (old new : State) (core : Core) (log : Log) (now : ℕ) → core.unsure ≡ true → (f : FailedLaw old new core log (fence_of core) now) →
+    settled f.call calm_get core ≡ gives (Err (store_failed core.store_faults f.after)) f.after
+settled_failed old new core log now unsure f =
+    settled_by core f.call calm_get unsure f.short ∙ ap (settle_making calm_get core.store_faults (fence_of core)) f.did
+
+pub settled_get_failed : (old new : State) (core : Core) (log : Log) (now : ℕ) → core.unsure ≡ true → (g : GetFailedLaw old new core log (fence_of core) core.store_faults now) →
+    settled (quiet g.places (core.store_faults - core.store_faults) false) (failing [] (now - core.store_faults) false) core ≡ gives (Err (store_failed core.store_faults g.after)) g.after
+settled_get_failed old new core log now unsure g =
+    settled_by core (quiet g.places (core.store_faults - core.store_faults) false) (failing [] (now - core.store_faults) false) unsure refl
+    ∙ ap (settle_making (failing [] (now - core.store_faults) false) core.store_faults (fence_of core)) g.did ∙ g.got
+
+pub settled_short : (core : Core) (places : List ℕ) (rises : ℕ) → core.unsure ≡ true → settled (quiet places rises true) calm_get core ≡ gives (Err no_memory) (begun (quiet places rises true) core)
+settled_short core places rises unsure = ap (λ u. settle_with u (quiet places rises true) calm_get core) unsure
+
+-- ---- the last create of a transaction
+
+last_by : (act : Act) (core : Core) (call : Call) (before : ℕ) → call.short ≡ false → may_append act core ≡ Ok tt →
+    last_create call before act core ≡ last_making before (entry_of act core) (create_at_end call (entry_of act core) core)
+last_by act core call before long may =
+    ap (λ s. or_short s (troubled no_memory) call core (last_unless (may_append act core) call before act core)) long ∙ ap (λ m. last_unless m call before act core) may
+
+pub last_refused : (act : Act) (core : Core) (call : Call) (before : ℕ) (e : Unmade) → call.short ≡ false → may_append act core ≡ Err e → last_create call before act core ≡ gives (Err e) core
+last_refused act core call before e long may =
+    ap (λ s. or_short s (troubled no_memory) call core (last_unless (may_append act core) call before act core)) long ∙ ap (λ m. last_unless m call before act core) may
+
+pub last_is_made : (old new : State) (core : Core) (log : Log) (act : Act) (before now : ℕ) → may_append act core ≡ Ok tt → (m : MadeLaw old new core log (entry_of act core) now) →
+    last_create (quiet m.places (now - core.store_faults) false) before act core ≡ gives (Ok tt) (taken_in (entry_of act core) m.after)
+last_is_made old new core log act before now may m =
+    last_by act core (quiet m.places (now - core.store_faults) false) before refl may ∙ ap (last_making before (entry_of act core)) m.did
+
+pub last_failed : (old new : State) (core : Core) (log : Log) (act : Act) (before now : ℕ) → may_append act core ≡ Ok tt → (f : FailedLaw old new core log (entry_of act core) now) →
+    last_create f.call before act core ≡ gives (Err (troubled (store_failed before f.after))) f.after
+last_failed old new core log act before now may f = last_by act core f.call before f.short may ∙ ap (last_making before (entry_of act core)) f.did
+
+pub last_foreign : (old new : State) (core : Core) (log : Log) (act : Act) (before now : ℕ) → may_append act core ≡ Ok tt → (x : ExistsLaw old new core log (entry_of act core) now) →
+    last_create (quiet x.places (now - core.store_faults) false) before act core ≡ gives (Err (troubled (faulted (is_foreign (meta_key (length x.after.history)))))) x.after
+last_foreign old new core log act before now may x =
+    last_by act core (quiet x.places (now - core.store_faults) false) before refl may ∙ ap (last_making before (entry_of act core)) x.did
+
+-- ---- a transaction where nothing is unsure
+
+first_by : (act : Core → Act) (core : Core) (first second third : Call) → core.unsure ≡ false → first.short ≡ false → may_append (act core) core ≡ Ok tt →
+    transact core.unsure first second third act core ≡ adopted_making second third core.store_faults act (entry_of (act core) core) (create_at_end first (entry_of (act core) core) core)
+first_by act core first second third sure long may =
+    ap (λ u. transact u first second third act core) sure
+    ∙ ap (λ s. or_short s (troubled no_memory) first core (first_unless (may_append (act core) core) first second third act core)) long
+    ∙ ap (λ m. first_unless m first second third act core) may
+
+pub first_refused : (act : Core → Act) (core : Core) (first second third : Call) (e : Unmade) → core.unsure ≡ false → first.short ≡ false → may_append (act core) core ≡ Err e →
+    transact core.unsure first second third act core ≡ gives (Err e) core
+first_refused act core first second third e sure long may =
+    ap (λ u. transact u first second third act core) sure
+    ∙ ap (λ s. or_short s (troubled no_memory) first core (first_unless (may_append (act core) core) first second third act core)) long
+    ∙ ap (λ m. first_unless m first second third act core) may
+
+pub first_made : (old new : State) (core : Core) (log : Log) (act : Core → Act) (second third : Call) (now : ℕ) → core.unsure ≡ false → may_append (act core) core ≡ Ok tt →
+    (m : MadeLaw old new core log (entry_of (act core) core) now) →
+    transact core.unsure (quiet m.places (now - core.store_faults) false) second third act core ≡ gives (Ok tt) (taken_in (entry_of (act core) core) m.after)
+first_made old new core log act second third now sure may m =
+    first_by act core (quiet m.places (now - core.store_faults) false) second third sure refl may
+    ∙ ap (adopted_making second third core.store_faults act (entry_of (act core) core)) m.did
+
+pub first_failed : (old new : State) (core : Core) (log : Log) (act : Core → Act) (second third : Call) (now : ℕ) → core.unsure ≡ false → may_append (act core) core ≡ Ok tt →
+    (f : FailedLaw old new core log (entry_of (act core) core) now) →
+    transact core.unsure f.call second third act core ≡ gives (Err (troubled (store_failed core.store_faults f.after))) f.after
+first_failed old new core log act second third now sure may f =
+    first_by act core f.call second third sure f.short may ∙ ap (adopted_making second third core.store_faults act (entry_of (act core) core)) f.did
+
+-- it is adopted, and the entry is made anew and created once more
+pub first_adopted : (old new : State) (core : Core) (log : Log) (act : Core → Act) (entry : Entry) (third : Call) (now : ℕ) → core.unsure ≡ false → may_append (act core) core ≡ Ok tt →
+    (a : AdoptedLaw old new core log (entry_of (act core) core) entry core.store_faults now) →
+    transact core.unsure (quiet a.places (now - core.store_faults) false) calm_get third act core ≡ last_create third core.store_faults (act a.after) a.after
+first_adopted old new core log act entry third now sure may a =
+    first_by act core (quiet a.places (now - core.store_faults) false) calm_get third sure refl may
+    ∙ ap (adopted_making calm_get third core.store_faults act (entry_of (act core) core)) a.did
+    ∙ ap (λ (g : Gives Trouble ⊤). and_then (as_unmade g) (λ c. last_create third core.store_faults (act c) c)) a.got
+
+pub first_get_failed : (old new : State) (core : Core) (log : Log) (act : Core → Act) (third : Call) (now : ℕ) → core.unsure ≡ false → may_append (act core) core ≡ Ok tt →
+    (g : GetFailedLaw old new core log (entry_of (act core) core) core.store_faults now) →
+    transact core.unsure (quiet g.places (core.store_faults - core.store_faults) false) (failing [] (now - core.store_faults) false) third act core ≡ gives (Err (troubled (store_failed core.store_faults g.after))) g.after
+first_get_failed old new core log act third now sure may g =
+    first_by act core (quiet g.places (core.store_faults - core.store_faults) false) (failing [] (now - core.store_faults) false) third sure refl may
+    ∙ ap (adopted_making (failing [] (now - core.store_faults) false) third core.store_faults act (entry_of (act core) core)) g.did
+    ∙ ap (λ (x : Gives Trouble ⊤). and_then (as_unmade x) (λ c. last_create third core.store_faults (act c) c)) g.got
+
+pub first_short : (core : Core) (act : Core → Act) (second third : Call) (places : List ℕ) (rises : ℕ) → core.unsure ≡ false →
+    transact core.unsure (quiet places rises true) second third act core ≡ gives (Err (troubled no_memory)) (begun (quiet places rises true) core)
+first_short core act second third places rises sure = ap (λ u. transact u (quiet places rises true) second third act core) sure
+
+-- ---- a transaction that settles first
+
+pub after_settling : (act : Core → Act) (core after : Core) (first second third : Call) → core.unsure ≡ true → settled first second core ≡ gives (Ok tt) after →
+    transact core.unsure first second third act core ≡ last_create third core.store_faults (act after) after
+after_settling act core after first second third unsure s =
+    ap (λ u. transact u first second third act core) unsure
+    ∙ ap (λ (g : Gives Trouble ⊤). and_then (as_unmade g) (λ c. last_create third core.store_faults (act c) c)) s
+
+pub not_settled : (act : Core → Act) (core after : Core) (first second third : Call) (trouble : Trouble) → core.unsure ≡ true → settled first second core ≡ gives (Err trouble) after →
+    transact core.unsure first second third act core ≡ gives (Err (troubled trouble)) after
+not_settled act core after first second third trouble unsure s =
+    ap (λ u. transact u first second third act core) unsure
+    ∙ ap (λ (g : Gives Trouble ⊤). and_then (as_unmade g) (λ c. last_create third core.store_faults (act c) c)) s

@@ -1,0 +1,164 @@
+-- The world's invariant through a create behind the journal, an upload, a get and the taking in of what stands unread.
+use Rattle.std.proofs.Common.{◌≡◌, ◌⊎◌, ℕ, zero, suc, ◌<◌, ◌≤◌, ◌+◌, List, [], ◌∷◌, ◌++◌, refl, sym, ap, ◌∙◌, subst, inl, inr, Bool, true, false, length, arith, map}
+use Rattle.std.proofs.lemmas.List.{length-append, map-append}
+use Rattle.std.specs.FinMap.{get, insert}
+use Rattle.std.specs.List.{AllByRecursion}
+use Rattle.std.specs.Prelude.{Option, Some, None, is_some, IsSome, Result, Ok, Err, max}
+use Rattle.meta_journal.specs.Places.{meta_key, split_key, IsJournal}
+use Rattle.meta_journal.specs.Spelling.{Spells, CanSpell, spelling}
+use Rattle.meta_journal.specs.declared.entry.Act.TheVariants.{Stage}
+use Rattle.meta_journal.specs.declared.entry.Entry.{Entry}
+use Rattle.object_store.specs.Store.{State, with_object, with_late}
+use Rattle.source_checkpoint.specs.declared.delta.Part.{Part}
+use Rattle.source_log.specs.Log.{Log}
+use Rattle.split_states.specs.declared.facts.RowFacts.{RowFacts}
+use Rattle.index_world.specs.Calls.{tried, taken_in, with_file}
+use Rattle.index_world.specs.Calls as calls
+use Rattle.index_world.specs.Core.{Core, Late, late_entry, late_dead, late_file, with_unread, journal_of}
+use Rattle.index_world.specs.Index.{IsIndexOf, MayEnter, IsUnused, IsUploaded, HasStaged, is_meta}
+use Rattle.index_world.specs.Standing.{late_object, IsCalled, StandsFor}
+use Rattle.index_world.specs.World.{IsWorld}
+use Rattle.index_world.specs.Held.{KeepsHeld, KeepsOthers, Still, Enters}
+use Rattle.index_world.specs.Onward.{Onward}
+use Rattle.index_world.proofs.StoreKeys.{true_is_false, meta_begins, split_outside}
+use Rattle.index_world.proofs.Journals.{journal-end}
+use Rattle.index_world.proofs.StoreChanges.{All-snoc, All-each}
+use Rattle.index_world.proofs.Indexing.{Object, longer, journal_late, journal_other, index-enters, index-tried, index-dead}
+use Rattle.index_world.proofs.StoreCalls.{file-stands, file-late}
+use Rattle.index_world.proofs.Landing.{files_more, files_same, journal_none, journal_some, standing_number}
+use Rattle.index_world.proofs.Worlds.{held-refl, journal_is_history}
+
+-- ---- an entry comes to stand behind the history
+
+pub record Entered (old new : State) (core : Core) (log : Log) (entry : Entry) (unsure : Bool) : Type 0 where
+  pub onward : Onward old new core (record core { standing = Some entry; unsure = unsure }) log
+  pub fresh : (number : ℕ) (delta : List Part) (facts : RowFacts) → entry.act ≡ Stage number delta facts →
+      IsUnused new (core.history ++ entry ∷ []) number × HasStaged (core.history ++ entry ∷ []) number delta facts
+
+pub world-enters : (kept : State) (core : Core) (log : Log) (entry : Entry) (bytes : List ℕ) (unsure : Bool) → IsWorld kept core log → core.standing ≡ None → Spells bytes entry → MayEnter kept core.history log entry →
+    Entered kept (with_object kept (meta_key (length core.history)) bytes) core log entry unsure
+world-enters kept core log entry bytes unsure w none spells may =
+    record {
+      onward = record {
+        world = record {
+          stands_for = record { journal = enters.index.stands.journal; files = files_same kept core (meta_key (length core.history)) bytes s (meta_begins (length core.history)); late = s.late; called = s.called };
+          index = enters.index;
+        };
+        held = subst (λ es. KeepsHeld kept new es (core.history ++ entry ∷ [])) (sym (journal_is_history core none)) enters.held;
+      };
+      fresh = enters.fresh;
+    }
+  where
+    new : State
+    new = with_object kept (meta_key (length core.history)) bytes
+
+    s : StandsFor kept core
+    s = w.stands_for
+
+    enters : Enters kept new core.history log entry
+    enters = index-enters kept core.history log entry bytes (subst (λ es. IsIndexOf kept es log) (journal_is_history core none) w.index) spells may
+
+-- ---- its create failed, and it is late
+
+still_tried : (kept : State) (core : Core) (log : Log) (entry : Entry) (bytes : List ℕ) → IsWorld kept core log → Spells bytes entry → (core.standing ≡ None → MayEnter kept core.history log entry) →
+    (standing : Option Entry) → core.standing ≡ standing → Still kept (with_late kept (meta_key (length core.history)) bytes) (journal_of core) log
+still_tried kept core log entry bytes w spells may None none =
+    subst (λ es. Still kept (with_late kept (meta_key (length core.history)) bytes) es log) (sym (journal_is_history core none))
+    (index-tried kept core.history log entry bytes (subst (λ es. IsIndexOf kept es log) (journal_is_history core none) w.index) spells (may none))
+still_tried kept core log entry bytes w spells may (Some u) some =
+    index-dead kept (journal_of core) log (length core.history) bytes w.index
+    (let e : length (journal_of core) ≡ length (core.history ++ u ∷ []) = ap (λ o. length (with_unread core.history o)) some in omega (arith, e, longer core.history u))
+
+pub world-tried : (kept : State) (core : Core) (log : Log) (entry : Entry) (bytes : List ℕ) → IsWorld kept core log → CanSpell entry → Spells bytes entry →
+    (core.standing ≡ None → MayEnter kept core.history log entry) →
+    Onward kept (with_late kept (meta_key (length core.history)) bytes) core (record core { late = core.late ++ late_entry (length core.history) entry bytes ∷ []; unsure = true }) log
+world-tried kept core log entry bytes w can spells may =
+    let still = still_tried kept core log entry bytes w spells may core.standing refl in
+    record {
+      world = record {
+        stands_for = record {
+          journal = still.index.stands.journal;
+          files = s.files;
+          late = map-append late_object core.late (late_entry (length core.history) entry bytes ∷ []) ∙ ap (λ l. l ++ (meta_key (length core.history), bytes) ∷ []) s.late;
+          called = All-snoc (IsCalled core.history) core.late (late_entry (length core.history) entry bytes) s.called (omega arith, can, spells);
+        };
+        index = still.index;
+      };
+      held = still.held;
+    }
+  where
+    s : StandsFor kept core
+    s = w.stands_for
+
+-- ---- what stands unread is taken in
+
+called_longer : (entries : List Entry) (entry : Entry) (late : Late) → IsCalled entries late → IsCalled (entries ++ entry ∷ []) late
+called_longer entries entry (late_entry n e b) h = let le = h.0 in (omega (arith, longer entries entry, le), h.1, h.2)
+called_longer entries entry (late_dead key bytes) h = let lt : h.0 < length entries = h.1 in (h.0, omega (arith, longer entries entry, lt), h.2)
+called_longer entries entry (late_file key bytes) h = h
+
+pub world-taken : (kept : State) (core : Core) (log : Log) (entry : Entry) → IsWorld kept core log → core.standing ≡ Some entry → Onward kept kept core (taken_in entry core) log
+world-taken kept core log entry w some =
+    record {
+      world = record {
+        stands_for = record {
+          journal = journal_some kept core entry w.stands_for some;
+          files = w.stands_for.files;
+          late = w.stands_for.late;
+          called = All-each (IsCalled core.history) (IsCalled (core.history ++ entry ∷ [])) core.late (λ late h. called_longer core.history entry late h) w.stands_for.called;
+        };
+        index = subst (λ es. IsIndexOf kept es log) same w.index;
+      };
+      held = subst (λ es. KeepsHeld kept kept (journal_of core) es) same (held-refl kept (journal_of core));
+    }
+  where
+    same : journal_of core ≡ core.history ++ entry ∷ []
+    same = ap (with_unread core.history) some
+
+-- ---- an upload
+
+pub record Filed (old new : State) (core after : Core) (log : Log) (n : ℕ) : Type 0 where
+  pub world : IsWorld new after log
+  pub others : KeepsOthers old new (journal_of core) (journal_of after) n
+
+pub world-file : (kept : State) (core : Core) (log : Log) (n : ℕ) (bytes : List ℕ) → IsWorld kept core log → IsUnused kept (journal_of core) n →
+    Filed kept (with_object kept (split_key n) bytes) core (with_file (split_key n) bytes core) log n × IsUploaded (with_object kept (split_key n) bytes) (journal_of core) n bytes
+world-file kept core log n bytes w u =
+    let f = file-stands kept (journal_of core) log n bytes w.index u in (
+      record {
+        world = record {
+          stands_for = record {
+            journal = journal_other kept (split_key n) bytes (journal_of core) (split_outside n) s.journal;
+            files = files_more kept core (split_key n) bytes s (split_outside n) u.absent;
+            late = s.late;
+            called = s.called;
+          };
+          index = f.0;
+        };
+        others = f.1;
+      },
+      f.2,
+    )
+  where
+    s : StandsFor kept core
+    s = w.stands_for
+
+pub world-file-late : (kept : State) (core : Core) (log : Log) (n : ℕ) (bytes : List ℕ) → IsWorld kept core log → IsUnused kept (journal_of core) n →
+    Filed kept (with_late kept (split_key n) bytes) core (calls.with_late (late_file (split_key n) bytes) core) log n
+world-file-late kept core log n bytes w u =
+    let f = file-late kept (journal_of core) log n bytes w.index u in
+    record {
+      world = record {
+        stands_for = record {
+          journal = f.0.stands.journal;
+          files = s.files;
+          late = map-append late_object core.late (late_file (split_key n) bytes ∷ []) ∙ ap (λ l. l ++ (split_key n, bytes) ∷ []) s.late;
+          called = All-snoc (IsCalled core.history) core.late (late_file (split_key n) bytes) s.called (split_outside n);
+        };
+        index = f.0;
+      };
+      others = f.1;
+    }
+  where
+    s : StandsFor kept core
+    s = w.stands_for

@@ -1,0 +1,170 @@
+-- The world's invariant through what lands, and through changes of a core that leave its store.
+use Rattle.std.proofs.Common.{◌≡◌, ◌⊎◌, ℕ, zero, suc, ◌<◌, ◌≤◌, ◌+◌, List, [], ◌∷◌, ◌++◌, refl, sym, ap, ◌∙◌, subst, inl, inr, Bool, true, false, length, arith, map}
+use Rattle.std.proofs.lemmas.List.{length-append}
+use Rattle.std.proofs.lemmas.Option.{slice_get-map}
+use Rattle.std.specs.FinMap.{get}
+use Rattle.std.specs.List.{AllByRecursion}
+use Rattle.std.specs.Prelude.{Option, Some, None, slice_get, remove, is_some, ◌==◌, option_map}
+use Rattle.meta_journal.specs.declared.entry.Entry.{Entry}
+use Rattle.object_store.specs.Store.{State, landed, land_one, land_where}
+use Rattle.source_log.specs.Log.{Log}
+use Rattle.index_world.specs.Calls.{Call, all_landed, land_at, late_lands, entry_lands, file_lands, without_late, begun, risen}
+use Rattle.index_world.specs.Core.{Core, Late, late_entry, late_dead, late_file, late_key, file_at, with_unread, journal_of}
+use Rattle.index_world.specs.Index.{OneEntry, IsIndexOf, MayEnter}
+use Rattle.index_world.specs.Standing.{late_object, IsCalled, StandsFor}
+use Rattle.index_world.specs.World.{IsWorld}
+use Rattle.index_world.specs.Held.{KeepsHeld, Still, Enters, NoneAtEnd}
+use Rattle.index_world.specs.Onward.{Onward, SameLife, Landing}
+use Rattle.index_world.proofs.Journals.{one-journal}
+use Rattle.index_world.proofs.Indexing.{Lands, lands-one, longer, held-trans}
+use Rattle.index_world.proofs.Landing.{stands-lands}
+
+-- where the core stands for the store and the store is an index, it is one of the core's journal
+pub onward-of : OneEntry → (old new : State) (core after : Core) (log : Log) (more : List Entry) → StandsFor new after → IsIndexOf new more log → KeepsHeld old new (journal_of core) more → Onward old new core after log
+onward-of once old new core after log more s i h =
+    record {
+      world = record { stands_for = s; index = subst (λ es. IsIndexOf new es log) same i };
+      held = subst (λ es. KeepsHeld old new (journal_of core) es) same h;
+    }
+  where
+    same : more ≡ journal_of after
+    same = one-journal once new 0 more (journal_of after) i.stands.journal s.journal
+
+pub held-refl : (kept : State) (entries : List Entry) → KeepsHeld kept kept entries entries
+held-refl kept entries = record { unused = λ n u. u; uploaded = λ n bytes u. u; staged = λ n d f s. s }
+
+pub SameLife-refl : (core : Core) → SameLife core core
+SameLife-refl core = record { history = refl; store_faults = refl; moment = refl; clock = refl; unsure = refl }
+
+pub SameLife-trans : (a b c : Core) → SameLife a b → SameLife b c → SameLife a c
+SameLife-trans a b c x y =
+    record {
+      history = y.history ∙ x.history;
+      store_faults = y.store_faults ∙ x.store_faults;
+      moment = y.moment ∙ x.moment;
+      clock = y.clock ∙ x.clock;
+      unsure = y.unsure ∙ x.unsure;
+    }
+
+pub Landing-refl : (kept : State) (core : Core) (log : Log) → IsWorld kept core log → Landing kept kept core core log
+Landing-refl kept core log w =
+    record { onward = record { world = w; held = held-refl kept (journal_of core) }; same = SameLife-refl core; was = λ e. e; enters = λ none entry e. e }
+
+pub Onward-trans : (a b c : State) (x y z : Core) (log : Log) → Onward a b x y log → Onward b c y z log → Onward a c x z log
+Onward-trans a b c x y z log h k = record { world = k.world; held = held-trans a b c (journal_of x) (journal_of y) (journal_of z) h.held k.held }
+
+pub Landing-trans : (a b c : State) (x y z : Core) (log : Log) → Landing a b x y log → Landing b c y z log → Landing a c x z log
+Landing-trans a b c x y z log h k =
+    record {
+      onward = Onward-trans a b c x y z log h.onward k.onward;
+      same = SameLife-trans x y z h.same k.same;
+      was = λ none. h.was (k.was none);
+      enters = λ none entry e.
+          let middle : MayEnter b x.history log entry = h.enters (k.was none) entry e in
+          subst (λ es. MayEnter c es log entry) h.same.history (k.enters none entry (subst (λ es. MayEnter b es log entry) (sym h.same.history) middle));
+    }
+
+-- ---- one landing
+
+same-lands : (late : Late) (place : ℕ) (core : Core) → SameLife core (without_late place (late_lands late core))
+same-lands (late_entry n e b) place core = by core.standing (n == length core.history)
+  where
+    by : (standing : Option Entry) (test : Bool) → SameLife core (without_late place (entry_lands standing test e core))
+    by None true = record { history = refl; store_faults = refl; moment = refl; clock = refl; unsure = refl }
+    by None false = record { history = refl; store_faults = refl; moment = refl; clock = refl; unsure = refl }
+    by (Some u) test = record { history = refl; store_faults = refl; moment = refl; clock = refl; unsure = refl }
+same-lands (late_dead key bytes) place core = record { history = refl; store_faults = refl; moment = refl; clock = refl; unsure = refl }
+same-lands (late_file key bytes) place core = by (is_some (file_at core.files key))
+  where
+    by : (stands : Bool) → SameLife core (without_late place (file_lands stands key bytes core))
+    by true = record { history = refl; store_faults = refl; moment = refl; clock = refl; unsure = refl }
+    by false = record { history = refl; store_faults = refl; moment = refl; clock = refl; unsure = refl }
+
+some_none : {X : Type 0} (x : X) → ◌≡◌ {A = Option X} (Some x) None → ⊥
+some_none x e = cc
+
+was-lands : (late : Late) (place : ℕ) (core : Core) → (without_late place (late_lands late core)).standing ≡ None → core.standing ≡ None
+was-lands (late_entry n e b) place core h = by core.standing (n == length core.history) refl h
+  where
+    by : (standing : Option Entry) (test : Bool) → core.standing ≡ standing → (without_late place (entry_lands standing test e core)).standing ≡ None → core.standing ≡ None
+    by None test es h = es
+    by (Some u) test es h = h
+was-lands (late_dead key bytes) place core h = h
+was-lands (late_file key bytes) place core h = by (is_some (file_at core.files key)) h
+  where
+    by : (stands : Bool) → (without_late place (file_lands stands key bytes core)).standing ≡ None → core.standing ≡ None
+    by true h = h
+    by false h = h
+
+pub journal_is_history : (core : Core) → core.standing ≡ None → journal_of core ≡ core.history
+journal_is_history core none = ap (with_unread core.history) none
+
+landing-of : OneEntry → (kept new : State) (core after : Core) (log : Log) → StandsFor new after → SameLife core after → (after.standing ≡ None → core.standing ≡ None) → Lands kept new (journal_of core) log →
+    Landing kept new core after log
+landing-of once kept new core after log s same was (inl h) =
+    record {
+      onward = onward-of once kept new core after log (journal_of core) s h.0.index h.0.held;
+      same = same;
+      was = was;
+      enters = λ none entry e.
+          let j = journal_is_history core (was none) in
+          subst (λ es. MayEnter new es log entry) j (h.0.enters entry (subst (λ es. MayEnter kept es log entry) (sym j) e));
+    }
+landing-of once kept new core after log s same was (inr h) =
+    record {
+      onward = onward-of once kept new core after log (journal_of core ++ h.0 ∷ []) s h.1.index h.1.held;
+      same = same;
+      was = was;
+      enters = λ none entry e. absurd (no_entry none);
+    }
+  where
+    more : journal_of core ++ h.0 ∷ [] ≡ journal_of after
+    more = one-journal once new 0 (journal_of core ++ h.0 ∷ []) (journal_of after) h.1.index.stands.journal s.journal
+
+    no_entry : after.standing ≡ None → ⊥
+    no_entry none =
+        let a : journal_of after ≡ core.history = journal_is_history after none ∙ same.history in
+        let b : journal_of core ≡ core.history = journal_is_history core (was none) in
+        let l : length (journal_of core ++ h.0 ∷ []) ≡ length core.history = ap length (more ∙ a) in
+        let k : length (journal_of core) ≡ length core.history = ap length b in
+        omega (arith, longer (journal_of core) h.0, l, k)
+
+world-land : OneEntry → (kept : State) (core : Core) (log : Log) (place : ℕ) → IsWorld kept core log →
+    Landing kept (land_one (slice_get kept.late place) place kept) core (land_at (slice_get core.late place) place core) log
+world-land once kept core log place w = by (slice_get core.late place) refl
+  where
+    there : (late : Option Late) → slice_get core.late place ≡ late → slice_get kept.late place ≡ option_map late_object late
+    there late e = ap (λ l. slice_get l place) (sym w.stands_for.late) ∙ slice_get-map late_object core.late place ∙ ap (option_map late_object) e
+
+    lands : (late : Option Late) → slice_get core.late place ≡ late → Lands kept (land_one (option_map late_object late) place kept) (journal_of core) log
+    lands late e = subst (λ o. Lands kept (land_one o place kept) (journal_of core) log) (there late e) (lands-one kept place (journal_of core) log w.index)
+
+    by : (late : Option Late) → slice_get core.late place ≡ late → Landing kept (land_one (slice_get kept.late place) place kept) core (land_at late place core) log
+    by None e = subst (λ o. Landing kept (land_one o place kept) core core log) (sym (there None e)) (Landing-refl kept core log w)
+    by (Some late) e =
+        subst (λ o. Landing kept (land_one o place kept) core (land_at (Some late) place core) log) (sym (there (Some late) e))
+        (landing-of once kept (land_one (Some (late_object late)) place kept) core (land_at (Some late) place core) log
+        (stands-lands kept core log place late w e (there (Some late) e) (get kept.objects (late_key late)) refl)
+        (same-lands late place core) (was-lands late place core) (lands (Some late) e))
+
+landings-from : OneEntry → (old mid : State) (core between : Core) (log : Log) (places : List ℕ) → Landing old mid core between log → Landing old (landed places mid) core (all_landed places between) log
+landings-from once old mid core between log [] h = h
+landings-from once old mid core between log (place ∷ places) h =
+    landings-from once old (land_one (slice_get mid.late place) place mid) core (land_at (slice_get between.late place) place between) log places
+    (Landing-trans old mid (land_one (slice_get mid.late place) place mid) core between (land_at (slice_get between.late place) place between) log h
+    (world-land once mid between log place h.onward.world))
+
+-- what lands in the store lands in the core, by the same places
+pub world-lands : OneEntry → (old : State) (core : Core) (log : Log) (places : List ℕ) → IsWorld old core log → Landing old (landed places old) core (all_landed places core) log
+world-lands once old core log places w = landings-from once old old core core log places (Landing-refl old core log w)
+
+-- ---- what is not in the store
+
+-- the same journal, files and late creates
+pub world-same : (kept : State) (core : Core) (log : Log) (faults moment clock : ℕ) (unsure : Bool) → IsWorld kept core log →
+    IsWorld kept (record core { store_faults = faults; moment = moment; clock = clock; unsure = unsure }) log
+world-same kept core log faults moment clock unsure w =
+    record {
+      stands_for = record { journal = w.stands_for.journal; files = w.stands_for.files; late = w.stands_for.late; called = w.stands_for.called };
+      index = w.index;
+    }
