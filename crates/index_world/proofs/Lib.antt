@@ -15,3 +15,4 @@ pub mod Transactions
 pub mod Asking
 pub mod InCore
 pub mod FileCalls
+pub mod Opening

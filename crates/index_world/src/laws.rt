@@ -9,6 +9,17 @@ ghost use Rattle.object_store.specs.Store.{State, landed, with_object, with_late
 ghost use Rattle.object_store.specs.declared.store.CreateError.{CreateError};
 ghost use Rattle.source_log.specs.Log.{Log};
 ghost use Rattle.index_world.specs.Index.{IsIndexOf, MayEnter, IsUnused, OneEntry};
+ghost use Rattle.std.specs.Prelude.{None, Bool, true, false, ◌<◌};
+ghost use Rattle.meta_store.specs.History.{moment_of, history as told};
+ghost use Rattle.meta_store.specs.State.{Legal};
+ghost use Rattle.source_checkpoint.specs.declared.delta.Part.{Part};
+ghost use Rattle.split_states.specs.declared.facts.RowFacts.{RowFacts};
+ghost use Rattle.index_world.specs.Calls.{all_landed, fence_of, taken_in, asked_clock};
+ghost use Rattle.index_world.specs.Config.{reads};
+ghost use Rattle.index_world.specs.Core.{Core};
+ghost use Rattle.index_world.specs.Index.{MayPublish, HasStaged, IsMade, IsUploaded};
+ghost use Rattle.index_world.specs.Onward.{Landing};
+ghost use Rattle.index_world.specs.World.{IsWorld, IsTimely};
 ghost use Rattle.index_world.specs.Held.{Still, Enters, AfterLanding, AfterCreate, AfterUpload, Loads};
 
 /// Late creates that come to stand leave an index, of the same entries or with one that was late.
@@ -51,4 +62,28 @@ pub fn load_keeps()
 /// A store without objects is an index of no entry, over each log.
 pub fn empty_store_is_an_index()
     ensures { (log : Log) → IsIndexOf (record { objects = empty; late = [] }) [] log }
+{}
+
+/// Each index has a core that stands for it, with nothing unread and nothing unsure.
+pub fn every_index_has_a_core()
+    ensures { (kept : State) (entries : List Entry) (log : Log) (count clock : ℕ) → IsIndexOf kept entries log →
+        (core : Core) × IsWorld kept core log × (core.history ≡ entries) × (core.standing ≡ None) × (core.store_faults ≡ count)
+        × (core.clock ≡ clock) × (core.moment ≡ moment_of (told entries)) × (core.unsure ≡ false) }
+{}
+
+/// What lands in the store lands in its core, by the same places.
+pub fn landings_are_the_cores()
+    ensures { OneEntry → (old : State) (core : Core) (log : Log) (places : List ℕ) → IsWorld old core log → Landing old (landed places old) core (all_landed places core) log }
+{}
+
+/// A fence may always close a number that is unsure.
+pub fn fence_may_enter()
+    ensures { (kept : State) (core : Core) (log : Log) → Legal reads (told core.history) → 0 < length core.history → IsTimely core → core.unsure ≡ true →
+        MayEnter kept core.history log (fence_of core) }
+{}
+
+/// A number in hand whose file was made of the log and uploaded may be published.
+pub fn made_file_may_be_published()
+    ensures { (kept : State) (entries : List Entry) (log : Log) (number : ℕ) (delta : List Part) (facts : RowFacts) (bytes : List ℕ) →
+        HasStaged entries number delta facts → IsMade log delta facts bytes → IsUploaded kept entries number bytes → MayPublish kept entries log number }
 {}

@@ -1,0 +1,5 @@
+use Rattle.index_world.proofs.Worlds.{world-lands}
+use Rattle.index_world.proofs.laws.landings_are_the_cores.Goals as goal
+
+pub returns : goal.returns
+returns c = world-lands
