@@ -154,60 +154,60 @@ head_again : (version : ℕ) (k : Kind) (rest : List ℕ) → (version ≡ 2) �
 head_again version k rest (inl two) = head_by version (number_of k) rest (inr two) ∙ kind_again version k (inl two)
 head_again version k rest (inr one) = head_by version (number_of k) rest (inl one.0) ∙ kind_again version k (inr one.1)
 
-module _ (bytes : List ℕ) (fits : IsBytes bytes) where
+module _ (bytes : List ℕ) where
   moment_exact : IsExact bytes (moment_at bytes) varint (λ n. IsNumber n × (n < 2 ^ 62))
   unfolding moment_at
-  moment_exact = where_exact bytes (λ n. nat_lt n (2 ^ 62)) TooLarge (number_at bytes) varint IsNumber (λ n. n < 2 ^ 62) (λ n h. ltb-true n (2 ^ 62) h) (λ n h. lt-ltb n (2 ^ 62) h) (number_exact bytes fits)
+  moment_exact = where_exact bytes (λ n. nat_lt n (2 ^ 62)) TooLarge (number_at bytes) varint IsNumber (λ n. n < 2 ^ 62) (λ n h. ltb-true n (2 ^ 62) h) (λ n h. lt-ltb n (2 ^ 62) h) (number_exact bytes)
 
   -- ---- the act
 
   stage_exact : IsExact bytes (both (number_at bytes) (both (counted_at bytes (λ before. part_at bytes)) (facts_at bytes))) (λ s. varint s.0 ++ (counted part_spelled s.1.0 ++ facts_spelled s.1.1)) (λ s. IsNumber s.0 × (AreAll CanSpellPart s.1.0 × CanSpellFacts s.1.1))
-  stage_exact = both_exact bytes _ _ varint (λ s. counted part_spelled s.0 ++ facts_spelled s.1) IsNumber (λ s. AreAll CanSpellPart s.0 × CanSpellFacts s.1) (number_exact bytes fits)
-      (both_exact bytes _ _ (counted part_spelled) facts_spelled (AreAll CanSpellPart) CanSpellFacts (plain_exact bytes fits (part_at bytes) part_spelled CanSpellPart (part_exact bytes fits)) (facts_exact bytes fits))
+  stage_exact = both_exact bytes _ _ varint (λ s. counted part_spelled s.0 ++ facts_spelled s.1) IsNumber (λ s. AreAll CanSpellPart s.0 × CanSpellFacts s.1) (number_exact bytes)
+      (both_exact bytes _ _ (counted part_spelled) facts_spelled (AreAll CanSpellPart) CanSpellFacts (plain_exact bytes (part_at bytes) part_spelled CanSpellPart (part_exact bytes)) (facts_exact bytes))
 
   replace_exact : IsExact bytes (both (number_at bytes) (both (counted_at bytes (λ before. number_at bytes)) (number_at bytes))) (λ r. varint r.0 ++ (counted varint r.1.0 ++ varint r.1.1)) (λ r. IsNumber r.0 × (AreAll IsNumber r.1.0 × IsNumber r.1.1))
-  replace_exact = both_exact bytes _ _ varint (λ r. counted varint r.0 ++ varint r.1) IsNumber (λ r. AreAll IsNumber r.0 × IsNumber r.1) (number_exact bytes fits)
-      (both_exact bytes _ _ (counted varint) varint (AreAll IsNumber) IsNumber (plain_exact bytes fits (number_at bytes) varint IsNumber (number_exact bytes fits)) (number_exact bytes fits))
+  replace_exact = both_exact bytes _ _ varint (λ r. counted varint r.0 ++ varint r.1) IsNumber (λ r. AreAll IsNumber r.0 × IsNumber r.1) (number_exact bytes)
+      (both_exact bytes _ _ (counted varint) varint (AreAll IsNumber) IsNumber (plain_exact bytes (number_at bytes) varint IsNumber (number_exact bytes)) (number_exact bytes))
 
   raise_exact : IsExact bytes (both (number_at bytes) (number_at bytes)) (λ r. varint r.0 ++ varint r.1) (λ r. IsNumber r.0 × IsNumber r.1)
-  raise_exact = both_exact bytes _ _ varint varint IsNumber IsNumber (number_exact bytes fits) (number_exact bytes fits)
+  raise_exact = both_exact bytes _ _ varint varint IsNumber IsNumber (number_exact bytes) (number_exact bytes)
 
   task_exact : IsExact bytes (both (number_at bytes) (both (utf8_at bytes) (both (counted_at bytes (λ before. utf8_at bytes)) (range_at bytes))))
       (λ t. varint t.0 ++ (byte_string t.1.0 ++ (counted byte_string t.1.1.0 ++ range_spelled t.1.1.1))) (λ t. IsNumber t.0 × (IsText t.1.0 × (AreAll IsText t.1.1.0 × CanSpellRange t.1.1.1)))
-  task_exact = both_exact bytes _ _ varint (λ t. byte_string t.0 ++ (counted byte_string t.1.0 ++ range_spelled t.1.1)) IsNumber (λ t. IsText t.0 × (AreAll IsText t.1.0 × CanSpellRange t.1.1)) (number_exact bytes fits)
-      (both_exact bytes _ _ byte_string (λ t. counted byte_string t.0 ++ range_spelled t.1) IsText (λ t. AreAll IsText t.0 × CanSpellRange t.1) (utf8_exact bytes fits)
-      (both_exact bytes _ _ (counted byte_string) range_spelled (AreAll IsText) CanSpellRange (plain_exact bytes fits (utf8_at bytes) byte_string IsText (utf8_exact bytes fits)) (range_exact bytes fits)))
+  task_exact = both_exact bytes _ _ varint (λ t. byte_string t.0 ++ (counted byte_string t.1.0 ++ range_spelled t.1.1)) IsNumber (λ t. IsText t.0 × (AreAll IsText t.1.0 × CanSpellRange t.1.1)) (number_exact bytes)
+      (both_exact bytes _ _ byte_string (λ t. counted byte_string t.0 ++ range_spelled t.1) IsText (λ t. AreAll IsText t.0 × CanSpellRange t.1) (utf8_exact bytes)
+      (both_exact bytes _ _ (counted byte_string) range_spelled (AreAll IsText) CanSpellRange (plain_exact bytes (utf8_at bytes) byte_string IsText (utf8_exact bytes)) (range_exact bytes)))
 
   abbrev IsAct : Kind → Act → Type 0
   IsAct k a = CanSpellAct a × (kind_number a ≡ number_of k)
 
   act_takes : (k : Kind) → Takes bytes (act_at bytes k) payload (IsAct k)
   unfolding act_at
-  act_takes kinds.Fence at x le e =
+  act_takes kinds.Fence fits at x le e =
       let got : Act × ℕ = (acts.Fence, at) in
       subst (λ (y : Act × ℕ). SpelledAt bytes at (payload y.0) y.1 × IsAct kinds.Fence y.0) (ok_is got x e) (record { parts = refl; next_is = omega arith; within = le }, (tt, refl))
-  act_takes kinds.Create at x le e = made_takes bytes (λ config. acts.Create config) (string_at bytes) byte_string IsString payload (IsAct kinds.Create) (λ a. refl) (λ a h. (h, refl)) (string_exact bytes fits) at x le e
-  act_takes kinds.Stage at x le e = made_takes bytes (λ s. acts.Stage s.0 s.1.0 s.1.1) _ _ _ payload (IsAct kinds.Stage) (λ a. refl) (λ a h. ((h.0, h.1.0, h.1.1), refl)) stage_exact at x le e
-  act_takes kinds.Publish at x le e = made_takes bytes (λ number. acts.Publish number) (number_at bytes) varint IsNumber payload (IsAct kinds.Publish) (λ a. refl) (λ a h. (h, refl)) (number_exact bytes fits) at x le e
-  act_takes kinds.Replace at x le e = made_takes bytes (λ r. acts.Replace r.0 r.1.0 r.1.1) _ _ _ payload (IsAct kinds.Replace) (λ a. refl) (λ a h. ((h.0, h.1.0, h.1.1), refl)) replace_exact at x le e
-  act_takes kinds.Raise at x le e = made_takes bytes (λ r. acts.Raise r.0 r.1) _ _ _ payload (IsAct kinds.Raise) (λ a. refl) (λ a h. (h, refl)) raise_exact at x le e
-  act_takes kinds.Task at x le e = made_takes bytes (λ t. acts.Task t.0 t.1.0 t.1.1.0 t.1.1.1) _ _ _ payload (IsAct kinds.Task) (λ a. refl) (λ a h. ((h.0, h.1.0, h.1.1.0, h.1.1.1), refl)) task_exact at x le e
-  act_takes kinds.MarkStaged at x le e = made_takes bytes (λ numbers. acts.MarkStaged numbers) (row_numbers_at bytes) (counted varint) AreRowNumbers payload (IsAct kinds.MarkStaged) (λ a. refl) (λ a h. (h, refl)) (row_numbers_exact bytes fits) at x le e
-  act_takes kinds.Remove at x le e = made_takes bytes (λ numbers. acts.Remove numbers) (row_numbers_at bytes) (counted varint) AreRowNumbers payload (IsAct kinds.Remove) (λ a. refl) (λ a h. (h, refl)) (row_numbers_exact bytes fits) at x le e
-  act_takes kinds.Retire at x le e = made_takes bytes (λ numbers. acts.Retire numbers) (row_numbers_at bytes) (counted varint) AreRowNumbers payload (IsAct kinds.Retire) (λ a. refl) (λ a h. (h, refl)) (row_numbers_exact bytes fits) at x le e
+  act_takes kinds.Create fits at x le e = made_takes bytes (λ config. acts.Create config) (string_at bytes) byte_string IsString payload (IsAct kinds.Create) (λ a. refl) (λ a h. (h, refl)) (string_exact bytes) fits at x le e
+  act_takes kinds.Stage fits at x le e = made_takes bytes (λ s. acts.Stage s.0 s.1.0 s.1.1) _ _ _ payload (IsAct kinds.Stage) (λ a. refl) (λ a h. ((h.0, h.1.0, h.1.1), refl)) stage_exact fits at x le e
+  act_takes kinds.Publish fits at x le e = made_takes bytes (λ number. acts.Publish number) (number_at bytes) varint IsNumber payload (IsAct kinds.Publish) (λ a. refl) (λ a h. (h, refl)) (number_exact bytes) fits at x le e
+  act_takes kinds.Replace fits at x le e = made_takes bytes (λ r. acts.Replace r.0 r.1.0 r.1.1) _ _ _ payload (IsAct kinds.Replace) (λ a. refl) (λ a h. ((h.0, h.1.0, h.1.1), refl)) replace_exact fits at x le e
+  act_takes kinds.Raise fits at x le e = made_takes bytes (λ r. acts.Raise r.0 r.1) _ _ _ payload (IsAct kinds.Raise) (λ a. refl) (λ a h. (h, refl)) raise_exact fits at x le e
+  act_takes kinds.Task fits at x le e = made_takes bytes (λ t. acts.Task t.0 t.1.0 t.1.1.0 t.1.1.1) _ _ _ payload (IsAct kinds.Task) (λ a. refl) (λ a h. ((h.0, h.1.0, h.1.1.0, h.1.1.1), refl)) task_exact fits at x le e
+  act_takes kinds.MarkStaged fits at x le e = made_takes bytes (λ numbers. acts.MarkStaged numbers) (row_numbers_at bytes) (counted varint) AreRowNumbers payload (IsAct kinds.MarkStaged) (λ a. refl) (λ a h. (h, refl)) (row_numbers_exact bytes) fits at x le e
+  act_takes kinds.Remove fits at x le e = made_takes bytes (λ numbers. acts.Remove numbers) (row_numbers_at bytes) (counted varint) AreRowNumbers payload (IsAct kinds.Remove) (λ a. refl) (λ a h. (h, refl)) (row_numbers_exact bytes) fits at x le e
+  act_takes kinds.Retire fits at x le e = made_takes bytes (λ numbers. acts.Retire numbers) (row_numbers_at bytes) (counted varint) AreRowNumbers payload (IsAct kinds.Retire) (λ a. refl) (λ a h. (h, refl)) (row_numbers_exact bytes) fits at x le e
 
   act_again : (a : Act) (at : ℕ) (rest : List ℕ) → CanSpellAct a → drop at bytes ≡ payload a ++ rest → act_at bytes (kind_of_act a) at ≡ Ok (a, at + length (payload a))
   unfolding act_at
   act_again acts.Fence at rest can e = let same : at ≡ at + 0 = omega arith in ap (λ (n : ℕ). Ok (acts.Fence, n)) same
-  act_again (acts.Create config) at rest can e = made_again bytes (λ config. acts.Create config) (string_at bytes) byte_string IsString (string_exact bytes fits) at config rest can e
+  act_again (acts.Create config) at rest can e = made_again bytes (λ config. acts.Create config) (string_at bytes) byte_string IsString (string_exact bytes) at config rest can e
   act_again (acts.Stage number delta facts) at rest can e = made_again bytes (λ s. acts.Stage s.0 s.1.0 s.1.1) _ _ _ stage_exact at (number, (delta, facts)) rest (can.0, (can.1, can.2)) e
-  act_again (acts.Publish number) at rest can e = made_again bytes (λ number. acts.Publish number) (number_at bytes) varint IsNumber (number_exact bytes fits) at number rest can e
+  act_again (acts.Publish number) at rest can e = made_again bytes (λ number. acts.Publish number) (number_at bytes) varint IsNumber (number_exact bytes) at number rest can e
   act_again (acts.Replace new old upto) at rest can e = made_again bytes (λ r. acts.Replace r.0 r.1.0 r.1.1) _ _ _ replace_exact at (new, (old, upto)) rest (can.0, (can.1, can.2)) e
   act_again (acts.Raise number upto) at rest can e = made_again bytes (λ r. acts.Raise r.0 r.1) _ _ _ raise_exact at (number, upto) rest can e
   act_again (acts.Task opstamp text fields times) at rest can e = made_again bytes (λ t. acts.Task t.0 t.1.0 t.1.1.0 t.1.1.1) _ _ _ task_exact at (opstamp, (text, (fields, times))) rest (can.0, (can.1, (can.2, can.3))) e
-  act_again (acts.MarkStaged numbers) at rest can e = made_again bytes (λ numbers. acts.MarkStaged numbers) (row_numbers_at bytes) (counted varint) AreRowNumbers (row_numbers_exact bytes fits) at numbers rest can e
-  act_again (acts.Remove numbers) at rest can e = made_again bytes (λ numbers. acts.Remove numbers) (row_numbers_at bytes) (counted varint) AreRowNumbers (row_numbers_exact bytes fits) at numbers rest can e
-  act_again (acts.Retire numbers) at rest can e = made_again bytes (λ numbers. acts.Retire numbers) (row_numbers_at bytes) (counted varint) AreRowNumbers (row_numbers_exact bytes fits) at numbers rest can e
+  act_again (acts.MarkStaged numbers) at rest can e = made_again bytes (λ numbers. acts.MarkStaged numbers) (row_numbers_at bytes) (counted varint) AreRowNumbers (row_numbers_exact bytes) at numbers rest can e
+  act_again (acts.Remove numbers) at rest can e = made_again bytes (λ numbers. acts.Remove numbers) (row_numbers_at bytes) (counted varint) AreRowNumbers (row_numbers_exact bytes) at numbers rest can e
+  act_again (acts.Retire numbers) at rest can e = made_again bytes (λ numbers. acts.Retire numbers) (row_numbers_at bytes) (counted varint) AreRowNumbers (row_numbers_exact bytes) at numbers rest can e
 
   -- ---- the entry
 
@@ -216,16 +216,16 @@ module _ (bytes : List ℕ) (fits : IsBytes bytes) where
   by_format version n entry same (inl two) text = inl (subst (λ (v : ℕ). bytes ≡ spelled_in v entry) two text)
   by_format version n entry same (inr one) text = inr (subst (λ (v : ℕ). bytes ≡ spelled_in v entry) one.0 text, subst (λ (m : ℕ). m ≤ 8) same one.1)
 
-  pub entry_takes : (e : Entry) → entry_of bytes ≡ Ok e → CanSpell e × Spells bytes e
+  pub entry_takes : IsBytes bytes → (e : Entry) → entry_of bytes ≡ Ok e → CanSpell e × Spells bytes e
   unfolding entry_of
-  entry_takes e read =
+  entry_takes fits e read =
       let k = bind_ok (kind_at bytes) (λ kind. moment_at bytes 5 >>= λ moment. act_at bytes kind moment.1 >>= λ act. cond (eqb act.1 (length bytes)) (Ok (record { moment = moment.0; act = act.0 })) (Err (Trailing act.1))) e read in
       let m = bind_ok (moment_at bytes 5) (λ moment. act_at bytes k.0 moment.1 >>= λ act. cond (eqb act.1 (length bytes)) (Ok (record { moment = moment.0; act = act.0 })) (Err (Trailing act.1))) e k.2 in
       let a = bind_ok (act_at bytes k.0 m.0.1) (λ act. cond (eqb act.1 (length bytes)) (Ok (record { moment = m.0.0; act = act.0 })) (Err (Trailing act.1))) e m.2 in
       let g = guard_else_ok (eqb a.0.1 (length bytes)) (Trailing a.0.1) (Ok (record { moment = m.0.0; act = a.0.0 })) e a.2 in
       let head = head_takes bytes k.0 k.1 in
-      let moment = moment_exact.takes 5 m.0 (let long = head.long in omega arith) m.1 in
-      let act = act_takes k.0 m.0.1 a.0 moment.0.within a.1 in
+      let moment = moment_exact.takes fits 5 m.0 (let long = head.long in omega arith) m.1 in
+      let act = act_takes k.0 fits m.0.1 a.0 moment.0.within a.1 in
       let end : a.0.1 ≡ length bytes = eqb-true _ _ g.0 in
       let whole = SpelledAt-then bytes 5 m.0.1 a.0.1 (varint m.0.0) (payload a.0.0) moment.0 act.0 in
       let rest : drop 5 bytes ≡ varint m.0.0 ++ payload a.0.0 = whole.parts ∙ ap (λ (l : List ℕ). (varint m.0.0 ++ payload a.0.0) ++ l) (drop_all a.0.1 bytes (omega arith)) ∙ append-nil (varint m.0.0 ++ payload a.0.0) in
@@ -235,25 +235,31 @@ module _ (bytes : List ℕ) (fits : IsBytes bytes) where
       subst (λ (y : Entry). CanSpell y × Spells bytes y) (ok_is made e g.1)
       (record { moment = moment.1.1; act = act.1.0 }, by_format head.version (number_of k.0) made (sym act.1.1) head.format text)
 
-pub entry_in : (version : ℕ) (e : Entry) → IsBytes (spelled_in version e) → (version ≡ 2) ⊎ ((version ≡ 1) × (kind_number e.act ≤ 8)) → CanSpell e → entry_of (spelled_in version e) ≡ Ok e
+pub entry_in : (version : ℕ) (e : Entry) → (version ≡ 2) ⊎ ((version ≡ 1) × (kind_number e.act ≤ 8)) → CanSpell e → entry_of (spelled_in version e) ≡ Ok e
 unfolding entry_of
-entry_in version e fits format can =
+entry_in version e format can =
     let bytes = spelled_in version e in
     let format' : (version ≡ 2) ⊎ ((version ≡ 1) × (number_of (kind_of_act e.act) ≤ 8)) = subst (λ (n : ℕ). (version ≡ 2) ⊎ ((version ≡ 1) × (n ≤ 8))) (sym (same_number e.act)) format in
     let k : kind_at bytes ≡ Ok (kind_of_act e.act) =
     ap (λ (n : ℕ). kind_at (header version n ++ (varint e.moment ++ payload e.act))) (sym (same_number e.act)) ∙ head_again version (kind_of_act e.act) (varint e.moment ++ payload e.act) format' in
     let low : IsNumber e.moment = let small = can.moment in omega arith in
-    let m = (moment_exact bytes fits).again 5 e.moment (payload e.act) (low, can.moment) refl in
+    let m = (moment_exact bytes).again 5 e.moment (payload e.act) (low, can.moment) refl in
     let there : drop (5 + length (varint e.moment)) bytes ≡ payload e.act = behind bytes 5 (varint e.moment) (payload e.act) refl in
-    let a = act_again bytes fits e.act (5 + length (varint e.moment)) [] can.act (there ∙ sym (append-nil (payload e.act))) in
+    let a = act_again bytes e.act (5 + length (varint e.moment)) [] can.act (there ∙ sym (append-nil (payload e.act))) in
     let end : 5 + length (varint e.moment) + length (payload e.act) ≡ length bytes = omega (arith, length-append (varint e.moment) (payload e.act)) in
     let same : eqb (length bytes) (length bytes) ≡ true = eq-eqb _ _ refl in
     rw (k, m, a, end, same) refl
 
-pub entry_again : (bytes : List ℕ) (e : Entry) → IsBytes bytes → CanSpell e → Spells bytes e → entry_of bytes ≡ Ok e
+pub entry_again : (bytes : List ℕ) (e : Entry) → CanSpell e → Spells bytes e → entry_of bytes ≡ Ok e
 unfolding Spells
-entry_again bytes e fits can (inl two) = ap entry_of two ∙ entry_in 2 e (subst IsBytes two fits) (inl refl) can
-entry_again bytes e fits can (inr one) = ap entry_of one.0 ∙ entry_in 1 e (subst IsBytes one.0 fits) (inr (refl, one.1)) can
+entry_again bytes e can (inl two) = ap entry_of two ∙ entry_in 2 e (inl refl) can
+entry_again bytes e can (inr one) = ap entry_of one.0 ∙ entry_in 1 e (inr (refl, one.1)) can
+
+-- what is spelled is the spelling of one entry
+pub one_entry : (bytes : List ℕ) (a b : Entry) → CanSpell a → CanSpell b → Spells bytes a → Spells bytes b → a ≡ b
+one_entry bytes a b can_a can_b spells_a spells_b =
+    let same : ◌≡◌ {A = Result Entry EntryError} (Ok a) (Ok b) = sym (entry_again bytes a can_a spells_a) ∙ entry_again bytes b can_b spells_b in
+    cc
 
 pub entry_found : (bytes : List ℕ) (r : Result Entry EntryError) → IsBytes bytes → Reads r (entry_of bytes) → IfOk r (λ e. CanSpell e × Spells bytes e)
 entry_found bytes (Ok e) fits read = entry_takes bytes fits e read

@@ -39,9 +39,9 @@ guard_else_ok false d r y e = absurd cc
 
 -- ---- one reader
 
--- what is read is spelled there, and can be spelled
+-- what is read of bytes is spelled there, and can be spelled
 abbrev pub Takes : {A : Type 0} → List ℕ → Reader A → (A → List ℕ) → (A → Type 0) → Type 0
-Takes {A} bytes read spell Can = (at : ℕ) (x : A × ℕ) → at ≤ length bytes → read at ≡ Ok x → SpelledAt bytes at (spell x.0) x.1 × Can x.0
+Takes {A} bytes read spell Can = IsBytes bytes → (at : ℕ) (x : A × ℕ) → at ≤ length bytes → read at ≡ Ok x → SpelledAt bytes at (spell x.0) x.1 × Can x.0
 
 -- what can be spelled and is spelled there is read
 abbrev pub Again : {A : Type 0} → List ℕ → Reader A → (A → List ℕ) → (A → Type 0) → Type 0
@@ -55,16 +55,16 @@ pub record IsExact {A : Type 0} (bytes : List ℕ) (read : Reader A) (spell : A 
 pub behind : (bytes : List ℕ) (at : ℕ) (text rest : List ℕ) → drop at bytes ≡ text ++ rest → drop (at + length text) bytes ≡ rest
 behind bytes at text rest e = sym (drop-drop (length text) at bytes) ∙ ap (drop (length text)) e ∙ drop_at text rest (length text) refl
 
-module _ (bytes : List ℕ) (fits : IsBytes bytes) where
+module _ (bytes : List ℕ) where
   pub number_exact : IsExact bytes (number_at bytes) varint IsNumber
   number_exact = record {
-    takes = λ at x le e. varint_takes bytes at x.0 x.1 fits (field_ok (varint_at bytes at) x e);
+    takes = λ fits at x le e. varint_takes bytes at x.0 x.1 fits (field_ok (varint_at bytes at) x e);
     again = λ at n rest can e. ap field (varint_again bytes at n rest can e);
   }
 
   pub string_exact : IsExact bytes (string_at bytes) byte_string IsString
   string_exact = record {
-    takes = λ at x le e. bytes_takes bytes at x fits (field_ok (bytes_at bytes at) x e);
+    takes = λ fits at x le e. bytes_takes bytes at x fits (field_ok (bytes_at bytes at) x e);
     again = λ at text rest can e. ap field (bytes_again bytes at text rest can e);
   }
 
@@ -77,7 +77,7 @@ module _ (bytes : List ℕ) (fits : IsBytes bytes) where
 
   pub utf8_exact : IsExact bytes (utf8_at bytes) byte_string IsText
   utf8_exact = record {
-    takes = λ at x le e.
+    takes = λ fits at x le e.
         let read = field_ok (text_at bytes at) x e in
         let text = text_takes bytes at x fits read in
         let piece = bytes_takes bytes at x fits (text_bytes at x read) in
@@ -87,7 +87,7 @@ module _ (bytes : List ℕ) (fits : IsBytes bytes) where
 
   pub time_exact : IsExact bytes (time_at bytes) signed IsTime
   time_exact = record {
-    takes = λ at x le e. signed_takes bytes at x fits (field_ok (signed_at bytes at) x e);
+    takes = λ fits at x le e. signed_takes bytes at x fits (field_ok (signed_at bytes at) x e);
     again = λ at z rest can e. ap field (signed_again bytes at z rest can e);
   }
 
@@ -101,11 +101,11 @@ module _ (bytes : List ℕ) (fits : IsBytes bytes) where
 
 module _ {A B : Type 0} (bytes : List ℕ) (first : Reader A) (second : Reader B) (spell : A → List ℕ) (spell' : B → List ℕ) (Can : A → Type 0) (Can' : B → Type 0) (p : IsExact bytes first spell Can) (q : IsExact bytes second spell' Can') where
   both_takes : Takes bytes (both first second) (λ x. spell x.0 ++ spell' x.1) (λ x. Can x.0 × Can' x.1)
-  both_takes at x le e =
+  both_takes fits at x le e =
       let a = bind_ok (first at) (λ a. second a.1 >>= λ b. Ok ((a.0, b.0), b.1)) x e in
       let b = bind_ok (second a.0.1) (λ b. Ok ((a.0.0, b.0), b.1)) x a.2 in
-      let one = p.takes at a.0 le a.1 in
-      let two = q.takes a.0.1 b.0 one.0.within b.1 in
+      let one = p.takes fits at a.0 le a.1 in
+      let two = q.takes fits a.0.1 b.0 one.0.within b.1 in
       let got : (A × B) × ℕ = ((a.0.0, b.0.0), b.0.1) in
       subst (λ (y : (A × B) × ℕ). SpelledAt bytes at (spell y.0.0 ++ spell' y.0.1) y.1 × (Can y.0.0 × Can' y.0.1)) (ok_is got x b.2)
       (SpelledAt-then bytes at a.0.1 b.0.1 (spell a.0.0) (spell' b.0.0) one.0 two.0, (one.1, two.1))
@@ -125,9 +125,9 @@ module _ {A B : Type 0} (bytes : List ℕ) (first : Reader A) (second : Reader B
 
 pub made_takes : {A B : Type 0} (bytes : List ℕ) (make : A → B) (read : Reader A) (spell : A → List ℕ) (Can : A → Type 0) (spell' : B → List ℕ) (Can' : B → Type 0)
     → ((a : A) → spell' (make a) ≡ spell a) → ((a : A) → Can a → Can' (make a)) → IsExact bytes read spell Can → Takes bytes (made make read) spell' Can'
-made_takes {A} {B} bytes make read spell Can spell' Can' spelled can p at x le e =
+made_takes {A} {B} bytes make read spell Can spell' Can' spelled can p fits at x le e =
     let a = bind_ok (read at) (λ a. Ok (make a.0, a.1)) x e in
-    let one = p.takes at a.0 le a.1 in
+    let one = p.takes fits at a.0 le a.1 in
     let got : B × ℕ = (make a.0.0, a.0.1) in
     subst (λ (y : B × ℕ). SpelledAt bytes at (spell' y.0) y.1 × Can' y.0) (ok_is got x a.2) (rw (spelled a.0.0) one.0, can a.0.0 one.1)
 
@@ -152,42 +152,42 @@ made_exact {A} {B} bytes make back read spell Can spell' Can' same spelled can c
 pub where_exact : {A : Type 0} (bytes : List ℕ) (test : A → Bool) (fault : ℕ → FieldError) (read : Reader A) (spell : A → List ℕ) (Can Good : A → Type 0)
     → ((a : A) → test a ≡ true → Good a) → ((a : A) → Good a → test a ≡ true) → IsExact bytes read spell Can → IsExact bytes (where_is test fault read) spell (λ a. Can a × Good a)
 where_exact {A} bytes test fault read spell Can Good good passes p = record {
-  takes = λ at x le e.
+  takes = λ fits at x le e.
       let a = bind_ok (read at) (λ a. cond (test a.0) (Ok a) (Err (Field (fault at)))) x e in
       let g = guard_else_ok (test a.0.0) (Field (fault at)) (Ok a.0) x a.2 in
-      let one = p.takes at a.0 le a.1 in
+      let one = p.takes fits at a.0 le a.1 in
       subst (λ (y : A × ℕ). SpelledAt bytes at (spell y.0) y.1 × (Can y.0 × Good y.0)) (ok_is a.0 x g.1) (one.0, (one.1, good a.0.0 g.0));
   again = λ at a rest can e. rw (p.again at a rest can.0 e, passes a can.1) refl;
 }
 
 -- ---- what may be there
 
-module _ {A : Type 0} (bytes : List ℕ) (fits : IsBytes bytes) (read : Reader A) (spell : A → List ℕ) (Can : A → Type 0) (p : IsExact bytes read spell Can) where
-  given_takes : (b : Bool) (at next : ℕ) (x : Option A × ℕ) → SpelledAt bytes at (flag b) next → given bytes read b next ≡ Ok x → SpelledAt bytes at (optional spell x.0) x.1 × IsIfGiven Can x.0
-  given_takes false at next x bit e =
+module _ {A : Type 0} (bytes : List ℕ) (read : Reader A) (spell : A → List ℕ) (Can : A → Type 0) (p : IsExact bytes read spell Can) where
+  given_takes : IsBytes bytes → (b : Bool) (at next : ℕ) (x : Option A × ℕ) → SpelledAt bytes at (flag b) next → given bytes read b next ≡ Ok x → SpelledAt bytes at (optional spell x.0) x.1 × IsIfGiven Can x.0
+  given_takes fits false at next x bit e =
       let got : Option A × ℕ = (None, next) in
       subst (λ (y : Option A × ℕ). SpelledAt bytes at (optional spell y.0) y.1 × IsIfGiven Can y.0) (ok_is got x e) (bit, tt)
-  given_takes true at next x bit e =
+  given_takes fits true at next x bit e =
       let a = bind_ok (read next) (λ a. Ok (Some a.0, a.1)) x e in
-      let one = p.takes next a.0 bit.within a.1 in
+      let one = p.takes fits next a.0 bit.within a.1 in
       let got : Option A × ℕ = (Some a.0.0, a.0.1) in
       subst (λ (y : Option A × ℕ). SpelledAt bytes at (optional spell y.0) y.1 × IsIfGiven Can y.0) (ok_is got x a.2)
       (SpelledAt-then bytes at next a.0.1 (flag true) (spell a.0.0) bit one.0, one.1)
 
   optional_again : Again bytes (optional_at bytes read) (optional spell) (IsIfGiven Can)
-  optional_again at None rest can e = rw (bit_again bytes fits at false rest e) refl
+  optional_again at None rest can e = rw (bit_again bytes at false rest e) refl
   optional_again at (Some a) rest can e =
       let regrouped : drop at bytes ≡ flag true ++ (spell a ++ rest) = e ∙ append_assoc (flag true) (spell a) rest in
-      let bit = bit_again bytes fits at true (spell a ++ rest) regrouped in
+      let bit = bit_again bytes at true (spell a ++ rest) regrouped in
       let one = p.again (at + 1) a rest can (behind bytes at (flag true) (spell a ++ rest) regrouped) in
       let end : at + 1 + length (spell a) ≡ at + length (flag true ++ spell a) = omega (arith, length-append (flag true) (spell a)) in
       rw (bit, one, end) refl
 
   pub optional_exact : IsExact bytes (optional_at bytes read) (optional spell) (IsIfGiven Can)
   optional_exact = record {
-    takes = λ at x le e.
+    takes = λ fits at x le e.
         let b = bind_ok (bit_at bytes at) (λ b. given bytes read b.0 b.1) x e in
-        given_takes b.0.0 at b.0.1 x (bit_takes bytes fits at b.0 b.1) b.2;
+        given_takes fits b.0.0 at b.0.1 x (bit_takes bytes at b.0 b.1) b.2;
     again = optional_again;
   }
 
@@ -207,16 +207,16 @@ pub record AreTaken {A : Type 0} (bytes : List ℕ) (spell : A → List ℕ) (Ca
   pub chain : Chain Above done more
 
 module _ {A : Type 0} (bytes : List ℕ) (step : List A → Reader A) (spell : A → List ℕ) (Can : A → Type 0) (Above : List A → A → Type 0) (p : (done : List A) → IsExact bytes (step done) spell (λ a. Can a × Above done a)) where
-  pub members_takes : (left : ℕ) (done : List A) (at : ℕ) (x : List A × ℕ) → at ≤ length bytes → members step left done at ≡ Ok x → AreTaken bytes spell Can Above left done at x
+  pub members_takes : IsBytes bytes → (left : ℕ) (done : List A) (at : ℕ) (x : List A × ℕ) → at ≤ length bytes → members step left done at ≡ Ok x → AreTaken bytes spell Can Above left done at x
   unfolding members
-  members_takes zero done at x le e =
+  members_takes fits zero done at x le e =
       let got : List A × ℕ = (done, at) in
       subst (λ (y : List A × ℕ). AreTaken bytes spell Can Above zero done at y) (ok_is got x e)
       (record { more = []; whole = sym (append-nil done); spelled = record { parts = refl; next_is = omega arith; within = le }; count = refl; each = tt; chain = tt })
-  members_takes (suc left) done at x le e =
+  members_takes fits (suc left) done at x le e =
       let a = bind_ok (step done at) (λ one. members step left (done ++ one.0 ∷ []) one.1) x e in
-      let one = (p done).takes at a.0 le a.1 in
-      let rest = members_takes left (done ++ a.0.0 ∷ []) a.0.1 x one.0.within a.2 in
+      let one = (p done).takes fits at a.0 le a.1 in
+      let rest = members_takes fits left (done ++ a.0.0 ∷ []) a.0.1 x one.0.within a.2 in
       record {
         more = a.0.0 ∷ rest.more;
         whole = rest.whole ∙ append_assoc done (a.0.0 ∷ []) rest.more;
@@ -239,12 +239,12 @@ module _ {A : Type 0} (bytes : List ℕ) (step : List A → Reader A) (spell : A
       rw (one, two, append_assoc done (x ∷ []) more, end) refl
 
   -- a count that passes a test, and so many members
-  module _ (fits : IsBytes bytes) (count_at : Reader ℕ) (Few : ℕ → Type 0) (q : IsExact bytes count_at varint (λ n. IsNumber n × Few n)) where
+  module _ (count_at : Reader ℕ) (Few : ℕ → Type 0) (q : IsExact bytes count_at varint (λ n. IsNumber n × Few n)) where
     counted_takes : Takes bytes (λ at. count_at at >>= λ n. members step n.0 [] n.1) (counted spell) (λ xs. AreAll Can xs × Chain Above [] xs × Few (length xs))
-    counted_takes at x le e =
+    counted_takes fits at x le e =
         let n = bind_ok (count_at at) (λ n. members step n.0 [] n.1) x e in
-        let one = q.takes at n.0 le n.1 in
-        let rest = members_takes n.0.0 [] n.0.1 x one.0.within n.2 in
+        let one = q.takes fits at n.0 le n.1 in
+        let rest = members_takes fits n.0.0 [] n.0.1 x one.0.within n.2 in
         let count : length rest.more ≡ n.0.0 = rest.count in
         let few : IsNumber (length rest.more) × Few (length rest.more) = subst (λ (k : ℕ). IsNumber k × Few k) (sym count) one.1 in
         let head : SpelledAt bytes at (varint (length rest.more)) n.0.1 = subst (λ (k : ℕ). SpelledAt bytes at (varint k) n.0.1) (sym count) one.0 in

@@ -73,17 +73,17 @@ is_less Greater h = absurd cc
 -- a condition said in other words
 pub exact_same : {A : Type 0} (bytes : List ℕ) (read : Reader A) (spell : A → List ℕ) (Can Can' : A → Type 0) → ((a : A) → Can a → Can' a) → ((a : A) → Can' a → Can a) → IsExact bytes read spell Can → IsExact bytes read spell Can'
 exact_same bytes read spell Can Can' on back p = record {
-  takes = λ at x le e. let one = p.takes at x le e in (one.0, on x.0 one.1);
+  takes = λ fits at x le e. let one = p.takes fits at x le e in (one.0, on x.0 one.1);
   again = λ at a rest can e. p.again at a rest (back a can) e;
 }
 
-module _ (bytes : List ℕ) (fits : IsBytes bytes) where
+module _ (bytes : List ℕ) where
   -- a count, and so many members that need no order
   pub plain_exact : {A : Type 0} (read : Reader A) (spell : A → List ℕ) (Can : A → Type 0) → IsExact bytes read spell Can → IsExact bytes (counted_at bytes (λ before. read)) (counted spell) (AreAll Can)
   plain_exact {A} read spell Can p =
       exact_same bytes (counted_at bytes (λ before. read)) (counted spell) (λ xs. AreAll Can xs × Chain IsAny [] xs × Unit {0}) (AreAll Can) (λ xs h. h.0) (λ xs h. (h, any_chain [] xs, tt))
-      (counted_exact bytes (λ before. read) spell Can IsAny (λ done. exact_same bytes read spell Can (λ a. Can a × Unit {0}) (λ a h. (h, tt)) (λ a h. h.0) p) fits (number_at bytes) (λ n. Unit {0})
-      (exact_same bytes (number_at bytes) varint IsNumber (λ n. IsNumber n × Unit {0}) (λ n h. (h, tt)) (λ n h. h.0) (number_exact bytes fits)))
+      (counted_exact bytes (λ before. read) spell Can IsAny (λ done. exact_same bytes read spell Can (λ a. Can a × Unit {0}) (λ a h. (h, tt)) (λ a h. h.0) p) (number_at bytes) (λ n. Unit {0})
+      (exact_same bytes (number_at bytes) varint IsNumber (λ n. IsNumber n × Unit {0}) (λ n h. (h, tt)) (λ n h. h.0) (number_exact bytes)))
 
   -- a count, and so many members that rise
   rising_exact : {A : Type 0} (step : List A → Reader A) (spell : A → List ℕ) (Can : A → Type 0) (Below : A → A → Type 0) → ((done : List A) → IsExact bytes (step done) spell (λ a. Can a × IsAbove Below done a))
@@ -91,13 +91,13 @@ module _ (bytes : List ℕ) (fits : IsBytes bytes) where
   rising_exact step spell Can Below p =
       exact_same bytes (counted_at bytes step) (counted spell) (λ xs. AreAll Can xs × Chain (IsAbove Below) [] xs × Unit {0}) (λ xs. AreAll Can xs × Rises Below xs)
       (λ xs h. (h.0, chain_rises Below [] xs h.1)) (λ xs h. (h.0, rises_chain Below [] xs h.1, tt))
-      (counted_exact bytes step spell Can (IsAbove Below) p fits (number_at bytes) (λ n. Unit {0})
-      (exact_same bytes (number_at bytes) varint IsNumber (λ n. IsNumber n × Unit {0}) (λ n h. (h, tt)) (λ n h. h.0) (number_exact bytes fits)))
+      (counted_exact bytes step spell Can (IsAbove Below) p (number_at bytes) (λ n. Unit {0})
+      (exact_same bytes (number_at bytes) varint IsNumber (λ n. IsNumber n × Unit {0}) (λ n h. (h, tt)) (λ n h. h.0) (number_exact bytes)))
 
   partition_exact : IsExact bytes (partition_at bytes) byte_string IsPartition
   unfolding partition_at
   partition_exact = exact_same bytes (where_is is_partition NotText (utf8_at bytes)) byte_string (λ name. IsText name × IsPartition name) IsPartition (λ name h. h.1) (λ name h. (name_is_text name h, h))
-      (where_exact bytes is_partition NotText (utf8_at bytes) byte_string IsText IsPartition partition_is partition_passes (utf8_exact bytes fits))
+      (where_exact bytes is_partition NotText (utf8_at bytes) byte_string IsText IsPartition partition_is partition_passes (utf8_exact bytes))
 
   pub part_exact : IsExact bytes (part_at bytes) part_spelled CanSpellPart
   unfolding part_at
@@ -105,13 +105,13 @@ module _ (bytes : List ℕ) (fits : IsBytes bytes) where
       (λ p. byte_string p.0 ++ (varint p.1.0 ++ varint p.1.1)) (λ p. IsPartition p.0 × (IsNumber p.1.0 × IsNumber p.1.1)) part_spelled CanSpellPart
       (λ p. refl) (λ p. refl) (λ p h. record { partition = h.0; from = h.1.0; to = h.1.1 }) (λ p h. (h.partition, (h.from, h.to)))
       (both_exact bytes (partition_at bytes) (both (number_at bytes) (number_at bytes)) byte_string (λ x. varint x.0 ++ varint x.1) IsPartition (λ x. IsNumber x.0 × IsNumber x.1) partition_exact
-      (both_exact bytes (number_at bytes) (number_at bytes) varint varint IsNumber IsNumber (number_exact bytes fits) (number_exact bytes fits)))
+      (both_exact bytes (number_at bytes) (number_at bytes) varint varint IsNumber IsNumber (number_exact bytes) (number_exact bytes)))
 
   times_exact : IsExact bytes (times_at bytes) times_spelled CanSpellTimes
   unfolding times_at
   times_exact = made_exact bytes (λ t. record { least = t.0; greatest = t.1 }) (λ t. (t.least, t.greatest)) (both (time_at bytes) (time_at bytes)) (λ t. signed t.0 ++ signed t.1) (λ t. IsTime t.0 × IsTime t.1) times_spelled CanSpellTimes
       (λ t. refl) (λ t. refl) (λ t h. h) (λ t h. h)
-      (both_exact bytes (time_at bytes) (time_at bytes) signed signed IsTime IsTime (time_exact bytes fits) (time_exact bytes fits))
+      (both_exact bytes (time_at bytes) (time_at bytes) signed signed IsTime IsTime (time_exact bytes) (time_exact bytes))
 
   pub range_exact : IsExact bytes (range_at bytes) range_spelled CanSpellRange
   unfolding range_at
@@ -121,41 +121,41 @@ module _ (bytes : List ℕ) (fits : IsBytes bytes) where
       (both_exact bytes (optional_at bytes (time_at bytes)) (optional_at bytes (time_at bytes)) (optional signed) (optional signed) (IsIfGiven IsTime) (IsIfGiven IsTime) one one)
     where
       one : IsExact bytes (optional_at bytes (time_at bytes)) (optional signed) (IsIfGiven IsTime)
-      one = optional_exact bytes fits (time_at bytes) signed IsTime (time_exact bytes fits)
+      one = optional_exact bytes (time_at bytes) signed IsTime (time_exact bytes)
 
   term_exact : (before : List (List ℕ)) → IsExact bytes (term_at bytes before) byte_string (λ term. IsString term × IsAbove IsTermBelow before term)
   unfolding term_at
   term_exact before = where_exact bytes (λ term. is_last (λ last. is_lt (slice_cmp nat_cmp last term)) (last_of before)) BadOrder (string_at bytes) byte_string IsString (IsAbove IsTermBelow before)
       (λ term h. last_is IsTermBelow (λ last. is_lt (slice_cmp nat_cmp last term)) term (last_of before) (λ y e. is_less (slice_cmp nat_cmp y term) e) h)
       (λ term h. last_passes IsTermBelow (λ last. is_lt (slice_cmp nat_cmp last term)) term (last_of before) (λ y e. ap is_lt e) h)
-      (string_exact bytes fits)
+      (string_exact bytes)
 
   terms_exact : IsExact bytes (counted_at bytes (term_at bytes)) (counted byte_string) (λ terms. AreAll IsString terms × Rises IsTermBelow terms)
   terms_exact = rising_exact (term_at bytes) byte_string IsString IsTermBelow term_exact
 
-  tags_by_takes : (b : Bool) (at next : ℕ) (x : Tags × ℕ) → SpelledAt bytes at (flag b) next → tags_by bytes b next ≡ Ok x → SpelledAt bytes at (tags_spelled x.0) x.1 × CanSpellTags x.0
-  tags_by_takes true at next x bit e =
+  tags_by_takes : IsBytes bytes → (b : Bool) (at next : ℕ) (x : Tags × ℕ) → SpelledAt bytes at (flag b) next → tags_by bytes b next ≡ Ok x → SpelledAt bytes at (tags_spelled x.0) x.1 × CanSpellTags x.0
+  tags_by_takes fits true at next x bit e =
       let got : Tags × ℕ = (Many, next) in
       subst (λ (y : Tags × ℕ). SpelledAt bytes at (tags_spelled y.0) y.1 × CanSpellTags y.0) (ok_is got x e) (bit, tt)
-  tags_by_takes false at next x bit e =
+  tags_by_takes fits false at next x bit e =
       let a = bind_ok (counted_at bytes (term_at bytes) next) (λ a. Ok (Listed a.0, a.1)) x e in
-      let one = terms_exact.takes next a.0 bit.within a.1 in
+      let one = terms_exact.takes fits next a.0 bit.within a.1 in
       let got : Tags × ℕ = (Listed a.0.0, a.0.1) in
       subst (λ (y : Tags × ℕ). SpelledAt bytes at (tags_spelled y.0) y.1 × CanSpellTags y.0) (ok_is got x a.2)
       (SpelledAt-then bytes at next a.0.1 (flag false) (counted byte_string a.0.0) bit one.0, one.1)
 
   tags_takes : Takes bytes (tags_at bytes) tags_spelled CanSpellTags
   unfolding tags_at
-  tags_takes at x le e =
+  tags_takes fits at x le e =
       let b = bind_ok (bit_at bytes at) (λ b. tags_by bytes b.0 b.1) x e in
-      tags_by_takes b.0.0 at b.0.1 x (bit_takes bytes fits at b.0 b.1) b.2
+      tags_by_takes fits b.0.0 at b.0.1 x (bit_takes bytes at b.0 b.1) b.2
 
   tags_again : Again bytes (tags_at bytes) tags_spelled CanSpellTags
   unfolding tags_at
-  tags_again at Many rest can e = rw (bit_again bytes fits at true rest e) refl
+  tags_again at Many rest can e = rw (bit_again bytes at true rest e) refl
   tags_again at (Listed terms) rest can e =
       let regrouped : drop at bytes ≡ flag false ++ (counted byte_string terms ++ rest) = e ∙ append_assoc (flag false) (counted byte_string terms) rest in
-      let bit = bit_again bytes fits at false (counted byte_string terms ++ rest) regrouped in
+      let bit = bit_again bytes at false (counted byte_string terms ++ rest) regrouped in
       let one = terms_exact.again (at + 1) terms rest can (behind bytes at (flag false) (counted byte_string terms ++ rest) regrouped) in
       let end : at + 1 + length (counted byte_string terms) ≡ at + length (flag false ++ counted byte_string terms) = omega (arith, length-append (flag false) (counted byte_string terms)) in
       rw (bit, one, end) refl
@@ -165,7 +165,7 @@ module _ (bytes : List ℕ) (fits : IsBytes bytes) where
   field_number_exact before = where_exact bytes (λ number. is_last (λ last. nat_lt last.number number) (last_of before)) BadOrder (number_at bytes) varint IsNumber (λ n. IsBehind IsFieldBelow (last_of before) (record { number = n; tags = Many }))
       (λ n h. last_is IsFieldBelow (λ last. nat_lt last.number n) (record { number = n; tags = Many }) (last_of before) (λ y e. ltb-true y.number n e) h)
       (λ n h. last_passes IsFieldBelow (λ last. nat_lt last.number n) (record { number = n; tags = Many }) (last_of before) (λ y e. lt-ltb y.number n e) h)
-      (number_exact bytes fits)
+      (number_exact bytes)
 
   -- only the number is compared
   same_below : (f g : FieldTags) (last : Option FieldTags) → f.number ≡ g.number → IsBehind IsFieldBelow last f → IsBehind IsFieldBelow last g
@@ -187,7 +187,7 @@ module _ (bytes : List ℕ) (fits : IsBytes bytes) where
   digest_exact : IsExact bytes (digest_at bytes) (λ digest. digest) (λ digest. length digest ≡ 32)
   unfolding digest_at
   digest_exact = record {
-    takes = λ at x le e.
+    takes = λ fits at x le e.
         let g = guard_ok (ltb (length bytes - at) 32) (Field (Short (length bytes))) (Ok (take 32 (drop at bytes), at + 32)) x e in
         let enough : 32 ≤ length bytes - at = ltb-false _ _ g.0 in
         let piece = SpelledAt-piece bytes at 32 (omega arith) in
@@ -217,24 +217,24 @@ module _ (bytes : List ℕ) (fits : IsBytes bytes) where
       (λ f. refl) (λ f. refl)
       (λ f h. record { docs = h.0; rejected = h.1.0; weight = h.1.1.0; size = h.1.1.1.0; digest = h.1.1.1.1.0; times = h.1.1.1.1.1.0; tags = h.1.1.1.1.1.1.0; rising = h.1.1.1.1.1.1.1 })
       (λ f h. (h.docs, (h.rejected, (h.weight, (h.size, (h.digest, (h.times, (h.tags, h.rising))))))))
-      (both_exact bytes _ _ varint _ IsNumber _ (number_exact bytes fits)
-      (both_exact bytes _ _ varint _ IsNumber _ (number_exact bytes fits)
-      (both_exact bytes _ _ varint _ IsNumber _ (number_exact bytes fits)
-      (both_exact bytes _ _ varint _ IsNumber _ (number_exact bytes fits)
+      (both_exact bytes _ _ varint _ IsNumber _ (number_exact bytes)
+      (both_exact bytes _ _ varint _ IsNumber _ (number_exact bytes)
+      (both_exact bytes _ _ varint _ IsNumber _ (number_exact bytes)
+      (both_exact bytes _ _ varint _ IsNumber _ (number_exact bytes)
       (both_exact bytes _ _ (λ digest. digest) _ (λ digest. length digest ≡ 32) _ digest_exact
-      (both_exact bytes _ _ (optional times_spelled) (counted field_spelled) (IsIfGiven CanSpellTimes) (λ fields. AreAll CanSpellField fields × Rises IsFieldBelow fields) (optional_exact bytes fits (times_at bytes) times_spelled CanSpellTimes times_exact) fields_exact))))))
+      (both_exact bytes _ _ (optional times_spelled) (counted field_spelled) (IsIfGiven CanSpellTimes) (λ fields. AreAll CanSpellField fields × Rises IsFieldBelow fields) (optional_exact bytes (times_at bytes) times_spelled CanSpellTimes times_exact) fields_exact))))))
 
   rising_number_exact : (before : List ℕ) → IsExact bytes (rising_at bytes before) varint (λ n. IsNumber n × IsAbove ◌<◌ before n)
   unfolding rising_at
   rising_number_exact before = where_exact bytes (λ number. is_last (λ last. nat_lt last number) (last_of before)) BadOrder (number_at bytes) varint IsNumber (IsAbove ◌<◌ before)
       (λ n h. last_is ◌<◌ (λ last. nat_lt last n) n (last_of before) (λ y e. ltb-true y n e) h)
       (λ n h. last_passes ◌<◌ (λ last. nat_lt last n) n (last_of before) (λ y e. lt-ltb y n e) h)
-      (number_exact bytes fits)
+      (number_exact bytes)
 
   pub row_numbers_exact : IsExact bytes (row_numbers_at bytes) (counted varint) AreRowNumbers
   unfolding row_numbers_at
   row_numbers_exact =
       exact_same bytes (λ at. where_is (λ n. nat_lt 0 n) BadOrder (number_at bytes) at >>= λ n. members (rising_at bytes) n.0 [] n.1) (counted varint) (λ xs. AreAll IsNumber xs × Chain (IsAbove ◌<◌) [] xs × (0 < length xs)) AreRowNumbers
       (λ xs h. record { some = h.2; each = h.0; rising = chain_rises ◌<◌ [] xs h.1 }) (λ xs h. (h.each, rises_chain ◌<◌ [] xs h.rising, h.some))
-      (counted_exact bytes (rising_at bytes) varint IsNumber (IsAbove ◌<◌) rising_number_exact fits (where_is (λ n. nat_lt 0 n) BadOrder (number_at bytes)) (λ n. 0 < n)
-      (where_exact bytes (λ n. nat_lt 0 n) BadOrder (number_at bytes) varint IsNumber (λ n. 0 < n) (λ n h. ltb-true 0 n h) (λ n h. lt-ltb 0 n h) (number_exact bytes fits)))
+      (counted_exact bytes (rising_at bytes) varint IsNumber (IsAbove ◌<◌) rising_number_exact (where_is (λ n. nat_lt 0 n) BadOrder (number_at bytes)) (λ n. 0 < n)
+      (where_exact bytes (λ n. nat_lt 0 n) BadOrder (number_at bytes) varint IsNumber (λ n. 0 < n) (λ n h. ltb-true 0 n h) (λ n h. lt-ltb 0 n h) (number_exact bytes)))

@@ -9,4 +9,4 @@ pub returns-clause-found : goal.returns-clause-found
 returns-clause-found c = entry_found c.args.bytes.now c.entry_whole.result (λ i. omega (arith, c.type_inv.bytes i)) c.entry_whole.ensures
 
 pub returns-clause-only : goal.returns-clause-only
-returns-clause-only c = λ e can spells. subst (λ (r : Result Entry EntryError). Reads c.entry_whole.result r) (entry_again c.args.bytes.now e (λ i. omega (arith, c.type_inv.bytes i)) can spells) c.entry_whole.ensures
+returns-clause-only c = λ e can spells. subst (λ (r : Result Entry EntryError). Reads c.entry_whole.result r) (entry_again c.args.bytes.now e can spells) c.entry_whole.ensures
