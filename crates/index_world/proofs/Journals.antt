@@ -3,6 +3,7 @@ use Rattle.std.proofs.Common.{◌≡◌, ℕ, zero, suc, ◌+◌, ◌<◌, ◌�
 use Rattle.std.proofs.lemmas.Bool.{eqb-true, eqb-false}
 use Rattle.std.specs.Prelude.{Option, Some, None, is_some, ◌==◌}
 use Rattle.object_store.specs.Store.{State}
+use Rattle.meta_journal.proofs.EntryLaws.{one_entry}
 use Rattle.meta_journal.specs.Places.{numbered, HasEntry, Stand, StandFrom, IsJournal}
 use Rattle.meta_journal.specs.Spelling.{CanSpell, Spells}
 use Rattle.meta_journal.specs.declared.entry.Entry.{Entry}
@@ -46,6 +47,10 @@ Stand-at s k (e ∷ es) n low high h = by (k == n) refl (λ more. Stand-at s (k 
 
 pub journal-end : (s : State) (es : List Entry) → IsJournal s es → numbered s (length es) ≡ None
 journal-end s es j = StandFrom-end s 0 es None (length es) (omega arith) j
+
+-- bytes are read as one entry
+pub once : OneEntry
+once = one_entry
 
 -- a store has one journal
 pub one-journal : OneEntry → (s : State) (k : ℕ) (xs ys : List Entry) → StandFrom s k xs None → StandFrom s k ys None → xs ≡ ys

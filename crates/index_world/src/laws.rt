@@ -8,7 +8,7 @@ ghost use Rattle.meta_journal.specs.Spelling.{Spells};
 ghost use Rattle.object_store.specs.Store.{State, landed, with_object, with_late, HasLanded, LandsThen, Creates};
 ghost use Rattle.object_store.specs.declared.store.CreateError.{CreateError};
 ghost use Rattle.source_log.specs.Log.{Log};
-ghost use Rattle.index_world.specs.Index.{IsIndexOf, MayEnter, IsUnused, OneEntry};
+ghost use Rattle.index_world.specs.Index.{IsIndexOf, MayEnter, IsUnused};
 ghost use Rattle.std.specs.Prelude.{None, Bool, true, false, ◌<◌};
 ghost use Rattle.meta_store.specs.History.{moment_of, history as told};
 ghost use Rattle.meta_store.specs.State.{Legal};
@@ -55,7 +55,7 @@ pub fn upload_keeps()
 
 /// What a load reads is the journal of which the store is an index.
 pub fn load_keeps()
-    ensures { (old mid new : State) (entries read : List Entry) (log : Log) → OneEntry → IsIndexOf old entries log →
+    ensures { (old mid new : State) (entries read : List Entry) (log : Log) → IsIndexOf old entries log →
         HasLanded old mid → HasLanded mid new → IsJournal mid read → Loads mid new log read }
 {}
 
@@ -73,7 +73,7 @@ pub fn every_index_has_a_core()
 
 /// What lands in the store lands in its core, by the same places.
 pub fn landings_are_the_cores()
-    ensures { OneEntry → (old : State) (core : Core) (log : Log) (places : List ℕ) → IsWorld old core log → Landing old (landed places old) core (all_landed places core) log }
+    ensures { (old : State) (core : Core) (log : Log) (places : List ℕ) → IsWorld old core log → Landing old (landed places old) core (all_landed places core) log }
 {}
 
 /// A fence may always close a number that is unsure.

@@ -1,5 +1,6 @@
+use Rattle.index_world.proofs.Journals.{once}
 use Rattle.index_world.proofs.Worlds.{world-lands}
 use Rattle.index_world.proofs.laws.landings_are_the_cores.Goals as goal
 
 pub returns : goal.returns
-returns c = world-lands
+returns c = world-lands once

@@ -1,5 +1,6 @@
+use Rattle.index_world.proofs.Journals.{once}
 use Rattle.index_world.proofs.StoreCalls.{index-loads}
 use Rattle.index_world.proofs.laws.load_keeps.Goals as goal
 
 pub returns : goal.returns
-returns c = index-loads
+returns c = λ old mid new entries read log. index-loads old mid new entries read log once
