@@ -97,14 +97,14 @@ pub record Unread (kept : State) (core : Core) : Type 0 where
   pub entry : Entry
   pub is : core.standing ≡ Some entry
 
-something_stands : (kept : State) (core : Core) (log : Log) → IsWorld kept core log → IsSome (numbered kept (length core.history)) → Unread kept core
+pub something_stands : (kept : State) (core : Core) (log : Log) → IsWorld kept core log → IsSome (numbered kept (length core.history)) → Unread kept core
 something_stands kept core log w stands = by core.standing refl
   where
     by : (o : Option Entry) → core.standing ≡ o → Unread kept core
     by None e = absurd (true_is_false (sym stands ∙ ap is_some (journal-end kept core.history (journal_none kept core w.stands_for e))))
     by (Some u) e = record { entry = u; is = e }
 
-last_entry : (s : State) (k : ℕ) (es : List Entry) (u : Entry) (n : ℕ) → n ≡ k + length es → Stand s k (es ++ u ∷ []) → HasEntry s n u
+pub last_entry : (s : State) (k : ℕ) (es : List Entry) (u : Entry) (n : ℕ) → n ≡ k + length es → Stand s k (es ++ u ∷ []) → HasEntry s n u
 last_entry s k [] u n at h = let e : k ≡ n = omega (arith, at) in subst (λ i. HasEntry s i u) e h.0
 last_entry s k (e ∷ es) u n at h = last_entry s (k + 1) es u n (omega (arith, at)) h.1
 
@@ -185,6 +185,11 @@ pub record AdoptedLaw (old new : State) (core : Core) (log : Log) (tried_entry e
   pub after : Core
   pub got : get_at_end (quiet [] 0 false) entry before mid ≡ gives (Ok tt) after
   pub onward : Onward old new core after log
+  pub sure : after.unsure ≡ false
+  pub mid_history : mid.history ≡ core.history
+  pub mid_faults : mid.store_faults ≡ now
+  pub mid_moment : mid.moment ≡ core.moment
+  pub mid_clock : mid.clock ≡ core.clock
   -- without memory behind the get it stands there unread
   pub unread : (known : Bool) → Onward old new core (record (begun (quiet [] 0 true) mid) { unsure = mid.unsure || known }) log
   pub history : after.history ≡ core.history ++ entry ∷ []
@@ -200,7 +205,7 @@ calm_begun : (kept : State) (core : Core) (log : Log) → IsWorld kept core log 
 calm_begun kept core log w =
     record { world = world-same kept core log (risen core.store_faults 0) core.moment core.clock core.unsure w; held = held-refl kept (journal_of core) }
 
-still_counted : (a now : ℕ) → a ≡ now → now ≤ last_count → risen a 0 ≡ now
+pub still_counted : (a now : ℕ) → a ≡ now → now ≤ last_count → risen a 0 ≡ now
 still_counted a now e w = omega (arith, e, w)
 
 at_length : (s : State) (f : Entry) (es fs : List Entry) → fs ≡ es → HasEntry s (length es) f → HasEntry s (length fs) f
@@ -218,6 +223,11 @@ adopted_law once old new core log tried_entry entry before now w c t h =
       onward = Onward-trans old new new core (begun calm_get mid) (taken_in entry (begun calm_get mid)) log there (world-taken new (begun calm_get mid) log entry there.world stands);
       unread = λ known. Onward-trans old new new core mid (record (begun (quiet [] 0 true) mid) { unsure = mid.unsure || known }) log b.onward
           (record { world = world-same new mid log (risen mid.store_faults 0) mid.moment mid.clock (mid.unsure || known) b.onward.world; held = held-refl new (journal_of mid) });
+      sure = refl;
+      mid_history = b.history;
+      mid_faults = b.faults;
+      mid_moment = b.moment;
+      mid_clock = b.clock;
       history = ap (λ es. es ++ entry ∷ []) b.history;
       faults = still_counted mid.store_faults now b.faults c.within;
       moment = ap (λ m. max m entry.moment) b.moment;

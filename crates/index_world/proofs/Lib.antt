@@ -16,3 +16,4 @@ pub mod Asking
 pub mod InCore
 pub mod FileCalls
 pub mod Opening
+pub mod JournalLaws

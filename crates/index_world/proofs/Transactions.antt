@@ -16,7 +16,7 @@ use Rattle.index_world.proofs.JournalCalls.{quiet, failing, calm_get, MadeLaw, A
 pub settled_sure : (core : Core) (first second : Call) → core.unsure ≡ false → first.short ≡ false → settled first second core ≡ gives (Ok tt) core
 settled_sure core first second sure long = ap (λ u. settle_with u first second core) sure ∙ ap (λ s. unless_short s core) long
 
-settled_by : (core : Core) (first second : Call) → core.unsure ≡ true → first.short ≡ false →
+pub settled_by : (core : Core) (first second : Call) → core.unsure ≡ true → first.short ≡ false →
     settled first second core ≡ settle_making second core.store_faults (fence_of core) (create_at_end first (fence_of core) core)
 settled_by core first second unsure long =
     ap (λ u. settle_with u first second core) unsure
@@ -54,7 +54,7 @@ settled_short core places rises unsure = ap (λ u. settle_with u (quiet places r
 
 -- ---- the last create of a transaction
 
-last_by : (act : Act) (core : Core) (call : Call) (before : ℕ) → call.short ≡ false → may_append act core ≡ Ok tt →
+pub last_by : (act : Act) (core : Core) (call : Call) (before : ℕ) → call.short ≡ false → may_append act core ≡ Ok tt →
     last_create call before act core ≡ last_making before (entry_of act core) (create_at_end call (entry_of act core) core)
 last_by act core call before long may =
     ap (λ s. or_short s (troubled no_memory) call core (last_unless (may_append act core) call before act core)) long ∙ ap (λ m. last_unless m call before act core) may
@@ -79,7 +79,7 @@ last_foreign old new core log act before now may x =
 
 -- ---- a transaction where nothing is unsure
 
-first_by : (act : Core → Act) (core : Core) (first second third : Call) → core.unsure ≡ false → first.short ≡ false → may_append (act core) core ≡ Ok tt →
+pub first_by : (act : Core → Act) (core : Core) (first second third : Call) → core.unsure ≡ false → first.short ≡ false → may_append (act core) core ≡ Ok tt →
     transact core.unsure first second third act core ≡ adopted_making second third core.store_faults act (entry_of (act core) core) (create_at_end first (entry_of (act core) core) core)
 first_by act core first second third sure long may =
     ap (λ u. transact u first second third act core) sure
