@@ -1,4 +1,6 @@
 //! The node: words, input, output and status of one run.
 #![tactic(auto)]
 
+pub mod laws;
+
 fn main() {}

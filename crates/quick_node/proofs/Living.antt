@@ -1,0 +1,72 @@
+-- What the node of a call gives for each of its ends: the journal went on, and the searches are answered.
+use Rattle.std.proofs.Common.{◌≡◌, ◌⊎◌, ℕ, List, [], ◌∷◌, ◌++◌, refl, sym, ap, ◌∙◌, subst, length, inl, inr}
+use Rattle.std.specs.Prelude.{Option, Some, None, Result, Ok, Err, ⊤}
+use Rattle.meta_journal.specs.declared.entry.Entry.{Entry}
+use Rattle.index_world.specs.Calls.{Unread, loaded}
+use Rattle.node_run.specs.Node.{Node, Line, Outcome}
+use Rattle.node_run.specs.Turns.{Turn, Turns}
+use Rattle.node_run.proofs.Growing.{Grows, same_grows, grows_on, loaded_grows, turn_grows, turns_grow, turns_go_on}
+use Rattle.quick_node.specs.Serve.{IsPrefixOf, Before, End, by_reading, no_index, opening_failed, read_failed, write_failed, out_of_memory, IsFresh, Opens, Answers, Unopened, RanShort, Lives, AnswersFrom}
+use Rattle.quick_node.proofs.Searching.{prefix_on, searches_follow}
+
+opens_grows : (fresh : Node) (answer : Result ⊤ Unread) (node : Node) → Opens fresh answer node → Grows fresh.core node.core
+opens_grows fresh answer node o =
+    subst (λ n. Grows fresh.core n.core) (sym o.is) (subst (λ g. Grows fresh.core g.core) o.did (loaded_grows o.fate fresh.core))
+
+module _ (history exit : List Entry) (before : Before) (fresh : Node) (is : IsFresh before history fresh) where
+  begins : (node : Node) → Grows fresh.core node.core → IsPrefixOf history node.core.history
+  begins node g = subst (λ h. IsPrefixOf h node.core.history) (ap (λ n. n.core.history) is.is) g
+
+  abbrev Follows : List Line → List Outcome → Type 0
+  Follows lines outcomes = IsPrefixOf history exit × AnswersFrom exit before.log (length history) [] lines outcomes
+
+  answers_follow : (lines : List Line) (outcomes : List Outcome) (last : Node) → Answers fresh lines outcomes last → IsPrefixOf last.core.history exit → Follows lines outcomes
+  answers_follow lines outcomes last a p = (
+    prefix_on history last.core.history exit (begins last (grows_on fresh.core a.opened.core last.core opens (turns_grow a.opened last lines outcomes a.turns))) p,
+    subst (λ l. AnswersFrom exit l (length history) [] lines outcomes) log
+        (searches_follow history exit a.opened last lines outcomes clients (begins a.opened opens) p a.turns),
+  )
+    where
+      opens : Grows fresh.core a.opened.core
+      opens = opens_grows fresh (Ok tt) a.opened a.opens
+
+      clients : a.opened.clients ≡ []
+      clients = ap (λ n. n.clients) a.opens.is ∙ ap (λ n. n.clients) is.is
+
+      log : a.opened.log ≡ before.log
+      log = ap (λ n. n.log) a.opens.is ∙ ap (λ n. n.log) is.is
+
+  none_follow : (lines : List Line) (outcomes : List Outcome) (last : Node) → lines ≡ [] → outcomes ≡ [] → Grows fresh.core last.core →
+      IsPrefixOf last.core.history exit → Follows lines outcomes
+  none_follow lines outcomes last no_lines no_outcomes g p = (
+    prefix_on history last.core.history exit (begins last g) p,
+    subst (λ ls. AnswersFrom exit before.log (length history) [] ls outcomes) (sym no_lines)
+        (subst (λ os. AnswersFrom exit before.log (length history) [] [] os) (sym no_outcomes) tt),
+  )
+
+  unopened_follow : (lines : List Line) (outcomes : List Outcome) (why : Unread) (last : Node) → Unopened fresh lines outcomes why last →
+      IsPrefixOf last.core.history exit → Follows lines outcomes
+  unopened_follow lines outcomes why last u p = none_follow lines outcomes last u.no_lines u.no_outcomes (opens_grows fresh (Err why) last u.opens) p
+
+  short_follow : (lines : List Line) (outcomes : List Outcome) (last : Node) → RanShort before fresh lines outcomes last → IsPrefixOf last.core.history exit → Follows lines outcomes
+  short_follow lines outcomes last s p =
+      answers_follow lines outcomes s.mid s.answers (prefix_on s.mid.core.history last.core.history exit (turn_grows s.mid s.line None last s.turn) p)
+
+  pub lives_follow : (end : End) (lines : List Line) (outcomes : List Outcome) (last : Node) → Lives before end fresh lines outcomes last →
+      IsPrefixOf last.core.history exit → Follows lines outcomes
+  lives_follow (by_reading ending) lines outcomes last l p = answers_follow lines outcomes last l p
+  lives_follow no_index lines outcomes last l p = unopened_follow lines outcomes _ last l p
+  lives_follow (opening_failed low high) lines outcomes last l p = unopened_follow lines outcomes _ last l p
+  lives_follow read_failed lines outcomes last l p = answers_follow lines outcomes last l p
+  lives_follow write_failed lines outcomes last l p = answers_follow lines outcomes last l p
+  lives_follow out_of_memory lines outcomes last (inl none) p =
+      none_follow lines outcomes last none.0 none.1 (same_grows fresh.core last.core (ap (λ n. n.core.history) none.2)) p
+  lives_follow out_of_memory lines outcomes last (inr (inl u)) p = unopened_follow lines outcomes _ last u p
+  lives_follow out_of_memory lines outcomes last (inr (inr (inl a))) p = answers_follow lines outcomes last a p
+  lives_follow out_of_memory lines outcomes last (inr (inr (inr s))) p = short_follow lines outcomes last s p
+
+-- an opened node answers one line more
+pub answers_go_on : (fresh mid last : Node) (lines : List Line) (line : Line) (outcomes : List Outcome) (outcome : Outcome) →
+    Answers fresh lines outcomes mid → Turn mid line (Some outcome) last → Answers fresh (lines ++ line ∷ []) (outcomes ++ outcome ∷ []) last
+answers_go_on fresh mid last lines line outcomes outcome a turn =
+    record { opened = a.opened; opens = a.opens; turns = turns_go_on a.opened mid last lines line outcomes outcome a.turns turn }

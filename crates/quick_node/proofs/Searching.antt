@@ -1,0 +1,519 @@
+-- The headline's sentence on searches follows from the node: whatever lands and fails, each reply with hits is the answer to
+-- what its client opened last, over one revision that is no older than its client's front and the journal at entry.
+use Rattle.std.proofs.Common.{◌≡◌, ℕ, ◌≤◌, ◌+◌, List, [], ◌∷◌, ◌++◌, refl, sym, ap, ◌∙◌, subst, Bool, true, false, length, arith, take, map, append_assoc}
+use Rattle.std.proofs.lemmas.List.{length-append, take-append-le}
+use Rattle.std.proofs.lemmas.Slice.Eq.{bytes_eq-Decides}
+use Rattle.std.specs.Prelude.{Option, Some, None, Result, Ok, Err, ⊤, if◌then◌else◌, bytes_eq}
+use Rattle.meta_journal.specs.declared.entry.Entry.{Entry}
+use Rattle.meta_store.specs.History.{history}
+use Rattle.meta_store.specs.Ledgers.{ledger}
+use Rattle.source_log.specs.Log.{Log}
+use Rattle.index_world.specs.Calls.{Trouble, faulted, no_memory, Unread, not_read, asked_and_looked, fetched, loaded}
+use Rattle.index_world.specs.Calls as calls
+use Rattle.index_world.specs.Core.{Core}
+use Rattle.index_world.specs.Seen.{visible}
+use Rattle.indexing_run.specs.Outcomes.{IndexerOutcome}
+use Rattle.indexing_run.specs.Places.{Place, idle, reading, staged, uploaded, Indexer}
+use Rattle.indexing_run.specs.Steps.{step_indexer}
+use Rattle.root_search.specs.Replies.{Said, Found, Refusal, Refused, NotBuilt, Faulted, answer}
+use Rattle.root_search.specs.Requests.{word_asked}
+use Rattle.root_search.specs.Steps.{Client, Request, no_request, opened, planned, Plan, SearchStep, Idle, Planned, Fetched, Replied, Luck, Searched, plan_by, reply_with, trouble_replied, refusal_by, fetch_by, next_step, step_request, or_short, step_client, answer_of, without_request}
+use Rattle.node_run.specs.Node.{Node, Line, At, Assign, StepIndexer, RestartIndexer, RestartClient, RestartNode, Open, StepClient, Outcome, client_said}
+use Rattle.node_run.specs.Turns as node_turns
+use Rattle.node_run.specs.Turns.{full_turn, turn_with, turn_by, or_quiet, quiet, Turn, Turns, Turned, client_named, with_client, keep_client, said_by_indexer, indexer_stepped, indexer_turn_by, said_by_client, client_turn_by, client_stepped, assign_at, open_by, restart_by, indexer_at, indexing_luck, searching_luck}
+use Rattle.node_run.proofs.Growing.{Grows, same_grows, grows_on, asked_and_looked_grows, fetched_grows, indexer_grows, client_grows, loaded_grows, turn_grows, turns_grow}
+use Rattle.quick_node.specs.Serve.{IsPrefixOf, Known, known_of, after_outcome, AnswersOne, AnswersFrom}
+
+same-true : (a b : List ℕ) → bytes_eq a b ≡ true → a ≡ b
+same-true a b = (bytes_eq-Decides a b).0
+
+same-refl : (a : List ℕ) → bytes_eq a a ≡ true
+same-refl a = (bytes_eq-Decides a a).1 refl
+
+true_is_false : true ≡ false → ⊥
+true_is_false e = cc
+
+some_same : {X : Type 0} (x y : X) → Some x ≡ Some y → x ≡ y
+some_same x y e = cc
+
+none_is_some : {X : Type 0} (x : X) (o : Option X) → o ≡ None → o ≡ Some x → ⊥
+none_is_some x o n e = cc
+
+-- ---- what is known of a client agrees with the node
+
+abbrev pub OnRequest : ℕ → Known → ℕ → ℕ → Request → Type 0
+OnRequest least known front len no_request = Unit {0}
+OnRequest least known front len (opened text) = known.text ≡ text
+OnRequest least known front len (planned plan) =
+    (word_asked known.text ≡ Some plan.word) × (least ≤ plan.revision) × (front ≤ plan.revision) × (plan.revision ≤ len)
+
+pub record Agrees (least len : ℕ) (name : List ℕ) (known : Known) (client : Client) : Type 0 where
+  pub known_name : known.name ≡ name
+  pub client_name : client.name ≡ name
+  pub front : known.front ≡ client.front
+  pub bound : client.front ≤ len
+  pub request : OnRequest least known client.front len client.request
+
+abbrev pub AllAgree : ℕ → ℕ → (List ℕ → Known) → (List ℕ → Client) → Type 0
+AllAgree least len known client = (name : List ℕ) → Agrees least len name (known name) (client name)
+
+on-more : (least : ℕ) (known : Known) (front len more : ℕ) (request : Request) → len ≤ more → OnRequest least known front len request → OnRequest least known front more request
+on-more least known front len more no_request h r = tt
+on-more least known front len more (opened text) h r = r
+on-more least known front len more (planned plan) h r = (r.0, r.1, r.2, omega (arith, h, r.3))
+
+agrees-more : (least len more : ℕ) (name : List ℕ) (known : Known) (client : Client) → len ≤ more → Agrees least len name known client → Agrees least more name known client
+agrees-more least len more name known client h a =
+    record {
+      known_name = a.known_name;
+      client_name = a.client_name;
+      front = a.front;
+      bound = omega (arith, h, a.bound);
+      request = on-more least known client.front len more client.request h a.request;
+    }
+
+all-more : (least len more : ℕ) (known : List ℕ → Known) (client : List ℕ → Client) → len ≤ more → AllAgree least len known client → AllAgree least more known client
+all-more least len more known client h all name = agrees-more least len more name (known name) (client name) h (all name)
+
+-- the request was dropped
+agrees-dropped : (least len : ℕ) (name : List ℕ) (known : Known) (client : Client) → Agrees least len name known client → Agrees least len name known (without_request client)
+agrees-dropped least len name known client a =
+    record { known_name = a.known_name; client_name = a.client_name; front = a.front; bound = a.bound; request = tt }
+
+-- one client changed, and what is known of it
+all-updated : (least len : ℕ) (name : List ℕ) (k : Known) (c : Client) (known known' : List ℕ → Known) (client client' : List ℕ → Client) →
+    ((q : List ℕ) → known' q ≡ (if bytes_eq name q then k else known q)) → ((q : List ℕ) → client' q ≡ (if bytes_eq name q then c else client q)) →
+    AllAgree least len known client → Agrees least len name k c → AllAgree least len known' client'
+all-updated least len name k c known known' client client' ek ec all one q = by (bytes_eq name q) refl
+  where
+    by : (b : Bool) → bytes_eq name q ≡ b → Agrees least len q (known' q) (client' q)
+    by true e = rw (ek q, ec q, e) (subst (λ n. Agrees least len n k c) (same-true name q e) one)
+    by false e = rw (ek q, ec q, e) (all q)
+
+-- the client that was kept is found under its name
+client_named-with : (q : List ℕ) (c : Client) (clients : List Client) → client_named q (with_client c clients) ≡ (if bytes_eq c.name q then c else client_named q clients)
+client_named-with q c [] = refl
+client_named-with q c (other ∷ clients) = by (bytes_eq other.name c.name) refl (bytes_eq other.name q) refl (bytes_eq c.name q) refl (client_named-with q c clients)
+  where
+    by : (a : Bool) → bytes_eq other.name c.name ≡ a → (b : Bool) → bytes_eq other.name q ≡ b → (d : Bool) → bytes_eq c.name q ≡ d →
+        client_named q (with_client c clients) ≡ (if bytes_eq c.name q then c else client_named q clients) →
+        client_named q (with_client c (other ∷ clients)) ≡ (if bytes_eq c.name q then c else client_named q (other ∷ clients))
+    by true ea b eb true ed ih = rw (ea, ed)
+    by true ea true eb false ed ih = absurd (true_is_false (sym eb ∙ ap (λ n. bytes_eq n q) (same-true other.name c.name ea) ∙ ed))
+    by true ea false eb false ed ih = rw (ea, ed, eb)
+    by false ea true eb true ed ih =
+        absurd (true_is_false (sym (same-refl c.name) ∙ ap (λ n. bytes_eq n c.name) (same-true c.name q ed ∙ sym (same-true other.name q eb)) ∙ ea))
+    by false ea true eb false ed ih = rw (ea, eb, ed)
+    by false ea false eb d ed ih = rw (ea, eb) ih
+
+longer : (a b : Core) → Grows a b → length a.history ≤ length b.history
+longer a b g = let e : length b.history ≡ length a.history + length g.0 = ap length g.1 ∙ length-append a.history g.0 in omega (arith, e)
+
+pub prefix_on : (a b c : List Entry) → IsPrefixOf a b → IsPrefixOf b c → IsPrefixOf a c
+prefix_on a b c g h = (g.0 ++ h.0, h.1 ∙ ap (λ l. l ++ h.0) g.1 ∙ append_assoc a g.0 h.0)
+
+-- ---- one step of a client
+
+-- what a client's step says is answered, and what it leaves agrees with what is known behind its outcome
+record Went (exit : List Entry) (log : Log) (least : ℕ) (knowns : List Known) (name : List ℕ) (s : SearchStep) (client : Client) (core : Core) : Type 0 where
+  agrees : Agrees least (length core.history) name (known_of name (after_outcome knowns (StepClient name) (client_said name s))) client
+  answers : AnswersOne exit log least knowns (StepClient name) (client_said name s)
+
+-- the first known is found under its name
+known_first : (name : List ℕ) (known : Known) (knowns : List Known) → known.name ≡ name → known_of name (known ∷ knowns) ≡ known
+known_first name known knowns e = rw (e, same-refl name)
+
+module _ (exit : List Entry) (log : Log) (least : ℕ) (knowns : List Known) (name : List ℕ) where
+  abbrev StepWent : Searched → Type 0
+  StepWent step = (s : SearchStep) → step.outcome ≡ Some s → Went exit log least knowns name s step.client step.core
+
+  said_went : (s : SearchStep) (client : Client) (core : Core) → Went exit log least knowns name s client core →
+      StepWent (record { outcome = Some s; client = client; core = core })
+  said_went s client core w s' e = subst (λ x. Went exit log least knowns name x client core) (some_same s s' e) w
+
+  unsaid_went : (client : Client) (core : Core) → StepWent (record { outcome = None; client = client; core = core })
+  unsaid_went client core s e = absurd (none_is_some s None refl e)
+
+  -- a reply at this revision: the front is that revision, and no request is left
+  reply_went : (revision : ℕ) (said : Said) (client : Client) (core : Core) → Agrees least (length core.history) name (known_of name knowns) client →
+      revision ≤ length core.history →
+      AnswersOne exit log least knowns (StepClient name) (client_said name (Replied (record { client = client.name; revision = revision; said = said }))) →
+      StepWent (reply_with revision said client core)
+  reply_went revision said client core a h answered =
+      said_went (Replied (record { client = client.name; revision = revision; said = said })) (record client { front = revision; request = no_request }) core
+      (record {
+        agrees = subst (λ k. Agrees least (length core.history) name k (record client { front = revision; request = no_request }))
+            (sym (known_first name (record (known_of name knowns) { front = revision }) knowns a.known_name))
+            (record { known_name = a.known_name; client_name = a.client_name; front = refl; bound = h; request = tt });
+        answers = answered;
+      })
+
+  trouble_went : (revision : ℕ) (t : Trouble) (client : Client) (core : Core) → Agrees least (length core.history) name (known_of name knowns) client →
+      revision ≤ length core.history → StepWent (trouble_replied revision t client core)
+  trouble_went revision (faulted fault) client core a h = reply_went revision (Refusal (Faulted fault)) client core a h tt
+  trouble_went revision no_memory client core a h = unsaid_went (without_request client) core
+
+  refusal_went : (revision : ℕ) (t : Trouble) (client : Client) (core : Core) → Agrees least (length core.history) name (known_of name knowns) client →
+      revision ≤ length core.history → StepWent (refusal_by revision t client core)
+  refusal_went revision (faulted fault) client core a h = reply_went revision (Refusal NotBuilt) client core a h tt
+  refusal_went revision no_memory client core a h = unsaid_went (without_request client) core
+
+  plan_went : (r : Result ⊤ Trouble) (asked : Option (List ℕ)) (text : List ℕ) (client : Client) (core : Core) →
+      Agrees least (length core.history) name (known_of name knowns) client → (known_of name knowns).text ≡ text → word_asked text ≡ asked →
+      least ≤ length core.history → StepWent (plan_by r asked client core)
+  plan_went (Ok done) (Some word) text client core a t w l =
+      let step = plan_by (Ok done) (Some word) client core in
+      said_went (Planned _ _) step.client core
+      (record {
+        agrees = record {
+          known_name = a.known_name;
+          client_name = a.client_name;
+          front = a.front;
+          bound = a.bound;
+          request = (ap word_asked t ∙ w, l, a.bound, omega arith);
+        };
+        answers = tt;
+      })
+  plan_went (Ok done) None text client core a t w l = reply_went (length core.history) (Refusal NotBuilt) client core a (omega arith) tt
+  plan_went (Err trouble) (Some word) text client core a t w l = trouble_went client.front trouble client core a a.bound
+  plan_went (Err trouble) None text client core a t w l = refusal_went client.front trouble client core a a.bound
+
+  fetch_went : (r : Result ⊤ Trouble) (plan : Plan) (number : ℕ) (more : List ℕ) (client : Client) (core : Core) →
+      Agrees least (length core.history) name (known_of name knowns) client →
+      OnRequest least (known_of name knowns) client.front (length core.history) (planned plan) → StepWent (fetch_by r plan number more client core)
+  fetch_went (Ok done) plan number more client core a p =
+      let step = fetch_by (Ok done) plan number more client core in
+      said_went (Fetched number) step.client core
+      (record {
+        agrees = record { known_name = a.known_name; client_name = a.client_name; front = a.front; bound = a.bound; request = p };
+        answers = tt;
+      })
+  fetch_went (Err trouble) plan number more client core a p = trouble_went plan.revision trouble client core a p.3
+
+  -- the answer over the planned revision, seen from any later history
+  answered : (plan : Plan) (client : Client) (core : Core) → Agrees least (length core.history) name (known_of name knowns) client →
+      OnRequest least (known_of name knowns) client.front (length core.history) (planned plan) → IsPrefixOf core.history exit →
+      AnswersOne exit log least knowns (StepClient name) (client_said name (Replied (record { client = client.name; revision = plan.revision; said = answer_of plan log core })))
+  answered plan client core a r p = (
+    name,
+    refl,
+    record {
+      client = a.client_name ∙ sym a.known_name;
+      word = plan.word;
+      asked = r.0;
+      answer = ap (λ es. answer plan.word (visible (ledger (history es)) log))
+          (sym (take-append-le plan.revision core.history p.0 r.3) ∙ ap (take plan.revision) (sym p.1));
+      front = subst (λ f. f ≤ plan.revision) (sym a.front) r.2;
+      entry = r.1;
+      exit = let e : length exit ≡ length core.history + length p.0 = ap length p.1 ∙ length-append core.history p.0 in omega (arith, r.3, e);
+    },
+  )
+
+  next_went : (unfetched : List ℕ) (luck : Luck) (plan : Plan) (client : Client) (core : Core) →
+      Agrees least (length core.history) name (known_of name knowns) client →
+      OnRequest least (known_of name knowns) client.front (length core.history) (planned plan) → IsPrefixOf core.history exit →
+      StepWent (next_step luck log plan unfetched client core)
+  next_went [] luck plan client core a r p = reply_went plan.revision (answer_of plan log core) client core a r.3 (answered plan client core a r p)
+  next_went (number ∷ more) luck plan client core a r p =
+      let given = fetched luck.world core in
+      let h : length core.history ≤ length given.core.history = longer core given.core (fetched_grows luck.world core) in
+      fetch_went given.answer plan number more client given.core
+      (agrees-more least (length core.history) (length given.core.history) name (known_of name knowns) client h a)
+      (r.0, r.1, r.2, omega (arith, r.3, h))
+
+  request_went : (request : Request) (luck : Luck) (client : Client) (core : Core) →
+      Agrees least (length core.history) name (known_of name knowns) client → OnRequest least (known_of name knowns) client.front (length core.history) request →
+      least ≤ length core.history → IsPrefixOf core.history exit → StepWent (step_request request luck log client core)
+  request_went no_request luck client core a r l p = said_went Idle client core (record { agrees = a; answers = tt })
+  request_went (opened text) luck client core a r l p =
+      let given = asked_and_looked luck.world core in
+      let h : length core.history ≤ length given.core.history = longer core given.core (asked_and_looked_grows luck.world core) in
+      plan_went given.answer (word_asked text) text client given.core
+      (agrees-more least (length core.history) (length given.core.history) name (known_of name knowns) client h a) r refl (omega (arith, l, h))
+  request_went (planned plan) luck client core a r l p = next_went plan.unfetched luck plan client core a r p
+
+  short_went : (b : Bool) (client : Client) (step : Searched) → StepWent step → StepWent (or_short b client step)
+  short_went true client step w = unsaid_went (without_request client) step.core
+  short_went false client step w = w
+
+  step_went : (luck : Luck) (client : Client) (core : Core) →
+      Agrees least (length core.history) name (known_of name knowns) client → least ≤ length core.history → IsPrefixOf core.history exit →
+      StepWent (step_client luck log client core)
+  step_went luck client core a l p =
+      short_went luck.short client (step_request client.request luck log client core) (request_went client.request luck client core a a.request l p)
+
+-- ---- one line
+
+-- what a line leaves: the log, a longer history, and clients that agree with what is known behind it; and what it says is answered
+record Goes (exit : List Entry) (least : ℕ) (knowns : List Known) (node : Node) (line : Line) (o : Outcome) (new : Node) : Type 0 where
+  log : new.log ≡ node.log
+  grows : Grows node.core new.core
+  agrees : AllAgree least (length new.core.history) (λ q. known_of q (after_outcome knowns line o)) (λ q. client_named q new.clients)
+  answers : AnswersOne exit node.log least knowns line o
+
+abbrev TurnGoes : List Entry → ℕ → List Known → Node → Line → Turned → Type 0
+TurnGoes exit least knowns node line t = (o : Outcome) → t.said ≡ Some o → Goes exit least knowns node line o t.node
+
+abbrev pub Agreed : ℕ → List Known → Node → Type 0
+Agreed least knowns node = AllAgree least (length node.core.history) (λ q. known_of q knowns) (λ q. client_named q node.clients)
+
+said_goes : (exit : List Entry) (least : ℕ) (knowns : List Known) (node : Node) (line : Line) (o : Outcome) (new : Node) → Goes exit least knowns node line o new →
+    TurnGoes exit least knowns node line (record { said = Some o; node = new })
+said_goes exit least knowns node line o new g o' e = subst (λ x. Goes exit least knowns node line x new) (some_same o o' e) g
+
+unsaid_goes : (exit : List Entry) (least : ℕ) (knowns : List Known) (node : Node) (line : Line) (new : Node) →
+    TurnGoes exit least knowns node line (record { said = None; node = new })
+unsaid_goes exit least knowns node line new o e = absurd (none_is_some o None refl e)
+
+known_same : (name : List ℕ) (knowns : List Known) (q : List ℕ) → known_of q knowns ≡ (if bytes_eq name q then known_of name knowns else known_of q knowns)
+known_same name knowns q = by (bytes_eq name q) refl
+  where
+    by : (b : Bool) → bytes_eq name q ≡ b → known_of q knowns ≡ (if b then known_of name knowns else known_of q knowns)
+    by true e = ap (λ n. known_of n knowns) (sym (same-true name q e))
+    by false e = refl
+
+known_set : (name : List ℕ) (k : Known) (knowns : List Known) (q : List ℕ) → k.name ≡ name →
+    known_of q (k ∷ knowns) ≡ (if bytes_eq name q then known_of name (k ∷ knowns) else known_of q knowns)
+known_set name k knowns q e =
+    ap (λ n. if bytes_eq n q then k else known_of q knowns) e
+    ∙ ap (λ x. if bytes_eq name q then x else known_of q knowns) (sym (known_first name k knowns e))
+
+-- a step of a client, and the client kept
+module _ (exit : List Entry) (least : ℕ) (knowns : List Known) (node : Node) (name : List ℕ) (all : Agreed least knowns node) where
+  known_stays : (s : SearchStep) (q : List ℕ) →
+      known_of q (after_outcome knowns (StepClient name) (client_said name s))
+      ≡ (if bytes_eq name q then known_of name (after_outcome knowns (StepClient name) (client_said name s)) else known_of q knowns)
+  known_stays (Replied reply) q = known_set name (record (known_of name knowns) { front = reply.revision }) knowns q (all name).known_name
+  known_stays Idle q = known_same name knowns q
+  known_stays (Planned revision count) q = known_same name knowns q
+  known_stays (Fetched number) q = known_same name knowns q
+
+  kept_client : (client : Client) → client.name ≡ name → (q : List ℕ) →
+      client_named q (with_client client node.clients) ≡ (if bytes_eq name q then client else client_named q node.clients)
+  kept_client client e q = client_named-with q client node.clients ∙ ap (λ n. if bytes_eq n q then client else client_named q node.clients) e
+
+  -- the node behind a client's step
+  stepped_goes : (s : SearchStep) (client : Client) (core : Core) → Grows node.core core → Went exit node.log least knowns name s client core →
+      Goes exit least knowns node (StepClient name) (client_said name s) (record (keep_client client node) { core = core })
+  stepped_goes s client core g w =
+      record {
+        log = refl;
+        grows = g;
+        agrees = all-updated least (length core.history) name (known_of name (after_outcome knowns (StepClient name) (client_said name s))) client
+            (λ q. known_of q knowns) (λ q. known_of q (after_outcome knowns (StepClient name) (client_said name s)))
+            (λ q. client_named q node.clients) (λ q. client_named q (with_client client node.clients))
+            (known_stays s) (kept_client client w.agrees.client_name)
+            (all-more least (length node.core.history) (length core.history) (λ q. known_of q knowns) (λ q. client_named q node.clients) (longer node.core core g) all)
+            w.agrees;
+        answers = w.answers;
+      }
+
+  stepped_by : (said : Option SearchStep) (client : Client) (core : Core) → Grows node.core core →
+      ((s : SearchStep) → said ≡ Some s → Went exit node.log least knowns name s client core) →
+      TurnGoes exit least knowns node (StepClient name) (record { said = said_by_client name said; node = record (keep_client client node) { core = core } })
+  stepped_by None client core g w = unsaid_goes exit least knowns node (StepClient name) _
+  stepped_by (Some s) client core g w =
+      said_goes exit least knowns node (StepClient name) (client_said name s) (record (keep_client client node) { core = core })
+      (stepped_goes s client core g (w s refl))
+
+  -- a client was kept that agrees with what is known already, and nothing is said of it
+  kept_agrees : (client : Client) → Agrees least (length node.core.history) name (known_of name knowns) client →
+      AllAgree least (length node.core.history) (λ q. known_of q knowns) (λ q. client_named q (with_client client node.clients))
+  kept_agrees client a =
+      all-updated least (length node.core.history) name (known_of name knowns) client
+      (λ q. known_of q knowns) (λ q. known_of q knowns) (λ q. client_named q node.clients) (λ q. client_named q (with_client client node.clients))
+      (known_same name knowns) (kept_client client a.client_name) all a
+
+  client_goes : (down : Bool) (luck : node_turns.Luck) → least ≤ length node.core.history →
+      IsPrefixOf (client_turn_by down luck name node).node.core.history exit →
+      TurnGoes exit least knowns node (StepClient name) (client_turn_by down luck name node)
+  client_goes true luck l p =
+      said_goes exit least knowns node (StepClient name) _ (keep_client (client_named name node.clients) node)
+      (record { log = refl; grows = same_grows node.core node.core refl; agrees = kept_agrees (client_named name node.clients) (all name); answers = tt })
+  client_goes false luck l p =
+      let client = client_named name node.clients in
+      let step = step_client (searching_luck luck) node.log client node.core in
+      let g = client_grows (searching_luck luck) node.log client node.core in
+      stepped_by step.outcome step.client step.core g
+      (step_went exit node.log least knowns name (searching_luck luck) client node.core (all name) l (prefix_on node.core.history step.core.history exit g p))
+
+  -- the request was dropped
+  restarted_goes : (o : Outcome) → after_outcome knowns (RestartClient name) o ≡ knowns → AnswersOne exit node.log least knowns (RestartClient name) o →
+      TurnGoes exit least knowns node (RestartClient name) (record { said = Some o; node = keep_client (without_request (client_named name node.clients)) node })
+  restarted_goes o e answered =
+      said_goes exit least knowns node (RestartClient name) o (keep_client (without_request (client_named name node.clients)) node)
+      (record {
+        log = refl;
+        grows = same_grows node.core node.core refl;
+        agrees = subst (λ ks. AllAgree least (length node.core.history) (λ q. known_of q ks) (λ q. client_named q (with_client (without_request (client_named name node.clients)) node.clients)))
+            (sym e) (kept_agrees (without_request (client_named name node.clients))
+            (agrees-dropped least (length node.core.history) name (known_of name knowns) (client_named name node.clients) (all name)));
+        answers = answered;
+      })
+
+  -- a request was opened, or not
+  opened_goes : (request : Request) (text : List ℕ) → TurnGoes exit least knowns node (Open name text) (open_by request name text (client_named name node.clients) node)
+  opened_goes no_request text =
+      let a = all name in
+      let c : Client = record (client_named name node.clients) { request = opened text } in
+      let k : Known = record (known_of name knowns) { text = text } in
+      said_goes exit least knowns node (Open name text) _ (keep_client c node)
+      (record {
+        log = refl;
+        grows = same_grows node.core node.core refl;
+        agrees = all-updated least (length node.core.history) name (known_of name (k ∷ knowns)) c
+            (λ q. known_of q knowns) (λ q. known_of q (k ∷ knowns)) (λ q. client_named q node.clients) (λ q. client_named q (with_client c node.clients))
+            (λ q. known_set name k knowns q a.known_name) (kept_client c a.client_name) all
+            (subst (λ x. Agrees least (length node.core.history) name x c) (sym (known_first name k knowns a.known_name))
+            (record { known_name = a.known_name; client_name = a.client_name; front = a.front; bound = a.bound; request = refl }));
+        answers = tt;
+      })
+  opened_goes (opened other) text =
+      said_goes exit least knowns node (Open name text) _ node (record { log = refl; grows = same_grows node.core node.core refl; agrees = all; answers = tt })
+  opened_goes (planned plan) text =
+      said_goes exit least knowns node (Open name text) _ node (record { log = refl; grows = same_grows node.core node.core refl; agrees = all; answers = tt })
+
+-- ---- the other lines
+
+-- requests are dropped, fronts stay
+client_named-without : (q : List ℕ) (clients : List Client) → client_named q (map without_request clients) ≡ without_request (client_named q clients)
+client_named-without q [] = refl
+client_named-without q (c ∷ clients) = by (bytes_eq c.name q) refl (client_named-without q clients)
+  where
+    by : (b : Bool) → bytes_eq c.name q ≡ b → client_named q (map without_request clients) ≡ without_request (client_named q clients) →
+        client_named q (map without_request (c ∷ clients)) ≡ without_request (client_named q (c ∷ clients))
+    by true e ih = rw e
+    by false e ih = rw e ih
+
+module _ (exit : List Entry) (least : ℕ) (knowns : List Known) (node : Node) (all : Agreed least knowns node) where
+  -- a line that no client hears of: the clients are as they were, and the history may be longer
+  other_goes : (line : Line) (o : Outcome) (new : Node) → new.log ≡ node.log → Grows node.core new.core → new.clients ≡ node.clients →
+      after_outcome knowns line o ≡ knowns → AnswersOne exit node.log least knowns line o →
+      TurnGoes exit least knowns node line (record { said = Some o; node = new })
+  other_goes line o new log g same e answered =
+      said_goes exit least knowns node line o new
+      (record {
+        log = log;
+        grows = g;
+        agrees = λ q. subst (λ k. Agrees least (length new.core.history) q k (client_named q new.clients)) (ap (known_of q) (sym e))
+            (subst (λ cs. Agrees least (length new.core.history) q (known_of q knowns) (client_named q cs)) (sym same)
+            (agrees-more least (length node.core.history) (length new.core.history) q (known_of q knowns) (client_named q node.clients) (longer node.core new.core g) (all q)));
+        answers = answered;
+      })
+
+  dropped_agree : (core : Core) → Grows node.core core →
+      AllAgree least (length core.history) (λ q. known_of q knowns) (λ q. client_named q (map without_request node.clients))
+  dropped_agree core g q =
+      subst (λ c. Agrees least (length core.history) q (known_of q knowns) c) (sym (client_named-without q node.clients))
+      (agrees-dropped least (length core.history) q (known_of q knowns) (client_named q node.clients)
+      (agrees-more least (length node.core.history) (length core.history) q (known_of q knowns) (client_named q node.clients) (longer node.core core g) (all q)))
+
+  restart_goes : (r : Result ⊤ Unread) (core : Core) → Grows node.core core → TurnGoes exit least knowns node RestartNode (restart_by r core node)
+  restart_goes (Ok done) core g =
+      said_goes exit least knowns node RestartNode _ _ (record { log = refl; grows = g; agrees = dropped_agree core g; answers = tt })
+  restart_goes (Err (not_read (faulted fault))) core g =
+      said_goes exit least knowns node RestartNode _ _ (record { log = refl; grows = g; agrees = dropped_agree core g; answers = tt })
+  restart_goes (Err (not_read no_memory)) core g = unsaid_goes exit least knowns node RestartNode _
+  restart_goes (Err calls.no_index) core g =
+      said_goes exit least knowns node RestartNode _ _ (record { log = refl; grows = g; agrees = dropped_agree core g; answers = tt })
+
+  indexer_said_goes : (said : Option IndexerOutcome) (i : ℕ) (new : Node) → new.log ≡ node.log → Grows node.core new.core → new.clients ≡ node.clients →
+      TurnGoes exit least knowns node (StepIndexer i) (record { said = said_by_indexer i said; node = new })
+  indexer_said_goes None i new log g same = unsaid_goes exit least knowns node (StepIndexer i) new
+  indexer_said_goes (Some o) i new log g same = other_goes (StepIndexer i) _ new log g same refl tt
+
+  indexer_goes : (down : Bool) (luck : node_turns.Luck) (i : ℕ) → TurnGoes exit least knowns node (StepIndexer i) (indexer_turn_by down luck i node)
+  indexer_goes true luck i = other_goes (StepIndexer i) _ node refl (same_grows node.core node.core refl) refl refl tt
+  indexer_goes false luck i =
+      let step = step_indexer (indexing_luck luck) node.log (indexer_at node.indexers i) node.core in
+      indexer_said_goes step.outcome i (indexer_stepped i node step).node refl (indexer_grows (indexing_luck luck) node.log (indexer_at node.indexers i) node.core) refl
+
+  assign_goes : (place : Place) (i : ℕ) (names : List (List ℕ)) (indexer : Indexer) → TurnGoes exit least knowns node (Assign i names) (assign_at place i names indexer node)
+  assign_goes idle i names indexer = other_goes (Assign i names) _ _ refl (same_grows node.core node.core refl) refl refl tt
+  assign_goes (reading batch) i names indexer = other_goes (Assign i names) _ node refl (same_grows node.core node.core refl) refl refl tt
+  assign_goes (staged held) i names indexer = other_goes (Assign i names) _ node refl (same_grows node.core node.core refl) refl refl tt
+  assign_goes (uploaded held) i names indexer = other_goes (Assign i names) _ node refl (same_grows node.core node.core refl) refl refl tt
+
+  full_goes : (luck : node_turns.Luck) (line : Line) → least ≤ length node.core.history →
+      IsPrefixOf (full_turn luck node line).node.core.history exit → TurnGoes exit least knowns node line (full_turn luck node line)
+  full_goes luck (At m) l p =
+      let new = (full_turn luck node (At m)).node in other_goes (At m) _ new refl (same_grows node.core new.core refl) refl refl tt
+  full_goes luck (Assign i names) l p = assign_goes (indexer_at node.indexers i).place i names (indexer_at node.indexers i)
+  full_goes luck (StepIndexer i) l p = indexer_goes node.down luck i
+  full_goes luck (RestartIndexer i) l p = other_goes (RestartIndexer i) _ _ refl (same_grows node.core node.core refl) refl refl tt
+  full_goes luck (RestartClient name) l p = restarted_goes exit least knowns node name all _ refl tt
+  full_goes luck RestartNode l p =
+      let given = loaded luck.world node.core in restart_goes given.answer given.core (loaded_grows luck.world node.core)
+  full_goes luck (Open name text) l p = opened_goes exit least knowns node name all (client_named name node.clients).request text
+  full_goes luck (StepClient name) l p = client_goes exit least knowns node name all node.down luck l p
+
+  quiet_goes : (b : Bool) (line : Line) (t : Turned) → (b ≡ false → TurnGoes exit least knowns node line t) → TurnGoes exit least knowns node line (or_quiet b line t)
+  quiet_goes true line t g = unsaid_goes exit least knowns node line (quiet line t.node)
+  quiet_goes false line t g = g refl
+
+  by_goes : (b : Bool) (luck : node_turns.Luck) (line : Line) → least ≤ length node.core.history →
+      IsPrefixOf (turn_by b luck node line).node.core.history exit → TurnGoes exit least knowns node line (turn_by b luck node line)
+  by_goes true luck line l p = unsaid_goes exit least knowns node line (quiet line node)
+  by_goes false luck line l p =
+      quiet_goes luck.short line (full_turn luck node line)
+      (λ e. full_goes luck line l (subst (λ b. IsPrefixOf (or_quiet b line (full_turn luck node line)).node.core.history exit) e p))
+
+  turn_goes : (luck : node_turns.Luck) (line : Line) → least ≤ length node.core.history →
+      IsPrefixOf (turn_with luck node line).node.core.history exit → TurnGoes exit least knowns node line (turn_with luck node line)
+  turn_goes luck line l p = by_goes luck.early luck line l p
+
+-- ---- all lines
+
+-- one line, and what is known behind it
+one_more : (exit : List Entry) (least : ℕ) (knowns : List Known) (node last : Node) (line : Line) (lines : List Line) (o : Outcome) (os : List Outcome) →
+    Agreed least knowns node → least ≤ length node.core.history → IsPrefixOf last.core.history exit →
+    (run : (mid : Node) × Turn node line (Some o) mid × Turns mid lines os last) →
+    (Agreed least (after_outcome knowns line o) run.0 → least ≤ length run.0.core.history → AnswersFrom exit run.0.log least (after_outcome knowns line o) lines os) →
+    AnswersOne exit node.log least knowns line o × AnswersFrom exit node.log least (after_outcome knowns line o) lines os
+one_more exit least knowns node last line lines o os all l p run more = (goes.answers, rest)
+  where
+    mid : Node
+    mid = run.0
+
+    t : Turned
+    t = record { said = Some o; node = mid }
+
+    is : turn_with run.1.luck node line ≡ t
+    is = run.1.is
+
+    mid_before : IsPrefixOf mid.core.history exit
+    mid_before = prefix_on mid.core.history last.core.history exit (turns_grow mid last lines os run.2) p
+
+    goes : Goes exit least knowns node line o mid
+    goes = subst (λ x. TurnGoes exit least knowns node line x) is
+        (turn_goes exit least knowns node all run.1.luck line l (subst (λ x. IsPrefixOf x.node.core.history exit) (sym is) mid_before)) o refl
+
+    rest : AnswersFrom exit node.log least (after_outcome knowns line o) lines os
+    rest =
+        subst (λ g. AnswersFrom exit g least (after_outcome knowns line o) lines os) goes.log
+        (more goes.agrees (let h = longer node.core mid.core goes.grows in omega (arith, l, h)))
+
+pub searches_answered : (exit : List Entry) (least : ℕ) (knowns : List Known) (node last : Node) (lines : List Line) (outcomes : List Outcome) →
+    Agreed least knowns node → least ≤ length node.core.history → IsPrefixOf last.core.history exit →
+    Turns node lines outcomes last → AnswersFrom exit node.log least knowns lines outcomes
+searches_answered exit least knowns node last [] [] all l p run = tt
+searches_answered exit least knowns node last [] (o ∷ os) all l p run = absurd run
+searches_answered exit least knowns node last (line ∷ lines) [] all l p run = absurd run
+searches_answered exit least knowns node last (line ∷ lines) (o ∷ os) all l p run =
+    one_more exit least knowns node last line lines o os all l p run
+    (λ agreed within. searches_answered exit least (after_outcome knowns line o) run.0 last lines os agreed within p run.2)
+
+-- a node that no client has talked to
+none_known : (least : ℕ) (node : Node) → node.clients ≡ [] → Agreed least [] node
+none_known least node e name =
+    subst (λ cs. Agrees least (length node.core.history) name (known_of name []) (client_named name cs)) (sym e)
+    (record { known_name = refl; client_name = refl; front = refl; bound = omega arith; request = tt })
+
+-- from what a call opened on, the searches are answered
+pub searches_follow : (entry exit : List Entry) (first last : Node) (lines : List Line) (outcomes : List Outcome) →
+    first.clients ≡ [] → IsPrefixOf entry first.core.history → IsPrefixOf last.core.history exit →
+    Turns first lines outcomes last → AnswersFrom exit first.log (length entry) [] lines outcomes
+searches_follow entry exit first last lines outcomes fresh begins p run =
+    searches_answered exit (length entry) [] first last lines outcomes (none_known (length entry) first fresh)
+    (let e : length first.core.history ≡ length entry + length begins.0 = ap length begins.1 ∙ length-append entry begins.0 in omega (arith, e))
+    p run

@@ -1,0 +1,5 @@
+use Rattle.quick_node.proofs.Living.{answers_go_on}
+use Rattle.quick_node.proofs.laws.answers_go_on_by_one.Goals as goal
+
+pub returns : goal.returns
+returns c = answers_go_on
