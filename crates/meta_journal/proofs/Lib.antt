@@ -6,3 +6,7 @@ pub mod EntryLaws
 pub mod Spelled
 pub mod Digits
 pub mod Calls
+pub mod KeyOrder
+pub mod Listing
+pub mod Pages
+pub mod Loads

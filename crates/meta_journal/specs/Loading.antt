@@ -1,12 +1,13 @@
 -- What loading a journal answers.
-use Rattle.std.specs.Prelude.{◌≡◌, ℕ, ◌<◌, Bool, false, List, length, Option, Some, None, Result, Ok, Err, IsSome, ⊤}
+use Rattle.std.specs.Prelude.{◌≡◌, ◌⊎◌, ℕ, zero, suc, ◌+◌, ◌-◌, ◌≤◌, ◌<◌, Bool, true, false, List, [], ◌∷◌, ◌++◌, length, Option, Some, None, Result, Ok, Err, IsSome, ⊤}
 use Rattle.std.specs.FinMap as finmap
-use Rattle.object_store.specs.Store.{State, HasLanded}
+use Rattle.object_store.specs.Store.{State, HasLanded, listed}
 use Rattle.meta_journal.specs.declared.entry.Entry.{Entry}
 use Rattle.meta_journal.specs.declared.journal_error.JournalError.{JournalError}
 use Rattle.meta_journal.specs.declared.journal_error.JournalError.TheVariants.{Memory, Adopted, StoreFault, Foreign, Corrupt, Full, Missing}
 use Rattle.meta_journal.specs.declared.place.Place.TheVariants.{Sure}
-use Rattle.meta_journal.specs.Places.{meta_key, meta_prefix, numbered, IsJournal, BeginsWith}
+use Rattle.meta_journal.specs.declared.loading.Page.{Page}
+use Rattle.meta_journal.specs.Places.{meta_key, meta_prefix, numbered, Stand, IsJournal, BeginsWith}
 use Rattle.meta_journal.specs.Journal.{Numbered, IsCorrupt, max_entries}
 
 -- a journal that took in so many entries, and knows of no doubt
@@ -26,6 +27,85 @@ pub record IsForeign (s : State) (key : List ℕ) : Type 0 where
   pub stands : IsSome (finmap.get s.objects key)
   pub prefix : BeginsWith meta_prefix key
   pub is_none : (n : ℕ) → n < max_entries → key ≡ meta_key n → (m : ℕ) × (m < n) × (numbered s m ≡ None)
+
+-- ---- the pages of a listing
+
+-- the key of the last of so many entries
+abbrev pub last_key : ℕ → Option (List ℕ)
+last_key zero = None
+last_key (suc n) = Some (meta_key n)
+
+-- the keys of so many entries from a number on
+abbrev pub keys_from : ℕ → ℕ → List (List ℕ)
+keys_from start zero = []
+keys_from start (suc k) = meta_key start ∷ keys_from (start + 1) k
+
+-- the first key that is not that of the next entry, or is past the limit
+pub record IsOtherKey (keys : List (List ℕ)) (start : ℕ) (key : List ℕ) : Type 0 where
+  pub front : ℕ
+  pub rest : List (List ℕ)
+  pub parts : keys ≡ keys_from start front ++ key ∷ rest
+  pub within : start + front ≤ max_entries
+  pub other : (max_entries ≤ start + front) ⊎ (key ≡ meta_key (start + front) → ⊥)
+
+abbrev pub IsJudged : List (List ℕ) → ℕ → Result ℕ (List ℕ) → Type 0
+IsJudged keys start (Ok count) = (keys ≡ keys_from start (length keys)) × (count ≡ start + length keys) × (count ≤ max_entries)
+IsJudged keys start (Err key) = IsOtherKey keys start key
+
+-- the keys of the journal behind those of so many entries
+abbrev pub keys_behind : ℕ → State → List (List ℕ)
+keys_behind start s = listed meta_prefix (last_key start) s.objects
+
+pub record IsPage (start : ℕ) (page : Page) : Type 0 where
+  pub grows : start ≤ page.count
+  pub within : page.count ≤ max_entries
+  pub more : page.is_last ≡ false → start < page.count
+
+-- the first keys behind are those of the next entries, and with the last page they are all
+pub record HasPage (start : ℕ) (page : Page) (s : State) : Type 0 where
+  pub rest : List (List ℕ)
+  pub parts : keys_behind start s ≡ keys_from start (page.count - start) ++ rest
+  pub all : page.is_last ≡ true → rest ≡ []
+
+abbrev pub Pages : ℕ → Result Page JournalError → State → State → Type 0
+Pages start (Ok page) old new = HasLanded old new × HasPage start page new
+Pages start (Err (Foreign key)) old new = HasLanded old new × IsOtherKey (keys_behind start new) start key
+Pages start (Err (StoreFault before after)) old new = HasLanded old new
+Pages start (Err (Memory a)) old new = HasLanded old new
+Pages start (Err (Corrupt key)) old new = ⊥
+Pages start (Err (Missing key)) old new = ⊥
+Pages start (Err (Adopted e)) old new = ⊥
+Pages start (Err Full) old new = ⊥
+
+-- so many entries stand, none stands behind them, and no other key stood at the start
+pub record IsCounted (count : ℕ) (old new : State) : Type 0 where
+  pub landed : HasLanded old new
+  pub stand : (n : ℕ) → n < count → IsSome (numbered new n)
+  pub ends : numbered new count ≡ None
+  pub no_other : (key : List ℕ) → BeginsWith meta_prefix key → IsSome (finmap.get old.objects key) → (n : ℕ) × (n < count) × (key ≡ meta_key n)
+
+abbrev pub Counts : Result ℕ JournalError → State → State → Type 0
+Counts (Ok count) old new = IsCounted count old new
+Counts (Err (Foreign key)) old new = HasLanded old new × IsForeign new key
+Counts (Err (StoreFault before after)) old new = HasLanded old new
+Counts (Err (Memory a)) old new = HasLanded old new
+Counts (Err (Corrupt key)) old new = ⊥
+Counts (Err (Missing key)) old new = ⊥
+Counts (Err (Adopted e)) old new = ⊥
+Counts (Err Full) old new = ⊥
+
+-- the entries that stood with so many numbers
+abbrev pub ReadsAll : ℕ → Result (List Entry) JournalError → State → State → Type 0
+ReadsAll count (Ok es) old new = HasLanded old new × (((n : ℕ) → n < count → IsSome (numbered old n)) → Stand old 0 es)
+ReadsAll count (Err (Corrupt key)) old new = HasLanded old new × (n : ℕ) × IsCorrupt new n key
+ReadsAll count (Err (Missing key)) old new = HasLanded old new × (((n : ℕ) → n < count → IsSome (numbered old n)) → ⊥)
+ReadsAll count (Err (StoreFault before after)) old new = HasLanded old new
+ReadsAll count (Err (Memory a)) old new = HasLanded old new
+ReadsAll count (Err (Foreign key)) old new = ⊥
+ReadsAll count (Err (Adopted e)) old new = ⊥
+ReadsAll count (Err Full) old new = ⊥
+
+-- ---- the whole
 
 -- what a load leaves, by its answer: late creates may have landed, and nothing else changed
 abbrev pub LoadsEntries : Result (List Entry) JournalError → State → State → Type 0

@@ -1,0 +1,188 @@
+-- The pages of a listing, one after another.
+use Rattle.std.proofs.Common.{◌≡◌, ◌⊎◌, ℕ, zero, suc, ◌+◌, ◌-◌, ◌^◌, ◌<◌, ◌≤◌, Bool, true, false, List, [], ◌∷◌, ◌++◌, length, get_or, take, drop, Option, Some, None, Result, Ok, Err, refl, sym, ap, subst, ◌∙◌, append_assoc, arith, inl, inr, add-zero, add-one}
+use Rattle.std.specs.Prelude.{IsSome}
+use Rattle.std.specs.FinMap as finmap
+use Rattle.std.proofs.lemmas.List.{take_more, take-append-drop, drop_more, drop_all, length-take, length-append, append-nil, take_all}
+use Rattle.object_store.specs.Store.{State, HasLanded, LandsThen, Lists, listed, is_behind}
+use Rattle.object_store.specs.declared.store.ListError.{ListError}
+use Rattle.object_store.proofs.Landings.{HasLanded-refl, HasLanded-trans, Lands-from}
+use Rattle.meta_journal.specs.declared.loading.Page.{Page}
+use Rattle.meta_journal.specs.declared.journal_error.JournalError.{JournalError}
+use Rattle.meta_journal.specs.declared.journal_error.JournalError.TheVariants.{Memory, Adopted, StoreFault, Foreign, Corrupt, Full, Missing}
+use Rattle.meta_journal.specs.Places.{meta_prefix, meta_key, numbered, BeginsWith}
+use Rattle.meta_journal.specs.Journal.{max_entries}
+use Rattle.meta_journal.specs.Loading.{last_key, keys_from, keys_behind, IsOtherKey, IsForeign, IsCounted, IsPage, HasPage, Pages, Counts}
+use Rattle.meta_journal.proofs.KeyOrder.{keys_apart}
+use Rattle.meta_journal.proofs.Listing.{Has, behind_has, behind_stands, meta_begins, key_behind, from_has, has_from, has_append, has_front, rising_parts, behind_rises, absent_by, other_is_foreign, less_behind}
+
+-- ---- one page
+
+from-snoc : (start k : ℕ) → keys_from start (suc k) ≡ keys_from start k ++ meta_key (start + k) ∷ []
+from-snoc start zero = let e : start ≡ start + 0 = omega arith in ap (λ (n : ℕ). meta_key n ∷ []) e
+from-snoc start (suc k) =
+    let e : start + 1 + k ≡ start + suc k = omega arith in
+    ap (λ (l : List (List ℕ)). meta_key start ∷ l) (from-snoc (start + 1) k ∙ ap (λ (n : ℕ). keys_from (start + 1) k ++ meta_key n ∷ []) e)
+
+pub one_judged : (keys : List (List ℕ)) (start i : ℕ) (key : List ℕ) → take i keys ≡ keys_from start i → i < length keys → key ≡ get_or keys i key → key ≡ meta_key (start + i) → take (i + 1) keys ≡ keys_from start (i + 1)
+one_judged keys start i key front lt is named =
+    take_more keys i key lt ∙ ap (λ (x : List ℕ). take i keys ++ x ∷ []) (sym is ∙ named) ∙ ap (λ (l : List (List ℕ)). l ++ meta_key (start + i) ∷ []) front ∙ sym (from-snoc start i)
+    ∙ ap (keys_from start) (sym (add-one i))
+
+pub other_judged : (keys : List (List ℕ)) (start i : ℕ) (key : List ℕ) → take i keys ≡ keys_from start i → i < length keys → key ≡ get_or keys i key → start + i ≤ max_entries → (max_entries ≤ start + i) ⊎ (key ≡ meta_key (start + i) → ⊥) → IsOtherKey keys start key
+other_judged keys start i key front lt is within other = record {
+  front = i;
+  rest = drop (i + 1) keys;
+  parts = sym (take-append-drop i keys) ∙ ap (λ (l : List (List ℕ)). l ++ drop i keys) front
+      ∙ ap (λ (l : List (List ℕ)). keys_from start i ++ l) (drop_more keys i key lt ∙ ap (λ (x : List ℕ). x ∷ drop (i + 1) keys) (sym is));
+  within = within;
+  other = other;
+}
+
+pub all_judged : (keys : List (List ℕ)) (start i : ℕ) → take i keys ≡ keys_from start i → length keys ≡ i → keys ≡ keys_from start (length keys)
+all_judged keys start i front e = sym (take_all i keys (omega arith)) ∙ front ∙ ap (keys_from start) (sym e)
+
+landed_to : (o m n : State) → HasLanded o m → n ≡ m → HasLanded o n
+landed_to o m n h e = subst (λ (s : State). HasLanded o s) (sym e) h
+
+module _ (start : ℕ) (keys : List (List ℕ)) (o n : State) (listing : LandsThen (Lists meta_prefix (last_key start) 1000 (Ok keys)) o n) where
+  landed_page : HasLanded o n
+  landed_page = landed_to o listing.0 n listing.1 listing.2.0
+
+  keys_are : keys ≡ take 1000 (keys_behind start n)
+  keys_are = listing.2.1 ∙ ap (λ (s : State). take 1000 (keys_behind start s)) (sym listing.2.0)
+
+  whole : keys_behind start n ≡ keys ++ drop 1000 (keys_behind start n)
+  whole = sym (take-append-drop 1000 (keys_behind start n)) ∙ ap (λ (l : List (List ℕ)). l ++ drop 1000 (keys_behind start n)) (sym keys_are)
+
+  pub page_listed : (page : Page) → keys ≡ keys_from start (length keys) → page.count ≡ start + length keys → (page.is_last ≡ true → length keys < 1000) → Pages start (Ok page) o n
+  page_listed page judged count last = (
+    landed_page,
+    record {
+      rest = drop 1000 (keys_behind start n);
+      parts = whole ∙ ap (λ (l : List (List ℕ)). l ++ drop 1000 (keys_behind start n)) (judged ∙ (let e : length keys ≡ page.count - start = omega arith in ap (keys_from start) e));
+      all = λ e.
+          let few = last e in
+          let len : length keys ≡ length (take 1000 (keys_behind start n)) = ap length keys_are in
+          drop_all 1000 (keys_behind start n) (omega (arith, len, length-take 1000 (keys_behind start n)));
+    },
+  )
+
+  pub other_listed : (key : List ℕ) → IsOtherKey keys start key → Pages start (Err (Foreign key)) o n
+  other_listed key other = (
+    landed_page,
+    record {
+      front = other.front;
+      rest = other.rest ++ drop 1000 (keys_behind start n);
+      parts = whole ∙ ap (λ (l : List (List ℕ)). l ++ drop 1000 (keys_behind start n)) other.parts ∙ append_assoc (keys_from start other.front) (key ∷ other.rest) (drop 1000 (keys_behind start n));
+      within = other.within;
+      other = other.other;
+    },
+  )
+
+pub refused_listed : (start : ℕ) (e : ListError) (o n : State) → LandsThen (Lists meta_prefix (last_key start) 1000 (Err e)) o n → HasLanded o n
+refused_listed start e o n h = landed_to o h.0 n h.1 h.2
+
+-- ---- the pages so far
+
+pub record IsSoFar (count : ℕ) (old new : State) : Type 0 where
+  pub landed : HasLanded old new
+  pub stand : (n : ℕ) → n < count → IsSome (numbered new n)
+  pub covered : (key : List ℕ) → BeginsWith meta_prefix key → IsSome (finmap.get old.objects key) → is_behind (last_key count) key ≡ false → (n : ℕ) × (n < count) × (key ≡ meta_key n)
+
+pub none_so_far : (s : State) → IsSoFar 0 s s
+none_so_far s = record { landed = HasLanded-refl s; stand = λ n lt. absurd (omega arith); covered = λ key prefix some never. absurd cc }
+
+still : (o n : State) (key : List ℕ) → HasLanded o n → (x : Option (List ℕ)) → finmap.get o.objects key ≡ x → IsSome x → IsSome (finmap.get n.objects key)
+still o n key h None e some = absurd cc
+still o n key h (Some bytes) e some = subst (λ (y : Option (List ℕ)). IsSome y) (sym ((Lands-from o n h).kept key bytes e)) refl
+
+pub stays : (o n : State) (key : List ℕ) → HasLanded o n → IsSome (finmap.get o.objects key) → IsSome (finmap.get n.objects key)
+stays o n key h some = still o n key h (finmap.get o.objects key) refl some
+
+true_or_false : (b : Bool) → (b ≡ true) ⊎ (b ≡ false)
+true_or_false true = inl refl
+true_or_false false = inr refl
+
+before_or_from : (n start : ℕ) → (n < start) ⊎ (start ≤ n)
+before_or_from n start = grind arith
+
+module _ (start : ℕ) (page : Page) (o m s : State) (so_far : IsSoFar start o m) (is_page : IsPage start page) (landed : HasLanded m s) (has : HasPage start page s) where
+  sum : start + (page.count - start) ≡ page.count
+  sum = let g = is_page.grows in omega arith
+
+  small : page.count < 2 ^ 64
+  small = let w = is_page.within in omega arith
+
+  landed_whole : HasLanded o s
+  landed_whole = HasLanded-trans o m s so_far.landed landed
+
+  named : (key : List ℕ) → Has (keys_from start (page.count - start)) key → (n : ℕ) × (n < page.count) × (key ≡ meta_key n)
+  named key h = let r = from_has start (page.count - start) key h in (r.0, (let lt = r.2 in omega (arith, sum)), r.3)
+
+  stand_whole : (n : ℕ) → n < page.count → IsSome (numbered s n)
+  stand_whole n lt = elim (before_or_from n start) [
+    | inl before ↦ stays m s (meta_key n) landed (so_far.stand n before)
+    | inr from ↦
+        let among : Has (keys_behind start s) (meta_key n) = subst (λ (l : List (List ℕ)). Has l (meta_key n)) (sym has.parts) (has_front (keys_from start (page.count - start)) has.rest (meta_key n) (has_from start (page.count - start) n from (omega (arith, sum)))) in
+        (behind_stands start s (meta_key n) among).0
+  ]
+
+  -- an old key is among those before, or is listed
+  old_key : (key : List ℕ) → BeginsWith meta_prefix key → IsSome (finmap.get o.objects key) → ((n : ℕ) × (n < page.count) × (key ≡ meta_key n)) ⊎ Has has.rest key
+  old_key key prefix some = elim (true_or_false (is_behind (last_key start) key)) [
+    | inl behind ↦
+        let listed_key : Has (keys_behind start s) key = behind_has start s key (stays o s key landed_whole some) prefix behind in
+        elim (has_append (keys_from start (page.count - start)) has.rest key (subst (λ (l : List (List ℕ)). Has l key) has.parts listed_key)) [
+          | inl front ↦ inl (named key front)
+          | inr rest ↦ inr rest
+        ]
+    | inr not ↦ let r = so_far.covered key prefix some not in inl (r.0, (let lt = r.1 in let g = is_page.grows in omega arith), r.2)
+  ]
+
+  -- a key of the rest is behind the last of the page
+  rest_behind : (key : List ℕ) → Has has.rest key → is_behind (last_key page.count) key ≡ true
+  rest_behind key h = less_behind start (page.count - start) page.count s key has.rest sum has.parts h
+
+  pub one_more_page : IsSoFar page.count o s
+  one_more_page = record {
+    landed = landed_whole;
+    stand = stand_whole;
+    covered = λ key prefix some not. elim (old_key key prefix some) [
+      | inl named ↦ named
+      | inr rest ↦ absurd (clash (is_behind (last_key page.count) key) (rest_behind key rest) not)
+    ];
+  }
+    where
+      clash : (b : Bool) → b ≡ true → b ≡ false → ⊥
+      clash b e f = cc
+
+  pub last_page : page.is_last ≡ true → IsCounted page.count o s
+  last_page last = record {
+    landed = landed_whole;
+    stand = stand_whole;
+    ends = absent_by s start page.count not_listed is_page.grows small (numbered s page.count) refl;
+    no_other = λ key prefix some. elim (old_key key prefix some) [
+      | inl named ↦ named
+      | inr rest ↦ absurd (subst (λ (l : List (List ℕ)). Has l key) none rest)
+    ];
+  }
+    where
+      none : has.rest ≡ []
+      none = has.all last
+
+      all_named : keys_behind start s ≡ keys_from start (page.count - start)
+      all_named = has.parts ∙ ap (λ (l : List (List ℕ)). keys_from start (page.count - start) ++ l) none ∙ append-nil (keys_from start (page.count - start))
+
+      not_listed : Has (keys_behind start s) (meta_key page.count) → ⊥
+      not_listed h = let r = named (meta_key page.count) (subst (λ (l : List (List ℕ)). Has l (meta_key page.count)) all_named h) in keys_apart r.0 page.count r.1 small r.2
+
+-- ---- what ends the listing
+
+pub page_refused : (start count : ℕ) (x : JournalError) (o m s : State) → HasLanded o m → Pages start (Err x) m s → Counts (Err x) o s
+page_refused start count (Foreign key) o m s h p = (HasLanded-trans o m s h p.0, other_is_foreign start s key p.1)
+page_refused start count (StoreFault b a) o m s h p = HasLanded-trans o m s h p
+page_refused start count (Memory a) o m s h p = HasLanded-trans o m s h p
+page_refused start count (Corrupt key) o m s h p = p
+page_refused start count (Missing key) o m s h p = p
+page_refused start count (Adopted e) o m s h p = p
+page_refused start count Full o m s h p = p
