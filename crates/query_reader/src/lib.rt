@@ -11,6 +11,8 @@ mod refusal;
 mod resolve;
 mod scan;
 mod special;
+#[cfg(test)]
+mod tests;
 mod texts;
 mod tree;
 
