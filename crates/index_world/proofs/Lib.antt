@@ -12,6 +12,7 @@ pub mod Worlds
 pub mod WorldCalls
 pub mod JournalCalls
 pub mod Transactions
+pub mod Transacting
 pub mod Asking
 pub mod InCore
 pub mod FileCalls
