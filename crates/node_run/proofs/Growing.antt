@@ -224,7 +224,7 @@ file_got_grows call core =
 pub fetched_grows : (fate : Fate) (core : Core) → Grows core (fetched fate core).core
 fetched_grows fate core = asking_grows fate.unasked no_memory core (λ c. file_got fate.first c) (λ c. file_got_grows fate.first c)
 
-standing_grows : (standing : Option Entry) (core : Core) → Grows core (with_standing standing core)
+pub standing_grows : (standing : Option Entry) (core : Core) → Grows core (with_standing standing core)
 standing_grows None core = same_grows core core refl
 standing_grows (Some entry) core = taken_grows entry core
 

@@ -1,3 +1,4 @@
 pub mod OnLiterals
 pub mod Rows
 pub mod Growing
+pub mod Spelling

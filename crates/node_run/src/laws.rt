@@ -1,7 +1,8 @@
 //! What holds of each node, whatever lands and fails. Each law is the contract of a function that does nothing.
 
-ghost use Rattle.std.specs.Prelude.{◌≡◌, List, [], ◌∷◌, ◌++◌, Option, Some};
+ghost use Rattle.std.specs.Prelude.{◌≡◌, ℕ, List, [], ◌∷◌, ◌++◌, Option, Some};
 ghost use Rattle.meta_journal.specs.declared.entry.Entry.{Entry};
+ghost use Rattle.node_run.specs.Lines.{Spells};
 ghost use Rattle.node_run.specs.Node.{Node, Line, Outcome};
 ghost use Rattle.node_run.specs.Turns.{Turn, Turns};
 
@@ -21,4 +22,9 @@ pub fn lines_add_to_the_history()
 pub fn lines_go_on_by_one()
     ensures { (node mid last : Node) (lines : List Line) (line : Line) (outcomes : List Outcome) (outcome : Outcome) →
         Turns node lines outcomes mid → Turn mid line (Some outcome) last → Turns node (lines ++ line ∷ []) (outcomes ++ outcome ∷ []) last }
+{}
+
+/// A text is the spelling of at most one line.
+pub fn a_text_is_one_line()
+    ensures { (text : List ℕ) (a b : Line) → Spells text a → Spells text b → a ≡ b }
 {}
