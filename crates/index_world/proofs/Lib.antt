@@ -1,4 +1,3 @@
-mod Digits
 pub mod StoreKeys
 pub mod Journals
 pub mod Numbers

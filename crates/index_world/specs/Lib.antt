@@ -12,3 +12,5 @@ pub mod World
 pub mod Gate
 pub mod Held
 pub mod Onward
+pub mod Owning
+pub mod PlaceMade

@@ -2,16 +2,28 @@
 #![tactic(auto)]
 
 mod accepting;
-mod keys;
+mod config;
+mod gate;
 pub mod laws;
+mod own;
 mod placed;
+mod planning;
 mod split_reading;
 mod split_writing;
+mod taking;
+mod tokens;
 mod words;
+mod world;
+mod world_error;
 
 pub use accepting::accept;
-pub use keys::split_key;
+pub use config::logs_config;
+pub use gate::{Direct, Gate};
 pub use placed::{Placed, PlacedList};
+pub use planning::{Choice, PlanRow, PlanRows};
 pub use split_reading::{SplitError, read_split};
 pub use split_writing::{BuiltSplit, build, weight_of};
-pub use words::{put_number, put_word};
+pub use tokens::{Marks, Plan, Staged, Uploaded};
+pub use words::{put_fault, put_number, put_refusal, put_word};
+pub use world::{Unopened, World};
+pub use world_error::WorldError;

@@ -1,6 +1,7 @@
 //! A split file, version 00, of placed documents.
 
-ghost use Rattle.std.specs.Prelude.{◌≡◌, ◌≤◌, ◌++◌, List, ℕ, length, OnOk, vec_len};
+ghost use Rattle.std.specs.Prelude.{◌≡◌, IfOk};
+ghost use Rattle.meta_journal.specs.Spelling.{CanSpellFacts};
 
 use crate::placed::{Placed, PlacedList};
 use byte_fields::{Bytes, put_bytes, put_eight, put_flag, put_signed, put_varint};
@@ -188,7 +189,9 @@ fn put_names(out: &mut Vec<u8>, names: &[Partition]) -> Result<(), AllocError> {
 }
 
 /// The split file of these documents, in this order. Its facts have `rejected` 0.
-pub fn build(alloc: Global, documents: &PlacedList) -> Result<BuiltSplit, AllocError> {
+pub fn build(alloc: Global, documents: &PlacedList) -> Result<BuiltSplit, AllocError>
+    ensures { IfOk result (λ split. CanSpellFacts split.facts) }
+{
     let names = names_of(alloc, documents.as_slice())?;
     let area = area_of(alloc, names.as_slice(), documents.as_slice())?;
     let mut out = Vec::new(alloc);

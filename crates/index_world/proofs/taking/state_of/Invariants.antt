@@ -1,0 +1,12 @@
+use Rattle.std.proofs.Common.{◌≡◌, ◌+◌, ◌<◌, ◌≤◌, ◌^◌, vec_len}
+use Rattle.index_world.proofs.taking.state_of.Given as goal
+
+abbrev pub invariant-entries : goal.invariant-entries
+invariant-entries l = record {
+  count : l.meta.state.revision + vec_len l.left ≡ vec_len l.fn.entries;
+  few : vec_len l.fn.entries ≤ 10000000;
+  early : l.moment < 2 ^ 62;
+}
+
+abbrev pub decreases-entries : goal.decreases-entries
+decreases-entries l = vec_len l.left

@@ -1,0 +1,38 @@
+//! The one configuration that is read.
+
+ghost use Rattle.std.specs.Prelude.{◌≡◌};
+
+use meta_journal::{Act, Entry};
+use meta_store::{Reading, Settings};
+
+const STAGED_GRACE: u64 = 200;
+
+const DELETION_GRACE: u64 = 100;
+
+/// The bytes of the one configuration.
+pub fn logs_config() -> &'static [u8] {
+    b"version = \"0.9\"\nindex_id = \"logs\"\n[doc_mapping]\nmode = \"strict\"\n[[doc_mapping.field_mappings]]\nname = \"body\"\ntype = \"text\"\nrecord = \"position\"\n[[doc_mapping.field_mappings]]\nname = \"level\"\ntype = \"text\"\ntokenizer = \"raw\"\nfast = true\n[indexing_settings.merge_policy]\ntype = \"stable_log\"\nmin_level_num_docs = 100\nmerge_factor = 2\nmax_merge_factor = 4\n[search_settings]\ndefault_search_fields = [\"body\"]\n[upkeep]\nstaged_grace_secs = 200\ndeletion_grace_secs = 100\n"
+}
+
+fn settings_of(config: &[u8]) -> Option<Settings> {
+    if config != logs_config() {
+        return None;
+    }
+    Some(Settings {
+        staged_grace: STAGED_GRACE,
+        deletion_grace: DELETION_GRACE,
+        period: None,
+    })
+}
+
+/// What the readers of texts say of an entry. No task is read yet.
+pub fn reading_of(entry: &Entry) -> Reading {
+    let settings = match &entry.act {
+        Act::Create { config } => settings_of(config.as_slice()),
+        _ => None,
+    };
+    Reading {
+        settings,
+        task: false,
+    }
+}

@@ -1,0 +1,48 @@
+//! What a caller of the world holds between its calls.
+
+ghost use Rattle.std.specs.Prelude.{◌≡◌, ◌<◌, length};
+
+use crate::planning::PlanRows;
+use source_checkpoint::{Checkpoint, Partition};
+
+/// A row that was staged, whose file isn't uploaded yet.
+#[derive(Drop)]
+pub struct Staged {
+    pub number: u64,
+    pub opstamp: u64,
+}
+
+/// A row that was staged, with its file.
+#[derive(Drop)]
+pub struct Uploaded {
+    pub number: u64,
+}
+
+/// The checkpoints, the last opstamp, and how many entries the state has taken in.
+#[derive(Drop)]
+pub struct Marks {
+    pub checkpoints: Vec<Checkpoint>,
+    pub opstamp: u64,
+    pub revision: u64,
+}
+
+impl Marks {
+    /// How far the partition was taken in, 0 for an unknown one.
+    pub fn position(&self, partition: &Partition) -> u64 {
+        for checkpoint in self.checkpoints.as_slice() {
+            if checkpoint.partition.is(partition) {
+                return checkpoint.at;
+            }
+        }
+        0
+    }
+}
+
+/// The rows to work on, and the revision and the moment at which they were planned. `upto` is the last opstamp.
+#[derive(Drop)]
+pub struct Plan {
+    pub revision: u64,
+    pub moment: u64,
+    pub upto: u64,
+    pub rows: PlanRows,
+}
