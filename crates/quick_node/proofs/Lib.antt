@@ -1,2 +1,4 @@
 mod Searching
 pub mod Living
+pub mod InOneWay
+pub mod Exact

@@ -1,10 +1,11 @@
 //! What holds of each run, by its definitions alone. Each law is the contract of a function that does nothing.
 
-ghost use Rattle.std.specs.Prelude.{◌≡◌, ℕ, List, [], ◌∷◌, ◌++◌, length, Option, Some};
+ghost use Rattle.std.specs.Prelude.{◌≡◌, ◌⊎◌, ◌≢◌, ℕ, ◌<◌, List, [], ◌∷◌, ◌++◌, length, Option, Some};
 ghost use Rattle.meta_journal.specs.declared.entry.Entry.{Entry};
 ghost use Rattle.node_run.specs.Node.{Node, Line, Outcome};
 ghost use Rattle.node_run.specs.Turns.{Turn};
-ghost use Rattle.quick_node.specs.Serve.{IsPrefixOf, Before, End, IsFresh, Answers, Lives, AnswersFrom};
+ghost use Rattle.quick_node.specs.Reading.{Ending, stopped, Reads};
+ghost use Rattle.quick_node.specs.Serve.{IsPrefixOf, Before, After, End, HasEnd, IsFresh, Answers, Lives, IsShown, IsCalm, AnswersFrom, status_of, reading_status};
 
 /// Whatever lands and fails, the journal at entry is a prefix of each history that the last node's is a prefix of, and
 /// each search is answered.
@@ -20,4 +21,25 @@ pub fn answers_go_on_by_one()
     ensures { (fresh mid last : Node) (lines : List Line) (line : Line) (outcomes : List Outcome) (outcome : Outcome) →
         Answers fresh lines outcomes mid → Turn mid line (Some outcome) last →
         Answers fresh (lines ++ line ∷ []) (outcomes ++ outcome ∷ []) last }
+{}
+
+/// An input is read in one way, as these lines with this end.
+pub fn an_input_is_read_in_one_way()
+    ensures { (readers : ℕ) (input : List ℕ) (lines others : List Line) (ending other : Ending) → ending ≢ stopped → other ≢ stopped →
+        Reads readers input lines ending → Reads readers input others other → (lines ≡ others) × (ending ≡ other) }
+{}
+
+/// A reading that stopped earlier has a front of these lines.
+pub fn a_shorter_reading_is_a_front()
+    ensures { (readers : ℕ) (input : List ℕ) (lines others : List Line) (ending other : Ending) → other ≢ stopped →
+        Reads readers input lines ending → Reads readers input others other → IsPrefixOf lines others }
+{}
+
+/// Where no count rose, and none stands at its end, an index ends with the status of its input, or for want of memory.
+pub fn the_status_is_that_of_the_input()
+    ensures { (history : List Entry) (before : Before) (after : After) (fresh last : Node) →
+        IsFresh before history fresh → IsShown after last → IsCalm before after →
+        (end : End) (lines : List Line) (outcomes : List Outcome) → HasEnd before after lines end → Lives before end fresh lines outcomes last →
+        0 < length history → (read : List Line) (ending : Ending) → ending ≢ stopped → Reads (length before.log_faults) before.input read ending →
+        (status_of end ≡ reading_status ending) ⊎ (status_of end ≡ 11) }
 {}
