@@ -1,0 +1,4 @@
+pub mod Pieces
+pub mod Bits
+pub mod Places
+pub mod Texts

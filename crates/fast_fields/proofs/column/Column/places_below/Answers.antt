@@ -1,0 +1,27 @@
+use Rattle.std.proofs.Common.{◌+◌, ◌-◌, ◌/◌, arith}
+use Rattle.fast_fields.proofs.Places.{get_some, count_within, count_up, count_down}
+use Rattle.fast_fields.proofs.column.Column.places_below.Goals as goal
+
+pub loop-low-init : goal.loop-low-init
+loop-low-init c = (omega arith, omega arith, λ texts es h. (omega arith, omega (arith, h.count_is, count_within c.args.document es)))
+
+pub loop-low-preserved-then-from-document : goal.loop-low-preserved-then-from-document
+loop-low-preserved-then-from-document c = (
+  omega arith,
+  omega (arith, c.loop-low.invariant.1),
+  λ texts es h.
+      let middle = c.loop-low.low + (c.loop-low.high - c.loop-low.low) / 2 in
+      let e = get_some es (c.loop-low.low + (c.loop-low.high - c.loop-low.low) / 2) (omega (arith, h.count_is, c.loop-low.invariant.1)) in
+      let document = c.document_of.ensures texts es e.0 h e.1 in
+      (count_up c.args.document es (c.loop-low.low + (c.loop-low.high - c.loop-low.low) / 2) e.0 h.fits.rise e.1 (omega (arith, document)), (c.loop-low.invariant.2 texts es h).1),
+)
+
+pub loop-low-preserved : goal.loop-low-preserved
+loop-low-preserved c = (
+  omega arith,
+  omega (arith, c.loop-low.invariant.1),
+  λ texts es h.
+      let e = get_some es (c.loop-low.low + (c.loop-low.high - c.loop-low.low) / 2) (omega (arith, h.count_is, c.loop-low.invariant.1)) in
+      let document = c.document_of.ensures texts es e.0 h e.1 in
+      ((c.loop-low.invariant.2 texts es h).0, count_down c.args.document es (c.loop-low.low + (c.loop-low.high - c.loop-low.low) / 2) e.0 h.fits.rise e.1 (omega (arith, document))),
+)

@@ -1,0 +1,3 @@
+pub mod Packed
+pub mod Columns
+pub mod Readers

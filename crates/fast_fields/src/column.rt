@@ -1,0 +1,286 @@
+ghost use Rattle.std.specs.Prelude.{◌≡◌, ◌≤◌, ◌<◌, ◌+◌, ◌*◌, ◌/◌, ◌%◌, ◌^◌, ◌++◌, List, ℕ, Bool, length, drop, slice_get, slice_index, Some, IfOk, IsOkAnd, IsTrue, IsUtf8, ◌↔◌, ◌-◌, false, [], ◌∷◌};
+ghost use Rattle.std.specs.List.{flat_map, AllByRecursion};
+ghost use Rattle.byte_fields.specs.Spelling.{byte_string};
+ghost use Rattle.fast_fields.specs.Packed.{bit};
+ghost use Rattle.fast_fields.specs.Columns.{has_texts, texts_bytes};
+
+use byte_fields::{Corrupt, take_bytes, take_eight, take_four, take_text, take_varint};
+use doc_value::{Field, Kind};
+
+/// The values of one field of many documents, over the bytes of the column.
+#[derive(Clone, Copy, Debug)]
+pub struct Column<'a> {
+    pub(crate) texts: &'a [u8],
+    pub(crate) text_count: u64,
+    pub(crate) documents: &'a [u8],
+    pub(crate) packed: &'a [u8],
+    pub(crate) count: u32,
+    pub(crate) least: u64,
+    pub(crate) width: u8,
+    ghost documents_size: { length documents.now ≡ 4 * count },
+    ghost packed_size: { length packed.now ≡ (width * count + 7) / 8 },
+    ghost width_within: { width ≤ 64 },
+}
+
+impl<'a> Column<'a> {
+    ghost use Rattle.fast_fields.specs.Columns.{Entry, IsColumn, numbers, least_of, greatest_of};
+    ghost use Rattle.fast_fields.specs.Readers.{Holds, IsOf, LendsText, count_below, first_number, of_some};
+    ghost use Rattle.fast_fields.specs.declared.rows.ColumnRow.{ColumnRow};
+
+    /// The column at the front of the bytes, and the place behind it.
+    pub fn read(field: &Field, bytes: &'a [u8]) -> Result<(Column<'a>, usize), Corrupt>
+        ensures { (column rest : List ℕ) (rows : List ColumnRow) → IsColumn field.now.kind column rows → bytes.now ≡ column ++ rest
+            → IsOkAnd result (λ x. IsOf x.0 rows × (x.1 ≡ length column)) }
+    {
+        let (count, behind_count) = take_varint(bytes, 0)?;
+        if count > u64::from(u32::MAX) {
+            return Err(Corrupt { at: 0 });
+        }
+        let count = count as u32;
+        let (texts, behind_texts) = read_texts(bytes, behind_count, has_texts(field.kind))?;
+        let (documents, behind_documents) = take_piece(bytes, behind_texts, 4 * count as usize)?;
+        let (least, behind_least) = take_eight(bytes, behind_documents)?;
+        let (width, behind_width) = take_width(bytes, behind_least)?;
+        let size = (u64::from(width) * u64::from(count) + 7) / 8;
+        let (packed, end) = take_piece(bytes, behind_width, size as usize)?;
+        let column = Column {
+            texts: texts.bytes,
+            text_count: texts.count,
+            documents,
+            packed,
+            count,
+            least,
+            width,
+        };
+        Ok((column, end))
+    }
+
+    /// The first value of a document, if it has one.
+    pub fn value_at(&self, document: u32) -> Option<u64>
+        ensures { (texts : List (List ℕ)) (entries : List Entry) → Holds self.now texts entries → result ≡ first_number document entries }
+    {
+        let place = self.places_below(u64::from(document));
+        if place < self.count && self.document_of(place) == document {
+            return Some(self.value(place));
+        }
+        None
+    }
+
+    /// The range of a document's places, which is empty where it has no values.
+    pub fn values_of(&self, document: u32) -> (u32, u32)
+        ensures { (texts : List (List ℕ)) (entries : List Entry) → Holds self.now texts entries
+            → (result.0 ≡ count_below document entries) × (result.1 ≡ count_below (document + 1) entries) }
+    {
+        let from = self.places_below(u64::from(document));
+        let to = self.places_below(u64::from(document) + 1);
+        (from, to)
+    }
+
+    /// How many values there are.
+    pub fn len(&self) -> u32
+        ensures { result ≡ self.now.count }
+    {
+        self.count
+    }
+
+    /// Whether there are none.
+    pub fn is_empty(&self) -> bool
+        ensures { IsTrue result ↔ (self.now.count ≡ 0) }
+    {
+        self.count == 0
+    }
+
+    /// The value at a place.
+    pub fn value(&self, place: u32) -> u64
+        requires { place < self.now.count }
+        ensures { (texts : List (List ℕ)) (entries : List Entry) (entry : Entry) → Holds self.now texts entries → slice_get entries place ≡ Some entry
+            → result ≡ entry.number }
+    {
+        self.least.wrapping_add(self.packed_at(place))
+    }
+
+    /// The text with an ordinal, if there is one.
+    pub fn text(&self, ordinal: u64) -> Option<&'a str>
+        ensures { (texts : List (List ℕ)) (entries : List Entry) → Holds self.now texts entries → LendsText result (slice_get texts ordinal) }
+    {
+        if ordinal >= self.text_count {
+            return None;
+        }
+        let mut at = 0;
+        for _number in 0..ordinal {
+            match take_bytes(self.texts, at) {
+                Ok((_text, next)) => at = next,
+                Err(_) => return None,
+            }
+        }
+        match take_text(self.texts, at) {
+            Ok((text, _behind)) => Some(text),
+            Err(_) => None,
+        }
+    }
+
+    /// The least of the values, if there are any.
+    pub fn least(&self) -> Option<u64>
+        ensures { (texts : List (List ℕ)) (entries : List Entry) → Holds self.now texts entries → result ≡ of_some entries (least_of (numbers entries)) }
+    {
+        if self.count == 0 {
+            return None;
+        }
+        Some(self.least)
+    }
+
+    /// The greatest of the values, if there are any.
+    pub fn greatest(&self) -> Option<u64>
+        ensures { (texts : List (List ℕ)) (entries : List Entry) → Holds self.now texts entries → result ≡ of_some entries (greatest_of (numbers entries)) }
+    {
+        if self.count == 0 {
+            return None;
+        }
+        let mut greatest = 0;
+        for place in 0..self.count {
+            greatest = self.value(place).max(greatest);
+        }
+        Some(greatest)
+    }
+
+    // The number at a place, less the least one.
+    fn packed_at(&self, place: u32) -> u64
+        requires { place < self.now.count }
+        ensures { (texts : List (List ℕ)) (entries : List Entry) (entry : Entry) → Holds self.now texts entries → slice_get entries place ≡ Some entry
+            → result ≡ entry.number - least_of (numbers entries) }
+    {
+        let start = u64::from(self.width) * u64::from(place);
+        let mut value = 0u64;
+        for step in 0..self.width {
+            let low = self.width - 1 - step;
+            let next = bit_at(self.packed, (start + u64::from(low)) as usize);
+            value = value.wrapping_mul(2).wrapping_add(next);
+        }
+        value
+    }
+
+    // The document of a place.
+    fn document_of(&self, place: u32) -> u32
+        requires { place < self.now.count }
+        ensures { (texts : List (List ℕ)) (entries : List Entry) (entry : Entry) → Holds self.now texts entries → slice_get entries place ≡ Some entry
+            → result ≡ entry.document }
+    {
+        match take_four(self.documents, 4 * place as usize) {
+            Ok((document, _behind)) => document,
+            Err(_) => 0,
+        }
+    }
+
+    // How many places have a document below one.
+    fn places_below(&self, document: u64) -> u32
+        ensures within { result ≤ self.now.count }
+        ensures only { (texts : List (List ℕ)) (entries : List Entry) → Holds self.now texts entries → result ≡ count_below document entries }
+    {
+        let mut low = 0;
+        let mut high = self.count;
+        while low < high {
+            let middle = low + (high - low) / 2;
+            if u64::from(self.document_of(middle)) < document {
+                low = middle + 1;
+            } else {
+                high = middle;
+            }
+        }
+        low
+    }
+}
+
+// The texts of a column, as they stand in its bytes.
+#[derive(Clone, Copy)]
+struct TextArea<'a> {
+    bytes: &'a [u8],
+    count: u64,
+}
+
+fn has_texts(kind: Kind) -> bool
+    ensures { result ≡ has_texts kind }
+{
+    match kind {
+        Kind::Text | Kind::TextList => true,
+        Kind::I64 | Kind::U64 | Kind::Bool | Kind::Datetime => false,
+    }
+}
+
+// The texts at a place, if there are to be texts, and the place behind them.
+fn read_texts(bytes: &[u8], at: usize, texted: bool) -> Result<(TextArea<'_>, usize), Corrupt>
+    requires { at ≤ length bytes.now }
+    ensures within { IfOk result (λ x. x.1 ≤ length bytes.now) }
+    ensures only { (texts : List (List ℕ)) (rest : List ℕ) → AllByRecursion IsUtf8 texts → length texts < 2 ^ 64 → (texted ≡ false → texts ≡ [])
+        → drop at bytes.now ≡ texts_bytes texted texts ++ rest
+        → IsOkAnd result (λ x. (x.0.bytes.now ≡ flat_map byte_string texts) × (x.0.count ≡ length texts) × (drop x.1 bytes.now ≡ rest)) }
+{
+    if !texted {
+        return Ok((
+            TextArea {
+                bytes: &bytes[at..at],
+                count: 0,
+            },
+            at,
+        ));
+    }
+    let (count, from) = take_varint(bytes, at)?;
+    let to = behind_texts(bytes, from, count)?;
+    Ok((
+        TextArea {
+            bytes: &bytes[from..to],
+            count,
+        },
+        to,
+    ))
+}
+
+// The place behind so many texts.
+fn behind_texts(bytes: &[u8], from: usize, count: u64) -> Result<usize, Corrupt>
+    requires { from ≤ length bytes.now }
+    ensures within { IfOk result (λ at. (from ≤ at) × (at ≤ length bytes.now)) }
+    ensures only { (texts : List (List ℕ)) (rest : List ℕ) → AllByRecursion IsUtf8 texts → count ≡ length texts
+        → drop from bytes.now ≡ flat_map byte_string texts ++ rest → IsOkAnd result (λ at. drop at bytes.now ≡ rest) }
+{
+    let mut at = from;
+    for _number in 0..count {
+        at = take_text(bytes, at)?.1;
+    }
+    Ok(at)
+}
+
+// So many bytes at a place, and the place behind them.
+fn take_piece(bytes: &[u8], at: usize, len: usize) -> Result<(&[u8], usize), Corrupt>
+    requires { at ≤ length bytes.now }
+    ensures within { IfOk result (λ x. (x.1 ≤ length bytes.now) × (length x.0.now ≡ len)) }
+    ensures only { (piece rest : List ℕ) → length piece ≡ len → drop at bytes.now ≡ piece ++ rest
+        → IsOkAnd result (λ x. (x.0.now ≡ piece) × (drop x.1 bytes.now ≡ rest)) }
+{
+    if bytes.len() - at < len {
+        return Err(Corrupt { at: bytes.len() });
+    }
+    Ok((&bytes[at..at + len], at + len))
+}
+
+// A width of at most 64 bits at a place, and the place behind it.
+fn take_width(bytes: &[u8], at: usize) -> Result<(u8, usize), Corrupt>
+    requires { at ≤ length bytes.now }
+    ensures within { IfOk result (λ x. (x.1 ≤ length bytes.now) × (x.0 ≤ 64)) }
+    ensures only { (width : ℕ) (rest : List ℕ) → width ≤ 64 → drop at bytes.now ≡ width ∷ rest → IsOkAnd result (λ x. (x.0 ≡ width) × (drop x.1 bytes.now ≡ rest)) }
+{
+    if at == bytes.len() {
+        return Err(Corrupt { at });
+    }
+    let width = bytes[at];
+    if width > 64 {
+        return Err(Corrupt { at });
+    }
+    Ok((width, at + 1))
+}
+
+// A bit of some bytes, the low bits of each first.
+fn bit_at(bytes: &[u8], number: usize) -> u64
+    requires { number < 8 * length bytes.now }
+    ensures { result ≡ bit (slice_index bytes.now (number / 8)) (number % 8) }
+{
+    u64::from(bytes[number / 8]) / (1 << (number % 8)) % 2
+}

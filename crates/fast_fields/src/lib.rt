@@ -1,0 +1,8 @@
+//! Columns: the values of one field of many documents, each found by its place in constant time.
+#![tactic(auto)]
+
+mod column;
+mod rows;
+
+pub use column::Column;
+pub use rows::{ColumnList, ColumnRow};
