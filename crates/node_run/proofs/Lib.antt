@@ -2,3 +2,4 @@ pub mod OnLiterals
 pub mod Rows
 pub mod Growing
 pub mod Spelling
+pub mod Counting

@@ -1,7 +1,8 @@
 //! What holds of each node, whatever lands and fails. Each law is the contract of a function that does nothing.
 
-ghost use Rattle.std.specs.Prelude.{◌≡◌, ℕ, List, [], ◌∷◌, ◌++◌, Option, Some};
+ghost use Rattle.std.specs.Prelude.{◌≡◌, ℕ, ◌≤◌, min, List, [], ◌∷◌, ◌++◌, Option, Some};
 ghost use Rattle.meta_journal.specs.declared.entry.Entry.{Entry};
+ghost use Rattle.index_world.specs.Core.{last_count};
 ghost use Rattle.node_run.specs.Lines.{Spells};
 ghost use Rattle.node_run.specs.Node.{Node, Line, Outcome};
 ghost use Rattle.node_run.specs.Turns.{Turn, Turns};
@@ -27,4 +28,10 @@ pub fn lines_go_on_by_one()
 /// A text is the spelling of at most one line.
 pub fn a_text_is_one_line()
     ensures { (text : List ℕ) (a b : Line) → Spells text a → Spells text b → a ≡ b }
+{}
+
+/// Lines never lower the count of the store's faults. It stands still at its type's end.
+pub fn lines_never_lower_the_store_count()
+    ensures { (node last : Node) (lines : List Line) (outcomes : List Outcome) → Turns node lines outcomes last →
+        min node.core.store_faults last_count ≤ last.core.store_faults }
 {}
