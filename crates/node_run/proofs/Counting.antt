@@ -6,7 +6,7 @@ use Rattle.meta_journal.specs.declared.entry.Act.TheVariants.{Publish}
 use Rattle.meta_journal.specs.declared.entry.Entry.{Entry}
 use Rattle.source_checkpoint.specs.declared.ledger.Checkpoint.{Checkpoint}
 use Rattle.source_log.specs.Log.{Log}
-use Rattle.index_world.specs.Calls.{Fate, Call, Trouble, faulted, no_memory, Unmade, troubled, Unread, not_read, Gives, Made, made, exists, failed, Making, may_fail, risen, entry_lands, file_lands, late_lands, land_at, all_landed, begun, tried, made_behind, made_at, create_at_end, taken_in, or_short, unless_short, asked_clock, asking, and_then_by, taken_unless, got_at, get_at_end, settle_made, settle_with, settled, fence_of, entry_of, may_append, last_made, last_unless, last_create, troubled_by, as_unmade, adopted_made, first_unless, transact, appended, looked, asked_and_looked, asked, file_by, file_made, got_file, file_got, fetched, with_standing, read_journal, unless_empty, load_by, loaded}
+use Rattle.index_world.specs.Calls.{Fate, Call, Trouble, faulted, no_memory, Unmade, troubled, Unread, not_read, Gives, Made, made, exists, failed, Making, may_fail, risen, entry_lands, file_lands, late_lands, land_at, all_landed, begun, tried, made_behind, made_at, create_at_end, taken_in, or_short, unless_short, asked_clock, asking, and_then_by, settled_and_copied, taken_unless, got_at, get_at_end, settle_made, settle_with, settled, fence_of, entry_of, may_append, last_made, last_unless, last_create, troubled_by, as_unmade, adopted_made, first_unless, transact, appended, looked, asked_and_looked, asked, file_by, file_made, got_file, file_got, fetched, with_standing, read_journal, unless_empty, load_by, loaded}
 use Rattle.index_world.specs.Calls as calls
 use Rattle.index_world.specs.Core.{Core, Late, late_entry, late_dead, late_file, file_at, last_count}
 use Rattle.index_world.specs.Gate.{stage_call, publish_call, stage_act}
@@ -192,11 +192,14 @@ appended_rises fate act core =
 -- ---- the other calls
 
 pub looked_rises : (fate : Fate) (core : Core) → Rises core (looked fate core).core
-looked_rises fate core = settled_rises fate.first fate.second core
+looked_rises fate core =
+    let given = settled fate.first fate.second core in
+    then_rises given.answer core given.core (λ c. unless_short fate.third.short c) (settled_rises fate.first fate.second core)
+    (λ c. same_rises c (unless_short fate.third.short c).core (ap (λ x. x.store_faults) (unless_same fate.third.short c)))
 
 pub asked_and_looked_rises : (fate : Fate) (core : Core) → Rises core (asked_and_looked fate core).core
 asked_and_looked_rises fate core =
-    asking_rises fate.unasked no_memory core (λ c. settled fate.first fate.second c) (λ c. settled_rises fate.first fate.second c)
+    asking_rises fate.unasked no_memory core (λ c. settled_and_copied fate c) (λ c. looked_rises fate c)
 
 asked_rises : (fate : Fate) (core : Core) → Rises core (asked fate core).core
 asked_rises fate core = asking_rises fate.unasked no_memory core (λ c. calls.gives (Ok tt) c) (λ c. same_rises c c refl)
