@@ -63,7 +63,7 @@ begun_rises call core =
 
 -- ---- creates and gets at the end
 
-tried_same : (b : Bool) (standing : Option Entry) (entry : Entry) (core : Core) → (tried b standing entry core).store_faults ≡ core.store_faults
+pub tried_same : (b : Bool) (standing : Option Entry) (entry : Entry) (core : Core) → (tried b standing entry core).store_faults ≡ core.store_faults
 tried_same true None entry core = refl
 tried_same true (Some other) entry core = refl
 tried_same false standing entry core = refl
@@ -204,7 +204,7 @@ asked_and_looked_rises fate core =
 asked_rises : (fate : Fate) (core : Core) → Rises core (asked fate core).core
 asked_rises fate core = asking_rises fate.unasked no_memory core (λ c. calls.gives (Ok tt) c) (λ c. same_rises c c refl)
 
-file_by_same : (b c d : Bool) (before : ℕ) (key bytes : List ℕ) (core : Core) → (file_by b c d before key bytes core).core.store_faults ≡ core.store_faults
+pub file_by_same : (b c d : Bool) (before : ℕ) (key bytes : List ℕ) (core : Core) → (file_by b c d before key bytes core).core.store_faults ≡ core.store_faults
 file_by_same true true true before key bytes core = refl
 file_by_same true true false before key bytes core = refl
 file_by_same true false d before key bytes core = refl
@@ -217,7 +217,7 @@ file_made_rises call key bytes core =
     (rises_on core (begun call core) (file_by (may_fail call core.store_faults) call.at_once _ core.store_faults key bytes (begun call core)).core (begun_rises call core)
     (same_rises (begun call core) (file_by (may_fail call core.store_faults) call.at_once _ core.store_faults key bytes (begun call core)).core (file_by_same (may_fail call core.store_faults) call.at_once _ core.store_faults key bytes (begun call core))))
 
-got_file_same : (b : Bool) (before : ℕ) (core : Core) → (got_file b before core).core ≡ core
+pub got_file_same : (b : Bool) (before : ℕ) (core : Core) → (got_file b before core).core ≡ core
 got_file_same true before core = refl
 got_file_same false before core = refl
 
@@ -255,19 +255,19 @@ loaded_rises fate core =
 handed : (a b c : Core) → Rises a b → c ≡ b → Rises a c
 handed a b c g e = subst (λ x. Rises a x) (sym e) g
 
-checkpoints_same : (r : Result ⊤ Trouble) (log : Log) (indexer : Indexer) (core : Core) → (checkpoints_by r log indexer core).core ≡ core
+pub checkpoints_same : (r : Result ⊤ Trouble) (log : Log) (indexer : Indexer) (core : Core) → (checkpoints_by r log indexer core).core ≡ core
 checkpoints_same (Ok done) log indexer core = refl
 checkpoints_same (Err trouble) log indexer core = refl
 
-stage_same : (r : Result ⊤ Unmade) (batch : Batch) (indexer : Indexer) (core : Core) → (stage_by r batch indexer core).core ≡ core
+pub stage_same : (r : Result ⊤ Unmade) (batch : Batch) (indexer : Indexer) (core : Core) → (stage_by r batch indexer core).core ≡ core
 stage_same (Ok done) batch indexer core = refl
 stage_same (Err trouble) batch indexer core = refl
 
-upload_same : (r : Result ⊤ Trouble) (held : Held) (indexer : Indexer) (core : Core) → (upload_by r held indexer core).core ≡ core
+pub upload_same : (r : Result ⊤ Trouble) (held : Held) (indexer : Indexer) (core : Core) → (upload_by r held indexer core).core ≡ core
 upload_same (Ok done) held indexer core = refl
 upload_same (Err trouble) held indexer core = refl
 
-publish_same : (r : Result ⊤ Unmade) (held : Held) (indexer : Indexer) (core : Core) → (publish_by r held indexer core).core ≡ core
+pub publish_same : (r : Result ⊤ Unmade) (held : Held) (indexer : Indexer) (core : Core) → (publish_by r held indexer core).core ≡ core
 publish_same (Ok done) held indexer core = refl
 publish_same (Err trouble) held indexer core = refl
 
@@ -288,7 +288,7 @@ read_same : (b : Bool) (luck : indexing.Luck) (log : Log) (batch : Batch) (mark 
 read_same true luck log batch mark rest indexer core = refl
 read_same false luck log batch mark rest indexer core = refl
 
-given_same : (luck : indexing.Luck) (log : Log) (batch : Batch) (mark : Checkpoint) (rest : List Checkpoint) (indexer : Indexer) (r : Result ⊤ Trouble) (core : Core) →
+pub given_same : (luck : indexing.Luck) (log : Log) (batch : Batch) (mark : Checkpoint) (rest : List Checkpoint) (indexer : Indexer) (r : Result ⊤ Trouble) (core : Core) →
     (read_given luck log batch mark rest indexer r core).core ≡ core
 given_same luck log batch mark rest indexer (Err trouble) core = refl
 given_same luck log batch mark rest indexer (Ok done) core = read_same _ luck log batch mark rest indexer core
@@ -337,7 +337,7 @@ place_rises (reading batch) luck log indexer core = batch_rises luck log batch i
 place_rises (staged held) luck log indexer core = step_upload_rises luck held indexer core
 place_rises (uploaded held) luck log indexer core = publish_rises luck held indexer core
 
-indexer_short_same : (b : Bool) (step : Stepped) → (indexing.or_short b step).core ≡ step.core
+pub indexer_short_same : (b : Bool) (step : Stepped) → (indexing.or_short b step).core ≡ step.core
 indexer_short_same true step = refl
 indexer_short_same false step = refl
 
@@ -356,13 +356,13 @@ refusal_same : (revision : ℕ) (t : Trouble) (client : Client) (core : Core) �
 refusal_same revision (faulted fault) client core = refl
 refusal_same revision no_memory client core = refl
 
-plan_same : (r : Result ⊤ Trouble) (asked : Option (List ℕ)) (client : Client) (core : Core) → (plan_by r asked client core).core ≡ core
+pub plan_same : (r : Result ⊤ Trouble) (asked : Option (List ℕ)) (client : Client) (core : Core) → (plan_by r asked client core).core ≡ core
 plan_same (Ok done) (Some word) client core = refl
 plan_same (Ok done) None client core = refl
 plan_same (Err trouble) (Some word) client core = replied_same client.front trouble client core
 plan_same (Err trouble) None client core = refusal_same client.front trouble client core
 
-fetch_same : (r : Result ⊤ Trouble) (plan : Plan) (number : ℕ) (more : List ℕ) (client : Client) (core : Core) → (fetch_by r plan number more client core).core ≡ core
+pub fetch_same : (r : Result ⊤ Trouble) (plan : Plan) (number : ℕ) (more : List ℕ) (client : Client) (core : Core) → (fetch_by r plan number more client core).core ≡ core
 fetch_same (Ok done) plan number more client core = refl
 fetch_same (Err trouble) plan number more client core = replied_same plan.revision trouble client core
 

@@ -3,3 +3,5 @@ pub mod Rows
 pub mod Growing
 pub mod Spelling
 pub mod Counting
+pub mod Calming
+pub mod CalmSteps
