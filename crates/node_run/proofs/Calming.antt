@@ -5,7 +5,7 @@ use Rattle.std.proofs.lemmas.Bool.{ne_eqb}
 use Rattle.std.specs.Prelude.{Option, Some, None, Result, Ok, Err, ⊤, is_some, slice_get, nat_lt, ◌==◌, ◌&&◌, ◌||◌}
 use Rattle.meta_journal.specs.declared.entry.Act.{Act}
 use Rattle.meta_journal.specs.declared.entry.Entry.{Entry}
-use Rattle.index_world.specs.Calls.{Fate, Call, Trouble, no_memory, Unmade, troubled, Gives, gives, Made, Making, risen, may_fail, land_at, all_landed, begun, made_behind, made_at, create_at_end, or_short, unless_short, asked_clock, asking, settle_with, settled, entry_of, may_append, adopted_making, first_unless, transact, appended, looked, asked_and_looked, asked, file_by, file_made, got_file, file_got, fetched, calm_call, calm_fate}
+use Rattle.index_world.specs.Calls.{Fate, Call, Trouble, no_memory, Unmade, troubled, Gives, gives, Made, Making, risen, may_fail, land_at, all_landed, begun, made_behind, made_at, create_at_end, or_short, unless_short, asked_clock, asking, settle_with, settled_and_copied, and_then, entry_of, may_append, adopted_making, first_unless, transact, appended, looked, asked_and_looked, asked, file_by, file_made, got_file, file_got, fetched, calm_call, calm_fate}
 use Rattle.index_world.specs.Core.{Core, file_at, last_count}
 use Rattle.node_run.specs.Calm.{IsStill}
 use Rattle.node_run.proofs.Counting.{landed_same, tried_same, file_by_same, got_file_same}
@@ -99,22 +99,22 @@ asked_still core s = record { late = s.late; standing = s.standing; unsure = s.u
 
 -- ---- the calls
 
-unless_calms : (b : Bool) (core : Core) → Calms no_memory (unless_short b core) (unless_short false core)
-unless_calms true core = inl refl
-unless_calms false core = inr refl
-
-settled_calms : (first second : Call) (core : Core) → IsStill core → Calms no_memory (settled first second core) (settled calm_call calm_call core)
-settled_calms first second core s =
-    subst (λ b. Calms no_memory (settle_with b first second core) (settle_with b calm_call calm_call core)) (sym s.unsure) (unless_calms first.short core)
+copied_calms : (b c : Bool) (core : Core) →
+    Calms no_memory (and_then (unless_short b core) (λ c'. unless_short c c')) (and_then (unless_short false core) (λ c'. unless_short false c'))
+copied_calms true c core = inl refl
+copied_calms false true core = inl refl
+copied_calms false false core = inr refl
 
 pub looked_calms : (fate : Fate) (core : Core) → IsStill core → Calms no_memory (looked fate core) (looked calm_fate core)
-looked_calms fate core s = settled_calms fate.first fate.second core s
+looked_calms fate core s =
+    subst (λ b. Calms no_memory (and_then (settle_with b fate.first fate.second core) (λ c'. unless_short fate.third.short c'))
+    (and_then (settle_with b calm_call calm_call core) (λ c'. unless_short false c'))) (sym s.unsure) (copied_calms fate.first.short fate.third.short core)
 
 pub asked_and_looked_calms : (fate : Fate) (core : Core) → IsStill core → Same core (asked_and_looked fate core).core →
     Calms no_memory (asked_and_looked fate core) (asked_and_looked calm_fate core)
 asked_and_looked_calms fate core s same =
-    asking_calms fate.unasked no_memory core (λ c. settled fate.first fate.second c) (λ c. settled calm_call calm_call c)
-    (λ _. settled_calms fate.first fate.second (asked_clock core) (asked_still core s)) same
+    asking_calms fate.unasked no_memory core (λ c. settled_and_copied fate c) (λ c. settled_and_copied calm_fate c)
+    (λ _. looked_calms fate (asked_clock core) (asked_still core s)) same
 
 pub asked_calms : (fate : Fate) (core : Core) → Same core (asked fate core).core → Calms no_memory (asked fate core) (asked calm_fate core)
 asked_calms fate core same =
