@@ -6,3 +6,6 @@ mod rows;
 
 pub use column::Column;
 pub use rows::{ColumnList, ColumnRow};
+
+#[cfg(test)]
+mod tests;
