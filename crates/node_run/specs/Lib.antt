@@ -1,4 +1,4 @@
 pub mod Node
 pub mod Lines
 pub mod Turns
-pub mod Calm
+pub mod Fitting

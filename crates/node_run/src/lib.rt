@@ -1,4 +1,12 @@
-//! A node: one life of the world and its actors, line by line.
+//! The lines of a schedule, and a node that takes one of them at a time.
 #![tactic(auto)]
 
+mod drive;
 pub mod laws;
+mod line;
+mod out_line;
+mod pieces;
+
+pub use drive::{Accepts, DriveNode, MAX_CLIENTS, Unstarted};
+pub use line::{Line, LineError, read_line};
+pub use out_line::OutLine;
