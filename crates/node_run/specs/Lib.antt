@@ -1,4 +1,5 @@
 pub mod Node
 pub mod Lines
 pub mod Turns
+pub mod Calm
 pub mod Fitting
