@@ -4,6 +4,8 @@
 pub mod matching;
 pub mod pruning;
 pub mod query;
+#[cfg(test)]
+mod tests;
 pub mod tokens;
 pub mod values;
 
