@@ -1,2 +1,3 @@
 pub mod Reading
 pub mod Serve
+pub mod Pieces

@@ -1,0 +1,174 @@
+//! The lines of an input, within the limits.
+
+ghost use Rattle.std.specs.Prelude.{◌≡◌, ◌<◌, ◌≤◌, ◌+◌, true, false, IfOk, vec_len, length};
+ghost use Rattle.quick_node.specs.Pieces.{GoesOn, IsLine};
+
+use byte_fields::{Failed, Source};
+use std::alloc::{AllocError, Global};
+
+pub const MAX_INPUT: u64 = 1_073_741_824;
+
+pub const MAX_LINE: u64 = 2_097_152;
+
+const CHUNK: usize = 65_536;
+
+/// What comes next of an input.
+#[derive(Clone, Copy, Debug, PartialEq, Eq)]
+pub enum Next {
+    Line,
+    /// The input was read to its end.
+    End,
+    /// The line is too long.
+    LineOver,
+    /// The input is too long.
+    InputOver,
+    /// The input failed.
+    Fault,
+}
+
+/// Reads an input line by line. A line ends with a line feed, which the last may lack.
+#[derive(Drop)]
+pub struct Lines {
+    chunk: Vec<u8>,
+    // What is left of the chunk.
+    from: usize,
+    to: usize,
+    // How many bytes of the input were taken.
+    taken: u64,
+    line: Vec<u8>,
+    ghost order: { from ≤ to },
+    ghost within: { to ≤ vec_len chunk },
+    ghost limit: { taken ≤ 1073741824 },
+}
+
+impl Lines {
+    pub fn start(alloc: Global) -> Result<Lines, AllocError>
+        ensures { IfOk result (λ lines. lines.taken ≡ 0) }
+    {
+        let mut chunk = Vec::new(alloc);
+        chunk.resize(CHUNK, 0)?;
+        Ok(Lines {
+            chunk,
+            from: 0,
+            to: 0,
+            taken: 0,
+            line: Vec::new(alloc),
+        })
+    }
+
+    /// The line that came last, without its line feed.
+    pub fn line(&self) -> &[u8]
+        ensures { result.now ≡ self.now.line.items }
+    {
+        self.line.as_slice()
+    }
+}
+
+// What a piece of the input did to the line.
+#[derive(Clone, Copy, Debug, PartialEq, Eq)]
+enum Taken {
+    More,
+    Whole,
+    LineOver,
+    InputOver,
+}
+
+// How many bytes of the piece are the line's, and whether its line feed stands behind them.
+fn front_of(piece: &[u8]) -> (usize, bool)
+    requires { 0 < length piece.now }
+    ensures within { result.0 ≤ length piece.now }
+    ensures feed { result.1 ≡ true → result.0 + 1 ≤ length piece.now }
+    ensures some { result.1 ≡ false → 0 < result.0 }
+{
+    for (i, byte) in piece.iter().enumerate() {
+        if *byte == b'\n' {
+            return (i, true);
+        }
+    }
+    (piece.len(), false)
+}
+
+// Takes the front of a piece onto the line, behind so many bytes of the input. Gives how many bytes were taken.
+fn take_piece(line: &mut Vec<u8>, piece: &[u8], before: u64) -> Result<(Taken, usize), AllocError>
+    requires some { 0 < length piece.now }
+    requires limit { before ≤ 1073741824 }
+    ensures within { IfOk result (λ x. x.1 ≤ length piece.now) }
+    ensures limit { IfOk result (λ x. before + x.1 ≤ 1073741824) }
+    ensures goes_on { IfOk result (λ x. GoesOn x.0 → 0 < x.1) }
+{
+    let (len, has_feed) = front_of(piece);
+    let total = if has_feed { len + 1 } else { len };
+    let room = MAX_INPUT - before;
+    let line_room = MAX_LINE.saturating_sub(line.len() as u64);
+    if line_room < len as u64 && line_room < room {
+        return Ok((Taken::LineOver, 0));
+    }
+    if room < total as u64 {
+        return Ok((Taken::InputOver, 0));
+    }
+    line.extend_from_slice(&piece[..len])?;
+    if has_feed {
+        return Ok((Taken::Whole, total));
+    }
+    Ok((Taken::More, total))
+}
+
+impl Lines {
+    // Reads the next chunk. Gives how many bytes it has, 0 at the end.
+    fn refill<R: Source>(&mut self, input: &mut R) -> Result<usize, Failed>
+        ensures taken { self.new.taken ≡ self.old.taken }
+        ensures left { IfOk result (λ count. self.new.to ≡ self.new.from + count) }
+    {
+        let count = input.read(self.chunk.as_mut_slice())?;
+        self.from = 0;
+        self.to = count;
+        Ok(count)
+    }
+
+    fn take(&mut self) -> Result<Taken, AllocError>
+        requires { self.old.from < self.old.to }
+        ensures { IfOk result (λ taken. GoesOn taken → self.old.taken < self.new.taken) }
+    {
+        let (taken, count) = take_piece(
+            &mut self.line,
+            &self.chunk[self.from..self.to],
+            self.taken,
+        )?;
+        self.from += count;
+        self.taken += count as u64;
+        Ok(taken)
+    }
+
+    /// What comes next. Where it is a line, `line` gives it.
+    pub fn next<R: Source>(&mut self, input: &mut R) -> Result<Next, AllocError>
+        ensures { IfOk result (λ next. IsLine next → self.old.taken < self.new.taken) }
+    {
+        self.line.clear();
+        let before = self.taken;
+        'pieces: loop {
+            if self.from == self.to {
+                match self.refill(input) {
+                    Err(_) => return Ok(Next::Fault),
+                    Ok(0) => return Ok(last(before, self.taken)),
+                    Ok(_) => {}
+                }
+            }
+            match self.take()? {
+                Taken::More => {}
+                Taken::Whole => return Ok(Next::Line),
+                Taken::LineOver => return Ok(Next::LineOver),
+                Taken::InputOver => return Ok(Next::InputOver),
+            }
+        }
+    }
+}
+
+// What comes at the end of the input, which had so many bytes before the line and has so many now.
+fn last(before: u64, taken: u64) -> Next
+    ensures { IsLine result → before < taken }
+{
+    if before < taken {
+        return Next::Line;
+    }
+    Next::End
+}

@@ -1,0 +1,207 @@
+//! The top call: one command over a store, logs, a clock, an input and an output.
+
+ghost use Rattle.std.specs.Prelude.{◌≡◌, ◌<◌, ◌≤◌, ◌+◌, length, vec_len};
+ghost use Rattle.node_run.specs.Fitting.{IsNumbered};
+
+use crate::error_line::{End, print_end, status_of};
+use crate::lines::{Lines, Next};
+use byte_fields::{Bytes, Failed, Sink, Source};
+use clock_time::{Clock, ScriptClock};
+use index_world::{Unopened, World, WorldError};
+use node_run::{Accepts, DriveNode, Line, LineError, Unstarted, read_line};
+use object_store::ObjectStore;
+use source_log::SourceLog;
+use std::alloc::{AllocError, Global};
+use std::sync::Wait;
+use std::thread::Threads;
+
+/// How a call of `serve` ended, the store, its count of faults, and the sum of the logs' counts, at most 2 ^ 64 - 1.
+#[derive(Drop)]
+pub struct Finished<S> {
+    pub status: u8,
+    pub store: S,
+    pub store_faults: u64,
+    pub log_faults: u64,
+}
+
+// Writes all of a text.
+fn write_all<W: Sink>(output: &mut W, text: &[u8]) -> Result<(), Failed> {
+    let mut at = 0;
+    'pieces: while at < text.len() {
+        at += output.write(&text[at..])?;
+    }
+    Ok(())
+}
+
+fn sum_of_faults<L: SourceLog>(logs: &[L]) -> u64 {
+    let mut sum: u64 = 0;
+    for log in logs {
+        sum = sum.saturating_add(log.faults());
+    }
+    sum
+}
+
+// Does one line of the input. Gives how the run ends, where it ends with this line.
+fn take_line<Rt: Threads + Sync, S: ObjectStore, L: SourceLog, W: Sink>(
+    rt: &Rt,
+    alloc: Global,
+    node: &mut DriveNode<S, L>,
+    text: &[u8],
+    number: u64,
+    output: &mut W,
+) -> Result<Option<End>, AllocError> {
+    let line = match read_line(alloc, text) {
+        Ok(line) => line,
+        Err(LineError::BadLine) => return Ok(Some(End::BadLine(number))),
+        Err(LineError::Memory(refused)) => return Err(refused),
+    };
+    match node.accepts(&line) {
+        Accepts::BadLine => Ok(Some(End::BadLine(number))),
+        Accepts::TooManyClients => Ok(Some(End::ClientsOver)),
+        Accepts::Yes => answer_line(rt, alloc, node, &line, output),
+    }
+}
+
+fn answer_line<Rt: Threads + Sync, S: ObjectStore, L: SourceLog, W: Sink>(
+    rt: &Rt,
+    alloc: Global,
+    node: &mut DriveNode<S, L>,
+    line: &Line,
+    output: &mut W,
+) -> Result<Option<End>, AllocError>
+    requires { IsNumbered line.now (vec_len node.old.indexers) }
+{
+    let mut said = node.step(rt, alloc, line)?.bytes;
+    said.push(b'\n')?;
+    match write_all(output, said.as_slice()) {
+        Ok(()) => Ok(None),
+        Err(_) => Ok(Some(End::WriteFault)),
+    }
+}
+
+// Reads the input, and does its lines one after another.
+fn run_lines<Rt: Threads + Sync, S: ObjectStore, L: SourceLog, R: Source, W: Sink>(
+    rt: &Rt,
+    alloc: Global,
+    node: &mut DriveNode<S, L>,
+    input: &mut R,
+    output: &mut W,
+) -> Result<End, AllocError> {
+    let mut lines = Lines::start(alloc)?;
+    let mut number: u64 = 0;
+    'lines: loop {
+        match lines.next(input)? {
+            Next::Line => {
+                number = number.saturating_add(1);
+                let end = take_line(rt, alloc, node, lines.line(), number, output)?;
+                if let Some(end) = end {
+                    return Ok(end);
+                }
+            }
+            Next::End => return Ok(End::Done),
+            Next::LineOver => return Ok(End::LineOver),
+            Next::InputOver => return Ok(End::InputOver),
+            Next::Fault => return Ok(End::ReadFault),
+        }
+    }
+}
+
+fn run<Rt: Threads + Sync, S: ObjectStore, L: SourceLog, R: Source, W: Sink>(
+    rt: &Rt,
+    alloc: Global,
+    node: &mut DriveNode<S, L>,
+    input: &mut R,
+    output: &mut W,
+) -> End {
+    match run_lines(rt, alloc, node, input, output) {
+        Ok(end) => end,
+        Err(_) => End::Memory,
+    }
+}
+
+// Writes the last line. Where its text finds no memory, the status is that of want of memory.
+fn ended<S: ObjectStore, W: Sink>(
+    alloc: Global,
+    store: S,
+    log_faults: u64,
+    end: &End,
+    output: &mut W,
+) -> Finished<S> {
+    let store_faults = store.faults();
+    let status = match print_end(alloc, end) {
+        Ok(text) => {
+            let _ = write_all(output, text.as_slice());
+            status_of(end)
+        }
+        Err(_) => status_of(&End::Memory),
+    };
+    Finished {
+        status,
+        store,
+        store_faults,
+        log_faults,
+    }
+}
+
+fn is_drive(words: &[String]) -> bool {
+    match words {
+        [word] => word.as_str() == "drive",
+        _ => false,
+    }
+}
+
+/// Does the command that the words name. `drive` reads a schedule line by line from the input, and answers each line by a
+/// line of the output. Statuses: 0 all lines were answered, 1 the words name no command, 3 a line is none, 4 the store
+/// failed while opening, 5 the input failed, 6 the output failed, 7 the store is no index, 8 its journal is empty, 10 a
+/// limit was passed, 11 want of memory.
+pub fn serve<
+    Rt: Threads + Wait + Sync,
+    S: ObjectStore + Send,
+    L: SourceLog + Send,
+    C: Clock + Send,
+    R: Source,
+    W: Sink,
+>(
+    rt: &Rt,
+    alloc: Global,
+    words: &[String],
+    store: S,
+    logs: Vec<L>,
+    _clock: C,
+    input: &mut R,
+    output: &mut W,
+) -> Finished<S> {
+    if !is_drive(words) {
+        return ended(
+            alloc,
+            store,
+            sum_of_faults(logs.as_slice()),
+            &End::BadWords,
+            output,
+        );
+    }
+    let world = match World::load(alloc, store, ScriptClock::at(0)) {
+        Ok(world) => world,
+        Err(Unopened { error, store }) => {
+            let log_faults = sum_of_faults(logs.as_slice());
+            return ended(alloc, store, log_faults, &End::NotOpened(error), output);
+        }
+    };
+    match DriveNode::start(alloc, world, logs) {
+        Ok(mut node) => {
+            let end = run(rt, alloc, &mut node, input, output);
+            let (store, log_faults) = node.finish();
+            ended(alloc, store, log_faults, &end, output)
+        }
+        Err(unstarted) => {
+            let Unstarted {
+                world,
+                logs,
+                error: _error,
+            } = unstarted;
+            let log_faults = sum_of_faults(logs.as_slice());
+            let (store, _) = world.unload();
+            ended(alloc, store, log_faults, &End::Memory, output)
+        }
+    }
+}
