@@ -98,3 +98,6 @@ fn main(rt: HostRuntime) -> ExitCode {
         Err(_) => ExitCode::from(NO_MEMORY),
     }
 }
+
+#[cfg(test)]
+mod tests;
