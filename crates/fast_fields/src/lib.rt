@@ -2,7 +2,9 @@
 #![tactic(auto)]
 
 mod column;
+mod entries;
 mod rows;
+mod texts;
 
 pub use column::Column;
 pub use rows::{ColumnList, ColumnRow};
