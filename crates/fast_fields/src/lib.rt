@@ -8,3 +8,6 @@ mod texts;
 
 pub use column::Column;
 pub use rows::{ColumnList, ColumnRow};
+
+#[cfg(test)]
+mod tests;

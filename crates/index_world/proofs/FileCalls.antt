@@ -1,5 +1,5 @@
 -- What an upload, a fetch and a load did to the store, in the words of the core.
-use Rattle.std.proofs.Common.{◌≡◌, ◌⊎◌, ℕ, zero, suc, ◌<◌, ◌≤◌, ◌+◌, ◌-◌, ◌^◌, List, [], ◌∷◌, ◌++◌, refl, sym, ap, ◌∙◌, subst, inl, inr, Bool, true, false, length, arith}
+use Rattle.std.proofs.Common.{◌≡◌, ◌⊎◌, ℕ, zero, suc, ◌<◌, ◌≤◌, ◌+◌, ◌-◌, ◌^◌, List, [], ◌∷◌, ◌++◌, refl, sym, ap, ◌∙◌, subst, inl, inr, Bool, true, false, length, arith, append-nil}
 use Rattle.std.specs.FinMap.{get}
 use Rattle.std.specs.Prelude.{Option, Some, None, is_some, IsSome, Result, Ok, Err, ⊤, ◌==◌, ◌||◌, max}
 use Rattle.byte_fields.specs.Causes.{Rose}
@@ -192,11 +192,18 @@ standing_taken : (kept : State) (core : Core) (log : Log) (standing : Option Ent
 standing_taken kept core log None w e = (record { world = w; held = held-refl kept (journal_of core) }, ap (with_unread core.history) (sym e), e, refl, refl)
 standing_taken kept core log (Some entry) w e = (world-taken kept core log entry w e, ap (with_unread core.history) (sym e), refl, refl, refl)
 
+-- a history with what stands unread is that history and more
+unread_more : (es fs : List Entry) (standing : Option Entry) → fs ≡ es → (more : List Entry) × (with_unread fs standing ≡ es ++ more)
+unread_more es fs None e = ([], e ∙ sym (append-nil es))
+unread_more es fs (Some entry) e = (entry ∷ [], ap (λ h. h ++ entry ∷ []) e)
+
 pub record LoadLaw (old new : State) (core : Core) (log : Log) (read : List Entry) (answer : Result ⊤ Unread) (now : ℕ) : Type 0 where
   pub fate : Fate
   pub after : Core
   pub did : loaded fate core ≡ gives answer after
   pub onward : Onward old new core after log
+  pub more : List Entry
+  pub grown : after.history ≡ core.history ++ more
   pub history : after.history ≡ read
   pub faults : after.store_faults ≡ now
   pub moment : after.moment ≡ moment_of (told read)
@@ -220,6 +227,8 @@ load_law once old mid new core log read now w c t j u =
       after = begun second whole;
       did = ap (λ es. unless_empty (length es == 0) (begun second whole)) same ∙ empty_or_not read (begun second whole);
       onward = Onward-trans old mid new core whole (begun second whole) log there last.onward;
+      more = more.0;
+      grown = last.history ∙ s.1 ∙ more.1;
       history = last.history ∙ same;
       faults = last.faults;
       moment = last.moment ∙ ap (λ es. moment_of (told es)) same;
@@ -242,6 +251,9 @@ load_law once old mid new core log read now w c t j u =
     s : Onward mid mid start (with_standing start.standing start) log × ((with_standing start.standing start).history ≡ journal_of start) × ((with_standing start.standing start).standing ≡ None) × ((with_standing start.standing start).clock ≡ start.clock)
         × ((with_standing start.standing start).store_faults ≡ start.store_faults)
     s = standing_taken mid start log start.standing b.onward.world refl
+
+    more : (more : List Entry) × (journal_of start ≡ core.history ++ more)
+    more = unread_more core.history start.history start.standing b.history
 
     whole : Core
     whole = read_journal start
@@ -270,7 +282,9 @@ pub record UnreadLaw (old new : State) (core : Core) (log : Log) (answer : Core 
   pub onward : Onward old new core after log
   pub history : after.history ≡ core.history
   pub faults : after.store_faults ≡ now
+  pub moment : after.moment ≡ core.moment
   pub clock : after.clock ≡ core.clock
+  pub unsure : after.unsure ≡ core.unsure
 
 -- the first call failed, or one behind it: what landed is all that was done
 pub load_failed_law : OneEntry → (old new : State) (core : Core) (log : Log) (now : ℕ) → IsWorld old core log → Counted core now → Rose core.store_faults now → HasLanded old new →
@@ -283,7 +297,9 @@ load_failed_law once old new core log now w c rose t =
       onward = Onward-trans old new new core start (begun second start) log b.onward last.onward;
       history = last.history ∙ b.history;
       faults = last.faults;
+      moment = last.moment ∙ b.moment;
       clock = last.clock ∙ b.clock;
+      unsure = last.unsure ∙ b.unsure;
     }
   where
     first : Call
@@ -302,31 +318,34 @@ load_failed_law once old new core log now w c rose t =
     last = world-begins once new new start log now second b.onward.world
         (record { later = let e = b.faults in omega (arith, e); within = c.within }) (let e : now - start.store_faults ≡ 0 = (let f = b.faults in omega (arith, f)) in sym e) refl
 
-pub load_short_law : OneEntry → (old new : State) (core : Core) (log : Log) (now : ℕ) → IsWorld old core log → Counted core now → HasLanded old new →
+-- No memory: what landed as it read, and behind it, is all that was done.
+pub load_short_law : OneEntry → (old mid new : State) (core : Core) (log : Log) (now : ℕ) → IsWorld old core log → Counted core now → HasLanded old mid → HasLanded mid new →
     UnreadLaw old new core log (λ after. Err (not_read no_memory)) now
-load_short_law once old new core log now w c t =
+load_short_law once old mid new core log now w c t u =
     record {
       fate = two_calls first second;
       after = begun second start;
       did = refl;
-      onward = Onward-trans old new new core start (begun second start) log b.onward last.onward;
+      onward = Onward-trans old mid new core start (begun second start) log b.onward last.onward;
       history = last.history ∙ b.history;
       faults = last.faults;
+      moment = last.moment ∙ b.moment;
       clock = last.clock ∙ b.clock;
+      unsure = last.unsure ∙ b.unsure;
     }
   where
     first : Call
     first = quiet t.0 (now - core.store_faults) true
 
     second : Call
-    second = quiet [] 0 false
+    second = quiet u.0 0 false
 
     start : Core
     start = begun first core
 
-    b : Begun old new core start log now
-    b = world-begins once old new core log now first w c refl t.1
+    b : Begun old mid core start log now
+    b = world-begins once old mid core log now first w c refl t.1
 
-    last : Begun new new start (begun second start) log now
-    last = world-begins once new new start log now second b.onward.world
-        (record { later = let e = b.faults in omega (arith, e); within = c.within }) (let e : now - start.store_faults ≡ 0 = (let f = b.faults in omega (arith, f)) in sym e) refl
+    last : Begun mid new start (begun second start) log now
+    last = world-begins once mid new start log now second b.onward.world
+        (record { later = let e = b.faults in omega (arith, e); within = c.within }) (let e : now - start.store_faults ≡ 0 = (let f = b.faults in omega (arith, f)) in sym e) u.1

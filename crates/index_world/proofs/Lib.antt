@@ -17,3 +17,5 @@ pub mod InCore
 pub mod FileCalls
 pub mod Opening
 pub mod JournalLaws
+pub mod WholeCalls
+pub mod WholeFiles

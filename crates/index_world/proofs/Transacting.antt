@@ -339,7 +339,7 @@ settled_then old mid new core log act f n now answer more unsure doubt s l =
       timely = l.timely;
     }
 
-unsettled_ends : (old new : State) (core : Core) (log : Log) (trouble : Core → Trouble) (now : ℕ) (u : Unsettled old new core log trouble now) → Ends core u.after [] true now
+pub unsettled_ends : (old new : State) (core : Core) (log : Log) (trouble : Core → Trouble) (now : ℕ) (u : Unsettled old new core log trouble now) → Ends core u.after [] true now
 unsettled_ends old new core log trouble now u = ends_same core u.after true now u.history u.faults u.moment u.clock u.unsure
 
 pub timely_unsettled : (old new : State) (core : Core) (log : Log) (trouble : Core → Trouble) (now : ℕ) → IsTimely core → core.unsure ≡ true → (u : Unsettled old new core log trouble now) → IsTimely u.after

@@ -286,13 +286,17 @@ appended fate act core =
 
 -- ---- the other calls
 
+-- it settles, and then gives a copy of what it sees
+abbrev pub settled_and_copied : Fate → Core → Gives Trouble ⊤
+settled_and_copied fate core = and_then (settled fate.first fate.second core) (λ c. unless_short fate.third.short c)
+
 -- a call that only settles
 abbrev pub looked : Fate → Core → Gives Trouble ⊤
-looked fate core = settled fate.first fate.second core
+looked fate core = settled_and_copied fate core
 
 -- a call that asks the clock and settles
 abbrev pub asked_and_looked : Fate → Core → Gives Trouble ⊤
-asked_and_looked fate core = asking fate.unasked no_memory core (λ c. settled fate.first fate.second c)
+asked_and_looked fate core = asking fate.unasked no_memory core (λ c. settled_and_copied fate c)
 
 -- a call that only asks the clock
 abbrev pub asked : Fate → Core → Gives Trouble ⊤

@@ -1,2 +1,9 @@
-//! The steps of an indexer.
+//! Indexers: what they read, and what each of their steps answers.
 #![tactic(auto)]
+
+mod batch;
+mod indexer;
+mod outcome;
+
+pub use indexer::Indexer;
+pub use outcome::{IndexerOutcome, print_outcome};

@@ -25,3 +25,6 @@ pub use keys::{meta_key, split_key};
 pub use place::Place;
 pub use reading::decode_entry;
 pub use writing::encode_entry;
+
+#[cfg(test)]
+mod tests;

@@ -7,7 +7,7 @@ use Rattle.meta_journal.specs.declared.entry.Act.TheVariants.{Publish}
 use Rattle.meta_journal.specs.declared.entry.Entry.{Entry}
 use Rattle.source_checkpoint.specs.declared.ledger.Checkpoint.{Checkpoint}
 use Rattle.source_log.specs.Log.{Log}
-use Rattle.index_world.specs.Calls.{Fate, Call, Trouble, faulted, no_memory, Unmade, troubled, Unread, not_read, Gives, Made, made, exists, failed, Making, may_fail, entry_lands, file_lands, late_lands, land_at, all_landed, begun, tried, made_behind, made_at, create_at_end, taken_in, or_short, unless_short, asked_clock, asking, and_then_by, taken_unless, got_at, get_at_end, settle_made, settle_with, settled, fence_of, entry_of, may_append, last_made, last_unless, last_create, troubled_by, as_unmade, adopted_made, first_unless, transact, appended, looked, asked_and_looked, asked, file_by, file_made, got_file, file_got, fetched, with_standing, read_journal, unless_empty, load_by, loaded}
+use Rattle.index_world.specs.Calls.{Fate, Call, Trouble, faulted, no_memory, Unmade, troubled, Unread, not_read, Gives, Made, made, exists, failed, Making, may_fail, entry_lands, file_lands, late_lands, land_at, all_landed, begun, tried, made_behind, made_at, create_at_end, taken_in, or_short, unless_short, asked_clock, asking, and_then_by, settled_and_copied, taken_unless, got_at, get_at_end, settle_made, settle_with, settled, fence_of, entry_of, may_append, last_made, last_unless, last_create, troubled_by, as_unmade, adopted_made, first_unless, transact, appended, looked, asked_and_looked, asked, file_by, file_made, got_file, file_got, fetched, with_standing, read_journal, unless_empty, load_by, loaded}
 use Rattle.index_world.specs.Calls as calls
 use Rattle.index_world.specs.Core.{Core, Late, late_entry, late_dead, late_file, file_at}
 use Rattle.index_world.specs.Gate.{stage_call, publish_call, stage_act}
@@ -190,11 +190,14 @@ appended_grows fate act core =
 -- ---- the other calls
 
 pub looked_grows : (fate : Fate) (core : Core) → Grows core (looked fate core).core
-looked_grows fate core = settled_grows fate.first fate.second core
+looked_grows fate core =
+    let given = settled fate.first fate.second core in
+    then_grows given.answer core given.core (λ c. unless_short fate.third.short c) (settled_grows fate.first fate.second core)
+    (λ c. same_grows c (unless_short fate.third.short c).core (ap (λ x. x.history) (unless_same fate.third.short c)))
 
 pub asked_and_looked_grows : (fate : Fate) (core : Core) → Grows core (asked_and_looked fate core).core
 asked_and_looked_grows fate core =
-    asking_grows fate.unasked no_memory core (λ c. settled fate.first fate.second c) (λ c. settled_grows fate.first fate.second c)
+    asking_grows fate.unasked no_memory core (λ c. settled_and_copied fate c) (λ c. looked_grows fate c)
 
 asked_grows : (fate : Fate) (core : Core) → Grows core (asked fate core).core
 asked_grows fate core = asking_grows fate.unasked no_memory core (λ c. calls.gives (Ok tt) c) (λ c. same_grows c c refl)

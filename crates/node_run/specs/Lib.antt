@@ -1,3 +1,4 @@
 pub mod Node
 pub mod Lines
 pub mod Turns
+pub mod Calm

@@ -1,10 +1,18 @@
 //! What holds of each node, whatever lands and fails. Each law is the contract of a function that does nothing.
 
-ghost use Rattle.std.specs.Prelude.{◌≡◌, ℕ, List, [], ◌∷◌, ◌++◌, Option, Some};
+ghost use Rattle.std.specs.Prelude.{◌≡◌, ◌⊎◌, ℕ, ◌≤◌, ◌<◌, min, Bool, false, List, [], ◌∷◌, ◌++◌, Option, Some, None};
 ghost use Rattle.meta_journal.specs.declared.entry.Entry.{Entry};
+ghost use Rattle.source_log.specs.Log.{Log};
+ghost use Rattle.index_world.specs.Core.{Core, last_count};
+ghost use Rattle.indexing_run.specs.Places.{Indexer};
+ghost use Rattle.indexing_run.specs.Steps.{step_indexer};
+ghost use Rattle.indexing_run.specs.Steps as indexing;
+ghost use Rattle.root_search.specs.Steps.{Client, step_client};
+ghost use Rattle.root_search.specs.Steps as searching;
 ghost use Rattle.node_run.specs.Lines.{Spells};
 ghost use Rattle.node_run.specs.Node.{Node, Line, Outcome};
-ghost use Rattle.node_run.specs.Turns.{Turn, Turns};
+ghost use Rattle.node_run.specs.Calm.{IsStill};
+ghost use Rattle.node_run.specs.Turns.{Turn, Turns, calm, indexing_luck, searching_luck};
 
 /// A line adds to the history at its end, whatever it says.
 pub fn line_adds_to_the_history()
@@ -27,4 +35,27 @@ pub fn lines_go_on_by_one()
 /// A text is the spelling of at most one line.
 pub fn a_text_is_one_line()
     ensures { (text : List ℕ) (a b : Line) → Spells text a → Spells text b → a ≡ b }
+{}
+
+/// Lines never lower the count of the store's faults. It stands still at its type's end.
+pub fn lines_never_lower_the_store_count()
+    ensures { (node last : Node) (lines : List Line) (outcomes : List Outcome) → Turns node lines outcomes last →
+        min node.core.store_faults last_count ≤ last.core.store_faults }
+{}
+
+/// Where nothing is late and no count rises, a step of an indexer is that of a calm luck, or finds no memory.
+pub fn a_still_count_makes_an_indexer_step_calm()
+    ensures { (luck : indexing.Luck) (log : Log) (indexer : Indexer) (core : Core) → IsStill core → indexer.log_faults < last_count →
+        (step_indexer luck log indexer core).core.store_faults ≡ core.store_faults →
+        (step_indexer luck log indexer core).indexer.log_faults ≡ indexer.log_faults →
+        ((step_indexer luck log indexer core).outcome ≡ None)
+        ⊎ (step_indexer luck log indexer core ≡ step_indexer (indexing_luck calm) log indexer core) }
+{}
+
+/// So is a step of a client.
+pub fn a_still_count_makes_a_search_step_calm()
+    ensures { (luck : searching.Luck) (log : Log) (client : Client) (core : Core) → IsStill core →
+        (step_client luck log client core).core.store_faults ≡ core.store_faults →
+        ((step_client luck log client core).outcome ≡ None)
+        ⊎ (step_client luck log client core ≡ step_client (searching_luck calm) log client core) }
 {}

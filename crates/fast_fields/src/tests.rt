@@ -1,0 +1,77 @@
+use super::*;
+use doc_value::{Field, Kind, Text, Tokenizer};
+use std::alloc::{AllocError, Global};
+use std::test::Fail;
+
+fn field(alloc: Global, kind: Kind) -> Result<Field, AllocError> {
+    Ok(Field {
+        path: Text::from_str(alloc, "a")?,
+        kind,
+        fast: true,
+        indexed: false,
+        tag: false,
+        tokenizer: Tokenizer::Raw,
+        positions: false,
+    })
+}
+
+// The values 5, 7 of document 0 and 6 of document 2: two bits each, 0, 2 and 1 above the least.
+const NUMBERS: [u8; 23] = [
+    3, 0, 0, 0, 0, 0, 0, 0, 0, 2, 0, 0, 0, 5, 0, 0, 0, 0, 0, 0, 0, 2, 0x18,
+];
+
+// The texts `b` of document 1 and `a`, `b` of document 4.
+const TEXTS: [u8; 28] = [
+    3, 2, 1, 97, 1, 98, 1, 0, 0, 0, 4, 0, 0, 0, 4, 0, 0, 0, 0, 0, 0, 0, 0, 0, 0, 0, 1, 0x05,
+];
+
+#[test]
+fn numbers_of_documents(rt: HostRuntime) -> Result<(), Fail> {
+    let field = field(rt.alloc(), Kind::U64)?;
+    let (column, end) = Column::read(&field, &NUMBERS)?;
+    assert_eq!(rt; end, 23);
+    assert_eq!(rt; column.len(), 3);
+    assert_eq!(rt; column.values_of(0), (0, 2));
+    assert_eq!(rt; column.values_of(1), (2, 2));
+    assert_eq!(rt; column.value_at(0), Some(5));
+    assert_eq!(rt; column.value_at(1), None);
+    assert_eq!(rt; column.value_at(2), Some(6));
+    assert_eq!(rt; column.value_at(3), None);
+    assert_eq!(rt; column.least(), Some(5));
+    assert_eq!(rt; column.greatest(), Some(7));
+    assert_eq!(rt; column.text(0), None);
+    Ok(())
+}
+
+#[test]
+fn texts_by_their_ordinals(rt: HostRuntime) -> Result<(), Fail> {
+    let field = field(rt.alloc(), Kind::TextList)?;
+    let (column, end) = Column::read(&field, &TEXTS)?;
+    assert_eq!(rt; end, 28);
+    assert_eq!(rt; column.values_of(4), (1, 3));
+    assert_eq!(rt; column.value_at(1), Some(1));
+    assert_eq!(rt; column.value_at(4), Some(0));
+    assert_eq!(rt; column.text(0), Some("a"));
+    assert_eq!(rt; column.text(1), Some("b"));
+    assert_eq!(rt; column.text(2), None);
+    Ok(())
+}
+
+#[test]
+fn cuts_are_refused(rt: HostRuntime) -> Result<(), Fail> {
+    let numbers = field(rt.alloc(), Kind::U64)?;
+    for cut in 0..NUMBERS.len() {
+        assert!(rt; Column::read(&numbers, &NUMBERS[..cut]).is_err());
+    }
+    let texts = field(rt.alloc(), Kind::TextList)?;
+    for cut in 0..TEXTS.len() {
+        assert!(rt; Column::read(&texts, &TEXTS[..cut]).is_err());
+    }
+    let nothing = [0; 10];
+    let (column, end) = Column::read(&numbers, &nothing)?;
+    assert_eq!(rt; end, 10);
+    assert!(rt; column.is_empty());
+    assert_eq!(rt; column.least(), None);
+    assert_eq!(rt; column.greatest(), None);
+    Ok(())
+}

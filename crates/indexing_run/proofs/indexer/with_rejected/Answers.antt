@@ -1,0 +1,14 @@
+use Rattle.std.proofs.Common.{arith}
+use Rattle.indexing_run.proofs.indexer.with_rejected.Goals as goal
+
+pub returns : goal.returns
+returns c = record {
+  docs = c.requires.docs;
+  rejected = omega arith;
+  weight = c.requires.weight;
+  size = c.requires.size;
+  digest = c.requires.digest;
+  times = c.requires.times;
+  tags = c.requires.tags;
+  rising = c.requires.rising;
+}

@@ -1,0 +1,196 @@
+//! A client's searcher and its steps.
+
+ghost use Rattle.std.specs.Prelude.{◌≡◌, ◌<◌, length};
+
+use crate::asking::word_asked;
+use crate::finding::find;
+use crate::outcome::SearchStep;
+use crate::reply::{Reply, ReplyRefusal, Said};
+use byte_fields::{Bytes, Client, Text};
+use index_world::{Choice, Gate, Plan, WorldError};
+use std::alloc::{AllocError, Global};
+use std::mem;
+use std::thread::Threads;
+use thiserror::Error;
+
+/// A request is unanswered.
+#[derive(Clone, Copy, Debug, PartialEq, Eq, Error)]
+#[error("a request is unanswered")]
+pub struct Busy;
+
+// A planned search: its word, and the files that were fetched so far.
+#[derive(Drop)]
+struct Planned {
+    word: Text,
+    plan: Plan,
+    // The place of the row that is fetched next.
+    next: u32,
+    files: Vec<(u64, Bytes)>,
+}
+
+#[derive(Drop)]
+enum Request {
+    Vacant,
+    Opened(Text),
+    Planned(Planned),
+}
+
+/// Answers the requests of one client, one after another.
+#[derive(Drop)]
+pub struct Searcher {
+    client: Client,
+    // The revision of the last reply.
+    front: u64,
+    request: Request,
+}
+
+// What a request is answered where a call of the world gave nothing; want of memory is the step's own answer.
+fn refused_by(error: WorldError) -> Result<ReplyRefusal, AllocError> {
+    match error {
+        WorldError::Memory(refused) => Err(refused),
+        WorldError::StoreFault { before, after } => Ok(ReplyRefusal::StoreFault { before, after }),
+        WorldError::Missing { key } => Ok(ReplyRefusal::Missing { key }),
+        WorldError::Corrupt { key } => Ok(ReplyRefusal::Corrupt { key }),
+        WorldError::Foreign { key } => Ok(ReplyRefusal::Foreign { key }),
+        WorldError::Full => Ok(ReplyRefusal::Full),
+        WorldError::Refused(_) => Ok(ReplyRefusal::NotBuilt),
+        WorldError::NoIndex => Ok(ReplyRefusal::NotBuilt),
+    }
+}
+
+impl Searcher {
+    /// A client without a request, whose front is 0.
+    pub fn start(client: Client) -> Searcher {
+        Searcher {
+            client,
+            front: 0,
+            request: Request::Vacant,
+        }
+    }
+
+    /// The revision of the last reply, 0 before the first.
+    pub fn front(&self) -> u64 {
+        self.front
+    }
+
+    pub fn client(&self) -> &Client {
+        &self.client
+    }
+
+    /// Drops the request. The client and its front stay.
+    pub fn restart(&mut self) {
+        self.request = Request::Vacant;
+    }
+
+    /// Opens a request. Where one is unanswered the text is dropped.
+    pub fn submit(&mut self, text: Text) -> Result<(), Busy> {
+        match &self.request {
+            Request::Vacant => {
+                self.request = Request::Opened(text);
+                Ok(())
+            }
+            _ => Err(Busy),
+        }
+    }
+
+    fn reply(&mut self, revision: u64, said: Said) -> SearchStep {
+        self.front = revision;
+        SearchStep::Replied(Reply {
+            client: self.client,
+            revision,
+            said,
+        })
+    }
+
+    fn refuse(&mut self, revision: u64, error: WorldError) -> Result<SearchStep, AllocError> {
+        let refusal = refused_by(error)?;
+        Ok(self.reply(revision, Said::Refused(refusal)))
+    }
+
+    // A request that is no search of a word is refused, over the revision of a plan of no rows.
+    fn refuse_unbuilt<G: Gate>(
+        &mut self,
+        alloc: Global,
+        gate: &mut G,
+    ) -> Result<SearchStep, AllocError> {
+        let revision = match gate.plan(alloc, Choice::Look) {
+            Ok(plan) => plan.revision,
+            Err(WorldError::Memory(refused)) => return Err(refused),
+            Err(_) => self.front,
+        };
+        Ok(self.reply(revision, Said::Refused(ReplyRefusal::NotBuilt)))
+    }
+
+    fn plan<G: Gate>(
+        &mut self,
+        alloc: Global,
+        gate: &mut G,
+        text: &Text,
+    ) -> Result<SearchStep, AllocError> {
+        let Some(word) = word_asked(alloc, text.as_slice())? else {
+            return self.refuse_unbuilt(alloc, gate);
+        };
+        match gate.plan(alloc, Choice::Search) {
+            Ok(plan) => {
+                let revision = plan.revision;
+                let count = plan.rows.len() as u64;
+                self.request = Request::Planned(Planned {
+                    word,
+                    plan,
+                    next: 0,
+                    files: Vec::new(alloc),
+                });
+                Ok(SearchStep::Planned { revision, count })
+            }
+            Err(error) => self.refuse(self.front, error),
+        }
+    }
+
+    fn fetch<G: Gate>(
+        &mut self,
+        alloc: Global,
+        gate: &mut G,
+        mut planned: Planned,
+    ) -> Result<SearchStep, AllocError>
+        requires { planned.next < length planned.plan.rows }
+    {
+        let place = planned.next;
+        let number = planned.plan.rows.at(place as usize).number;
+        match gate.fetch(alloc, &planned.plan, place, 0, u64::MAX) {
+            Ok(piece) => {
+                planned.files.push((number, piece.bytes))?;
+                planned.next = place.saturating_add(1);
+                self.request = Request::Planned(planned);
+                Ok(SearchStep::Fetched { number })
+            }
+            Err(error) => self.refuse(planned.plan.revision, error),
+        }
+    }
+
+    fn go_on<G: Gate>(
+        &mut self,
+        alloc: Global,
+        gate: &mut G,
+        planned: Planned,
+    ) -> Result<SearchStep, AllocError> {
+        if (planned.next as usize) < planned.plan.rows.len() {
+            return self.fetch(alloc, gate, planned);
+        }
+        let said = find(alloc, planned.word.as_slice(), planned.files.as_slice())?;
+        Ok(self.reply(planned.plan.revision, said))
+    }
+
+    /// One step. After want of memory there is no request any more.
+    pub fn step<Rt: Threads + Sync, G: Gate>(
+        &mut self,
+        _rt: &Rt,
+        alloc: Global,
+        gate: &mut G,
+    ) -> Result<SearchStep, AllocError> {
+        match mem::replace(&mut self.request, Request::Vacant) {
+            Request::Vacant => Ok(SearchStep::Idle),
+            Request::Opened(text) => self.plan(alloc, gate, &text),
+            Request::Planned(planned) => self.go_on(alloc, gate, planned),
+        }
+    }
+}
