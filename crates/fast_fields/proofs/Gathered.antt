@@ -1,12 +1,13 @@
 -- Texts of cells, gathered and made distinct.
-use Rattle.std.proofs.Common.{◌≡◌, ℕ, zero, suc, ◌+◌, ◌-◌, ◌<◌, ◌≤◌, Bool, true, false, List, [], ◌∷◌, ◌++◌, length, map, get_or, Some, None, refl, sym, ◌∙◌, ap, subst, arith, inl, inr}
+use Rattle.std.proofs.Common.{◌≡◌, ℕ, zero, suc, ◌+◌, ◌-◌, ◌<◌, ◌≤◌, Bool, true, false, List, [], ◌∷◌, ◌++◌, length, map, get_or, eqb, eq-eqb, Some, None, refl, sym, ◌∙◌, ap, subst, arith, inl, inr}
 use Rattle.std.specs.Prelude.{slice_get, IsUtf8, All, ◌⊎◌}
 use Rattle.std.specs.List.{AllByRecursion}
 use Rattle.std.specs.Borrow.{Bor}
 use Rattle.std.specs.declared.cmp.Ordering.{Ordering}
 use Rattle.std.specs.declared.cmp.Ordering.TheVariants.{Less, Equal, Greater}
 use Rattle.std.specs.Ordering.{is_lt, nat_cmp}
-use Rattle.std.specs.Cmp.Lexicographic.{slice_cmp, nat_list_cmp_total}
+use Rattle.std.specs.Cmp.Lexicographic.{slice_cmp, pointwise, nat_list_cmp_total}
+use Rattle.std.proofs.lemmas.Bool.{cases_eq, ne_eqb}
 use Rattle.std.proofs.lemmas.List.{map_push}
 use Rattle.doc_value.specs.declared.doc.Value.{Value}
 use Rattle.doc_value.specs.declared.doc.Value.TheVariants as values
@@ -75,3 +76,23 @@ text_more cs xs b h c e =
 
 pub no_texts : (cs : List Cell) → AreTexts cs []
 no_texts cs = record { rise = tt; utf8 = tt; used = tt }
+
+-- bytes that are equal one by one are the same
+pub same_bytes : (xs ys : List ℕ) → pointwise eqb xs ys ≡ true → xs ≡ ys
+same_bytes [] [] e = refl
+same_bytes [] (y ∷ ys) e = absurd cc
+same_bytes (x ∷ xs) [] e = absurd cc
+same_bytes (x ∷ xs) (y ∷ ys) e = elim (cases_eq x y) [
+  | inl same ↦
+      let rest : pointwise eqb xs ys ≡ true = rw (eq-eqb x y same) at e in
+      ap (λ (n : ℕ). n ∷ xs) same ∙ ap (λ (l : List ℕ). y ∷ l) (same_bytes xs ys rest)
+  | inr other ↦
+      let wrong : false ≡ true = rw (ne_eqb x y other) at e in
+      absurd cc
+]
+
+-- the text of a loan at a place
+pub text_at : (xs : List (Bor (List ℕ))) (i : ℕ) (d : Bor (List ℕ)) (t : List ℕ) → i < length xs → pointwise eqb (get_or xs i d).now t ≡ true → slice_get (texts_in xs) i ≡ Some t
+text_at [] i d t lt e = absurd (omega arith)
+text_at (x ∷ xs) zero d t lt e = ap (λ (l : List ℕ). Some l) (same_bytes x.now t e)
+text_at (x ∷ xs) (suc i) d t lt e = text_at xs i d t (omega arith) e

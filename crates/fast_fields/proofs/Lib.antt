@@ -4,3 +4,4 @@ pub mod Places
 pub mod SpelledTexts
 pub mod Gathered
 pub mod Grown
+pub mod Packs

@@ -198,7 +198,7 @@ struct TextArea<'a> {
     count: u64,
 }
 
-fn has_texts(kind: Kind) -> bool
+pub(crate) fn has_texts(kind: Kind) -> bool
     ensures { result ≡ has_texts kind }
 {
     match kind {
