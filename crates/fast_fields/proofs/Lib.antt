@@ -1,4 +1,7 @@
 pub mod Pieces
 pub mod Bits
 pub mod Places
-pub mod Texts
+pub mod SpelledTexts
+pub mod Gathered
+pub mod Grown
+pub mod Packs

@@ -6,7 +6,8 @@ use Rattle.std.proofs.lemmas.Bool.{cases_lt, lt-ltb, le-ltb, ne_eqb}
 use Rattle.std.proofs.Common.{eq-eqb}
 use Rattle.std.proofs.lemmas.List.{drop-drop, drop_at}
 use Rattle.byte_fields.specs.Spelling.{four}
-use Rattle.fast_fields.specs.Columns.{Entry, DocumentsRise, numbers, least_of, greatest_of, documents_bytes}
+use Rattle.fast_fields.specs.Columns.{DocumentsRise, numbers, least_of, greatest_of, documents_bytes}
+use Rattle.fast_fields.specs.declared.entries.Entry.{Entry}
 use Rattle.fast_fields.specs.Readers.{count_below, first_number, of_some}
 
 pub get_some : {X : Type 0} (xs : List X) (i : ℕ) → i < length xs → (x : X) × (slice_get xs i ≡ Some x)

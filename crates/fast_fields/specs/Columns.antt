@@ -1,5 +1,5 @@
 -- What the bytes of a column stand for.
-use Rattle.std.specs.Prelude.{◌≡◌, ℕ, ℤ, pos, negsuc, ◌+◌, ◌-◌, ◌^◌, ◌<◌, ◌≤◌, Bool, true, false, List, [], ◌∷◌, ◌++◌, length, map, slice_get, Some, min, max, IsUtf8, ⊤}
+use Rattle.std.specs.Prelude.{◌≡◌, ℕ, ℤ, pos, negsuc, ◌+◌, ◌-◌, ◌^◌, ◌<◌, ◌≤◌, Bool, true, false, List, [], ◌∷◌, ◌++◌, length, map, slice_get, Some, min, max, IsUtf8, ⊤, ◌⊎◌}
 use Rattle.std.specs.List.{flat_map, AllByRecursion}
 use Rattle.std.specs.Ordering.{is_lt, nat_cmp}
 use Rattle.std.specs.Cmp.Lexicographic.{slice_cmp}
@@ -10,21 +10,21 @@ use Rattle.doc_value.specs.declared.schema.Kind.{Kind}
 use Rattle.doc_value.specs.declared.schema.Kind.TheVariants as kinds
 use Rattle.doc_value.specs.Documents.{IsOfKind}
 use Rattle.fast_fields.specs.declared.rows.ColumnRow.{ColumnRow}
+use Rattle.fast_fields.specs.declared.entries.Entry.{Entry}
 use Rattle.fast_fields.specs.Packed.{IsPacked, IsWidth}
-
--- a value of a column: its document and a number
-pub record Entry : Type 0 where
-  pub document : ℕ
-  pub number : ℕ
 
 -- a value of a document
 pub record Cell : Type 0 where
   pub document : ℕ
   pub value : Value
 
+-- each value of a document
+abbrev pub cells_of : ℕ → List Value → List Cell
+cells_of document vs = map (λ v. record { document = document; value = v }) vs
+
 -- each value of each document, in order
 abbrev pub cells : List ColumnRow → List Cell
-cells rows = flat_map (λ r. map (λ v. record { document = r.document; value = v }) r.values) rows
+cells rows = flat_map (λ r. cells_of r.document r.values) rows
 
 -- a signed number with the top one of its 64 bits turned
 abbrev pub turned : ℤ → ℕ
@@ -57,7 +57,8 @@ TextsRise (t ∷ ts) = AllByRecursion (λ u. is_below t u ≡ true) ts × TextsR
 
 -- some cell has this text
 abbrev pub SomeText : List Cell → List ℕ → Type 0
-SomeText cs t = (i : ℕ) × (c : Cell) × (slice_get cs i ≡ Some c) × (c.value ≡ values.Text t)
+SomeText [] t = ⊥
+SomeText (c ∷ cs) t = (c.value ≡ values.Text t) ⊎ SomeText cs t
 
 -- the distinct texts of the cells, rising
 pub record AreTexts (cs : List Cell) (texts : List (List ℕ)) : Type 0 where
@@ -113,6 +114,14 @@ DocumentsRise (e ∷ es) = AllByRecursion (λ f. e.document ≤ f.document) es �
 pub record Fits (es : List Entry) : Type 0 where
   pub few : length es < 2 ^ 32
   pub rise : DocumentsRise es
+  pub small_documents : AllByRecursion (λ e. e.document < 2 ^ 32) es
+  pub small_numbers : AllByRecursion (λ e. e.number < 2 ^ 64) es
+
+-- entries of cells whose documents don't fall and are not above a document
+pub record AreGrown (texts : List (List ℕ)) (document : ℕ) (cs : List Cell) (es : List Entry) : Type 0 where
+  pub are_entries : AreEntries texts cs es
+  pub rise : DocumentsRise es
+  pub not_above : AllByRecursion (λ e. e.document ≤ document) es
   pub small_documents : AllByRecursion (λ e. e.document < 2 ^ 32) es
   pub small_numbers : AllByRecursion (λ e. e.number < 2 ^ 64) es
 

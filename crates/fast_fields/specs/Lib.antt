@@ -1,3 +1,4 @@
 pub mod Packed
 pub mod Columns
+pub mod Texts
 pub mod Readers

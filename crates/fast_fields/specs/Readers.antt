@@ -4,7 +4,8 @@ use Rattle.std.specs.List.{flat_map, AllByRecursion}
 use Rattle.std.specs.Borrow.{Bor}
 use Rattle.byte_fields.specs.Spelling.{byte_string}
 use Rattle.fast_fields.specs.Packed.{IsPacked, IsWidth}
-use Rattle.fast_fields.specs.Columns.{Entry, Fits, AreTexts, AreEntries, cells, numbers, least_of, greatest_of, documents_bytes}
+use Rattle.fast_fields.specs.Columns.{Fits, AreTexts, AreEntries, cells, numbers, least_of, greatest_of, documents_bytes}
+use Rattle.fast_fields.specs.declared.entries.Entry.{Entry}
 use Rattle.fast_fields.specs.declared.rows.ColumnRow.{ColumnRow}
 use Rattle.fast_fields.specs.declared.column.Column.{Column}
 

@@ -23,7 +23,8 @@ pub struct Column<'a> {
 }
 
 impl<'a> Column<'a> {
-    ghost use Rattle.fast_fields.specs.Columns.{Entry, IsColumn, numbers, least_of, greatest_of};
+    ghost use Rattle.fast_fields.specs.Columns.{IsColumn, numbers, least_of, greatest_of};
+    ghost use Rattle.fast_fields.specs.declared.entries.Entry.{Entry};
     ghost use Rattle.fast_fields.specs.Readers.{Holds, IsOf, LendsText, count_below, first_number, of_some};
     ghost use Rattle.fast_fields.specs.declared.rows.ColumnRow.{ColumnRow};
 
@@ -197,7 +198,7 @@ struct TextArea<'a> {
     count: u64,
 }
 
-fn has_texts(kind: Kind) -> bool
+pub(crate) fn has_texts(kind: Kind) -> bool
     ensures { result ≡ has_texts kind }
 {
     match kind {

@@ -2,9 +2,13 @@
 #![tactic(auto)]
 
 mod column;
+mod encode;
+mod entries;
 mod rows;
+mod texts;
 
 pub use column::Column;
+pub use encode::encode_column;
 pub use rows::{ColumnList, ColumnRow};
 
 #[cfg(test)]

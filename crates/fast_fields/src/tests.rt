@@ -1,5 +1,8 @@
+ghost use Rattle.std.specs.Prelude.{◌≡◌, IfOk};
+ghost use Rattle.doc_value.specs.declared.schema.Kind.TheVariants.{U64};
+
 use super::*;
-use doc_value::{Field, Kind, Text, Tokenizer};
+use doc_value::{Field, Kind, Text, Tokenizer, Value, Values};
 use std::alloc::{AllocError, Global};
 use std::test::Fail;
 
@@ -74,4 +77,38 @@ fn cuts_are_refused(rt: HostRuntime) -> Result<(), Fail> {
     assert_eq!(rt; column.least(), None);
     assert_eq!(rt; column.greatest(), None);
     Ok(())
+}
+
+#[test]
+fn numbers_are_encoded(rt: HostRuntime) -> Result<(), Fail> {
+    let alloc = rt.alloc();
+    let field = field_of_numbers(alloc)?;
+    let mut list = ColumnList::vacant(alloc);
+    let mut first = Values::one(alloc, Value::U64(5))?;
+    first.push(Value::U64(7))?;
+    list.push(ColumnRow {
+        document: 0,
+        values: first,
+    })?;
+    list.push(ColumnRow {
+        document: 2,
+        values: Values::one(alloc, Value::U64(6))?,
+    })?;
+    let bytes = encode_column(alloc, &field, &list)?;
+    assert_eq!(rt; bytes.as_slice(), NUMBERS.as_slice());
+    Ok(())
+}
+
+fn field_of_numbers(alloc: Global) -> Result<Field, AllocError>
+    ensures { IfOk result (λ f. f.kind ≡ U64) }
+{
+    Ok(Field {
+        path: Text::from_str(alloc, "a")?,
+        kind: Kind::U64,
+        fast: true,
+        indexed: false,
+        tag: false,
+        tokenizer: Tokenizer::Raw,
+        positions: false,
+    })
 }

@@ -2,7 +2,7 @@ use Rattle.std.proofs.Common.{◌+◌, ◌++◌, drop, arith}
 use Rattle.std.specs.List.{flat_map}
 use Rattle.byte_fields.specs.Spelling.{byte_string}
 use Rattle.fast_fields.proofs.Pieces.{bytes_read}
-use Rattle.fast_fields.proofs.Texts.{text_front}
+use Rattle.fast_fields.proofs.SpelledTexts.{text_front}
 use Rattle.fast_fields.proofs.column.behind_texts.Goals as goal
 
 pub returns-in_err-at-clause-only : goal.returns-in_err-at-clause-only

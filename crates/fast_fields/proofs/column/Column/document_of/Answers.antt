@@ -1,6 +1,7 @@
 use Rattle.std.proofs.Common.{◌*◌, ◌+◌, ◌∙◌, ℕ, List, ap, drop, refl, ◌<◌, ◌^◌}
 use Rattle.byte_fields.specs.Spelling.{four}
-use Rattle.fast_fields.specs.Columns.{Entry, documents_bytes}
+use Rattle.fast_fields.specs.Columns.{documents_bytes}
+use Rattle.fast_fields.specs.declared.entries.Entry.{Entry}
 use Rattle.fast_fields.proofs.Pieces.{number_read}
 use Rattle.fast_fields.proofs.Places.{all_at, document_there}
 use Rattle.fast_fields.proofs.column.Column.document_of.Goals as goal

@@ -1,5 +1,6 @@
 use Rattle.std.proofs.Common.{◌≡◌, ℕ, List, drop, max}
-use Rattle.fast_fields.specs.Columns.{Entry, numbers, greatest_of}
+use Rattle.fast_fields.specs.Columns.{numbers, greatest_of}
+use Rattle.fast_fields.specs.declared.entries.Entry.{Entry}
 use Rattle.fast_fields.specs.Readers.{Holds}
 use Rattle.fast_fields.proofs.column.Column.greatest.Given as goal
 

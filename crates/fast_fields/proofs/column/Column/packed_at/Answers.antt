@@ -2,7 +2,8 @@ use Rattle.std.proofs.Common.{◌≡◌, ◌<◌, ◌+◌, ◌-◌, ◌*◌, ◌
 use Rattle.std.proofs.lemmas.List.{length-map}
 use Rattle.std.proofs.Math.Nat.{div-one}
 use Rattle.fast_fields.specs.Packed.{bit}
-use Rattle.fast_fields.specs.Columns.{Entry, numbers, least_of}
+use Rattle.fast_fields.specs.Columns.{numbers, least_of}
+use Rattle.fast_fields.specs.declared.entries.Entry.{Entry}
 use Rattle.fast_fields.proofs.Bits.{packed_read, above_all, next_value}
 use Rattle.fast_fields.proofs.Places.{all_at, less_at, greatest_ge}
 use Rattle.fast_fields.proofs.column.Column.packed_at.Goals as goal

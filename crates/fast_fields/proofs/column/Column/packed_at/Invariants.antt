@@ -1,6 +1,7 @@
 use Rattle.std.proofs.Common.{◌≡◌, ◌-◌, ◌/◌, ◌^◌, ℕ, List, Some}
 use Rattle.std.specs.Prelude.{slice_get}
-use Rattle.fast_fields.specs.Columns.{Entry, numbers, least_of}
+use Rattle.fast_fields.specs.Columns.{numbers, least_of}
+use Rattle.fast_fields.specs.declared.entries.Entry.{Entry}
 use Rattle.fast_fields.specs.Readers.{Holds}
 use Rattle.fast_fields.proofs.column.Column.packed_at.Given as goal
 

@@ -1,5 +1,5 @@
 use Rattle.std.proofs.Common.{◌≤◌, ◌-◌, ℕ, List}
-use Rattle.fast_fields.specs.Columns.{Entry}
+use Rattle.fast_fields.specs.declared.entries.Entry.{Entry}
 use Rattle.fast_fields.specs.Readers.{Holds, count_below}
 use Rattle.fast_fields.proofs.column.Column.places_below.Given as goal
 

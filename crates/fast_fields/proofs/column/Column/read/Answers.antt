@@ -2,7 +2,8 @@ use Rattle.std.proofs.Common.{◌≡◌, ◌+◌, ◌-◌, ◌*◌, ◌/◌, ◌
 use Rattle.std.proofs.lemmas.List.{length-map}
 use Rattle.byte_fields.specs.Spelling.{varint, eight}
 use Rattle.fast_fields.specs.Packed.{IsPacked, IsWidth}
-use Rattle.fast_fields.specs.Columns.{Entry, numbers, least_of, greatest_of, has_texts, texts_bytes, documents_bytes}
+use Rattle.fast_fields.specs.Columns.{numbers, least_of, greatest_of, has_texts, texts_bytes, documents_bytes}
+use Rattle.fast_fields.specs.declared.entries.Entry.{Entry}
 use Rattle.fast_fields.proofs.Pieces.{number_read, column_parts, end_of}
 use Rattle.fast_fields.proofs.Bits.{width_within}
 use Rattle.fast_fields.proofs.Places.{length-documents, least_small, greatest_small}

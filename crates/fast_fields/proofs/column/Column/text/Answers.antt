@@ -4,7 +4,7 @@ use Rattle.std.specs.List.{flat_map}
 use Rattle.std.proofs.lemmas.List.{append-nil}
 use Rattle.byte_fields.specs.Spelling.{byte_string}
 use Rattle.fast_fields.proofs.Pieces.{bytes_read}
-use Rattle.fast_fields.proofs.Texts.{text_front, lends_text}
+use Rattle.fast_fields.proofs.SpelledTexts.{text_front, lends_text}
 use Rattle.fast_fields.proofs.column.Column.text.Goals as goal
 
 pub returns-in-Err : goal.returns-in-Err

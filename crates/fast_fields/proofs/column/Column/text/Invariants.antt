@@ -1,7 +1,7 @@
 use Rattle.std.proofs.Common.{◌≡◌, ◌≤◌, ℕ, List, length, drop}
 use Rattle.std.specs.List.{flat_map}
 use Rattle.byte_fields.specs.Spelling.{byte_string}
-use Rattle.fast_fields.specs.Columns.{Entry}
+use Rattle.fast_fields.specs.declared.entries.Entry.{Entry}
 use Rattle.fast_fields.specs.Readers.{Holds}
 use Rattle.fast_fields.proofs.column.Column.text.Given as goal
 

@@ -1,5 +1,5 @@
 use Rattle.std.proofs.Common.{◌<◌, ◌^◌, arith}
-use Rattle.fast_fields.specs.Columns.{Entry}
+use Rattle.fast_fields.specs.declared.entries.Entry.{Entry}
 use Rattle.fast_fields.proofs.Places.{all_at, least_le}
 use Rattle.fast_fields.proofs.column.Column.value.Goals as goal
 

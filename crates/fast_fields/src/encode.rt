@@ -1,0 +1,151 @@
+ghost use Rattle.std.specs.Prelude.{◌≡◌, ◌≤◌, ◌<◌, ◌+◌, ◌-◌, ◌*◌, ◌^◌, ◌++◌, List, ℕ, IfOk, OnOk, length, map};
+ghost use Rattle.std.specs.List.{AllByRecursion};
+ghost use Rattle.fast_fields.specs.Columns.{AreRows, Fits, IsColumn, IsSpelled, numbers, least_of, greatest_of, texts_bytes, documents_bytes};
+ghost use Rattle.fast_fields.specs.Packed.{IsWidth, IsPacked, bit, packed_bit};
+ghost use Rattle.fast_fields.specs.Texts.{texts_in};
+
+use crate::ColumnList;
+use crate::column::has_texts;
+use crate::entries::{Entry, entries_of};
+use crate::texts::texts_of;
+use byte_fields::{Bytes, put_bytes, put_eight, put_four, put_varint};
+use doc_value::Field;
+use std::alloc::{AllocError, Global};
+
+/// The bytes of a column of these documents and their values.
+pub fn encode_column(alloc: Global, field: &Field, values: &ColumnList) -> Result<Bytes, AllocError>
+    requires { AreRows field.now.kind values.now }
+    ensures { IfOk result (λ bytes. IsColumn field.now.kind bytes values.now) }
+{
+    let rows = values.as_slice();
+    let texts = texts_of(alloc, rows)?;
+    let entries = entries_of(alloc, rows, &texts)?;
+    let bytes = column_bytes(alloc, has_texts(field.kind), &texts, &entries)?;
+    Ok(Bytes::from_vec(bytes))
+}
+
+// The bytes of a column of these texts and entries.
+fn column_bytes(
+    alloc: Global,
+    texted: bool,
+    texts: &[&str],
+    entries: &[Entry],
+) -> Result<Vec<u8>, AllocError>
+    requires { Fits entries.now }
+    ensures { IfOk result (λ v. IsSpelled texted (texts_in texts.now) entries.now v.items) }
+{
+    let least = least(entries);
+    let width = width_of(greatest(entries) - least);
+    let mut bytes = Vec::new(alloc);
+    put_varint(&mut bytes, entries.len() as u64)?;
+    put_texts(&mut bytes, texted, texts)?;
+    put_documents(&mut bytes, entries)?;
+    put_eight(&mut bytes, least)?;
+    bytes.push(width)?;
+    put_packed(&mut bytes, entries, least, width)?;
+    Ok(bytes)
+}
+
+fn put_texts(out: &mut Vec<u8>, texted: bool, texts: &[&str]) -> Result<(), AllocError>
+    ensures { OnOk result (out.new.items ≡ out.old.items ++ texts_bytes texted (texts_in texts.now)) }
+{
+    if !texted {
+        return Ok(());
+    }
+    put_varint(out, texts.len() as u64)?;
+    for text in texts {
+        put_bytes(out, text.as_bytes())?;
+    }
+    Ok(())
+}
+
+fn put_documents(out: &mut Vec<u8>, entries: &[Entry]) -> Result<(), AllocError>
+    ensures { OnOk result (out.new.items ≡ out.old.items ++ documents_bytes entries.now) }
+{
+    for entry in entries {
+        put_four(out, entry.document)?;
+    }
+    Ok(())
+}
+
+// The least of the numbers, and 0 where there are none.
+fn least(entries: &[Entry]) -> u64
+    ensures { result ≡ least_of (numbers entries.now) }
+{
+    let Some((first, behind)) = entries.split_first() else {
+        return 0;
+    };
+    let mut least = first.number;
+    for entry in behind {
+        least = entry.number.min(least);
+    }
+    least
+}
+
+// The greatest of the numbers, and 0 where there are none.
+fn greatest(entries: &[Entry]) -> u64
+    ensures { result ≡ greatest_of (numbers entries.now) }
+{
+    let mut greatest = 0;
+    for entry in entries {
+        greatest = entry.number.max(greatest);
+    }
+    greatest
+}
+
+// How many bits a number has.
+fn width_of(number: u64) -> u8
+    ensures width { IsWidth number result }
+    ensures within { result ≤ 64 }
+{
+    (64 - number.leading_zeros()) as u8
+}
+
+// Puts the numbers less the least one, each in so many bits.
+fn put_packed(out: &mut Vec<u8>, entries: &[Entry], least: u64, width: u8) -> Result<(), AllocError>
+    requires width { width ≤ 64 }
+    requires few { length entries.now < 2 ^ 32 }
+    ensures { OnOk result ((packed : List ℕ) × (out.new.items ≡ out.old.items ++ packed) × IsPacked width (map (λ n. n - least) (numbers entries.now)) packed) }
+{
+    let size = (usize::from(width) * entries.len() + 7) / 8;
+    for number in 0..size {
+        out.push(byte_of(entries, least, width, number))?;
+    }
+    Ok(())
+}
+
+// One byte of the packed numbers.
+fn byte_of(entries: &[Entry], least: u64, width: u8, number: usize) -> u8
+    requires width { width ≤ 64 }
+    requires few { length entries.now < 2 ^ 32 }
+    requires place { number < 2 ^ 40 }
+    ensures { (k : ℕ) → k < 8 → bit result k ≡ packed_bit width (map (λ n. n - least) (numbers entries.now)) (8 * number + k) }
+{
+    let mut byte = 0u8;
+    for step in 0..8u8 {
+        let next = bit_of(entries, least, width, 8 * number + usize::from(7 - step));
+        byte = byte.wrapping_mul(2).wrapping_add(next);
+    }
+    byte
+}
+
+// One bit of the packed numbers.
+fn bit_of(entries: &[Entry], least: u64, width: u8, place: usize) -> u8
+    requires width { width ≤ 64 }
+    requires few { length entries.now < 2 ^ 32 }
+    ensures value { result ≡ packed_bit width (map (λ n. n - least) (numbers entries.now)) place }
+    ensures small { result < 2 }
+{
+    let width = usize::from(width);
+    if place >= width * entries.len() {
+        return 0;
+    }
+    let number = number_less(&entries[place / width], least);
+    (number / (1 << (place % width)) % 2) as u8
+}
+
+fn number_less(entry: &Entry, least: u64) -> u64
+    ensures { result ≡ entry.now.number - least }
+{
+    entry.number.saturating_sub(least)
+}

@@ -1,0 +1,86 @@
+ghost use Rattle.std.specs.Prelude.{◌≡◌, ◌<◌, ◌≤◌, ◌^◌, List, ℕ, length, slice_get, Some, IfOk, OnOk, ◌++◌, [], ◌∷◌};
+ghost use Rattle.std.specs.List.{AllByRecursion};
+ghost use Rattle.fast_fields.specs.Columns.{AreEntries, IsNumber, RowsRise, DocumentsRise, Fits, Cell, cells, cells_of, AreGrown, turned};
+ghost use Rattle.fast_fields.specs.Texts.{texts_in};
+
+use crate::ColumnRow;
+use crate::texts::ordinal;
+use doc_value::Value;
+use std::alloc::{AllocError, Global};
+
+/// A value of a column: its document and a number.
+#[derive(Clone, Copy, Debug)]
+pub struct Entry {
+    pub document: u32,
+    pub number: u64,
+}
+
+// The entries of these rows, whose texts these are.
+pub(crate) fn entries_of(
+    alloc: Global,
+    rows: &[ColumnRow],
+    texts: &[&str],
+) -> Result<Vec<Entry>, AllocError>
+    requires rise { RowsRise rows.now }
+    requires few { length (cells rows.now) < 2 ^ 32 }
+    ensures { IfOk result (λ v. AreEntries (texts_in texts.now) (cells rows.now) v.items × Fits v.items) }
+{
+    let mut entries = Vec::new(alloc);
+    let mut rest = rows;
+    while let Some((row, behind)) = rest.split_first() {
+        row_entries(&mut entries, row.document, row.values.as_slice(), texts)?;
+        rest = behind;
+    }
+    Ok(entries)
+}
+
+// Adds the entries of one document.
+fn row_entries(
+    entries: &mut Vec<Entry>,
+    document: u32,
+    values: &[Value],
+    texts: &[&str],
+) -> Result<(), AllocError>
+    ensures { (done : List Cell) → AreGrown (texts_in texts.now) document done entries.old.items
+        → OnOk result (AreGrown (texts_in texts.now) document (done ++ cells_of document values.now) entries.new.items) }
+{
+    let mut rest = values;
+    while let Some((value, behind)) = rest.split_first() {
+        let number = number_of(value, texts)?;
+        add_entry(entries, document, number)?;
+        rest = behind;
+    }
+    Ok(())
+}
+
+fn add_entry(entries: &mut Vec<Entry>, document: u32, number: u64) -> Result<(), AllocError>
+    ensures ok { OnOk result (entries.new.items ≡ entries.old.items ++ record { document = document; number = number } ∷ []) }
+    ensures document { document < 2 ^ 32 }
+    ensures number { number < 2 ^ 64 }
+{
+    entries.push(Entry { document, number })?;
+    Ok(())
+}
+
+// The number that a value stands for.
+fn number_of(value: &Value, texts: &[&str]) -> Result<u64, AllocError>
+    ensures { IfOk result (λ n. IsNumber (texts_in texts.now) value.now n) }
+{
+    match value {
+        Value::Text(text) => ordinal(texts, text.as_str()),
+        Value::I64(number) => Ok(turned(*number)),
+        Value::U64(number) => Ok(*number),
+        Value::Bool(truth) => Ok(u64::from(*truth)),
+        Value::Datetime(seconds) => Ok(turned(*seconds)),
+    }
+}
+
+// A signed number with the top one of its 64 bits turned.
+fn turned(number: i64) -> u64
+    ensures { result ≡ turned number }
+{
+    if number >= 0 {
+        return number as u64 + (1 << 63);
+    }
+    (1 << 63) - 1 - (-(number + 1)) as u64
+}

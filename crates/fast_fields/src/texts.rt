@@ -1,0 +1,94 @@
+ghost use Rattle.std.specs.Prelude.{◌≡◌, ◌<◌, List, ℕ, length, slice_get, Some, IfOk, OnOk, All};
+ghost use Rattle.fast_fields.specs.Columns.{AreTexts, Cell, SomeText, cells, cells_of, is_below};
+ghost use Rattle.fast_fields.specs.Texts.{IsCellText, texts_in, is_behind};
+
+use crate::ColumnRow;
+use doc_value::Value;
+use std::alloc::{AllocError, Global};
+use std::cmp::Ordering;
+
+// The distinct texts of these rows, rising.
+pub(crate) fn texts_of(alloc: Global, rows: &[ColumnRow]) -> Result<Vec<&str>, AllocError>
+    ensures { IfOk result (λ v. AreTexts (cells rows.now) (texts_in v.items)) }
+{
+    let mut all = gathered(alloc, rows)?;
+    all.sort()?;
+    distinct(alloc, &all)
+}
+
+// The texts of these rows, in their order.
+fn gathered(alloc: Global, rows: &[ColumnRow]) -> Result<Vec<&str>, AllocError>
+    ensures { IfOk result (λ v. All (IsCellText (cells rows.now)) v.items) }
+{
+    let mut all = Vec::new(alloc);
+    let mut rest = rows;
+    while let Some((row, behind)) = rest.split_first() {
+        gather_row(&mut all, row.values.as_slice())?;
+        rest = behind;
+    }
+    Ok(all)
+}
+
+// Adds the texts of one document.
+fn gather_row<'a>(all: &mut Vec<&'a str>, values: &'a [Value]) -> Result<(), AllocError>
+    ensures { (cs : List Cell) (document : ℕ) → All (IsCellText cs) all.old.items
+        → ((t : List ℕ) → SomeText (cells_of document values.now) t → SomeText cs t) → OnOk result (All (IsCellText cs) all.new.items) }
+{
+    let mut rest = values;
+    while let Some((value, behind)) = rest.split_first() {
+        if let Value::Text(text) = value {
+            all.push(text.as_str())?;
+        }
+        rest = behind;
+    }
+    Ok(())
+}
+
+// Those of the texts that stand behind the one taken last.
+fn distinct<'a>(alloc: Global, sorted: &[&'a str]) -> Result<Vec<&'a str>, AllocError>
+    ensures { (cs : List Cell) → All (IsCellText cs) sorted.now → IfOk result (λ v. AreTexts cs (texts_in v.items)) }
+{
+    let mut texts = Vec::new(alloc);
+    for text in sorted {
+        if stands_behind(&texts, text) {
+            texts.push(*text)?;
+        }
+    }
+    Ok(texts)
+}
+
+// Whether a text stands behind the last one, if there is one.
+fn stands_behind(texts: &[&str], text: &str) -> bool
+    ensures { result ≡ is_behind (texts_in texts.now) text.now }
+{
+    match texts.last() {
+        None => true,
+        Some(last) => is_below(last, text),
+    }
+}
+
+fn is_below(text: &str, other: &str) -> bool
+    ensures { result ≡ is_below text.now other.now }
+{
+    text.as_bytes().cmp(other.as_bytes()) == Ordering::Less
+}
+
+// The place of a text among rising ones. It stands there: an answer that it does not is one of want of memory.
+pub(crate) fn ordinal(texts: &[&str], text: &str) -> Result<u64, AllocError>
+    ensures { IfOk result (λ n. slice_get (texts_in texts.now) n ≡ Some text.now) }
+{
+    let mut low = 0;
+    let mut high = texts.len();
+    while low < high {
+        let middle = low + (high - low) / 2;
+        if is_below(texts[middle], text) {
+            low = middle + 1;
+        } else {
+            high = middle;
+        }
+    }
+    if low < texts.len() && texts[low] == text {
+        return Ok(low as u64);
+    }
+    Err(AllocError)
+}
