@@ -18,7 +18,7 @@ mod world_error;
 
 pub use accepting::accept;
 pub use config::logs_config;
-pub use gate::{Direct, Gate};
+pub use gate::Gate;
 pub use placed::{Placed, PlacedList};
 pub use planning::{Choice, PlanRow, PlanRows};
 pub use split_reading::{SplitError, read_split};
