@@ -7,3 +7,7 @@ pub mod Rows
 pub mod Each
 pub mod Complete
 pub mod Sound
+pub mod Pieces
+pub mod Utf8
+pub mod Words
+pub mod Edges
