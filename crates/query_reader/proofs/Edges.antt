@@ -302,12 +302,14 @@ pub range_shown : (c : Bool) (low high : EdgeText) (d : Bool) (x : Span) (i n : 
     → run i (state (Behind x) f fs) (range_bytes c low high d ++ rest)
     ≡ run n (state (After true) (with_operand f (leaf (Some x) (asks.Within i (Between c (bound_at (i + 1) low) (bound_at (high_from i low) high) d)))) fs) rest
 range_shown c low high d x i n f fs rest e =
-    let j : ℕ = i + 1 + length (edge_bytes low) + 1 in
-    ap (λ xs. run i (state (Behind x) f fs) (begins c ∷ xs))
-    (append_assoc (edge_bytes low) (32 ∷ 84 ∷ 79 ∷ 32 ∷ edge_bytes high ++ shut d ∷ []) rest ∙ ap (λ xs. edge_bytes low ++ 32 ∷ 84 ∷ 79 ∷ 32 ∷ xs) (append_assoc (edge_bytes high) (shut d ∷ []) rest))
-    ∙ range_opens x c i f fs (edge_bytes low ++ 32 ∷ 84 ∷ 79 ∷ 32 ∷ edge_bytes high ++ shut d ∷ rest)
-    ∙ low_shown x i f fs low c (i + 1) (i + 1 + length (edge_bytes low) + 1) (84 ∷ 79 ∷ 32 ∷ edge_bytes high ++ shut d ∷ rest) refl
-    ∙ to_shown x i f fs c (bound_at (i + 1) low) (i + 1 + length (edge_bytes low) + 1) (edge_bytes high ++ shut d ∷ rest)
-    ∙ ap (λ k. run k (state (InRange x i (Wanted (High c (bound_at (i + 1) low)))) f fs) (edge_bytes high ++ shut d ∷ rest)) (let y : i + 1 + length (edge_bytes low) + 1 + 1 + 1 + 1 ≡ high_from i low = omega arith in y)
+    let last : List ℕ = edge_bytes high ++ (shut d ∷ rest) in
+    let behind : List ℕ = 32 ∷ (84 ∷ (79 ∷ (32 ∷ (edge_bytes high ++ (shut d ∷ []))))) in
+    let text : edge_bytes low ++ behind ++ rest ≡ edge_bytes low ++ (32 ∷ (84 ∷ (79 ∷ (32 ∷ last)))) =
+    append_assoc (edge_bytes low) behind rest ∙ ap (λ xs. edge_bytes low ++ (32 ∷ (84 ∷ (79 ∷ (32 ∷ xs))))) (append_assoc (edge_bytes high) (shut d ∷ []) rest) in
+    ap (λ xs. run i (state (Behind x) f fs) (begins c ∷ xs)) text
+    ∙ range_opens x c i f fs (edge_bytes low ++ (32 ∷ (84 ∷ (79 ∷ (32 ∷ last)))))
+    ∙ low_shown x i f fs low c (i + 1) (i + 1 + length (edge_bytes low) + 1) (84 ∷ (79 ∷ (32 ∷ last))) refl
+    ∙ to_shown x i f fs c (bound_at (i + 1) low) (i + 1 + length (edge_bytes low) + 1) last
+    ∙ ap (λ k. run k (state (InRange x i (Wanted (High c (bound_at (i + 1) low)))) f fs) last) (let y : i + 1 + length (edge_bytes low) + 1 + 1 + 1 + 1 ≡ high_from i low = omega arith in y)
     ∙ high_shown x i f fs high c (bound_at (i + 1) low) d (high_from i low) n rest
     (omega (arith, e, length-append (edge_bytes low) (32 ∷ (84 ∷ (79 ∷ (32 ∷ (edge_bytes high ++ shut d ∷ []))))), length-append (edge_bytes high) (shut d ∷ [])))

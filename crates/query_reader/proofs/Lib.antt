@@ -11,3 +11,7 @@ pub mod Pieces
 pub mod Utf8
 pub mod Words
 pub mod Edges
+pub mod Digits
+pub mod Readable
+pub mod Spelling
+pub mod Back

@@ -1,7 +1,7 @@
 -- The text that is printed of a query: a backslash before each byte that would end a word, before a first byte that begins
 -- none, and before a word that would be an operator; one blank between parts; brackets where an And or an Or stands inside
 -- another And, Or or Not.
-use Rattle.std.specs.Prelude.{◌≡◌, ◌≤◌, ℕ, suc, ◌+◌, ◌==◌, ◌||◌, Bool, true, false, not, List, [], ◌∷◌, ◌++◌, max, Option, Some, None, slice_get, if◌then◌else◌, ℤ, pos, negsuc}
+use Rattle.std.specs.Prelude.{◌≡◌, ◌≢◌, ◌<◌, ◌≤◌, ℕ, IsUtf8, length, Ok, suc, ◌+◌, ◌==◌, ◌||◌, Bool, true, false, not, List, [], ◌∷◌, ◌++◌, max, Option, Some, None, slice_get, if◌then◌else◌, ℤ, pos, negsuc}
 use Rattle.std.specs.Fmt.{decimal, signed_decimal}
 use Rattle.std.specs.Option.{option_map_or}
 use Rattle.std.specs.Str.{bytes_eq}
@@ -16,6 +16,7 @@ use Rattle.query_ast.specs.declared.query.Edge.TheVariants as edges
 use Rattle.query_ast.specs.Sought.{Sought, Soughts, no_more, more}
 use Rattle.query_ast.specs.Sought as sought
 use Rattle.query_reader.specs.Kinds.{kind_of, ends_word, is_escape_kind}
+use Rattle.query_reader.specs.Resolve.{number_of, query_of}
 use Rattle.query_reader.specs.declared.kind.Kind.{Kind}
 use Rattle.query_reader.specs.declared.kind.Kind.TheVariants.{Plain, Quote}
 
@@ -184,3 +185,19 @@ abbrev mutual
   pub nesting_all : Soughts → ℕ
   nesting_all no_more = 0
   nesting_all (more q qs) = max (bracket_depth q + nesting q) (nesting_all qs)
+
+-- each field is found by its path, a text with at least one byte
+abbrev pub AreFound : List Field → Type 0
+AreFound fields = (n : ℕ) (f : Field) → slice_get fields n ≡ Some f → (number_of fields f.path 0 ≡ Some n) × IsUtf8 f.path × (f.path ≢ [])
+
+-- each number is a field's
+abbrev pub AreNumbers : List Field → List ℕ → Type 0
+AreNumbers fields [] = Unit {0}
+AreNumbers fields (n ∷ ns) = (n < length fields) × AreNumbers fields ns
+
+-- a query over a schema's fields and some default fields, as a text gives it, and a text that is printed of it
+pub record IsPrintedOf (fields : List Field) (defaults text : List ℕ) (q : Sought) (shown : List ℕ) : Type 0 where
+  pub found : AreFound fields
+  pub within : AreNumbers fields defaults
+  pub read : query_of fields defaults text ≡ Ok q
+  pub printed : Spells (printed fields q) shown

@@ -18,7 +18,7 @@ mod texts;
 mod tree;
 
 pub use fault::{Fault, ReadError};
-pub use laws::reading_laws;
+pub use laws::{printing_laws, reading_laws};
 pub use numbers::FieldNumbers;
 pub use printer::print_query;
 pub use refusal::QueryError;
