@@ -5,7 +5,7 @@ use Rattle.std.specs.List.{AllByRecursion, list_all}
 use Rattle.std.specs.Str.{is_utf8}
 use Rattle.std.proofs.lemmas.Bool.{leb-true}
 use Rattle.std.proofs.lemmas.Str.{IsUtf8-from_ascii}
-use Rattle.serde_json.specs.Data.{Data, null, boolean, number, string, array, object, Members}
+use Rattle.serde_json.specs.Data.{Data, null, boolean, number, string, array, object, Members, depth}
 use Rattle.serde_json.specs.Find.{get_member}
 use Rattle.serde_json.specs.Read.{read}
 use Rattle.doc_value.specs.declared.doc.DocField.{DocField}
@@ -17,7 +17,7 @@ use Rattle.source_checkpoint.specs.declared.span.Span.{Span}
 use Rattle.source_log.specs.Log.{Log, IsLog, IsGoodPart}
 use Rattle.split_states.specs.declared.rows.Row.{Row}
 use Rattle.meta_store.specs.Contents.{is_kept}
-use Rattle.index_world.specs.Accepted.{fields, is_ascii_byte, text_in, all_mapped, with_field, doc_from, doc_of, shallow, max_record, accepted}
+use Rattle.index_world.specs.Accepted.{fields, is_ascii_byte, text_in, all_mapped, with_field, doc_from, doc_of, shallow, max_record, max_levels, accepted}
 use Rattle.index_world.specs.Seen.{meaning, onto, accepted_from, accepted_records, accepted_part, accepted_in, contents}
 use Rattle.index_world.specs.SplitFile.{AreFields, IsPlaced}
 use Rattle.index_world.specs.declared.accepting.At.{At}
@@ -26,7 +26,7 @@ use Rattle.index_world.specs.declared.placed.Placed.{Placed}
 
 -- ---- a record's document
 
-guard_some : {A : Type 0} (b : Bool) (o : Option A) (x : A) → cond b o None ≡ Some x → (b ≡ true) × (o ≡ Some x)
+pub guard_some : {A : Type 0} (b : Bool) (o : Option A) (x : A) → cond b o None ≡ Some x → (b ≡ true) × (o ≡ Some x)
 guard_some true o x e = (refl, e)
 guard_some false o x e = absurd cc
 
@@ -98,12 +98,23 @@ value_fits (string s) doc e = absurd cc
 value_fits (array items) doc e = absurd cc
 value_fits (object ms) doc e = members_fit ms doc (guard_some (all_mapped ms) (doc_from 0 fields ms) doc e).1
 
-pub accepted-fields : (bytes : List ℕ) (doc : List DocField) → accepted bytes ≡ Some doc → AreFields 0 doc
-accepted-fields bytes doc e =
+shallow_same : (d e : Data) → shallow d ≡ Some e → d ≡ e
+shallow_same d e h = let same = (guard_some (leb (depth d) max_levels) (Some d) e h).1 in cc
+
+-- an accepted record is short, and its document is that of the value that it reads as
+pub accepted_as : (bytes : List ℕ) (doc : List DocField) → accepted bytes ≡ Some doc → (d : Data) × (length bytes ≤ 1048576) × (read bytes ≡ Some d) × (doc_of d ≡ Some doc)
+accepted_as bytes doc e =
     let g = guard_some (leb (length bytes) max_record && is_utf8 bytes) (option_and_then (λ d. option_and_then doc_of (shallow d)) (read bytes)) doc e in
     let value = bind_some (λ d. option_and_then doc_of (shallow d)) (read bytes) doc g.1 in
-    let inner = bind_some doc_of (shallow value.0) doc value.2 in
-    value_fits inner.0 doc inner.2
+    let inner = bind_some doc_of (shallow value.0) doc value.2 in (
+      value.0,
+      leb-true (length bytes) max_record (both_true (leb (length bytes) max_record) (is_utf8 bytes) g.0).0,
+      value.1,
+      subst (λ (d : Data). doc_of d ≡ Some doc) (sym (shallow_same value.0 inner.0 inner.1)) inner.2,
+    )
+
+pub accepted-fields : (bytes : List ℕ) (doc : List DocField) → accepted bytes ≡ Some doc → AreFields 0 doc
+accepted-fields bytes doc e = let as_read = accepted_as bytes doc e in value_fits as_read.0 doc as_read.3
 
 -- ---- the documents of a log
 
