@@ -1,5 +1,5 @@
 -- An accepted document is light: its texts are at most four times as long as its record.
-use Rattle.std.proofs.Common.{◌≡◌, ℕ, zero, suc, ◌+◌, ◌*◌, ◌/◌, ◌^◌, ◌≤◌, ◌<◌, Bool, true, false, cond, List, [], ◌∷◌, ◌++◌, length, map, Option, Some, None, refl, ap, subst, arith, inl, inr, lit<}
+use Rattle.std.proofs.Common.{◌≡◌, ℕ, zero, suc, ◌*◌, ◌/◌, ◌^◌, ◌≤◌, ◌<◌, Bool, true, false, cond, List, [], ◌∷◌, ◌++◌, length, map, Option, Some, None, refl, ap, subst, arith, inl, inr, lit<}
 use Rattle.std.specs.Prelude.{codes, ⊤}
 use Rattle.std.specs.List.{list_all}
 use Rattle.std.proofs.lemmas.Bool.{cases_lt}
@@ -14,7 +14,7 @@ use Rattle.doc_value.specs.declared.doc.DocField.{DocField}
 use Rattle.doc_value.specs.declared.doc.Value.{Value}
 use Rattle.doc_value.specs.declared.doc.Value.TheVariants as values
 use Rattle.index_world.specs.Accepted.{fields, is_ascii_byte, text_in, all_mapped, with_field, doc_from, doc_of, accepted}
-use Rattle.index_world.specs.SplitFile.{value_spelled, counted, fields_spelled, placed_spelled, weight_of}
+use Rattle.index_world.specs.SplitFile.{value_spelled, counted, fields_spelled, weight_of}
 use Rattle.index_world.specs.declared.accepting.At.{At}
 use Rattle.index_world.specs.declared.accepting.At.TheVariants.{Absent, Text, Unfit}
 use Rattle.index_world.proofs.Placing.{guard_some, accepted_as, accepted-fields}
