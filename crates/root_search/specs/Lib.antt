@@ -1,3 +1,5 @@
 pub mod Requests
 pub mod Replies
 pub mod Steps
+pub mod Said
+pub mod Matching
