@@ -1,0 +1,4 @@
+pub mod Asked
+pub mod Commas
+pub mod Lines
+pub mod Runs

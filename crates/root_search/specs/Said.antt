@@ -1,5 +1,5 @@
 -- What the answers of the code are in the words of the model, and the lines of those that the model doesn't have.
-use Rattle.std.specs.Prelude.{ℕ, List, [], ◌∷◌, ◌++◌, Option, Some, None, option_map, decimal, codes}
+use Rattle.std.specs.Prelude.{ℕ, List, [], ◌∷◌, ◌++◌, Option, Some, None, option_map, codes}
 use Rattle.doc_value.specs.Printed.{quoted}
 use Rattle.index_world.specs.Calls.{store_fault, is_foreign, is_full}
 use Rattle.root_search.specs.declared.reply.Reply.{Reply as GivenReply}
