@@ -1,6 +1,7 @@
 -- The line of a reply of the code is that of the model's reply.
 use Rattle.std.proofs.Common.{◌≡◌, ℕ, List, Option, Some, None, refl, ap, ◌∙◌, option_map}
 use Rattle.index_world.specs.Calls.{store_fault, is_foreign, is_full}
+use Rattle.index_world.specs.Saying.{words}
 use Rattle.root_search.specs.declared.reply.Reply.{Reply as GivenReply}
 use Rattle.root_search.specs.declared.reply.ReplyRefusal.{ReplyRefusal}
 use Rattle.root_search.specs.declared.reply.ReplyRefusal.TheVariants as refusals
@@ -9,7 +10,7 @@ use Rattle.root_search.specs.declared.reply.Said.TheVariants as given
 use Rattle.root_search.specs.declared.outcome.SearchStep.{SearchStep as GivenStep}
 use Rattle.root_search.specs.declared.outcome.SearchStep.TheVariants as steps
 use Rattle.root_search.specs.Replies.{Refused, NotBuilt, Faulted, Said, Found, Refusal, Reply, refused_pairs, refusal_text, said_text, reply_text}
-use Rattle.root_search.specs.Said.{refused_of, said_of, reply_of, step_of, refusal_pairs, said_line, reply_line, step_line, words}
+use Rattle.root_search.specs.Said.{refused_of, said_of, reply_of, step_of, refusal_pairs, said_line, reply_line, step_line}
 use Rattle.root_search.specs.Steps.{SearchStep, Idle, Planned, Fetched, Replied, step_words}
 
 some-same : {A : Type 0} (x y : A) → Some x ≡ Some y → x ≡ y

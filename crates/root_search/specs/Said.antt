@@ -1,7 +1,8 @@
 -- What the answers of the code are in the words of the model, and the lines of those that the model doesn't have.
-use Rattle.std.specs.Prelude.{ℕ, List, [], ◌∷◌, ◌++◌, Option, Some, None, option_map, codes}
+use Rattle.std.specs.Prelude.{ℕ, List, [], ◌∷◌, Option, Some, None, option_map, codes}
 use Rattle.doc_value.specs.Printed.{quoted}
 use Rattle.index_world.specs.Calls.{store_fault, is_foreign, is_full}
+use Rattle.index_world.specs.Saying.{words}
 use Rattle.root_search.specs.declared.reply.Reply.{Reply as GivenReply}
 use Rattle.root_search.specs.declared.reply.ReplyRefusal.{ReplyRefusal}
 use Rattle.root_search.specs.declared.reply.ReplyRefusal.TheVariants as refusals
@@ -54,12 +55,6 @@ said_line client revision (given.Refused refusal) = refusal_text client revision
 -- the line of a reply of the code
 abbrev pub reply_line : GivenReply → List ℕ
 reply_line reply = said_line reply.client reply.revision reply.said
-
--- the words with one blank between
-abbrev pub words : List (List ℕ) → List ℕ
-words [] = []
-words (word ∷ []) = word
-words (word ∷ next ∷ more) = word ++ (32 ∷ words (next ∷ more))
 
 -- the words of a step of the code, or the line of its reply
 abbrev pub step_line : GivenStep → List ℕ
