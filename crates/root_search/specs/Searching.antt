@@ -6,6 +6,7 @@ use Rattle.meta_store.specs.History.{History, history}
 use Rattle.meta_store.specs.Ledgers.{ledger}
 use Rattle.source_log.specs.Log.{Log}
 use Rattle.split_states.specs.declared.rows.Row.{Row}
+use Rattle.index_world.specs.Calls.{Fault, Trouble, faulted, no_memory}
 use Rattle.index_world.specs.Core.{Core, IsUploadedIn}
 use Rattle.index_world.specs.Gate.{searched_rows, planned_row}
 use Rattle.index_world.specs.Seen.{contents, visible_at}
@@ -14,13 +15,15 @@ use Rattle.index_world.specs.World.{GoesOn}
 use Rattle.index_world.specs.declared.placed.Placed.{Placed}
 use Rattle.index_world.specs.declared.planning.PlanRow.{PlanRow}
 use Rattle.root_search.specs.declared.outcome.SearchStep.{SearchStep as GivenStep}
+use Rattle.root_search.specs.declared.reply.ReplyRefusal.{ReplyRefusal}
 use Rattle.root_search.specs.declared.searcher.Busy.{Busy}
 use Rattle.root_search.specs.declared.searcher.Planned.{Planned as GivenPlan}
 use Rattle.root_search.specs.declared.searcher.Request.{Request as GivenRequest}
 use Rattle.root_search.specs.declared.searcher.Request.TheVariants as given
 use Rattle.root_search.specs.declared.searcher.Searcher.{Searcher}
+use Rattle.root_search.specs.Replies.{Faulted}
 use Rattle.root_search.specs.Requests.{is_run}
-use Rattle.root_search.specs.Said.{step_of}
+use Rattle.root_search.specs.Said.{refused_of, step_of}
 use Rattle.root_search.specs.Steps.{Plan, Request, no_request, opened, planned, Client, Luck, SearchStep, Searched, without_request, step_client}
 
 -- ---- the rows of a plan, and what their files hold
@@ -38,10 +41,11 @@ documents_at revision core log row = contents (ledger (history_at revision core)
 abbrev pub file_at : ℕ → Core → Log → Row → List ℕ
 file_at revision core log row = split_file (documents_at revision core log row)
 
--- The planned rows' files stand, and hold together what is visible at the plan's revision.
+-- The planned rows' files stand, as long as the rows say, and hold together what is visible at the plan's revision.
 pub record AreInHand (revision : ℕ) (core : Core) (log : Log) : Type 0 where
   pub within : revision ≤ length core.history
   pub files : AllByRecursion (λ row. IsUploadedIn core row.number (file_at revision core log row)) (rows_at revision core)
+  pub sizes : AllByRecursion (λ row. row.facts.size ≡ length (file_at revision core log row)) (rows_at revision core)
   pub shown : IsPermutation (flat_map (documents_at revision core log) (rows_at revision core)) (visible_at revision core.history log)
 
 -- ---- a searcher and a client
@@ -114,3 +118,8 @@ pub record IsAtWork (searcher : Searcher) (client : Client) : Type 0 where
 pub record Ends (result : Result GivenStep AllocError) (new : Searcher) (step : Searched) (log : Log) : Type 0 where
   pub says : IsAnswer result step.outcome
   pub stands : SearcherStands new step.client step.core log
+
+-- a fault is refused as it is, and want of memory is the step's own
+abbrev pub IsRefusalOf : Result ReplyRefusal AllocError → Trouble → Type 0
+IsRefusalOf (Ok refusal) trouble = (fault : Fault) × (trouble ≡ faulted fault) × (refused_of refusal ≡ Some (Faulted fault))
+IsRefusalOf (Err e) trouble = trouble ≡ no_memory

@@ -8,9 +8,9 @@ ghost use Rattle.index_world.specs.Gate.{IsTrouble};
 ghost use Rattle.root_search.specs.Replies as spec;
 ghost use Rattle.root_search.specs.Requests.{word_asked};
 ghost use Rattle.root_search.specs.Said.{said_of};
-ghost use Rattle.root_search.specs.Searching.{IsPlanned, SearcherStands, new_client, Submits, SearchesAs, IsAtWork, Ends};
+ghost use Rattle.root_search.specs.Searching.{IsPlanned, SearcherStands, new_client, Submits, SearchesAs, IsAtWork, Ends, IsRefusalOf};
 ghost use Rattle.root_search.specs.Steps as steps;
-ghost use Rattle.root_search.specs.Steps.{opened, without_request, reply_with, trouble_replied};
+ghost use Rattle.root_search.specs.Steps.{opened, without_request, reply_with, trouble_replied, refusal_by};
 
 use crate::asking::word_asked;
 use crate::finding::find;
@@ -55,7 +55,9 @@ pub struct Searcher {
 }
 
 // What a request is answered where a call of the world gave nothing; want of memory is the step's own answer.
-fn refused_by(error: WorldError) -> Result<ReplyRefusal, AllocError> {
+fn refused_by(error: WorldError) -> Result<ReplyRefusal, AllocError>
+    ensures { (trouble : Trouble) → IsTrouble error trouble → IsRefusalOf result trouble }
+{
     match error {
         WorldError::Memory(refused) => Err(refused),
         WorldError::StoreFault { before, after } => Ok(ReplyRefusal::StoreFault { before, after }),
@@ -136,6 +138,15 @@ impl Searcher {
         Ok(self.reply(revision, Said::Refused(refusal)))
     }
 
+    // Where that plan fails too, the request is still refused as not built, over the last reply's revision.
+    fn refuse_unplanned(&mut self, error: WorldError) -> Result<SearchStep, AllocError>
+        ensures { (trouble : Trouble) (client : steps.Client) (core : Core) (log : Log) → IsTrouble error trouble → IsAtWork self.old client →
+            Ends result self.new (refusal_by client.front trouble client core) log }
+    {
+        let _fault = refused_by(error)?;
+        Ok(self.reply(self.front, Said::Refused(ReplyRefusal::NotBuilt)))
+    }
+
     // A request that is no search of a word is refused, over the revision of a plan of no rows.
     fn refuse_unbuilt<G: Gate>(
         &mut self,
@@ -146,12 +157,10 @@ impl Searcher {
             G.Stands gate.old core log → IsAtWork self.old client →
             SearchesAs G.Stands G.Between result self.new gate.new client core log }
     {
-        let revision = match gate.plan(alloc, Choice::Look) {
-            Ok(plan) => plan.revision,
-            Err(WorldError::Memory(refused)) => return Err(refused),
-            Err(_) => self.front,
-        };
-        Ok(self.reply(revision, Said::Refused(ReplyRefusal::NotBuilt)))
+        match gate.plan(alloc, Choice::Look) {
+            Ok(plan) => Ok(self.reply(plan.revision, Said::Refused(ReplyRefusal::NotBuilt))),
+            Err(error) => self.refuse_unplanned(error),
+        }
     }
 
     fn plan<G: Gate>(
@@ -194,8 +203,9 @@ impl Searcher {
             SearchesAs G.Stands G.Between result self.new gate.new client core log }
     {
         let place = planned.next;
-        let number = planned.plan.rows.at(place as usize).number;
-        match gate.fetch(alloc, &planned.plan, place, 0, u64::MAX) {
+        let row = planned.plan.rows.at(place as usize);
+        let (number, size) = (row.number, row.facts.size);
+        match gate.fetch(alloc, &planned.plan, place, 0, size) {
             Ok(piece) => {
                 planned.files.push((number, piece.bytes))?;
                 planned.next = place.saturating_add(1);
