@@ -1,7 +1,7 @@
 -- What is found in files is the answer over their documents.
-use Rattle.std.proofs.Common.{◌≡◌, ℕ, ◌+◌, Bool, true, false, cond, List, [], ◌∷◌, ◌++◌, map, filter, flat_map, length, take, refl, sym, ap, ap₂, ◌∙◌, subst, IsPermutation, IsSorted, append_assoc}
+use Rattle.std.proofs.Common.{◌≡◌, ℕ, zero, suc, ◌+◌, ◌<◌, ◌≤◌, get_or, arith, Bool, true, false, cond, List, [], ◌∷◌, ◌++◌, map, filter, flat_map, length, take, refl, sym, ap, ap₂, ◌∙◌, subst, IsPermutation, IsSorted, append_assoc}
 use Rattle.std.specs.List.{AllByRecursion}
-use Rattle.std.proofs.lemmas.List.{take-map, length-map, append-nil}
+use Rattle.std.proofs.lemmas.List.{take-map, take_more, take_all, length-map, append-nil, get_or-map}
 use Rattle.std.proofs.lemmas.List.Kept.{IsStrictlySortedBy-filter}
 use Rattle.std.proofs.lemmas.List.Elements.{filter-append, recursion_from_All, All-from_recursion}
 use Rattle.std.proofs.lemmas.List.Sorted.{IsPermutation-trans, IsPermutation-sym, All-permutation}
@@ -9,7 +9,7 @@ use Rattle.meta_store.proofs.Lists.{IsPermutation-filter}
 use Rattle.doc_value.specs.Printed.{printed_doc}
 use Rattle.doc_value.specs.declared.doc.DocField.{DocField}
 use Rattle.index_world.specs.Config.{logs_schema}
-use Rattle.index_world.specs.SplitFile.{IsPlaced}
+use Rattle.index_world.specs.SplitFile.{split_file, IsPlaced}
 use Rattle.index_world.specs.Words.{matches}
 use Rattle.index_world.specs.declared.placed.Placed.{Placed}
 use Rattle.root_search.specs.Finding.{place_order, all_of, has_word, AreHeld}
@@ -64,3 +64,34 @@ pub found_placed : (word : List ℕ) (files : List (ℕ × List ℕ)) (documents
 found_placed word files documents a =
     All-filter IsPlaced (has_word word) documents
     (recursion_from_All IsPlaced documents (All-permutation IsPlaced (all_of a.held) documents a.together (All-from_recursion IsPlaced (all_of a.held) (All-all_of a.held a.placed))))
+
+-- ---- one file after the other
+
+pub record IsHeldAt (word : List ℕ) (held : List (List Placed)) (i : ℕ) (bytes : List ℕ) : Type 0 where
+  pub list : List Placed
+  pub spelled : bytes ≡ split_file list
+  pub placed : AllByRecursion IsPlaced list
+  pub more : filter (has_word word) (all_of (take (i + 1) held)) ≡ filter (has_word word) (all_of (take i held)) ++ filter (has_word word) list
+
+all_at : (P : List Placed → Type 0) (lists : List (List Placed)) (i : ℕ) (d : List Placed) → i < length lists → AllByRecursion P lists → P (get_or lists i d)
+all_at P [] i d lt all = absurd (omega arith)
+all_at P (list ∷ lists) zero d lt all = all.0
+all_at P (list ∷ lists) (suc i) d lt all = all_at P lists i d (omega (arith, lt)) all.1
+
+pub held_at : (word : List ℕ) (files : List (ℕ × List ℕ)) (documents : List Placed) (a : AreHeld files documents) (i : ℕ) (file : ℕ × List ℕ) → i < length files → file ≡ get_or files i file →
+    IsHeldAt word a.held i file.1
+held_at word files documents a i file lt is =
+    record {
+      list = get_or a.held i [];
+      spelled = ap (λ (f : ℕ × List ℕ). f.1) is ∙ (sym (get_or-map (λ (f : ℕ × List ℕ). f.1) files i file [] lt) ∙ (ap (λ l. get_or l i []) a.files_are ∙ get_or-map split_file a.held i [] [] there));
+      placed = all_at (AllByRecursion IsPlaced) a.held i [] there a.placed;
+      more = ap (λ l. filter (has_word word) (all_of l)) (take_more a.held i [] there) ∙ found_more word (take i a.held) (get_or a.held i []);
+    }
+  where
+    there : i < length a.held
+    there = omega (arith, lt, ap length a.files_are, length-map files (λ (f : ℕ × List ℕ). f.1), length-map a.held split_file)
+
+-- behind the last one
+pub held_all : (word : List ℕ) (files : List (ℕ × List ℕ)) (documents : List Placed) (a : AreHeld files documents) (i : ℕ) → length files ≤ i → filter (has_word word) (all_of (take i a.held)) ≡ filter (has_word word) (all_of a.held)
+held_all word files documents a i le =
+    ap (λ l. filter (has_word word) (all_of l)) (take_all i a.held (omega (arith, le, ap length a.files_are, length-map files (λ (f : ℕ × List ℕ). f.1), length-map a.held split_file)))

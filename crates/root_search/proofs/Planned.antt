@@ -145,3 +145,14 @@ fetch_ends searcher client held more plan core after log number size piece p nex
 
     taken : take more.next list ≡ take held.next list ++ next.row ∷ []
     taken = ap (λ n. take n list) further ∙ (take_more list held.next next.row there ∙ ap (λ r. take held.next list ++ r ∷ []) (get_or_from_slice_get list held.next next.row next.row next.stands))
+
+-- ---- the last row is fetched
+
+drop_past : {A : Type 0} (xs : List A) (n : ℕ) → length xs ≤ n → drop n xs ≡ []
+drop_past [] zero le = refl
+drop_past [] (suc n) le = refl
+drop_past (x ∷ xs) zero le = absurd (omega arith)
+drop_past (x ∷ xs) (suc n) le = drop_past xs n (omega (arith, le))
+
+pub all_fetched : (held : GivenPlan) (plan : Plan) (core : Core) (log : Log) → IsPlanned held plan core log → length held.plan.rows ≤ held.next → plan.unfetched ≡ []
+all_fetched held plan core log p over = p.unfetched ∙ ap (map (λ (r : PlanRow). r.number)) (drop_past held.plan.rows held.next over)

@@ -92,7 +92,8 @@ fn first_hits(alloc: Global, found: &[Placed]) -> Result<Hits, AllocError>
         IfOk result (λ hits. hits.list.items ≡ map (λ placed. printed_doc logs_schema placed.doc) (take default_hits found.now)) }
 {
     let mut list = Vec::new(alloc);
-    for placed in found.iter().take(MAX_HITS) {
+    let first = &found[..found.len().min(MAX_HITS)];
+    for placed in first {
         list.push(print_doc(alloc, &placed.doc)?)?;
     }
     Ok(Hits { list })

@@ -1,14 +1,7 @@
-use Rattle.std.proofs.Common.{◌≡◌, ◌∷◌, ℕ, List, true, map, take, Some, IfOk, MatchResult, ◌+◌, ◌-◌, ◌*◌, ◌<◌, ◌≤◌, length}
-use Rattle.std.specs.List.{AllByRecursion}
-use Rattle.doc_value.specs.Printed.{printed_doc}
-use Rattle.index_world.specs.Config.{logs_schema}
-use Rattle.index_world.specs.SplitFile.{split_file, IsPlaced}
-use Rattle.index_world.specs.declared.placed.Placed as documents
-use Rattle.root_search.specs.Finding.{place_order, AreHeld, IsSplitMemory, FindsIn, FindsAll}
-use Rattle.root_search.specs.Replies.{answer, default_hits}
+use Rattle.std.proofs.Common.{◌≡◌, ◌++◌, true, filter}
+use Rattle.root_search.specs.Finding.{has_word}
 use Rattle.root_search.specs.Requests.{is_run}
-use Rattle.root_search.specs.Said.{said_of}
 use Rattle.root_search.proofs.finding.find_in.Given as goal
 
 abbrev pub invariant-loop-placed : goal.invariant-loop-placed
-invariant-loop-placed l = ?
+invariant-loop-placed l = is_run l.word ≡ true → l.found.items ≡ l.fn.found.items ++ filter (has_word l.word) l.yielded
