@@ -1,3 +1,7 @@
+pub mod Asked
+pub mod Commas
+pub mod Lines
+pub mod Runs
 pub mod Orders
 pub mod Records
 pub mod Rows
