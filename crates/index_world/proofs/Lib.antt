@@ -1,3 +1,7 @@
+pub mod Accepts
+pub mod Said
+pub mod SplitNames
+pub mod SplitFacts
 pub mod StoreKeys
 pub mod Journals
 pub mod Numbers

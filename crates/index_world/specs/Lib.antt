@@ -1,5 +1,6 @@
 pub mod Config
 pub mod Accepted
+pub mod Accepting
 pub mod Tokens
 pub mod Words
 pub mod Seen
@@ -14,3 +15,4 @@ pub mod Held
 pub mod Onward
 pub mod Owning
 pub mod PlaceMade
+pub mod Saying
