@@ -3,8 +3,8 @@ use Rattle.std.proofs.Common.{◌≡◌, ℕ, zero, suc, ◌+◌, ◌<◌, ◌�
 use Rattle.std.specs.List.{AllByRecursion}
 use Rattle.std.proofs.lemmas.List.{take-map, take_more, take_all, length-map, append-nil, get_or-map}
 use Rattle.std.proofs.lemmas.List.Kept.{IsStrictlySortedBy-filter}
-use Rattle.std.proofs.lemmas.List.Elements.{filter-append, recursion_from_All, All-from_recursion}
-use Rattle.std.proofs.lemmas.List.Sorted.{IsPermutation-trans, IsPermutation-sym, All-permutation}
+use Rattle.std.proofs.lemmas.List.Elements.{filter-append}
+use Rattle.std.proofs.lemmas.List.Sorted.{IsPermutation-trans, IsPermutation-sym}
 use Rattle.meta_store.proofs.Lists.{IsPermutation-filter}
 use Rattle.doc_value.specs.Printed.{printed_doc}
 use Rattle.doc_value.specs.declared.doc.DocField.{DocField}
@@ -14,14 +14,14 @@ use Rattle.index_world.specs.Words.{matches}
 use Rattle.index_world.specs.declared.placed.Placed.{Placed}
 use Rattle.root_search.specs.Finding.{place_order, all_of, has_word, AreHeld}
 use Rattle.root_search.specs.Replies.{Said, Found, answer, matching, default_hits}
-use Rattle.root_search.proofs.Orders.{sorted_unique, All-filter}
-use Rattle.root_search.proofs.Records.{All-append, place_order_total}
+use Rattle.root_search.proofs.Orders.{sorted_unique}
+use Rattle.root_search.proofs.Records.{place_order_total}
 
 matching_is : (word : List ℕ) (documents : List Placed) → map (λ placed. placed.doc) (filter (has_word word) documents) ≡ matching word documents
 matching_is word [] = refl
 matching_is word (placed ∷ documents) =
     elim (matches word placed.doc) as (λ b. map (λ p. p.doc) (cond b (placed ∷ filter (has_word word) documents) (filter (has_word word) documents))
-        ≡ cond b (placed.doc ∷ matching word documents) (matching word documents)) [
+    ≡ cond b (placed.doc ∷ matching word documents) (matching word documents)) [
       | true ↦ ap (λ l. placed.doc ∷ l) (matching_is word documents)
       | false ↦ matching_is word documents
     ]
@@ -36,7 +36,7 @@ answer_is word documents found e =
     let docs : map (λ placed. placed.doc) found ≡ matching word documents = ap (map (λ (placed : Placed). placed.doc)) e ∙ matching_is word documents in
     let count : length found ≡ length (matching word documents) = sym (length-map found (λ (placed : Placed). placed.doc)) ∙ ap length docs in
     let hits : map (λ placed. printed_doc logs_schema placed.doc) (take default_hits found) ≡ map (printed_doc logs_schema) (take default_hits (matching word documents)) =
-        printed_docs (take default_hits found) ∙ ap (map (printed_doc logs_schema)) (sym (take-map (λ (placed : Placed). placed.doc) default_hits found) ∙ ap (take default_hits) docs) in
+    printed_docs (take default_hits found) ∙ ap (map (printed_doc logs_schema)) (sym (take-map (λ (placed : Placed). placed.doc) default_hits found) ∙ ap (take default_hits) docs) in
     ap₂ Found count hits
 
 -- the documents that some files hold, each file's with the word
@@ -54,16 +54,6 @@ pub found_in_order : (word : List ℕ) (files : List (ℕ × List ℕ)) (documen
 found_in_order word files documents found sorted a e moved up =
     sorted_unique place_order place_order_total (filter (has_word word) documents) sorted (IsStrictlySortedBy-filter place_order (has_word word) documents a.in_order)
     (IsPermutation-trans _ _ _ (IsPermutation-sym _ _ (subst (λ l. IsPermutation l (filter (has_word word) documents)) (sym e) (IsPermutation-filter (has_word word) _ _ a.together))) moved) up
-
-All-all_of : (lists : List (List Placed)) → AllByRecursion (AllByRecursion IsPlaced) lists → AllByRecursion IsPlaced (all_of lists)
-All-all_of [] h = tt
-All-all_of (list ∷ lists) h = All-append IsPlaced list (all_of lists) h.0 (All-all_of lists h.1)
-
--- what is found is placed
-pub found_placed : (word : List ℕ) (files : List (ℕ × List ℕ)) (documents : List Placed) → (a : AreHeld files documents) → AllByRecursion IsPlaced (filter (has_word word) documents)
-found_placed word files documents a =
-    All-filter IsPlaced (has_word word) documents
-    (recursion_from_All IsPlaced documents (All-permutation IsPlaced (all_of a.held) documents a.together (All-from_recursion IsPlaced (all_of a.held) (All-all_of a.held a.placed))))
 
 -- ---- one file after the other
 

@@ -21,7 +21,7 @@ use Rattle.source_checkpoint.specs.Names.{IsPartition}
 use Rattle.source_log.specs.declared.memory.PartitionLog.{PartitionLog}
 use Rattle.source_log.specs.Log.{Log, IsLog, IsGoodPart, names_of}
 use Rattle.delete_tasks.specs.Ledger.{Ledger}
-use Rattle.index_world.specs.Accepted.{At, absent, text, unfit, text_in, with_field, doc_from, doc_of, shallow, accepted, fields, all_mapped, is_ascii_byte, max_record, max_levels}
+use Rattle.index_world.specs.Accepted.{text_in, with_field, doc_from, doc_of, shallow, accepted, fields, all_mapped, is_ascii_byte, max_record, max_levels}
 use Rattle.index_world.specs.Seen.{onto, accepted_from, accepted_records, visible, meaning}
 use Rattle.index_world.specs.SplitFile.{AreFields, IsPlaced}
 use Rattle.index_world.specs.declared.placed.Placed.{Placed}
@@ -40,30 +40,24 @@ is_ascii [] h i = omega arith
 is_ascii (c ∷ s) h zero = let le : c ≤ 127 = leb-true c 127 (and_parts (is_ascii_byte c) (list_all is_ascii_byte s) h).0 in omega (arith, le)
 is_ascii (c ∷ s) h (suc i) = is_ascii s (and_parts (is_ascii_byte c) (list_all is_ascii_byte s) h).1 i
 
-text_is : (o : Option Data) (s : List ℕ) → text_in o ≡ text s → IsUtf8 s
-text_is None s e = cc
-text_is (Some null) s e = cc
-text_is (Some (boolean b)) s e = cc
-text_is (Some (number n)) s e = cc
-text_is (Some (array items)) s e = cc
-text_is (Some (object ms)) s e = cc
-text_is (Some (string t)) s e = by (list_all is_ascii_byte t) refl
-  where
-    by : (b : Bool) → list_all is_ascii_byte t ≡ b → IsUtf8 s
-    by true eb = let same : text t ≡ text s = rw eb at e in let here : t ≡ s = cc in subst IsUtf8 here (IsUtf8-from_ascii t (is_ascii t eb))
-    by false eb = let same : unfit ≡ text s = rw eb at e in absurd cc
+with_text : (n : ℕ) (s : List ℕ) (rest : Option (List DocField)) (doc : List DocField) → n < 2 → IsUtf8 s → ((more : List DocField) → rest ≡ Some more → AreFields (suc n) more) →
+    option_map (λ doc. record { number = n; values = Text s ∷ [] } ∷ doc) rest ≡ Some doc → AreFields n doc
+with_text n s None doc low u h e = absurd (none-some doc e)
+with_text n s (Some more) doc low u h e = subst (AreFields n) (same_Some _ _ e) (omega arith, low, (s, refl, u), h more refl)
 
-put : (n : ℕ) (s : List ℕ) (rest : Option (List DocField)) (doc : List DocField) → n < 2 → IsUtf8 s → ((more : List DocField) → rest ≡ Some more → AreFields (suc n) more) → with_field n (text s) rest ≡ Some doc → AreFields n doc
-put n s None doc low u h e = absurd (none-some doc e)
-put n s (Some more) doc low u h e = subst (AreFields n) (same_Some _ _ e) (omega arith, low, (s, refl, u), h more refl)
-
-field_from : (n : ℕ) (o : Option Data) (rest : Option (List DocField)) (doc : List DocField) → n < 2 → ((more : List DocField) → rest ≡ Some more → AreFields (suc n) more) → with_field n (text_in o) rest ≡ Some doc → AreFields n doc
-field_from n o rest doc low h e = by (text_in o) refl e
+field_from : (n : ℕ) (o : Option Data) (rest : Option (List DocField)) (doc : List DocField) → n < 2 → ((more : List DocField) → rest ≡ Some more → AreFields (suc n) more) →
+    with_field n (text_in o) rest ≡ Some doc → AreFields n doc
+field_from n None rest doc low h e = AreFields-from doc n (suc n) (omega arith) (h doc e)
+field_from n (Some null) rest doc low h e = AreFields-from doc n (suc n) (omega arith) (h doc e)
+field_from n (Some (boolean b)) rest doc low h e = absurd (none-some doc e)
+field_from n (Some (number m)) rest doc low h e = absurd (none-some doc e)
+field_from n (Some (array items)) rest doc low h e = absurd (none-some doc e)
+field_from n (Some (object ms)) rest doc low h e = absurd (none-some doc e)
+field_from n (Some (string s)) rest doc low h e = by (list_all is_ascii_byte s) refl
   where
-    by : (at : At) → text_in o ≡ at → with_field n at rest ≡ Some doc → AreFields n doc
-    by absent ea f = AreFields-from doc n (suc n) (omega arith) (h doc f)
-    by unfit ea f = absurd (none-some doc f)
-    by (text s) ea f = put n s rest doc low (text_is o s ea) h f
+    by : (b : Bool) → list_all is_ascii_byte s ≡ b → AreFields n doc
+    by true eb = let given = rw eb at e in with_text n s rest doc low (IsUtf8-from_ascii s (is_ascii s eb)) h given
+    by false eb = let given = rw eb at e in absurd (none-some doc given)
 
 fields_from : (n : ℕ) (paths : List (List ℕ)) (ms : Members) (doc : List DocField) → doc_from n paths ms ≡ Some doc → n + length paths ≤ 2 → AreFields n doc
 fields_from n [] ms doc e le = let same : [] ≡ doc = same_Some _ _ e in subst (AreFields n) same tt

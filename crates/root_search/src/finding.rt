@@ -88,8 +88,7 @@ fn find_in(
 
 // The first documents in the order of their places, each as it is printed.
 fn first_hits(alloc: Global, found: &[Placed]) -> Result<Hits, AllocError>
-    ensures { AllByRecursion IsPlaced found.now →
-        IfOk result (λ hits. hits.list.items ≡ map (λ placed. printed_doc logs_schema placed.doc) (take default_hits found.now)) }
+    ensures { IfOk result (λ hits. hits.list.items ≡ map (λ placed. printed_doc logs_schema placed.doc) (take default_hits found.now)) }
 {
     let mut list = Vec::new(alloc);
     let first = &found[..found.len().min(MAX_HITS)];

@@ -1,9 +1,7 @@
 use Rattle.std.proofs.Common.{◌≡◌, map, take}
-use Rattle.std.specs.List.{AllByRecursion}
 use Rattle.doc_value.specs.Printed.{printed_doc}
 use Rattle.index_world.specs.Config.{logs_schema}
-use Rattle.index_world.specs.SplitFile.{IsPlaced}
 use Rattle.root_search.proofs.finding.first_hits.Given as goal
 
 abbrev pub invariant-loop-placed : goal.invariant-loop-placed
-invariant-loop-placed l = AllByRecursion IsPlaced l.found → l.list.items ≡ map (λ placed. printed_doc logs_schema placed.doc) (take l.placed-index l.first)
+invariant-loop-placed l = l.list.items ≡ map (λ placed. printed_doc logs_schema placed.doc) (take l.placed-index l.first)

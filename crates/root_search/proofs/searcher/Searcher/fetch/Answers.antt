@@ -37,7 +37,7 @@ returns-in_ok-push-in-Ok g c plan client core log asked planned stands w =
           record plan { unfetched = map (λ (r : PlanRow). r.number) (drop (c.args.planned.next + 1) c.args.planned.plan.rows) },
           refl,
           fetch_ends c.args.self.now client c.args.planned _ plan core d.after log row.number row.facts.size c.in-Ok.piece planned next d.goes_on s.1 refl refl
-          (omega (arith, c.saturating_add.ensures, c.requires, few)) c.in_ok-push-in-Ok.ensures.items w,
+              (omega (arith, c.saturating_add.ensures, c.requires, few)) c.in_ok-push-in-Ok.ensures.items w,
         );
       };
     })

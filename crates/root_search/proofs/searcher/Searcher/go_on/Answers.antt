@@ -24,7 +24,7 @@ returns g c plan client core log good asked planned stands w =
     let run : is_run c.as_slice.result.now ≡ true = subst (λ (s : List ℕ). is_run s ≡ true) (sym word) planned.asked in
     let held = subst (λ (files : List (ℕ × List ℕ)). AreHeld files (visible_at plan.revision core.history log)) (sym c.as_slice-2.ensures.value) (all_held c.args.planned plan core log good planned over) in
     let said : said_of c.in_ok-said.said ≡ Some (answer_of plan log core) =
-        subst (λ (s : List ℕ). said_of c.in_ok-said.said ≡ Some (answer s (visible_at plan.revision core.history log))) word
-        (c.in_ok-said.ensures (visible_at plan.revision core.history log) run held) in
+    subst (λ (s : List ℕ). said_of c.in_ok-said.said ≡ Some (answer s (visible_at plan.revision core.history log))) word
+    (c.in_ok-said.ensures (visible_at plan.revision core.history log) run held) in
     answered_as g.G.Gate.Stands g.G.Gate.Between _ _ _ client core log plan false (g.met.G.Gate.none_between core) stands asked (all_fetched c.args.planned plan core log planned over)
     (subst (λ r. Ends (Ok c.reply.result) c.reply.new.self (reply_with r (answer_of plan log core) client core) log) planned.revision (c.reply.ensures (answer_of plan log core) client core log said w))
