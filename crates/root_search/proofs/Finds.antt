@@ -1,5 +1,5 @@
 -- What is found in files is the answer over their documents.
-use Rattle.std.proofs.Common.{◌≡◌, ℕ, zero, suc, ◌+◌, ◌<◌, ◌≤◌, get_or, arith, Bool, true, false, cond, List, [], ◌∷◌, ◌++◌, map, filter, flat_map, length, take, refl, sym, ap, ap₂, ◌∙◌, subst, IsPermutation, IsSorted, append_assoc}
+use Rattle.std.proofs.Common.{◌≡◌, ℕ, zero, suc, ◌+◌, ◌<◌, ◌≤◌, get_or, arith, true, false, cond, List, [], ◌∷◌, ◌++◌, map, filter, length, take, refl, sym, ap, ap₂, ◌∙◌, subst, IsPermutation, IsSorted, append_assoc}
 use Rattle.std.specs.List.{AllByRecursion}
 use Rattle.std.proofs.lemmas.List.{take-map, take_more, take_all, length-map, append-nil, get_or-map}
 use Rattle.std.proofs.lemmas.List.Kept.{IsStrictlySortedBy-filter}
@@ -7,13 +7,12 @@ use Rattle.std.proofs.lemmas.List.Elements.{filter-append}
 use Rattle.std.proofs.lemmas.List.Sorted.{IsPermutation-trans, IsPermutation-sym}
 use Rattle.meta_store.proofs.Lists.{IsPermutation-filter}
 use Rattle.doc_value.specs.Printed.{printed_doc}
-use Rattle.doc_value.specs.declared.doc.DocField.{DocField}
 use Rattle.index_world.specs.Config.{logs_schema}
 use Rattle.index_world.specs.SplitFile.{split_file, IsPlaced}
 use Rattle.index_world.specs.Words.{matches}
 use Rattle.index_world.specs.declared.placed.Placed.{Placed}
 use Rattle.root_search.specs.Finding.{place_order, all_of, has_word, AreHeld}
-use Rattle.root_search.specs.Replies.{Said, Found, answer, matching, default_hits}
+use Rattle.root_search.specs.Replies.{Found, answer, matching, default_hits}
 use Rattle.root_search.proofs.Orders.{sorted_unique}
 use Rattle.root_search.proofs.Records.{place_order_total}
 

@@ -1,10 +1,7 @@
 -- A held that is planned, and one more of its files.
-use Rattle.std.proofs.Common.{◌≡◌, ℕ, zero, suc, ◌+◌, ◌<◌, ◌≤◌, ◌^◌, ◌-◌, true, List, [], ◌∷◌, ◌++◌, map, length, take, drop, get_or, refl, sym, ap, ap₂, ◌∙◌, subst, arith, Option, Some, None, Result, Ok, Err, slice_get, option_map, add-one, drop-cons}
-use Rattle.std.specs.Prelude.{⊤}
-use Rattle.std.specs.List.{AllByRecursion}
-use Rattle.std.proofs.lemmas.List.{take_all, take_more, length-map, length-take, map-append, length-drop}
-use Rattle.std.proofs.lemmas.Option.{slice_get-map, slice_get_within, get_or_from_slice_get, same_Some}
-use Rattle.meta_journal.specs.declared.entry.Entry.{Entry}
+use Rattle.std.proofs.Common.{◌≡◌, ℕ, zero, suc, ◌+◌, ◌<◌, ◌≤◌, true, List, [], ◌∷◌, ◌++◌, map, length, take, drop, refl, sym, ap, ap₂, ◌∙◌, subst, arith, Option, Some, None, Ok, slice_get, option_map, add-one, drop-cons}
+use Rattle.std.proofs.lemmas.List.{take_all, take_more, length-map, map-append}
+use Rattle.std.proofs.lemmas.Option.{slice_get-map, slice_get_within, get_or_from_slice_get}
 use Rattle.meta_store.specs.History.{history}
 use Rattle.object_store.specs.Store.{IsPieceOf}
 use Rattle.object_store.specs.declared.store.Piece.{Piece}
@@ -22,7 +19,7 @@ use Rattle.root_search.specs.declared.searcher.Request.TheVariants as given
 use Rattle.root_search.specs.declared.searcher.Searcher.{Searcher}
 use Rattle.root_search.specs.Requests.{is_run}
 use Rattle.root_search.specs.Searching.{rows_at, file_at, IsPlanned, IsAtWork, Ends}
-use Rattle.root_search.specs.Steps.{Plan, Planned, SearchStep, Client, planned_numbers, with_plan, planned}
+use Rattle.root_search.specs.Steps.{Plan, Planned, Client, planned_numbers, with_plan}
 use Rattle.root_search.proofs.Rows.{searched_few}
 use Rattle.root_search.proofs.Stands.{rows_of, planned_goes_on, sound_in_hand}
 
@@ -107,11 +104,11 @@ next_row held plan core log row p found =
 whole_piece : (bytes : List ℕ) (len : ℕ) (piece : Piece) → IsPieceOf bytes 0 len piece → len ≡ length bytes → piece.bytes ≡ bytes
 whole_piece bytes len piece p long = p.bytes_are ∙ take_all len bytes (omega (arith, long))
 
-pub fetch_ends : (searcher : Searcher) (client : Client) (held more : GivenPlan) (plan : Plan) (core after : Core) (log : Log) (number size : ℕ) (piece : Piece) → IsPlanned held plan core log → (next : IsNext held plan core log number size) →
+pub one_more : (held more : GivenPlan) (plan : Plan) (core after : Core) (log : Log) (number size : ℕ) (piece : Piece) → IsPlanned held plan core log → (next : IsNext held plan core log number size) →
     GoesOn None core after → IsPieceOf (file_at plan.revision core log next.row) 0 size piece → more.word ≡ held.word → more.plan ≡ held.plan → more.next ≡ held.next + 1 →
-    more.files.items ≡ held.files.items ++ (number, piece.bytes) ∷ [] → IsAtWork searcher client →
+    more.files.items ≡ held.files.items ++ (number, piece.bytes) ∷ [] →
     IsPlanned more (record plan { unfetched = map (λ (r : PlanRow). r.number) (drop (held.next + 1) held.plan.rows) }) after log
-fetch_ends searcher client held more plan core after log number size piece p next on piece_is word same further files w =
+one_more held more plan core after log number size piece p next on piece_is word same further files =
     planned_goes_on None more later core after log on
     (record {
       word = word ∙ p.word;

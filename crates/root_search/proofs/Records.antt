@@ -1,33 +1,30 @@
 -- The accepted records of a log are documents at their places, in their order.
-use Rattle.std.proofs.Common.{◌≡◌, ℕ, zero, suc, ◌+◌, ◌<◌, ◌≤◌, ◌^◌, Bool, true, false, cond, ◌&&◌, List, [], ◌∷◌, ◌++◌, map, filter, flat_map, length, refl, sym, ap, ◌∙◌, subst, arith, Ordering, Less, Equal, Greater, Option, Some, None, option_map, option_and_then, lt-ltb, leb-true, slice_index, IsUtf8, IsAscii}
+use Rattle.std.proofs.Common.{◌≡◌, ℕ, zero, suc, ◌+◌, ◌<◌, ◌≤◌, ◌^◌, Bool, true, false, cond, List, [], ◌∷◌, ◌++◌, length, refl, sym, subst, arith, Less, Option, Some, None, option_map, option_and_then, lt-ltb, leb-true, slice_index, IsUtf8}
 use Rattle.std.specs.List.{AllByRecursion, list_all}
 use Rattle.std.specs.List.Sorted.{IsStrictlySortedBy}
-use Rattle.std.specs.Ordering.{nat_cmp, ordering_then}
+use Rattle.std.specs.Ordering.{nat_cmp}
 use Rattle.std.specs.Cmp.{IsTotalOrder}
 use Rattle.std.specs.Cmp.Lexicographic.{slice_cmp}
 use Rattle.std.proofs.lemmas.Bool.{and_parts}
 use Rattle.std.proofs.lemmas.Cmp.{tied_itself, nat_list_cmp_total, nat_cmp_total, on_total, then_total}
 use Rattle.std.proofs.lemmas.List.Kept.{IsStrictlySortedBy-filter}
 use Rattle.std.proofs.lemmas.Map.Keys.{sorted_head, sorted_tail}
-use Rattle.std.proofs.lemmas.Option.{option_and_then_some, none-some, same_Some, cond_some}
+use Rattle.std.proofs.lemmas.Option.{option_and_then_some, none-some, same_Some}
 use Rattle.std.proofs.lemmas.Str.{IsUtf8-from_ascii}
 use Rattle.doc_value.specs.declared.doc.DocField.{DocField}
-use Rattle.doc_value.specs.declared.doc.Value.{Value}
 use Rattle.doc_value.specs.declared.doc.Value.TheVariants.{Text}
 use Rattle.serde_json.specs.Data.{Data, null, boolean, number, string, array, object, Members}
 use Rattle.serde_json.specs.Find.{get_member}
 use Rattle.serde_json.specs.Read.{read}
 use Rattle.source_checkpoint.specs.Names.{IsPartition}
-use Rattle.source_log.specs.declared.memory.PartitionLog.{PartitionLog}
 use Rattle.source_log.specs.Log.{Log, IsLog, IsGoodPart, names_of}
 use Rattle.delete_tasks.specs.Ledger.{Ledger}
-use Rattle.index_world.specs.Accepted.{text_in, with_field, doc_from, doc_of, shallow, accepted, fields, all_mapped, is_ascii_byte, max_record, max_levels}
-use Rattle.index_world.specs.Seen.{onto, accepted_from, accepted_records, visible, meaning}
+use Rattle.index_world.specs.Accepted.{text_in, with_field, doc_from, doc_of, shallow, accepted, fields, all_mapped, is_ascii_byte}
+use Rattle.index_world.specs.Seen.{onto, accepted_from, accepted_records, visible}
 use Rattle.index_world.specs.SplitFile.{AreFields, IsPlaced}
 use Rattle.index_world.specs.declared.placed.Placed.{Placed}
 use Rattle.index_world.proofs.StoreChanges.{All-each}
 use Rattle.root_search.specs.Finding.{place_order}
-use Rattle.root_search.proofs.Orders.{All-filter}
 
 -- ---- a document that is accepted
 

@@ -1,11 +1,9 @@
 -- What the files of the searched rows hold, behind a core of a sound index.
-use Rattle.std.proofs.Common.{◌≡◌, ◌⊎◌, inl, inr, ℕ, zero, suc, ◌+◌, ◌<◌, ◌≤◌, ◌^◌, ◌||◌, ◌==◌, Bool, true, false, not, cond, List, [], ◌∷◌, ◌++◌, map, filter, flat_map, fold, length, take, refl, sym, ap, ap₂, ◌∙◌, subst, arith, Option, Some, None, nat_lt, IsPermutation, eq-eqb, ltb-false}
+use Rattle.std.proofs.Common.{◌≡◌, ℕ, suc, ◌<◌, ◌≤◌, ◌^◌, ◌||◌, ◌==◌, Bool, true, false, cond, List, [], ◌∷◌, ◌++◌, filter, flat_map, fold, length, refl, sym, ap, ◌∙◌, subst, arith, Option, Some, None, nat_lt, IsPermutation, eq-eqb, ltb-false}
 use Rattle.std.specs.List.{AllByRecursion, list_any}
 use Rattle.std.proofs.lemmas.Bool.{eqb-true}
 use Rattle.std.proofs.lemmas.List.{length-append}
 use Rattle.std.proofs.lemmas.List.Folds.{list_any-append}
-use Rattle.std.specs.FinMap.{get}
-use Rattle.delete_tasks.specs.Ledger.{Ledger}
 use Rattle.delete_tasks.specs.declared.tasks.Task.{Task as KeptTask}
 use Rattle.meta_journal.specs.Places.{split_key}
 use Rattle.meta_journal.specs.declared.entry.Act.{Act}
@@ -14,9 +12,8 @@ use Rattle.meta_journal.specs.declared.entry.Entry.{Entry}
 use Rattle.meta_store.proofs.RowLists.{AllOf-front}
 use Rattle.meta_store.proofs.Seen.{published_is_visible}
 use Rattle.meta_store.proofs.Sound.{sound}
-use Rattle.meta_store.specs.Contents as by
 use Rattle.meta_store.specs.Contents.{published_rows}
-use Rattle.meta_store.specs.History.{History, history, last_number, staged_numbers, published_numbers}
+use Rattle.meta_store.specs.History.{History, history, staged_numbers, published_numbers}
 use Rattle.meta_store.specs.History.History.{Start, ◌▸◌}
 use Rattle.meta_store.specs.Ledgers.{ledger}
 use Rattle.meta_store.specs.Rows.{rows}
@@ -33,7 +30,7 @@ use Rattle.split_states.specs.Rows.{is_published, published, change}
 use Rattle.index_world.specs.Config.{reads}
 use Rattle.index_world.specs.Core.{Core, with_unread, journal_of, IsUploadedIn}
 use Rattle.index_world.specs.Gate.{searched_rows}
-use Rattle.index_world.specs.Index.{IsBuilt, IsRowKept, IsRowSound, IsLateKey, IsNotLate, Stands, is_split, has_staged, was_published, max_entries}
+use Rattle.index_world.specs.Index.{IsBuilt, IsRowKept, IsRowSound, IsLateKey, Stands, is_split, has_staged, was_published}
 use Rattle.index_world.specs.Seen.{contents, meaning, accepted_records, visible}
 use Rattle.index_world.specs.SplitFile.{split_file, IsPlaced}
 use Rattle.index_world.specs.World.{IsWorld}
@@ -42,7 +39,7 @@ use Rattle.index_world.proofs.InCore.{uploaded-in}
 use Rattle.index_world.proofs.Indexing.{last_within}
 use Rattle.index_world.proofs.Numbers.{history-snoc, staged_le}
 use Rattle.index_world.proofs.StoreChanges.{All-snoc, All-each, staged_more}
-use Rattle.index_world.proofs.StoreKeys.{split_key-injective, split_begins, split_outside, true_is_false}
+use Rattle.index_world.proofs.StoreKeys.{split_key-injective, split_begins, true_is_false}
 use Rattle.root_search.proofs.Orders.{All-filter}
 use Rattle.root_search.proofs.Records.{All-append}
 
@@ -219,9 +216,6 @@ pub record AreSearched (core : Core) (log : Log) (h : History) : Type 0 where
   pub shown : IsPermutation (flat_map (λ row. contents (ledger h).tasks row log) (searched_rows h)) (visible (ledger h) log)
 
 module _ (kept : State) (core : Core) (log : Log) (w : IsWorld kept core log) where
-  entries : List Entry
-  entries = journal_of core
-
   number_low : (n : ℕ) → has_staged (journal_of core) n ≡ true → n < 10 ^ 20
   number_low n h =
       let low = staged_le (history (journal_of core)) n h in

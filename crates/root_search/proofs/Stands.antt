@@ -1,7 +1,6 @@
 -- A searcher goes on to stand for its client, and the files that it fetched hold what is visible.
-use Rattle.std.proofs.Common.{◌≡◌, ℕ, ◌+◌, ◌<◌, ◌≤◌, List, [], ◌∷◌, ◌++◌, map, flat_map, length, take, drop, refl, sym, ap, ◌∙◌, subst, arith, Option, Some, None, IsPermutation}
+use Rattle.std.proofs.Common.{◌≡◌, ℕ, ◌≤◌, List, [], ◌∷◌, ◌++◌, map, flat_map, length, take, refl, sym, ap, ◌∙◌, subst, arith, Option, IsPermutation}
 use Rattle.std.specs.List.{AllByRecursion}
-use Rattle.std.specs.List.Sorted.{IsStrictlySortedBy}
 use Rattle.std.proofs.lemmas.List.{take-append-le, take_all, length-append, length-map}
 use Rattle.meta_journal.specs.declared.entry.Entry.{Entry}
 use Rattle.meta_store.specs.History.{history}
@@ -19,9 +18,9 @@ use Rattle.root_search.specs.declared.searcher.Planned.{Planned as GivenPlan}
 use Rattle.root_search.specs.declared.searcher.Request.{Request as GivenRequest}
 use Rattle.root_search.specs.declared.searcher.Request.TheVariants as given
 use Rattle.root_search.specs.declared.searcher.Searcher.{Searcher}
-use Rattle.root_search.specs.Finding.{place_order, all_of, AreHeld}
+use Rattle.root_search.specs.Finding.{all_of, AreHeld}
 use Rattle.root_search.specs.Searching.{history_at, rows_at, documents_at, file_at, AreInHand, IsPlanned, IsRequest, SearcherStands}
-use Rattle.root_search.specs.Steps.{Plan, Request, planned, Client}
+use Rattle.root_search.specs.Steps.{Plan, Request, Client}
 use Rattle.root_search.proofs.Records.{log_placed, visible_in_order}
 use Rattle.root_search.proofs.Rows.{AreSearched, world_searched, contents_placed}
 

@@ -1,5 +1,5 @@
 -- A step of a client, by what a call of a gate did and what is answered.
-use Rattle.std.proofs.Common.{◌≡◌, ℕ, ◌+◌, ◌<◌, ◌≤◌, Bool, true, false, List, [], ◌∷◌, ◌++◌, map, length, take, drop, refl, sym, ap, ap₂, ◌∙◌, subst, arith, Option, Some, None, Result, Ok, Err, cond, not, ◌&&◌, codes, option_and_then}
+use Rattle.std.proofs.Common.{◌≡◌, ℕ, Bool, true, false, List, [], ◌∷◌, refl, sym, ap, ap₂, ◌∙◌, subst, arith, Option, Some, None, Result, Ok, Err, cond, not, ◌&&◌, codes, option_and_then}
 use Rattle.std.specs.Prelude.{⊤, IsErr}
 use Rattle.std.specs.declared.alloc.AllocError.{AllocError}
 use Rattle.std.specs.Str.{is_utf8}
@@ -8,19 +8,17 @@ use Rattle.std.proofs.lemmas.Option.{option_and_then_some, none-some, cond_some}
 use Rattle.serde_json.specs.Find.{as_str}
 use Rattle.serde_json.specs.Read.{read}
 use Rattle.source_log.specs.Log.{Log}
-use Rattle.index_world.specs.Calls.{Fate, Call, Gives, gives, Trouble, faulted, no_memory, asked_and_looked, fetched, calm_fate}
+use Rattle.index_world.specs.Calls.{Fate, gives, Trouble, faulted, no_memory, asked_and_looked, fetched, calm_fate}
 use Rattle.index_world.specs.Core.{Core}
 use Rattle.index_world.specs.Gate.{Says, IsTrouble}
 use Rattle.index_world.specs.World.{GoesOn}
 use Rattle.index_world.specs.declared.world_error.WorldError.{WorldError}
 use Rattle.index_world.proofs.InCore.{KeepsBut-refl}
 use Rattle.root_search.specs.declared.outcome.SearchStep.{SearchStep as GivenStep}
-use Rattle.root_search.specs.declared.searcher.Request.{Request as GivenRequest}
-use Rattle.root_search.specs.declared.searcher.Request.TheVariants as given
 use Rattle.root_search.specs.declared.searcher.Searcher.{Searcher}
 use Rattle.root_search.specs.Requests.{word_asked, word_of, word_in, is_run, is_operator, sole_of}
-use Rattle.root_search.specs.Searching.{IsRequest, SearcherStands, SearchesAs, IsAtWork, Ends, IsAnswer, searched}
-use Rattle.root_search.specs.Steps.{Plan, Request, no_request, opened, planned, Client, Luck, SearchStep, Searched, without_request, step_client, step_request, plan_by, plan_given, fetch_by, fetch_given, next_step, or_short, trouble_replied, refusal_by, reply_with, answer_of, Idle}
+use Rattle.root_search.specs.Searching.{IsRequest, SearcherStands, SearchesAs, IsAtWork, Ends, searched}
+use Rattle.root_search.specs.Steps.{Plan, no_request, opened, planned, Client, Luck, Searched, without_request, step_client, step_request, plan_by, plan_given, fetch_by, fetch_given, next_step, or_short, trouble_replied, refusal_by, reply_with, answer_of, Idle}
 
 GoesOn-refl : (core : Core) → GoesOn None core core
 GoesOn-refl core = record { grown = ([], sym (append-nil core.history)); faults = omega arith; moment = omega arith; keeps = KeepsBut-refl core }

@@ -8,8 +8,6 @@ use Rattle.std.specs.declared.cmp.Ordering.{Ordering}
 use Rattle.index_world.specs.SplitFile.{split_file, IsPlaced}
 use Rattle.index_world.specs.Words.{matches}
 use Rattle.index_world.specs.declared.placed.Placed.{Placed}
-use Rattle.index_world.specs.declared.split_reading.SplitError.{SplitError}
-use Rattle.index_world.specs.declared.split_reading.SplitError.TheVariants as splits
 use Rattle.root_search.specs.declared.finding.FindError.{FindError}
 use Rattle.root_search.specs.declared.finding.FindError.TheVariants as finds
 
@@ -30,14 +28,6 @@ pub record AreHeld (files : List (ℕ × List ℕ)) (documents : List Placed) : 
 
 abbrev pub has_word : List ℕ → Placed → Bool
 has_word word placed = matches word placed.doc
-
--- a file that is a split is refused for want of memory alone
-abbrev pub IsSplitMemory : SplitError → Type 0
-IsSplitMemory (splits.Memory e) = Unit {0}
-IsSplitMemory splits.BadMagic = ⊥
-IsSplitMemory (splits.Truncated at) = ⊥
-IsSplitMemory (splits.BadSection number) = ⊥
-IsSplitMemory (splits.BadVersion number) = ⊥
 
 abbrev pub IsMemory : FindError → Type 0
 IsMemory (finds.Memory e) = Unit {0}

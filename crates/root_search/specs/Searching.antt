@@ -13,7 +13,6 @@ use Rattle.index_world.specs.Seen.{contents, visible_at}
 use Rattle.index_world.specs.SplitFile.{split_file}
 use Rattle.index_world.specs.World.{GoesOn}
 use Rattle.index_world.specs.declared.placed.Placed.{Placed}
-use Rattle.index_world.specs.declared.planning.PlanRow.{PlanRow}
 use Rattle.root_search.specs.declared.outcome.SearchStep.{SearchStep as GivenStep}
 use Rattle.root_search.specs.declared.reply.ReplyRefusal.{ReplyRefusal}
 use Rattle.root_search.specs.declared.searcher.Busy.{Busy}
@@ -24,7 +23,7 @@ use Rattle.root_search.specs.declared.searcher.Searcher.{Searcher}
 use Rattle.root_search.specs.Replies.{Faulted}
 use Rattle.root_search.specs.Requests.{is_run}
 use Rattle.root_search.specs.Said.{refused_of, step_of}
-use Rattle.root_search.specs.Steps.{Plan, Request, no_request, opened, planned, Client, Luck, SearchStep, Searched, without_request, step_client}
+use Rattle.root_search.specs.Steps.{Plan, Request, no_request, opened, planned, Client, Luck, SearchStep, Searched, step_client}
 
 -- ---- the rows of a plan, and what their files hold
 

@@ -1,12 +1,12 @@
 //! The documents of fetched splits that match.
 
-ghost use Rattle.std.specs.Prelude.{◌≡◌, ◌∷◌, ℕ, List, true, map, take, Some, IfOk, MatchResult};
+ghost use Rattle.std.specs.Prelude.{◌≡◌, List, true, map, take, Some, IfOk, MatchResult};
 ghost use Rattle.std.specs.List.{AllByRecursion};
 ghost use Rattle.doc_value.specs.Printed.{printed_doc};
 ghost use Rattle.index_world.specs.Config.{logs_schema};
 ghost use Rattle.index_world.specs.SplitFile.{split_file, IsPlaced};
-ghost use Rattle.index_world.specs.declared.placed.Placed as documents;
-ghost use Rattle.root_search.specs.Finding.{place_order, AreHeld, IsSplitMemory, FindsIn, FindsAll};
+ghost use Rattle.index_world.specs.declared.placed.Placed as placed;
+ghost use Rattle.root_search.specs.Finding.{place_order, AreHeld, FindsIn, FindsAll};
 ghost use Rattle.root_search.specs.Replies.{answer, default_hits};
 ghost use Rattle.root_search.specs.Requests.{is_run};
 ghost use Rattle.root_search.specs.Said.{said_of};
@@ -15,7 +15,7 @@ use crate::matching::matches;
 use crate::printing::print_doc;
 use crate::reply::{Hits, ReplyRefusal, Said};
 use byte_fields::Bytes;
-use index_world::{Placed, PlacedList, SplitError, read_split};
+use index_world::{Placed, SplitError, read_split};
 use meta_journal::split_key;
 use std::alloc::{AllocError, Global};
 use std::cmp::Ordering;
@@ -50,14 +50,6 @@ fn compare_places(one: &Placed, other: &Placed) -> Ordering
     }
 }
 
-// The documents of a file.
-fn documents_of(alloc: Global, bytes: &[u8]) -> Result<PlacedList, SplitError>
-    ensures { (documents : List documents.Placed) → AllByRecursion IsPlaced documents → bytes.now ≡ split_file documents →
-        MatchResult result (λ read. read ≡ documents) IsSplitMemory }
-{
-    read_split(alloc, bytes)
-}
-
 // Appends the documents of a file that match.
 fn find_in(
     alloc: Global,
@@ -66,10 +58,10 @@ fn find_in(
     bytes: &Bytes,
     found: &mut Vec<Placed>,
 ) -> Result<(), FindError>
-    ensures { (documents : List documents.Placed) → is_run word.now ≡ true → AllByRecursion IsPlaced documents → bytes.now ≡ split_file documents →
+    ensures { (documents : List placed.Placed) → is_run word.now ≡ true → AllByRecursion IsPlaced documents → bytes.now ≡ split_file documents →
         FindsIn word.now documents result found.old.items found.new.items }
 {
-    let documents = match documents_of(alloc, bytes.as_slice()) {
+    let documents = match read_split(alloc, bytes.as_slice()) {
         Ok(documents) => documents,
         Err(SplitError::Memory(refused)) => return Err(FindError::Memory(refused)),
         Err(_) => {
@@ -99,7 +91,7 @@ fn first_hits(alloc: Global, found: &[Placed]) -> Result<Hits, AllocError>
 }
 
 fn find_all(alloc: Global, word: &[u8], files: &[(u64, Bytes)]) -> Result<Vec<Placed>, FindError>
-    ensures { (documents : List documents.Placed) → is_run word.now ≡ true → AreHeld files.now documents →
+    ensures { (documents : List placed.Placed) → is_run word.now ≡ true → AreHeld files.now documents →
         MatchResult result (λ found. FindsAll word.now documents (Ok found.items)) (λ e. FindsAll word.now documents (Err e)) }
 {
     let mut found = Vec::new(alloc);
@@ -113,7 +105,7 @@ fn find_all(alloc: Global, word: &[u8], files: &[(u64, Bytes)]) -> Result<Vec<Pl
 /// What is found of a word in these split files, each with its number.
 pub fn find(alloc: Global, word: &[u8], files: &[(u64, Bytes)]) -> Result<Said, AllocError>
     // Over files that hold these documents together, the answer to the word. It is no refusal.
-    ensures { (documents : List documents.Placed) → is_run word.now ≡ true → AreHeld files.now documents →
+    ensures { (documents : List placed.Placed) → is_run word.now ≡ true → AreHeld files.now documents →
         IfOk result (λ said. said_of said ≡ Some (answer word.now documents)) }
 {
     match find_all(alloc, word, files) {

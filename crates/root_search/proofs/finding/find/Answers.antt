@@ -1,4 +1,4 @@
-use Rattle.std.proofs.Common.{◌≡◌, ◌∙◌, List, ap, ap₂, subst, Some, map, take}
+use Rattle.std.proofs.Common.{◌∙◌, List, ap, ap₂, subst, Some, map, take}
 use Rattle.doc_value.specs.Printed.{printed_doc}
 use Rattle.index_world.specs.Config.{logs_schema}
 use Rattle.index_world.specs.declared.placed.Placed.{Placed}

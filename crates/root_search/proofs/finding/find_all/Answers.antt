@@ -1,8 +1,8 @@
-use Rattle.std.proofs.Common.{rules, ◌≡◌, ℕ, ◌∙◌, ◌++◌, ap, sym, refl, filter, is_lt}
+use Rattle.std.proofs.Common.{rules, ◌∙◌, ◌++◌, ap, sym, filter, is_lt}
 use Rattle.std.proofs.lemmas.List.Sorted.{answers_always, ranks_by}
 use Rattle.std.proofs.lemmas.Result.{err_from_is_err_and}
 use Rattle.index_world.specs.declared.placed.Placed.{Placed}
-use Rattle.root_search.specs.Finding.{has_word, place_order, all_of}
+use Rattle.root_search.specs.Finding.{has_word, place_order}
 use Rattle.root_search.proofs.Finds.{held_at, held_all, found_in_order}
 use Rattle.root_search.proofs.Records.{place_order_total}
 use Rattle.root_search.proofs.finding.find_all.Goals as goal

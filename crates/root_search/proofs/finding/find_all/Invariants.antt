@@ -1,4 +1,4 @@
-use Rattle.std.proofs.Common.{◌≡◌, ℕ, List, true, filter, map, take}
+use Rattle.std.proofs.Common.{◌≡◌, List, true, filter, take}
 use Rattle.root_search.specs.Finding.{has_word, all_of, AreHeld}
 use Rattle.root_search.specs.Requests.{is_run}
 use Rattle.index_world.specs.declared.placed.Placed.{Placed}

@@ -1,11 +1,9 @@
-use Rattle.std.proofs.Common.{◌≡◌, ◌∷◌, ℕ, ◌+◌, ◌≤◌, ap, refl, sym, subst, Ok, Err, ◌∙◌, true, false, Option, Some, None, Result, List, map, drop, arith, min, length}
-use Rattle.source_log.specs.Log.{Log}
-use Rattle.index_world.specs.Core.{Core}
-use Rattle.index_world.specs.Gate.{IsTrouble, IsPieceGiven}
+use Rattle.std.proofs.Common.{◌+◌, ◌≤◌, refl, subst, Ok, Err, true, false, map, drop, arith, length}
+use Rattle.index_world.specs.Gate.{IsPieceGiven}
 use Rattle.index_world.specs.declared.planning.PlanRow.{PlanRow}
-use Rattle.root_search.specs.Searching.{Ends, IsPlanned, file_at}
-use Rattle.root_search.specs.Steps.{Client, Plan, Fetched, fetch_by, trouble_replied}
-use Rattle.root_search.proofs.Planned.{IsNext, next_row, fetch_ends}
+use Rattle.root_search.specs.Searching.{Ends, file_at}
+use Rattle.root_search.specs.Steps.{Fetched, fetch_by, trouble_replied}
+use Rattle.root_search.proofs.Planned.{next_row, one_more}
 use Rattle.root_search.proofs.Steps.{says_ok, says_err, fetched_as, ends_without}
 use Rattle.root_search.proofs.searcher.Searcher.fetch.Goals as goal
 
@@ -36,8 +34,8 @@ returns-in_ok-push-in-Ok g c plan client core log asked planned stands w =
         request = (
           record plan { unfetched = map (λ (r : PlanRow). r.number) (drop (c.args.planned.next + 1) c.args.planned.plan.rows) },
           refl,
-          fetch_ends c.args.self.now client c.args.planned _ plan core d.after log row.number row.facts.size c.in-Ok.piece planned next d.goes_on s.1 refl refl
-              (omega (arith, c.saturating_add.ensures, c.requires, few)) c.in_ok-push-in-Ok.ensures.items w,
+          one_more c.args.planned _ plan core d.after log row.number row.facts.size c.in-Ok.piece planned next d.goes_on s.1 refl refl
+              (omega (arith, c.saturating_add.ensures, c.requires, few)) c.in_ok-push-in-Ok.ensures.items,
         );
       };
     })

@@ -1,4 +1,4 @@
-use Rattle.std.proofs.Common.{◌≡◌, ◌≤◌, ℕ, List, ap, subst, sym, ◌∙◌, Ok, true, false, length, Some, arith}
+use Rattle.std.proofs.Common.{◌≡◌, ◌≤◌, ℕ, List, subst, sym, ◌∙◌, Ok, true, false, length, Some, arith}
 use Rattle.index_world.specs.Seen.{visible_at}
 use Rattle.root_search.specs.Finding.{AreHeld}
 use Rattle.root_search.specs.Replies.{answer}

@@ -1,11 +1,9 @@
-use Rattle.std.proofs.Common.{◌≡◌, ℕ, ap, refl, sym, subst, Ok, Err, ◌∙◌, Option, Some, None, Result}
-use Rattle.source_log.specs.Log.{Log}
-use Rattle.index_world.specs.Core.{Core}
-use Rattle.index_world.specs.Gate.{IsTrouble, IsPlan}
+use Rattle.std.proofs.Common.{◌≡◌, ap, refl, sym, subst, Ok, Err, ◌∙◌, Some}
+use Rattle.index_world.specs.Gate.{IsPlan}
 use Rattle.index_world.specs.declared.planning.Choice.TheVariants.{Search}
 use Rattle.root_search.specs.Requests.{word_asked}
 use Rattle.root_search.specs.Searching.{Ends}
-use Rattle.root_search.specs.Steps.{Client, trouble_replied}
+use Rattle.root_search.specs.Steps.{trouble_replied}
 use Rattle.root_search.proofs.Planned.{plan_ends}
 use Rattle.root_search.proofs.Steps.{says_ok, says_err, planned_as, unasked_as, asked_run}
 use Rattle.root_search.proofs.searcher.Searcher.plan.Goals as goal

@@ -1,4 +1,4 @@
-use Rattle.std.proofs.Common.{◌≡◌, ap, sym, subst, Ok, option_map}
+use Rattle.std.proofs.Common.{ap, sym, subst, Ok, option_map}
 use Rattle.root_search.specs.Replies.{Refusal, Faulted}
 use Rattle.root_search.specs.Searching.{Ends}
 use Rattle.root_search.specs.Steps.{trouble_replied}

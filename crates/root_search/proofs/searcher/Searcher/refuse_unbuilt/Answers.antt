@@ -1,5 +1,5 @@
-use Rattle.std.proofs.Common.{◌≡◌, ℕ, ap, refl, sym, subst, Ok, Err, ◌∙◌, None, Result}
-use Rattle.index_world.specs.Gate.{IsTrouble, IsPlan}
+use Rattle.std.proofs.Common.{refl, subst, Ok, Err, None}
+use Rattle.index_world.specs.Gate.{IsPlan}
 use Rattle.index_world.specs.declared.planning.Choice.TheVariants.{Look}
 use Rattle.root_search.specs.Replies.{Refusal, NotBuilt}
 use Rattle.root_search.specs.Searching.{Ends}

@@ -1,5 +1,4 @@
-use Rattle.std.proofs.Common.{◌≡◌, ap, refl, sym, subst, Ok}
-use Rattle.index_world.specs.Calls.{faulted}
+use Rattle.std.proofs.Common.{refl, sym, subst, Ok}
 use Rattle.root_search.specs.Replies.{Refusal, NotBuilt}
 use Rattle.root_search.specs.Searching.{Ends}
 use Rattle.root_search.specs.Steps.{refusal_by, reply_with}
