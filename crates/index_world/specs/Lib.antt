@@ -5,6 +5,7 @@ pub mod Tokens
 pub mod Words
 pub mod Seen
 pub mod SplitFile
+pub mod SplitRead
 pub mod Index
 pub mod Core
 pub mod Calls

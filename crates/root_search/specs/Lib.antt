@@ -3,3 +3,5 @@ pub mod Replies
 pub mod Steps
 pub mod Said
 pub mod Matching
+pub mod Finding
+pub mod Searching
