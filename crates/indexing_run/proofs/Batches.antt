@@ -20,8 +20,11 @@ use Rattle.index_world.specs.Index.{IsMade, facts_of}
 use Rattle.index_world.specs.Seen.{onto, accepted_from, accepted_part, accepted_in, record_count}
 use Rattle.index_world.specs.SplitFile.{weight, weight_of, split_file, max_documents, max_weight}
 use Rattle.index_world.specs.declared.placed.Placed.{Placed}
+use Rattle.source_checkpoint.specs.Names.{IsPartition}
+use Rattle.index_world.specs.SplitFile.{IsPlaced, AreFields}
+use Rattle.indexing_run.specs.Making.{IsNew, IsLast, Follows, AreOthers, AreNew, IsQueue, EndWithin, IsBatch, AreApart}
 use Rattle.indexing_run.specs.Places.{Batch}
-use Rattle.indexing_run.specs.Steps.{Taken, with_document, with_record, taken_from, extended, parts_after, is_closed, is_empty, queue_after, batch_after, read_limit, max_read, max_batch_weight, first_moment, batch_facts, fresh_batch, marks_at}
+use Rattle.indexing_run.specs.Steps.{start_of, Taken, with_document, with_record, taken_from, extended, parts_after, is_closed, is_empty, queue_after, batch_after, read_limit, max_read, max_batch_weight, first_moment, batch_facts, fresh_batch, marks_at}
 use Rattle.source_checkpoint.specs.Checkpoints.{checkpoint_at}
 use Rattle.indexing_run.proofs.Slices.{part_of, part_more, part_none}
 
@@ -33,6 +36,15 @@ IsLight = (bytes name : List ℕ) (offset : ℕ) (doc : List DocField) → accep
 weight-snoc : (xs : List Placed) (x : Placed) → weight (xs ++ x ∷ []) ≡ weight xs + weight_of x
 weight-snoc [] x = omega arith
 weight-snoc (y ∷ xs) x = let again = weight-snoc xs x in omega (arith, again)
+
+-- ---- an accepted document
+
+-- its fields are the schema's, in their order, each with one text
+accepted_fields : (bytes : List ℕ) (doc : List DocField) → accepted bytes ≡ Some doc → AreFields 0 doc
+accepted_fields bytes doc e = ?
+
+accepted_nothing : (name : List ℕ) (offset n : ℕ) → AllByRecursion IsPlaced (accepted_from name offset (take n []))
+accepted_nothing name offset n = ?
 
 -- ---- what is taken of a read
 
@@ -110,6 +122,22 @@ taken_to light name offset (bytes ∷ more) t low w = by t.heavy refl (λ next w
         taken_one bytes name offset more (accepted bytes) t (taken_from name (suc offset) more (with_record name offset (accepted bytes) t)) refl
         (again (with_record name offset (accepted bytes) t) (weighed_more light bytes name offset (accepted bytes) t refl below e w))
 
+placed-append : (xs ys : List Placed) → AllByRecursion IsPlaced xs → AllByRecursion IsPlaced ys → AllByRecursion IsPlaced (xs ++ ys)
+placed-append [] ys h k = k
+placed-append (x ∷ xs) ys h k = (h.0, placed-append xs ys h.1 k)
+
+-- what is accepted of a partition's records stands at their places
+accepted_placed : (name : List ℕ) (offset : ℕ) (records : List (List ℕ)) → IsPartition name → offset + length records ≤ 2 ^ 64 → AllByRecursion IsPlaced (accepted_from name offset records)
+accepted_placed name offset [] named low = tt
+accepted_placed name offset (r ∷ records) named low = by (accepted r) refl (accepted_placed name (suc offset) records named (omega (arith, low)))
+  where
+    below : offset < 2 ^ 64
+    below = omega (arith, low)
+
+    by : (d : Option (List DocField)) → accepted r ≡ d → AllByRecursion IsPlaced (accepted_from name (suc offset) records) → AllByRecursion IsPlaced (onto name offset d (accepted_from name (suc offset) records))
+    by None e h = h
+    by (Some d) e h = (record { partition = named; offset = below; doc = accepted_fields r d e }, h)
+
 accepted_few : (name : List ℕ) (offset : ℕ) (records : List (List ℕ)) → length (accepted_from name offset records) ≤ length records
 accepted_few name offset [] = omega arith
 accepted_few name offset (r ∷ records) = by (accepted r) (accepted_few name (suc offset) records)
@@ -119,46 +147,6 @@ accepted_few name offset (r ∷ records) = by (accepted r) (accepted_few name (s
     by (Some d) h = omega (arith, h)
 
 -- ---- a batch
-
--- no part has this name
-abbrev pub IsNew : List Part → List ℕ → Type 0
-IsNew parts name = AllByRecursion (λ p. bytes_eq p.partition name ≡ false) parts
-
--- the last part is of this name and ends here
-pub record IsLast (parts : List Part) (mark : Checkpoint) : Type 0 where
-  pub front : List Part
-  pub from : ℕ
-  pub is : parts ≡ front ++ part_of mark.partition from mark.at ∷ []
-  pub rises : from ≤ mark.at
-  pub new : IsNew front mark.partition
-
--- what is read next goes on where the parts end
-abbrev pub Follows : List Part → Checkpoint → Type 0
-Follows parts mark = IsNew parts mark.partition ⊎ IsLast parts mark
-
-abbrev pub AreOthers : List ℕ → List Checkpoint → Type 0
-AreOthers name marks = AllByRecursion (λ m. bytes_eq name m.partition ≡ false) marks
-
-abbrev pub AreNew : List Part → List Checkpoint → Type 0
-AreNew parts [] = Unit {0}
-AreNew parts (m ∷ ms) = IsNew parts m.partition × AreOthers m.partition ms × AreNew parts ms
-
-abbrev pub IsQueue : List Part → List Checkpoint → Type 0
-IsQueue parts [] = Unit {0}
-IsQueue parts (mark ∷ rest) = Follows parts mark × AreOthers mark.partition rest × AreNew parts rest
-
-abbrev pub EndWithin : Log → List Part → Type 0
-EndWithin log parts = AllByRecursion (λ part. part.to ≤ length (records_of log part.partition)) parts
-
-pub record IsBatch (log : Log) (batch : Batch) : Type 0 where
-  pub documents : batch.documents ≡ accepted_in log batch.parts
-  pub ends : EndWithin log batch.parts
-  pub count : record_count batch.parts ≡ batch.count
-  pub less : length batch.documents ≤ batch.count
-  pub few : batch.count ≤ docs_target
-  pub weighs : weight batch.documents ≤ max_weight
-  pub calm : batch.closed ≡ false → weight batch.documents ≤ max_batch_weight
-  pub queue : IsQueue batch.parts batch.queue
 
 -- ---- more parts
 
@@ -295,10 +283,6 @@ slice_low log name at limit h = by (take limit (drop at (records_of log name))) 
         let few = records_few log name h in
         inl (omega (arith, end, few))
 
--- what a read takes, behind which nothing is weighed yet
-abbrev pub start_of : Batch → Taken
-start_of batch = record { count = 0; documents = batch.documents; weight = weight batch.documents; heavy = false }
-
 abbrev pub slice_of : Log → Batch → Checkpoint → List (List ℕ)
 slice_of log batch mark = take (read_limit batch.count) (drop mark.at (records_of log mark.partition))
 
@@ -315,15 +299,21 @@ read_taken light log batch mark l b going = by (slice_low log mark.partition mar
         subst (λ rs. TakenTo mark.partition mark.at rs (start_of batch) (taken_from mark.partition mark.at rs (start_of batch))) (sym none)
         (nothing_taken mark.partition mark.at [] (start_of batch) (start_weighed log batch b going))
 
--- a batch that isn't closed behind a read is not too heavy
-not_heavy : (queue : List Checkpoint) (count : ℕ) (heavy : Bool) (since now : ℕ) → is_closed queue count heavy since now ≡ false → heavy ≡ false
-not_heavy queue count heavy since now e = by (is_empty queue) (nat_le docs_target count) heavy (nat_lt 0 count && nat_le (since + commit_timeout) now) e
+-- a batch that isn't closed behind a read is not too heavy, has room, and has something to read
+abbrev IsGoing : Bool → Bool → Bool → Type 0
+IsGoing a b h = (a ≡ false) × (b ≡ false) × (h ≡ false)
+
+going : (queue : List Checkpoint) (count : ℕ) (heavy : Bool) (since now : ℕ) → is_closed queue count heavy since now ≡ false → IsGoing (is_empty queue) (nat_le docs_target count) heavy
+going queue count heavy since now e = by (is_empty queue) (nat_le docs_target count) heavy (nat_lt 0 count && nat_le (since + commit_timeout) now) e
   where
-    by : (a b h c : Bool) → (a || b || h || c) ≡ false → h ≡ false
+    by : (a b h c : Bool) → (a || b || h || c) ≡ false → IsGoing a b h
     by true b h c e = cc e
     by false true h c e = cc e
     by false false true c e = cc e
-    by false false false c e = refl
+    by false false false c e = (refl, refl, refl)
+
+below_target : (a b : ℕ) → nat_le a b ≡ false → b < a
+below_target a b e = grind (e, arith, nat_tests)
 
 -- ---- the queue behind a read
 
@@ -334,6 +324,10 @@ new_all parts after name (m ∷ ms) f o h = (f m.partition o.0 h.0, h.1, new_all
 queue_rest : (parts : List Part) (rest : List Checkpoint) → AreNew parts rest → IsQueue parts rest
 queue_rest parts [] h = tt
 queue_rest parts (m ∷ ms) h = (inl h.0, h.1, h.2)
+
+named_on : (at_end : Bool) (mark : Checkpoint) (n : ℕ) (rest : List Checkpoint) → IsPartition mark.partition → AllByRecursion (λ m. IsPartition m.partition) rest → AllByRecursion (λ m. IsPartition m.partition) (queue_after at_end mark n rest)
+named_on true mark n rest named h = h
+named_on false mark n rest named h = (named, h)
 
 queue_on : (parts : List Part) (at_end : Bool) (mark : Checkpoint) (n : ℕ) (rest : List Checkpoint) → Follows parts (record mark { at = mark.at + n }) → AreOthers mark.partition rest → AreNew parts rest → IsQueue parts (queue_after at_end mark n rest)
 queue_on parts true mark n rest f o h = queue_rest parts rest h
@@ -348,6 +342,7 @@ record Reads (log : Log) (batch : Batch) (mark : Checkpoint) (rest : List Checkp
   queue : IsQueue parts (queue_after at_end mark taken.count rest)
 
 module _ (log : Log) (batch : Batch) (mark : Checkpoint) (rest : List Checkpoint) (l : IsLog log) (b : IsBatch log batch) (now : Taken) (at_end : Bool)
+    (named : IsPartition mark.partition) (named_rest : AllByRecursion (λ m. IsPartition m.partition) rest)
     (f : Follows batch.parts mark) (o : AreOthers mark.partition rest) (h : AreNew batch.parts rest)
     (t : TakenTo mark.partition mark.at (slice_of log batch mark) (start_of batch) now) where
   count_is : now.count ≡ t.n
@@ -408,25 +403,36 @@ module _ (log : Log) (batch : Batch) (mark : Checkpoint) (rest : List Checkpoint
   few_still : batch.count + now.count ≤ docs_target
   few_still = let s = slice_few log mark.partition mark.at (read_limit batch.count) t.n t.within in let n = count_is in let before = b.few in omega (arith, s, n, before)
 
+  -- nothing is taken of an empty slice
+  placed_of : mark.at + length (slice_of log batch mark) ≤ 2 ^ 64 ⊎ (slice_of log batch mark ≡ []) → AllByRecursion IsPlaced (accepted_from mark.partition mark.at (take t.n (slice_of log batch mark)))
+  placed_of (inl low) =
+      accepted_placed mark.partition mark.at (take t.n (slice_of log batch mark)) named (let k = length-take t.n (slice_of log batch mark) in omega (arith, k, low))
+  placed_of (inr none) =
+      subst (λ rs. AllByRecursion IsPlaced (accepted_from mark.partition mark.at (take t.n rs))) (sym none) (accepted_nothing mark.partition mark.at t.n)
+
+  placed_still : AllByRecursion IsPlaced now.documents
+  placed_still =
+      subst (AllByRecursion IsPlaced) (sym t.documents)
+      (placed-append batch.documents (accepted_from mark.partition mark.at (take t.n (slice_of log batch mark))) b.placed (placed_of (slice_low log mark.partition mark.at (read_limit batch.count) l.good)))
+
   pub read_keeps : (moment : ℕ) → IsBatch log (batch_after batch mark rest now at_end moment)
   read_keeps moment =
       record {
         documents = reads.documents;
+        placed = placed_still;
         ends = reads.ends;
         count = reads.count;
         less = less_still;
         few = few_still;
         weighs = let w = t.weight in let most = t.most in omega (arith, w, most);
-        calm = λ e. let w = t.weight in let calm = t.calm (not_heavy (queue_after at_end mark now.count rest) (batch.count + now.count) now.heavy (first_moment batch.first_read moment) moment e) in omega (arith, w, calm);
+        calm = λ e. let w = t.weight in let calm = t.calm (going (queue_after at_end mark now.count rest) (batch.count + now.count) now.heavy (first_moment batch.first_read moment) moment e).2 in omega (arith, w, calm);
+        room = λ e. below_target docs_target (batch.count + now.count) (going (queue_after at_end mark now.count rest) (batch.count + now.count) now.heavy (first_moment batch.first_read moment) moment e).1;
+        ahead = λ e. (going (queue_after at_end mark now.count rest) (batch.count + now.count) now.heavy (first_moment batch.first_read moment) moment e).0;
         queue = reads.queue;
+        named = named_on at_end mark now.count rest named named_rest;
       }
 
 -- ---- a fresh batch, and a closed one
-
--- the names differ
-abbrev pub AreApart : List (List ℕ) → Type 0
-AreApart [] = Unit {0}
-AreApart (name ∷ names) = AllByRecursion (λ other. bytes_eq name other ≡ false) names × AreApart names
 
 others_marked : (checkpoints : List Checkpoint) (name : List ℕ) (names : List (List ℕ)) → AllByRecursion (λ other. bytes_eq name other ≡ false) names → AreOthers name (marks_at checkpoints names)
 others_marked checkpoints name [] h = tt
@@ -436,16 +442,24 @@ new_marked : (checkpoints : List Checkpoint) (names : List (List ℕ)) → AreAp
 new_marked checkpoints [] h = tt
 new_marked checkpoints (name ∷ names) h = (tt, others_marked checkpoints name names h.0, new_marked checkpoints names h.1)
 
-pub fresh_is_batch : (log : Log) (checkpoints : List Checkpoint) (names : List (List ℕ)) → AreApart names → IsBatch log (fresh_batch (marks_at checkpoints names))
-fresh_is_batch log checkpoints names h =
+named_marked : (checkpoints : List Checkpoint) (names : List (List ℕ)) → AllByRecursion IsPartition names → AllByRecursion (λ m. IsPartition m.partition) (marks_at checkpoints names)
+named_marked checkpoints [] h = tt
+named_marked checkpoints (name ∷ names) h = (h.0, named_marked checkpoints names h.1)
+
+pub fresh_is_batch : (log : Log) (checkpoints : List Checkpoint) (names : List (List ℕ)) → AreApart names → AllByRecursion IsPartition names → IsBatch log (fresh_batch (marks_at checkpoints names))
+fresh_is_batch log checkpoints names h named =
     record {
       documents = refl;
+      placed = tt;
       ends = tt;
       count = refl;
       less = omega arith;
       few = omega arith;
       weighs = omega arith;
       calm = λ e. omega arith;
+      room = λ e. omega arith;
+      ahead = λ e. e;
+      named = named_marked checkpoints names named;
       queue = queue_rest [] (marks_at checkpoints names) (new_marked checkpoints names h);
     }
 

@@ -1,3 +1,4 @@
 pub mod Slices
 pub mod Batches
 pub mod Steps
+pub mod Holding

@@ -1,5 +1,8 @@
 -- Each step of an indexer keeps its batch made of the log.
-use Rattle.std.proofs.Common.{◌≡◌, ℕ, List, [], ◌∷◌, refl, sym, ap, ◌∙◌, subst, Bool, true, false, bytes_eq, drop, take, length, nat_le, ◌==◌}
+use Rattle.std.proofs.Common.{◌≡◌, ℕ, suc, ◌<◌, List, [], ◌∷◌, refl, sym, ap, ◌∙◌, subst, Bool, true, false, bytes_eq, drop, take, length, nat_le, ◌==◌, All, AllPairs, slice_index_or, arith}
+use Rattle.source_checkpoint.specs.Names.{IsPartition}
+use Rattle.source_log.specs.Log.{IsGoodPart}
+use Rattle.source_checkpoint.proofs.Ranges.{same_partition}
 use Rattle.std.proofs.lemmas.Map.Keys.{sorted_head, sorted_tail}
 use Rattle.std.specs.List.{AllByRecursion}
 use Rattle.std.specs.List.Sorted.{IsStrictlySortedBy}
@@ -18,8 +21,9 @@ use Rattle.index_world.specs.Gate.{publish_call, stage_call}
 use Rattle.index_world.specs.SplitFile.{split_file}
 use Rattle.indexing_run.specs.Outcomes.{CaughtUp}
 use Rattle.indexing_run.specs.Places.{Batch, Held, Place, idle, reading, staged, uploaded, Indexer}
-use Rattle.indexing_run.specs.Steps.{Luck, Stepped, stepped, partitions_for, log_may_fail, log_called, checkpoints_by, take_checkpoints, idle_by, step_idle, taken_from, read_limit, read_current, read_by, read_given, step_read, stage_by, step_stage, batch_facts, upload_by, step_upload, publish_by, step_publish, step_batch, step_place, or_short, step_indexer}
-use Rattle.indexing_run.proofs.Batches.{IsLight, IsBatch, IsQueue, AreApart, fresh_is_batch, read_taken, read_keeps, start_of, slice_of}
+use Rattle.indexing_run.specs.Steps.{Luck, Stepped, stepped, partitions_for, log_may_fail, log_called, checkpoints_by, take_checkpoints, idle_by, idle_unless, step_idle, taken_from, read_limit, read_current, read_by, read_given, step_read, stage_by, step_stage, batch_facts, upload_by, step_upload, publish_by, step_publish, step_batch, step_place, or_short, step_indexer, start_of}
+use Rattle.indexing_run.proofs.Batches.{IsLight, fresh_is_batch, read_taken, read_keeps, slice_of}
+use Rattle.indexing_run.specs.Making.{IsBatch, IsQueue, AreApart, IsAssigned}
 
 -- what an indexer reads is made of the log
 abbrev pub IsPlaceMade : Log → Place → Type 0
@@ -27,11 +31,6 @@ IsPlaceMade log idle = Unit {0}
 IsPlaceMade log (reading batch) = IsBatch log batch
 IsPlaceMade log (staged held) = Unit {0}
 IsPlaceMade log (uploaded held) = Unit {0}
-
--- the names of an assignment differ
-abbrev pub IsAssigned : Option (List (List ℕ)) → Type 0
-IsAssigned None = Unit {0}
-IsAssigned (Some names) = AreApart names
 
 others : (name : List ℕ) (names : List (List ℕ)) → AllByRecursion (λ y. slice_cmp nat_cmp name y ≡ Less) names → AllByRecursion (λ other. bytes_eq name other ≡ false) names
 others name [] h = tt
@@ -41,13 +40,42 @@ sorted_apart : (names : List (List ℕ)) → IsStrictlySortedBy (slice_cmp nat_c
 sorted_apart [] s = tt
 sorted_apart (name ∷ names) s = (others name names (sorted_head (slice_cmp nat_cmp) name names s), sorted_apart names (sorted_tail (slice_cmp nat_cmp) name names s))
 
-assigned_apart : (log : Log) (assignment : Option (List (List ℕ))) → IsLog log → IsAssigned assignment → AreApart (partitions_for assignment log)
+names_apart : (a b : List ℕ) → (a ≡ b → ⊥) → bytes_eq a b ≡ false
+names_apart a b h = by (bytes_eq a b) refl
+  where
+    by : (t : Bool) → bytes_eq a b ≡ t → bytes_eq a b ≡ false
+    by true e = absurd (h (same_partition a b e))
+    by false e = e
+
+-- names that differ pairwise are apart
+pairs_apart : (names : List (List ℕ)) → AllPairs (λ a b. a ≡ b → ⊥) names → AreApart names
+pairs_apart [] h = tt
+pairs_apart (name ∷ names) h = (others_of names (λ i d low. h 0 (suc i) d (omega arith) (omega (arith, low))), pairs_apart names (λ i j d less low. h (suc i) (suc j) d (omega (arith, less)) (omega (arith, low))))
+  where
+    others_of : (rest : List (List ℕ)) → ((i : ℕ) (d : List ℕ) → i < length rest → name ≡ slice_index_or rest i d → ⊥) → AllByRecursion (λ other. bytes_eq name other ≡ false) rest
+    others_of [] k = tt
+    others_of (r ∷ rest) k = (names_apart name r (k 0 r (omega arith)), others_of rest (λ i d low. k (suc i) d (omega (arith, low))))
+
+all_named : (names : List (List ℕ)) → All IsPartition names → AllByRecursion IsPartition names
+all_named [] h = tt
+all_named (name ∷ names) h = (h 0 name (omega arith), all_named names (λ i d low. h (suc i) d (omega (arith, low))))
+
+log_named : (log : Log) → AllByRecursion IsGoodPart log → AllByRecursion IsPartition (names_of log)
+log_named [] h = tt
+log_named (part ∷ log) h = (h.0.0, log_named log h.1)
+
+pub assigned_apart : (log : Log) (assignment : Option (List (List ℕ))) → IsLog log → IsAssigned assignment → AreApart (partitions_for assignment log)
 assigned_apart log None l a = sorted_apart (names_of log) l.in_order
-assigned_apart log (Some names) l a = a
+assigned_apart log (Some names) l a = pairs_apart names a.1
+
+pub assigned_named : (log : Log) (assignment : Option (List (List ℕ))) → IsLog log → IsAssigned assignment → AllByRecursion IsPartition (partitions_for assignment log)
+assigned_named log None l a = log_named log l.good
+assigned_named log (Some names) l a = all_named names a.0
 
 module _ (light : IsLight) (log : Log) (l : IsLog log) where
   checkpoints_kept : (r : Result ⊤ Trouble) (indexer : Indexer) (core : Core) → IsAssigned indexer.assignment → IsPlaceMade log (checkpoints_by r log indexer core).indexer.place
   checkpoints_kept (Ok done) indexer core a = fresh_is_batch log (checkpoints_of (history core.history)) (partitions_for indexer.assignment log) (assigned_apart log indexer.assignment l a)
+      (assigned_named log indexer.assignment l a)
   checkpoints_kept (Err trouble) indexer core a = tt
 
   idle_kept : (fails : Bool) (o : Option (List (List ℕ))) (luck : Luck) (indexer : Indexer) (core : Core) → IsAssigned indexer.assignment → IsPlaceMade log (idle_by fails o luck log indexer core).indexer.place
@@ -56,13 +84,18 @@ module _ (light : IsLight) (log : Log) (l : IsLog log) where
   idle_kept true (Some names) luck indexer core a = let g = looked luck.world core in checkpoints_kept g.answer indexer g.core a
   idle_kept false (Some names) luck indexer core a = let g = looked luck.world core in checkpoints_kept g.answer indexer g.core a
 
+  unless_kept : (short : Bool) (luck : Luck) (indexer : Indexer) (core : Core) → IsAssigned indexer.assignment → IsPlaceMade log (idle_unless short luck log indexer core).indexer.place
+  unless_kept true luck indexer core a = tt
+  unless_kept false luck indexer core a = idle_kept (log_may_fail luck.log indexer.log_faults) indexer.assignment luck indexer core a
+
   module _ (batch : Batch) (b : IsBatch log batch) (calm : batch.closed ≡ false) where
     current_kept : (mark : Checkpoint) (rest : List Checkpoint) (indexer : Indexer) (core : Core) → batch.queue ≡ mark ∷ rest →
         IsPlaceMade log (read_current batch mark rest (drop mark.at (records_of log mark.partition)) indexer core).indexer.place
     current_kept mark rest indexer core e =
         let q = subst (λ marks. IsQueue batch.parts marks) e b.queue in
+        let n = subst (λ marks. AllByRecursion (λ m. IsPartition m.partition) marks) e b.named in
         read_keeps log batch mark rest l b (taken_from mark.partition mark.at (slice_of log batch mark) (start_of batch))
-        (nat_le (length (drop mark.at (records_of log mark.partition))) (read_limit batch.count)) q.0 q.1 q.2 (read_taken light log batch mark l b calm) core.moment
+        (nat_le (length (drop mark.at (records_of log mark.partition))) (read_limit batch.count)) n.0 n.1 q.0 q.1 q.2 (read_taken light log batch mark l b calm) core.moment
 
     by_kept : (fails : Bool) (luck : Luck) (mark : Checkpoint) (rest : List Checkpoint) (indexer : Indexer) (core : Core) → batch.queue ≡ mark ∷ rest → IsPlaceMade log (read_by fails luck log batch mark rest indexer core).indexer.place
     by_kept true luck mark rest indexer core e = b
@@ -101,7 +134,7 @@ module _ (light : IsLight) (log : Log) (l : IsLog log) where
       by false e = read_kept batch b e batch.queue luck indexer core refl
 
   place_kept : (place : Place) (luck : Luck) (indexer : Indexer) (core : Core) → IsPlaceMade log place → IsAssigned indexer.assignment → IsPlaceMade log (step_place place luck log indexer core).indexer.place
-  place_kept idle luck indexer core h a = idle_kept (log_may_fail luck.log indexer.log_faults) indexer.assignment luck indexer core a
+  place_kept idle luck indexer core h a = unless_kept luck.log.short luck indexer core a
   place_kept (reading batch) luck indexer core h a = batch_kept batch luck indexer core h
   place_kept (staged held) luck indexer core h a = let g = upload_made luck.world held.number (split_file held.documents) core in upload_kept g.answer held indexer g.core
   place_kept (uploaded held) luck indexer core h a = let g = publish_call held.number luck.world core in publish_kept g.answer held indexer g.core

@@ -24,10 +24,12 @@ use Rattle.indexing_run.specs.Outcomes.{IndexerOutcome}
 use Rattle.indexing_run.specs.Outcomes as said
 use Rattle.indexing_run.specs.Places.{Batch, Held, Place, idle, reading, staged, uploaded, Indexer}
 
--- the fate of one call of a log
+-- The fate of one call of a log: whether it fails, by how much its count rises, and whether there is no memory for the names
+-- of an idle indexer's partitions, read or copied.
 pub record LogCall : Type 0 where
   pub fails : Bool
   pub rises : ℕ
+  pub short : Bool
 
 -- the fate of one step: its call of a log, its call of the world, and whether it finds no memory behind them
 pub record Luck : Type 0 where
@@ -92,8 +94,13 @@ idle_by false None luck log indexer core = take_checkpoints luck log (log_called
 idle_by true (Some names) luck log indexer core = take_checkpoints luck log indexer core
 idle_by false (Some names) luck log indexer core = take_checkpoints luck log indexer core
 
+-- without memory for the names nothing more is done
+abbrev pub idle_unless : Bool → Luck → Log → Indexer → Core → Stepped
+idle_unless true luck log indexer core = stepped None idle (log_called luck.log indexer) core
+idle_unless false luck log indexer core = idle_by (log_may_fail luck.log indexer.log_faults) indexer.assignment luck log indexer core
+
 abbrev pub step_idle : Luck → Log → Indexer → Core → Stepped
-step_idle luck log indexer core = idle_by (log_may_fail luck.log indexer.log_faults) indexer.assignment luck log indexer core
+step_idle luck log indexer core = idle_unless luck.log.short luck log indexer core
 
 -- ---- reading
 
@@ -154,6 +161,11 @@ max_read = 1000
 abbrev pub read_limit : ℕ → ℕ
 read_limit count = min max_read (docs_target - count)
 
+-- what is read next: from where on, and how many records at most
+abbrev pub next_read : List Checkpoint → ℕ → Option (List ℕ × ℕ × ℕ)
+next_read [] count = None
+next_read (mark ∷ rest) count = Some (mark.partition, mark.at, read_limit count)
+
 abbrev pub batch_after : Batch → Checkpoint → List Checkpoint → Taken → Bool → ℕ → Batch
 batch_after batch mark rest taken at_end now =
     record {
@@ -170,12 +182,15 @@ abbrev pub read_with : Taken → Bool → Batch → Checkpoint → List Checkpoi
 read_with taken at_end batch mark rest indexer core =
     stepped (Some (said.Read taken.count)) (reading (batch_after batch mark rest taken at_end core.moment)) indexer core
 
+-- what a read begins with, behind which nothing is taken yet
+abbrev pub start_of : Batch → Taken
+start_of batch = record { count = 0; documents = batch.documents; weight = weight batch.documents; heavy = false }
+
 -- `behind` are the records from the current place on
 abbrev pub read_current : Batch → Checkpoint → List Checkpoint → List (List ℕ) → Indexer → Core → Stepped
 read_current batch mark rest behind indexer core =
     read_with
-    (taken_from mark.partition mark.at (take (read_limit batch.count) behind)
-    (record { count = 0; documents = batch.documents; weight = weight batch.documents; heavy = false }))
+    (taken_from mark.partition mark.at (take (read_limit batch.count) behind) (start_of batch))
     (nat_le (length behind) (read_limit batch.count)) batch mark rest indexer core
 
 abbrev pub read_by : Bool → Luck → Log → Batch → Checkpoint → List Checkpoint → Indexer → Core → Stepped

@@ -1,5 +1,9 @@
 //! What a step of an indexer answers, and its words.
 
+ghost use Rattle.std.specs.Prelude.{◌≡◌, IfOk};
+ghost use Rattle.indexing_run.specs.Outcomes.{IndexerOutcome as Outcome, outcome_words, words};
+ghost use Rattle.indexing_run.specs.Standing.{IsSaid};
+
 use byte_fields::Bytes;
 use index_world::{WorldError, put_fault, put_number, put_refusal, put_word};
 use meta_store::Refusal;
@@ -98,7 +102,9 @@ fn put_outcome(alloc: Global, out: &mut Bytes, outcome: &IndexerOutcome) -> Resu
 }
 
 /// The words of an outcome, with one blank between.
-pub fn print_outcome(alloc: Global, outcome: &IndexerOutcome) -> Result<Bytes, AllocError> {
+pub fn print_outcome(alloc: Global, outcome: &IndexerOutcome) -> Result<Bytes, AllocError>
+    ensures { (said : Outcome) → IsSaid outcome.now said → IfOk result (λ bytes. bytes ≡ words (outcome_words said)) }
+{
     let mut out = Bytes::vacant(alloc);
     put_outcome(alloc, &mut out, outcome)?;
     Ok(out)
