@@ -33,14 +33,14 @@ abbrev pub IsLight : Type 0
 IsLight = (bytes name : List ℕ) (offset : ℕ) (doc : List DocField) → accepted bytes ≡ Some doc → offset < 2 ^ 64 →
     weight_of (record { partition = name; offset = offset; doc = doc }) ≤ max_batch_weight
 
-weight-snoc : (xs : List Placed) (x : Placed) → weight (xs ++ x ∷ []) ≡ weight xs + weight_of x
+pub weight-snoc : (xs : List Placed) (x : Placed) → weight (xs ++ x ∷ []) ≡ weight xs + weight_of x
 weight-snoc [] x = omega arith
 weight-snoc (y ∷ xs) x = let again = weight-snoc xs x in omega (arith, again)
 
 -- ---- an accepted document
 
 -- its fields are the schema's, in their order, each with one text
-accepted_fields : (bytes : List ℕ) (doc : List DocField) → accepted bytes ≡ Some doc → AreFields 0 doc
+pub accepted_fields : (bytes : List ℕ) (doc : List DocField) → accepted bytes ≡ Some doc → AreFields 0 doc
 accepted_fields bytes doc e = ?
 
 accepted_nothing : (name : List ℕ) (offset n : ℕ) → AllByRecursion IsPlaced (accepted_from name offset (take n []))
@@ -171,13 +171,13 @@ count-append [] ys = omega arith
 count-append (x ∷ xs) ys = let again = count-append xs ys in omega (arith, again)
 
 -- a name that is new comes behind the parts
-extended-new : (parts : List Part) (name : List ℕ) (from to : ℕ) → IsNew parts name → extended parts name from to ≡ parts ++ part_of name from to ∷ []
+pub extended-new : (parts : List Part) (name : List ℕ) (from to : ℕ) → IsNew parts name → extended parts name from to ≡ parts ++ part_of name from to ∷ []
 extended-new [] name from to h = refl
 extended-new (p ∷ parts) name from to h =
     ap (λ b. if b then record p { to = to } ∷ parts else p ∷ extended parts name from to) h.0 ∙ ap (λ l. p ∷ l) (extended-new parts name from to h.1)
 
 -- the last part's name is extended
-extended-last : (front : List Part) (name : List ℕ) (from at start to : ℕ) → IsNew front name → extended (front ++ part_of name from at ∷ []) name start to ≡ front ++ part_of name from to ∷ []
+pub extended-last : (front : List Part) (name : List ℕ) (from at start to : ℕ) → IsNew front name → extended (front ++ part_of name from at ∷ []) name start to ≡ front ++ part_of name from to ∷ []
 extended-last [] name from at start to h = ap (λ b. if b then part_of name from to ∷ [] else part_of name from at ∷ part_of name start to ∷ []) (partition_itself name name refl)
 extended-last (p ∷ front) name from at start to h =
     ap (λ b. if b then record p { to = to } ∷ (front ++ part_of name from at ∷ []) else p ∷ extended (front ++ part_of name from at ∷ []) name start to) h.0

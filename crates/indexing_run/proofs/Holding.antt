@@ -54,7 +54,7 @@ uploaded_stays log core after held one k u =
 
 -- the number behind the greatest is none that was staged before
 pub next_is_apart : (entries : List Entry) (n : ℕ) → has_staged entries n ≡ true → n ≡ last_number (history entries) + 1 → ⊥
-next_is_apart entries n staged e = let low = staged_le (history entries) n staged in absurd (omega (arith, low, e))
+next_is_apart entries n known e = let low = staged_le (history entries) n known in absurd (omega (arith, low, e))
 
 place_stays : (log : Log) (core after : Core) (kept : HeldPlace) (place : Place) (one : Option ℕ) → KeepsBut one core after → ((n : ℕ) → number_held place ≡ Some n → IsOther one n) →
     PlaceStands log core kept place → PlaceStands log after kept place

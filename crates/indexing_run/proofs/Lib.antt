@@ -1,4 +1,9 @@
 pub mod Slices
 pub mod Batches
+pub mod Queues
+pub mod Takes
 pub mod Steps
 pub mod Holding
+pub mod Stepping
+pub mod Light
+pub mod Reading

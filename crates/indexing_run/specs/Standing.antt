@@ -1,5 +1,5 @@
 -- What an indexer of the code stands for, and what its step says.
-use Rattle.std.specs.Prelude.{◌≡◌, ℕ, ◌+◌, ◌≤◌, min, nat_lt, true, List, ◌∷◌, length, drop, Option, Some, None, Result, Ok, Err, ⊤}
+use Rattle.std.specs.Prelude.{◌≡◌, ℕ, ◌+◌, ◌≤◌, min, nat_lt, true, List, [], ◌∷◌, length, drop, Option, Some, None, Result, Ok, Err, ⊤}
 use Rattle.source_checkpoint.specs.Names.{IsPartition}
 use Rattle.source_checkpoint.specs.declared.ledger.Checkpoint.{Checkpoint as Mark}
 use Rattle.std.specs.declared.alloc.AllocError.{AllocError}
@@ -17,6 +17,7 @@ use Rattle.index_world.specs.Index.{has_staged, most}
 use Rattle.index_world.specs.SplitFile.{weight, split_file}
 use Rattle.index_world.specs.World.{GoesOn}
 use Rattle.indexing_run.specs.declared.batch.Batch.{Batch as HeldBatch}
+use Rattle.indexing_run.specs.declared.batch.NextRead.{NextRead}
 use Rattle.indexing_run.specs.declared.indexer.Indexer.{Indexer as Reader}
 use Rattle.indexing_run.specs.declared.indexer.Place.{Place as HeldPlace}
 use Rattle.indexing_run.specs.declared.indexer.Place.TheVariants as places
@@ -26,7 +27,7 @@ use Rattle.indexing_run.specs.declared.outcome.IndexerOutcome.TheVariants as sai
 use Rattle.indexing_run.specs.Making.{Follows, IsBatch, IsAssigned}
 use Rattle.indexing_run.specs.Outcomes.{IndexerOutcome, Checkpoint, Read, Staged, Uploaded, Published, CaughtUp, Stale, Lost, Refused, SourceFault, Faulted}
 use Rattle.indexing_run.specs.Places.{Batch, Held, Place, idle, reading, staged, uploaded, Indexer, IsStagedHeld, IsUploadedHeld, number_held}
-use Rattle.indexing_run.specs.Steps.{Taken, taken_from, max_batch_weight, start_of, batch_after, Luck, step_indexer}
+use Rattle.indexing_run.specs.Steps.{Taken, taken_from, max_batch_weight, start_of, read_limit, batch_after, Luck, step_indexer}
 
 -- ---- outcomes
 
@@ -74,6 +75,11 @@ pub record BatchStands (held : HeldBatch) (batch : Batch) : Type 0 where
   pub weight : held.weight ≡ kept_weight batch.documents
   pub first_read : held.first_read ≡ batch.first_read
   pub closed : held.closed ≡ batch.closed
+
+-- what is read next: from where on, and how many records at most
+abbrev pub next_read : List Mark → ℕ → Option NextRead
+next_read [] count = None
+next_read (mark ∷ rest) count = Some (record { partition = mark.partition; from = mark.at; room = read_limit count })
 
 -- this is read of a batch: records from its first mark on, no more than there is room for
 pub record ReadsOn (batch : Batch) (mark : Mark) (rest : List Mark) (records : Records) : Type 0 where

@@ -161,11 +161,6 @@ max_read = 1000
 abbrev pub read_limit : ℕ → ℕ
 read_limit count = min max_read (docs_target - count)
 
--- what is read next: from where on, and how many records at most
-abbrev pub next_read : List Checkpoint → ℕ → Option (List ℕ × ℕ × ℕ)
-next_read [] count = None
-next_read (mark ∷ rest) count = Some (mark.partition, mark.at, read_limit count)
-
 abbrev pub batch_after : Batch → Checkpoint → List Checkpoint → Taken → Bool → ℕ → Batch
 batch_after batch mark rest taken at_end now =
     record {

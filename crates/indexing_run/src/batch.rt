@@ -1,12 +1,13 @@
 //! What an indexer has read since its checkpoints.
 
-ghost use Rattle.std.specs.Prelude.{◌≡◌, ◌≤◌, ◌<◌, ◌+◌, ◌^◌, List, length, nat_lt, OnOk, IfOk, IfSome};
+ghost use Rattle.std.specs.Prelude.{◌≡◌, ◌≤◌, ◌<◌, ◌+◌, ◌^◌, ℕ, suc, List, length, nat_lt, OnOk, IfOk, IfSome};
+ghost use Rattle.index_world.specs.Accepted.{accepted};
 ghost use Rattle.index_world.specs.Config.{docs_target};
 ghost use Rattle.source_checkpoint.specs.declared.ledger.Checkpoint.{Checkpoint};
 ghost use Rattle.indexing_run.specs.Making.{Follows};
 ghost use Rattle.indexing_run.specs.Places.{Batch as Made};
-ghost use Rattle.indexing_run.specs.Steps.{marks_at, fresh_batch, extended, taken_from, start_of, next_read, is_closed};
-ghost use Rattle.indexing_run.specs.Standing.{left_of, kept_weight, taken_so_far, BatchStands, ReadsOn, batch_read};
+ghost use Rattle.indexing_run.specs.Steps.{marks_at, fresh_batch, extended, parts_after, with_record, taken_from, start_of, is_closed};
+ghost use Rattle.indexing_run.specs.Standing.{left_of, kept_weight, taken_so_far, BatchStands, next_read, ReadsOn, batch_read};
 
 use crate::queue::Queue;
 use byte_fields::Bytes;
@@ -23,6 +24,14 @@ const COMMIT_TIMEOUT: u64 = 60;
 const MAX_WEIGHT: u64 = 134_217_728;
 
 const MAX_READ: u64 = 1_000;
+
+/// What is read next: from where on, and how many records at most.
+#[derive(Drop)]
+pub struct NextRead {
+    pub partition: Partition,
+    pub from: u64,
+    pub room: u32,
+}
 
 /// The records of a batch.
 #[derive(Drop)]
@@ -59,6 +68,49 @@ fn extend(
     Ok(())
 }
 
+// So many records from a place on were taken.
+fn extend_taken(
+    parts: &mut Vec<Part>,
+    partition: &Partition,
+    from: u64,
+    taken: u64,
+) -> Result<(), AllocError>
+    requires { from + taken < 2 ^ 64 }
+    ensures { Follows parts.old.items (record { partition = partition.now; at = from }) →
+        OnOk result (parts.new.items ≡ parts_after taken parts.old.items partition.now from) }
+{
+    if taken == 0 {
+        return Ok(());
+    }
+    extend(parts, partition, from, from + taken)
+}
+
+// Takes the record at an offset: a document where it is accepted.
+fn take_record(
+    alloc: Global,
+    partition: &Partition,
+    offset: u64,
+    bytes: &Bytes,
+    documents: &mut PlacedList,
+    weight: &mut u64,
+) -> Result<(), AllocError>
+    ensures { (n : ℕ) → weight.old ≡ kept_weight documents.old → OnOk result ((weight.new ≡ kept_weight documents.new)
+        × (with_record partition.now offset (accepted bytes.now) (taken_so_far n documents.old) ≡ taken_so_far (suc n) documents.new)) }
+{
+    let Some(doc) = accept(alloc, bytes.as_slice())? else {
+        return Ok(());
+    };
+    // Each partition has a name.
+    let _name = partition.as_bytes();
+    let placed = Placed {
+        partition: partition.copy(),
+        offset,
+        doc,
+    };
+    *weight = weight.saturating_add(weight_of(&placed));
+    documents.push(placed)
+}
+
 // The records one after another, up to the one with which the batch is too heavy. Gives how many were taken.
 fn take_records(
     alloc: Global,
@@ -77,15 +129,7 @@ fn take_records(
         if *weight > MAX_WEIGHT {
             return Ok(i as u64);
         }
-        if let Some(doc) = accept(alloc, record.as_slice())? {
-            let placed = Placed {
-                partition: partition.copy(),
-                offset: from + i as u64,
-                doc,
-            };
-            *weight = weight.saturating_add(weight_of(&placed));
-            documents.push(placed)?;
-        }
+        take_record(alloc, partition, from + i as u64, record, documents, weight)?;
     }
     Ok(records.len() as u64)
 }
@@ -109,14 +153,18 @@ impl Batch {
     }
 
     /// Where the next read begins, and how many records it may give.
-    pub fn next_read(&self) -> Option<(Partition, u64, u32)>
-        ensures room { IfSome result (λ x. 1 ≤ x.2) }
+    pub fn next_read(&self) -> Option<NextRead>
+        ensures room { IfSome result (λ next. 1 ≤ next.room) }
         ensures next { (batch : Made) → BatchStands self.now batch → batch.count < docs_target → result ≡ next_read batch.queue batch.count }
     {
         let mark = self.queue.first()?;
         // A batch that is read on has room for a record.
         let room = DOCS_TARGET.saturating_sub(self.count).min(MAX_READ).max(1);
-        Some((mark.partition.copy(), mark.at, room as u32))
+        Some(NextRead {
+            partition: mark.partition.copy(),
+            from: mark.at,
+            room: room as u32,
+        })
     }
 
     // Whether a batch is to be read no further behind a read at this moment.
@@ -156,9 +204,7 @@ impl Batch {
             &mut weight,
         )?;
         self.weight = weight;
-        if taken > 0 {
-            extend(&mut self.parts, partition, from, from + taken)?;
-        }
+        extend_taken(&mut self.parts, partition, from, taken)?;
         let since = self.first_read.unwrap_or(now);
         self.first_read = Some(since);
         self.count = self.count.saturating_add(taken);

@@ -6,13 +6,13 @@ ghost use Rattle.meta_journal.specs.Spelling.{CanSpellFacts};
 ghost use Rattle.meta_store.specs.declared.refusal.Refusal.{Refusal};
 ghost use Rattle.source_log.specs.Log.{Log};
 ghost use Rattle.split_states.specs.declared.facts.RowFacts.{RowFacts};
-ghost use Rattle.index_world.specs.Calls.{Trouble, faulted};
+ghost use Rattle.index_world.specs.Calls.{Trouble, Unmade};
 ghost use Rattle.index_world.specs.Core.{Core};
-ghost use Rattle.index_world.specs.Gate.{IsTrouble};
+ghost use Rattle.index_world.specs.Gate.{IsTrouble, IsUnmade};
 ghost use Rattle.index_world.specs.SplitFile.{split_file};
 ghost use Rattle.indexing_run.specs.Making.{IsBatch, IsAssigned};
 ghost use Rattle.indexing_run.specs.Places.{Batch as Made, Held, Indexer as Actor, IsStagedHeld, IsUploadedHeld, is_idle, idle, reading, staged as staged_at, uploaded as uploaded_at};
-ghost use Rattle.indexing_run.specs.Steps.{trouble_outcome, publish_refused};
+ghost use Rattle.indexing_run.specs.Steps.{trouble_outcome, publish_refused, publish_outcome, stage_outcome};
 ghost use Rattle.indexing_run.specs.Standing.{BatchStands, IndexerStands, IsSaid, Answers, NamesGiven, StepsAs};
 
 use crate::batch::Batch;
@@ -93,6 +93,26 @@ fn refused_publish(number: u64, refusal: Refusal) -> IndexerOutcome
         };
     }
     IndexerOutcome::Lost { number, refusal }
+}
+
+// Why a Publish was not made.
+fn unpublished(number: u64, error: WorldError) -> Result<IndexerOutcome, AllocError>
+    ensures { (unmade : Unmade) → IsUnmade error unmade → Answers result (publish_outcome number unmade) }
+{
+    match error {
+        WorldError::Refused(refusal) => Ok(refused_publish(number, refusal)),
+        error => faulted(error),
+    }
+}
+
+// Why a Stage was not made.
+fn unstaged(error: WorldError) -> Result<IndexerOutcome, AllocError>
+    ensures { (unmade : Unmade) → IsUnmade error unmade → Answers result (stage_outcome unmade) }
+{
+    match error {
+        WorldError::Refused(refusal) => Ok(IndexerOutcome::Refused { refusal }),
+        error => faulted(error),
+    }
 }
 
 impl<L: SourceLog> Indexer<L> {
@@ -201,15 +221,15 @@ impl<L: SourceLog> Indexer<L> {
             Ok(now) => now,
             Err(error) => return faulted(error),
         };
-        let Some((partition, from, room)) = batch.next_read() else {
+        let Some(next) = batch.next_read() else {
             return Ok(IndexerOutcome::CaughtUp);
         };
         let before = self.log.faults();
-        let records = self.log.read(alloc, &partition, from, room);
+        let records = self.log.read(alloc, &next.partition, next.from, next.room);
         let after = self.log.faults();
         match records {
             Ok(records) => {
-                let count = batch.take(alloc, &partition, from, &records, now)?;
+                let count = batch.take(alloc, &next.partition, next.from, &records, now)?;
                 self.place = Place::Reading(batch);
                 Ok(IndexerOutcome::Read { count })
             }
@@ -242,8 +262,7 @@ impl<L: SourceLog> Indexer<L> {
                 self.place = Place::Staged(staged, bytes);
                 Ok(IndexerOutcome::Staged { number })
             }
-            Err(WorldError::Refused(refusal)) => Ok(IndexerOutcome::Refused { refusal }),
-            Err(error) => faulted(error),
+            Err(error) => unstaged(error),
         }
     }
 
@@ -283,8 +302,7 @@ impl<L: SourceLog> Indexer<L> {
         let number = uploaded.number;
         match gate.publish(alloc, uploaded) {
             Ok(_) => Ok(IndexerOutcome::Published { number }),
-            Err(WorldError::Refused(refusal)) => Ok(refused_publish(number, refusal)),
-            Err(error) => faulted(error),
+            Err(error) => unpublished(number, error),
         }
     }
 
