@@ -5,6 +5,7 @@ mod accepting;
 mod config;
 mod gate;
 pub mod laws;
+mod levels;
 mod own;
 mod placed;
 mod planning;
