@@ -1,5 +1,5 @@
 -- What an indexer reads into its batch is made of the log, within a split's limits.
-use Rattle.std.proofs.Common.{◌≡◌, ◌⊎◌, ℕ, zero, suc, ◌+◌, ◌-◌, ◌<◌, ◌≤◌, ◌==◌, ◌||◌, ◌&&◌, ◌^◌, min, List, [], ◌∷◌, ◌++◌, refl, sym, ap, ◌∙◌, subst, inl, inr, Bool, true, false, flat_map, take, drop, length, arith, append-nil, append_assoc, nat_le, nat_lt, bytes_eq, length-take, length-drop, take-take, lit<}
+use Rattle.std.proofs.Common.{◌≡◌, ◌⊎◌, ℕ, zero, suc, ◌+◌, ◌-◌, ◌<◌, ◌≤◌, ◌==◌, ◌||◌, ◌&&◌, ◌^◌, List, [], ◌∷◌, ◌++◌, refl, sym, ap, ◌∙◌, subst, inl, inr, Bool, true, false, take, drop, length, arith, append-nil, append_assoc, nat_le, nat_lt, bytes_eq, length-take, length-drop, take-take, lit<}
 use Rattle.std.proofs.lemmas.Bool.Decides.{nat_tests}
 use Rattle.std.proofs.lemmas.List.{length-append}
 use Rattle.std.proofs.lemmas.Grind.{flat_map-append}
@@ -7,7 +7,7 @@ use Rattle.std.specs.List.{AllByRecursion}
 use Rattle.std.specs.List.Sorted.{IsStrictlySortedBy}
 use Rattle.std.specs.Ordering.{nat_cmp}
 use Rattle.std.specs.Cmp.Lexicographic.{slice_cmp}
-use Rattle.std.specs.Prelude.{Option, Some, None, if◌then◌else◌, map}
+use Rattle.std.specs.Prelude.{Option, Some, None, if◌then◌else◌}
 use Rattle.doc_value.specs.declared.doc.DocField.{DocField}
 use Rattle.source_checkpoint.specs.declared.delta.Part.{Part}
 use Rattle.source_checkpoint.specs.declared.ledger.Checkpoint.{Checkpoint}
@@ -18,14 +18,11 @@ use Rattle.index_world.specs.Accepted.{accepted}
 use Rattle.index_world.specs.Config.{docs_target, commit_timeout}
 use Rattle.index_world.specs.Index.{IsMade, facts_of}
 use Rattle.index_world.specs.Seen.{onto, accepted_from, accepted_part, accepted_in, record_count}
-use Rattle.index_world.specs.SplitFile.{weight, weight_of, split_file, max_documents, max_weight}
+use Rattle.index_world.specs.SplitFile.{weight, weight_of, split_file, max_weight}
 use Rattle.index_world.specs.declared.placed.Placed.{Placed}
-use Rattle.source_checkpoint.specs.Names.{IsPartition}
-use Rattle.index_world.specs.SplitFile.{IsPlaced, AreFields}
-use Rattle.indexing_run.specs.Making.{IsNew, IsLast, Follows, AreOthers, AreNew, IsQueue, EndWithin, IsBatch, AreApart}
+use Rattle.indexing_run.specs.Making.{IsNew, Follows, AreOthers, AreNew, IsQueue, EndWithin, IsBatch, AreApart}
 use Rattle.indexing_run.specs.Places.{Batch}
-use Rattle.indexing_run.specs.Steps.{start_of, Taken, with_document, with_record, taken_from, extended, parts_after, is_closed, is_empty, queue_after, batch_after, read_limit, max_read, max_batch_weight, first_moment, batch_facts, fresh_batch, marks_at}
-use Rattle.source_checkpoint.specs.Checkpoints.{checkpoint_at}
+use Rattle.indexing_run.specs.Steps.{start_of, Taken, with_record, taken_from, extended, parts_after, is_closed, is_empty, queue_after, batch_after, read_limit, max_batch_weight, first_moment, batch_facts, fresh_batch, marks_at}
 use Rattle.indexing_run.proofs.Slices.{part_of, part_more, part_none}
 
 -- one document is no heavier than a batch may be before it
@@ -36,15 +33,6 @@ IsLight = (bytes name : List ℕ) (offset : ℕ) (doc : List DocField) → accep
 pub weight-snoc : (xs : List Placed) (x : Placed) → weight (xs ++ x ∷ []) ≡ weight xs + weight_of x
 weight-snoc [] x = omega arith
 weight-snoc (y ∷ xs) x = let again = weight-snoc xs x in omega (arith, again)
-
--- ---- an accepted document
-
--- its fields are the schema's, in their order, each with one text
-pub accepted_fields : (bytes : List ℕ) (doc : List DocField) → accepted bytes ≡ Some doc → AreFields 0 doc
-accepted_fields bytes doc e = ?
-
-accepted_nothing : (name : List ℕ) (offset n : ℕ) → AllByRecursion IsPlaced (accepted_from name offset (take n []))
-accepted_nothing name offset n = ?
 
 -- ---- what is taken of a read
 
@@ -121,22 +109,6 @@ taken_to light name offset (bytes ∷ more) t low w = by t.heavy refl (λ next w
     by false e again =
         taken_one bytes name offset more (accepted bytes) t (taken_from name (suc offset) more (with_record name offset (accepted bytes) t)) refl
         (again (with_record name offset (accepted bytes) t) (weighed_more light bytes name offset (accepted bytes) t refl below e w))
-
-placed-append : (xs ys : List Placed) → AllByRecursion IsPlaced xs → AllByRecursion IsPlaced ys → AllByRecursion IsPlaced (xs ++ ys)
-placed-append [] ys h k = k
-placed-append (x ∷ xs) ys h k = (h.0, placed-append xs ys h.1 k)
-
--- what is accepted of a partition's records stands at their places
-accepted_placed : (name : List ℕ) (offset : ℕ) (records : List (List ℕ)) → IsPartition name → offset + length records ≤ 2 ^ 64 → AllByRecursion IsPlaced (accepted_from name offset records)
-accepted_placed name offset [] named low = tt
-accepted_placed name offset (r ∷ records) named low = by (accepted r) refl (accepted_placed name (suc offset) records named (omega (arith, low)))
-  where
-    below : offset < 2 ^ 64
-    below = omega (arith, low)
-
-    by : (d : Option (List DocField)) → accepted r ≡ d → AllByRecursion IsPlaced (accepted_from name (suc offset) records) → AllByRecursion IsPlaced (onto name offset d (accepted_from name (suc offset) records))
-    by None e h = h
-    by (Some d) e h = (record { partition = named; offset = below; doc = accepted_fields r d e }, h)
 
 accepted_few : (name : List ℕ) (offset : ℕ) (records : List (List ℕ)) → length (accepted_from name offset records) ≤ length records
 accepted_few name offset [] = omega arith
@@ -325,10 +297,6 @@ queue_rest : (parts : List Part) (rest : List Checkpoint) → AreNew parts rest 
 queue_rest parts [] h = tt
 queue_rest parts (m ∷ ms) h = (inl h.0, h.1, h.2)
 
-named_on : (at_end : Bool) (mark : Checkpoint) (n : ℕ) (rest : List Checkpoint) → IsPartition mark.partition → AllByRecursion (λ m. IsPartition m.partition) rest → AllByRecursion (λ m. IsPartition m.partition) (queue_after at_end mark n rest)
-named_on true mark n rest named h = h
-named_on false mark n rest named h = (named, h)
-
 queue_on : (parts : List Part) (at_end : Bool) (mark : Checkpoint) (n : ℕ) (rest : List Checkpoint) → Follows parts (record mark { at = mark.at + n }) → AreOthers mark.partition rest → AreNew parts rest → IsQueue parts (queue_after at_end mark n rest)
 queue_on parts true mark n rest f o h = queue_rest parts rest h
 queue_on parts false mark n rest f o h = (f, o, h)
@@ -342,7 +310,6 @@ record Reads (log : Log) (batch : Batch) (mark : Checkpoint) (rest : List Checkp
   queue : IsQueue parts (queue_after at_end mark taken.count rest)
 
 module _ (log : Log) (batch : Batch) (mark : Checkpoint) (rest : List Checkpoint) (l : IsLog log) (b : IsBatch log batch) (now : Taken) (at_end : Bool)
-    (named : IsPartition mark.partition) (named_rest : AllByRecursion (λ m. IsPartition m.partition) rest)
     (f : Follows batch.parts mark) (o : AreOthers mark.partition rest) (h : AreNew batch.parts rest)
     (t : TakenTo mark.partition mark.at (slice_of log batch mark) (start_of batch) now) where
   count_is : now.count ≡ t.n
@@ -403,23 +370,10 @@ module _ (log : Log) (batch : Batch) (mark : Checkpoint) (rest : List Checkpoint
   few_still : batch.count + now.count ≤ docs_target
   few_still = let s = slice_few log mark.partition mark.at (read_limit batch.count) t.n t.within in let n = count_is in let before = b.few in omega (arith, s, n, before)
 
-  -- nothing is taken of an empty slice
-  placed_of : mark.at + length (slice_of log batch mark) ≤ 2 ^ 64 ⊎ (slice_of log batch mark ≡ []) → AllByRecursion IsPlaced (accepted_from mark.partition mark.at (take t.n (slice_of log batch mark)))
-  placed_of (inl low) =
-      accepted_placed mark.partition mark.at (take t.n (slice_of log batch mark)) named (let k = length-take t.n (slice_of log batch mark) in omega (arith, k, low))
-  placed_of (inr none) =
-      subst (λ rs. AllByRecursion IsPlaced (accepted_from mark.partition mark.at (take t.n rs))) (sym none) (accepted_nothing mark.partition mark.at t.n)
-
-  placed_still : AllByRecursion IsPlaced now.documents
-  placed_still =
-      subst (AllByRecursion IsPlaced) (sym t.documents)
-      (placed-append batch.documents (accepted_from mark.partition mark.at (take t.n (slice_of log batch mark))) b.placed (placed_of (slice_low log mark.partition mark.at (read_limit batch.count) l.good)))
-
   pub read_keeps : (moment : ℕ) → IsBatch log (batch_after batch mark rest now at_end moment)
   read_keeps moment =
       record {
         documents = reads.documents;
-        placed = placed_still;
         ends = reads.ends;
         count = reads.count;
         less = less_still;
@@ -429,7 +383,6 @@ module _ (log : Log) (batch : Batch) (mark : Checkpoint) (rest : List Checkpoint
         room = λ e. below_target docs_target (batch.count + now.count) (going (queue_after at_end mark now.count rest) (batch.count + now.count) now.heavy (first_moment batch.first_read moment) moment e).1;
         ahead = λ e. (going (queue_after at_end mark now.count rest) (batch.count + now.count) now.heavy (first_moment batch.first_read moment) moment e).0;
         queue = reads.queue;
-        named = named_on at_end mark now.count rest named named_rest;
       }
 
 -- ---- a fresh batch, and a closed one
@@ -442,15 +395,10 @@ new_marked : (checkpoints : List Checkpoint) (names : List (List ℕ)) → AreAp
 new_marked checkpoints [] h = tt
 new_marked checkpoints (name ∷ names) h = (tt, others_marked checkpoints name names h.0, new_marked checkpoints names h.1)
 
-named_marked : (checkpoints : List Checkpoint) (names : List (List ℕ)) → AllByRecursion IsPartition names → AllByRecursion (λ m. IsPartition m.partition) (marks_at checkpoints names)
-named_marked checkpoints [] h = tt
-named_marked checkpoints (name ∷ names) h = (h.0, named_marked checkpoints names h.1)
-
-pub fresh_is_batch : (log : Log) (checkpoints : List Checkpoint) (names : List (List ℕ)) → AreApart names → AllByRecursion IsPartition names → IsBatch log (fresh_batch (marks_at checkpoints names))
-fresh_is_batch log checkpoints names h named =
+pub fresh_is_batch : (log : Log) (checkpoints : List Checkpoint) (names : List (List ℕ)) → AreApart names → IsBatch log (fresh_batch (marks_at checkpoints names))
+fresh_is_batch log checkpoints names h =
     record {
       documents = refl;
-      placed = tt;
       ends = tt;
       count = refl;
       less = omega arith;
@@ -459,7 +407,6 @@ fresh_is_batch log checkpoints names h named =
       calm = λ e. omega arith;
       room = λ e. omega arith;
       ahead = λ e. e;
-      named = named_marked checkpoints names named;
       queue = queue_rest [] (marks_at checkpoints names) (new_marked checkpoints names h);
     }
 

@@ -1,17 +1,16 @@
 -- What an indexer holds, from one call of a world to the next.
-use Rattle.std.proofs.Common.{◌≡◌, ℕ, ◌+◌, ◌-◌, ◌<◌, ◌≤◌, List, [], ◌∷◌, ◌++◌, refl, sym, ap, ◌∙◌, subst, Bool, true, false, length, arith}
-use Rattle.std.specs.Prelude.{Option, Some, None}
+use Rattle.std.proofs.Common.{◌≡◌, ℕ, ◌+◌, ◌-◌, List, sym, ap, subst, true, length, arith}
+use Rattle.std.specs.Prelude.{Option, Some}
 use Rattle.meta_journal.specs.declared.entry.Entry.{Entry}
 use Rattle.meta_store.specs.History.{history, last_number}
 use Rattle.source_log.specs.Log.{Log}
-use Rattle.index_world.specs.Core.{Core, IsUnusedIn, IsUploadedIn, HasStagedIn, KeepsBut, IsOther}
+use Rattle.index_world.specs.Core.{Core, IsUploadedIn, HasStagedIn, KeepsBut, IsOther}
 use Rattle.index_world.specs.Gate.{IsStagedIn, IsPublishable}
 use Rattle.index_world.specs.Index.{has_staged, facts_of, IsMade}
-use Rattle.index_world.specs.Seen.{record_count}
 use Rattle.index_world.specs.SplitFile.{split_file}
 use Rattle.index_world.proofs.Numbers.{staged_le}
 use Rattle.indexing_run.specs.Places.{Batch, Held, held_facts, IsStagedHeld, IsUploadedHeld}
-use Rattle.indexing_run.specs.Places.{Place, idle, reading, staged, uploaded, Indexer, number_held}
+use Rattle.indexing_run.specs.Places.{Place, Indexer, number_held}
 use Rattle.indexing_run.specs.Standing.{PlaceStands, IndexerStands}
 use Rattle.indexing_run.specs.Steps.{batch_facts, held_of}
 use Rattle.indexing_run.specs.declared.indexer.Indexer.{Indexer as Reader}

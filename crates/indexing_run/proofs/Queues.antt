@@ -1,12 +1,11 @@
 -- The queue of a batch, and its parts, as the code keeps them.
-use Rattle.std.proofs.Common.{◌≡◌, ℕ, zero, suc, ◌+◌, ◌-◌, ◌<◌, ◌≤◌, min, List, [], ◌∷◌, ◌++◌, refl, sym, ap, ◌∙◌, subst, inl, inr, Bool, true, false, length, take, drop, get_or, set, leb, arith, bytes_eq, length-drop, nat_lt, if◌then◌else◌}
+use Rattle.std.proofs.Common.{◌≡◌, ℕ, zero, suc, ◌+◌, ◌-◌, ◌<◌, List, [], ◌∷◌, ◌++◌, refl, sym, ap, ◌∙◌, inl, inr, Bool, true, false, length, drop, get_or, set, leb, arith, bytes_eq, length-drop}
 use Rattle.std.proofs.Math.Seq.{drop-cons, set-append_seam, get_or-append_seam}
 use Rattle.std.proofs.lemmas.Bool.Decides.{nat_tests}
 use Rattle.std.proofs.lemmas.List.{length-append}
 use Rattle.source_checkpoint.specs.declared.delta.Part.{Part}
-use Rattle.source_checkpoint.specs.declared.ledger.Checkpoint.{Checkpoint}
 use Rattle.source_checkpoint.proofs.Ranges.{partition_itself}
-use Rattle.indexing_run.specs.Making.{IsNew, IsLast, Follows}
+use Rattle.indexing_run.specs.Making.{IsNew, Follows}
 use Rattle.indexing_run.specs.Steps.{is_empty, extended}
 use Rattle.indexing_run.proofs.Batches.{extended-new, extended-last}
 

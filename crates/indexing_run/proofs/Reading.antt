@@ -1,19 +1,17 @@
 -- A step of an indexer that calls its log.
-use Rattle.std.proofs.Common.{◌≡◌, ◌⊎◌, ℕ, suc, ◌+◌, ◌-◌, ◌<◌, ◌≤◌, ◌==◌, ◌||◌, ◌&&◌, ◌^◌, ◌↔◌, IsTrue, min, List, [], ◌∷◌, ◌++◌, refl, sym, ap, ◌∙◌, subst, Bool, true, false, length, drop, take, arith, nat_lt, nat_le, Ok, Err, Result, Option, Some, None, length-take, length-drop}
+use Rattle.std.proofs.Common.{◌≡◌, ℕ, ◌+◌, ◌-◌, ◌≤◌, ◌==◌, ◌||◌, ◌↔◌, IsTrue, min, List, [], ◌∷◌, refl, sym, ap, ◌∙◌, subst, Bool, true, false, length, drop, take, arith, nat_lt, nat_le, Ok, Err, Result, Option, Some, None, length-take, length-drop}
 use Rattle.std.specs.Prelude.{⊤, if◌then◌else◌}
-use Rattle.std.specs.List.{AllByRecursion}
 use Rattle.std.specs.declared.alloc.AllocError.{AllocError}
 use Rattle.std.proofs.lemmas.Bool.Decides.{nat_tests}
 use Rattle.byte_fields.specs.Causes.{Rose}
-use Rattle.source_checkpoint.specs.Names.{IsPartition}
 use Rattle.source_checkpoint.specs.declared.ledger.Checkpoint.{Checkpoint}
-use Rattle.source_log.specs.Log.{Log, records_of, names_of, IsLog, IsSliceOf, WhereLogTold, ReadsSlice}
+use Rattle.source_log.specs.Log.{Log, records_of, IsLog, IsSliceOf, WhereLogTold, ReadsSlice}
 use Rattle.source_log.specs.declared.lists.Records.{Records}
 use Rattle.source_log.specs.declared.log.ReadError.{ReadError}
 use Rattle.source_log.specs.declared.log.ReadError.TheVariants as errors
 use Rattle.meta_store.specs.History.{history}
 use Rattle.meta_store.specs.State.{checkpoints_of}
-use Rattle.index_world.specs.Calls.{Fate, calm_fate, Trouble, Gives, gives, risen, looked, asked}
+use Rattle.index_world.specs.Calls.{Fate, calm_fate, Trouble, gives, risen, looked, asked}
 use Rattle.index_world.specs.Core.{Core, last_count}
 use Rattle.index_world.specs.World.{GoesOn}
 use Rattle.index_world.specs.Gate.{Does, Says, IsTrouble, IsMoment, AreMarks}
@@ -29,13 +27,13 @@ use Rattle.indexing_run.specs.Outcomes as outcomes
 use Rattle.indexing_run.specs.Outcomes.{IndexerOutcome}
 use Rattle.indexing_run.specs.Places.{Batch, Place, idle, reading, Indexer, number_held}
 use Rattle.indexing_run.specs.Standing.{Answers, BatchStands, ReadsOn, PlaceStands, IndexerStands, NamesGiven, StepsAs, batch_read, next_read}
-use Rattle.indexing_run.specs.Steps.{is_empty, LogCall, Luck, Stepped, stepped, Taken, taken_from, start_of, batch_after, read_limit, fresh_batch, marks_at, partitions_for, log_may_fail, log_called, trouble_outcome, checkpoints_by, checkpoints_given, take_checkpoints, idle_by, idle_unless, read_by, read_given, read_asked, step_read, step_stage, step_place, or_short, step_indexer}
+use Rattle.indexing_run.specs.Steps.{is_empty, Luck, stepped, taken_from, start_of, batch_after, read_limit, fresh_batch, marks_at, partitions_for, log_may_fail, trouble_outcome, checkpoints_given, idle_by, idle_unless, read_by, read_asked, step_read, step_stage, step_place, or_short, step_indexer}
 use Rattle.indexing_run.proofs.Batches.{fresh_is_batch, read_taken, read_keeps, slice_of}
 use Rattle.indexing_run.proofs.Light.{light}
-use Rattle.indexing_run.proofs.Steps.{assigned_apart, assigned_named}
+use Rattle.indexing_run.proofs.Steps.{assigned_apart}
 use Rattle.index_world.specs.declared.tokens.Marks.{Marks}
 use Rattle.index_world.specs.declared.world_error.WorldError.{WorldError}
-use Rattle.indexing_run.proofs.Stepping.{goes_nowhere, by_world, ends_idle, idle_stays}
+use Rattle.indexing_run.proofs.Stepping.{goes_nowhere, by_world, ends_idle}
 
 -- ---- what a log told
 
@@ -135,7 +133,6 @@ pub reads_on : (log : Log) (batch : Batch) (next : NextRead) (nx : NextIs batch 
 reads_on log batch next nx records b closed bound =
     record {
       queue = nx.queue;
-      named = (subst (λ marks. AllByRecursion (λ m. IsPartition m.partition) marks) nx.queue b.named).0;
       follows = (subst (λ marks. IsQueue batch.parts marks) nx.queue b.queue).0;
       calm = b.calm closed;
       room = let room = nx.room in let few = b.few in omega (arith, bound, room, few);
@@ -224,9 +221,8 @@ module _ {L W : Type 0} (tells : L → Option Log) (count : L → ℕ) (Stands :
       unfolding read_batch
       batch_stays =
           let q = subst (λ marks. IsQueue batch.parts marks) queue b.queue in
-          let n = subst (λ marks. AllByRecursion (λ m. IsPartition m.partition) marks) queue b.named in
           read_keeps log batch mark rest l b (taken_from mark.partition mark.at (slice_of log batch mark) (start_of batch))
-          (nat_le (length (drop mark.at (records_of log mark.partition))) (read_limit batch.count)) n.0 n.1 q.0 q.1 q.2 (read_taken light log batch mark l b closed) a.behind.moment
+          (nat_le (length (drop mark.at (records_of log mark.partition))) (read_limit batch.count)) q.0 q.1 q.2 (read_taken light log batch mark l b closed) a.behind.moment
 
       pub reads_some : (n : ℕ) (held : HeldBatch) → n ≡ (taken_from mark.partition mark.at records.list (start_of batch)).count → BatchStands held (batch_read batch mark rest records moment) →
           StepsAs tells count Stands Between (Ok (said.Read n)) (record indexer { place = reading batch }) core log (record next { place = places.Reading held }) caller
@@ -396,7 +392,7 @@ module _ {L W : Type 0} (tells : L → Option Log) (count : L → ℕ) (Stands :
               refl,
               subst (λ names. BatchStands held (fresh_batch (marks_at (checkpoints_of (history d.after.history)) names))) names_are
                   (subst (λ checkpoints. BatchStands held (fresh_batch (marks_at checkpoints names))) w.checkpoints b),
-              fresh_is_batch log (checkpoints_of (history d.after.history)) (partitions_for indexer.assignment log) (assigned_apart log indexer.assignment l s.assigned) (assigned_named log indexer.assignment l s.assigned),
+              fresh_is_batch log (checkpoints_of (history d.after.history)) (partitions_for indexer.assignment log) (assigned_apart log indexer.assignment l s.assigned),
             )
             d.stands d.goes_on
         by (Err e) did w = absurd w

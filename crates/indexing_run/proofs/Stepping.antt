@@ -1,26 +1,20 @@
 -- A step of an indexer, from what its calls did.
-use Rattle.std.proofs.Common.{◌≡◌, ◌⊎◌, ℕ, suc, ◌+◌, ◌-◌, ◌<◌, ◌≤◌, ◌==◌, ◌||◌, ◌&&◌, ◌^◌, min, List, [], ◌∷◌, ◌++◌, refl, sym, ap, ◌∙◌, subst, Bool, true, false, not, length, drop, take, arith, append-nil, nat_lt, nat_le, Ok, Err, Result, Option, Some, None}
+use Rattle.std.proofs.Common.{◌≡◌, ℕ, ◌-◌, ◌<◌, ◌≤◌, ◌==◌, ◌^◌, min, List, [], refl, sym, ap, ◌∙◌, subst, Bool, true, false, not, length, arith, append-nil, Ok, Err, Result, Option, Some, None}
 use Rattle.std.specs.Prelude.{⊤, if◌then◌else◌}
 use Rattle.std.specs.declared.alloc.AllocError.{AllocError}
 use Rattle.std.specs.Result.{IsErr}
-use Rattle.std.proofs.lemmas.Bool.Decides.{nat_tests}
-use Rattle.byte_fields.specs.Causes.{Rose}
 use Rattle.source_checkpoint.specs.declared.delta.Part.{Part}
-use Rattle.source_checkpoint.specs.declared.ledger.Checkpoint.{Checkpoint}
-use Rattle.source_log.specs.Log.{Log, records_of, names_of, IsLog, IsSliceOf}
-use Rattle.source_log.specs.declared.lists.Records.{Records}
+use Rattle.source_log.specs.Log.{Log}
 use Rattle.split_states.specs.declared.facts.RowFacts.{RowFacts}
 use Rattle.meta_store.specs.History.{history, last_number}
-use Rattle.meta_store.specs.State.{checkpoints_of}
-use Rattle.index_world.specs.Calls.{Fate, calm_fate, Fault, Trouble, faulted, no_memory, Unmade, refused, troubled, Gives, gives, risen, looked, asked, upload_made}
-use Rattle.index_world.specs.Core.{Core, KeepsBut, IsOther, IsUploadedIn, journal_of, last_count}
-use Rattle.index_world.specs.Gate.{Does, Says, IsTrouble, IsUnmade, AreMarks, IsMoment, WasStaged, WasUploaded, IsStagedIn, IsRevision, stage_call, publish_call}
+use Rattle.index_world.specs.Calls.{Fate, calm_fate, Trouble, Unmade, gives, upload_made}
+use Rattle.index_world.specs.Core.{Core, IsUploadedIn}
+use Rattle.index_world.specs.Gate.{Does, Says, IsTrouble, IsUnmade, WasStaged, WasUploaded, IsStagedIn, IsRevision, stage_call, publish_call}
 use Rattle.index_world.specs.Config.{docs_target}
-use Rattle.index_world.specs.Index.{has_staged, most, facts_of}
+use Rattle.index_world.specs.Index.{most, facts_of}
 use Rattle.index_world.specs.declared.placed.Placed.{Placed}
-use Rattle.index_world.specs.SplitFile.{split_file}
+use Rattle.index_world.specs.SplitFile.{split_file, weight, max_weight}
 use Rattle.index_world.specs.World.{GoesOn}
-use Rattle.index_world.specs.declared.tokens.Marks.{Marks}
 use Rattle.index_world.specs.declared.tokens.Staged.{Staged}
 use Rattle.index_world.specs.declared.tokens.Uploaded.{Uploaded}
 use Rattle.index_world.specs.declared.world_error.WorldError.{WorldError}
@@ -32,9 +26,9 @@ use Rattle.indexing_run.specs.declared.outcome.IndexerOutcome.TheVariants as sai
 use Rattle.indexing_run.specs.Making.{IsBatch}
 use Rattle.indexing_run.specs.Outcomes as outcomes
 use Rattle.indexing_run.specs.Outcomes.{IndexerOutcome}
-use Rattle.indexing_run.specs.Places.{Batch, Held, Place, idle, reading, staged, uploaded, Indexer, IsStagedHeld, IsUploadedHeld, number_held}
-use Rattle.indexing_run.specs.Standing.{IsSaid, Answers, BatchStands, PlaceStands, IndexerStands, StepsAs, batch_read}
-use Rattle.indexing_run.specs.Steps.{LogCall, Luck, Stepped, stepped, trouble_outcome, publish_given, publish_outcome, publish_by, upload_given, upload_by, stage_given, stage_by, stage_outcome, step_stage, step_batch, step_read, step_place, step_indexer, held_of, batch_facts}
+use Rattle.indexing_run.specs.Places.{Batch, Held, Place, idle, reading, staged, uploaded, Indexer, IsStagedHeld, number_held}
+use Rattle.indexing_run.specs.Standing.{Answers, PlaceStands, IndexerStands, StepsAs}
+use Rattle.indexing_run.specs.Steps.{LogCall, Luck, stepped, trouble_outcome, publish_given, publish_outcome, publish_by, upload_given, upload_by, stage_given, stage_by, stage_outcome, step_stage, step_read, step_indexer, held_of, batch_facts}
 use Rattle.indexing_run.proofs.Holding.{staged_is_held, uploaded_is_held}
 
 abbrev pub quiet_log : LogCall
@@ -278,6 +272,9 @@ unpublished_answers held number indexer error answered same f (Ok done) after w 
 unpublished_answers held number indexer error answered same f (Err e) after w = subst (λ n. Answers answered (publish_outcome n e)) same (f e w)
 
 -- ---- the facts of a split that is staged
+
+pub weighs_few : (batch : Batch) (documents : List Placed) → documents ≡ batch.documents → weight batch.documents ≤ max_weight → weight documents < 2 ^ 64
+weighs_few batch documents d few = subst (λ docs. weight docs < 2 ^ 64) (sym d) (omega (arith, few))
 
 abbrev with_rejected : ℕ → RowFacts → RowFacts
 with_rejected n facts = record facts { rejected = n }

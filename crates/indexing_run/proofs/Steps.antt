@@ -1,7 +1,5 @@
 -- Each step of an indexer keeps its batch made of the log.
-use Rattle.std.proofs.Common.{◌≡◌, ℕ, suc, ◌<◌, List, [], ◌∷◌, refl, sym, ap, ◌∙◌, subst, Bool, true, false, bytes_eq, drop, take, length, nat_le, ◌==◌, All, AllPairs, slice_index_or, arith}
-use Rattle.source_checkpoint.specs.Names.{IsPartition}
-use Rattle.source_log.specs.Log.{IsGoodPart}
+use Rattle.std.proofs.Common.{◌≡◌, ℕ, suc, ◌<◌, List, [], ◌∷◌, refl, subst, Bool, true, false, bytes_eq, drop, length, nat_le, ◌==◌, AllPairs, slice_index_or, arith}
 use Rattle.source_checkpoint.proofs.Ranges.{same_partition}
 use Rattle.std.proofs.lemmas.Map.Keys.{sorted_head, sorted_tail}
 use Rattle.std.specs.List.{AllByRecursion}
@@ -15,13 +13,13 @@ use Rattle.meta_store.specs.State.{checkpoints_of}
 use Rattle.source_checkpoint.specs.declared.ledger.Checkpoint.{Checkpoint}
 use Rattle.source_log.proofs.Ordered.{eq-by_order}
 use Rattle.source_log.specs.Log.{Log, records_of, names_of, IsLog}
-use Rattle.index_world.specs.Calls.{Trouble, Unmade, Gives, looked, asked, upload_made}
+use Rattle.index_world.specs.Calls.{Trouble, Unmade, looked, asked, upload_made}
 use Rattle.index_world.specs.Core.{Core}
 use Rattle.index_world.specs.Gate.{publish_call, stage_call}
 use Rattle.index_world.specs.SplitFile.{split_file}
 use Rattle.indexing_run.specs.Outcomes.{CaughtUp}
 use Rattle.indexing_run.specs.Places.{Batch, Held, Place, idle, reading, staged, uploaded, Indexer}
-use Rattle.indexing_run.specs.Steps.{Luck, Stepped, stepped, partitions_for, log_may_fail, log_called, checkpoints_by, take_checkpoints, idle_by, idle_unless, step_idle, taken_from, read_limit, read_current, read_by, read_given, step_read, stage_by, step_stage, batch_facts, upload_by, step_upload, publish_by, step_publish, step_batch, step_place, or_short, step_indexer, start_of}
+use Rattle.indexing_run.specs.Steps.{Luck, Stepped, stepped, partitions_for, log_may_fail, log_called, checkpoints_by, idle_by, idle_unless, taken_from, read_limit, read_current, read_by, read_given, step_read, stage_by, step_stage, batch_facts, upload_by, publish_by, step_batch, step_place, or_short, step_indexer, start_of}
 use Rattle.indexing_run.proofs.Batches.{IsLight, fresh_is_batch, read_taken, read_keeps, slice_of}
 use Rattle.indexing_run.specs.Making.{IsBatch, IsQueue, AreApart, IsAssigned}
 
@@ -56,26 +54,13 @@ pairs_apart (name ∷ names) h = (others_of names (λ i d low. h 0 (suc i) d (om
     others_of [] k = tt
     others_of (r ∷ rest) k = (names_apart name r (k 0 r (omega arith)), others_of rest (λ i d low. k (suc i) d (omega (arith, low))))
 
-all_named : (names : List (List ℕ)) → All IsPartition names → AllByRecursion IsPartition names
-all_named [] h = tt
-all_named (name ∷ names) h = (h 0 name (omega arith), all_named names (λ i d low. h (suc i) d (omega (arith, low))))
-
-log_named : (log : Log) → AllByRecursion IsGoodPart log → AllByRecursion IsPartition (names_of log)
-log_named [] h = tt
-log_named (part ∷ log) h = (h.0.0, log_named log h.1)
-
 pub assigned_apart : (log : Log) (assignment : Option (List (List ℕ))) → IsLog log → IsAssigned assignment → AreApart (partitions_for assignment log)
 assigned_apart log None l a = sorted_apart (names_of log) l.in_order
 assigned_apart log (Some names) l a = pairs_apart names a.1
 
-pub assigned_named : (log : Log) (assignment : Option (List (List ℕ))) → IsLog log → IsAssigned assignment → AllByRecursion IsPartition (partitions_for assignment log)
-assigned_named log None l a = log_named log l.good
-assigned_named log (Some names) l a = all_named names a.0
-
 module _ (light : IsLight) (log : Log) (l : IsLog log) where
   checkpoints_kept : (r : Result ⊤ Trouble) (indexer : Indexer) (core : Core) → IsAssigned indexer.assignment → IsPlaceMade log (checkpoints_by r log indexer core).indexer.place
   checkpoints_kept (Ok done) indexer core a = fresh_is_batch log (checkpoints_of (history core.history)) (partitions_for indexer.assignment log) (assigned_apart log indexer.assignment l a)
-      (assigned_named log indexer.assignment l a)
   checkpoints_kept (Err trouble) indexer core a = tt
 
   idle_kept : (fails : Bool) (o : Option (List (List ℕ))) (luck : Luck) (indexer : Indexer) (core : Core) → IsAssigned indexer.assignment → IsPlaceMade log (idle_by fails o luck log indexer core).indexer.place
@@ -93,9 +78,8 @@ module _ (light : IsLight) (log : Log) (l : IsLog log) where
         IsPlaceMade log (read_current batch mark rest (drop mark.at (records_of log mark.partition)) indexer core).indexer.place
     current_kept mark rest indexer core e =
         let q = subst (λ marks. IsQueue batch.parts marks) e b.queue in
-        let n = subst (λ marks. AllByRecursion (λ m. IsPartition m.partition) marks) e b.named in
         read_keeps log batch mark rest l b (taken_from mark.partition mark.at (slice_of log batch mark) (start_of batch))
-        (nat_le (length (drop mark.at (records_of log mark.partition))) (read_limit batch.count)) n.0 n.1 q.0 q.1 q.2 (read_taken light log batch mark l b calm) core.moment
+        (nat_le (length (drop mark.at (records_of log mark.partition))) (read_limit batch.count)) q.0 q.1 q.2 (read_taken light log batch mark l b calm) core.moment
 
     by_kept : (fails : Bool) (luck : Luck) (mark : Checkpoint) (rest : List Checkpoint) (indexer : Indexer) (core : Core) → batch.queue ≡ mark ∷ rest → IsPlaceMade log (read_by fails luck log batch mark rest indexer core).indexer.place
     by_kept true luck mark rest indexer core e = b

@@ -1,5 +1,5 @@
 -- What the code takes of a read is what is taken from it.
-use Rattle.std.proofs.Common.{◌≡◌, ℕ, zero, suc, ◌+◌, ◌<◌, ◌≤◌, ◌^◌, min, List, [], ◌∷◌, ◌++◌, refl, sym, ap, ◌∙◌, subst, Bool, true, false, length, arith, nat_lt, Ok, Err, Result, Option, Some, None}
+use Rattle.std.proofs.Common.{◌≡◌, ℕ, suc, ◌+◌, ◌≤◌, min, List, [], ◌∷◌, ◌++◌, refl, sym, ap, ◌∙◌, subst, false, length, arith, nat_lt, Ok, Err, Result, Option, Some, None}
 use Rattle.std.specs.Result.{OnOk}
 use Rattle.doc_value.specs.declared.doc.DocField.{DocField}
 use Rattle.index_world.specs.Accepted.{accepted}
@@ -12,11 +12,10 @@ use Rattle.source_checkpoint.specs.declared.ledger.Checkpoint.{Checkpoint}
 use Rattle.source_log.specs.declared.lists.Records.{Records}
 use Rattle.source_checkpoint.specs.declared.delta.Part.{Part}
 use Rattle.indexing_run.specs.Making.{Follows}
-use Rattle.index_world.specs.Config.{docs_target}
 use Rattle.indexing_run.specs.Places.{Batch}
 use Rattle.indexing_run.specs.declared.batch.Batch.{Batch as HeldBatch}
 use Rattle.indexing_run.specs.Standing.{kept_weight, taken_so_far, left_of, BatchStands, ReadsOn, batch_read}
-use Rattle.indexing_run.specs.Steps.{Taken, with_record, with_document, max_batch_weight, taken_from, start_of, parts_after, queue_after, first_moment, is_closed, batch_after}
+use Rattle.indexing_run.specs.Steps.{with_record, max_batch_weight, taken_from, start_of, parts_after, queue_after, first_moment, is_closed, batch_after}
 use Rattle.indexing_run.proofs.Batches.{weight-snoc}
 
 pub on_ok : {T E : Type 0} (r : Result T E) (P Q : Type 0) → (P → Q) → OnOk r P → OnOk r Q

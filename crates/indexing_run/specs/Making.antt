@@ -1,5 +1,5 @@
 -- A batch that is made of a log.
-use Rattle.std.specs.Prelude.{◌≡◌, ◌⊎◌, ℕ, ◌<◌, ◌≤◌, Bool, true, false, List, [], ◌∷◌, ◌++◌, length, Option, Some, None, All, AllPairs, bytes_eq, ⊤}
+use Rattle.std.specs.Prelude.{◌≡◌, ◌⊎◌, ℕ, ◌<◌, ◌≤◌, false, List, [], ◌∷◌, ◌++◌, length, Option, Some, None, All, AllPairs, bytes_eq}
 use Rattle.std.specs.List.{AllByRecursion}
 use Rattle.source_checkpoint.specs.Names.{IsPartition}
 use Rattle.source_checkpoint.specs.declared.delta.Part.{Part}
@@ -7,7 +7,7 @@ use Rattle.source_checkpoint.specs.declared.ledger.Checkpoint.{Checkpoint}
 use Rattle.source_log.specs.Log.{Log, records_of}
 use Rattle.index_world.specs.Config.{docs_target}
 use Rattle.index_world.specs.Seen.{accepted_in, record_count}
-use Rattle.index_world.specs.SplitFile.{weight, max_weight, IsPlaced}
+use Rattle.index_world.specs.SplitFile.{weight, max_weight}
 use Rattle.indexing_run.specs.Places.{Batch}
 use Rattle.indexing_run.specs.Steps.{is_empty, max_batch_weight}
 
@@ -45,14 +45,12 @@ EndWithin log parts = AllByRecursion (λ part. part.to ≤ length (records_of lo
 -- the batch has the accepted records of its parts, and keeps a split's limits
 pub record IsBatch (log : Log) (batch : Batch) : Type 0 where
   pub documents : batch.documents ≡ accepted_in log batch.parts
-  pub placed : AllByRecursion IsPlaced batch.documents
   pub ends : EndWithin log batch.parts
   pub count : record_count batch.parts ≡ batch.count
   pub less : length batch.documents ≤ batch.count
   pub few : batch.count ≤ docs_target
   pub weighs : weight batch.documents ≤ max_weight
   pub queue : IsQueue batch.parts batch.queue
-  pub named : AllByRecursion (λ mark. IsPartition mark.partition) batch.queue
   -- before it is closed there is room for a record, and something to read
   pub calm : batch.closed ≡ false → weight batch.documents ≤ max_batch_weight
   pub room : batch.closed ≡ false → batch.count < docs_target

@@ -1,6 +1,5 @@
 -- What an indexer of the code stands for, and what its step says.
-use Rattle.std.specs.Prelude.{◌≡◌, ℕ, ◌+◌, ◌≤◌, min, nat_lt, true, List, [], ◌∷◌, length, drop, Option, Some, None, Result, Ok, Err, ⊤}
-use Rattle.source_checkpoint.specs.Names.{IsPartition}
+use Rattle.std.specs.Prelude.{◌≡◌, ℕ, ◌+◌, ◌≤◌, min, nat_lt, true, List, [], ◌∷◌, length, drop, decimal, codes, Option, Some, None, Result, Ok, Err, ⊤}
 use Rattle.source_checkpoint.specs.declared.ledger.Checkpoint.{Checkpoint as Mark}
 use Rattle.std.specs.declared.alloc.AllocError.{AllocError}
 use Rattle.source_log.specs.Log.{Log, names_of}
@@ -14,6 +13,7 @@ use Rattle.index_world.specs.Calls.{Fault, faulted}
 use Rattle.index_world.specs.Core.{Core, journal_of}
 use Rattle.index_world.specs.Gate.{IsTrouble}
 use Rattle.index_world.specs.Index.{has_staged, most}
+use Rattle.index_world.specs.Saying.{refusal_words, error_words}
 use Rattle.index_world.specs.SplitFile.{weight, split_file}
 use Rattle.index_world.specs.World.{GoesOn}
 use Rattle.indexing_run.specs.declared.batch.Batch.{Batch as HeldBatch}
@@ -44,6 +44,20 @@ IsSaid (said.Lost number refusal) outcome = outcome ≡ Lost number refusal
 IsSaid (said.Refused refusal) outcome = outcome ≡ Refused refusal
 IsSaid (said.Fault error) outcome = (fault : Fault) × (outcome ≡ Faulted fault) × IsTrouble error (faulted fault)
 IsSaid (said.SourceFault before after) outcome = outcome ≡ SourceFault before after
+
+-- the words of an outcome of the code
+abbrev pub said_words : Said → List (List ℕ)
+said_words said.Checkpoint = codes "checkpoint" ∷ []
+said_words (said.Read count) = codes "read" ∷ decimal count ∷ []
+said_words (said.Staged number) = codes "staged" ∷ decimal number ∷ []
+said_words (said.Uploaded number) = codes "uploaded" ∷ decimal number ∷ []
+said_words (said.Published number) = codes "published" ∷ decimal number ∷ []
+said_words said.CaughtUp = codes "caughtup" ∷ []
+said_words (said.Stale partition current from) = codes "stale" ∷ partition ∷ decimal current ∷ decimal from ∷ []
+said_words (said.Lost number refusal) = codes "lost" ∷ decimal number ∷ refusal_words refusal
+said_words (said.Refused refusal) = codes "refused" ∷ refusal_words refusal
+said_words (said.Fault error) = error_words error
+said_words (said.SourceFault before after) = codes "sourcefault" ∷ decimal before ∷ decimal after ∷ []
 
 -- an outcome was given, or there was no memory for it
 abbrev pub Answers : Result Said AllocError → Option IndexerOutcome → Type 0
@@ -84,7 +98,6 @@ next_read (mark ∷ rest) count = Some (record { partition = mark.partition; fro
 -- this is read of a batch: records from its first mark on, no more than there is room for
 pub record ReadsOn (batch : Batch) (mark : Mark) (rest : List Mark) (records : Records) : Type 0 where
   pub queue : batch.queue ≡ mark ∷ rest
-  pub named : IsPartition mark.partition
   pub follows : Follows batch.parts mark
   pub calm : weight batch.documents ≤ max_batch_weight
   pub room : batch.count + length records.list ≤ docs_target

@@ -14,7 +14,7 @@ use Rattle.split_states.specs.declared.facts.RowFacts.{RowFacts}
 use Rattle.doc_value.specs.declared.doc.DocField.{DocField}
 use Rattle.source_checkpoint.specs.declared.delta.StaleDelta.TheVariants as deltas
 use Rattle.index_world.specs.Accepted.{accepted}
-use Rattle.index_world.specs.Calls.{Fate, Fault, Trouble, faulted, no_memory, Unmade, refused, troubled, Gives, risen, looked, asked, upload_made}
+use Rattle.index_world.specs.Calls.{Fate, Trouble, faulted, no_memory, Unmade, refused, troubled, Gives, risen, looked, asked, upload_made}
 use Rattle.index_world.specs.Config.{docs_target, commit_timeout}
 use Rattle.index_world.specs.Core.{Core, last_count}
 use Rattle.index_world.specs.Gate.{stage_call, publish_call}

@@ -100,8 +100,6 @@ fn take_record(
     let Some(doc) = accept(alloc, bytes.as_slice())? else {
         return Ok(());
     };
-    // Each partition has a name.
-    let _name = partition.as_bytes();
     let placed = Placed {
         partition: partition.copy(),
         offset,

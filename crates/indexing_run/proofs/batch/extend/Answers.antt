@@ -1,4 +1,4 @@
-use Rattle.std.proofs.Common.{◌≡◌, ◌∙◌, sym, suc, ◌-◌, length, arith, ap, bytes_eq, true, ◌++◌, ◌∷◌, []}
+use Rattle.std.proofs.Common.{◌≡◌, ◌∙◌, sym, suc, ◌-◌, length, arith, ap, bytes_eq, ◌++◌, ◌∷◌, []}
 use Rattle.indexing_run.proofs.Queues.{same_read, extends_last, extends_new, true_or_false}
 use Rattle.indexing_run.proofs.batch.extend.Goals as goal
 use Rattle.indexing_run.proofs.batch.extend.Goals.{else-count-gt0-via-then-count-gt0+else-is, else-count-gt0-via-else-count-gt0}

@@ -1,11 +1,7 @@
-use Rattle.std.proofs.Common.{Some, ◌≡◌, ◌<◌, ◌^◌, ◌∙◌, sym, ap, subst, arith, rules, min, suc, ◌++◌, ◌∷◌, []}
-use Rattle.source_checkpoint.specs.Names.{IsPartition}
-use Rattle.index_world.specs.Index.{most}
+use Rattle.std.proofs.Common.{Some, ◌≡◌, ◌∙◌, sym, ap, suc, ◌++◌, ◌∷◌, []}
 use Rattle.index_world.specs.Accepted.{accepted}
-use Rattle.index_world.specs.SplitFile.{IsPlaced, weight_of}
 use Rattle.indexing_run.specs.Standing.{kept_weight, taken_so_far}
 use Rattle.indexing_run.specs.Steps.{with_record}
-use Rattle.indexing_run.proofs.Batches.{accepted_fields}
 use Rattle.indexing_run.proofs.Takes.{on_ok, placed_at, takes_one}
 use Rattle.indexing_run.proofs.batch.take_record.Goals as goal
 
@@ -14,11 +10,9 @@ returns c = λ n e.
     let name = c.args.partition.now in
     let doc = c.in-Some.doc in
     let is : accepted c.args.bytes.now ≡ Some doc = ap accepted (sym c.as_slice.ensures) ∙ sym c.in_ok-doc.ensures ∙ c.in-Some.is in
-    let placed : IsPlaced (placed_at name c.args.offset doc) =
-    record { partition = c.as_bytes-name.ensures.good; offset = omega arith; doc = accepted_fields c.args.bytes.now doc is } in
-    let given = rw c.copy.ensures at c.weight_of.ensures in
+    let given = c.weight_of.ensures in
     on_ok c.push.result (c.push.new.self ≡ c.args.documents.now ++ placed_at c.copy.result c.args.offset doc ∷ [])
     ((c.saturating_add.result ≡ kept_weight c.push.new.self) × (with_record name c.args.offset (accepted c.args.bytes.now) (taken_so_far n c.args.documents.now) ≡ taken_so_far (suc n) c.push.new.self))
-    (λ after. takes_one name c.args.offset n c.args.bytes.now doc c.args.documents.now c.push.new.self c.args.weight.now c.weight_of.result c.saturating_add.result is e (given placed) c.saturating_add.ensures
+    (λ after. takes_one name c.args.offset n c.args.bytes.now doc c.args.documents.now c.push.new.self c.args.weight.now c.weight_of.result c.saturating_add.result is e given c.saturating_add.ensures
     (after ∙ ap (λ p. c.args.documents.now ++ placed_at p c.args.offset doc ∷ []) c.copy.ensures))
     c.push.ensures.ok

@@ -1,5 +1,4 @@
-use Rattle.std.proofs.Common.{◌≡◌, ◌<◌, ◌≤◌, ◌^◌, ◌∙◌, ◌+◌, List, ℕ, length, refl, sym, ap, subst, arith}
-use Rattle.indexing_run.specs.Making.{Follows}
+use Rattle.std.proofs.Common.{◌≡◌, ◌<◌, ◌≤◌, ◌^◌, ◌∙◌, ◌+◌, length, refl, sym, ap, arith}
 use Rattle.indexing_run.specs.Steps.{taken_from, parts_after, first_moment}
 use Rattle.indexing_run.specs.Standing.{kept_weight, taken_so_far}
 use Rattle.indexing_run.proofs.Takes.{first_is, takes_read, follows_here}

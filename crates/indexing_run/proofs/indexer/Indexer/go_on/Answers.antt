@@ -1,4 +1,4 @@
-use Rattle.std.proofs.Common.{◌≡◌, ◌∙◌, sym, ap, refl, eq-eqb, ◌==◌, true}
+use Rattle.std.proofs.Common.{◌∙◌, sym, eq-eqb}
 use Rattle.indexing_run.proofs.Stepping.{ends_empty, not_true, not_false}
 use Rattle.indexing_run.proofs.indexer.Indexer.go_on.Goals as goal
 

@@ -1,6 +1,6 @@
 use Rattle.std.proofs.Common.{◌≡◌, ◌≤◌, ◌∙◌, refl, sym, ap, subst, arith, Err}
 use Rattle.byte_fields.specs.Causes.{Rose}
-use Rattle.source_log.specs.Log.{IsLog, IsToldLog}
+use Rattle.source_log.specs.Log.{IsToldLog}
 use Rattle.source_log.specs.declared.log.ReadError.TheVariants.{Failed}
 use Rattle.index_world.specs.Core.{last_count}
 use Rattle.indexing_run.specs.declared.indexer.Place.TheVariants as places

@@ -1,4 +1,4 @@
-use Rattle.std.proofs.Common.{◌≡◌, ◌∙◌, sym, subst}
+use Rattle.std.proofs.Common.{◌∙◌, sym, subst}
 use Rattle.indexing_run.specs.Places.{idle, reading, staged, uploaded}
 use Rattle.indexing_run.specs.Standing.{PlaceStands}
 use Rattle.indexing_run.proofs.Stepping.{set_idle, as_placed}

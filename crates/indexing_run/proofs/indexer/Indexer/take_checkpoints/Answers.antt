@@ -1,9 +1,9 @@
-use Rattle.std.proofs.Common.{◌≡◌, ◌≤◌, ◌∙◌, refl, sym, ap, subst, arith, Ok, Err}
-use Rattle.source_log.specs.Log.{IsLog, IsToldLog}
+use Rattle.std.proofs.Common.{◌≡◌, ◌≤◌, ◌∙◌, sym, ap, subst, arith, Ok, Err}
+use Rattle.source_log.specs.Log.{IsToldLog}
 use Rattle.source_log.specs.declared.log.ReadError.TheVariants.{Failed}
 use Rattle.index_world.specs.Core.{last_count}
 use Rattle.indexing_run.specs.Places.{idle}
-use Rattle.indexing_run.specs.Standing.{PlaceStands, NamesGiven}
+use Rattle.indexing_run.specs.Standing.{PlaceStands}
 use Rattle.indexing_run.proofs.Stepping.{idle_stays, no_answer}
 use Rattle.indexing_run.proofs.Reading.{names_later, names_as, names_failed, names_short, names_fault, marks_fail, marks_short, begins}
 use Rattle.indexing_run.proofs.indexer.Indexer.take_checkpoints.Goals as goal

@@ -1,4 +1,4 @@
-use Rattle.std.proofs.Common.{◌≡◌, ◌∙◌, sym, subst, Ok, Err}
+use Rattle.std.proofs.Common.{◌∙◌, sym, subst}
 use Rattle.index_world.specs.Core.{IsUnusedIn}
 use Rattle.indexing_run.proofs.Stepping.{uploads, upload_fails}
 use Rattle.indexing_run.proofs.indexer.Indexer.upload.Goals as goal

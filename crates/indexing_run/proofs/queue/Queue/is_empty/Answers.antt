@@ -1,4 +1,4 @@
-use Rattle.std.proofs.Common.{sym, ap, ◌∙◌, leb}
+use Rattle.std.proofs.Common.{ap, ◌∙◌, leb}
 use Rattle.indexing_run.proofs.Queues.{empty_left}
 use Rattle.indexing_run.proofs.queue.Queue.is_empty.Goals as goal
 

@@ -1,4 +1,4 @@
-use Rattle.std.proofs.Common.{sym, ap, ◌∙◌, leb}
+use Rattle.std.proofs.Common.{sym, ap, ◌∙◌}
 use Rattle.indexing_run.specs.Steps.{queue_after}
 use Rattle.indexing_run.proofs.Queues.{next_left}
 use Rattle.indexing_run.proofs.queue.Queue.move_on.Goals as goal
