@@ -1,6 +1,7 @@
 use Rattle.std.proofs.Common.{◌≡◌, ℕ, List, Result, Ok, Err, arith}
 use Rattle.query_reader.proofs.Live.{longest_read, IsLongestRead}
 use Rattle.query_reader.proofs.Complete.{query_reads}
+use Rattle.query_reader.proofs.Deep.{too_deep}
 use Rattle.query_reader.proofs.Sound.{reads_query, deep_stands}
 use Rattle.query_reader.specs.Grammar.{IsLongestFront}
 use Rattle.query_reader.specs.Machine.{reads}
@@ -21,5 +22,5 @@ returns c = record {
   read = λ text t q. query_reads q (omega arith);
   only = λ text t h. reads_query text t h;
   syntax = λ text at h. longest_front text at h;
-  deep = λ text at h. deep_stands text at h;
+  deep = λ text at. (deep_stands text at, too_deep text at);
 }
