@@ -15,3 +15,4 @@ pub mod Digits
 pub mod Readable
 pub mod Spelling
 pub mod Back
+pub mod Deep

@@ -1,6 +1,6 @@
 -- What a query that was read has: fields that are found, texts with a first byte where a word needs one, edges and members that
 -- are values of their fields.
-use Rattle.std.proofs.Common.{◌≡◌, ◌≢◌, ◌⊎◌, inl, inr, ℕ, zero, suc, ◌+◌, ◌-◌, ◌<◌, ◌≤◌, ◌&&◌, ◌||◌, ◌==◌, Bool, true, false, not, List, [], ◌∷◌, ◌++◌, length, map, Option, Some, None, Result, Ok, Err, refl, ap, sym, ◌∙◌, subst, arith, nat_eq, nat_lt, eqb-true, is_some, if◌then◌else◌, slice_get, get_or, append-nil, IsUtf8, option_and_then}
+use Rattle.std.proofs.Common.{◌≡◌, ◌≢◌, ◌⊎◌, inl, inr, ℕ, zero, suc, ◌+◌, ◌-◌, ◌<◌, ◌≤◌, ◌&&◌, ◌||◌, ◌==◌, Bool, true, false, not, List, [], ◌∷◌, ◌++◌, length, map, Option, Some, None, Result, Ok, Err, refl, ap, sym, ◌∙◌, subst, arith, nat_eq, nat_lt, eqb-true, eq-eqb, is_some, if◌then◌else◌, slice_get, get_or, append-nil, IsUtf8, option_and_then}
 use Rattle.std.specs.Prelude.{slice_range}
 use Rattle.std.specs.Str.{bytes_eq}
 use Rattle.std.specs.Str.Lossy.{utf8_lossy}
@@ -22,7 +22,11 @@ use Rattle.query_reader.specs.Tree.{Tree, Trees, no_trees, behind, Leaf, Group, 
 use Rattle.query_reader.specs.Texts.{unescaped, unescaped_from, text_at, run_at}
 use Rattle.query_reader.specs.Grammar.{Letters, no_letter, letter, escaped_letter, Word, Asks, a_word, a_prefix, a_quote, Items, no_item, item_blank, item_word, item_quoted, Specials, any_value, a_range, compared, a_set, Ors, one_and, by_or, Ands, one_operand, next_operand, by_and, Unary, by_not, by_plus, by_minus, anything, by_bracket, of_defaults, of_field, of_special, IsQuery, span, member}
 use Rattle.query_reader.specs.Resolve.{◌>>=◌, resolve, resolve_each, resolve_clause, named_clause, clause_of, valued_clause, placed_clause, over_fields, asked_after, asked_at, asked_of, and_then, all_indexed, indexed_at, first_bad, bad_at, bad_value, bad_bound, bad_range, bad_members, first_unplaced, unplaced_at, unplaced, unplaced_members, is_unplaced, place_unless, first_of, edge_of, edge_with, range_of, item_of, number_of, has_order, first_byte, member_byte}
-use Rattle.query_reader.specs.Printed.{AreFound}
+use Rattle.query_reader.specs.Printed.{AreNamed}
+use Rattle.doc_value.specs.Documents.{PathsRise, IsBefore}
+use Rattle.doc_value.proofs.Finding.{rise-between}
+use Rattle.std.proofs.lemmas.Map.Text.{is_eq-slice_cmp}
+use Rattle.std.specs.Ordering.{is_eq}
 use Rattle.query_reader.specs.declared.kind.Kind.TheVariants.{Escape}
 use Rattle.query_reader.specs.declared.kind.Said.{Said}
 use Rattle.query_reader.specs.declared.tree.Span.{Span}
@@ -36,6 +40,36 @@ use Rattle.query_reader.specs.declared.refusal.QueryError.{QueryError}
 use Rattle.query_reader.specs.declared.refusal.QueryError.TheVariants as refusals
 use Rattle.query_reader.proofs.Steps.{slice_more}
 use Rattle.query_reader.proofs.Utf8.{lossy_utf8, lossy_some}
+
+-- each field is found by its path, a text with at least one byte
+abbrev pub AreFound : List Field → Type 0
+AreFound fields = (n : ℕ) (f : Field) → slice_get fields n ≡ Some f → (number_of fields f.path 0 ≡ Some n) × IsUtf8 f.path × (f.path ≢ [])
+
+same_path : (path : List ℕ) → bytes_eq path path ≡ true
+same_path [] = refl
+same_path (c ∷ cs) = rw (eq-eqb c c refl) (same_path cs)
+
+other_path : (a b : List ℕ) → IsBefore a b → bytes_eq a b ≡ false
+other_path a b l = sym (is_eq-slice_cmp a b) ∙ ap is_eq l
+
+found_from : (fs : List Field) (n k : ℕ) (f : Field) → PathsRise fs → slice_get fs n ≡ Some f → number_of fs f.path k ≡ Some (k + n)
+found_from [] n k f r e = absurd (let y : ◌≡◌ {A = Option Field} None (Some f) = e in cc)
+found_from (x ∷ xs) zero k f r e =
+    let y : ◌≡◌ {A = Option Field} (Some x) (Some f) = e in
+    let z : x ≡ f = cc in
+    let t : bytes_eq x.path f.path ≡ true = ap (λ (g : Field). bytes_eq x.path g.path) (sym z) ∙ same_path x.path in
+    rw t (ap Some (let i : k ≡ k + 0 = omega arith in i))
+found_from (x ∷ xs) (suc n) k f r e =
+    let t : bytes_eq x.path f.path ≡ false = other_path x.path f.path (rise-between (x ∷ xs) 0 (suc n) x f r refl e (omega arith)) in
+    rw t (found_from xs n (suc k) f (rest x xs r) e ∙ ap Some (let i : suc k + n ≡ k + suc n = omega arith in i))
+  where
+    rest : (x : Field) (xs : List Field) → PathsRise (x ∷ xs) → PathsRise xs
+    rest x [] r = tt
+    rest x (y ∷ ys) r = r.1
+
+-- fields whose paths rise
+pub fields_found : (fields : List Field) → PathsRise fields → AreNamed fields → AreFound fields
+fields_found fields r h n f e = let p = h n f e in (found_from fields n 0 f r e ∙ ap Some (let i : 0 + n ≡ n = omega arith in i), p.0, p.1)
 
 -- a text with a first byte
 abbrev pub HasFirst : List ℕ → Type 0

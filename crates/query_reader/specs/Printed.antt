@@ -7,6 +7,7 @@ use Rattle.std.specs.Option.{option_map_or}
 use Rattle.std.specs.Str.{bytes_eq}
 use Rattle.jiff.specs.Types.{DateTime}
 use Rattle.clock_time.specs.Datetimes.{IsShownAt, IsTimestampSecond, civil_text}
+use Rattle.doc_value.specs.Documents.{PathsRise}
 use Rattle.doc_value.specs.declared.schema.Field.{Field}
 use Rattle.doc_value.specs.declared.doc.Value.{Value}
 use Rattle.doc_value.specs.declared.doc.Value.TheVariants as values
@@ -16,7 +17,7 @@ use Rattle.query_ast.specs.declared.query.Edge.TheVariants as edges
 use Rattle.query_ast.specs.Sought.{Sought, Soughts, no_more, more}
 use Rattle.query_ast.specs.Sought as sought
 use Rattle.query_reader.specs.Kinds.{kind_of, ends_word, is_escape_kind}
-use Rattle.query_reader.specs.Resolve.{number_of, query_of}
+use Rattle.query_reader.specs.Resolve.{query_of}
 use Rattle.query_reader.specs.declared.kind.Kind.{Kind}
 use Rattle.query_reader.specs.declared.kind.Kind.TheVariants.{Plain, Quote}
 
@@ -186,9 +187,9 @@ abbrev mutual
   nesting_all no_more = 0
   nesting_all (more q qs) = max (bracket_depth q + nesting q) (nesting_all qs)
 
--- each field is found by its path, a text with at least one byte
-abbrev pub AreFound : List Field → Type 0
-AreFound fields = (n : ℕ) (f : Field) → slice_get fields n ≡ Some f → (number_of fields f.path 0 ≡ Some n) × IsUtf8 f.path × (f.path ≢ [])
+-- each path is a text with at least one byte
+abbrev pub AreNamed : List Field → Type 0
+AreNamed fields = (n : ℕ) (f : Field) → slice_get fields n ≡ Some f → IsUtf8 f.path × (f.path ≢ [])
 
 -- each number is a field's
 abbrev pub AreNumbers : List Field → List ℕ → Type 0
@@ -197,7 +198,8 @@ AreNumbers fields (n ∷ ns) = (n < length fields) × AreNumbers fields ns
 
 -- a query over a schema's fields and some default fields, as a text gives it, and a text that is printed of it
 pub record IsPrintedOf (fields : List Field) (defaults text : List ℕ) (q : Sought) (shown : List ℕ) : Type 0 where
-  pub found : AreFound fields
+  pub rise : PathsRise fields
+  pub named : AreNamed fields
   pub within : AreNumbers fields defaults
   pub read : query_of fields defaults text ≡ Ok q
   pub printed : Spells (printed fields q) shown

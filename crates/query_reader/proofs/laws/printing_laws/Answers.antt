@@ -10,7 +10,7 @@ use Rattle.query_reader.specs.declared.fault.Fault.TheVariants as faults
 use Rattle.query_reader.specs.declared.refusal.QueryError.{QueryError}
 use Rattle.query_reader.specs.declared.refusal.QueryError.TheVariants as refusals
 use Rattle.query_reader.proofs.Sound.{reads_query}
-use Rattle.query_reader.proofs.Readable.{Within, Readable, query_readable}
+use Rattle.query_reader.proofs.Readable.{fields_found, Within, Readable, query_readable}
 use Rattle.query_reader.proofs.Back.{Whole, whole_back}
 use Rattle.query_reader.proofs.laws.printing_laws.Goals as goal
 
@@ -27,7 +27,7 @@ read_readable : (fields : List Field) (defaults text shown : List ℕ) (q : Soug
 read_readable fields defaults text shown q p = go (reads text) refl
   where
     go : (r : Result Tree Fault) → reads text ≡ r → Readable fields q
-    go (Ok t) e = query_readable fields defaults text p.found (numbers_within fields defaults p.within) q (reads_query text t e) (let y : resolve fields defaults text t ≡ Ok q = rw e at p.read in y)
+    go (Ok t) e = query_readable fields defaults text (fields_found fields p.rise p.named) (numbers_within fields defaults p.within) q (reads_query text t e) (let y : resolve fields defaults text t ≡ Ok q = rw e at p.read in y)
     go (Err (faults.Syntax n)) e = absurd (let y : ◌≡◌ {A = Result Sought QueryError} (Err (refusals.Syntax n)) (Ok q) = rw e at p.read in cc)
     go (Err (faults.TooDeep n)) e = absurd (let y : ◌≡◌ {A = Result Sought QueryError} (Err (refusals.TooDeep n)) (Ok q) = rw e at p.read in cc)
 
