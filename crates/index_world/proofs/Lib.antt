@@ -4,6 +4,7 @@ pub mod SplitNames
 pub mod SplitFacts
 pub mod SplitReads
 pub mod SplitParts
+pub mod Placing
 pub mod StoreKeys
 pub mod Journals
 pub mod Numbers

@@ -32,7 +32,7 @@ use Rattle.index_world.specs.Core.{Core, with_unread, journal_of, IsUploadedIn}
 use Rattle.index_world.specs.Gate.{searched_rows}
 use Rattle.index_world.specs.Index.{IsBuilt, IsRowKept, IsRowSound, IsLateKey, Stands, is_split, has_staged, was_published}
 use Rattle.index_world.specs.Seen.{contents, meaning, accepted_records, visible}
-use Rattle.index_world.specs.SplitFile.{split_file, IsPlaced}
+use Rattle.index_world.specs.SplitFile.{split_file}
 use Rattle.index_world.specs.World.{IsWorld}
 use Rattle.index_world.specs.declared.placed.Placed.{Placed}
 use Rattle.index_world.proofs.InCore.{uploaded-in}
@@ -41,7 +41,6 @@ use Rattle.index_world.proofs.Numbers.{history-snoc, staged_le}
 use Rattle.index_world.proofs.StoreChanges.{All-snoc, All-each, staged_more}
 use Rattle.index_world.proofs.StoreKeys.{split_key-injective, split_begins, true_is_false}
 use Rattle.root_search.proofs.Orders.{All-filter}
-use Rattle.root_search.proofs.Records.{All-append}
 
 -- ---- histories of the kinds of entries that the index has
 
@@ -305,12 +304,3 @@ searched_few kept core log w =
     let one = filter_few (λ row. is_published row.state) (rows (history core.history)) in
     let two = filter_few (λ row. nat_lt 0 row.facts.docs) (filter (λ row. is_published row.state) (rows (history core.history))) in
     omega (arith, few, one, two)
-
--- ---- contents are placed
-
-All-flat_map : {A B : Type 0} (P : B → Type 0) (f : A → List B) (xs : List A) → ((x : A) → AllByRecursion P (f x)) → AllByRecursion P (flat_map f xs)
-All-flat_map P f [] h = tt
-All-flat_map P f (x ∷ xs) h = All-append P (f x) (flat_map f xs) (h x) (All-flat_map P f xs h)
-
-pub contents_placed : (tasks : List KeptTask) (log : Log) → AllByRecursion IsPlaced (accepted_records log) → (row : Row) → AllByRecursion IsPlaced (contents tasks row log)
-contents_placed tasks log all row = All-flat_map IsPlaced _ row.spans (λ s. All-filter IsPlaced _ (accepted_records log) all)

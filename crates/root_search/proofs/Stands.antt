@@ -13,6 +13,7 @@ use Rattle.index_world.specs.Seen.{contents, visible, visible_at}
 use Rattle.index_world.specs.SplitFile.{split_file, IsPlaced}
 use Rattle.index_world.specs.World.{GoesOn}
 use Rattle.index_world.specs.declared.placed.Placed.{Placed}
+use Rattle.index_world.proofs.Placing.{contents-placed}
 use Rattle.index_world.proofs.StoreChanges.{All-each}
 use Rattle.root_search.specs.declared.searcher.Planned.{Planned as GivenPlan}
 use Rattle.root_search.specs.declared.searcher.Request.{Request as GivenRequest}
@@ -21,8 +22,8 @@ use Rattle.root_search.specs.declared.searcher.Searcher.{Searcher}
 use Rattle.root_search.specs.Finding.{all_of, AreHeld}
 use Rattle.root_search.specs.Searching.{history_at, rows_at, documents_at, file_at, AreInHand, IsPlanned, IsRequest, SearcherStands}
 use Rattle.root_search.specs.Steps.{Plan, Request, Client}
-use Rattle.root_search.proofs.Records.{log_placed, visible_in_order}
-use Rattle.root_search.proofs.Rows.{AreSearched, world_searched, contents_placed}
+use Rattle.root_search.proofs.Records.{visible_in_order}
+use Rattle.root_search.proofs.Rows.{AreSearched, world_searched}
 
 -- what a revision shows stays when the history goes on
 pub same_front : (one : Option ℕ) (core after : Core) (revision : ℕ) → GoesOn one core after → revision ≤ length core.history → take revision after.history ≡ take revision core.history
@@ -121,7 +122,7 @@ all_held given plan core log g p over =
     record {
       held = map docs list;
       files_are = p.fetched ∙ (ap (map (file_at plan.revision core log)) (take_all given.next list (omega (arith, many, over))) ∙ maps split_file docs list);
-      placed = placed_each docs (contents_placed (ledger (history_at plan.revision core)).tasks log (log_placed log g.good)) list;
+      placed = placed_each docs (λ row. contents-placed (ledger (history_at plan.revision core)).tasks row log g) list;
       together = subst (λ l. IsPermutation l (visible_at plan.revision core.history log)) (joined docs list) p.in_hand.shown;
       in_order = visible_in_order (ledger (history_at plan.revision core)) log g;
     }
