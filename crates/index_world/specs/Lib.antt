@@ -10,6 +10,9 @@ pub mod Calls
 pub mod Standing
 pub mod World
 pub mod Gate
+pub mod Loading
+pub mod Life
+pub mod KeepingCode
 pub mod Held
 pub mod Onward
 pub mod Owning

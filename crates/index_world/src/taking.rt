@@ -6,6 +6,7 @@ ghost use Rattle.meta_store.specs.Answers.{answer_to};
 ghost use Rattle.meta_store.specs.Room.{HasRoom};
 
 use crate::config::reading_of;
+use crate::life::Life;
 use crate::world_error::WorldError;
 use meta_journal::{Entry, Journal, JournalError, meta_key};
 use meta_store::{Meta, Reading};
@@ -67,16 +68,6 @@ pub fn prepare(meta: &mut Meta, reading: Reading, entry: &Entry) -> Result<(), W
     Ok(())
 }
 
-/// The journal of a store, the state behind its entries, and the greatest moment of these.
-#[derive(Drop)]
-pub struct Opened {
-    pub journal: Journal,
-    pub meta: Meta,
-    pub moment: u64,
-    ghost timely: { moment < 2 ^ 62 },
-    ghost in_step: { meta.state.revision ≡ journal.next },
-}
-
 /// A moment that the format can spell.
 pub fn moment_of(entry: &Entry) -> u64
     ensures { result < 2 ^ 62 }
@@ -105,8 +96,8 @@ fn state_of(alloc: Global, entries: Vec<Entry>) -> Result<(Meta, u64), WorldErro
 }
 
 /// Opens the index of a store.
-pub fn open<S: ObjectStore>(alloc: Global, store: &mut S) -> Result<Opened, WorldError>
-    ensures { IfOk result (λ opened. opened.journal.place ≡ Sure) }
+pub fn open<S: ObjectStore>(alloc: Global, store: &mut S) -> Result<Life, WorldError>
+    ensures { IfOk result (λ life. life.journal.place ≡ Sure) }
 {
     let before = store.faults();
     match Journal::load(alloc, store) {
@@ -115,7 +106,7 @@ pub fn open<S: ObjectStore>(alloc: Global, store: &mut S) -> Result<Opened, Worl
                 return Err(WorldError::NoIndex);
             }
             let (meta, moment) = state_of(alloc, entries.into_vec())?;
-            Ok(Opened {
+            Ok(Life {
                 journal,
                 meta,
                 moment,
