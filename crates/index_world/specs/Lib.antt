@@ -11,7 +11,11 @@ pub mod Standing
 pub mod World
 pub mod Gate
 pub mod Loading
+pub mod Taking
+pub mod Steps
+pub mod Unsure
 pub mod Life
+pub mod Planning
 pub mod KeepingCode
 pub mod Held
 pub mod Onward

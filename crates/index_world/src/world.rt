@@ -17,12 +17,12 @@ use crate::life::Life;
 use crate::own::Own;
 use crate::planning::{Choice, plan_rows};
 use crate::steady::SteadyClock;
-use crate::taking::open;
+use crate::taking::{create_error, get_error, open};
 use crate::tokens::{Marks, Plan, Staged, Uploaded};
 use crate::world_error::WorldError;
 use meta_journal::split_key;
 use meta_store::Meta;
-use object_store::{CreateError, GetError, ObjectStore, Piece};
+use object_store::{ObjectStore, Piece};
 use source_checkpoint::{Checkpoint, Delta};
 use split_states::RowFacts;
 use std::alloc::{AllocError, Global};
@@ -40,7 +40,7 @@ pub struct World<S: ObjectStore, C: SteadyClock> {
 impl<S: ObjectStore, C: SteadyClock> Model for World<S, C> {
     ghost use Rattle.index_world.specs.World.{Keeping};
     ghost use Rattle.index_world.specs.KeepingCode.{keeping_code};
-    ghost use Rattle.index_world.specs.Life.{is_unsure};
+    ghost use Rattle.index_world.specs.Unsure.{is_unsure};
 
     ghost Value = { Keeping };
 
@@ -67,7 +67,9 @@ pub struct Unopened<S> {
 fn copied_checkpoints(
     alloc: Global,
     checkpoints: &[Checkpoint],
-) -> Result<Vec<Checkpoint>, AllocError> {
+) -> Result<Vec<Checkpoint>, AllocError>
+    ensures { IfOk result (λ copy. copy.items ≡ checkpoints.now) }
+{
     let mut copy = Vec::new(alloc);
     for checkpoint in checkpoints {
         copy.push(Checkpoint {
@@ -206,16 +208,13 @@ impl<S: ObjectStore, C: SteadyClock> World<S, C> {
     {
         let before = self.store.faults();
         let key = split_key(staged.number);
-        match self.store.create(alloc, &key, content) {
+        let answer = self.store.create(alloc, &key, content);
+        let after = self.store.faults();
+        match answer {
             Ok(()) => Ok(Uploaded {
                 number: staged.number,
             }),
-            Err(CreateError::Exists) => Err(WorldError::Foreign { key }),
-            Err(CreateError::Failed) => Err(WorldError::StoreFault {
-                before,
-                after: self.store.faults(),
-            }),
-            Err(CreateError::Memory(refused)) => Err(WorldError::Memory(refused)),
+            Err(error) => Err(create_error(error, key, before, after)),
         }
     }
 
@@ -269,14 +268,11 @@ impl<S: ObjectStore, C: SteadyClock> World<S, C> {
         let before = self.store.faults();
         self.ask();
         let key = split_key(plan.rows.at(place as usize).number);
-        match self.store.get(alloc, &key, from, len) {
+        let answer = self.store.get(alloc, &key, from, len);
+        let after = self.store.faults();
+        match answer {
             Ok(piece) => Ok(piece),
-            Err(GetError::Absent) => Err(WorldError::Missing { key }),
-            Err(GetError::Failed) => Err(WorldError::StoreFault {
-                before,
-                after: self.store.faults(),
-            }),
-            Err(GetError::Memory(refused)) => Err(WorldError::Memory(refused)),
+            Err(error) => Err(get_error(error, key, before, after)),
         }
     }
 }
