@@ -29,6 +29,7 @@ use Rattle.index_world.proofs.Landing.{journal_none, journal_some}
 use Rattle.index_world.proofs.Asking.{fence_enters}
 use Rattle.index_world.proofs.JournalCalls.{Counted, Begun, quiet, failing, calm_get, world-begins, made_law, adopted_law, failed_law, exists_law, get_failed_law, MadeLaw, AdoptedLaw, FailedLaw, ExistsLaw, GetFailedLaw, something_stands, last_entry, still_counted, Unread}
 use Rattle.index_world.proofs.Transactions.{settled_made, settled_made_short, settled_adopted, settled_failed, settled_get_failed, settled_short, settled_by}
+pub use Rattle.index_world.specs.Steps.{Settled, Unsettled}
 
 pub spells_own : (entry : Entry) → Spells (spelling entry) entry
 unfolding Spells spelling
@@ -87,32 +88,6 @@ pub appends_short : (old new : State) (core : Core) (log : Log) (now : ℕ) → 
 appends_short old new core log now w c t = world-begins once old new core log now (quiet t.0 (now - core.store_faults) true) w c refl t.1
 
 -- ---- what settling answered
-
--- an entry was taken in
-pub record Settled (old new : State) (core : Core) (log : Log) (entry : Entry) (now : ℕ) : Type 0 where
-  pub first : Call
-  pub second : Call
-  pub after : Core
-  pub did : settled first second core ≡ gives (Ok tt) after
-  pub onward : Onward old new core after log
-  pub history : after.history ≡ core.history ++ entry ∷ []
-  pub faults : after.store_faults ≡ now
-  pub moment : after.moment ≡ max core.moment entry.moment
-  pub clock : after.clock ≡ core.clock
-  pub unsure : after.unsure ≡ false
-
--- none was
-pub record Unsettled (old new : State) (core : Core) (log : Log) (trouble : Core → Trouble) (now : ℕ) : Type 0 where
-  pub first : Call
-  pub second : Call
-  pub after : Core
-  pub did : settled first second core ≡ gives (Err (trouble after)) after
-  pub onward : Onward old new core after log
-  pub history : after.history ≡ core.history
-  pub faults : after.store_faults ≡ now
-  pub moment : after.moment ≡ core.moment
-  pub clock : after.clock ≡ core.clock
-  pub unsure : after.unsure ≡ true
 
 or_yes : (b : Bool) → (b || true) ≡ true
 or_yes true = refl

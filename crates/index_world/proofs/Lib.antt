@@ -28,3 +28,10 @@ pub mod Opening
 pub mod JournalLaws
 pub mod WholeCalls
 pub mod WholeFiles
+pub mod Lives
+pub mod Settling
+pub mod Creating
+pub mod Appending
+pub mod Gates
+pub mod Fronts
+pub mod Reading

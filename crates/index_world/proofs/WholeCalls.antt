@@ -34,6 +34,7 @@ keeping_of kept core =
       meta = state_of reads (history core.history);
       next = length core.history;
       unsure = core.unsure;
+      frozen = false;
     }
 
 -- A whole call did this: it is the core's call with some fate, its answer is this one, and the world stands behind it.
@@ -64,6 +65,7 @@ stands_behind new start after log more doubt now some w t e =
       meta = refl;
       next = refl;
       unsure = refl;
+      awake = refl;
       opened = let l = ap length e.history in let a = length-append start.history more in omega (arith, some, l, a);
     }
 
@@ -75,7 +77,7 @@ world_asked kept core log w = world-same kept core log core.store_faults (max co
 pub counted_asked : (core : Core) (now : ℕ) → Counted core now → Counted (asked_clock core) now
 counted_asked core now c = record { later = c.later; within = c.within }
 
-keeps_asked : (core : Core) → KeepsBut None core (asked_clock core)
+pub keeps_asked : (core : Core) → KeepsBut None core (asked_clock core)
 keeps_asked core =
     record {
       unused = λ n other u. record { staged = u.staged; unpublished = u.unpublished; absent = u.absent; not_late = u.not_late };
@@ -84,7 +86,7 @@ keeps_asked core =
     }
 
 -- what the world keeps stays where the core went on from one whose clock was asked
-went_on : (old new : State) (core after : Core) (log : Log) (more : List Entry) (doubt : Bool) (now : ℕ) → IsWorld old core log → Counted core now → Onward old new core after log → Ends core after more doubt now → GoesOn None core after
+pub went_on : (old new : State) (core after : Core) (log : Log) (more : List Entry) (doubt : Bool) (now : ℕ) → IsWorld old core log → Counted core now → Onward old new core after log → Ends core after more doubt now → GoesOn None core after
 went_on old new core after log more doubt now w c o e =
     goes-on old new core after log w.stands_for o more e.history (let a = c.later in let b = e.faults in omega (arith, a, b)) (let a = greatest_rises core.moment more in let b = e.moment in omega (arith, a, b))
 
@@ -100,7 +102,7 @@ went_on_asked old new core after log more doubt now w c o e =
 
 -- ---- a transaction
 
-pub whole_appended : (old new : State) (core : Core) (log : Log) (act : Core → Act) (answer : Core → Result ⊤ Unmade) (more : List Entry) (doubt : Bool) (now : ℕ) →
+abbrev pub whole_appended : (old new : State) (core : Core) (log : Log) (act : Core → Act) (answer : Core → Result ⊤ Unmade) (more : List Entry) (doubt : Bool) (now : ℕ) →
     IsWorld old core log → 0 < length core.history → Counted core now → Transacted old new (asked_clock core) log act answer more doubt now → Whole (λ fate c. appended fate act c) None new core (asked_clock core) log answer more doubt now
 whole_appended old new core log act answer more doubt now w some c t =
     record {
@@ -114,7 +116,7 @@ whole_appended old new core log act answer more doubt now w some c t =
 
 -- ---- a call that only asks the clock
 
-pub whole_asked : (kept : State) (core : Core) (log : Log) → IsWorld kept core log → 0 < length core.history → IsTimely core → Whole asked None kept core (asked_clock core) log (λ after. Ok tt) [] core.unsure core.store_faults
+abbrev pub whole_asked : (kept : State) (core : Core) (log : Log) → IsWorld kept core log → 0 < length core.history → IsTimely core → Whole asked None kept core (asked_clock core) log (λ after. Ok tt) [] core.unsure core.store_faults
 whole_asked kept core log w some t =
     record {
       fate = record { unasked = false; first = calm_get; second = calm_get; third = calm_get };
@@ -146,7 +148,7 @@ pub record Looks (old new : State) (core : Core) (log : Log) (answer : Core → 
   pub ends : Ends core after more doubt now
   pub timely : IsTimely after
 
-abbrev copied : Bool → Core → Result ⊤ Trouble
+abbrev pub copied : Bool → Core → Result ⊤ Trouble
 copied true after = Err no_memory
 copied false after = Ok tt
 
@@ -185,10 +187,10 @@ looks_settled old new core log f now short t can s =
       timely = timely_more core s.after f now t can (settled_ends old new core log f now s);
     }
 
-abbrev fails_by : (Core → Trouble) → Core → Result ⊤ Trouble
+abbrev pub fails_by : (Core → Trouble) → Core → Result ⊤ Trouble
 fails_by trouble after = Err (trouble after)
 
-pub looks_unsettled : (old new : State) (core : Core) (log : Log) (trouble : Core → Trouble) (now : ℕ) → IsTimely core → core.unsure ≡ true → (u : Unsettled old new core log trouble now) →
+abbrev pub looks_unsettled : (old new : State) (core : Core) (log : Log) (trouble : Core → Trouble) (now : ℕ) → IsTimely core → core.unsure ≡ true → (u : Unsettled old new core log trouble now) →
     Looks old new core log (fails_by trouble) [] true now
 looks_unsettled old new core log trouble now t doubt u =
     record {
@@ -205,7 +207,7 @@ looks_unsettled old new core log trouble now t doubt u =
 abbrev with_copy : Call → Call → Bool → Fate
 with_copy first second short = record { unasked = false; first = first; second = second; third = quiet [] 0 short }
 
-pub whole_looked : (old new : State) (core : Core) (log : Log) (answer : Core → Result ⊤ Trouble) (more : List Entry) (doubt : Bool) (now : ℕ) →
+abbrev pub whole_looked : (old new : State) (core : Core) (log : Log) (answer : Core → Result ⊤ Trouble) (more : List Entry) (doubt : Bool) (now : ℕ) →
     IsWorld old core log → 0 < length core.history → Counted core now → Looks old new core log answer more doubt now → Whole looked None new core core log answer more doubt now
 whole_looked old new core log answer more doubt now w some c l =
     record {
@@ -217,7 +219,7 @@ whole_looked old new core log answer more doubt now w some c l =
       stands = stands_behind new core l.after log more doubt now some l.onward.world l.timely l.ends;
     }
 
-pub whole_asked_and_looked : (old new : State) (core : Core) (log : Log) (answer : Core → Result ⊤ Trouble) (more : List Entry) (doubt : Bool) (now : ℕ) →
+abbrev pub whole_asked_and_looked : (old new : State) (core : Core) (log : Log) (answer : Core → Result ⊤ Trouble) (more : List Entry) (doubt : Bool) (now : ℕ) →
     IsWorld old core log → 0 < length core.history → Counted core now → Looks old new (asked_clock core) log answer more doubt now → Whole asked_and_looked None new core (asked_clock core) log answer more doubt now
 whole_asked_and_looked old new core log answer more doubt now w some c l =
     record {

@@ -33,10 +33,10 @@ use Rattle.index_world.proofs.WholeCalls.{Whole, keeping_of, stands_behind, worl
 
 -- ---- an upload
 
-upload_ends : (old new : State) (core : Core) (log : Log) (n : ℕ) (bytes : List ℕ) (answer : Core → Result ⊤ Trouble) (now : ℕ) (u : UploadLaw old new core log n bytes answer now) → Ends core u.after [] core.unsure now
+pub upload_ends : (old new : State) (core : Core) (log : Log) (n : ℕ) (bytes : List ℕ) (answer : Core → Result ⊤ Trouble) (now : ℕ) (u : UploadLaw old new core log n bytes answer now) → Ends core u.after [] core.unsure now
 upload_ends old new core log n bytes answer now u = ends_same core u.after core.unsure now u.history u.faults u.moment u.clock u.unsure
 
-pub whole_upload : (old new : State) (core : Core) (log : Log) (n : ℕ) (bytes : List ℕ) (answer : Core → Result ⊤ Trouble) (now : ℕ) →
+abbrev pub whole_upload : (old new : State) (core : Core) (log : Log) (n : ℕ) (bytes : List ℕ) (answer : Core → Result ⊤ Trouble) (now : ℕ) →
     IsWorld old core log → 0 < length core.history → IsTimely core → Counted core now → UploadLaw old new core log n bytes answer now →
     Whole (λ fate c. upload_made fate n bytes c) (Some n) new core core log answer [] core.unsure now
 whole_upload old new core log n bytes answer now w some t c u =
@@ -69,7 +69,7 @@ pub record Fetches (old new : State) (core : Core) (log : Log) (answer : Core �
   pub did : file_got call (asked_clock core) ≡ gives (answer after) after
   pub begun : Begun old new (asked_clock core) after log now
 
-pub whole_fetched : (old new : State) (core : Core) (log : Log) (answer : Core → Result ⊤ Trouble) (now : ℕ) →
+abbrev pub whole_fetched : (old new : State) (core : Core) (log : Log) (answer : Core → Result ⊤ Trouble) (now : ℕ) →
     IsWorld old core log → 0 < length core.history → IsTimely core → Counted core now → Fetches old new core log answer now →
     Whole fetched None new core (asked_clock core) log answer [] core.unsure now
 whole_fetched old new core log answer now w some t c f =
@@ -111,11 +111,11 @@ pub record Reborn (new : State) (core : Core) (log : Log) (read : List Entry) (n
   pub unsure : after.unsure ≡ false
   pub stands : WorldStands (keeping_of new after) after log
 
-ok_of : (es : List Entry) → 0 < length es → load_answer es ≡ Ok tt
+pub ok_of : (es : List Entry) → 0 < length es → load_answer es ≡ Ok tt
 ok_of [] some = absurd (omega (arith, some))
 ok_of (e ∷ es) some = refl
 
-pub whole_loaded : (old mid new : State) (core : Core) (log : Log) (read : List Entry) (now : ℕ) → IsWorld old core log → core.clock < 2 ^ 62 → 0 < length read → LoadLaw old new core log read (load_answer read) now → IsJournal mid read →
+abbrev pub whole_loaded : (old mid new : State) (core : Core) (log : Log) (read : List Entry) (now : ℕ) → IsWorld old core log → core.clock < 2 ^ 62 → 0 < length read → LoadLaw old new core log read (load_answer read) now → IsJournal mid read →
     Reborn new core log read now
 whole_loaded old mid new core log read now w clock some l j =
     record {
@@ -144,6 +144,7 @@ whole_loaded old mid new core log read now w clock some l j =
         meta = refl;
         next = refl;
         unsure = refl;
+        awake = refl;
         opened = let e = ap length l.history in omega (arith, e, some);
       };
     }

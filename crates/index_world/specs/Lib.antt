@@ -12,6 +12,13 @@ pub mod Calls
 pub mod Standing
 pub mod World
 pub mod Gate
+pub mod Loading
+pub mod Taking
+pub mod Steps
+pub mod Unsure
+pub mod Life
+pub mod Planning
+pub mod KeepingCode
 pub mod Held
 pub mod Onward
 pub mod Owning
