@@ -1,6 +1,6 @@
 -- Which records are documents under the one configuration. It has the text fields `body` and `level`, and no others;
 -- a text with a character past ASCII doesn't fit yet.
-use Rattle.std.specs.Prelude.{ℕ, suc, ◌≤◌, ◌&&◌, Bool, true, List, [], ◌∷◌, length, nat_le, if◌then◌else◌, Option, Some, None, option_map, option_and_then, codes, bytes_eq}
+use Rattle.std.specs.Prelude.{ℕ, suc, ◌&&◌, Bool, true, List, [], ◌∷◌, length, nat_le, if◌then◌else◌, Option, Some, None, option_map, option_and_then, codes, bytes_eq}
 use Rattle.std.specs.List.{list_all, list_any}
 use Rattle.std.specs.Str.{is_utf8}
 use Rattle.serde_json.specs.Data.{Data, null, boolean, number, string, array, object, Members, no_members, member, depth}
