@@ -1,3 +1,12 @@
+pub mod Accepts
+pub mod Said
+pub mod SplitNames
+pub mod SplitFacts
+pub mod SplitReads
+pub mod SplitParts
+pub mod Placing
+pub mod ShortTexts
+pub mod Light
 pub mod StoreKeys
 pub mod Journals
 pub mod Numbers

@@ -1,9 +1,11 @@
 pub mod Config
 pub mod Accepted
+pub mod Accepting
 pub mod Tokens
 pub mod Words
 pub mod Seen
 pub mod SplitFile
+pub mod SplitRead
 pub mod Index
 pub mod Core
 pub mod Calls
@@ -21,3 +23,4 @@ pub mod Held
 pub mod Onward
 pub mod Owning
 pub mod PlaceMade
+pub mod Saying

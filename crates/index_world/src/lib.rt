@@ -6,6 +6,7 @@ mod config;
 mod direct;
 mod gate;
 pub mod laws;
+mod levels;
 mod life;
 mod own;
 mod placed;
