@@ -1,5 +1,5 @@
 -- What a whole transaction did to a life, in the words of the core.
-use Rattle.std.proofs.Common.{◌≡◌, ◌⊎◌, ℕ, ◌+◌, ◌-◌, ◌<◌, ◌≤◌, List, [], ◌∷◌, ◌++◌, refl, sym, ap, ◌∙◌, subst, inl, inr, Bool, true, false, length, arith, append-nil, append_assoc}
+use Rattle.std.proofs.Common.{◌≡◌, ◌⊎◌, ℕ, ◌-◌, List, [], ◌∷◌, ◌++◌, refl, sym, ap, ◌∙◌, subst, inl, inr, Bool, true, false, length, arith, append-nil, append_assoc}
 use Rattle.std.specs.Prelude.{Option, Some, None, Result, Ok, Err, max, ⊤}
 use Rattle.std.specs.Result.{IsErrAnd}
 use Rattle.meta_journal.specs.Journal.{Numbered}
@@ -21,14 +21,14 @@ use Rattle.index_world.specs.declared.own.Own.{Own}
 use Rattle.index_world.specs.declared.own.Own.TheVariants as owns
 use Rattle.index_world.specs.declared.world_error.WorldError.{WorldError}
 use Rattle.index_world.specs.declared.world_error.WorldError.TheVariants as errors
-use Rattle.index_world.specs.Calls.{Call, Made, made, exists, Making, made_behind, begun, create_at_end, taken_in, risen, Unmade, troubled, faulted, store_fault, is_foreign, no_memory, store_failed, entry_of, may_append}
-use Rattle.index_world.specs.Core.{Core, last_count, journal_of, IsUnusedIn, HasStagedIn, KeepsBut}
+use Rattle.index_world.specs.Calls.{Made, made, exists, Making, made_behind, begun, risen, Unmade, troubled, faulted, store_fault, is_foreign, no_memory, store_failed, entry_of, may_append}
+use Rattle.index_world.specs.Core.{Core, journal_of, IsUnusedIn, HasStagedIn, KeepsBut}
 use Rattle.index_world.specs.Gate.{IsTrouble, IsUnmade, Says}
 use Rattle.index_world.specs.Index.{has_staged, HasStaged, IsUnused}
-use Rattle.index_world.specs.Life.{LifeIs, StandsBy, TookIn, TookNone, SettledSure, SettledIn, SettledNone, Settling, CreatedOwn, CreateGives, CreateRefused, CreateWants, CreateFails, CreateMeets, CreatesBy, Creating, OwnMade, Appending}
+use Rattle.index_world.specs.Life.{LifeIs, StandsBy, TookIn, TookNone, SettledSure, SettledIn, Settling, CreatedOwn, CreatesBy, Creating, OwnMade, Appending}
 use Rattle.index_world.specs.Onward.{Onward}
 use Rattle.index_world.specs.Owning.{own_act, MayOwn}
-use Rattle.index_world.specs.Steps.{Counted, MadeLaw, AdoptedLaw, FailedLaw, ExistsLaw, Ends, greatest, Transacted}
+use Rattle.index_world.specs.Steps.{Counted, MadeLaw, AdoptedLaw, Ends, greatest, Transacted}
 use Rattle.index_world.specs.Taking.{IsWant}
 use Rattle.index_world.specs.Unsure.{is_unsure}
 use Rattle.index_world.specs.World.{IsWorld, IsTimely}

@@ -1,11 +1,10 @@
 -- What one create of an entry of one's own did to a life, in the words of the core.
-use Rattle.std.proofs.Common.{◌≡◌, ◌⊎◌, ℕ, ◌+◌, ◌<◌, ◌≤◌, List, [], ◌∷◌, ◌++◌, refl, sym, ap, ◌∙◌, subst, inl, inr, Bool, true, false, length, arith, IsOk}
+use Rattle.std.proofs.Common.{◌≡◌, ℕ, ◌+◌, ◌<◌, ◌≤◌, List, [], ◌∷◌, ◌++◌, refl, sym, ap, ◌∙◌, subst, inl, inr, Bool, true, false, length, arith, IsOk}
 use Rattle.std.proofs.lemmas.Bool.Decides.{nat_tests}
-use Rattle.std.specs.Prelude.{Option, Some, None, Result, Ok, Err, nat_le, ⊤}
+use Rattle.std.specs.Prelude.{Option, Some, None, Result, Ok, Err, nat_le}
 use Rattle.std.specs.Result.{IsErrAnd}
 use Rattle.byte_fields.specs.Causes.{Rose}
 use Rattle.meta_journal.specs.Journal.{Appends, FaultIs, IsTaken, place_refused}
-use Rattle.meta_journal.specs.Places.{meta_key}
 use Rattle.meta_journal.specs.Spelling.{CanSpell, CanSpellAct}
 use Rattle.meta_journal.specs.declared.entry.Act.{Act}
 use Rattle.meta_journal.specs.declared.entry.Entry.{Entry}
@@ -20,7 +19,7 @@ use Rattle.meta_store.specs.declared.config.Config.{Config}
 use Rattle.meta_store.specs.declared.config.Reading.{Reading}
 use Rattle.index_world.specs.Config.{reads}
 use Rattle.meta_store.specs.declared.refusal.Refusal.{Refusal}
-use Rattle.object_store.specs.Store.{State, HasLanded, WhereTold}
+use Rattle.object_store.specs.Store.{State, WhereTold}
 use Rattle.source_log.specs.Log.{Log}
 use Rattle.index_world.specs.declared.life.Life.{Life}
 use Rattle.index_world.specs.declared.own.Own.{Own}
@@ -31,7 +30,7 @@ use Rattle.index_world.specs.Calls.{Unmade, refused, troubled, faulted, is_full,
 use Rattle.index_world.specs.Core.{Core, last_count}
 use Rattle.index_world.specs.Gate.{IsUnmade}
 use Rattle.index_world.specs.Index.{MayEnter, HasFile, HasStaged, IsUploaded, max_entries}
-use Rattle.index_world.specs.Life.{LifeIs, StandsBy, CreatesBy, Creating}
+use Rattle.index_world.specs.Life.{LifeIs, StandsBy, Creating}
 use Rattle.index_world.specs.Owning.{own_act, MayOwn}
 use Rattle.index_world.specs.Steps.{Counted}
 use Rattle.index_world.specs.Taking.{IsWant, IsUnprepared, of_journal}

@@ -1,5 +1,5 @@
 -- What a world's calls did, put together from what its life did.
-use Rattle.std.proofs.Common.{append-nil, ◌≡◌, ◌⊎◌, ℕ, ◌+◌, ◌-◌, ◌<◌, ◌≤◌, List, [], ◌∷◌, ◌++◌, refl, sym, ap, ◌∙◌, subst, inl, inr, Bool, true, false, length, arith}
+use Rattle.std.proofs.Common.{append-nil, ◌≡◌, ◌⊎◌, ℕ, ◌+◌, ◌<◌, ◌≤◌, List, [], ◌∷◌, ◌++◌, refl, sym, ap, ◌∙◌, subst, inl, inr, Bool, true, false, length, arith}
 use Rattle.std.specs.Prelude.{Option, Some, None, Result, Ok, Err, IsErrOf, max, ⊤}
 use Rattle.std.specs.Result.{IsErrAnd}
 use Rattle.byte_fields.specs.Causes.{HasCause, Rose}
@@ -37,11 +37,11 @@ use Rattle.index_world.specs.declared.life.Life.{Life}
 use Rattle.index_world.specs.declared.own.Own.{Own}
 use Rattle.index_world.specs.declared.own.Own.TheVariants as owns
 use Rattle.index_world.specs.declared.world_error.WorldError.{WorldError}
-use Rattle.index_world.specs.Calls.{Fate, Gives, Trouble, no_memory, Unmade, appended, looked, asked, asked_and_looked, asked_clock, entry_of, fetched, upload_made, faulted, store_fault, store_failed}
+use Rattle.index_world.specs.Calls.{Fate, Gives, Trouble, no_memory, appended, looked, asked, asked_and_looked, asked_clock, entry_of, fetched, upload_made, faulted, store_fault, store_failed}
 use Rattle.index_world.specs.Config.{reads}
 use Rattle.index_world.specs.Core.{Core, last_count, journal_of, HasStagedIn, IsUnusedIn, IsUploadedIn}
 use Rattle.index_world.specs.Gate.{Does, Says, NoneBetween, IsTrouble, IsUnmade, WasStaged, IsStagedIn, WasUploaded, IsMoment, IsPieceGiven, rows_for}
-use Rattle.index_world.specs.Life.{LifeIs, StandsBy, SettledSure, SettledIn, SettledNone, SettlesBy, Settling, OwnMade, Appending}
+use Rattle.index_world.specs.Life.{LifeIs, StandsBy, SettledSure, SettledIn, Settling, OwnMade, Appending}
 use Rattle.index_world.specs.Owning.{own_act}
 use Rattle.index_world.specs.Steps.{Counted, greatest}
 use Rattle.index_world.specs.Taking.{IsWant, of_create, of_get}

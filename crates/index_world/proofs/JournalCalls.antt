@@ -1,29 +1,23 @@
 -- What a call of the journal did to its store, in the words of the core: with some fate it is the core's call.
-use Rattle.std.proofs.Common.{◌≡◌, ◌⊎◌, ℕ, zero, suc, ◌<◌, ◌≤◌, ◌+◌, ◌-◌, ◌^◌, List, [], ◌∷◌, ◌++◌, refl, sym, ap, ◌∙◌, subst, inl, inr, Bool, true, false, length, arith, map}
-use Rattle.std.proofs.lemmas.List.{length-append}
+use Rattle.std.proofs.Common.{◌≡◌, ◌⊎◌, ℕ, ◌≤◌, ◌+◌, ◌-◌, List, [], ◌∷◌, ◌++◌, refl, sym, ap, ◌∙◌, subst, inl, inr, Bool, true, false, length, arith}
 use Rattle.std.proofs.lemmas.Bool.Decides.{nat_tests}
-use Rattle.std.specs.FinMap.{get, insert}
-use Rattle.std.specs.Prelude.{Option, Some, None, is_some, IsSome, Result, Ok, Err, min, max, nat_lt, ◌==◌, ◌||◌, ◌&&◌, ⊤}
+use Rattle.std.specs.FinMap.{get}
+use Rattle.std.specs.Prelude.{Option, Some, None, is_some, IsSome, Ok, Err, max, nat_lt, ◌==◌, ◌||◌}
 use Rattle.byte_fields.specs.Causes.{Rose}
 use Rattle.meta_journal.specs.Places.{meta_key, numbered, HasEntry, Stand}
 use Rattle.meta_journal.specs.Spelling.{Spells, CanSpell, spelling}
-use Rattle.meta_journal.specs.declared.entry.Act.TheVariants.{Stage}
 use Rattle.meta_journal.specs.declared.entry.Entry.{Entry}
 use Rattle.object_store.specs.Store.{State, landed, with_object, with_late, HasLanded, LandsThen, Creates}
 use Rattle.object_store.specs.declared.store.CreateError.TheVariants as creates
-use Rattle.source_checkpoint.specs.declared.delta.Part.{Part}
 use Rattle.source_log.specs.Log.{Log}
-use Rattle.split_states.specs.declared.facts.RowFacts.{RowFacts}
-use Rattle.index_world.specs.Calls.{Call, Made, made, exists, failed, Making, made_behind, made_at, create_at_end, tried, begun, all_landed, risen, may_fail, taken_in, got_at, get_at_end, gives, Gives, Trouble, store_failed}
-use Rattle.index_world.specs.Core.{Core, late_entry, last_count, with_unread, journal_of}
-use Rattle.index_world.specs.Index.{OneEntry, IsIndexOf, MayEnter, IsUnused, HasStaged}
-use Rattle.index_world.specs.Standing.{StandsFor}
+use Rattle.index_world.specs.Calls.{Call, exists, failed, Making, made_behind, made_at, create_at_end, tried, begun, risen, may_fail, taken_in, got_at, get_at_end, gives, store_failed}
+use Rattle.index_world.specs.Core.{Core, late_entry, last_count, journal_of}
+use Rattle.index_world.specs.Index.{OneEntry, MayEnter, IsUnused, HasStaged}
 use Rattle.index_world.specs.World.{IsWorld}
-use Rattle.index_world.specs.Held.{KeepsHeld}
 use Rattle.index_world.specs.Onward.{Onward, Landing}
-use Rattle.index_world.proofs.StoreKeys.{none_some, true_is_false}
-use Rattle.index_world.proofs.Journals.{journal-end, stand-of, Stand-at}
-use Rattle.index_world.proofs.Indexing.{longer, held-trans}
+use Rattle.index_world.proofs.StoreKeys.{true_is_false}
+use Rattle.index_world.proofs.Journals.{journal-end, stand-of}
+use Rattle.index_world.proofs.Indexing.{longer}
 use Rattle.index_world.proofs.Landing.{journal_none, journal_some, standing_number}
 use Rattle.index_world.proofs.Worlds.{Onward-trans, held-refl, world-lands, world-same}
 use Rattle.index_world.proofs.WorldCalls.{Entered, world-enters, world-tried, world-taken}

@@ -1,7 +1,7 @@
 -- What opening the index of a store did, in the words of the core.
-use Rattle.std.proofs.Common.{◌≡◌, ◌⊎◌, ℕ, ◌+◌, ◌<◌, ◌≤◌, ◌^◌, List, [], ◌∷◌, ◌++◌, refl, sym, ap, ◌∙◌, subst, Bool, true, false, length, arith, append-nil}
+use Rattle.std.proofs.Common.{◌≡◌, ℕ, ◌<◌, ◌≤◌, ◌^◌, List, [], refl, sym, ap, ◌∙◌, subst, Bool, false, length, arith, append-nil}
 use Rattle.std.proofs.lemmas.List.{length-append}
-use Rattle.std.specs.Prelude.{Option, Some, None, Result, Ok, Err, ⊤}
+use Rattle.std.specs.Prelude.{Option, Some, Result, Ok, Err, ⊤}
 use Rattle.byte_fields.specs.Causes.{Rose}
 use Rattle.meta_journal.specs.Journal.{Numbered, FaultIs}
 use Rattle.meta_journal.specs.Loading.{Loads, LoadsEntries, IsLoaded, loaded}
@@ -18,13 +18,12 @@ use Rattle.index_world.specs.declared.world_error.WorldError.TheVariants as erro
 use Rattle.index_world.specs.Calls.{Unread, not_read, no_index, no_memory, faulted, store_fault, store_failed, gives}
 use Rattle.index_world.specs.Config.{reads}
 use Rattle.index_world.specs.Core.{Core, last_count}
-use Rattle.index_world.specs.Gate.{Says}
-use Rattle.index_world.specs.Life.{SameBut, OpensLife, OpensNone, Opening, StandsBy}
-use Rattle.index_world.specs.Loading.{IsUnread, LoadsAs, LoadsWorld, LoadsNone, LoadsAnew}
+use Rattle.index_world.specs.Life.{Opening, StandsBy}
+use Rattle.index_world.specs.Loading.{IsUnread, LoadsWorld, LoadsNone, LoadsAnew}
 use Rattle.index_world.specs.Steps.{Counted}
 use Rattle.index_world.specs.Taking.{IsWant, of_journal}
 use Rattle.index_world.specs.Unsure.{is_unsure}
-use Rattle.index_world.specs.World.{IsWorld, IsTimely, WorldStands}
+use Rattle.index_world.specs.World.{IsWorld, WorldStands}
 use Rattle.std.specs.Result.{IsErrAnd}
 use Rattle.index_world.proofs.Fronts.{AreTimely, journal_timely}
 use Rattle.index_world.proofs.FileCalls.{LoadLaw, UnreadLaw, load_answer, load_law, load_failed_law, load_short_law}

@@ -1,28 +1,27 @@
 -- What settling did to a life, in the words of the core.
-use Rattle.std.proofs.Common.{◌≡◌, ◌⊎◌, ℕ, ◌+◌, ◌<◌, ◌≤◌, List, [], ◌∷◌, ◌++◌, refl, sym, ap, ◌∙◌, subst, inl, inr, Bool, true, false, length, arith}
-use Rattle.std.specs.Prelude.{Option, Some, None, Result, Ok, Err, MatchResult, max, ⊤}
+use Rattle.std.proofs.Common.{◌≡◌, ℕ, ◌≤◌, [], ◌∷◌, refl, sym, ap, ◌∙◌, subst, inl, inr, true, false, length, arith}
+use Rattle.std.specs.Prelude.{Option, Some, Result, Ok, Err, MatchResult, ⊤}
 use Rattle.byte_fields.specs.Causes.{Rose}
-use Rattle.meta_journal.specs.Journal.{Numbered, Settles, SettlesAt, Tries, created, fence, FaultIs, place_refused}
-use Rattle.meta_journal.specs.Places.{HasEntry}
+use Rattle.meta_journal.specs.Journal.{Numbered, Settles, SettlesAt, FaultIs, place_refused}
 use Rattle.meta_journal.specs.Spelling.{CanSpell}
 use Rattle.meta_journal.specs.declared.entry.Entry.{Entry}
 use Rattle.meta_journal.specs.declared.journal_error.JournalError.{JournalError}
 use Rattle.meta_journal.specs.declared.journal_error.JournalError.TheVariants as journal
 use Rattle.meta_journal.specs.declared.place.Place.{Place}
-use Rattle.meta_journal.specs.declared.place.Place.TheVariants.{Sure, Unsure, Given}
-use Rattle.object_store.specs.Store.{State, HasLanded, WhereTold}
+use Rattle.meta_journal.specs.declared.place.Place.TheVariants.{Sure}
+use Rattle.object_store.specs.Store.{State, WhereTold}
 use Rattle.source_log.specs.Log.{Log}
 use Rattle.index_world.specs.declared.life.Life.{Life}
 use Rattle.index_world.specs.declared.world_error.WorldError.{WorldError}
 use Rattle.index_world.specs.Calls.{no_memory, store_failed, faulted, store_fault, Trouble}
 use Rattle.index_world.specs.Core.{Core, last_count}
-use Rattle.index_world.specs.Life.{LifeIs, StandsBy, TookIn, TookNone, SettledSure, SettledIn, SettledNone, Settling}
+use Rattle.index_world.specs.Life.{LifeIs, StandsBy, TookIn, TookNone, Settling}
 use Rattle.index_world.specs.Steps.{Counted, Settled, Unsettled}
 use Rattle.index_world.specs.Taking.{of_journal}
 use Rattle.index_world.specs.Unsure.{is_unsure}
 use Rattle.index_world.proofs.JournalLaws.{settles_ok, settles_short, settles_fault, settles_no_corrupt, settles_landed}
 use Rattle.index_world.proofs.Lives.{Told, told_of, want_trouble, doubt_of, knows_of, life_on, life_taken, stands_by, allowed_last, answers_allowed}
-use Rattle.index_world.proofs.Transacting.{settled_ends, unsettled_ends, timely_more, timely_unsettled}
+use Rattle.index_world.proofs.Transacting.{settled_ends, timely_more, timely_unsettled}
 
 pub refused_doubt : (p : Place) (x : JournalError) → (p ≡ Sure → ⊥) → is_unsure (place_refused p x) ≡ true
 refused_doubt p (journal.Memory a) h = doubt_of p h

@@ -1,8 +1,7 @@
 -- A whole transaction, by what its calls of the journal did: the core's transaction, and the world stays an index.
-use Rattle.std.proofs.Common.{◌≡◌, ℕ, ◌+◌, ◌-◌, ◌<◌, ◌≤◌, ◌^◌, List, [], ◌∷◌, ◌++◌, refl, sym, ap, ◌∙◌, subst, Bool, true, false, length, arith, IsOk, append_assoc, append-nil, inl, inr}
+use Rattle.std.proofs.Common.{◌≡◌, ℕ, ◌-◌, ◌<◌, ◌≤◌, List, [], ◌∷◌, ◌++◌, refl, sym, ap, ◌∙◌, subst, Bool, true, false, length, arith, IsOk, append_assoc, append-nil, inl, inr}
 use Rattle.std.proofs.lemmas.Bool.Decides.{nat_tests}
-use Rattle.std.specs.Prelude.{Option, Some, None, Result, Ok, Err, max, nat_le, IsSome, ⊤, ◌||◌}
-use Rattle.byte_fields.specs.Causes.{Rose}
+use Rattle.std.specs.Prelude.{Result, Ok, Err, max, nat_le, ⊤, ◌||◌}
 use Rattle.meta_journal.specs.Journal.{Faults, Tries, create_failed}
 use Rattle.meta_journal.specs.Places.{meta_key}
 use Rattle.meta_journal.specs.Spelling.{CanSpell, CanSpellAct}
@@ -15,14 +14,13 @@ use Rattle.meta_store.specs.State.{state_of, config_of, reading_of}
 use Rattle.meta_store.specs.declared.refusal.Refusal.{Refusal}
 use Rattle.object_store.specs.Store.{State, HasLanded}
 use Rattle.source_log.specs.Log.{Log}
-use Rattle.index_world.specs.Calls.{Call, Gives, gives, Trouble, faulted, no_memory, Unmade, refused, troubled, is_foreign, store_failed, last_create, transact, begun, taken_in, may_append, or_full, full_answer, answer_behind, entry_of, first_unless, adopted_making, and_then, as_unmade}
+use Rattle.index_world.specs.Calls.{Call, gives, Trouble, faulted, no_memory, Unmade, refused, troubled, is_foreign, store_failed, last_create, begun, taken_in, may_append, or_full, full_answer, answer_behind, entry_of, adopted_making}
 use Rattle.index_world.specs.Config.{reads}
 use Rattle.index_world.specs.Core.{Core, journal_of}
 use Rattle.index_world.specs.Index.{MayEnter, HasFile, max_entries}
 use Rattle.index_world.specs.World.{IsWorld, IsTimely}
 use Rattle.index_world.specs.Onward.{Onward}
 use Rattle.index_world.proofs.StoreKeys.{true_is_false}
-use Rattle.index_world.proofs.Numbers.{history-snoc}
 use Rattle.index_world.proofs.Asking.{timely_taken}
 use Rattle.index_world.proofs.Worlds.{Onward-trans, held-refl}
 use Rattle.index_world.proofs.JournalCalls.{Counted, quiet, calm_get, MadeLaw, AdoptedLaw, FailedLaw, ExistsLaw, still_counted}

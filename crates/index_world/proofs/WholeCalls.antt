@@ -1,26 +1,25 @@
 -- The whole calls of a world: with some fate each is the core's call, and behind it the world stands for the core that it gave.
-use Rattle.std.proofs.Common.{◌≡◌, ℕ, ◌+◌, ◌-◌, ◌<◌, ◌≤◌, ◌^◌, List, [], ◌∷◌, ◌++◌, refl, sym, ap, ◌∙◌, subst, Bool, true, false, length, arith}
+use Rattle.std.proofs.Common.{◌≡◌, ℕ, ◌<◌, ◌≤◌, List, [], ◌∷◌, refl, ap, ◌∙◌, Bool, true, false, length, arith}
 use Rattle.std.proofs.lemmas.List.{length-append}
 use Rattle.std.specs.Prelude.{Option, Some, None, Result, Ok, Err, max, ⊤}
 use Rattle.meta_journal.specs.declared.entry.Act.{Act}
 use Rattle.meta_journal.specs.declared.entry.Entry.{Entry}
-use Rattle.meta_store.specs.History.{history, moment_of}
+use Rattle.meta_store.specs.History.{history}
 use Rattle.meta_store.specs.State.{state_of}
-use Rattle.object_store.specs.Store.{State, HasLanded}
+use Rattle.object_store.specs.Store.{State}
 use Rattle.source_log.specs.Log.{Log}
-use Rattle.index_world.specs.Calls.{Call, Fate, Gives, gives, Trouble, no_memory, Unmade, troubled, Unread, not_read, store_failed, settled, settled_and_copied, unless_short, looked, asked, asked_and_looked, appended, asked_clock, and_then, and_then_by, fetched, loaded, upload_made}
+use Rattle.index_world.specs.Calls.{Call, Fate, Gives, gives, Trouble, no_memory, Unmade, settled, unless_short, looked, asked, asked_and_looked, appended, asked_clock, and_then}
 use Rattle.index_world.specs.Config.{reads}
 use Rattle.index_world.specs.Core.{Core, KeepsBut, journal_of}
-use Rattle.index_world.specs.Index.{IsUnused, IsUploaded}
 use Rattle.index_world.specs.World.{IsWorld, IsTimely, Keeping, WorldStands, GoesOn}
 use Rattle.index_world.specs.Onward.{Onward}
 use Rattle.index_world.proofs.Asking.{timely_asked}
 use Rattle.index_world.proofs.Worlds.{held-refl, world-same}
-use Rattle.index_world.proofs.InCore.{goes-on, keeps_others, KeepsBut-trans}
-use Rattle.index_world.proofs.JournalCalls.{Counted, Begun, quiet, calm_get}
+use Rattle.index_world.proofs.InCore.{goes-on, KeepsBut-trans}
+use Rattle.index_world.proofs.JournalCalls.{Counted, quiet, calm_get}
 use Rattle.index_world.proofs.JournalLaws.{Settled, Unsettled}
 use Rattle.index_world.proofs.Transactions.{settled_sure}
-use Rattle.index_world.proofs.Transacting.{Ends, greatest, ends_same, timely_same, timely_more, settled_ends, unsettled_ends, timely_unsettled, Transacted}
+use Rattle.index_world.proofs.Transacting.{Ends, greatest, ends_same, timely_more, settled_ends, unsettled_ends, timely_unsettled, Transacted}
 use Rattle.meta_journal.specs.Spelling.{CanSpell}
 
 -- what a world that stands for the core keeps

@@ -1,35 +1,31 @@
 -- The whole calls of a world that create or read a file, and the reading of its journal anew.
-use Rattle.std.proofs.Common.{◌≡◌, ℕ, ◌+◌, ◌-◌, ◌<◌, ◌≤◌, ◌^◌, List, [], ◌∷◌, ◌++◌, refl, sym, ap, ◌∙◌, subst, Bool, true, false, length, arith, lit<, fold}
-use Rattle.std.proofs.lemmas.List.{length-append}
+use Rattle.std.proofs.Common.{◌≡◌, ℕ, ◌+◌, ◌<◌, ◌≤◌, ◌^◌, List, [], ◌∷◌, ◌++◌, refl, sym, ap, ◌∙◌, subst, Bool, true, false, length, arith, lit<, fold}
 use Rattle.std.proofs.lemmas.Bool.{eqb-true, eqb-false}
 use Rattle.std.specs.FinMap.{get}
-use Rattle.std.specs.Prelude.{Option, Some, None, is_some, IsSome, Result, Ok, Err, max, ⊤, ◌==◌}
-use Rattle.byte_fields.specs.Causes.{Rose}
+use Rattle.std.specs.Prelude.{Option, Some, None, is_some, Result, Ok, ⊤, ◌==◌}
 use Rattle.meta_journal.specs.Journal.{IsCorrupt}
 use Rattle.meta_journal.specs.Loading.{IsForeign}
-use Rattle.meta_journal.specs.Places.{meta_key, split_key, numbered, HasEntry, Stand, IsJournal}
+use Rattle.meta_journal.specs.Places.{meta_key, HasEntry, Stand, IsJournal}
 use Rattle.meta_journal.specs.Spelling.{Spells}
 use Rattle.meta_journal.specs.declared.entry.Entry.{Entry}
 use Rattle.meta_store.specs.History.{History, history, moment_of}
 use Rattle.meta_store.specs.History.{history as told}
 use Rattle.meta_store.specs.History.History.{Start, ◌▸◌}
-use Rattle.meta_store.specs.State.{state_of}
 use Rattle.object_store.specs.Store.{State, HasLanded}
 use Rattle.source_log.specs.Log.{Log}
-use Rattle.index_world.specs.Calls.{Call, Fate, Gives, gives, Trouble, no_memory, Unread, not_read, store_failed, asked_clock, file_got, fetched, loaded, upload_made}
+use Rattle.index_world.specs.Calls.{Call, Fate, gives, Trouble, asked_clock, file_got, fetched, loaded, upload_made}
 use Rattle.index_world.specs.Core.{Core, KeepsBut, IsUploadedIn, journal_of}
-use Rattle.index_world.specs.Index.{IsIndexOf, IsUnused, IsUploaded, max_entries, is_meta}
-use Rattle.index_world.specs.World.{IsWorld, IsTimely, WorldStands, GoesOn}
-use Rattle.index_world.specs.Onward.{Onward}
-use Rattle.index_world.proofs.StoreKeys.{true_is_false, none_some, meta_begins}
-use Rattle.index_world.proofs.Journals.{stand-of, Stand-at, journal-end}
+use Rattle.index_world.specs.Index.{IsIndexOf, IsUploaded}
+use Rattle.index_world.specs.World.{IsWorld, IsTimely, WorldStands}
+use Rattle.index_world.proofs.StoreKeys.{true_is_false, meta_begins}
+use Rattle.index_world.proofs.Journals.{stand-of, Stand-at}
 use Rattle.index_world.proofs.Asking.{timely_asked}
 use Rattle.index_world.proofs.InCore.{keeps_all, keeps_others, uploaded-in}
 use Rattle.index_world.proofs.JournalCalls.{Counted, Begun}
 use Rattle.index_world.proofs.JournalLaws.{appends_short}
-use Rattle.index_world.proofs.FileCalls.{one_call, UploadLaw, LoadLaw, UnreadLaw, load_answer}
+use Rattle.index_world.proofs.FileCalls.{one_call, UploadLaw, LoadLaw, load_answer}
 use Rattle.index_world.proofs.Transacting.{Ends, ends_same, timely_same}
-use Rattle.index_world.proofs.WholeCalls.{Whole, keeping_of, stands_behind, world_asked, counted_asked, went_on_asked}
+use Rattle.index_world.proofs.WholeCalls.{Whole, keeping_of, stands_behind, went_on_asked}
 
 -- ---- an upload
 

@@ -1,6 +1,5 @@
 -- What one life of a world knows of its journal, and what its calls do, in the words of the core.
 use Rattle.std.specs.Prelude.{◌≡◌, ◌⊎◌, ◌+◌, ◌<◌, ◌≤◌, ◌^◌, ℕ, Bool, true, false, List, [], ◌∷◌, ◌++◌, length, max, IsOk, Option, Some, None, Result, Ok, Err, ⊤}
-use Rattle.meta_journal.specs.Journal.{Numbered}
 use Rattle.meta_journal.specs.Places.{meta_key}
 use Rattle.meta_journal.specs.Spelling.{CanSpell, CanSpellAct}
 use Rattle.meta_journal.specs.declared.entry.Act.{Act}
@@ -20,7 +19,7 @@ use Rattle.index_world.specs.declared.life.Life.{Life}
 use Rattle.index_world.specs.declared.own.Own.{Own}
 use Rattle.index_world.specs.declared.world_error.WorldError.{WorldError}
 use Rattle.index_world.specs.declared.world_error.WorldError.TheVariants as errors
-use Rattle.index_world.specs.Calls.{Trouble, Unmade, Unread, may_append, entry_of, taken_in}
+use Rattle.index_world.specs.Calls.{Trouble, Unmade, Unread, may_append, entry_of}
 use Rattle.index_world.specs.Config.{reads}
 use Rattle.index_world.specs.Core.{Core, last_count, journal_of, IsUnusedIn, HasStagedIn}
 use Rattle.index_world.specs.Gate.{IsTrouble, IsUnmade, Says}

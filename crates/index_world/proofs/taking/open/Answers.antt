@@ -1,4 +1,4 @@
-use Rattle.std.proofs.Common.{◌≡◌, ◌<◌, ap, arith, refl, sym, subst, ◌∙◌, [], List}
+use Rattle.std.proofs.Common.{◌≡◌, ◌<◌, ap, arith, sym, subst, ◌∙◌, List}
 use Rattle.std.specs.Prelude.{Result, Ok, Err, IfOk, IfErr, length}
 use Rattle.meta_journal.specs.Journal.{Numbered, FaultIs}
 use Rattle.meta_journal.specs.Loading.{loaded}

@@ -1,4 +1,4 @@
-use Rattle.std.proofs.Common.{◌≡◌, ◌+◌, ap, arith, refl, sym, subst, ◌∙◌, [], List}
+use Rattle.std.proofs.Common.{◌≡◌, ◌+◌, ap, arith, sym, subst, ◌∙◌}
 use Rattle.meta_store.specs.State.{State, after}
 use Rattle.index_world.specs.Taking.{IsWant}
 use Rattle.index_world.specs.Config.{reads}

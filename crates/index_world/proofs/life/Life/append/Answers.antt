@@ -1,7 +1,5 @@
-use Rattle.std.proofs.Common.{refl, sym, ap, ◌∙◌, subst, arith, ◌≡◌}
-use Rattle.std.specs.Prelude.{Option, Some, None, Result, Ok, Err, MatchResult, ⊤}
-use Rattle.meta_journal.specs.declared.entry.Entry.{Entry}
-use Rattle.index_world.specs.declared.world_error.WorldError.{WorldError}
+use Rattle.std.proofs.Common.{ap, ◌∙◌, ◌≡◌}
+use Rattle.std.specs.Prelude.{Some, None, Ok}
 use Rattle.index_world.proofs.Appending.{appending_unsettled, appending_made, appending_failed_by, adopting, appending_short, second_made, second_failed, second_given, settling_at, creating_at, none_of}
 use Rattle.index_world.proofs.life.Life.append.Goals as goal
 

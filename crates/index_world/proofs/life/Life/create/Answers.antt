@@ -1,18 +1,11 @@
-use Rattle.std.proofs.Common.{refl, sym, ap, ◌∙◌, subst, arith, ◌≡◌, ◌≤◌, ◌<◌, ℕ, false, true, IsOk, length}
-use Rattle.std.specs.Prelude.{Option, Some, None, Result, Ok, Err, IfErr}
-use Rattle.meta_journal.specs.Journal.{Appends, FaultIs, IsTaken, place_appended, next_appended}
+use Rattle.std.proofs.Common.{refl, sym, ap, ◌∙◌, subst, arith, ◌≡◌, ℕ, false, true, IsOk, length}
+use Rattle.std.specs.Prelude.{Result, Ok, Err, IfErr}
+use Rattle.meta_journal.specs.Journal.{FaultIs, IsTaken, place_appended, next_appended}
 use Rattle.meta_journal.specs.Spelling.{CanSpellAct}
-use Rattle.meta_journal.specs.declared.entry.Act.{Act}
-use Rattle.meta_journal.specs.declared.entry.Entry.{Entry}
 use Rattle.meta_journal.specs.declared.journal_error.JournalError.{JournalError}
 use Rattle.meta_journal.specs.declared.journal_error.JournalError.TheVariants as journal
-use Rattle.meta_store.specs.Answers.{Answer}
-use Rattle.meta_store.specs.State as meta
-use Rattle.object_store.specs.Store.{WhereTold}
-use Rattle.index_world.specs.declared.world_error.WorldError.{WorldError}
-use Rattle.index_world.specs.Calls.{entry_of}
 use Rattle.index_world.specs.Owning.{own_act, act_in}
-use Rattle.index_world.specs.Taking.{IsWant, IsUnprepared}
+use Rattle.index_world.specs.Taking.{IsWant}
 use Rattle.index_world.specs.Unsure.{is_unsure}
 use Rattle.index_world.proofs.Lives.{life_on}
 use Rattle.index_world.proofs.Creating.{creating_wants_by, creating_unprepared_by, creating_own, creating_gives, creating_failed, may_append_is, entry_is, answer_same, life_own, unprepared_same, appends_at}

@@ -1,4 +1,4 @@
-use Rattle.std.proofs.Common.{refl, sym, ap, ◌∙◌, subst, arith, ◌≡◌, ◌≤◌, ℕ, false, true}
+use Rattle.std.proofs.Common.{refl, sym, ap, ◌∙◌, subst, arith, ◌≡◌, false, true}
 use Rattle.std.specs.Prelude.{Option, Some, None, Result, Ok, Err, IfErr}
 use Rattle.meta_journal.specs.Journal.{Settles, place_settled, FaultIs}
 use Rattle.meta_journal.specs.declared.entry.Entry.{Entry}
@@ -6,7 +6,7 @@ use Rattle.meta_journal.specs.declared.journal_error.JournalError.{JournalError}
 use Rattle.meta_journal.specs.declared.place.Place.TheVariants.{Sure}
 use Rattle.object_store.specs.Store.{WhereTold}
 use Rattle.index_world.specs.Unsure.{is_unsure}
-use Rattle.index_world.proofs.Lives.{life_on, doubt_of}
+use Rattle.index_world.proofs.Lives.{life_on}
 use Rattle.index_world.proofs.Settling.{settling_sure, settling_given, settling_failed, refused_doubt}
 use Rattle.index_world.proofs.life.Life.settle.Goals as goal
 

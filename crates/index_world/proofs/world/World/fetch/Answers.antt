@@ -1,4 +1,4 @@
-use Rattle.std.proofs.Common.{refl, sym, ap, ◌∙◌, subst, arith, ◌≡◌, inl, inr}
+use Rattle.std.proofs.Common.{sym, ap, ◌∙◌, subst, arith, ◌≡◌, inl, inr}
 use Rattle.std.specs.Prelude.{Option, Some, Err}
 use Rattle.meta_journal.specs.Places.{split_key}
 use Rattle.index_world.specs.declared.planning.PlanRow.{PlanRow}

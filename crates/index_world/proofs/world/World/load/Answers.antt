@@ -1,4 +1,3 @@
-use Rattle.std.proofs.Common.{refl}
 use Rattle.index_world.proofs.Reading.{loads_world, loads_none, opening_at}
 use Rattle.index_world.proofs.world.World.load.Goals as goal
 

@@ -1,15 +1,15 @@
-use Rattle.std.proofs.Common.{refl, sym, ap, ◌∙◌, subst, arith, ◌≡◌, ◌≤◌, map}
+use Rattle.std.proofs.Common.{sym, ap, ◌∙◌, subst, arith, ◌≤◌, map}
 use Rattle.meta_store.specs.State as meta
 use Rattle.meta_store.specs.History.{history}
 use Rattle.split_states.specs.declared.rows.Row.{Row}
 use Rattle.std.specs.Prelude.{List}
-use Rattle.index_world.specs.Calls.{looked, asked_and_looked, asked_clock}
-use Rattle.index_world.specs.Gate.{AreMarks, IsPlan, planned_row}
+use Rattle.index_world.specs.Calls.{asked_and_looked, asked_clock}
+use Rattle.index_world.specs.Gate.{IsPlan, planned_row}
 use Rattle.index_world.specs.Core.{last_count}
 use Rattle.index_world.specs.Planning.{rows_in}
 use Rattle.index_world.specs.Taking.{IsWant}
 use Rattle.index_world.specs.World.{Keeping, WorldStands}
-use Rattle.index_world.proofs.Gates.{stands_of, world_asks, settles_said, looks_failed, looks_ok, looks_wants, looked_wholes, asked_wholes, rows_are, life_revision, life_opstamp}
+use Rattle.index_world.proofs.Gates.{stands_of, world_asks, settles_said, looks_failed, looks_ok, looks_wants, asked_wholes, rows_are, life_revision, life_opstamp}
 use Rattle.index_world.proofs.world.World.plan.Goals as goal
 
 pub returns-in_err-settle : goal.returns-in_err-settle

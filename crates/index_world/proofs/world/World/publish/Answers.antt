@@ -1,10 +1,9 @@
-use Rattle.std.proofs.Common.{refl, sym, ap, ◌∙◌, subst, arith, ◌≡◌, ◌≤◌}
+use Rattle.std.proofs.Common.{sym, ap, ◌∙◌, subst, arith}
 use Rattle.index_world.specs.Calls.{asked_clock}
-use Rattle.index_world.specs.Core.{last_count}
 use Rattle.index_world.specs.World.{Keeping, WorldStands}
 use Rattle.index_world.specs.declared.own.Own.TheVariants as owns
 use Rattle.index_world.proofs.Appending.{appending_at, owned_on}
-use Rattle.index_world.proofs.Gates.{stands_of, world_asks, appends_ok, appends_err, life_revision, staged_holds, life_opstamp}
+use Rattle.index_world.proofs.Gates.{stands_of, world_asks, appends_ok, appends_err, life_revision}
 use Rattle.index_world.proofs.WholeCalls.{keeps_asked}
 use Rattle.index_world.proofs.world.World.publish.Goals as goal
 

@@ -1,4 +1,4 @@
-use Rattle.std.proofs.Common.{refl, sym, subst}
+use Rattle.std.proofs.Common.{sym, subst}
 use Rattle.index_world.specs.World.{Keeping, WorldStands}
 use Rattle.index_world.proofs.Reading.{loads_anew_ok, loads_anew_err, opening_at}
 use Rattle.index_world.proofs.world.World.reload.Goals as goal
