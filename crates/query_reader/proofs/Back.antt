@@ -1,5 +1,5 @@
 -- What is printed of a query that was read is read as that query, or nests too deep.
-use Rattle.std.proofs.Common.{◌≡◌, ◌≢◌, ◌⊎◌, inl, inr, ℕ, zero, suc, ◌+◌, ◌-◌, ◌<◌, ◌≤◌, ◌&&◌, ◌||◌, ◌==◌, max, Bool, true, false, not, List, [], ◌∷◌, ◌++◌, length, map, Option, Some, None, Result, Ok, Err, refl, ap, sym, ◌∙◌, subst, arith, nat_lt, lt-ltb, le-ltb, ltb-true, ltb-false, is_some, if◌then◌else◌, slice_get, append_assoc, append-nil, length-append, IsUtf8, option_and_then}
+use Rattle.std.proofs.Common.{◌≡◌, ℕ, ◌+◌, ◌-◌, ◌<◌, ◌≤◌, ◌&&◌, Bool, true, false, not, List, [], ◌∷◌, ◌++◌, length, map, Some, None, Result, Ok, Err, refl, ap, sym, ◌∙◌, subst, arith, nat_lt, lt-ltb, le-ltb, ltb-true, ltb-false, is_some, if◌then◌else◌, append_assoc, append-nil, length-append, IsUtf8, option_and_then}
 use Rattle.std.specs.Option.{option_map_or}
 use Rattle.doc_value.specs.declared.schema.Field.{Field}
 use Rattle.query_ast.specs.declared.query.Item.{Item}
@@ -12,25 +12,23 @@ use Rattle.query_ast.specs.Sought as sought
 use Rattle.query_reader.specs.Kinds.{kind_of, said}
 use Rattle.query_reader.specs.Asking.{Asking}
 use Rattle.query_reader.specs.Asking as asks
-use Rattle.query_reader.specs.Tree.{Tree, Trees, no_trees, behind, Leaf, Group, Not, And, Or, and_tree, or_tree}
-use Rattle.query_reader.specs.Machine.{run, reads, start, state, State, Frame, Mode, step, go_on, Want, After, Behind, InRange, InQuote, First, Fielded, with_operand, with_or, negated, fresh, whole, leaf, limit}
+use Rattle.query_reader.specs.Tree.{Tree, Trees, no_trees, behind, Group, Not, And, Or}
+use Rattle.query_reader.specs.Machine.{run, reads, start, state, Frame, Want, After, Behind, First, Fielded, with_operand, negated, fresh, whole, leaf}
 use Rattle.query_reader.specs.Grammar.{span}
 use Rattle.query_reader.specs.Texts.{text_at}
-use Rattle.query_reader.specs.Resolve.{◌>>=◌, resolve, resolve_each, resolved, resolve_clause, named_clause, all_indexed, first_bad, first_unplaced, query_of, clause_of, valued_clause, placed_clause, over_fields, asked_after, asked_of, and_then, bad_value, unplaced, unplaced_members, bad_members, is_unplaced, place_unless, first_of, item_of, number_of, has_order, member_byte, first_byte}
-use Rattle.query_reader.specs.Printed.{hides_in_quote, hiding, word_text, quote_text, Piece, Written, Second, Spells, edge_pieces, range_pieces, opening, closing, item_text, items_text, items_rest, set_text, path_of, field_text, asked, blank_and, blank_or, bracket_before, bracket_behind, bracket_depth, inner, printed, printed_all, nesting, nesting_all}
+use Rattle.query_reader.specs.Resolve.{◌>>=◌, resolve, resolve_each, resolved, resolve_clause, named_clause, all_indexed, first_bad, first_unplaced, query_of, valued_clause, placed_clause, over_fields, asked_after, asked_of, and_then, bad_value, unplaced, unplaced_members, bad_members, is_unplaced, place_unless, first_of, item_of, number_of, has_order, first_byte}
+use Rattle.query_reader.specs.Printed.{hides_in_quote, hiding, word_text, quote_text, Piece, Written, Spells, edge_pieces, range_pieces, opening, closing, items_text, items_rest, set_text, path_of, field_text, asked, blank_and, blank_or, bracket_depth, inner, printed, printed_all, nesting, nesting_all}
 use Rattle.query_reader.specs.declared.fault.Fault.{Fault}
 use Rattle.query_reader.specs.declared.fault.Fault.TheVariants as faults
-use Rattle.query_reader.specs.declared.refusal.QueryError.{QueryError}
 use Rattle.query_reader.specs.declared.refusal.QueryError.TheVariants as refusals
-use Rattle.query_reader.specs.declared.special.Member.{Member}
 use Rattle.query_reader.specs.declared.special.Ranged.TheVariants.{Between}
 use Rattle.query_reader.specs.declared.tree.Span.{Span}
-use Rattle.query_reader.proofs.Pieces.{Split, spells_split, spells_written, spells_more}
+use Rattle.query_reader.proofs.Pieces.{spells_split, spells_written, spells_more}
 use Rattle.query_reader.proofs.Rows.{count}
 use Rattle.query_reader.proofs.Words.{WordRead, word_reads, Delimited, at_end, at_blank, at_close, word_delimited, word_star, word_colon, quote_shown, quote_closes, quote_behind}
-use Rattle.query_reader.proofs.Edges.{EdgeText, edge_bytes, bound_at, ItemText, item_bytes, member_at, rest_bytes, all_bytes, rest_members, all_members, set_bytes, set_shown, range_bytes, range_shown, high_from, begins, shut}
-use Rattle.query_reader.proofs.Spelling.{word_at, quote_at, is_closed, SpellsEdge, edge_spelled, SpellsItem, item_spelled}
-use Rattle.query_reader.proofs.Readable.{HasFirst, IsAsked, IsEdgeOf, IsItemOf, AreItemsOf, no_items, more_items, Readable, r_all, r_word, r_quoted, r_prefix, r_exists, r_range, r_set, r_not, r_and, r_or, AreReadable, r_none, r_more, size, size_more}
+use Rattle.query_reader.proofs.Edges.{edge_bytes, bound_at, ItemText, item_bytes, member_at, rest_bytes, all_bytes, rest_members, all_members, set_bytes, set_shown, range_bytes, range_shown, high_from, begins, shut}
+use Rattle.query_reader.proofs.Spelling.{word_at, quote_at, is_closed, edge_spelled, item_spelled}
+use Rattle.query_reader.proofs.Readable.{HasFirst, IsAsked, IsEdgeOf, AreItemsOf, no_items, more_items, Readable, r_all, r_word, r_quoted, r_prefix, r_exists, r_range, r_set, r_not, r_and, r_or, AreReadable, r_none, r_more, size}
 
 -- the members of a set
 pub record SpellsItems (f : Field) (is : List Item) : Type 0 where

@@ -1,37 +1,35 @@
 -- What is in the grammar is read by the machine.
-use Rattle.std.proofs.Common.{◌≡◌, ◌≢◌, ◌⊎◌, inl, inr, Option, Some, None, ℕ, zero, suc, ◌+◌, ◌-◌, ◌<◌, ◌≤◌, ◌==◌, ◌&&◌, Bool, true, false, not, List, [], ◌∷◌, ◌++◌, length, take, drop, get_or, Result, Ok, Err, refl, ap, sym, ◌∙◌, arith, length-drop, get_or-drop, if◌then◌else◌}
+use Rattle.std.proofs.Common.{◌≡◌, ◌≢◌, ◌⊎◌, inl, inr, Option, Some, None, ℕ, ◌+◌, ◌-◌, ◌<◌, ◌≤◌, ◌==◌, ◌&&◌, Bool, true, false, not, List, [], ◌∷◌, ◌++◌, length, take, drop, get_or, Ok, refl, ap, sym, ◌∙◌, arith, length-drop, get_or-drop}
 use Rattle.std.specs.Prelude.{slice_range}
 use Rattle.std.specs.Str.{bytes_eq}
 use Rattle.std.proofs.lemmas.Bool.{cases_lt, eqb-true}
-use Rattle.std.proofs.lemmas.List.{drop_all, length-take-le, get_or-take}
-use Rattle.query_reader.proofs.Steps.{steps, goes, ends, begins, in_word, in_quote, slice_more, quote_plain, quote_escape, quote_hidden, word_plain, word_escape, word_escaped}
-use Rattle.query_reader.proofs.Parts.{stuck_at, alike, want_operand, tight_operand, operand_word, no_joined, and_wants, or_wants, word_ends, word_prefix, named_field, behind_word, after_word, other_joined, after_end, behind_special, spaced_special}
-use Rattle.query_reader.proofs.Nest.{operand_plus, operand_minus, operand_open, operand_star, operand_quote, not_wants}
+use Rattle.std.proofs.lemmas.List.{length-take-le, get_or-take}
+use Rattle.query_reader.proofs.Steps.{goes, ends, begins, in_word, in_quote, slice_more, quote_plain, word_plain, word_escape, word_escaped}
+use Rattle.query_reader.proofs.Parts.{alike, want_operand, operand_word, no_joined, and_wants, or_wants, word_ends, word_prefix, named_field, behind_word, after_word, other_joined, after_end, behind_special, spaced_special}
+use Rattle.query_reader.proofs.Nest.{operand_plus, operand_minus, operand_open, operand_star, not_wants}
 use Rattle.query_reader.proofs.Specials.{set_begins, set_ends, word_in, letter_i, letter_n, unequal}
 use Rattle.query_reader.specs.Kinds.{kind_of, said, names_set, ends_word, begins_word, is_escape_kind, StandsAt, ByteAt}
 use Rattle.query_reader.specs.Asking.{Asking}
 use Rattle.query_reader.specs.Asking as asks
-use Rattle.query_reader.specs.Tree.{Tree, Trees, no_trees, behind, and_tree, or_tree, Group, Not}
-use Rattle.query_reader.specs.Ranges.{ends_run, run_bound, edge_before, want_bound, range_step, sign_of}
-use Rattle.query_reader.specs.Machine.{run, state, State, Frame, Mode, Step, Go, Stuck, go_on, step, finish, begin, from_operand, word, begun_word, Role, First, Joined, Fielded, InASet, Want, After, InWord, InQuote, Behind, Spaced, LetterI, BehindIn, InSet, InRange, with_operand, with_or, leaf, after_leaf, negated, fresh, reads, start, begin_special, step_after}
-use Rattle.query_reader.specs.Reading.{IsOperatorEnd, IsSetOpening, operand_rest, set_rest, range_rest, special_rest, sunk}
-use Rattle.query_reader.specs.Grammar.{Blanks, Letters, Word, Quotes, Asks, Run, RunEnds, Bounds, Compares, Items, Opens, Shuts, Specials, NoSetWord, Gap, Ors, Ands, Unary, IsQuery, span, member}
+use Rattle.query_reader.specs.Tree.{Tree, Trees, no_trees, behind, and_tree, or_tree, Group}
+use Rattle.query_reader.specs.Ranges.{ends_run, run_bound, sign_of}
+use Rattle.query_reader.specs.Machine.{run, state, State, Frame, Go, go_on, step, from_operand, word, begun_word, Role, First, Joined, Fielded, InASet, Want, After, InQuote, Behind, Spaced, BehindIn, InSet, InRange, with_operand, with_or, leaf, negated, fresh, reads, begin_special}
+use Rattle.query_reader.specs.Reading.{IsOperatorEnd, IsSetOpening, operand_rest, set_rest, special_rest, sunk}
+use Rattle.query_reader.specs.Grammar.{Blanks, Letters, Word, Quotes, Asks, Run, RunEnds, Bounds, Compares, Items, Opens, Shuts, Specials, NoSetWord, Gap, Ors, Ands, Unary, IsQuery, span}
 use Rattle.query_reader.specs.Grammar.{no_blank, blank, no_letter, letter, escaped_letter, no_quoted, quoted_byte, escaped_byte, a_word, a_prefix, a_quote, run_one, run_more, a_star, a_quoted, a_run, at_least, at_most, above, below, no_item, item_blank, item_word, item_quoted, any_value, a_range, compared, a_set, one_and, by_or, one_operand, next_operand, by_and, by_not, by_plus, by_minus, anything, by_bracket, of_defaults, of_field, of_special}
 use Rattle.query_reader.specs.declared.kind.Kind.{Kind}
-use Rattle.query_reader.specs.declared.kind.Kind.TheVariants.{Blank, Quote, Open, Close, Star, Colon, Plus, Minus, Escape, Angle, SquareOpen, SquareClose, CurlyOpen, CurlyClose, Reserved, Plain}
+use Rattle.query_reader.specs.declared.kind.Kind.TheVariants.{Blank, Quote, Open, Close, Star, Plus, Minus, Escape, Angle, SquareOpen, SquareClose, CurlyOpen, CurlyClose, Plain}
 use Rattle.query_reader.specs.declared.kind.Said.{Said}
-use Rattle.query_reader.specs.declared.kind.Said.TheVariants.{SaidWord, SaidAnd, SaidOr, SaidNot}
+use Rattle.query_reader.specs.declared.kind.Said.TheVariants.{SaidAnd, SaidOr}
 use Rattle.query_reader.specs.declared.tree.Span.{Span}
 use Rattle.query_reader.specs.declared.special.Member.{Member}
 use Rattle.query_reader.specs.declared.special.Bound.{Bound}
 use Rattle.query_reader.specs.declared.special.Bound.TheVariants as bounds
 use Rattle.query_reader.specs.declared.special.Compare.{Compare}
-use Rattle.query_reader.specs.declared.special.Compare.TheVariants.{AtLeast, AtMost, Above, Below}
 use Rattle.query_reader.specs.declared.special.Ranged.TheVariants.{Between, Compared}
 use Rattle.query_reader.specs.declared.special.Spot.{Spot}
 use Rattle.query_reader.specs.declared.special.Spot.TheVariants.{Low, High, One}
 use Rattle.query_reader.specs.declared.special.RangeMode.TheVariants.{Wanted, Quoting, Running, BehindLow, LetterT, BehindTo, Closing, Sign}
-use Rattle.query_reader.specs.declared.special.RangeStep.TheVariants as moves
 
 -- white space
 pub blanks_want : {text : List ℕ} {i j : ℕ} → Blanks text i j → (f : Frame) (fs : List Frame) → run i (state (Want true) f fs) (drop i text) ≡ run j (state (Want true) f fs) (drop j text)

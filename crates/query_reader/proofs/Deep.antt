@@ -1,16 +1,15 @@
 -- What stands in 64 others is too deep.
-use Rattle.std.proofs.Common.{◌≡◌, ◌⊎◌, inl, inr, ℕ, ◌+◌, ◌<◌, ◌≤◌, Bool, true, false, List, drop, Result, Ok, Err, refl, ap, sym, ◌∙◌, arith, get_or}
+use Rattle.std.proofs.Common.{◌≡◌, ◌⊎◌, inl, inr, ℕ, ◌+◌, ◌<◌, ◌≤◌, true, false, List, drop, Err, refl, sym, ◌∙◌, arith, get_or}
 use Rattle.query_reader.specs.Kinds.{kind_of, StandsAt}
-use Rattle.query_reader.specs.Tree.{Tree, Trees, behind}
+use Rattle.query_reader.specs.Tree.{behind}
 use Rattle.query_reader.specs.Machine.{run, reads, state, Frame, from_operand, Want, After, fresh, negated, with_or}
 use Rattle.query_reader.specs.Reading.{operand_rest, sunk}
-use Rattle.query_reader.specs.Grammar.{Blanks, Word, Gap, Begins, the_whole, a_bracket, Wants, wants_first, wants_next, wants_and, wants_or, wants_negated, wants_signed, Nests, IsTooDeepAt}
+use Rattle.query_reader.specs.Grammar.{Word, Begins, the_whole, a_bracket, Wants, wants_first, wants_next, wants_and, wants_or, wants_negated, wants_signed, Nests, IsTooDeepAt}
 use Rattle.query_reader.specs.declared.kind.Kind.{Kind}
 use Rattle.query_reader.specs.declared.kind.Kind.TheVariants.{Blank, Open, Close, Plus, Minus, Plain, Angle, Escape}
-use Rattle.query_reader.specs.declared.kind.Said.TheVariants.{SaidNot, SaidAnd, SaidOr}
-use Rattle.query_reader.specs.declared.fault.Fault.{Fault}
+use Rattle.query_reader.specs.declared.kind.Said.TheVariants.{SaidNot}
 use Rattle.query_reader.specs.declared.fault.Fault.TheVariants as faults
-use Rattle.query_reader.proofs.Parts.{want_operand, tight_operand}
+use Rattle.query_reader.proofs.Parts.{want_operand}
 use Rattle.query_reader.proofs.Nest.{operand_plus, operand_minus, operand_open, not_wants, minus_deep, plus_deep, open_deep, not_deep}
 use Rattle.query_reader.proofs.Complete.{blanks_want, gap_joined, gap_operator, word_run, word_joined, kind_joined, begins_no_blank, ors_no_blank, gap_and, gap_or, ors_run, at_depth, Members}
 

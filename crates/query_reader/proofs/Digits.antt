@@ -1,18 +1,17 @@
 -- Printed numbers and seconds spell those numbers and seconds.
-use Rattle.std.proofs.Common.{◌≡◌, ◌⊎◌, inl, inr, ℕ, zero, suc, ◌+◌, ◌-◌, ◌*◌, ◌/◌, ◌%◌, ◌^◌, ◌<◌, ◌≤◌, ◌&&◌, ◌||◌, Bool, true, false, not, List, [], ◌∷◌, ◌++◌, length, Option, Some, None, ℤ, pos, negsuc, refl, ap, sym, ◌∙◌, subst, arith, nat_eq, nat_lt, nat_le, ne_eqb, lt-ltb, le-ltb, le-leb, ltb-true, leb-true, if◌then◌else◌, length-append, append_assoc, option_map, option_and_then, IsAscii, IsUtf8, Ok, Err, Result, ◌*ℤ◌, neg_ℤ, int_lt}
+use Rattle.std.proofs.Common.{◌≡◌, ℕ, zero, suc, ◌+◌, ◌-◌, ◌*◌, ◌/◌, ◌%◌, ◌^◌, ◌<◌, ◌≤◌, Bool, true, false, not, List, [], ◌∷◌, ◌++◌, Option, Some, None, ℤ, pos, negsuc, refl, ap, ◌∙◌, subst, arith, nat_eq, nat_lt, nat_le, ne_eqb, lt-ltb, le-leb, ltb-true, leb-true, if◌then◌else◌, option_and_then, ◌*ℤ◌}
 use Rattle.std.specs.Fmt.{decimal, signed_decimal}
 use Rattle.std.specs.Char.{is_ascii_digit}
-use Rattle.std.proofs.lemmas.Fmt.{decimal_by_steps, IsAscii-decimal}
-use Rattle.jiff.specs.Types.{DateTime, Timestamp}
-use Rattle.jiff.proofs.SpanFacts.{signed_arith}
-use Rattle.clock_time.specs.Datetimes.{rfc3339_seconds, unix_seconds, IsTimestampSecond, IsShownAt, civil_text, date_text, time_text, rounded_down, is_between}
+use Rattle.std.proofs.lemmas.Fmt.{decimal_by_steps}
+use Rattle.jiff.specs.Types.{DateTime}
+use Rattle.clock_time.specs.Datetimes.{unix_seconds, IsTimestampSecond, IsShownAt, civil_text, date_text, time_text}
 use Rattle.clock_time.proofs.Reading.{reads_back}
 use Rattle.query_ast.specs.Spelled.{number_from, below, unsigned_of, signed_of, negative, positive, minus, are_digits, datetime_of}
 use Rattle.query_reader.specs.Kinds.{kind_of}
 use Rattle.query_reader.specs.Ranges.{ends_run}
 use Rattle.query_reader.specs.Printed.{IsPlainSecond}
-use Rattle.query_reader.specs.declared.kind.Kind.TheVariants.{Plain, Minus}
-use Rattle.query_reader.proofs.Edges.{is_run, begins_run}
+use Rattle.query_reader.specs.declared.kind.Kind.TheVariants.{Plain}
+use Rattle.query_reader.proofs.Edges.{is_run}
 
 pub digit_kind : (c : ℕ) → 48 ≤ c → c ≤ 57 → kind_of c ≡ Plain
 unfolding kind_of

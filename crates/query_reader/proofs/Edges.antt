@@ -1,22 +1,20 @@
 -- Printed edges read as edges, and printed members of a set as its members.
-use Rattle.std.proofs.Common.{◌≡◌, ℕ, suc, ◌+◌, ◌-◌, ◌<◌, ◌≤◌, ◌&&◌, ◌||◌, Bool, true, false, not, List, [], ◌∷◌, ◌++◌, length, Option, Some, None, Result, refl, ap, sym, ◌∙◌, subst, arith, append_assoc, append-nil, length-append}
-use Rattle.query_ast.specs.declared.query.Item.{Item}
+use Rattle.std.proofs.Common.{◌≡◌, ℕ, ◌+◌, ◌&&◌, ◌||◌, Bool, true, false, not, List, [], ◌∷◌, ◌++◌, length, Some, refl, ap, sym, ◌∙◌, arith, append_assoc, append-nil, length-append}
 use Rattle.query_reader.specs.Kinds.{kind_of, said, names_set, is_escape_kind}
 use Rattle.query_reader.specs.Ranges.{ends_run}
-use Rattle.query_reader.specs.Tree.{Tree}
-use Rattle.query_reader.specs.Machine.{run, state, State, Frame, Mode, Role, Step, Go, step, go_on, word, span, member, InQuote, InSet, InASet, InRange, First, Fielded, After, Behind, with_operand, leaf}
+use Rattle.query_reader.specs.Machine.{run, state, State, Frame, step, go_on, span, member, InSet, InASet, InRange, After, Behind, with_operand, leaf}
 use Rattle.query_reader.specs.Asking as asks
-use Rattle.query_reader.specs.Printed.{hides_in_quote, is_quote_kind, hiding, word_text, quote_text, item_text, items_rest, items_text}
+use Rattle.query_reader.specs.Printed.{hides_in_quote, is_quote_kind, hiding, word_text, quote_text}
 use Rattle.query_reader.specs.declared.kind.Kind.{Kind}
-use Rattle.query_reader.specs.declared.kind.Kind.TheVariants.{Blank, Quote, Open, Close, Star, Colon, Plus, Minus, Escape, Angle, SquareOpen, SquareClose, CurlyOpen, CurlyClose, Reserved, Plain}
+use Rattle.query_reader.specs.declared.kind.Kind.TheVariants.{Quote, Minus, Escape, Plain}
 use Rattle.query_reader.specs.declared.special.Member.{Member}
 use Rattle.query_reader.specs.declared.special.Bound.{Bound}
 use Rattle.query_reader.specs.declared.special.Bound.TheVariants as bounds
 use Rattle.query_reader.specs.declared.special.Ranged.TheVariants.{Between}
 use Rattle.query_reader.specs.declared.special.Spot.{Spot}
-use Rattle.query_reader.specs.declared.special.Spot.TheVariants.{Low, High, One}
+use Rattle.query_reader.specs.declared.special.Spot.TheVariants.{Low, High}
 use Rattle.query_reader.specs.declared.special.RangeMode.{RangeMode}
-use Rattle.query_reader.specs.declared.special.RangeMode.TheVariants.{Wanted, Quoting, Running, BehindLow, LetterT, BehindTo, Closing, Sign}
+use Rattle.query_reader.specs.declared.special.RangeMode.TheVariants.{Wanted, Quoting, Running, BehindLow}
 use Rattle.query_reader.specs.declared.tree.Span.{Span}
 use Rattle.query_reader.proofs.Words.{WordRead, word_reads, Parted, by_blank, by_bracket, word_parted, quote_shown, quote_closes, quote_in_set}
 

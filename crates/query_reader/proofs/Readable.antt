@@ -1,10 +1,8 @@
 -- What a query that was read has: fields that are found, texts with a first byte where a word needs one, edges and members that
 -- are values of their fields.
-use Rattle.std.proofs.Common.{◌≡◌, ◌≢◌, ◌⊎◌, inl, inr, ℕ, zero, suc, ◌+◌, ◌-◌, ◌<◌, ◌≤◌, ◌&&◌, ◌||◌, ◌==◌, Bool, true, false, not, List, [], ◌∷◌, ◌++◌, length, map, Option, Some, None, Result, Ok, Err, refl, ap, sym, ◌∙◌, subst, arith, nat_eq, nat_lt, eqb-true, eq-eqb, is_some, if◌then◌else◌, slice_get, get_or, append-nil, IsUtf8, option_and_then}
+use Rattle.std.proofs.Common.{◌≡◌, ◌≢◌, ℕ, zero, suc, ◌+◌, ◌-◌, ◌<◌, ◌≤◌, ◌&&◌, Bool, true, false, not, List, [], ◌∷◌, ◌++◌, map, Option, Some, None, Result, Ok, Err, refl, ap, sym, ◌∙◌, subst, arith, nat_eq, eqb-true, eq-eqb, is_some, if◌then◌else◌, slice_get, get_or, IsUtf8}
 use Rattle.std.specs.Prelude.{slice_range}
 use Rattle.std.specs.Str.{bytes_eq}
-use Rattle.std.specs.Str.Lossy.{utf8_lossy}
-use Rattle.std.specs.Option.{option_map_or}
 use Rattle.doc_value.specs.declared.schema.Field.{Field}
 use Rattle.doc_value.specs.declared.schema.Kind.{Kind as Sort}
 use Rattle.doc_value.specs.declared.doc.Value.{Value}
@@ -15,13 +13,13 @@ use Rattle.query_ast.specs.Meaning.{is_text}
 use Rattle.query_ast.specs.Spelled.{spelled}
 use Rattle.query_ast.specs.Sought.{Sought, Soughts, no_more, more}
 use Rattle.query_ast.specs.Sought as sought
-use Rattle.query_reader.specs.Kinds.{kind_of, StandsAt}
+use Rattle.query_reader.specs.Kinds.{kind_of}
 use Rattle.query_reader.specs.Asking.{Asking}
 use Rattle.query_reader.specs.Asking as asks
-use Rattle.query_reader.specs.Tree.{Tree, Trees, no_trees, behind, Leaf, Group, Not, And, Or, and_tree, or_tree}
+use Rattle.query_reader.specs.Tree.{Tree, Trees, no_trees, behind, Not, and_tree, or_tree}
 use Rattle.query_reader.specs.Texts.{unescaped, unescaped_from, text_at, run_at}
 use Rattle.query_reader.specs.Grammar.{Letters, no_letter, letter, escaped_letter, Word, Asks, a_word, a_prefix, a_quote, Items, no_item, item_blank, item_word, item_quoted, Specials, any_value, a_range, compared, a_set, Ors, one_and, by_or, Ands, one_operand, next_operand, by_and, Unary, by_not, by_plus, by_minus, anything, by_bracket, of_defaults, of_field, of_special, IsQuery, span, member}
-use Rattle.query_reader.specs.Resolve.{◌>>=◌, resolve, resolve_each, resolve_clause, named_clause, clause_of, valued_clause, placed_clause, over_fields, asked_after, asked_at, asked_of, and_then, all_indexed, indexed_at, first_bad, bad_at, bad_value, bad_bound, bad_range, bad_members, first_unplaced, unplaced_at, unplaced, unplaced_members, is_unplaced, place_unless, first_of, edge_of, edge_with, range_of, item_of, number_of, has_order, first_byte, member_byte}
+use Rattle.query_reader.specs.Resolve.{◌>>=◌, resolve, resolve_each, resolve_clause, clause_of, over_fields, asked_after, asked_at, asked_of, and_then, all_indexed, indexed_at, first_bad, bad_at, bad_value, bad_bound, bad_range, bad_members, first_unplaced, unplaced_at, unplaced, unplaced_members, is_unplaced, place_unless, first_of, edge_of, edge_with, range_of, item_of, number_of, has_order, first_byte, member_byte}
 use Rattle.query_reader.specs.Printed.{AreNamed}
 use Rattle.doc_value.specs.Documents.{PathsRise, IsBefore}
 use Rattle.doc_value.proofs.Finding.{rise-between}

@@ -1,22 +1,17 @@
 -- What the machine reads is in the grammar.
-use Rattle.std.proofs.Common.{◌≡◌, ◌≢◌, ◌⊎◌, inl, inr, Option, Some, None, ℕ, zero, suc, ◌+◌, ◌-◌, ◌<◌, ◌≤◌, ◌==◌, ◌&&◌, ◌||◌, Bool, true, false, not, List, [], ◌∷◌, ◌++◌, length, take, drop, get_or, Result, Ok, Err, refl, ap, sym, ◌∙◌, arith, length-drop, get_or-drop, if◌then◌else◌, subst, nat_lt}
+use Rattle.std.proofs.Common.{◌≡◌, ◌⊎◌, inl, inr, Option, Some, None, ℕ, zero, suc, ◌+◌, ◌-◌, ◌<◌, ◌≤◌, ◌==◌, ◌||◌, Bool, true, false, List, [], ◌∷◌, ◌++◌, length, drop, get_or, Result, Ok, Err, refl, ap, sym, ◌∙◌, arith, if◌then◌else◌, subst, nat_lt}
 use Rattle.std.specs.Prelude.{slice_range}
-use Rattle.std.specs.Str.{bytes_eq}
-use Rattle.std.proofs.lemmas.Bool.{cases_lt, eqb-true, ltb-true, ltb-false}
-use Rattle.std.proofs.lemmas.List.{drop_all, length-take-le, get_or-take}
-use Rattle.query_reader.proofs.Steps.{steps, goes, ends, begins, in_word, in_quote, slice_more, quote_plain, quote_escape, quote_hidden, word_plain, word_escape, word_escaped}
-use Rattle.query_reader.proofs.Parts.{stuck_at, alike, want_operand, tight_operand, operand_word, no_joined, and_wants, or_wants, word_ends, word_prefix, named_field, behind_word, after_word, other_joined, after_end, behind_special, spaced_special}
-use Rattle.query_reader.proofs.Nest.{operand_plus, operand_minus, operand_open, operand_star, operand_quote, not_wants}
+use Rattle.std.proofs.lemmas.Bool.{eqb-true, ltb-true, ltb-false}
+use Rattle.query_reader.proofs.Steps.{steps, ends, slice_more}
 use Rattle.query_reader.proofs.Complete.{slice_one, slice_two, bytes_two}
-use Rattle.query_reader.proofs.Specials.{set_begins, set_ends, word_in, letter_i, letter_n, unequal}
-use Rattle.query_reader.specs.Kinds.{kind_of, is_blank, is_one_of, is_reserved, said, names_set, ends_word, begins_word, is_escape_kind, StandsAt, ByteAt}
+use Rattle.query_reader.specs.Kinds.{kind_of, is_blank, is_one_of, is_reserved, said, names_set, ends_word, begins_word, StandsAt, ByteAt}
 use Rattle.query_reader.specs.Asking.{Asking}
 use Rattle.query_reader.specs.Asking as asks
 use Rattle.query_reader.specs.Tree.{Tree, Trees, no_trees, behind, and_tree, or_tree, Group, Not}
 use Rattle.query_reader.specs.Ranges.{ends_run, run_bound, edge_closed, edge_before, behind_low, close_range, want_bound, want_blank, quoting, behind_to, range_step, range_end, sign_of}
-use Rattle.query_reader.specs.Machine.{run, state, State, Frame, Mode, Step, Go, Stuck, go_on, step, finish, begin, from_operand, word, begun_word, Role, First, Joined, Fielded, InASet, Want, After, InWord, InQuote, Behind, Spaced, LetterI, BehindIn, InSet, InRange, with_operand, with_or, leaf, after_leaf, negated, deeper, fresh, reads, start, limit, nest, open_bracket, begin_special, step_want, step_after, step_behind, step_spaced, step_in, step_set, step_word, step_quote, end_word, end_field, end_prefix, end_plain, end_join, end_not, name_field, name_prefix, behind_operator, behind_not, behind_in, after_not, close_with, whole, whole_with, done_with, finished, finish_with, finish_plain, finish_not, finish_word, finish_range, move_range, more_of, Head, Deep}
-use Rattle.query_reader.specs.Reading.{IsOperatorEnd, IsSetOpening, operand_rest, set_rest, range_rest, special_rest, sunk}
-use Rattle.query_reader.specs.Grammar.{Blanks, Letters, Word, NoSetWord, Quotes, Asks, Run, RunEnds, Bounds, Compares, Items, Opens, Shuts, Specials, Gap, Ors, Ands, Unary, IsQuery, span, member, Begins, the_whole, a_bracket, Wants, wants_first, wants_next, wants_and, wants_or, wants_negated, wants_signed, Nests, IsTooDeepAt}
+use Rattle.query_reader.specs.Machine.{run, state, State, Frame, Mode, Step, Go, Stuck, go_on, step, finish, begin, Role, First, Joined, Fielded, InASet, Want, After, InWord, InQuote, Behind, Spaced, LetterI, BehindIn, InSet, InRange, with_operand, with_or, leaf, negated, fresh, reads, start, limit, nest, begin_special, step_want, step_after, step_behind, step_spaced, step_in, step_set, step_word, step_quote, end_word, end_field, end_prefix, end_plain, end_not, behind_operator, behind_not, behind_in, after_not, close_with, whole, whole_with, done_with, finished, finish_plain, finish_not, finish_word, finish_range, move_range, more_of, Head, Deep}
+use Rattle.query_reader.specs.Reading.{IsSetOpening}
+use Rattle.query_reader.specs.Grammar.{Blanks, Letters, Word, NoSetWord, Quotes, Asks, Run, Bounds, Compares, Items, Opens, Shuts, Specials, Gap, Ors, Ands, Unary, IsQuery, span, member, Begins, the_whole, a_bracket, Wants, wants_first, wants_next, wants_and, wants_or, wants_negated, wants_signed, Nests, IsTooDeepAt}
 use Rattle.query_reader.specs.Grammar.{no_blank, blank, no_letter, letter, escaped_letter, no_quoted, quoted_byte, escaped_byte, a_word, a_prefix, a_quote, run_one, run_more, a_star, a_quoted, a_run, at_least, at_most, above, below, no_item, item_blank, item_word, item_quoted, any_value, a_range, compared, a_set, one_and, by_or, one_operand, next_operand, by_and, by_not, by_plus, by_minus, anything, by_bracket, of_defaults, of_field, of_special}
 use Rattle.query_reader.specs.declared.kind.Kind.{Kind}
 use Rattle.query_reader.specs.declared.kind.Kind.TheVariants.{Blank, Quote, Open, Close, Star, Colon, Plus, Minus, Escape, Angle, SquareOpen, SquareClose, CurlyOpen, CurlyClose, Reserved, Plain}

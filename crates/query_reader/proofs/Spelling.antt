@@ -1,10 +1,9 @@
 -- Printed edges and members stand for the edges and members that were printed.
-use Rattle.std.proofs.Common.{◌≡◌, ◌≢◌, ◌⊎◌, inl, inr, ℕ, zero, suc, ◌+◌, ◌-◌, ◌*◌, ◌^◌, ◌/◌, ◌%◌, ◌<◌, ◌≤◌, ◌&&◌, ◌||◌, ◌==◌, Bool, true, false, not, List, [], ◌∷◌, ◌++◌, length, map, take, drop, Option, Some, None, Result, Ok, Err, ℤ, pos, negsuc, neg_ℤ, ◌*ℤ◌, ◌-ℤ◌, ◌≤ℤ◌, int_lt, refl, ap, sym, ◌∙◌, subst, arith, nat_eq, nat_le, is_some, if◌then◌else◌, append_assoc, append-nil, length-append, IsUtf8, IsAscii, get_or, option_map, option_and_then, ltb-true, leb-true}
+use Rattle.std.proofs.Common.{◌≡◌, ◌≢◌, ℕ, zero, suc, ◌+◌, ◌-◌, ◌^◌, ◌/◌, ◌%◌, ◌<◌, ◌≤◌, ◌&&◌, ◌||◌, Bool, true, false, List, [], ◌∷◌, ◌++◌, length, take, drop, Option, Some, None, Result, Ok, Err, ℤ, pos, negsuc, neg_ℤ, ◌-ℤ◌, ◌≤ℤ◌, int_lt, refl, ap, sym, ◌∙◌, subst, arith, nat_le, is_some, if◌then◌else◌, append_assoc, append-nil, length-append, IsUtf8, IsAscii, get_or, option_map, option_and_then, leb-true}
 use Rattle.std.specs.Prelude.{slice_range}
 use Rattle.std.specs.Fmt.{decimal, signed_decimal}
-use Rattle.std.specs.Result.{result_ok}
 use Rattle.std.specs.Str.Lossy.{utf8_lossy}
-use Rattle.std.proofs.lemmas.Fmt.{IsAscii-decimal, IsAscii-signed}
+use Rattle.std.proofs.lemmas.Fmt.{IsAscii-decimal}
 use Rattle.std.proofs.lemmas.Str.{utf8_lossy-IsUtf8, IsUtf8-from_ascii}
 use Rattle.std.proofs.Math.Seq.{drop-append_seam, take-append_seam}
 use Rattle.jiff.specs.Types.{DateTime}
@@ -16,7 +15,7 @@ use Rattle.jiff_core.specs.declared.error.Error.TheVariants.{Missing, Range}
 use Rattle.jiff_core.specs.declared.error.Bound.TheVariants as Bound
 use Rattle.jiff_core.specs.declared.error.Part.TheVariants as Part
 use Rattle.jiff.proofs.SpanFacts.{signed_arith}
-use Rattle.clock_time.specs.Datetimes.{IsShownAt, IsTimestampSecond, civil_text, date_text, time_text, two_digits, four_digits, year_digits, rfc3339_seconds, unix_seconds, rounded_down, is_between}
+use Rattle.clock_time.specs.Datetimes.{IsTimestampSecond, civil_text, date_text, time_text, two_digits, four_digits, year_digits, rfc3339_seconds, unix_seconds, rounded_down, is_between}
 use Rattle.doc_value.specs.declared.schema.Field.{Field}
 use Rattle.doc_value.specs.declared.schema.Kind.{Kind as Sort}
 use Rattle.doc_value.specs.declared.schema.Kind.TheVariants as kinds
@@ -29,16 +28,13 @@ use Rattle.query_ast.specs.Spelled.{spelled, signed_of, unsigned_of, datetime_of
 use Rattle.query_reader.specs.Kinds.{kind_of}
 use Rattle.query_reader.specs.Texts.{unescaped, text_at, run_at}
 use Rattle.query_reader.specs.Grammar.{span}
-use Rattle.query_reader.specs.Resolve.{◌>>=◌, bad_bound, bad_range, bad_members, unplaced_members, is_unplaced, place_unless, first_of, edge_of, edge_with, item_of, has_order, member_byte}
-use Rattle.query_reader.specs.Printed.{hides_in_quote, hiding, word_text, quote_text, Piece, Written, Second, Spells, IsSecondText, plain_second, dated_second, other_second, IsPlainSecond, value_pieces, edge_pieces, item_text, items_text, items_rest, set_text}
-use Rattle.query_reader.specs.declared.special.Bound.{Bound}
-use Rattle.query_reader.specs.declared.special.Bound.TheVariants as bounds
-use Rattle.query_reader.specs.declared.special.Member.{Member}
+use Rattle.query_reader.specs.Resolve.{◌>>=◌, bad_bound, is_unplaced, edge_of, edge_with, item_of, has_order}
+use Rattle.query_reader.specs.Printed.{hides_in_quote, hiding, word_text, quote_text, Written, Second, Spells, IsSecondText, plain_second, dated_second, other_second, IsPlainSecond, value_pieces, edge_pieces, item_text}
 use Rattle.query_reader.proofs.Pieces.{spells_written}
 use Rattle.query_reader.proofs.Words.{unescaped_word, unescaped_quote}
-use Rattle.query_reader.proofs.Edges.{EdgeText, star_edge, run_edge, quoted_edge, edge_bytes, bound_at, is_run, begins_run, ItemText, word_item, quoted_item, item_bytes, member_at, rest_bytes, all_bytes, rest_members, all_members, set_bytes}
+use Rattle.query_reader.proofs.Edges.{EdgeText, star_edge, run_edge, quoted_edge, edge_bytes, bound_at, is_run, begins_run, ItemText, word_item, quoted_item, item_bytes, member_at}
 use Rattle.query_reader.proofs.Digits.{digit_kind, AreDigitsOf, decimal_digits, unsigned_decimal, signed_printed, FitsI64, signed_of_fits, unsigned_of_fits, plain_reads, dated_reads}
-use Rattle.query_reader.proofs.Readable.{HasFirst, IsEdgeOf, open_edge, included_edge, excluded_edge, IsItemOf, AreItemsOf, no_items, more_items}
+use Rattle.query_reader.proofs.Readable.{IsEdgeOf, open_edge, included_edge, excluded_edge, IsItemOf}
 
 -- a part in the middle
 pub slice_middle : (text pre x post : List ℕ) (i j : ℕ) → text ≡ pre ++ (x ++ post) → i ≡ length pre → j ≡ i + length x → slice_range text i j ≡ x

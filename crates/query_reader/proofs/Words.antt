@@ -1,16 +1,14 @@
 -- A printed word reads as one word, and a printed quote as one quote, whatever their bytes are.
-use Rattle.std.proofs.Common.{eqb-true, eq-eqb, ◌≡◌, ℕ, suc, ◌+◌, ◌<◌, ◌≤◌, ◌&&◌, ◌||◌, ◌==◌, Bool, true, false, not, List, [], ◌∷◌, ◌++◌, length, Result, Ok, Err, Option, Some, None, refl, ap, sym, ◌∙◌, arith, append_assoc, append-nil, length-append, nat_eq, if◌then◌else◌, subst}
+use Rattle.std.proofs.Common.{eqb-true, ◌≡◌, ℕ, ◌+◌, ◌&&◌, ◌||◌, Bool, true, false, not, List, [], ◌∷◌, ◌++◌, length, Some, refl, ap, sym, ◌∙◌, arith, append_assoc, append-nil, nat_eq}
 use Rattle.std.specs.Str.{bytes_eq}
 use Rattle.query_reader.specs.Kinds.{kind_of, said, names_set, ends_word, is_escape_kind}
-use Rattle.query_reader.specs.Tree.{Tree, nots}
-use Rattle.query_reader.specs.Machine.{run, state, State, Frame, Mode, Role, Step, Go, step, go_on, word, span, member, InQuote, InSet, InASet, First, Fielded, After, Behind, after_quote, with_operand, leaf, field_of}
+use Rattle.query_reader.specs.Machine.{run, state, Frame, Mode, Role, Go, step, go_on, word, span, member, InQuote, InSet, InASet, First, Fielded, After, Behind, after_quote, with_operand, leaf}
 use Rattle.query_reader.specs.Asking as asks
-use Rattle.query_reader.specs.Printed.{hides_in_word, hides_in_quote, is_quote_kind, hiding, is_keyword, is_plain_kind, word_text, quote_text}
-use Rattle.query_reader.specs.Texts.{unescaped, unescaped_from}
+use Rattle.query_reader.specs.Printed.{hides_in_word, hides_in_quote, is_quote_kind, hiding, is_keyword, is_plain_kind, word_text}
+use Rattle.query_reader.specs.Texts.{unescaped}
 use Rattle.query_reader.specs.declared.kind.Kind.{Kind}
-use Rattle.query_reader.specs.declared.kind.Kind.TheVariants.{Blank, Quote, Open, Close, Star, Colon, Plus, Minus, Escape, Angle, SquareOpen, SquareClose, CurlyOpen, CurlyClose, Reserved, Plain}
-use Rattle.query_reader.specs.declared.kind.Said.{Said}
-use Rattle.query_reader.specs.declared.kind.Said.TheVariants.{SaidWord, SaidAnd, SaidOr, SaidNot}
+use Rattle.query_reader.specs.declared.kind.Kind.TheVariants.{Quote, Minus, Escape, Angle, Plain}
+use Rattle.query_reader.specs.declared.kind.Said.TheVariants.{SaidWord}
 use Rattle.query_reader.specs.declared.special.Member.{Member}
 use Rattle.query_reader.specs.declared.tree.Span.{Span}
 

@@ -1,11 +1,10 @@
 -- What a query text is, and which query it gives: a text from a place to a place, rule by rule.
-use Rattle.std.specs.Prelude.{◌≡◌, ◌≢◌, ◌<◌, ◌≤◌, ◌++◌, [], ◌∷◌, take, ℕ, suc, ◌+◌, Bool, true, false, List, length, slice_index, slice_range, Option, Some, None, ◌⊎◌}
+use Rattle.std.specs.Prelude.{◌≡◌, ◌≢◌, ◌<◌, ◌≤◌, ◌++◌, [], ◌∷◌, take, ℕ, suc, ◌+◌, Bool, true, false, List, length, slice_index, slice_range, Some, None, ◌⊎◌}
 use Rattle.query_reader.specs.Kinds.{kind_of, said, ends_word, begins_word, StandsAt, ByteAt}
 use Rattle.query_reader.specs.Tree.{Tree, Trees, no_trees, behind, and_tree, or_tree, Leaf, Group, Not}
 use Rattle.query_reader.specs.Asking.{Asking}
 use Rattle.query_reader.specs.Asking as asks
 use Rattle.query_reader.specs.Ranges.{ends_run}
-use Rattle.query_reader.specs.declared.kind.Kind.{Kind}
 use Rattle.query_reader.specs.declared.kind.Kind.TheVariants.{Blank, Quote, Open, Close, Star, Colon, Plus, Minus, Escape, Angle, SquareOpen, SquareClose, CurlyOpen, CurlyClose}
 use Rattle.query_reader.specs.declared.kind.Said.{Said}
 use Rattle.query_reader.specs.declared.kind.Said.TheVariants.{SaidWord, SaidAnd, SaidOr, SaidNot}

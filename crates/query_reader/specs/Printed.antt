@@ -1,7 +1,7 @@
 -- The text that is printed of a query: a backslash before each byte that would end a word, before a first byte that begins
 -- none, and before a word that would be an operator; one blank between parts; brackets where an And or an Or stands inside
 -- another And, Or or Not.
-use Rattle.std.specs.Prelude.{◌≡◌, ◌≢◌, ◌<◌, ◌≤◌, ℕ, IsUtf8, length, Ok, suc, ◌+◌, ◌==◌, ◌||◌, Bool, true, false, not, List, [], ◌∷◌, ◌++◌, max, Option, Some, None, slice_get, if◌then◌else◌, ℤ, pos, negsuc}
+use Rattle.std.specs.Prelude.{◌≡◌, ◌≢◌, ◌<◌, ◌≤◌, ℕ, IsUtf8, length, Ok, suc, ◌+◌, ◌||◌, Bool, true, false, not, List, [], ◌∷◌, ◌++◌, max, Some, slice_get, if◌then◌else◌, ℤ, pos, negsuc}
 use Rattle.std.specs.Fmt.{decimal, signed_decimal}
 use Rattle.std.specs.Option.{option_map_or}
 use Rattle.std.specs.Str.{bytes_eq}

@@ -1,9 +1,9 @@
-use Rattle.std.proofs.Common.{◌≡◌, ◌<◌, ℕ, zero, suc, List, [], ◌∷◌, length, slice_get, Option, Some, Result, Ok, Err, refl, arith}
+use Rattle.std.proofs.Common.{◌≡◌, ◌<◌, ℕ, zero, suc, List, [], ◌∷◌, length, slice_get, Some, Result, Ok, Err, refl, arith}
 use Rattle.doc_value.specs.declared.schema.Field.{Field}
 use Rattle.query_ast.specs.Sought.{Sought}
 use Rattle.query_reader.specs.Machine.{reads}
 use Rattle.query_reader.specs.Printed.{AreNumbers, IsPrintedOf}
-use Rattle.query_reader.specs.Resolve.{query_of, resolve}
+use Rattle.query_reader.specs.Resolve.{resolve}
 use Rattle.query_reader.specs.Tree.{Tree}
 use Rattle.query_reader.specs.declared.fault.Fault.{Fault}
 use Rattle.query_reader.specs.declared.fault.Fault.TheVariants as faults

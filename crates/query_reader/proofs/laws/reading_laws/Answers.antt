@@ -1,4 +1,4 @@
-use Rattle.std.proofs.Common.{◌≡◌, ℕ, List, Result, Ok, Err, arith}
+use Rattle.std.proofs.Common.{◌≡◌, ℕ, List, Err, arith}
 use Rattle.query_reader.proofs.Live.{longest_read, IsLongestRead}
 use Rattle.query_reader.proofs.Complete.{query_reads}
 use Rattle.query_reader.proofs.Deep.{too_deep}

@@ -1,10 +1,10 @@
-use Rattle.std.proofs.Common.{rules, ◌≡◌, ◌+◌, ◌++◌, ◌∷◌, [], List, ℕ, drop, OnOk, ◌∙◌, refl, ap, sym, subst, append_assoc, append-nil, add-one}
+use Rattle.std.proofs.Common.{rules, ◌≡◌, ◌+◌, ◌++◌, ◌∷◌, [], drop, OnOk, ◌∙◌, refl, ap, sym, subst, append_assoc, append-nil, add-one}
 use Rattle.std.proofs.Math.Seq.{drop-cons}
 use Rattle.std.proofs.Math.ListN.{drop_of_length-le}
 use Rattle.query_ast.specs.Sought.{view, view_all}
 use Rattle.query_ast.specs.Sought as sought
-use Rattle.query_ast.specs.declared.query.Query.{Query, the_lemmas}
-use Rattle.query_reader.specs.Printed.{Piece, Written, Spells, Appends, printed, printed_all, inner, bracket_before, bracket_behind, blank_and, blank_or}
+use Rattle.query_ast.specs.declared.query.Query.{the_lemmas}
+use Rattle.query_reader.specs.Printed.{Written, Spells, Appends, printed, printed_all, inner, bracket_before, bracket_behind, blank_and, blank_or}
 use Rattle.query_reader.proofs.Pieces.{appends_more, spells_more}
 use Rattle.query_reader.proofs.Each.{row_all}
 use Rattle.query_reader.proofs.printer.+print.Goals as goal

@@ -1,4 +1,4 @@
-use Rattle.std.proofs.Common.{rules, ◌≡◌, List, [], ◌∷◌, ◌++◌}
+use Rattle.std.proofs.Common.{rules, List, [], ◌∷◌, ◌++◌}
 use Rattle.query_reader.specs.Printed.{Piece, Appends, Written, opening, closing, edge_pieces}
 use Rattle.query_reader.proofs.Pieces.{appends_more}
 use Rattle.query_reader.proofs.printer.push_range.Goals as goal

@@ -1,6 +1,6 @@
 use Rattle.std.proofs.Common.{rules, ◌≡◌, ◌∙◌, ap, subst, sym}
 use Rattle.std.specs.Fmt.{signed_decimal}
-use Rattle.clock_time.specs.Datetimes.{IsTimestampSecond, IsShownAt, civil_text}
+use Rattle.clock_time.specs.Datetimes.{IsTimestampSecond, IsShownAt}
 use Rattle.query_reader.specs.Printed.{IsPlainSecond, IsSecondText, plain_second, dated_second, other_second, quote_text}
 use Rattle.query_reader.proofs.printer.second_of.Goals as goal
 
