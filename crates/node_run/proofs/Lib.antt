@@ -5,3 +5,8 @@ pub mod Spelling
 pub mod Counting
 pub mod Calming
 pub mod CalmSteps
+pub mod Digits
+pub mod Begins
+pub mod Naming
+pub mod Splitting
+pub mod Bad
