@@ -10,3 +10,8 @@ pub mod Begins
 pub mod Naming
 pub mod Splitting
 pub mod Bad
+pub mod Answered
+pub mod Ticking
+pub mod Zips
+pub mod Names
+pub mod Parts
