@@ -1,8 +1,8 @@
 -- Clients by name, and their searchers.
-use Rattle.std.proofs.Common.{◌≡◌, ℕ, zero, suc, ◌<◌, ◌+◌, List, [], ◌∷◌, ◌++◌, length, get_or, refl, sym, ap, ◌∙◌, subst, arith, Bool, true, false, add-one}
+use Rattle.std.proofs.Common.{◌≡◌, ℕ, zero, suc, ◌<◌, ◌+◌, List, [], ◌∷◌, ◌++◌, length, get_or, refl, sym, ap, ◌∙◌, subst, arith, Bool, true, false, not, add-one}
 use Rattle.std.proofs.lemmas.Slice.Eq.{bytes_eq-Decides}
-use Rattle.std.specs.List.{AllByRecursion, AllZip}
-use Rattle.std.specs.Prelude.{slice_set, bytes_eq, if◌then◌else◌}
+use Rattle.std.specs.List.{AllByRecursion, AllZip, list_any}
+use Rattle.std.specs.Prelude.{Option, Some, None, IfSome, IfNone, is_some, slice_set, bytes_eq, ◌||◌, if◌then◌else◌}
 use Rattle.source_log.specs.Log.{Log}
 use Rattle.index_world.specs.Core.{Core}
 use Rattle.root_search.specs.Steps.{Client, Request, no_request, without_request}
@@ -201,3 +201,30 @@ pub known_one : (core : Core) (log : Log) (name : List ℕ) (known : List Search
 known_one core log name known ms place s at z e =
     subst (λ (c : Client). SearcherStands s c core log) (named_with name (client_named name ms) ms (named_name name ms))
     (named_stands core log name known (with_client (client_named name ms) ms) place s at z e)
+
+pub unknown_any : (core : Core) (log : Log) (name : List ℕ) (ss : List Searcher) (ms : List Client) → IsUnknown name ss →
+    AllZip (λ t m. SearcherStands t m core log) ss ms → list_any (λ client. bytes_eq client.name name) ms ≡ false
+unknown_any core log name [] [] un z = refl
+unknown_any core log name [] (m ∷ ms) un z = absurd z
+unknown_any core log name (s ∷ ss) [] un z = absurd z
+unknown_any core log name (s ∷ ss) (m ∷ ms) un z =
+    ap (λ (b : Bool). b || list_any (λ client. bytes_eq client.name name) ms) (is_false m.name name (λ e. un.0 (z.0.name ∙ e)))
+    ∙ unknown_any core log name ss ms un.1 z.1
+
+pub known_any : (core : Core) (log : Log) (name : List ℕ) (ss : List Searcher) (ms : List Client) (i : ℕ) → NamedAt name ss i →
+    AllZip (λ t m. SearcherStands t m core log) ss ms → list_any (λ client. bytes_eq client.name name) ms ≡ true
+known_any core log name [] ms i at z = absurd at
+known_any core log name (s ∷ ss) [] i at z = absurd z
+known_any core log name (s ∷ ss) (m ∷ ms) zero at z =
+    ap (λ (b : Bool). b || list_any (λ client. bytes_eq client.name name) ms) (is_true m.name name (sym z.0.name ∙ at))
+known_any core log name (s ∷ ss) (m ∷ ms) (suc i) at z =
+    ap (λ (b : Bool). b || list_any (λ client. bytes_eq client.name name) ms) (is_false m.name name (λ e. at.0 (z.0.name ∙ e)))
+    ∙ known_any core log name ss ms i at.1 z.1
+
+pub none_unknown : (o : Option ℕ) (P : Type 0) → is_some o ≡ false → IfNone o P → P
+none_unknown None P e none = none
+none_unknown (Some i) P e none = true_false e
+
+pub some_known : (o : Option ℕ) (b : Bool) (P : ℕ → Type 0) → is_some o ≡ not b → b ≡ false → IfSome o P → (i : ℕ) × P i
+some_known None b P e no some = true_false (sym (e ∙ ap not no))
+some_known (Some i) b P e no some = (i, some)

@@ -4,11 +4,15 @@ use Rattle.std.proofs.lemmas.List.{append-nil, take_at}
 use Rattle.std.proofs.lemmas.Bool.{lt-ltb, le-ltb}
 use Rattle.std.proofs.lemmas.Result.{err_from_is_err_and}
 use Rattle.std.specs.List.{AllZip}
-use Rattle.std.specs.Prelude.{◌⊎◌, if◌then◌else◌, nat_lt, slice_set, Option, Some, None, Result, Ok, Err, IfOk, ⊤}
+use Rattle.std.specs.Prelude.{◌⊎◌, ◌||◌, if◌then◌else◌, nat_lt, slice_set, Option, Some, None, Result, Ok, Err, IfOk, IsErr, ⊤}
 use Rattle.std.specs.Result.{IsErrAnd}
 use Rattle.std.specs.declared.alloc.AllocError.{AllocError}
 use Rattle.source_log.specs.Log.{Log, IsLog}
-use Rattle.index_world.specs.Calls.{Fate, Trouble, faulted, no_memory, Unread, Gives, gives, loaded, calm_fate, fetched, asked_and_looked}
+use Rattle.index_world.specs.Loading.{IsUnread, IsLoaded}
+use Rattle.index_world.specs.Gate.{Says}
+use Rattle.index_world.specs.declared.world_error.WorldError.{WorldError}
+use Rattle.index_world.specs.Calls as calls
+use Rattle.index_world.specs.Calls.{Fate, Fault, Trouble, faulted, no_memory, not_read, Unread, Gives, gives, loaded, calm_fate, fetched, asked_and_looked}
 use Rattle.root_search.specs.Requests.{word_asked}
 use Rattle.index_world.specs.Core.{Core, KeepsBut, IsOther, IsUnusedIn, IsUploadedIn, HasStagedIn, journal_of}
 use Rattle.index_world.specs.Gate.{NoneBetween}
@@ -40,9 +44,9 @@ use Rattle.node_run.specs.declared.drive.DriveNode.{DriveNode}
 use Rattle.node_run.specs.declared.out_line.OutLine.{OutLine}
 use Rattle.node_run.specs.Lines.{outcome_text}
 use Rattle.node_run.specs.Named.{NamedAt}
-use Rattle.node_run.specs.Node.{Node, Line, At, Assign, StepIndexer, RestartIndexer, RestartClient, RestartNode, Open, StepClient, Outcome, indexer_said, client_said, request_busy, assigned, indexer_busy}
+use Rattle.node_run.specs.Node.{Node, Line, At, Assign, StepIndexer, RestartIndexer, RestartClient, RestartNode, Open, StepClient, Outcome, indexer_said, client_said, request_busy, assigned, indexer_busy, node_failed, world_fault, no_index}
 use Rattle.node_run.specs.Standing.{PartsStand, NodeStands, DoesMost, DoesLine, IsSaid, HoldApart, AllApart}
-use Rattle.node_run.specs.Turns.{Luck, calm, Turn, Turned, turned, full_turn, turn_with, quiet, assign_at, with_indexer, indexer_at, made_idle, client_named, with_client, keep_client, stopped, restarted, indexer_stepped, client_stepped, indexing_luck, searching_luck, indexer_turn_by, client_turn_by, said_by_indexer, said_by_client, open_by}
+use Rattle.node_run.specs.Turns.{restart_by, Luck, calm, Turn, Turned, turned, full_turn, turn_with, quiet, assign_at, with_indexer, indexer_at, made_idle, client_named, with_client, keep_client, stopped, restarted, indexer_stepped, client_stepped, indexing_luck, searching_luck, indexer_turn_by, client_turn_by, said_by_indexer, said_by_client, open_by}
 use Rattle.node_run.proofs.Names.{named_name, named_with, with_with, named_stands, named_set}
 use Rattle.node_run.proofs.Ticking.{indexer_ticks, client_ticks, loaded_ticks}
 use Rattle.node_run.proofs.Zips.{zip_length, zip_weaker, zip_set, zip_at, zip_right, map_set, map_at, others_apart, zip_step, new_apart, idle_apart, idle_all_apart, same_apart, other_of}
@@ -498,17 +502,45 @@ all_without_over (s ∷ searchers) (c ∷ clients) core after log z =
 
 -- a stopped node whose world was loaded, or stayed
 pub loaded_parts : {L : Type 0} (told : L → Option Log) (count : L → ℕ) (since : L → L → Type 0) (firsts : List L) (world world' : Keeping) (readers : List (Reader L))
-    (searchers : List Searcher) (clock : ℕ) (down down' : Bool) (node : Node) (after : Core) (fate : Fate) (answer : Result ⊤ Unread) →
+    (searchers : List Searcher) (clock : ℕ) (down kept_down down' : Bool) (node : Node) (after : Core) (fate : Fate) (answer : Result ⊤ Unread) →
     PartsStand told count since firsts world readers searchers clock down (stopped node.core node) → loaded fate node.core ≡ gives answer after →
-    WorldStands world' after node.log → PartsStand told count since firsts world' readers searchers clock down' (record (restarted node) { core = after; down = down' })
-loaded_parts told count since firsts world world' readers searchers clock down down' node after fate answer p did stands =
+    WorldStands world' after node.log → kept_down ≡ down' → PartsStand told count since firsts world' readers searchers clock kept_down (record (restarted node) { core = after; down = down' })
+loaded_parts told count since firsts world world' readers searchers clock down kept_down down' node after fate answer p did stands same =
     record {
       world_stands = stands;
       is_log = p.is_log;
       moment = p.moment ∙ sym (loaded_ticks fate node.core) ∙ ap (λ given. given.core.clock) did;
-      down = refl;
+      down = same;
       indexers = all_idle_over told count readers node.indexers node.core after node.log p.indexers;
       apart = p.apart;
       clients = all_without_over searchers node.clients node.core after node.log p.clients;
       later = p.later;
     }
+
+pub was_loaded : (answer : Result ⊤ Unread) (after : Core) → Says {A = Unit {0}} IsUnread IsLoaded (Ok tt) answer after → answer ≡ Ok tt
+was_loaded (Ok done) after says = refl
+was_loaded (Err unread) after says = absurd says
+
+pub failed_restart : {S L : Type 0} (told : L → Option Log) (count : L → ℕ) (since : L → L → Type 0) (firsts : List L) (node : Node) (new : DriveNode S L) (luck : Luck) (after : Core)
+    (error : WorldError) (r : Result OutLine AllocError) (answer : Result ⊤ Unread) → full_turn luck node RestartNode ≡ restart_by answer after node →
+    Says {A = Unit {0}} IsUnread IsLoaded (Err error) answer after → NodeStands told count since firsts new (stopped after node) →
+    (IsUnread error (not_read no_memory) → IsErr r) → ((fault : Fault) → IsUnread error (not_read (faulted fault)) → IfOk r (λ out. out.bytes ≡ outcome_text (node_failed (world_fault fault)))) →
+    (IsUnread error calls.no_index → IfOk r (λ out. out.bytes ≡ outcome_text (node_failed no_index))) → DoesMost told count since firsts node RestartNode r new
+failed_restart told count since firsts node new luck after error r (Ok done) e says stands memory fault none = absurd says
+failed_restart told count since firsts node new luck after error r (Err (not_read (faulted f))) e says stands memory fault none =
+    most_done told count since firsts node RestartNode new r luck (node_failed (world_fault f)) (stopped after node) e (fault f says) stands
+failed_restart told count since firsts node new luck after error (Ok out) (Err (not_read no_memory)) e says stands memory fault none = absurd (cc (memory says))
+failed_restart told count since firsts node new luck after error (Err refused) (Err (not_read no_memory)) e says stands memory fault none =
+    inr (luck, record { said = None; node = stopped after node }, e, stands)
+failed_restart told count since firsts node new luck after error r (Err calls.no_index) e says stands memory fault none =
+    most_done told count since firsts node RestartNode new r luck (node_failed no_index) (stopped after node) e (none says) stands
+
+pub too_many_known : (n : ℕ) (k : Bool) → 10000 ≤ n → k ≡ false → accepts.TooManyClients ≡ (if nat_lt n 10000 || k then accepts.Yes else accepts.TooManyClients)
+too_many_known n k h e = rw (le-ltb n 10000 h, e) refl
+
+pub few_known : (n : ℕ) (k : Bool) → n < 10000 → accepts.Yes ≡ (if nat_lt n 10000 || k then accepts.Yes else accepts.TooManyClients)
+few_known n k h = rw (lt-ltb n 10000 h) refl
+
+pub is_known_yes : (b k : Bool) → k ≡ true → accepts.Yes ≡ (if b || k then accepts.Yes else accepts.TooManyClients)
+is_known_yes true k e = refl
+is_known_yes false k e = ap (λ x. if x then accepts.Yes else accepts.TooManyClients) (sym e)

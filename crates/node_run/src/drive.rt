@@ -1,10 +1,12 @@
 //! A node that takes the lines of a schedule one at a time.
 
-ghost use Rattle.std.specs.Prelude.{◌≡◌, ◌<◌, ◌≤◌, ◌^◌, vec_len, length, List, All, map, min, sum, ℕ, IfOk, IfErr, IfSome, IfNone, OnOk, OnErr, Some, None, true, false};
+ghost use Rattle.std.specs.Prelude.{◌≡◌, ◌<◌, ◌≤◌, ◌^◌, vec_len, length, List, All, map, min, sum, ℕ, IfOk, IfErr, IfSome, IfNone, IsErr, OnOk, OnErr, Some, None, true, false};
 ghost use Rattle.std.specs.List.{AllZip};
 ghost use Rattle.source_log.specs.Log.{Log, IsLog};
+ghost use Rattle.index_world.specs.Calls.{Fault, faulted, no_memory, not_read, no_index};
 ghost use Rattle.index_world.specs.Core.{Core, last_count};
 ghost use Rattle.index_world.specs.Gate.{NoneBetween};
+ghost use Rattle.index_world.specs.Loading.{IsUnread};
 ghost use Rattle.index_world.specs.World.{WorldStands};
 ghost use Rattle.indexing_run.specs.Making.{IsAssigned};
 ghost use Rattle.indexing_run.specs.Places.{Indexer as Actor, is_idle};
@@ -12,7 +14,7 @@ ghost use Rattle.indexing_run.specs.Standing.{IndexerStands, StepsAs};
 ghost use Rattle.root_search.specs.Searching.{SearcherStands, SearchesAs};
 ghost use Rattle.root_search.specs.Steps.{Client as Asker, without_request};
 ghost use Rattle.node_run.specs.Fitting.{IsNumbered, IsYes};
-ghost use Rattle.node_run.specs.Lines.{IsWellFormed, AreNames};
+ghost use Rattle.node_run.specs.Lines.{IsWellFormed, AreNames, outcome_text};
 ghost use Rattle.node_run.specs.Named.{NamedAt, IsUnknown};
 ghost use Rattle.node_run.specs.Node.{Node};
 ghost use Rattle.node_run.specs.Node as said;
@@ -170,6 +172,19 @@ fn restart_clients(clients: &mut [Searcher])
     }
 }
 
+// Why the node isn't restarted; want of memory is the line's own answer.
+fn fault_line(alloc: Global, error: WorldError) -> Result<OutLine, AllocError>
+    ensures memory { IsUnread error (not_read no_memory) → IsErr result }
+    ensures fault { (fault : Fault) → IsUnread error (not_read (faulted fault)) →
+        IfOk result (λ out. out.bytes ≡ outcome_text (said.node_failed (said.world_fault fault))) }
+    ensures none { IsUnread error no_index → IfOk result (λ out. out.bytes ≡ outcome_text (said.node_failed said.no_index)) }
+{
+    match error {
+        WorldError::Memory(refused) => Err(refused),
+        error => OutLine::node_fault(alloc, &error),
+    }
+}
+
 fn sum_of_faults<L: SourceLog>(indexers: &[Indexer<L>]) -> u64
     ensures { result ≡ min (sum (map (λ reader. L.fault_count reader.log) indexers.now)) last_count }
 {
@@ -298,8 +313,7 @@ impl<S: ObjectStore, L: SourceLog> DriveNode<S, L> {
                 self.down = false;
                 OutLine::node_restarted(alloc, self.world.meta().revision())
             }
-            Err(WorldError::Memory(refused)) => Err(refused),
-            Err(error) => OutLine::node_fault(alloc, &error),
+            Err(error) => fault_line(alloc, error),
         }
     }
 
