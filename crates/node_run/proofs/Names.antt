@@ -226,5 +226,5 @@ none_unknown None P e none = none
 none_unknown (Some i) P e none = true_false e
 
 pub some_known : (o : Option ℕ) (b : Bool) (P : ℕ → Type 0) → is_some o ≡ not b → b ≡ false → IfSome o P → (i : ℕ) × P i
-some_known None b P e no some = true_false (sym (e ∙ ap not no))
-some_known (Some i) b P e no some = (i, some)
+some_known None b P e off some = true_false (sym (e ∙ ap not off))
+some_known (Some i) b P e off some = (i, some)

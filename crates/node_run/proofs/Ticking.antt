@@ -393,4 +393,3 @@ pub client_ticks : (luck : searching.Luck) (log : Log) (client : Client) (core :
 client_ticks luck log client core =
     let step = step_request client.request luck log client core in
     handed core step.core (step_client luck log client core).core (request_ticks client.request luck log client core) (client_short_same luck.short client step)
-

@@ -150,9 +150,10 @@ same_apart (y ∷ ys) zero y' h e apart = (each ys apart.0, apart.1) where
   each : (zs : List Indexer) → AllByRecursion (HoldApart y) zs → AllByRecursion (HoldApart y') zs
   each [] all = tt
   each (z ∷ zs) all = ((λ n at_y at_z. all.0 n (sym (ap number_held e) ∙ at_y) at_z), each zs all.1)
-same_apart (y ∷ ys) (suc i) y' h e apart =
-    (all_set (HoldApart y) ys i y' apart.0 (λ n at_y at_y'. all_at (HoldApart y) ys i apart.0 (omega (arith, h)) n at_y (sym (ap number_held e) ∙ at_y')),
-    same_apart ys i y' (omega (arith, h)) e apart.1)
+same_apart (y ∷ ys) (suc i) y' h e apart = (
+  all_set (HoldApart y) ys i y' apart.0 (λ n at_y at_y'. all_at (HoldApart y) ys i apart.0 (omega (arith, h)) n at_y (sym (ap number_held e) ∙ at_y')),
+  same_apart ys i y' (omega (arith, h)) e apart.1,
+)
 
 -- the number of one that is held apart is another
 pub other_of : (old y : Indexer) → HoldApart old y → (n : ℕ) → number_held y.place ≡ Some n → IsOther (number_held old.place) n

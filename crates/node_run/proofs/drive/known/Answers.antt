@@ -39,7 +39,7 @@ returns-in_ok-push-in-None-clause-stands c = λ models core log z.
     let un = subst (λ (ss : List Searcher). IsUnknown c.args.client.now ss) c.as_slice.ensures.value c.in-None.ensures.none in
     let fresh = unknown_fresh core log c.args.client.now c.args.clients.now.items models un z in
     let with = ap (λ m. with_client m models) fresh
-        ∙ unknown_with core log c.args.client.now (fresh_client c.args.client.now) c.args.clients.now.items models refl un z in
+    ∙ unknown_with core log c.args.client.now (fresh_client c.args.client.now) c.args.clients.now.items models refl un z in
     subst (λ (ss : List Searcher). AllZip (λ searcher model. SearcherStands searcher model core log) ss (with_client (client_named c.args.client.now models) models))
     (sym c.in_ok-push-in-None.ensures.items)
     (subst (λ (ms : List Client). AllZip (λ searcher model. SearcherStands searcher model core log) (c.args.clients.now.items ++ c.start.result ∷ []) ms) (sym with)

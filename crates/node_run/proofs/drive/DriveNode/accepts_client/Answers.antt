@@ -22,7 +22,7 @@ pub returns : goal.returns
 returns g c = λ firsts node p.
     let same = zip_length (λ searcher client. SearcherStands searcher client node.core node.log) c.args.self.now.clients.items node.clients p.clients in
     elim c.else-len-ge-MAX_CLIENTS.branch [
-      | else-len-ge-MAX_CLIENTS-via-then-len-ge-MAX_CLIENTS+else-is_none w ↦ 
+      | else-len-ge-MAX_CLIENTS-via-then-len-ge-MAX_CLIENTS+else-is_none w ↦
           let found = some_known w.place_of.result w.is_none.result (λ i. NamedAt c.args.client.now w.as_slice.result.now i) w.is_none.ensures w.if-is_none.false w.place_of.ensures.some in
           is_known_yes (nat_lt (length node.clients) 10000) (is_known c.args.client.now node.clients)
           (known_any node.core node.log c.args.client.now c.args.self.now.clients.items node.clients found.0

@@ -18,7 +18,7 @@ pub returns-in-Some-clause-does : goal.returns-in-Some-clause-does
 returns-in-Some-clause-does g c = λ firsts node p names.
     let copy = c.in_ok-partitions.ensures in
     let w = c.in-Some.ensures.some (indexer_at node.indexers c.args.number) node.core node.log (zip_at (λ reader indexer. IndexerStands g.L.SourceLog.told g.L.SourceLog.fault_count reader indexer node.core node.log) c.args.self.now.indexers.items node.indexers
-        c.args.number c.index_mut.result.now p.indexers (omega (arith, c.requires, c.args.self.now.indexers.ok.0)) c.index_mut.ensures.value) (assigned_names c.args.partitions.now c.in_ok-partitions.partitions copy names) in
+    c.args.number c.index_mut.result.now p.indexers (omega (arith, c.requires, c.args.self.now.indexers.ok.0)) c.index_mut.ensures.value) (assigned_names c.args.partitions.now c.in_ok-partitions.partitions copy names) in
     most_done g.L.SourceLog.told g.L.SourceLog.fault_count g.L.SourceLog.since firsts node (said.Assign c.args.number c.args.partitions.now) _ c.assigned.result calm (said.assigned c.args.number c.in-Some.count)
     (with_indexer c.args.number (record (indexer_at node.indexers c.args.number) { assignment = Some c.args.partitions.now }) node)
     (assign_idle (indexer_at node.indexers c.args.number).place c.args.number c.args.partitions.now (indexer_at node.indexers c.args.number) node w.0
@@ -31,7 +31,7 @@ returns-in-Some-clause-does g c = λ firsts node p names.
 pub returns-in-None-clause-does : goal.returns-in-None-clause-does
 returns-in-None-clause-does g c = λ firsts node p names.
     let w = c.in-None.ensures.none (indexer_at node.indexers c.args.number) node.core node.log (zip_at (λ reader indexer. IndexerStands g.L.SourceLog.told g.L.SourceLog.fault_count reader indexer node.core node.log) c.args.self.now.indexers.items node.indexers
-        c.args.number c.index_mut.result.now p.indexers (omega (arith, c.requires, c.args.self.now.indexers.ok.0)) c.index_mut.ensures.value) in
+    c.args.number c.index_mut.result.now p.indexers (omega (arith, c.requires, c.args.self.now.indexers.ok.0)) c.index_mut.ensures.value) in
     most_done g.L.SourceLog.told g.L.SourceLog.fault_count g.L.SourceLog.since firsts node (said.Assign c.args.number c.args.partitions.now) _ c.indexer_busy.result calm (said.indexer_busy c.args.number)
     (with_indexer c.args.number (indexer_at node.indexers c.args.number) node)
     (assign_busy (indexer_at node.indexers c.args.number).place c.args.number c.args.partitions.now (indexer_at node.indexers c.args.number) node w.0

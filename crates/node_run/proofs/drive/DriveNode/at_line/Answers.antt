@@ -19,7 +19,7 @@ use Rattle.node_run.proofs.drive.DriveNode.at_line.Goals.{then-moment-lt-MOMENT_
 pub returns-clause-does : goal.returns-clause-does
 returns-clause-does g c = λ firsts node p low.
     elim c.if-moment-lt-MOMENT_END.branch [
-      | then-moment-lt-MOMENT_END w ↦ 
+      | then-moment-lt-MOMENT_END w ↦
           most_done g.L.SourceLog.told g.L.SourceLog.fault_count g.L.SourceLog.since firsts node (said.At c.args.moment) c.if-moment-lt-MOMENT_END.self c.at.result calm (said.at_said c.args.moment)
           (record node { core = record (node.core) { clock = c.args.moment } }) refl c.at.ensures
           (stands_along g.L.SourceLog.told g.L.SourceLog.fault_count g.L.SourceLog.since firsts c.if-moment-lt-MOMENT_END.self _ (record node { core = record (node.core) { clock = c.args.moment } }) w.self-is

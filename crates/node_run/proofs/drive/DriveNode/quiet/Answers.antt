@@ -43,4 +43,3 @@ returns-in-Open g c = λ firsts node p.
 pub returns-in-Client : goal.returns-in-Client
 returns-in-Client g c = λ firsts node p.
     quiet_along {S = g.row.S.Denot} g.L.SourceLog.told g.L.SourceLog.fault_count g.L.SourceLog.since firsts node c.args.line.now _ c.quiet_client-in-Client.new.self c.in-Client.is (c.quiet_client-in-Client.ensures firsts node p)
-
