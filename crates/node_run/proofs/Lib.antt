@@ -5,3 +5,13 @@ pub mod Spelling
 pub mod Counting
 pub mod Calming
 pub mod CalmSteps
+pub mod Digits
+pub mod Begins
+pub mod Naming
+pub mod Splitting
+pub mod Bad
+pub mod Answered
+pub mod Ticking
+pub mod Zips
+pub mod Names
+pub mod Parts
