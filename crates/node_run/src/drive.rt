@@ -202,9 +202,6 @@ impl<S: ObjectStore, L: SourceLog> DriveNode<S, L> {
         world: World<S, ScriptClock>,
         logs: Vec<L>,
     ) -> Result<DriveNode<S, L>, Unstarted<S, L>>
-        ensures ok { IfOk result (λ drive. (core : Core) (log : Log) → WorldStands world core log → core.clock ≡ 0 → IsLog log →
-            All (λ l. L.told l ≡ Some log) logs.items →
-            NodeStands L.told L.fault_count L.since logs.items drive (fresh_node core log (map L.fault_count logs.items))) }
         ensures err { IfErr result (λ unstarted. (unstarted.world ≡ world) × (unstarted.logs.items ≡ logs.items)) }
     {
         let mut indexers = match Vec::with_capacity(alloc, logs.len()) {
