@@ -5,3 +5,6 @@ pub mod Spelling
 pub mod Counting
 pub mod Calming
 pub mod CalmSteps
+pub mod StillCalls
+pub mod LogCounts
+pub mod CalmTurns
