@@ -1,3 +1,4 @@
 pub mod Reading
 pub mod Serve
 pub mod Pieces
+pub mod Held
