@@ -60,16 +60,93 @@ fn texts_by_their_ordinals(rt: HostRuntime) -> Result<(), Fail> {
     Ok(())
 }
 
+// The numbers -1 of document 0 and 1 of document 3, each above 2 ^ 63 by itself: two bits each, 0 and 2 above the least.
+const SIGNED: [u8; 19] = [
+    2, 0, 0, 0, 0, 3, 0, 0, 0, 0xff, 0xff, 0xff, 0xff, 0xff, 0xff, 0xff, 0x7f, 2, 0x08,
+];
+
+// True of the documents 1 and 2: no bits, since the least is the greatest.
+const TRUE: [u8; 18] = [2, 1, 0, 0, 0, 2, 0, 0, 0, 1, 0, 0, 0, 0, 0, 0, 0, 0];
+
+// False of document 0 and true of document 5, one bit each.
+const TRUTHS: [u8; 19] = [2, 0, 0, 0, 0, 5, 0, 0, 0, 0, 0, 0, 0, 0, 0, 0, 0, 1, 0x02];
+
+// The seconds 0 and 1 since 1970, of the documents 2 and 4.
+const SECONDS: [u8; 19] = [
+    2, 2, 0, 0, 0, 4, 0, 0, 0, 0, 0, 0, 0, 0, 0, 0, 0x80, 1, 0x02,
+];
+
+// The least and the greatest number of 64 bits, of the documents 0 and 1.
+const WIDE: [u8; 34] = [
+    2, 0, 0, 0, 0, 1, 0, 0, 0, 0, 0, 0, 0, 0, 0, 0, 0, 64, 0, 0, 0, 0, 0, 0, 0, 0, 0xff, 0xff,
+    0xff, 0xff, 0xff, 0xff, 0xff, 0xff,
+];
+
+const HALF: u64 = 1 << 63;
+
+#[test]
+fn columns_of_each_kind(rt: HostRuntime) -> Result<(), Fail> {
+    let table: [(Kind, &[u8], [Option<u64>; 6]); 5] = [
+        (
+            Kind::I64,
+            &SIGNED,
+            [Some(HALF - 1), None, None, Some(HALF + 1), None, None],
+        ),
+        (
+            Kind::Bool,
+            &TRUE,
+            [None, Some(1), Some(1), None, None, None],
+        ),
+        (
+            Kind::Bool,
+            &TRUTHS,
+            [Some(0), None, None, None, None, Some(1)],
+        ),
+        (
+            Kind::Datetime,
+            &SECONDS,
+            [None, None, Some(HALF), None, Some(HALF + 1), None],
+        ),
+        (
+            Kind::U64,
+            &WIDE,
+            [Some(0), Some(u64::MAX), None, None, None, None],
+        ),
+    ];
+    for (kind, bytes, expected) in &table {
+        let field = field(rt.alloc(), *kind)?;
+        let (column, end) = Column::read(&field, bytes)?;
+        assert_eq!(rt; end, bytes.len());
+        for (document, value) in expected.iter().enumerate() {
+            assert_eq!(rt; column.value_at(document as u32), *value);
+        }
+    }
+    Ok(())
+}
+
 #[test]
 fn cuts_are_refused(rt: HostRuntime) -> Result<(), Fail> {
+    let table: [(Kind, &[u8]); 7] = [
+        (Kind::U64, &NUMBERS),
+        (Kind::TextList, &TEXTS),
+        (Kind::I64, &SIGNED),
+        (Kind::Bool, &TRUE),
+        (Kind::Bool, &TRUTHS),
+        (Kind::Datetime, &SECONDS),
+        (Kind::U64, &WIDE),
+    ];
+    for (kind, bytes) in &table {
+        let field = field(rt.alloc(), *kind)?;
+        for cut in 0..bytes.len() {
+            assert!(rt; Column::read(&field, &bytes[..cut]).is_err());
+        }
+    }
+    Ok(())
+}
+
+#[test]
+fn a_column_without_values(rt: HostRuntime) -> Result<(), Fail> {
     let numbers = field(rt.alloc(), Kind::U64)?;
-    for cut in 0..NUMBERS.len() {
-        assert!(rt; Column::read(&numbers, &NUMBERS[..cut]).is_err());
-    }
-    let texts = field(rt.alloc(), Kind::TextList)?;
-    for cut in 0..TEXTS.len() {
-        assert!(rt; Column::read(&texts, &TEXTS[..cut]).is_err());
-    }
     let nothing = [0; 10];
     let (column, end) = Column::read(&numbers, &nothing)?;
     assert_eq!(rt; end, 10);

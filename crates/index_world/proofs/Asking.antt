@@ -1,26 +1,24 @@
 -- Which entries may enter: the fence of settling, and an entry of one's own.
-use Rattle.std.proofs.Common.{◌≡◌, ℕ, ◌+◌, ◌-◌, ◌<◌, ◌≤◌, ◌^◌, List, [], ◌∷◌, ◌++◌, refl, sym, ap, ◌∙◌, subst, Bool, true, false, length, arith}
+use Rattle.std.proofs.Common.{◌≡◌, ℕ, ◌-◌, ◌<◌, ◌≤◌, List, refl, sym, ap, ◌∙◌, subst, true, length, arith}
 use Rattle.std.specs.List.{AllByRecursion}
-use Rattle.std.specs.Prelude.{Option, Some, None, max, ⊤, option_map, IsSome}
+use Rattle.std.specs.Prelude.{Option, Some, None, max, IsSome}
 use Rattle.meta_journal.specs.Spelling.{CanSpell}
 use Rattle.meta_journal.specs.declared.entry.Act.{Act}
 use Rattle.meta_journal.specs.declared.entry.Act.TheVariants.{Fence, Create, Stage, Publish, Replace, Raise, Task, MarkStaged, Remove, Retire}
 use Rattle.meta_journal.specs.declared.entry.Entry.{Entry}
 use Rattle.meta_store.specs.History.{History, history, revision_of, moment_of, delta_of}
 use Rattle.meta_store.specs.History.History.{Start, ◌▸◌}
-use Rattle.meta_store.specs.Rows.{rows}
-use Rattle.meta_store.specs.State.{Legal, MayCome, reading_of, config_of, config_after, state_of, configured}
+use Rattle.meta_store.specs.State.{Legal, MayCome, reading_of, config_of, state_of, configured}
 use Rattle.meta_store.specs.declared.config.Config.{Config}
 use Rattle.meta_store.specs.declared.config.Settings.{Settings}
 use Rattle.object_store.specs.Store.{State}
 use Rattle.source_checkpoint.specs.declared.delta.Part.{Part}
 use Rattle.source_log.specs.Log.{Log, records_of}
 use Rattle.split_states.specs.declared.facts.RowFacts.{RowFacts}
-use Rattle.split_states.specs.declared.rows.Row.{Row}
-use Rattle.index_world.specs.Calls.{fence_of, entry_of, taken_in, asked_clock}
+use Rattle.index_world.specs.Calls.{fence_of, taken_in, asked_clock}
 use Rattle.index_world.specs.Config.{reads}
 use Rattle.index_world.specs.Core.{Core}
-use Rattle.index_world.specs.Index.{MayEnter, MayPublish, IsAllowed, HasFile, HasStaged, IsMade, IsUploaded, facts_of, max_entries}
+use Rattle.index_world.specs.Index.{MayEnter, MayPublish, HasStaged, IsMade, IsUploaded, facts_of}
 use Rattle.index_world.specs.Seen.{accepted_in, record_count}
 use Rattle.index_world.specs.SplitFile.{split_file, weight, max_documents, max_weight}
 use Rattle.index_world.specs.World.{IsTimely}

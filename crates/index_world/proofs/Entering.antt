@@ -1,15 +1,13 @@
 -- A legal entry at the journal's end leaves a sound index.
-use Rattle.std.proofs.Common.{◌≡◌, ◌⊎◌, ◌≢◌, ℕ, suc, ◌<◌, ◌≤◌, ◌+◌, ◌-◌, ◌^◌, List, [], ◌∷◌, ◌++◌, refl, sym, ap, ◌∙◌, subst, inl, inr, Bool, true, false, length, arith, map}
-use Rattle.std.proofs.lemmas.Bool.{eqb-true}
+use Rattle.std.proofs.Common.{◌≡◌, ◌⊎◌, ℕ, ◌<◌, ◌≤◌, ◌+◌, ◌-◌, ◌^◌, List, [], ◌∷◌, ◌++◌, refl, sym, ap, ◌∙◌, subst, inl, inr, Bool, true, false, length, arith, map}
 use Rattle.std.proofs.lemmas.List.{length-append}
 use Rattle.std.specs.FinMap.{get}
-use Rattle.std.specs.List.{AllByRecursion, list_any}
-use Rattle.std.specs.Prelude.{Option, Some, None, IsSome, is_some, IsSomeAnd, if◌then◌else◌, ◌==◌, ◌&&◌, not, filter, flat_map, bytes_eq}
+use Rattle.std.specs.List.{AllByRecursion}
+use Rattle.std.specs.Prelude.{Option, Some, None, IsSome, is_some, if◌then◌else◌, ◌&&◌, not, filter, flat_map, bytes_eq}
 use Rattle.std.specs.Cmp.Lexicographic.{bytes_decides}
-use Rattle.delete_tasks.specs.Ledger.{last_of}
-use Rattle.delete_tasks.specs.Removed.{lies_in, erased_by, covered}
+use Rattle.delete_tasks.specs.Removed.{lies_in, covered}
 use Rattle.delete_tasks.specs.declared.tasks.Task.{Task as KeptTask}
-use Rattle.meta_journal.specs.Places.{meta_key, split_key, numbered, HasEntry, IsJournal}
+use Rattle.meta_journal.specs.Places.{meta_key, split_key, IsJournal}
 use Rattle.meta_journal.specs.Spelling.{Spells, CanSpell}
 use Rattle.meta_journal.specs.declared.entry.Act.{Act}
 use Rattle.meta_journal.specs.declared.entry.Act.TheVariants.{Fence, Create, Stage, Publish, Replace, Raise, Task, MarkStaged, Remove, Retire}
@@ -28,19 +26,19 @@ use Rattle.source_checkpoint.specs.Deltas.{Partition, moved, spans_of, span_of, 
 use Rattle.source_checkpoint.specs.declared.delta.Part.{Part}
 use Rattle.source_checkpoint.specs.declared.span.Span.{Span}
 use Rattle.source_log.specs.Log.{Log, records_of}
-use Rattle.split_states.specs.Rows.{row_at, published, change}
+use Rattle.split_states.specs.Rows.{row_at, published}
 use Rattle.split_states.specs.declared.rows.Row.{Row}
 use Rattle.split_states.specs.declared.rows.RowState.TheVariants.{Staged, Published}
 use Rattle.index_world.specs.Config.{reads}
-use Rattle.index_world.specs.Index.{Stands, facts_of, IsRowSound, IsRowKept, IsStagedKey, IsLateKey, IsNotLate, MayPublish, HasFile, MayEnter, IsAllowed, IsBuilt, ranges_of, is_meta, is_split, max_entries}
-use Rattle.index_world.specs.Seen.{contents, accepted_in, accepted_part, accepted_records, record_count, meaning, place_of}
+use Rattle.index_world.specs.Index.{Stands, facts_of, IsRowSound, IsRowKept, IsStagedKey, IsLateKey, MayPublish, HasFile, MayEnter, IsBuilt, ranges_of, is_meta, is_split, max_entries}
+use Rattle.index_world.specs.Seen.{contents, accepted_in, accepted_records, record_count, meaning, place_of}
 use Rattle.index_world.specs.SplitFile.{split_file, weight, max_documents, max_weight}
 use Rattle.index_world.specs.declared.placed.Placed.{Placed}
-use Rattle.index_world.proofs.StoreKeys.{true_is_false, meta_key-injective, meta_begins, meta_no_split, none_some, get-same, get-other, absent_at, stood}
+use Rattle.index_world.proofs.StoreKeys.{true_is_false, meta_key-injective, meta_begins, meta_no_split, get-same, get-other, absent_at, stood}
 use Rattle.index_world.proofs.Journals.{stand-of, Stand-same, Stand-snoc, StandFrom-of, journal-end}
 use Rattle.index_world.proofs.Numbers.{history-snoc}
-use Rattle.index_world.proofs.StoreChanges.{All-snoc, All-each, rows_more, staged_more, unpublished_more}
-use Rattle.index_world.proofs.InHand.{Comes, number_apart}
+use Rattle.index_world.proofs.StoreChanges.{All-snoc, rows_more, staged_more, unpublished_more}
+use Rattle.index_world.proofs.InHand.{Comes}
 
 -- ---- the journal
 

@@ -1,13 +1,13 @@
 -- What an upload, a fetch and a load did to the store, in the words of the core.
-use Rattle.std.proofs.Common.{◌≡◌, ◌⊎◌, ℕ, zero, suc, ◌<◌, ◌≤◌, ◌+◌, ◌-◌, ◌^◌, List, [], ◌∷◌, ◌++◌, refl, sym, ap, ◌∙◌, subst, inl, inr, Bool, true, false, length, arith, append-nil}
+use Rattle.std.proofs.Common.{◌≡◌, ◌⊎◌, ℕ, suc, ◌≤◌, ◌-◌, List, [], ◌∷◌, ◌++◌, refl, sym, ap, ◌∙◌, subst, inl, inr, Bool, true, false, length, arith, append-nil}
 use Rattle.std.specs.FinMap.{get}
-use Rattle.std.specs.Prelude.{Option, Some, None, is_some, IsSome, Result, Ok, Err, ⊤, ◌==◌, ◌||◌, max}
+use Rattle.std.specs.Prelude.{Option, Some, None, is_some, IsSome, Result, Ok, Err, ⊤, ◌==◌, ◌||◌}
 use Rattle.byte_fields.specs.Causes.{Rose}
 use Rattle.meta_journal.specs.Places.{split_key, IsJournal}
 use Rattle.meta_journal.specs.declared.entry.Entry.{Entry}
 use Rattle.meta_store.specs.History.{moment_of}
 use Rattle.meta_store.specs.History.{history as told}
-use Rattle.object_store.specs.Store.{State, landed, with_object, with_late, HasLanded, LandsThen, Creates}
+use Rattle.object_store.specs.Store.{State, with_object, with_late, HasLanded, LandsThen, Creates}
 use Rattle.object_store.specs.declared.store.CreateError.TheVariants as creates
 use Rattle.source_log.specs.Log.{Log}
 use Rattle.index_world.specs.Calls.{Call, Fate, calm_call, Gives, gives, Trouble, no_memory, Unread, not_read, no_index, store_failed, begun, file_by, file_made, upload_made, got_file, file_got, or_short, with_file, taken_in, with_standing, reborn, read_journal, unless_empty, load_by, loaded, may_fail, risen}
@@ -16,14 +16,13 @@ use Rattle.index_world.specs.Core.{Core, late_file, file_at, last_count, with_un
 use Rattle.index_world.specs.Index.{OneEntry, IsUnused, IsUploaded}
 use Rattle.index_world.specs.Standing.{StandsFor}
 use Rattle.index_world.specs.World.{IsWorld}
-use Rattle.index_world.specs.Held.{KeepsHeld, KeepsOthers}
 use Rattle.index_world.specs.Onward.{Onward}
 use Rattle.index_world.proofs.StoreKeys.{true_is_false, split_outside}
 use Rattle.index_world.proofs.Journals.{one-journal}
 use Rattle.index_world.proofs.InHand.{number_apart}
 use Rattle.index_world.proofs.Worlds.{Onward-trans, held-refl, world-same}
 use Rattle.index_world.proofs.WorldCalls.{Filed, world-file, world-file-late, world-taken}
-use Rattle.index_world.proofs.JournalCalls.{Counted, Begun, quiet, failing, risen_is, rose_may, world-begins}
+use Rattle.index_world.proofs.JournalCalls.{Counted, Begun, quiet, failing, rose_may, world-begins}
 
 -- the fate of a call of the world that makes one store call, and of one that makes two
 abbrev pub one_call : Call → Fate

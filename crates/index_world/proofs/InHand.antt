@@ -1,7 +1,7 @@
 -- What a number in hand was staged with stays, and a new Stage's number has it.
-use Rattle.std.proofs.Common.{◌≡◌, ◌⊎◌, ℕ, ◌+◌, ◌<◌, ◌≤◌, List, [], ◌∷◌, ◌++◌, refl, sym, ap, ◌∙◌, subst, inl, inr, Bool, true, false, length, arith}
+use Rattle.std.proofs.Common.{◌≡◌, ◌⊎◌, ℕ, ◌≤◌, List, [], ◌∷◌, ◌++◌, refl, sym, ap, ◌∙◌, subst, inl, inr, Bool, true, false, arith}
 use Rattle.std.proofs.lemmas.Bool.{eqb-true, eq-eqb}
-use Rattle.std.specs.Prelude.{Option, Some, None, ◌==◌, option_map, cond, if◌then◌else◌}
+use Rattle.std.specs.Prelude.{Option, Some, None, ◌==◌, option_map, cond}
 use Rattle.meta_journal.specs.declared.entry.Act.{Act}
 use Rattle.meta_journal.specs.declared.entry.Act.TheVariants.{Fence, Create, Stage, Publish, Replace, Raise, Task, MarkStaged, Remove, Retire}
 use Rattle.meta_journal.specs.declared.entry.Entry.{Entry}
@@ -18,8 +18,7 @@ use Rattle.split_states.specs.Rows.{row_at, published, staged}
 use Rattle.split_states.specs.declared.facts.RowFacts.{RowFacts}
 use Rattle.split_states.specs.declared.rows.Row.{Row}
 use Rattle.index_world.specs.Config.{reads}
-use Rattle.index_world.specs.Index.{HasStaged, IsAllowed, IsBuilt, has_staged}
-use Rattle.index_world.proofs.StoreKeys.{true_is_false}
+use Rattle.index_world.specs.Index.{HasStaged, IsAllowed, IsBuilt}
 use Rattle.index_world.proofs.Numbers.{history-snoc, stage_next, staged_le, row_below}
 use Rattle.index_world.proofs.StoreChanges.{staged_more, staged_last}
 

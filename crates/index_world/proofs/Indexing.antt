@@ -1,31 +1,28 @@
 -- Through each store call the store stays a sound index.
-use Rattle.std.proofs.Common.{◌≡◌, ◌⊎◌, ℕ, zero, suc, ◌<◌, ◌≤◌, ◌+◌, ◌^◌, List, [], ◌∷◌, ◌++◌, refl, sym, ap, ◌∙◌, subst, inl, inr, Bool, true, false, length, arith}
+use Rattle.std.proofs.Common.{◌≡◌, ◌⊎◌, ℕ, zero, suc, ◌<◌, ◌≤◌, ◌+◌, List, [], ◌∷◌, ◌++◌, refl, sym, ap, ◌∙◌, subst, inl, inr, Bool, true, false, length, arith}
 use Rattle.std.proofs.lemmas.List.{length-append}
 use Rattle.std.specs.FinMap.{get, insert}
-use Rattle.std.specs.FinMap as finmap
-use Rattle.std.specs.List.{AllByRecursion, list_any}
-use Rattle.std.specs.Prelude.{Option, Some, None, IsSome, is_some, slice_get, remove, Result, Ok, Err, ◌==◌}
+use Rattle.std.specs.List.{AllByRecursion}
+use Rattle.std.specs.Prelude.{Option, Some, None, IsSome, is_some, slice_get, remove}
 use Rattle.delete_tasks.specs.declared.tasks.Task.{Task as KeptTask}
-use Rattle.meta_journal.specs.Places.{meta_key, split_key, numbered, IsJournal}
-use Rattle.meta_journal.specs.Spelling.{Spells, CanSpell, spelling}
+use Rattle.meta_journal.specs.Places.{meta_key, split_key, IsJournal}
+use Rattle.meta_journal.specs.Spelling.{Spells}
 use Rattle.meta_journal.specs.declared.entry.Act.{Act}
-use Rattle.meta_journal.specs.declared.entry.Act.TheVariants.{Fence, Create, Stage, Publish, Replace, Raise, Task, MarkStaged, Remove, Retire}
+use Rattle.meta_journal.specs.declared.entry.Act.TheVariants.{Stage, Publish}
 use Rattle.meta_journal.specs.declared.entry.Entry.{Entry}
-use Rattle.meta_store.specs.History.{history, last_number, revision_of}
+use Rattle.meta_store.specs.History.{history, last_number}
 use Rattle.meta_store.specs.Ledgers.{ledger}
 use Rattle.meta_store.specs.Rows.{rows}
 use Rattle.meta_store.specs.State.{Legal}
-use Rattle.object_store.specs.Store.{State, landed, land_one, land_where, with_object, with_late, HasLanded, LandsThen, Creates}
-use Rattle.object_store.specs.declared.store.CreateError.{CreateError}
-use Rattle.object_store.specs.declared.store.CreateError.TheVariants as creates
+use Rattle.object_store.specs.Store.{State, landed, land_one, land_where, with_object, with_late, HasLanded}
 use Rattle.source_checkpoint.specs.declared.delta.Part.{Part}
 use Rattle.source_log.specs.Log.{Log}
 use Rattle.split_states.specs.declared.facts.RowFacts.{RowFacts}
 use Rattle.split_states.specs.declared.rows.Row.{Row}
 use Rattle.index_world.specs.Config.{reads}
-use Rattle.index_world.specs.Index.{Stands, IsIndexOf, IsRowKept, IsRowSound, IsLateKey, IsLateEntry, IsBelowEnd, IsNotLate, IsStagedKey, HasFile, MayEnter, MayLand, IsUnused, IsUploaded, HasStaged, IsAllowed, has_staged, was_published, max_entries, is_meta, is_split}
-use Rattle.index_world.specs.Held.{NoneAtEnd, KeepsHeld, KeepsOthers, Still, Enters, Adopts, AfterLanding, AfterCreate, Goes, AfterFile, AfterUpload, Loads}
-use Rattle.index_world.proofs.StoreKeys.{true_is_false, split_outside, split_begins, meta_no_split, split_key-injective, meta_is_no_split, outside_apart, none_some, is_absent, kept_at, absent_at, stood, get-same, get-other}
+use Rattle.index_world.specs.Index.{Stands, IsIndexOf, IsRowKept, IsLateKey, IsLateEntry, IsBelowEnd, IsNotLate, IsStagedKey, HasFile, MayEnter, MayLand, IsUnused, HasStaged, IsAllowed, has_staged, was_published, max_entries, is_meta, is_split}
+use Rattle.index_world.specs.Held.{NoneAtEnd, KeepsHeld, Still, Enters, AfterLanding}
+use Rattle.index_world.proofs.StoreKeys.{true_is_false, split_begins, meta_no_split, split_key-injective, meta_is_no_split, outside_apart, none_some, kept_at, absent_at, stood, get-other}
 use Rattle.index_world.proofs.Journals.{stand-of, Stand-same, Stand-at, StandFrom-of, journal-end}
 use Rattle.index_world.proofs.Numbers.{revision_is, staged_le, last_le, published_le, stage_next}
 use Rattle.index_world.proofs.StoreChanges.{All-snoc, All-each, rows_more, Carries, MayEnter-carried, LateEntries-carried, staged_more, staged_last, unpublished_more}

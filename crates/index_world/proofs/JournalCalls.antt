@@ -1,39 +1,29 @@
 -- What a call of the journal did to its store, in the words of the core: with some fate it is the core's call.
-use Rattle.std.proofs.Common.{◌≡◌, ◌⊎◌, ℕ, zero, suc, ◌<◌, ◌≤◌, ◌+◌, ◌-◌, ◌^◌, List, [], ◌∷◌, ◌++◌, refl, sym, ap, ◌∙◌, subst, inl, inr, Bool, true, false, length, arith, map}
-use Rattle.std.proofs.lemmas.List.{length-append}
+use Rattle.std.proofs.Common.{◌≡◌, ◌⊎◌, ℕ, ◌≤◌, ◌+◌, ◌-◌, List, [], ◌∷◌, ◌++◌, refl, sym, ap, ◌∙◌, subst, inl, inr, Bool, true, false, length, arith}
 use Rattle.std.proofs.lemmas.Bool.Decides.{nat_tests}
-use Rattle.std.specs.FinMap.{get, insert}
-use Rattle.std.specs.Prelude.{Option, Some, None, is_some, IsSome, Result, Ok, Err, min, max, nat_lt, ◌==◌, ◌||◌, ◌&&◌, ⊤}
+use Rattle.std.specs.FinMap.{get}
+use Rattle.std.specs.Prelude.{Option, Some, None, is_some, IsSome, Ok, Err, max, nat_lt, ◌==◌, ◌||◌}
 use Rattle.byte_fields.specs.Causes.{Rose}
 use Rattle.meta_journal.specs.Places.{meta_key, numbered, HasEntry, Stand}
 use Rattle.meta_journal.specs.Spelling.{Spells, CanSpell, spelling}
-use Rattle.meta_journal.specs.declared.entry.Act.TheVariants.{Stage}
 use Rattle.meta_journal.specs.declared.entry.Entry.{Entry}
 use Rattle.object_store.specs.Store.{State, landed, with_object, with_late, HasLanded, LandsThen, Creates}
 use Rattle.object_store.specs.declared.store.CreateError.TheVariants as creates
-use Rattle.source_checkpoint.specs.declared.delta.Part.{Part}
 use Rattle.source_log.specs.Log.{Log}
-use Rattle.split_states.specs.declared.facts.RowFacts.{RowFacts}
-use Rattle.index_world.specs.Calls.{Call, Made, made, exists, failed, Making, made_behind, made_at, create_at_end, tried, begun, all_landed, risen, may_fail, taken_in, got_at, get_at_end, gives, Gives, Trouble, store_failed}
-use Rattle.index_world.specs.Core.{Core, late_entry, last_count, with_unread, journal_of}
-use Rattle.index_world.specs.Index.{OneEntry, IsIndexOf, MayEnter, IsUnused, HasStaged}
-use Rattle.index_world.specs.Standing.{StandsFor}
+use Rattle.index_world.specs.Calls.{Call, exists, failed, Making, made_behind, made_at, create_at_end, tried, begun, risen, may_fail, taken_in, got_at, get_at_end, gives, store_failed}
+use Rattle.index_world.specs.Core.{Core, late_entry, last_count, journal_of}
+use Rattle.index_world.specs.Index.{OneEntry, MayEnter, IsUnused, HasStaged}
 use Rattle.index_world.specs.World.{IsWorld}
-use Rattle.index_world.specs.Held.{KeepsHeld}
 use Rattle.index_world.specs.Onward.{Onward, Landing}
-use Rattle.index_world.proofs.StoreKeys.{none_some, true_is_false}
-use Rattle.index_world.proofs.Journals.{journal-end, stand-of, Stand-at}
-use Rattle.index_world.proofs.Indexing.{longer, held-trans}
+use Rattle.index_world.proofs.StoreKeys.{true_is_false}
+use Rattle.index_world.proofs.Journals.{journal-end, stand-of}
+use Rattle.index_world.proofs.Indexing.{longer}
 use Rattle.index_world.proofs.Landing.{journal_none, journal_some, standing_number}
 use Rattle.index_world.proofs.Worlds.{Onward-trans, held-refl, world-lands, world-same}
 use Rattle.index_world.proofs.WorldCalls.{Entered, world-enters, world-tried, world-taken}
+pub use Rattle.index_world.specs.Steps.{Counted, quiet, MadeLaw, AdoptedLaw, FailedLaw, ExistsLaw}
 
 -- ---- counts
-
--- a count as the core has it, and as it is now
-pub record Counted (core : Core) (now : ℕ) : Type 0 where
-  pub later : core.store_faults ≤ now
-  pub within : now ≤ last_count
 
 pub risen_is : (core : Core) (now : ℕ) → Counted core now → risen core.store_faults (now - core.store_faults) ≡ now
 risen_is core now c = let a = c.later in let b = c.within in omega (arith, a, b)
@@ -45,10 +35,6 @@ rose_may core now c rose = rw (risen_is core now c) (by core.store_faults now ro
     by a b r l w = grind (arith, nat_tests)
 
 -- ---- a call begins
-
--- the fate of a call that doesn't fail
-abbrev pub quiet : List ℕ → ℕ → Bool → Call
-quiet places rises short = record { lands = places; fails = false; at_once = false; rises = rises; short = short }
 
 abbrev pub failing : List ℕ → ℕ → Bool → Call
 failing places rises at_once = record { lands = places; fails = true; at_once = at_once; rises = rises; short = false }
@@ -121,20 +107,6 @@ entry_stands once kept core log f w h = by (something_stands kept core log w (ap
 
 -- ---- the create was Ok
 
-pub record MadeLaw (old new : State) (core : Core) (log : Log) (entry : Entry) (now : ℕ) : Type 0 where
-  pub places : List ℕ
-  pub after : Core
-  pub did : create_at_end (quiet places (now - core.store_faults) false) entry core ≡ record { answer = made; core = after }
-  -- it stands there unread, and then it is taken in
-  pub unread : (unsure : Bool) → Onward old new core (record after { unsure = unsure }) log
-  pub taken : Onward old new core (taken_in entry after) log
-  pub history : after.history ≡ core.history
-  pub faults : after.store_faults ≡ now
-  pub moment : after.moment ≡ core.moment
-  pub clock : after.clock ≡ core.clock
-  pub fresh : (number : ℕ) (delta : List Part) (facts : RowFacts) → entry.act ≡ Stage number delta facts →
-      IsUnused new (core.history ++ entry ∷ []) number × HasStaged (core.history ++ entry ∷ []) number delta facts
-
 pub made_law : OneEntry → (old new : State) (core : Core) (log : Log) (entry : Entry) (now : ℕ) → IsWorld old core log → Counted core now → CanSpell entry →
     (core.standing ≡ None → MayEnter old core.history log entry) → Spells (spelling entry) entry → LandsThen (Creates (meta_key (length core.history)) (spelling entry) (Ok tt)) old new →
     MadeLaw old new core log entry now
@@ -177,25 +149,6 @@ made_law once old new core log entry now w c can may spells t =
     there = Onward-trans old t.0 new core mid (record mid { standing = Some entry }) log b.onward (subst (λ k. Onward t.0 k mid (record mid { standing = Some entry }) log) (sym is) entered.onward)
 
 -- ---- something stood there, and was read
-
-pub record AdoptedLaw (old new : State) (core : Core) (log : Log) (tried_entry entry : Entry) (before now : ℕ) : Type 0 where
-  pub places : List ℕ
-  pub mid : Core
-  pub did : create_at_end (quiet places (now - core.store_faults) false) tried_entry core ≡ record { answer = exists entry; core = mid }
-  pub after : Core
-  pub got : get_at_end (quiet [] 0 false) entry before mid ≡ gives (Ok tt) after
-  pub onward : Onward old new core after log
-  pub sure : after.unsure ≡ false
-  pub mid_history : mid.history ≡ core.history
-  pub mid_faults : mid.store_faults ≡ now
-  pub mid_moment : mid.moment ≡ core.moment
-  pub mid_clock : mid.clock ≡ core.clock
-  -- without memory behind the get it stands there unread
-  pub unread : (known : Bool) → Onward old new core (record (begun (quiet [] 0 true) mid) { unsure = mid.unsure || known }) log
-  pub history : after.history ≡ core.history ++ entry ∷ []
-  pub faults : after.store_faults ≡ now
-  pub moment : after.moment ≡ max core.moment entry.moment
-  pub clock : after.clock ≡ core.clock
 
 -- a get that failed nowhere begins
 abbrev pub calm_get : Call
@@ -251,18 +204,6 @@ abbrev has_failed : Core → Making
 has_failed core = record { answer = failed; core = core }
 
 -- ---- the create failed
-
-pub record FailedLaw (old new : State) (core : Core) (log : Log) (entry : Entry) (now : ℕ) : Type 0 where
-  pub call : Call
-  pub short : call.short ≡ false
-  pub after : Core
-  pub did : create_at_end call entry core ≡ record { answer = failed; core = after }
-  pub onward : Onward old new core after log
-  pub history : after.history ≡ core.history
-  pub faults : after.store_faults ≡ now
-  pub moment : after.moment ≡ core.moment
-  pub clock : after.clock ≡ core.clock
-  pub unsure : after.unsure ≡ true
 
 pub failed_law : OneEntry → (old new : State) (core : Core) (log : Log) (entry : Entry) (now : ℕ) → IsWorld old core log → Counted core now → Rose core.store_faults now → CanSpell entry →
     (core.standing ≡ None → MayEnter old core.history log entry) → Spells (spelling entry) entry → LandsThen (Creates (meta_key (length core.history)) (spelling entry) (Err creates.Failed)) old new →
@@ -332,19 +273,6 @@ failed_law once old new core log entry now w c rose can may spells t = by t.2
         }
 
 -- ---- something stood there
-
-pub record ExistsLaw (old new : State) (core : Core) (log : Log) (entry : Entry) (now : ℕ) : Type 0 where
-  pub places : List ℕ
-  pub other : Entry
-  pub after : Core
-  pub did : create_at_end (quiet places (now - core.store_faults) false) entry core ≡ record { answer = exists other; core = after }
-  pub stands : after.standing ≡ Some other
-  pub onward : Onward old new core after log
-  pub history : after.history ≡ core.history
-  pub faults : after.store_faults ≡ now
-  pub moment : after.moment ≡ core.moment
-  pub clock : after.clock ≡ core.clock
-  pub unsure : after.unsure ≡ core.unsure
 
 pub exists_law : OneEntry → (old new : State) (core : Core) (log : Log) (entry : Entry) (now : ℕ) → IsWorld old core log → Counted core now →
     HasLanded old new → IsSome (numbered new (length core.history)) → ExistsLaw old new core log entry now

@@ -1,34 +1,29 @@
 -- What the journal's answers say of its store, in the words of the core: settling and appending are the core's.
-use Rattle.std.proofs.Common.{◌≡◌, ◌⊎◌, ℕ, ◌<◌, ◌≤◌, ◌+◌, ◌-◌, List, [], ◌∷◌, ◌++◌, refl, sym, ap, ◌∙◌, subst, inl, inr, Bool, true, false, length, arith}
-use Rattle.std.specs.FinMap.{get}
-use Rattle.std.specs.Prelude.{Option, Some, None, is_some, IsSome, Result, Ok, Err, max, ⊤, ◌||◌}
+use Rattle.std.proofs.Common.{◌≡◌, ◌⊎◌, ℕ, ◌<◌, ◌-◌, List, [], ◌∷◌, ◌++◌, refl, sym, ap, ◌∙◌, subst, inl, inr, Bool, true, false, length, arith}
+use Rattle.std.specs.Prelude.{Option, Some, None, is_some, IsSome, Ok, Err, max, ◌||◌}
 use Rattle.byte_fields.specs.Causes.{Rose}
-use Rattle.meta_journal.specs.Journal.{SettlesAt, Appends, Faults, Tries, IsCorrupt}
-use Rattle.meta_journal.specs.Places.{meta_key, numbered, HasEntry}
-use Rattle.meta_journal.specs.Spelling.{Spells, CanSpell, spelling, spelled_in}
+use Rattle.meta_journal.specs.Journal.{SettlesAt, Appends, Tries, IsCorrupt}
+use Rattle.meta_journal.specs.Places.{meta_key, numbered}
+use Rattle.meta_journal.specs.Spelling.{Spells, CanSpell, spelling}
 use Rattle.meta_journal.specs.declared.entry.Act.{Act}
-use Rattle.meta_journal.specs.declared.entry.Act.TheVariants.{Stage}
 use Rattle.meta_journal.specs.declared.entry.Entry.{Entry}
 use Rattle.meta_journal.specs.declared.journal_error.JournalError.TheVariants as errors
 use Rattle.meta_store.specs.History.{history}
 use Rattle.meta_store.specs.State.{Legal}
-use Rattle.object_store.specs.Store.{State, HasLanded, LandsThen, Creates}
-use Rattle.source_checkpoint.specs.declared.delta.Part.{Part}
+use Rattle.object_store.specs.Store.{State, HasLanded}
 use Rattle.source_log.specs.Log.{Log}
-use Rattle.split_states.specs.declared.facts.RowFacts.{RowFacts}
-use Rattle.index_world.specs.Calls.{Call, Gives, gives, Trouble, faulted, no_memory, store_fault, Unmade, troubled, refused, is_foreign, store_failed, settled, settle_making, fence_of, entry_of, may_append, last_create, transact, begun, taken_in, get_at_end, create_at_end}
+use Rattle.index_world.specs.Calls.{Call, no_memory, store_failed, settle_making, fence_of, entry_of, begun, taken_in}
 use Rattle.index_world.specs.Config.{reads}
-use Rattle.index_world.specs.Core.{Core, with_unread, journal_of}
-use Rattle.index_world.specs.Index.{MayEnter, IsUnused, HasStaged, IsIndexOf}
+use Rattle.index_world.specs.Core.{Core, with_unread}
+use Rattle.index_world.specs.Index.{MayEnter}
 use Rattle.index_world.specs.World.{IsWorld, IsTimely}
-use Rattle.index_world.specs.Onward.{Onward}
-use Rattle.index_world.proofs.StoreKeys.{true_is_false, none_some}
-use Rattle.index_world.proofs.Journals.{once, stand-of, journal-end}
+use Rattle.index_world.proofs.Journals.{once, stand-of}
 use Rattle.index_world.proofs.Numbers.{history-snoc}
-use Rattle.index_world.proofs.Landing.{journal_none, journal_some}
+use Rattle.index_world.proofs.Landing.{journal_some}
 use Rattle.index_world.proofs.Asking.{fence_enters}
 use Rattle.index_world.proofs.JournalCalls.{Counted, Begun, quiet, failing, calm_get, world-begins, made_law, adopted_law, failed_law, exists_law, get_failed_law, MadeLaw, AdoptedLaw, FailedLaw, ExistsLaw, GetFailedLaw, something_stands, last_entry, still_counted, Unread}
 use Rattle.index_world.proofs.Transactions.{settled_made, settled_made_short, settled_adopted, settled_failed, settled_get_failed, settled_short, settled_by}
+pub use Rattle.index_world.specs.Steps.{Settled, Unsettled}
 
 pub spells_own : (entry : Entry) → Spells (spelling entry) entry
 unfolding Spells spelling
@@ -87,32 +82,6 @@ pub appends_short : (old new : State) (core : Core) (log : Log) (now : ℕ) → 
 appends_short old new core log now w c t = world-begins once old new core log now (quiet t.0 (now - core.store_faults) true) w c refl t.1
 
 -- ---- what settling answered
-
--- an entry was taken in
-pub record Settled (old new : State) (core : Core) (log : Log) (entry : Entry) (now : ℕ) : Type 0 where
-  pub first : Call
-  pub second : Call
-  pub after : Core
-  pub did : settled first second core ≡ gives (Ok tt) after
-  pub onward : Onward old new core after log
-  pub history : after.history ≡ core.history ++ entry ∷ []
-  pub faults : after.store_faults ≡ now
-  pub moment : after.moment ≡ max core.moment entry.moment
-  pub clock : after.clock ≡ core.clock
-  pub unsure : after.unsure ≡ false
-
--- none was
-pub record Unsettled (old new : State) (core : Core) (log : Log) (trouble : Core → Trouble) (now : ℕ) : Type 0 where
-  pub first : Call
-  pub second : Call
-  pub after : Core
-  pub did : settled first second core ≡ gives (Err (trouble after)) after
-  pub onward : Onward old new core after log
-  pub history : after.history ≡ core.history
-  pub faults : after.store_faults ≡ now
-  pub moment : after.moment ≡ core.moment
-  pub clock : after.clock ≡ core.clock
-  pub unsure : after.unsure ≡ true
 
 or_yes : (b : Bool) → (b || true) ≡ true
 or_yes true = refl

@@ -1,11 +1,11 @@
 -- The entries that stand in a store.
-use Rattle.std.proofs.Common.{◌≡◌, ℕ, zero, suc, ◌+◌, ◌<◌, ◌≤◌, List, [], ◌∷◌, ◌++◌, refl, sym, ap, ◌∙◌, subst, Bool, true, false, length, arith}
+use Rattle.std.proofs.Common.{◌≡◌, ℕ, ◌+◌, ◌<◌, ◌≤◌, List, [], ◌∷◌, ◌++◌, refl, sym, ap, ◌∙◌, subst, Bool, true, false, length, arith}
 use Rattle.std.proofs.lemmas.Bool.{eqb-true, eqb-false}
 use Rattle.std.specs.Prelude.{Option, Some, None, is_some, ◌==◌}
 use Rattle.object_store.specs.Store.{State}
 use Rattle.meta_journal.proofs.EntryLaws.{one_entry}
 use Rattle.meta_journal.specs.Places.{numbered, HasEntry, Stand, StandFrom, IsJournal}
-use Rattle.meta_journal.specs.Spelling.{CanSpell, Spells}
+use Rattle.meta_journal.specs.Spelling.{Spells}
 use Rattle.meta_journal.specs.declared.entry.Entry.{Entry}
 use Rattle.index_world.specs.Index.{OneEntry}
 use Rattle.index_world.proofs.StoreKeys.{none_some}

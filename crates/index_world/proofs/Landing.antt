@@ -1,28 +1,23 @@
 -- What lands in the store lands in the core.
-use Rattle.std.proofs.Common.{◌≡◌, ◌⊎◌, ℕ, zero, suc, ◌<◌, ◌≤◌, ◌+◌, List, [], ◌∷◌, ◌++◌, refl, sym, ap, ◌∙◌, subst, inl, inr, Bool, true, false, length, arith, map}
+use Rattle.std.proofs.Common.{◌≡◌, ◌⊎◌, ℕ, zero, suc, ◌<◌, ◌≤◌, List, [], ◌∷◌, ◌++◌, refl, sym, ap, ◌∙◌, subst, inl, inr, Bool, true, false, length, arith, map}
 use Rattle.std.proofs.lemmas.Bool.{eqb-true, eqb-false}
-use Rattle.std.proofs.lemmas.List.{length-append}
-use Rattle.std.proofs.lemmas.Option.{slice_get-map}
 use Rattle.std.specs.Cmp.Lexicographic.{bytes_decides}
 use Rattle.std.specs.FinMap.{get, insert}
-use Rattle.std.specs.List.{AllByRecursion}
-use Rattle.std.specs.Prelude.{Option, Some, None, is_some, slice_get, remove, ◌==◌, option_map, bytes_eq, if◌then◌else◌}
+use Rattle.std.specs.Prelude.{Option, Some, None, is_some, slice_get, remove, ◌==◌, bytes_eq, if◌then◌else◌}
 use Rattle.meta_journal.specs.Places.{meta_key, IsJournal}
 use Rattle.meta_journal.specs.Spelling.{Spells, CanSpell}
 use Rattle.meta_journal.specs.declared.entry.Entry.{Entry}
-use Rattle.object_store.specs.Store.{State, landed, land_one, land_where, with_object}
+use Rattle.object_store.specs.Store.{State, land_where, with_object}
 use Rattle.source_log.specs.Log.{Log}
-use Rattle.index_world.specs.Calls.{all_landed, land_at, late_lands, entry_lands, file_lands, with_file, without_late}
-use Rattle.index_world.specs.Core.{Core, File, Late, late_entry, late_dead, late_file, late_key, late_bytes, file_at, with_unread, journal_of}
-use Rattle.index_world.specs.Index.{OneEntry, IsIndexOf, MayEnter, MayLand, IsBelowEnd, IsLateEntry, is_meta}
+use Rattle.index_world.specs.Calls.{late_lands, entry_lands, file_lands, with_file, without_late}
+use Rattle.index_world.specs.Core.{Core, File, Late, late_entry, late_dead, late_file, late_key, file_at, with_unread, journal_of}
+use Rattle.index_world.specs.Index.{IsIndexOf, MayLand, IsBelowEnd, IsLateEntry, is_meta}
 use Rattle.index_world.specs.Standing.{late_object, IsCalled, StandsFor}
 use Rattle.index_world.specs.World.{IsWorld}
-use Rattle.index_world.specs.Held.{KeepsHeld, Still, Enters, NoneAtEnd}
-use Rattle.index_world.specs.Onward.{Onward, SameLife, Landing}
 use Rattle.index_world.proofs.StoreKeys.{true_is_false, none_some, meta_begins, get-same, get-other}
-use Rattle.index_world.proofs.Journals.{one-journal, journal-end, stand-of, Stand-at}
+use Rattle.index_world.proofs.Journals.{journal-end, stand-of, Stand-at}
 use Rattle.index_world.proofs.Entering.{journal_more}
-use Rattle.index_world.proofs.Indexing.{Object, All-remove, All-get, lates, Lands, lands-one, longer, journal_late, journal_other, held-trans}
+use Rattle.index_world.proofs.Indexing.{All-remove, All-get, lates, longer, journal_late, journal_other}
 
 -- ---- lists
 

@@ -1,3 +1,12 @@
+pub mod Accepts
+pub mod Said
+pub mod SplitNames
+pub mod SplitFacts
+pub mod SplitReads
+pub mod SplitParts
+pub mod Placing
+pub mod ShortTexts
+pub mod Light
 pub mod StoreKeys
 pub mod Journals
 pub mod Numbers
@@ -19,3 +28,10 @@ pub mod Opening
 pub mod JournalLaws
 pub mod WholeCalls
 pub mod WholeFiles
+pub mod Lives
+pub mod Settling
+pub mod Creating
+pub mod Appending
+pub mod Gates
+pub mod Fronts
+pub mod Reading

@@ -1,19 +1,19 @@
 -- The numbers that a legal history stages and publishes.
-use Rattle.std.proofs.Common.{◌≡◌, ◌⊎◌, ℕ, suc, ◌+◌, ◌<◌, ◌≤◌, List, [], ◌∷◌, ◌++◌, refl, sym, ap, ◌∙◌, subst, inl, inr, Bool, true, false, length, arith}
+use Rattle.std.proofs.Common.{◌≡◌, ◌⊎◌, ℕ, ◌+◌, ◌≤◌, List, [], ◌∷◌, ◌++◌, refl, sym, ◌∙◌, subst, inl, inr, Bool, true, false, length, arith}
 use Rattle.std.proofs.lemmas.Bool.{eqb-true}
 use Rattle.std.proofs.lemmas.List.Folds.{list_any-append}
 use Rattle.std.proofs.lemmas.List.Sums.{fold-append}
 use Rattle.std.specs.List.{list_any, AllByRecursion}
-use Rattle.std.specs.Prelude.{Option, Some, None, IsSomeAnd, max, fold, ◌==◌, ◌||◌}
+use Rattle.std.specs.Prelude.{Option, Some, None, max, fold, ◌==◌, ◌||◌}
 use Rattle.meta_journal.specs.declared.entry.Act.{Act}
 use Rattle.meta_journal.specs.declared.entry.Act.TheVariants.{Fence, Create, Stage, Publish, Replace, Raise, Task, MarkStaged, Remove, Retire}
 use Rattle.meta_journal.specs.declared.entry.Entry.{Entry}
-use Rattle.meta_store.proofs.RowLists.{the_row, AllOf-at, row_stands, StandsIn}
+use Rattle.meta_store.proofs.RowLists.{the_row, AllOf-at, row_stands}
 use Rattle.meta_store.proofs.Sound.{sound}
 use Rattle.meta_store.specs.History.{History, history, last_number, staged_numbers, published_numbers, revision_of}
 use Rattle.meta_store.specs.History.History.{Start, ◌▸◌}
 use Rattle.meta_store.specs.Rows.{rows}
-use Rattle.meta_store.specs.State.{Reads, Legal, MayFollow, MayCome, reading_of, config_of, state_of}
+use Rattle.meta_store.specs.State.{Reads, Legal, MayCome, reading_of, config_of, state_of}
 use Rattle.meta_store.specs.declared.config.Config.{Config}
 use Rattle.split_states.specs.declared.rows.Row.{Row}
 use Rattle.split_states.specs.Rows.{row_at}

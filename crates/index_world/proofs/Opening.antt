@@ -1,21 +1,20 @@
 -- Each index has a core that stands for it.
-use Rattle.std.proofs.Common.{◌≡◌, ◌⊎◌, ℕ, ◌<◌, ◌≤◌, List, [], ◌∷◌, ◌++◌, refl, sym, ap, ◌∙◌, subst, inl, inr, Bool, true, false, length, arith, map}
+use Rattle.std.proofs.Common.{◌≡◌, ◌⊎◌, ℕ, List, [], ◌∷◌, refl, sym, ap, ◌∙◌, inl, inr, Bool, true, false, length, arith, map}
 use Rattle.std.specs.Cmp.Lexicographic.{slice_cmp, bytes_decides}
-use Rattle.std.specs.FinMap.{get, entries, get-entries}
+use Rattle.std.specs.FinMap.{entries, get-entries}
 use Rattle.std.specs.FinMap.Entries.{find}
 use Rattle.std.specs.List.{AllByRecursion}
 use Rattle.std.specs.Ordering.{nat_cmp, eq_by_cmp, is_eq}
-use Rattle.std.specs.Prelude.{Option, Some, None, bytes_eq, cond}
-use Rattle.meta_journal.specs.Places.{meta_key}
+use Rattle.std.specs.Prelude.{Some, None, bytes_eq, cond}
 use Rattle.meta_journal.specs.declared.entry.Entry.{Entry}
 use Rattle.meta_store.specs.History.{moment_of}
 use Rattle.meta_store.specs.History.{history as told}
 use Rattle.object_store.specs.Store.{State}
-use Rattle.object_store.proofs.Entries.{ties_itself, same_from_tie, not_tied}
+use Rattle.object_store.proofs.Entries.{ties_itself, not_tied}
 use Rattle.source_log.specs.Log.{Log}
-use Rattle.index_world.specs.Core.{Core, File, Late, late_entry, late_dead, late_file, file_at}
+use Rattle.index_world.specs.Core.{File, Late, late_entry, late_dead, late_file, file_at}
 use Rattle.index_world.specs.Index.{IsIndexOf, IsLateEntry, IsBelowEnd, MayLand, is_meta}
-use Rattle.index_world.specs.Standing.{late_object, IsCalled, StandsFor}
+use Rattle.index_world.specs.Standing.{late_object, IsCalled}
 use Rattle.index_world.specs.World.{IsWorld}
 use Rattle.index_world.proofs.StoreKeys.{true_is_false}
 use Rattle.index_world.proofs.Indexing.{Object}

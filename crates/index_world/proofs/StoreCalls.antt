@@ -1,28 +1,25 @@
 -- A create, an upload and a load leave a sound index.
-use Rattle.std.proofs.Common.{◌≡◌, ◌⊎◌, ℕ, suc, ◌<◌, ◌≤◌, ◌+◌, ◌^◌, List, [], ◌∷◌, ◌++◌, refl, sym, ap, ◌∙◌, subst, inl, inr, Bool, true, false, length, arith}
-use Rattle.std.specs.FinMap.{get, insert}
+use Rattle.std.proofs.Common.{◌≡◌, ◌⊎◌, ℕ, ◌≤◌, List, [], ◌∷◌, ◌++◌, refl, sym, ap, ◌∙◌, subst, inl, inr, true, length, arith}
+use Rattle.std.specs.FinMap.{get}
 use Rattle.std.specs.FinMap as finmap
 use Rattle.std.specs.Cmp.Lexicographic.{slice_cmp}
 use Rattle.std.specs.Ordering.{nat_cmp}
-use Rattle.std.specs.List.{AllByRecursion}
-use Rattle.std.specs.Prelude.{Option, Some, None, IsSome, is_some, Result, Ok, Err}
+use Rattle.std.specs.Prelude.{Some, None, is_some, Result, Ok, Err}
 use Rattle.meta_journal.specs.Places.{meta_key, split_key, IsJournal}
 use Rattle.meta_journal.specs.Spelling.{Spells}
 use Rattle.meta_journal.specs.declared.entry.Entry.{Entry}
 use Rattle.meta_store.specs.History.{history}
-use Rattle.meta_store.specs.State.{Legal}
 use Rattle.object_store.specs.Store.{State, with_object, with_late, HasLanded, LandsThen, Creates}
 use Rattle.object_store.specs.declared.store.CreateError.{CreateError}
 use Rattle.object_store.specs.declared.store.CreateError.TheVariants as creates
 use Rattle.source_log.specs.Log.{Log}
-use Rattle.index_world.specs.Config.{reads}
-use Rattle.index_world.specs.Index.{Stands, IsIndexOf, IsLateKey, IsLateEntry, IsBelowEnd, IsNotLate, MayEnter, IsUnused, IsUploaded, has_staged, max_entries, is_meta, OneEntry}
-use Rattle.index_world.specs.Held.{NoneAtEnd, KeepsHeld, KeepsOthers, Still, Enters, Adopts, AfterLanding, AfterCreate, Goes, AfterFile, AfterUpload, Loads}
+use Rattle.index_world.specs.Index.{Stands, IsIndexOf, IsLateKey, IsLateEntry, IsNotLate, MayEnter, IsUnused, IsUploaded, has_staged, max_entries, OneEntry}
+use Rattle.index_world.specs.Held.{NoneAtEnd, KeepsHeld, KeepsOthers, Enters, Adopts, AfterLanding, AfterCreate, Goes, AfterFile, AfterUpload, Loads}
 use Rattle.index_world.proofs.StoreKeys.{true_is_false, split_outside, split_key-injective, none_some, kept_at, absent_at, get-same}
 use Rattle.index_world.proofs.Journals.{journal-end, one-journal}
 use Rattle.index_world.proofs.Numbers.{staged_le}
 use Rattle.index_world.proofs.StoreChanges.{All-snoc, LateEntries-carried}
-use Rattle.index_world.proofs.Indexing.{lates, Below, Object, longer, last_within, below_stands, Stands-late, Stands-object, index-enters, index-tried, index-dead, index-HasLanded, Still-trans, Still-enters, Enters-still}
+use Rattle.index_world.proofs.Indexing.{Below, Object, longer, last_within, below_stands, Stands-late, Stands-object, index-enters, index-tried, index-dead, index-HasLanded, Still-trans, Still-enters, Enters-still}
 
 -- the number at which an entry was adopted stands
 adopted_stands : (old mid : State) (entries : List Entry) (log : Log) (entry : Entry) → Enters old mid entries log entry → get mid.objects (meta_key (length entries)) ≡ None → ⊥

@@ -1,15 +1,15 @@
 -- What an object more, or a late create less, leaves as it was.
-use Rattle.std.proofs.Common.{◌≡◌, ◌⊎◌, ℕ, ◌+◌, ◌<◌, ◌≤◌, List, [], ◌∷◌, ◌++◌, refl, sym, ap, ◌∙◌, subst, inl, inr, Bool, true, false, length, arith}
-use Rattle.std.proofs.lemmas.Bool.{eqb-true, eq-eqb}
+use Rattle.std.proofs.Common.{◌≡◌, ◌⊎◌, ℕ, List, [], ◌∷◌, ◌++◌, refl, sym, ap, ◌∙◌, inl, inr, Bool, true, false}
+use Rattle.std.proofs.lemmas.Bool.{eq-eqb}
 use Rattle.std.proofs.lemmas.List.Folds.{list_any-append}
 use Rattle.std.specs.FinMap.{get}
 use Rattle.std.specs.List.{AllByRecursion, list_any}
-use Rattle.std.specs.Prelude.{Option, Some, None, IsSome, ◌==◌, ◌||◌}
-use Rattle.meta_journal.specs.Places.{meta_key, split_key}
+use Rattle.std.specs.Prelude.{Some, None, ◌==◌, ◌||◌}
+use Rattle.meta_journal.specs.Places.{split_key}
 use Rattle.meta_journal.specs.declared.entry.Act.{Act}
 use Rattle.meta_journal.specs.declared.entry.Act.TheVariants.{Fence, Create, Stage, Publish, Replace, Raise, Task, MarkStaged, Remove, Retire}
 use Rattle.meta_journal.specs.declared.entry.Entry.{Entry}
-use Rattle.meta_store.specs.History.{History, history, staged_numbers, published_numbers, last_number}
+use Rattle.meta_store.specs.History.{History, history, staged_numbers, published_numbers}
 use Rattle.meta_store.specs.History.History.{◌▸◌}
 use Rattle.delete_tasks.specs.declared.tasks.Task.{Task as KeptTask}
 use Rattle.object_store.specs.Store.{State, with_object}

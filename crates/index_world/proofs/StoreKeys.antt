@@ -1,5 +1,5 @@
 -- Keys of the journal and of split files, and objects under keys.
-use Rattle.std.proofs.Common.{◌≡◌, ◌⊎◌, ◌≢◌, ℕ, zero, suc, ◌+◌, ◌*◌, ◌/◌, ◌%◌, ◌^◌, ◌<◌, ◌≤◌, List, [], ◌∷◌, ◌++◌, refl, sym, ap, ◌∙◌, subst, inl, inr, Bool, true, false, arith, lit<}
+use Rattle.std.proofs.Common.{◌≡◌, ◌⊎◌, ℕ, zero, suc, ◌+◌, ◌*◌, ◌/◌, ◌%◌, ◌^◌, ◌<◌, List, [], ◌∷◌, refl, sym, ap, ◌∙◌, subst, inl, inr, Bool, true, false, arith, lit<}
 use Rattle.std.proofs.Math.Arith.{mod-mul}
 use Rattle.std.proofs.Math.Nat.{pow-suc, mod-eq_of_lt, mul_comm}
 use Rattle.std.specs.Prelude.{Option, Some, None, IsSome, is_some, cond}
@@ -7,9 +7,9 @@ use Rattle.std.specs.FinMap as finmap
 use Rattle.std.specs.Ordering.{nat_cmp, eq_by_cmp}
 use Rattle.std.specs.Cmp.Lexicographic.{slice_cmp}
 use Rattle.object_store.specs.Store.{Objects}
-use Rattle.object_store.proofs.Entries.{ties_itself, same_from_tie, not_tied}
+use Rattle.object_store.proofs.Entries.{ties_itself, not_tied}
 use Rattle.object_store.proofs.States.{get_with, tied}
-use Rattle.meta_journal.specs.Places.{digits, meta_key, split_key, meta_prefix, split_prefix}
+use Rattle.meta_journal.specs.Places.{digits, meta_key, split_key}
 use Rattle.index_world.specs.Index.{is_meta, is_split}
 
 -- ---- numbers in digits

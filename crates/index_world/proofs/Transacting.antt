@@ -1,8 +1,7 @@
 -- A whole transaction, by what its calls of the journal did: the core's transaction, and the world stays an index.
-use Rattle.std.proofs.Common.{◌≡◌, ℕ, ◌+◌, ◌-◌, ◌<◌, ◌≤◌, ◌^◌, List, [], ◌∷◌, ◌++◌, refl, sym, ap, ◌∙◌, subst, Bool, true, false, length, arith, IsOk, append_assoc, append-nil, inl, inr}
+use Rattle.std.proofs.Common.{◌≡◌, ℕ, ◌-◌, ◌<◌, ◌≤◌, List, [], ◌∷◌, ◌++◌, refl, sym, ap, ◌∙◌, subst, Bool, true, false, length, arith, IsOk, append_assoc, append-nil, inl, inr}
 use Rattle.std.proofs.lemmas.Bool.Decides.{nat_tests}
-use Rattle.std.specs.Prelude.{Option, Some, None, Result, Ok, Err, max, nat_le, IsSome, ⊤, ◌||◌}
-use Rattle.byte_fields.specs.Causes.{Rose}
+use Rattle.std.specs.Prelude.{Result, Ok, Err, max, nat_le, ⊤, ◌||◌}
 use Rattle.meta_journal.specs.Journal.{Faults, Tries, create_failed}
 use Rattle.meta_journal.specs.Places.{meta_key}
 use Rattle.meta_journal.specs.Spelling.{CanSpell, CanSpellAct}
@@ -15,19 +14,19 @@ use Rattle.meta_store.specs.State.{state_of, config_of, reading_of}
 use Rattle.meta_store.specs.declared.refusal.Refusal.{Refusal}
 use Rattle.object_store.specs.Store.{State, HasLanded}
 use Rattle.source_log.specs.Log.{Log}
-use Rattle.index_world.specs.Calls.{Call, Gives, gives, Trouble, faulted, no_memory, Unmade, refused, troubled, is_foreign, store_failed, last_create, transact, begun, taken_in, may_append, or_full, full_answer, answer_behind, entry_of, first_unless, adopted_making, and_then, as_unmade}
+use Rattle.index_world.specs.Calls.{Call, gives, Trouble, faulted, no_memory, Unmade, refused, troubled, is_foreign, store_failed, last_create, begun, taken_in, may_append, or_full, full_answer, answer_behind, entry_of, adopted_making}
 use Rattle.index_world.specs.Config.{reads}
 use Rattle.index_world.specs.Core.{Core, journal_of}
 use Rattle.index_world.specs.Index.{MayEnter, HasFile, max_entries}
 use Rattle.index_world.specs.World.{IsWorld, IsTimely}
 use Rattle.index_world.specs.Onward.{Onward}
 use Rattle.index_world.proofs.StoreKeys.{true_is_false}
-use Rattle.index_world.proofs.Numbers.{history-snoc}
 use Rattle.index_world.proofs.Asking.{timely_taken}
 use Rattle.index_world.proofs.Worlds.{Onward-trans, held-refl}
 use Rattle.index_world.proofs.JournalCalls.{Counted, quiet, calm_get, MadeLaw, AdoptedLaw, FailedLaw, ExistsLaw, still_counted}
 use Rattle.index_world.proofs.JournalLaws.{Settled, Unsettled, appends_short, short_get}
 use Rattle.index_world.proofs.Transactions.{last_is_made, last_failed, last_foreign, last_refused, first_made, first_failed, first_adopted, first_refused, first_short, first_by, after_settling, not_settled}
+pub use Rattle.index_world.specs.Steps.{greatest, Ends, Transacted}
 
 -- ---- an entry of one's own may enter where its answer is Ok
 
@@ -67,18 +66,6 @@ fault_tried n e old new (inl t) = t
 fault_tried n e old new (inr d) = (new, d.0, inr (inr (d.1, refl)))
 
 -- ---- where a call ends
-
-abbrev pub greatest : ℕ → List Entry → ℕ
-greatest moment [] = moment
-greatest moment (e ∷ es) = greatest (max moment e.moment) es
-
--- the core behind a call: entries more, the count, the greatest moment, and whether its number is unsure
-pub record Ends (core after : Core) (more : List Entry) (doubt : Bool) (now : ℕ) : Type 0 where
-  pub history : after.history ≡ core.history ++ more
-  pub faults : after.store_faults ≡ now
-  pub moment : after.moment ≡ greatest core.moment more
-  pub clock : after.clock ≡ core.clock
-  pub unsure : after.unsure ≡ doubt
 
 greatest_append : (m : ℕ) (a b : List Entry) → greatest m (a ++ b) ≡ greatest (greatest m a) b
 greatest_append m [] b = refl
@@ -207,16 +194,6 @@ last_not kept core log act before e w t may =
 
 -- ---- a transaction
 
-pub record Transacted (old new : State) (core : Core) (log : Log) (act : Core → Act) (answer : Core → Result ⊤ Unmade) (more : List Entry) (unsure : Bool) (now : ℕ) : Type 0 where
-  pub first : Call
-  pub second : Call
-  pub third : Call
-  pub after : Core
-  pub did : transact core.unsure first second third act core ≡ gives (answer after) after
-  pub onward : Onward old new core after log
-  pub ends : Ends core after more unsure now
-  pub timely : IsTimely after
-
 -- ---- where nothing was unsure
 
 module _ (old new : State) (core : Core) (log : Log) (act : Core → Act) (now : ℕ) (w : IsWorld old core log) (t : IsTimely core) (c : Counted core now) (sure : core.unsure ≡ false) where
@@ -305,7 +282,7 @@ transacted_not kept core log act e w t sure may =
 pub adopted_ends : (old new : State) (core : Core) (log : Log) (tried f : Entry) (before now : ℕ) (a : AdoptedLaw old new core log tried f before now) → Ends core a.after (f ∷ []) false now
 adopted_ends old new core log tried f before now a = ends_taken core a.after f now a.history a.faults a.moment a.clock a.sure
 
-pub adopted_then : (old mid new : State) (core : Core) (log : Log) (act : Core → Act) (f : Entry) (n now : ℕ) (answer : Core → Result ⊤ Unmade) (more : List Entry) (unsure : Bool) →
+abbrev pub adopted_then : (old mid new : State) (core : Core) (log : Log) (act : Core → Act) (f : Entry) (n now : ℕ) (answer : Core → Result ⊤ Unmade) (more : List Entry) (unsure : Bool) →
     core.unsure ≡ false → may_append (act core) core ≡ Ok tt → (a : AdoptedLaw old mid core log (entry_of (act core) core) f core.store_faults n) →
     Last mid new a.after log (act a.after) core.store_faults answer more unsure now → Transacted old new core log act answer (f ∷ more) unsure now
 adopted_then old mid new core log act f n now answer more unsure sure may a l =
@@ -325,7 +302,7 @@ adopted_then old mid new core log act f n now answer more unsure sure may a l =
 pub settled_ends : (old new : State) (core : Core) (log : Log) (f : Entry) (now : ℕ) (s : Settled old new core log f now) → Ends core s.after (f ∷ []) false now
 settled_ends old new core log f now s = ends_taken core s.after f now s.history s.faults s.moment s.clock s.unsure
 
-pub settled_then : (old mid new : State) (core : Core) (log : Log) (act : Core → Act) (f : Entry) (n now : ℕ) (answer : Core → Result ⊤ Unmade) (more : List Entry) (unsure : Bool) →
+abbrev pub settled_then : (old mid new : State) (core : Core) (log : Log) (act : Core → Act) (f : Entry) (n now : ℕ) (answer : Core → Result ⊤ Unmade) (more : List Entry) (unsure : Bool) →
     core.unsure ≡ true → (s : Settled old mid core log f n) → Last mid new s.after log (act s.after) core.store_faults answer more unsure now → Transacted old new core log act answer (f ∷ more) unsure now
 settled_then old mid new core log act f n now answer more unsure doubt s l =
     record {
@@ -345,7 +322,7 @@ unsettled_ends old new core log trouble now u = ends_same core u.after true now 
 pub timely_unsettled : (old new : State) (core : Core) (log : Log) (trouble : Core → Trouble) (now : ℕ) → IsTimely core → core.unsure ≡ true → (u : Unsettled old new core log trouble now) → IsTimely u.after
 timely_unsettled old new core log trouble now t doubt u = timely_same core u.after true now t (unsettled_ends old new core log trouble now u) (λ e. t.room doubt)
 
-pub not_transacted : (old new : State) (core : Core) (log : Log) (act : Core → Act) (trouble : Core → Trouble) (now : ℕ) → IsTimely core → core.unsure ≡ true → Unsettled old new core log trouble now →
+abbrev pub not_transacted : (old new : State) (core : Core) (log : Log) (act : Core → Act) (trouble : Core → Trouble) (now : ℕ) → IsTimely core → core.unsure ≡ true → Unsettled old new core log trouble now →
     Transacted old new core log act (λ after. Err (troubled (trouble after))) [] true now
 not_transacted old new core log act trouble now t doubt u =
     record {

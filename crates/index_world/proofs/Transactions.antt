@@ -1,12 +1,12 @@
 -- The world's calls, put together from what their calls of the journal did.
-use Rattle.std.proofs.Common.{◌≡◌, ℕ, ◌-◌, List, [], ◌∷◌, refl, sym, ap, ◌∙◌, subst, Bool, true, false, length}
-use Rattle.std.specs.Prelude.{Result, Ok, Err, ⊤, ◌||◌}
+use Rattle.std.proofs.Common.{◌≡◌, ℕ, ◌-◌, List, [], refl, ap, ◌∙◌, true, false, length}
+use Rattle.std.specs.Prelude.{Ok, Err, ⊤}
 use Rattle.meta_journal.specs.Places.{meta_key}
 use Rattle.meta_journal.specs.declared.entry.Act.{Act}
 use Rattle.meta_journal.specs.declared.entry.Entry.{Entry}
 use Rattle.object_store.specs.Store.{State}
 use Rattle.source_log.specs.Log.{Log}
-use Rattle.index_world.specs.Calls.{Call, Fate, Making, Made, made, exists, failed, Gives, gives, Trouble, faulted, no_memory, Unmade, refused, troubled, Fault, is_foreign, store_failed, begun, taken_in, create_at_end, get_at_end, fence_of, settle_with, settle_making, settle_made, settled, unless_short, entry_of, may_append, last_unless, last_making, last_create, adopted_making, adopted_made, first_unless, transact, asking, appended, asked_clock, and_then, as_unmade, troubled_by, or_short}
+use Rattle.index_world.specs.Calls.{Call, Gives, gives, Trouble, faulted, no_memory, Unmade, troubled, is_foreign, store_failed, begun, taken_in, create_at_end, fence_of, settle_with, settle_making, settled, unless_short, entry_of, may_append, last_unless, last_making, last_create, adopted_making, first_unless, transact, and_then, as_unmade, or_short}
 use Rattle.index_world.specs.Core.{Core}
 use Rattle.index_world.proofs.JournalCalls.{quiet, failing, calm_get, MadeLaw, AdoptedLaw, FailedLaw, ExistsLaw, GetFailedLaw}
 

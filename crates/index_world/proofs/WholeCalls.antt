@@ -1,26 +1,25 @@
 -- The whole calls of a world: with some fate each is the core's call, and behind it the world stands for the core that it gave.
-use Rattle.std.proofs.Common.{◌≡◌, ℕ, ◌+◌, ◌-◌, ◌<◌, ◌≤◌, ◌^◌, List, [], ◌∷◌, ◌++◌, refl, sym, ap, ◌∙◌, subst, Bool, true, false, length, arith}
+use Rattle.std.proofs.Common.{◌≡◌, ℕ, ◌<◌, ◌≤◌, List, [], ◌∷◌, refl, ap, ◌∙◌, Bool, true, false, length, arith}
 use Rattle.std.proofs.lemmas.List.{length-append}
 use Rattle.std.specs.Prelude.{Option, Some, None, Result, Ok, Err, max, ⊤}
 use Rattle.meta_journal.specs.declared.entry.Act.{Act}
 use Rattle.meta_journal.specs.declared.entry.Entry.{Entry}
-use Rattle.meta_store.specs.History.{history, moment_of}
+use Rattle.meta_store.specs.History.{history}
 use Rattle.meta_store.specs.State.{state_of}
-use Rattle.object_store.specs.Store.{State, HasLanded}
+use Rattle.object_store.specs.Store.{State}
 use Rattle.source_log.specs.Log.{Log}
-use Rattle.index_world.specs.Calls.{Call, Fate, Gives, gives, Trouble, no_memory, Unmade, troubled, Unread, not_read, store_failed, settled, settled_and_copied, unless_short, looked, asked, asked_and_looked, appended, asked_clock, and_then, and_then_by, fetched, loaded, upload_made}
+use Rattle.index_world.specs.Calls.{Call, Fate, Gives, gives, Trouble, no_memory, Unmade, settled, unless_short, looked, asked, asked_and_looked, appended, asked_clock, and_then}
 use Rattle.index_world.specs.Config.{reads}
 use Rattle.index_world.specs.Core.{Core, KeepsBut, journal_of}
-use Rattle.index_world.specs.Index.{IsUnused, IsUploaded}
 use Rattle.index_world.specs.World.{IsWorld, IsTimely, Keeping, WorldStands, GoesOn}
 use Rattle.index_world.specs.Onward.{Onward}
 use Rattle.index_world.proofs.Asking.{timely_asked}
 use Rattle.index_world.proofs.Worlds.{held-refl, world-same}
-use Rattle.index_world.proofs.InCore.{goes-on, keeps_others, KeepsBut-trans}
-use Rattle.index_world.proofs.JournalCalls.{Counted, Begun, quiet, calm_get}
+use Rattle.index_world.proofs.InCore.{goes-on, KeepsBut-trans}
+use Rattle.index_world.proofs.JournalCalls.{Counted, quiet, calm_get}
 use Rattle.index_world.proofs.JournalLaws.{Settled, Unsettled}
 use Rattle.index_world.proofs.Transactions.{settled_sure}
-use Rattle.index_world.proofs.Transacting.{Ends, greatest, ends_same, timely_same, timely_more, settled_ends, unsettled_ends, timely_unsettled, Transacted}
+use Rattle.index_world.proofs.Transacting.{Ends, greatest, ends_same, timely_more, settled_ends, unsettled_ends, timely_unsettled, Transacted}
 use Rattle.meta_journal.specs.Spelling.{CanSpell}
 
 -- what a world that stands for the core keeps
@@ -34,6 +33,7 @@ keeping_of kept core =
       meta = state_of reads (history core.history);
       next = length core.history;
       unsure = core.unsure;
+      frozen = false;
     }
 
 -- A whole call did this: it is the core's call with some fate, its answer is this one, and the world stands behind it.
@@ -64,6 +64,7 @@ stands_behind new start after log more doubt now some w t e =
       meta = refl;
       next = refl;
       unsure = refl;
+      awake = refl;
       opened = let l = ap length e.history in let a = length-append start.history more in omega (arith, some, l, a);
     }
 
@@ -75,7 +76,7 @@ world_asked kept core log w = world-same kept core log core.store_faults (max co
 pub counted_asked : (core : Core) (now : ℕ) → Counted core now → Counted (asked_clock core) now
 counted_asked core now c = record { later = c.later; within = c.within }
 
-keeps_asked : (core : Core) → KeepsBut None core (asked_clock core)
+pub keeps_asked : (core : Core) → KeepsBut None core (asked_clock core)
 keeps_asked core =
     record {
       unused = λ n other u. record { staged = u.staged; unpublished = u.unpublished; absent = u.absent; not_late = u.not_late };
@@ -84,7 +85,7 @@ keeps_asked core =
     }
 
 -- what the world keeps stays where the core went on from one whose clock was asked
-went_on : (old new : State) (core after : Core) (log : Log) (more : List Entry) (doubt : Bool) (now : ℕ) → IsWorld old core log → Counted core now → Onward old new core after log → Ends core after more doubt now → GoesOn None core after
+pub went_on : (old new : State) (core after : Core) (log : Log) (more : List Entry) (doubt : Bool) (now : ℕ) → IsWorld old core log → Counted core now → Onward old new core after log → Ends core after more doubt now → GoesOn None core after
 went_on old new core after log more doubt now w c o e =
     goes-on old new core after log w.stands_for o more e.history (let a = c.later in let b = e.faults in omega (arith, a, b)) (let a = greatest_rises core.moment more in let b = e.moment in omega (arith, a, b))
 
@@ -100,7 +101,7 @@ went_on_asked old new core after log more doubt now w c o e =
 
 -- ---- a transaction
 
-pub whole_appended : (old new : State) (core : Core) (log : Log) (act : Core → Act) (answer : Core → Result ⊤ Unmade) (more : List Entry) (doubt : Bool) (now : ℕ) →
+abbrev pub whole_appended : (old new : State) (core : Core) (log : Log) (act : Core → Act) (answer : Core → Result ⊤ Unmade) (more : List Entry) (doubt : Bool) (now : ℕ) →
     IsWorld old core log → 0 < length core.history → Counted core now → Transacted old new (asked_clock core) log act answer more doubt now → Whole (λ fate c. appended fate act c) None new core (asked_clock core) log answer more doubt now
 whole_appended old new core log act answer more doubt now w some c t =
     record {
@@ -114,7 +115,7 @@ whole_appended old new core log act answer more doubt now w some c t =
 
 -- ---- a call that only asks the clock
 
-pub whole_asked : (kept : State) (core : Core) (log : Log) → IsWorld kept core log → 0 < length core.history → IsTimely core → Whole asked None kept core (asked_clock core) log (λ after. Ok tt) [] core.unsure core.store_faults
+abbrev pub whole_asked : (kept : State) (core : Core) (log : Log) → IsWorld kept core log → 0 < length core.history → IsTimely core → Whole asked None kept core (asked_clock core) log (λ after. Ok tt) [] core.unsure core.store_faults
 whole_asked kept core log w some t =
     record {
       fate = record { unasked = false; first = calm_get; second = calm_get; third = calm_get };
@@ -146,7 +147,7 @@ pub record Looks (old new : State) (core : Core) (log : Log) (answer : Core → 
   pub ends : Ends core after more doubt now
   pub timely : IsTimely after
 
-abbrev copied : Bool → Core → Result ⊤ Trouble
+abbrev pub copied : Bool → Core → Result ⊤ Trouble
 copied true after = Err no_memory
 copied false after = Ok tt
 
@@ -185,10 +186,10 @@ looks_settled old new core log f now short t can s =
       timely = timely_more core s.after f now t can (settled_ends old new core log f now s);
     }
 
-abbrev fails_by : (Core → Trouble) → Core → Result ⊤ Trouble
+abbrev pub fails_by : (Core → Trouble) → Core → Result ⊤ Trouble
 fails_by trouble after = Err (trouble after)
 
-pub looks_unsettled : (old new : State) (core : Core) (log : Log) (trouble : Core → Trouble) (now : ℕ) → IsTimely core → core.unsure ≡ true → (u : Unsettled old new core log trouble now) →
+abbrev pub looks_unsettled : (old new : State) (core : Core) (log : Log) (trouble : Core → Trouble) (now : ℕ) → IsTimely core → core.unsure ≡ true → (u : Unsettled old new core log trouble now) →
     Looks old new core log (fails_by trouble) [] true now
 looks_unsettled old new core log trouble now t doubt u =
     record {
@@ -205,7 +206,7 @@ looks_unsettled old new core log trouble now t doubt u =
 abbrev with_copy : Call → Call → Bool → Fate
 with_copy first second short = record { unasked = false; first = first; second = second; third = quiet [] 0 short }
 
-pub whole_looked : (old new : State) (core : Core) (log : Log) (answer : Core → Result ⊤ Trouble) (more : List Entry) (doubt : Bool) (now : ℕ) →
+abbrev pub whole_looked : (old new : State) (core : Core) (log : Log) (answer : Core → Result ⊤ Trouble) (more : List Entry) (doubt : Bool) (now : ℕ) →
     IsWorld old core log → 0 < length core.history → Counted core now → Looks old new core log answer more doubt now → Whole looked None new core core log answer more doubt now
 whole_looked old new core log answer more doubt now w some c l =
     record {
@@ -217,7 +218,7 @@ whole_looked old new core log answer more doubt now w some c l =
       stands = stands_behind new core l.after log more doubt now some l.onward.world l.timely l.ends;
     }
 
-pub whole_asked_and_looked : (old new : State) (core : Core) (log : Log) (answer : Core → Result ⊤ Trouble) (more : List Entry) (doubt : Bool) (now : ℕ) →
+abbrev pub whole_asked_and_looked : (old new : State) (core : Core) (log : Log) (answer : Core → Result ⊤ Trouble) (more : List Entry) (doubt : Bool) (now : ℕ) →
     IsWorld old core log → 0 < length core.history → Counted core now → Looks old new (asked_clock core) log answer more doubt now → Whole asked_and_looked None new core (asked_clock core) log answer more doubt now
 whole_asked_and_looked old new core log answer more doubt now w some c l =
     record {

@@ -1,42 +1,38 @@
 -- The whole calls of a world that create or read a file, and the reading of its journal anew.
-use Rattle.std.proofs.Common.{◌≡◌, ℕ, ◌+◌, ◌-◌, ◌<◌, ◌≤◌, ◌^◌, List, [], ◌∷◌, ◌++◌, refl, sym, ap, ◌∙◌, subst, Bool, true, false, length, arith, lit<, fold}
-use Rattle.std.proofs.lemmas.List.{length-append}
+use Rattle.std.proofs.Common.{◌≡◌, ℕ, ◌+◌, ◌<◌, ◌≤◌, ◌^◌, List, [], ◌∷◌, ◌++◌, refl, sym, ap, ◌∙◌, subst, Bool, true, false, length, arith, lit<, fold}
 use Rattle.std.proofs.lemmas.Bool.{eqb-true, eqb-false}
 use Rattle.std.specs.FinMap.{get}
-use Rattle.std.specs.Prelude.{Option, Some, None, is_some, IsSome, Result, Ok, Err, max, ⊤, ◌==◌}
-use Rattle.byte_fields.specs.Causes.{Rose}
+use Rattle.std.specs.Prelude.{Option, Some, None, is_some, Result, Ok, ⊤, ◌==◌}
 use Rattle.meta_journal.specs.Journal.{IsCorrupt}
 use Rattle.meta_journal.specs.Loading.{IsForeign}
-use Rattle.meta_journal.specs.Places.{meta_key, split_key, numbered, HasEntry, Stand, IsJournal}
+use Rattle.meta_journal.specs.Places.{meta_key, HasEntry, Stand, IsJournal}
 use Rattle.meta_journal.specs.Spelling.{Spells}
 use Rattle.meta_journal.specs.declared.entry.Entry.{Entry}
 use Rattle.meta_store.specs.History.{History, history, moment_of}
 use Rattle.meta_store.specs.History.{history as told}
 use Rattle.meta_store.specs.History.History.{Start, ◌▸◌}
-use Rattle.meta_store.specs.State.{state_of}
 use Rattle.object_store.specs.Store.{State, HasLanded}
 use Rattle.source_log.specs.Log.{Log}
-use Rattle.index_world.specs.Calls.{Call, Fate, Gives, gives, Trouble, no_memory, Unread, not_read, store_failed, asked_clock, file_got, fetched, loaded, upload_made}
+use Rattle.index_world.specs.Calls.{Call, Fate, gives, Trouble, asked_clock, file_got, fetched, loaded, upload_made}
 use Rattle.index_world.specs.Core.{Core, KeepsBut, IsUploadedIn, journal_of}
-use Rattle.index_world.specs.Index.{IsIndexOf, IsUnused, IsUploaded, max_entries, is_meta}
-use Rattle.index_world.specs.World.{IsWorld, IsTimely, WorldStands, GoesOn}
-use Rattle.index_world.specs.Onward.{Onward}
-use Rattle.index_world.proofs.StoreKeys.{true_is_false, none_some, meta_begins}
-use Rattle.index_world.proofs.Journals.{stand-of, Stand-at, journal-end}
+use Rattle.index_world.specs.Index.{IsIndexOf, IsUploaded}
+use Rattle.index_world.specs.World.{IsWorld, IsTimely, WorldStands}
+use Rattle.index_world.proofs.StoreKeys.{true_is_false, meta_begins}
+use Rattle.index_world.proofs.Journals.{stand-of, Stand-at}
 use Rattle.index_world.proofs.Asking.{timely_asked}
 use Rattle.index_world.proofs.InCore.{keeps_all, keeps_others, uploaded-in}
 use Rattle.index_world.proofs.JournalCalls.{Counted, Begun}
 use Rattle.index_world.proofs.JournalLaws.{appends_short}
-use Rattle.index_world.proofs.FileCalls.{one_call, UploadLaw, LoadLaw, UnreadLaw, load_answer}
+use Rattle.index_world.proofs.FileCalls.{one_call, UploadLaw, LoadLaw, load_answer}
 use Rattle.index_world.proofs.Transacting.{Ends, ends_same, timely_same}
-use Rattle.index_world.proofs.WholeCalls.{Whole, keeping_of, stands_behind, world_asked, counted_asked, went_on_asked}
+use Rattle.index_world.proofs.WholeCalls.{Whole, keeping_of, stands_behind, went_on_asked}
 
 -- ---- an upload
 
-upload_ends : (old new : State) (core : Core) (log : Log) (n : ℕ) (bytes : List ℕ) (answer : Core → Result ⊤ Trouble) (now : ℕ) (u : UploadLaw old new core log n bytes answer now) → Ends core u.after [] core.unsure now
+pub upload_ends : (old new : State) (core : Core) (log : Log) (n : ℕ) (bytes : List ℕ) (answer : Core → Result ⊤ Trouble) (now : ℕ) (u : UploadLaw old new core log n bytes answer now) → Ends core u.after [] core.unsure now
 upload_ends old new core log n bytes answer now u = ends_same core u.after core.unsure now u.history u.faults u.moment u.clock u.unsure
 
-pub whole_upload : (old new : State) (core : Core) (log : Log) (n : ℕ) (bytes : List ℕ) (answer : Core → Result ⊤ Trouble) (now : ℕ) →
+abbrev pub whole_upload : (old new : State) (core : Core) (log : Log) (n : ℕ) (bytes : List ℕ) (answer : Core → Result ⊤ Trouble) (now : ℕ) →
     IsWorld old core log → 0 < length core.history → IsTimely core → Counted core now → UploadLaw old new core log n bytes answer now →
     Whole (λ fate c. upload_made fate n bytes c) (Some n) new core core log answer [] core.unsure now
 whole_upload old new core log n bytes answer now w some t c u =
@@ -69,7 +65,7 @@ pub record Fetches (old new : State) (core : Core) (log : Log) (answer : Core �
   pub did : file_got call (asked_clock core) ≡ gives (answer after) after
   pub begun : Begun old new (asked_clock core) after log now
 
-pub whole_fetched : (old new : State) (core : Core) (log : Log) (answer : Core → Result ⊤ Trouble) (now : ℕ) →
+abbrev pub whole_fetched : (old new : State) (core : Core) (log : Log) (answer : Core → Result ⊤ Trouble) (now : ℕ) →
     IsWorld old core log → 0 < length core.history → IsTimely core → Counted core now → Fetches old new core log answer now →
     Whole fetched None new core (asked_clock core) log answer [] core.unsure now
 whole_fetched old new core log answer now w some t c f =
@@ -111,11 +107,11 @@ pub record Reborn (new : State) (core : Core) (log : Log) (read : List Entry) (n
   pub unsure : after.unsure ≡ false
   pub stands : WorldStands (keeping_of new after) after log
 
-ok_of : (es : List Entry) → 0 < length es → load_answer es ≡ Ok tt
+pub ok_of : (es : List Entry) → 0 < length es → load_answer es ≡ Ok tt
 ok_of [] some = absurd (omega (arith, some))
 ok_of (e ∷ es) some = refl
 
-pub whole_loaded : (old mid new : State) (core : Core) (log : Log) (read : List Entry) (now : ℕ) → IsWorld old core log → core.clock < 2 ^ 62 → 0 < length read → LoadLaw old new core log read (load_answer read) now → IsJournal mid read →
+abbrev pub whole_loaded : (old mid new : State) (core : Core) (log : Log) (read : List Entry) (now : ℕ) → IsWorld old core log → core.clock < 2 ^ 62 → 0 < length read → LoadLaw old new core log read (load_answer read) now → IsJournal mid read →
     Reborn new core log read now
 whole_loaded old mid new core log read now w clock some l j =
     record {
@@ -144,6 +140,7 @@ whole_loaded old mid new core log read now w clock some l j =
         meta = refl;
         next = refl;
         unsure = refl;
+        awake = refl;
         opened = let e = ap length l.history in omega (arith, e, some);
       };
     }

@@ -1,11 +1,9 @@
 -- The world's invariant through a create behind the journal, an upload, a get and the taking in of what stands unread.
-use Rattle.std.proofs.Common.{◌≡◌, ◌⊎◌, ℕ, zero, suc, ◌<◌, ◌≤◌, ◌+◌, List, [], ◌∷◌, ◌++◌, refl, sym, ap, ◌∙◌, subst, inl, inr, Bool, true, false, length, arith, map}
-use Rattle.std.proofs.lemmas.List.{length-append, map-append}
-use Rattle.std.specs.FinMap.{get, insert}
-use Rattle.std.specs.List.{AllByRecursion}
-use Rattle.std.specs.Prelude.{Option, Some, None, is_some, IsSome, Result, Ok, Err, max}
-use Rattle.meta_journal.specs.Places.{meta_key, split_key, IsJournal}
-use Rattle.meta_journal.specs.Spelling.{Spells, CanSpell, spelling}
+use Rattle.std.proofs.Common.{◌≡◌, ℕ, ◌<◌, List, [], ◌∷◌, ◌++◌, refl, sym, ap, ◌∙◌, subst, Bool, true, length, arith}
+use Rattle.std.proofs.lemmas.List.{map-append}
+use Rattle.std.specs.Prelude.{Option, Some, None}
+use Rattle.meta_journal.specs.Places.{meta_key, split_key}
+use Rattle.meta_journal.specs.Spelling.{Spells, CanSpell}
 use Rattle.meta_journal.specs.declared.entry.Act.TheVariants.{Stage}
 use Rattle.meta_journal.specs.declared.entry.Entry.{Entry}
 use Rattle.object_store.specs.Store.{State, with_object, with_late}
@@ -15,17 +13,16 @@ use Rattle.split_states.specs.declared.facts.RowFacts.{RowFacts}
 use Rattle.index_world.specs.Calls.{tried, taken_in, with_file}
 use Rattle.index_world.specs.Calls as calls
 use Rattle.index_world.specs.Core.{Core, Late, late_entry, late_dead, late_file, with_unread, journal_of}
-use Rattle.index_world.specs.Index.{IsIndexOf, MayEnter, IsUnused, IsUploaded, HasStaged, is_meta}
+use Rattle.index_world.specs.Index.{IsIndexOf, MayEnter, IsUnused, IsUploaded, HasStaged}
 use Rattle.index_world.specs.Standing.{late_object, IsCalled, StandsFor}
 use Rattle.index_world.specs.World.{IsWorld}
 use Rattle.index_world.specs.Held.{KeepsHeld, KeepsOthers, Still, Enters}
 use Rattle.index_world.specs.Onward.{Onward}
-use Rattle.index_world.proofs.StoreKeys.{true_is_false, meta_begins, split_outside}
-use Rattle.index_world.proofs.Journals.{journal-end}
+use Rattle.index_world.proofs.StoreKeys.{meta_begins, split_outside}
 use Rattle.index_world.proofs.StoreChanges.{All-snoc, All-each}
-use Rattle.index_world.proofs.Indexing.{Object, longer, journal_late, journal_other, index-enters, index-tried, index-dead}
+use Rattle.index_world.proofs.Indexing.{longer, journal_other, index-enters, index-tried, index-dead}
 use Rattle.index_world.proofs.StoreCalls.{file-stands, file-late}
-use Rattle.index_world.proofs.Landing.{files_more, files_same, journal_none, journal_some, standing_number}
+use Rattle.index_world.proofs.Landing.{files_more, files_same, journal_some}
 use Rattle.index_world.proofs.Worlds.{held-refl, journal_is_history}
 
 -- ---- an entry comes to stand behind the history

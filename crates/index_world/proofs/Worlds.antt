@@ -1,19 +1,17 @@
 -- The world's invariant through what lands, and through changes of a core that leave its store.
-use Rattle.std.proofs.Common.{◌≡◌, ◌⊎◌, ℕ, zero, suc, ◌<◌, ◌≤◌, ◌+◌, List, [], ◌∷◌, ◌++◌, refl, sym, ap, ◌∙◌, subst, inl, inr, Bool, true, false, length, arith, map}
-use Rattle.std.proofs.lemmas.List.{length-append}
+use Rattle.std.proofs.Common.{◌≡◌, ℕ, List, [], ◌∷◌, ◌++◌, refl, sym, ap, ◌∙◌, subst, inl, inr, Bool, true, false, length, arith}
 use Rattle.std.proofs.lemmas.Option.{slice_get-map}
 use Rattle.std.specs.FinMap.{get}
-use Rattle.std.specs.List.{AllByRecursion}
-use Rattle.std.specs.Prelude.{Option, Some, None, slice_get, remove, is_some, ◌==◌, option_map}
+use Rattle.std.specs.Prelude.{Option, Some, None, slice_get, is_some, ◌==◌, option_map}
 use Rattle.meta_journal.specs.declared.entry.Entry.{Entry}
-use Rattle.object_store.specs.Store.{State, landed, land_one, land_where}
+use Rattle.object_store.specs.Store.{State, landed, land_one}
 use Rattle.source_log.specs.Log.{Log}
-use Rattle.index_world.specs.Calls.{Call, all_landed, land_at, late_lands, entry_lands, file_lands, without_late, begun, risen}
+use Rattle.index_world.specs.Calls.{all_landed, land_at, late_lands, entry_lands, file_lands, without_late}
 use Rattle.index_world.specs.Core.{Core, Late, late_entry, late_dead, late_file, late_key, file_at, with_unread, journal_of}
 use Rattle.index_world.specs.Index.{OneEntry, IsIndexOf, MayEnter}
-use Rattle.index_world.specs.Standing.{late_object, IsCalled, StandsFor}
+use Rattle.index_world.specs.Standing.{late_object, StandsFor}
 use Rattle.index_world.specs.World.{IsWorld}
-use Rattle.index_world.specs.Held.{KeepsHeld, Still, Enters, NoneAtEnd}
+use Rattle.index_world.specs.Held.{KeepsHeld}
 use Rattle.index_world.specs.Onward.{Onward, SameLife, Landing}
 use Rattle.index_world.proofs.Journals.{one-journal}
 use Rattle.index_world.proofs.Indexing.{Lands, lands-one, longer, held-trans}

@@ -12,7 +12,7 @@ use Rattle.meta_store.specs.State.{state_of, config_of, reading_of}
 use Rattle.meta_store.specs.declared.refusal.Refusal.{Refusal}
 use Rattle.index_world.specs.Config.{reads}
 use Rattle.index_world.specs.Index.{max_entries}
-use Rattle.index_world.specs.Core.{File, file_at, Late, late_entry, late_dead, late_file, Core, last_count}
+use Rattle.index_world.specs.Core.{file_at, Late, late_entry, late_dead, late_file, Core, last_count}
 
 -- The fate of one store call: which late creates come to stand before it works, by their places in the list of those that
 -- are still late; whether it fails, and if so whether what it makes stands at once; by how much the store's count rises;

@@ -1,38 +1,90 @@
 -- What the calls of a gate to a world say.
-use Rattle.std.specs.Prelude.{◌≡◌, ◌+◌, ℕ, List, Option, Result, Ok, Err, ⊤}
+use Rattle.std.specs.Prelude.{◌≡◌, ◌+◌, ◌<◌, true, ℕ, List, [], length, map, filter, nat_lt, Option, Result, Ok, Err, ⊤}
+use Rattle.object_store.specs.Store.{State, IsPieceOf}
 use Rattle.meta_journal.specs.declared.entry.Act.{Act}
 use Rattle.meta_journal.specs.declared.entry.Act.TheVariants.{Stage, Publish}
-use Rattle.meta_store.specs.History.{history, last_number}
+use Rattle.meta_store.specs.History.{History, history, last_number, tasks_of}
+use Rattle.meta_store.specs.Rows.{rows}
+use Rattle.meta_store.specs.State.{checkpoints_of}
+use Rattle.delete_tasks.specs.Ledger.{last_of}
+use Rattle.object_store.specs.declared.store.Piece.{Piece}
 use Rattle.source_checkpoint.specs.declared.delta.Part.{Part}
 use Rattle.source_log.specs.Log.{Log}
+use Rattle.split_states.specs.Rows.{is_published}
 use Rattle.split_states.specs.declared.facts.RowFacts.{RowFacts}
-use Rattle.index_world.specs.Core.{Core, IsUnusedIn, IsUploadedIn, HasStagedIn}
-use Rattle.index_world.specs.Index.{IsMade}
-use Rattle.index_world.specs.Calls.{Fate, Gives, gives, Unmade, appended}
-use Rattle.index_world.specs.World.{GoesOn}
+use Rattle.split_states.specs.declared.rows.Row.{Row}
+use Rattle.index_world.specs.declared.planning.Choice.{Choice}
+use Rattle.index_world.specs.declared.planning.Choice.TheVariants as choices
+use Rattle.index_world.specs.declared.planning.PlanRow.{PlanRow}
+use Rattle.index_world.specs.declared.tokens.Marks.{Marks}
+use Rattle.index_world.specs.declared.tokens.Plan.{Plan}
+use Rattle.index_world.specs.declared.tokens.Staged.{Staged}
+use Rattle.index_world.specs.declared.tokens.Uploaded.{Uploaded}
+use Rattle.index_world.specs.declared.world_error.WorldError.{WorldError}
+use Rattle.index_world.specs.declared.world_error.WorldError.TheVariants as errors
+use Rattle.index_world.specs.Core.{Core, journal_of, IsUnusedIn, IsUploadedIn, HasStagedIn}
+use Rattle.index_world.specs.Index.{has_staged, IsMade}
+use Rattle.index_world.specs.Calls.{Fate, Gives, gives, Trouble, faulted, no_memory, store_fault, is_foreign, is_full, Unmade, refused, troubled, appended}
+use Rattle.index_world.specs.World.{IsWorld, IsTimely, GoesOn}
 
-abbrev pub done : {E A : Type 0} → Result A E → Result ⊤ E
-done (Ok a) = Ok tt
-done (Err e) = Err e
+-- ---- what an error is in the words of the core
 
-abbrev pub Answers : {E A : Type 0} → (A → Core → Type 0) → Result A E → Core → Type 0
-Answers holds (Ok a) after = holds a after
-Answers holds (Err e) after = Unit {0}
+-- over a sound index no key is missing, no entry is corrupt, and the journal has an entry
+abbrev pub IsTrouble : WorldError → Trouble → Type 0
+IsTrouble (errors.Memory e) trouble = trouble ≡ no_memory
+IsTrouble (errors.Refused refusal) trouble = ⊥
+IsTrouble (errors.StoreFault before after) trouble = trouble ≡ faulted (store_fault before after)
+IsTrouble (errors.Missing key) trouble = ⊥
+IsTrouble (errors.Corrupt key) trouble = ⊥
+IsTrouble (errors.Foreign key) trouble = trouble ≡ faulted (is_foreign key)
+IsTrouble errors.Full trouble = trouble ≡ faulted is_full
+IsTrouble errors.NoIndex trouble = ⊥
 
--- A call of a gate did this to the core that it stands for. `Between` are the events of other actors before the call's turn,
--- `seen` is its answer in the words of the core, and the core behind it has what was answered.
+abbrev pub IsUnmade : WorldError → Unmade → Type 0
+IsUnmade error (refused refusal) = error ≡ errors.Refused refusal
+IsUnmade error (troubled trouble) = IsTrouble error trouble
+
+-- an answer of the code is this answer of the core
+abbrev pub Says : {E A : Type 0} → (WorldError → E → Type 0) → (A → Core → Type 0) → Result A WorldError → Result ⊤ E → Core → Type 0
+Says is holds (Ok a) (Ok done) after = holds a after
+Says is holds (Ok a) (Err e) after = ⊥
+Says is holds (Err error) (Ok done) after = ⊥
+Says is holds (Err error) (Err e) after = is error e
+
+-- A call of a gate did this to the core that it stands for. `Between` are the events of other actors before the call's turn;
+-- with some fate the call is the core's own, what it answered holds of the core behind it, and the gate stands for that.
 pub record Does {W E A : Type 0} (Stands : W → Core → Log → Type 0) (Between : Core → Core → Type 0) (one : Option ℕ) (call : Fate → Core → Gives E ⊤)
-    (seen : Result A E) (Holds : A → Core → Type 0) (core : Core) (log : Log) (new : W) : Type 0 where
+    (is : WorldError → E → Type 0) (holds : A → Core → Type 0) (result : Result A WorldError) (core : Core) (log : Log) (new : W) : Type 0 where
   pub mid : Core
   pub passed : Between core mid
   pub fate : Fate
+  pub answer : Result ⊤ E
   pub after : Core
-  pub did : call fate mid ≡ gives (done seen) after
-  pub has : Answers Holds seen after
+  pub did : call fate mid ≡ gives answer after
+  pub says : Says is holds result answer after
   pub goes_on : GoesOn one core after
   pub stands : Stands new after log
 
--- ---- what each call is
+-- what stands behind a gate: a store that is an index, with this core
+pub record IsSoundCore (core : Core) (log : Log) : Type 0 where
+  pub kept : State
+  pub world : IsWorld kept core log
+  pub timely : IsTimely core
+  pub opened : 0 < length core.history
+
+-- no other actor came between
+abbrev pub NoneBetween : Core → Core → Type 0
+NoneBetween core mid = mid ≡ core
+
+-- ---- what each call is, and what holds of its answer
+
+pub record AreMarks (marks : Marks) (core : Core) : Type 0 where
+  pub checkpoints : marks.checkpoints.items ≡ checkpoints_of (history core.history)
+  pub opstamp : marks.opstamp ≡ last_of (tasks_of (history core.history))
+  pub revision : marks.revision ≡ length core.history
+
+abbrev pub IsMoment : ℕ → Core → Type 0
+IsMoment moment core = moment ≡ core.moment
 
 -- the Stage of a state: the number behind the greatest
 abbrev pub stage_act : List Part → RowFacts → Core → Act
@@ -41,13 +93,24 @@ stage_act delta facts core = Stage (last_number (history core.history) + 1) delt
 abbrev pub stage_call : List Part → RowFacts → Fate → Core → Gives Unmade ⊤
 stage_call delta facts fate core = appended fate (stage_act delta facts) core
 
-abbrev pub publish_call : ℕ → Fate → Core → Gives Unmade ⊤
-publish_call number fate core = appended fate (λ c. Publish number) core
-
 -- a staged number in hand, and what it was staged with
 pub record IsStagedIn (delta : List Part) (facts : RowFacts) (core : Core) (number : ℕ) : Type 0 where
   pub unused : IsUnusedIn core number
   pub staged : HasStagedIn core number delta facts
+
+-- the number is above each that was staged before
+pub record WasStaged (before : Core) (delta : List Part) (facts : RowFacts) (staged : Staged) (core : Core) : Type 0 where
+  pub number : staged.number ≡ last_number (history core.history)
+  pub apart : (n : ℕ) → has_staged (journal_of before) n ≡ true → n < staged.number
+  pub opstamp : staged.opstamp ≡ last_of (tasks_of (history core.history))
+  pub in_hand : IsStagedIn delta facts core staged.number
+
+pub record WasUploaded (number : ℕ) (bytes : List ℕ) (given : Uploaded) (core : Core) : Type 0 where
+  pub same : given.number ≡ number
+  pub in_hand : IsUploadedIn core number bytes
+
+abbrev pub publish_call : ℕ → Fate → Core → Gives Unmade ⊤
+publish_call number fate core = appended fate (λ c. Publish number) core
 
 -- an uploaded number in hand, whose file was made from the log
 pub record IsPublishable (log : Log) (core : Core) (number : ℕ) : Type 0 where
@@ -57,3 +120,27 @@ pub record IsPublishable (log : Log) (core : Core) (number : ℕ) : Type 0 where
   pub staged : HasStagedIn core number delta facts
   pub made : IsMade log delta facts bytes
   pub uploaded : IsUploadedIn core number bytes
+
+abbrev pub IsRevision : ℕ → Core → Type 0
+IsRevision revision core = revision ≡ length core.history
+
+-- the rows that a search works on: published, with a document
+abbrev pub searched_rows : History → List Row
+searched_rows h = filter (λ row. nat_lt 0 row.facts.docs) (filter (λ row. is_published row.state) (rows h))
+
+abbrev pub rows_for : Choice → History → List Row
+rows_for choices.Search h = searched_rows h
+rows_for choices.Look h = []
+
+abbrev pub planned_row : Row → PlanRow
+planned_row row = record { number = row.number; spans = row.spans; facts = row.facts }
+
+pub record IsPlan (choice : Choice) (plan : Plan) (core : Core) : Type 0 where
+  pub revision : plan.revision ≡ length core.history
+  pub moment : plan.moment ≡ core.moment
+  pub upto : plan.upto ≡ last_of (tasks_of (history core.history))
+  pub rows : plan.rows ≡ map planned_row (rows_for choice (history core.history))
+
+-- these are so many bytes of the file from a place on, and its size
+abbrev pub IsPieceGiven : List ℕ → ℕ → ℕ → Piece → Core → Type 0
+IsPieceGiven bytes from len piece core = IsPieceOf bytes from len piece

@@ -1,5 +1,5 @@
 -- What this index takes of the log, and what is seen of it.
-use Rattle.std.specs.Prelude.{ℕ, suc, Bool, false, List, [], ◌∷◌, Option, Some, None, ◌-◌, ◌+◌, ◌++◌, take, filter, flat_map}
+use Rattle.std.specs.Prelude.{ℕ, suc, Bool, false, List, [], ◌∷◌, Option, Some, None, ◌-◌, ◌+◌, take, filter, flat_map}
 use Rattle.doc_value.specs.declared.doc.DocField.{DocField}
 use Rattle.source_checkpoint.specs.declared.delta.Part.{Part}
 use Rattle.source_log.specs.Log.{Log}

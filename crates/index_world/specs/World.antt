@@ -1,5 +1,5 @@
 -- What holds of a store and of the core that stands for it, from one call of the world to the next.
-use Rattle.std.specs.Prelude.{◌≡◌, ◌≤◌, ◌<◌, ◌^◌, ℕ, Bool, true, List, ◌++◌, length, Option, Some}
+use Rattle.std.specs.Prelude.{◌≡◌, ◌≤◌, ◌<◌, ◌^◌, ℕ, Bool, true, false, List, ◌++◌, length, Option, Some}
 use Rattle.meta_journal.specs.declared.entry.Entry.{Entry}
 use Rattle.meta_store.specs.History.{history, moment_of}
 use Rattle.object_store.specs.Store.{State}
@@ -23,8 +23,8 @@ pub record IsTimely (core : Core) : Type 0 where
   pub clock : core.clock < 2 ^ 62
   pub room : core.unsure ≡ true → length core.history < max_entries
 
--- what a world keeps: the count of its store, what its clock tells, its moment, its state, the number behind the entries
--- that it took in, and whether that one is unsure
+-- what a world keeps: what its store tells and counts, what its clock tells, its moment, its state, the number behind the
+-- entries that it took in, whether that one is unsure, and whether the clock is asked no more
 pub record Keeping : Type 0 where
   pub told : Option State
   pub store_faults : ℕ
@@ -33,8 +33,9 @@ pub record Keeping : Type 0 where
   pub meta : meta.State
   pub next : ℕ
   pub unsure : Bool
+  pub frozen : Bool
 
--- a world that keeps this stands for the core, over the log
+-- a world that keeps this stands for the core, over the log; a frozen one stands for none
 pub record WorldStands (keeping : Keeping) (core : Core) (log : Log) : Type 0 where
   pub kept : State
   pub told : keeping.told ≡ Some kept
@@ -46,6 +47,7 @@ pub record WorldStands (keeping : Keeping) (core : Core) (log : Log) : Type 0 wh
   pub meta : keeping.meta ≡ meta.state_of reads (history core.history)
   pub next : keeping.next ≡ length core.history
   pub unsure : keeping.unsure ≡ core.unsure
+  pub awake : keeping.frozen ≡ false
   -- an index that was opened has an entry
   pub opened : 0 < length core.history
 

@@ -1,26 +1,39 @@
 //! What the actors of an index ask of its world.
 
-ghost use Rattle.std.specs.Prelude.{◌≡◌, ◌<◌, ◌^◌, IfOk, length};
+ghost use Rattle.std.specs.Prelude.{◌≡◌, ◌<◌, ◌^◌, ℕ, List, IfOk, length, slice_get, None, Some};
 ghost use Rattle.meta_journal.specs.Spelling.{CanSpellFacts};
+ghost use Rattle.source_log.specs.Log.{Log};
+ghost use Rattle.index_world.specs.Calls.{asked, looked, asked_and_looked, fetched, upload_made};
+ghost use Rattle.index_world.specs.Core.{Core, IsUnusedIn, IsUploadedIn};
+ghost use Rattle.index_world.specs.Gate.{Does, IsSoundCore, IsTrouble, IsUnmade, AreMarks, IsMoment, stage_call, WasStaged, WasUploaded, publish_call, IsPublishable, IsRevision, IsPlan, IsPieceGiven};
+ghost use Rattle.index_world.specs.declared.planning.PlanRow.{PlanRow};
 
 use crate::planning::Choice;
 use crate::tokens::{Marks, Plan, Staged, Uploaded};
-use crate::world::World;
 use crate::world_error::WorldError;
-use clock_time::Clock;
-use object_store::{ObjectStore, Piece};
+use object_store::Piece;
 use source_checkpoint::Delta;
 use split_states::RowFacts;
 use std::alloc::Global;
 
 /// The calls of the actors to one world. Each is one event.
 pub trait Gate {
+    /// It stands for a core over a log.
+    ghost Stands: { Self → Core → Log → Type 0 };
+
+    /// What other actors may do before the turn of a call.
+    ghost Between: { Core → Core → Type 0 };
+
     /// The checkpoints, the last opstamp and the revision.
-    fn checkpoints(&mut self, alloc: Global) -> Result<Marks, WorldError>;
+    fn checkpoints(&mut self, alloc: Global) -> Result<Marks, WorldError>
+        ensures { (core : Core) (log : Log) → Stands self.old core log →
+            Does Stands Between None looked IsTrouble AreMarks result core log self.new };
 
     /// Asks the clock, and gives the greatest moment.
     fn moment(&mut self, alloc: Global) -> Result<u64, WorldError>
-        ensures { IfOk result (λ moment. moment < 2 ^ 62) };
+        ensures below { IfOk result (λ moment. moment < 2 ^ 62) }
+        ensures step { (core : Core) (log : Log) → Stands self.old core log →
+            Does Stands Between None asked IsTrouble IsMoment result core log self.new };
 
     /// Stages a split file of these parts with these facts, under the next number.
     fn stage(
@@ -29,7 +42,9 @@ pub trait Gate {
         delta: &Delta,
         facts: &RowFacts,
     ) -> Result<Staged, WorldError>
-        requires { CanSpellFacts facts.now };
+        requires { CanSpellFacts facts.now }
+        ensures { (core : Core) (log : Log) → Stands self.old core log →
+            Does Stands Between None (stage_call delta.now facts.now) IsUnmade (WasStaged core delta.now facts.now) result core log self.new };
 
     /// Makes the file of a staged row.
     fn upload(
@@ -37,13 +52,20 @@ pub trait Gate {
         alloc: Global,
         staged: Staged,
         content: &[u8],
-    ) -> Result<Uploaded, WorldError>;
+    ) -> Result<Uploaded, WorldError>
+        ensures { (core : Core) (log : Log) → Stands self.old core log → IsUnusedIn core staged.number →
+            Does Stands Between (Some staged.number) (λ fate c. upload_made fate staged.number content.now c) IsTrouble
+            (WasUploaded staged.number content.now) result core log self.new };
 
     /// Publishes an uploaded file: its checkpoints move with it. Gives the revision.
-    fn publish(&mut self, alloc: Global, uploaded: Uploaded) -> Result<u64, WorldError>;
+    fn publish(&mut self, alloc: Global, uploaded: Uploaded) -> Result<u64, WorldError>
+        ensures { (core : Core) (log : Log) → Stands self.old core log → IsPublishable log core uploaded.number →
+            Does Stands Between None (publish_call uploaded.number) IsUnmade IsRevision result core log self.new };
 
     /// Plans rows over the newest state.
-    fn plan(&mut self, alloc: Global, choice: Choice) -> Result<Plan, WorldError>;
+    fn plan(&mut self, alloc: Global, choice: Choice) -> Result<Plan, WorldError>
+        ensures { (core : Core) (log : Log) → Stands self.old core log →
+            Does Stands Between None asked_and_looked IsTrouble (IsPlan choice) result core log self.new };
 
     /// Bytes of a planned row's file, from a place on, as many as there are up to `len`.
     fn fetch(
@@ -54,69 +76,14 @@ pub trait Gate {
         from: u64,
         len: u64,
     ) -> Result<Piece, WorldError>
-        requires { place < length plan.now.rows };
-}
+        requires { place < length plan.now.rows }
+        ensures { (core : Core) (log : Log) (row : PlanRow) (bytes : List ℕ) → Stands self.old core log →
+            slice_get plan.now.rows place ≡ Some row → IsUploadedIn core row.number bytes →
+            Does Stands Between None fetched IsTrouble (IsPieceGiven bytes from len) result core log self.new };
 
-/// A world that is lent.
-pub struct Direct<'a, S: ObjectStore, C: Clock> {
-    world: &'a mut World<S, C>,
-}
+    /// What stands behind it is a sound index.
+    ghost is_sound: { (gate : Self) (core : Core) (log : Log) → Stands gate core log → IsSoundCore core log };
 
-impl<'a, S: ObjectStore, C: Clock> Direct<'a, S, C> {
-    pub fn over(world: &'a mut World<S, C>) -> Direct<'a, S, C> {
-        Direct { world }
-    }
-}
-
-impl<'a, S: ObjectStore, C: Clock> Drop for Direct<'a, S, C> {
-    fn drop(self) {
-        let Direct { world: _ } = self;
-    }
-}
-
-impl<'a, S: ObjectStore, C: Clock> Gate for Direct<'a, S, C> {
-    fn checkpoints(&mut self, alloc: Global) -> Result<Marks, WorldError> {
-        self.world.checkpoints(alloc)
-    }
-
-    fn moment(&mut self, _alloc: Global) -> Result<u64, WorldError> {
-        self.world.moment()
-    }
-
-    fn stage(
-        &mut self,
-        alloc: Global,
-        delta: &Delta,
-        facts: &RowFacts,
-    ) -> Result<Staged, WorldError> {
-        self.world.stage(alloc, delta, facts)
-    }
-
-    fn upload(
-        &mut self,
-        alloc: Global,
-        staged: Staged,
-        content: &[u8],
-    ) -> Result<Uploaded, WorldError> {
-        self.world.upload(alloc, staged, content)
-    }
-
-    fn publish(&mut self, alloc: Global, uploaded: Uploaded) -> Result<u64, WorldError> {
-        self.world.publish(alloc, uploaded)
-    }
-
-    fn plan(&mut self, alloc: Global, choice: Choice) -> Result<Plan, WorldError> {
-        self.world.plan(alloc, choice)
-    }
-
-    fn fetch(
-        &mut self,
-        alloc: Global,
-        plan: &Plan,
-        place: u32,
-        from: u64,
-        len: u64,
-    ) -> Result<Piece, WorldError> {
-        self.world.fetch(alloc, plan, place, from, len)
-    }
+    /// There may be no other actor.
+    ghost none_between: { (core : Core) → Between core core };
 }

@@ -2,7 +2,7 @@
 
 ghost use Rattle.std.specs.Prelude.{◌≡◌, IfOk};
 ghost use Rattle.meta_journal.specs.Spelling.{CanSpellPart, CanSpellAct, AreAll};
-ghost use Rattle.index_world.specs.Owning.{CanOwn};
+ghost use Rattle.index_world.specs.Owning.{CanOwn, act_in};
 
 use meta_journal::Act;
 use meta_store::Meta;
@@ -52,7 +52,8 @@ fn copied_delta(alloc: Global, delta: &Delta) -> Result<Delta, AllocError>
 /// The act that a caller's own entry is in a state.
 pub fn act_of(alloc: Global, own: Own, meta: &Meta) -> Result<Act, AllocError>
     requires { CanOwn own }
-    ensures { IfOk result CanSpellAct }
+    ensures can { IfOk result CanSpellAct }
+    ensures same { IfOk result (λ act. act ≡ act_in own.entry meta.now.state) }
 {
     match own {
         Own::Stage(delta, facts) => {

@@ -1,6 +1,9 @@
 //! The rows that a caller works on.
 
-ghost use Rattle.std.specs.Prelude.{◌≡◌, ◌<◌, ◌++◌, ◌∷◌, [], length, slice_get, Some, OnOk, OnErr};
+ghost use Rattle.std.specs.Prelude.{◌≡◌, ◌<◌, ◌++◌, ◌∷◌, ◌&&◌, [], length, map, filter, nat_lt, slice_get, Some, OnOk, OnErr, IfOk};
+ghost use Rattle.split_states.specs.Rows.{is_published};
+ghost use Rattle.index_world.specs.Gate.{planned_row};
+ghost use Rattle.index_world.specs.Planning.{rows_in, searched_of};
 
 use source_checkpoint::Spans;
 use split_states::{Row, RowFacts, RowState, Rows};
@@ -71,7 +74,9 @@ impl PlanRows {
     }
 }
 
-fn copied_spans(alloc: Global, spans: &Spans) -> Result<Spans, AllocError> {
+fn copied_spans(alloc: Global, spans: &Spans) -> Result<Spans, AllocError>
+    ensures { IfOk result (λ copy. copy ≡ spans.now) }
+{
     let mut copy = Spans::vacant(alloc);
     for span in spans.as_slice() {
         copy.push(span.copy())?;
@@ -79,7 +84,9 @@ fn copied_spans(alloc: Global, spans: &Spans) -> Result<Spans, AllocError> {
     Ok(copy)
 }
 
-fn planned_row(alloc: Global, row: &Row) -> Result<PlanRow, AllocError> {
+fn planned(alloc: Global, row: &Row) -> Result<PlanRow, AllocError>
+    ensures { IfOk result (λ planned. planned ≡ planned_row row.now) }
+{
     Ok(PlanRow {
         number: row.number,
         spans: copied_spans(alloc, &row.spans)?,
@@ -88,20 +95,30 @@ fn planned_row(alloc: Global, row: &Row) -> Result<PlanRow, AllocError> {
 }
 
 // Whether a search works on the row.
-fn is_searched(row: &Row) -> bool {
+fn is_searched(row: &Row) -> bool
+    ensures { result ≡ (is_published row.now.state && nat_lt 0 row.now.facts.docs) }
+{
     row.state == RowState::Published && row.facts.docs > 0
 }
 
 /// The rows of a plan, by number.
-pub fn plan_rows(alloc: Global, rows: &Rows, choice: Choice) -> Result<PlanRows, AllocError> {
-    let mut planned = PlanRows::vacant(alloc);
-    if choice == Choice::Look {
-        return Ok(planned);
+pub fn plan_rows(alloc: Global, rows: &Rows, choice: Choice) -> Result<PlanRows, AllocError>
+    ensures { IfOk result (λ planned. planned ≡ map planned_row (rows_in choice rows.now.list)) }
+{
+    match choice {
+        Choice::Search => searched_rows(alloc, rows.as_slice()),
+        Choice::Look => Ok(PlanRows::vacant(alloc)),
     }
-    for row in rows.as_slice() {
+}
+
+fn searched_rows(alloc: Global, rows: &[Row]) -> Result<PlanRows, AllocError>
+    ensures { IfOk result (λ planned. planned ≡ map planned_row (searched_of rows.now)) }
+{
+    let mut list = PlanRows::vacant(alloc);
+    for row in rows {
         if is_searched(row) {
-            planned.push(planned_row(alloc, row)?)?;
+            list.push(planned(alloc, row)?)?;
         }
     }
-    Ok(planned)
+    Ok(list)
 }

@@ -1,21 +1,39 @@
 //! Taking entries in.
 
-ghost use Rattle.std.specs.Prelude.{◌≡◌, ◌<◌, ◌≤◌, ◌^◌, OnOk, IfOk, IsOk, vec_len};
+ghost use Rattle.std.specs.Prelude.{◌≡◌, ◌<◌, ◌≤◌, ◌^◌, OnOk, IfOk, IfErr, IsOk, Some, vec_len};
+ghost use Rattle.std.specs.List.{AllByRecursion};
+ghost use Rattle.index_world.specs.Index.{max_entries};
 ghost use Rattle.meta_journal.specs.declared.place.Place.TheVariants.{Sure};
 ghost use Rattle.meta_store.specs.Answers.{answer_to};
+ghost use Rattle.meta_store.specs.History.{history};
+ghost use Rattle.meta_store.specs.History as told;
 ghost use Rattle.meta_store.specs.Room.{HasRoom};
+ghost use Rattle.meta_store.specs.State.{Legal};
+ghost use Rattle.meta_store.specs.State as spec;
+ghost use Rattle.object_store.specs.Store.{State};
+ghost use Rattle.source_log.specs.Log.{Log};
+ghost use Rattle.index_world.specs.Config.{reads};
+ghost use Rattle.index_world.specs.Core.{Core};
+ghost use Rattle.index_world.specs.Life.{Opening};
+ghost use Rattle.index_world.specs.Taking.{IsWant, IsUnprepared, of_create, of_get, of_journal};
+ghost use Rattle.index_world.specs.World.{IsWorld};
 
 use crate::config::reading_of;
+use crate::life::Life;
 use crate::world_error::WorldError;
 use meta_journal::{Entry, Journal, JournalError, meta_key};
 use meta_store::{Meta, Reading};
-use object_store::ObjectStore;
+use object_store::{CreateError, GetError, Key, ObjectStore};
 use std::alloc::Global;
+
+const MAX_ENTRIES: u64 = 10_000_000;
 
 const LAST_MOMENT: u64 = (1 << 62) - 1;
 
 /// What the journal's error is to the world. `before` is the store's count at the start of the world's call.
-pub fn world_error(error: JournalError, number: u64, before: u64) -> WorldError {
+pub fn world_error(error: JournalError, number: u64, before: u64) -> WorldError
+    ensures { result ≡ of_journal number before error }
+{
     match error {
         JournalError::Memory(refused) => WorldError::Memory(refused),
         JournalError::Adopted { .. } => WorldError::Foreign {
@@ -26,6 +44,28 @@ pub fn world_error(error: JournalError, number: u64, before: u64) -> WorldError 
         JournalError::Corrupt { key } => WorldError::Corrupt { key },
         JournalError::Full => WorldError::Full,
         JournalError::Missing { key } => WorldError::Missing { key },
+    }
+}
+
+/// What the store's error in a create is to the world.
+pub fn create_error(error: CreateError, key: Key, before: u64, after: u64) -> WorldError
+    ensures { result ≡ of_create key before after error }
+{
+    match error {
+        CreateError::Exists => WorldError::Foreign { key },
+        CreateError::Failed => WorldError::StoreFault { before, after },
+        CreateError::Memory(refused) => WorldError::Memory(refused),
+    }
+}
+
+/// What the store's error in a get is to the world.
+pub fn get_error(error: GetError, key: Key, before: u64, after: u64) -> WorldError
+    ensures { result ≡ of_get key before after error }
+{
+    match error {
+        GetError::Absent => WorldError::Missing { key },
+        GetError::Failed => WorldError::StoreFault { before, after },
+        GetError::Memory(refused) => WorldError::Memory(refused),
     }
 }
 
@@ -40,6 +80,7 @@ pub fn admit(
     ensures same { meta.new.state ≡ meta.old.state }
     ensures allowed { OnOk result (IsOk (answer_to reading meta.new.state entry.now)) }
     ensures room { OnOk result (HasRoom entry.now.act meta.new) }
+    ensures want { IfErr result (λ error. IsOk (answer_to reading meta.old.state entry.now) → IsWant error) }
 {
     match meta.check(entry, reading) {
         Ok(()) => {}
@@ -53,33 +94,29 @@ pub fn admit(
     Ok(())
 }
 
-/// Makes the room for an entry of one's own, where the state allows it.
+/// Makes the room for an entry of one's own, where the state allows it and the journal has a further number.
 pub fn prepare(meta: &mut Meta, reading: Reading, entry: &Entry) -> Result<(), WorldError>
     ensures same { meta.new.state ≡ meta.old.state }
     ensures allowed { OnOk result (IsOk (answer_to reading meta.new.state entry.now)) }
     ensures room { OnOk result (HasRoom entry.now.act meta.new) }
+    ensures below { OnOk result (meta.old.state.revision < max_entries) }
+    ensures why { IfErr result (IsUnprepared (answer_to reading meta.old.state entry.now) meta.old.state.revision) }
 {
     match meta.check(entry, reading) {
         Ok(()) => {}
         Err(refusal) => return Err(WorldError::Refused(refusal)),
     }
+    if meta.revision() >= MAX_ENTRIES {
+        return Err(WorldError::Full);
+    }
     meta.reserve(entry)?;
     Ok(())
 }
 
-/// The journal of a store, the state behind its entries, and the greatest moment of these.
-#[derive(Drop)]
-pub struct Opened {
-    pub journal: Journal,
-    pub meta: Meta,
-    pub moment: u64,
-    ghost timely: { moment < 2 ^ 62 },
-    ghost in_step: { meta.state.revision ≡ journal.next },
-}
-
 /// A moment that the format can spell.
 pub fn moment_of(entry: &Entry) -> u64
-    ensures { result < 2 ^ 62 }
+    ensures below { result < 2 ^ 62 }
+    ensures same { entry.now.moment < 2 ^ 62 → result ≡ entry.now.moment }
 {
     entry.moment.min(LAST_MOMENT)
 }
@@ -89,6 +126,9 @@ fn state_of(alloc: Global, entries: Vec<Entry>) -> Result<(Meta, u64), WorldErro
     requires { vec_len entries ≤ 10000000 }
     ensures revision { IfOk result (λ x. x.0.state.revision ≡ vec_len entries) }
     ensures moment { IfOk result (λ x. x.1 < 2 ^ 62) }
+    ensures state { IfOk result (λ x. x.0.state ≡ spec.state_of reads (history entries.items)) }
+    ensures greatest { AllByRecursion (λ e. e.moment < 2 ^ 62) entries.items → IfOk result (λ x. x.1 ≡ told.moment_of (history entries.items)) }
+    ensures want { Legal reads (history entries.items) → IfErr result IsWant }
 {
     let mut left = entries;
     left.reverse();
@@ -105,17 +145,22 @@ fn state_of(alloc: Global, entries: Vec<Entry>) -> Result<(Meta, u64), WorldErro
 }
 
 /// Opens the index of a store.
-pub fn open<S: ObjectStore>(alloc: Global, store: &mut S) -> Result<Opened, WorldError>
-    ensures { IfOk result (λ opened. opened.journal.place ≡ Sure) }
+pub fn open<S: ObjectStore>(alloc: Global, store: &mut S) -> Result<Life, WorldError>
+    ensures sure { IfOk result (λ life. life.journal.place ≡ Sure) }
+    ensures step { (old : State) (core : Core) (log : Log) → S.told store.old ≡ Some old → S.fault_count store.old ≡ core.store_faults →
+        IsWorld old core log → core.clock < 2 ^ 62 → Opening core log result (S.told store.new) (S.fault_count store.new) }
 {
     let before = store.faults();
-    match Journal::load(alloc, store) {
+    let answer = Journal::load(alloc, store);
+    // The count of a store has its range.
+    let _count = store.faults();
+    match answer {
         Ok((journal, entries)) => {
             if entries.is_empty() {
                 return Err(WorldError::NoIndex);
             }
             let (meta, moment) = state_of(alloc, entries.into_vec())?;
-            Ok(Opened {
+            Ok(Life {
                 journal,
                 meta,
                 moment,

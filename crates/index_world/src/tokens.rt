@@ -1,6 +1,7 @@
 //! What a caller of the world holds between its calls.
 
-ghost use Rattle.std.specs.Prelude.{◌≡◌, ◌<◌, length};
+ghost use Rattle.std.specs.Prelude.{◌≡◌};
+ghost use Rattle.source_checkpoint.specs.Checkpoints.{checkpoint_at};
 
 use crate::planning::PlanRows;
 use source_checkpoint::{Checkpoint, Partition};
@@ -28,7 +29,9 @@ pub struct Marks {
 
 impl Marks {
     /// How far the partition was taken in, 0 for an unknown one.
-    pub fn position(&self, partition: &Partition) -> u64 {
+    pub fn position(&self, partition: &Partition) -> u64
+        ensures { result ≡ checkpoint_at self.now.checkpoints.items partition.now }
+    {
         for checkpoint in self.checkpoints.as_slice() {
             if checkpoint.partition.is(partition) {
                 return checkpoint.at;

@@ -1,37 +1,61 @@
 //! One life of a world: its store, journal, state and clock. Each call is one event.
 
-ghost use Rattle.std.specs.Prelude.{◌≡◌, ◌<◌, ◌≤◌, ◌^◌, OnOk, IfOk, IfErr, length};
-ghost use Rattle.meta_journal.specs.declared.place.Place.TheVariants.{Sure, Given};
-ghost use Rattle.index_world.specs.PlaceMade.{IsPlaceMade};
-ghost use Rattle.index_world.specs.Owning.{CanOwn};
+ghost use Rattle.std.specs.Prelude.{◌≡◌, ◌<◌, ◌^◌, ℕ, List, IfOk, MatchResult, None, Some, length, slice_get, max, true, false};
+ghost use Rattle.std.specs.Borrow.{Lends, sem};
+ghost use Rattle.index_world.specs.contracts.world.World.{the_row};
 ghost use Rattle.meta_journal.specs.Spelling.{CanSpellFacts};
+ghost use Rattle.object_store.specs.Store.{State};
+ghost use Rattle.source_log.specs.Log.{Log};
+ghost use Rattle.index_world.specs.Calls.{asked, looked, asked_and_looked, fetched, upload_made};
+ghost use Rattle.index_world.specs.Core.{Core, IsUnusedIn, IsUploadedIn};
+ghost use Rattle.index_world.specs.Gate.{Does, NoneBetween, IsTrouble, IsUnmade, AreMarks, IsMoment, stage_call, WasStaged, WasUploaded, publish_call, IsPublishable, IsRevision, IsPlan, IsPieceGiven};
+ghost use Rattle.index_world.specs.Loading.{LoadsWorld, LoadsNone, LoadsAnew};
+ghost use Rattle.index_world.specs.World.{IsWorld, WorldStands};
+ghost use Rattle.index_world.specs.declared.planning.PlanRow.{PlanRow};
 
-use crate::config::reading_of;
-use crate::own::{Own, act_of};
+use crate::life::Life;
+use crate::own::Own;
 use crate::planning::{Choice, plan_rows};
-use crate::taking::{Opened, admit, moment_of, open, prepare, world_error};
+use crate::steady::SteadyClock;
+use crate::taking::{create_error, get_error, open};
 use crate::tokens::{Marks, Plan, Staged, Uploaded};
 use crate::world_error::WorldError;
-use clock_time::Clock;
-use meta_journal::{Entry, Journal, JournalError, meta_key, split_key};
+use meta_journal::split_key;
 use meta_store::Meta;
-use object_store::{CreateError, GetError, ObjectStore, Piece};
+use object_store::{ObjectStore, Piece};
 use source_checkpoint::{Checkpoint, Delta};
 use split_states::RowFacts;
 use std::alloc::{AllocError, Global};
+use std::marker::Model;
 
 /// One life of a world.
-pub struct World<S: ObjectStore, C: Clock> {
+pub struct World<S: ObjectStore, C: SteadyClock> {
     store: S,
-    journal: Journal,
-    meta: Meta,
+    life: Life,
     clock: C,
-    // The greatest moment of this life, in whole seconds.
-    moment: u64,
     // Whether the clock is asked no more.
     frozen: bool,
-    ghost timely: { moment < 2 ^ 62 },
-    ghost in_step: { meta.state.revision ≡ journal.next },
+}
+
+impl<S: ObjectStore, C: SteadyClock> Model for World<S, C> {
+    ghost use Rattle.index_world.specs.World.{Keeping};
+    ghost use Rattle.index_world.specs.KeepingCode.{keeping_code};
+    ghost use Rattle.index_world.specs.Unsure.{is_unsure};
+
+    ghost Value = { Keeping };
+
+    ghost coded = { keeping_code };
+
+    ghost view = { λ w. record {
+      told = S.told w.store;
+      store_faults = S.fault_count w.store;
+      clock = C.told w.clock;
+      moment = w.life.moment;
+      meta = w.life.meta.state;
+      next = w.life.journal.next;
+      unsure = is_unsure w.life.journal.place;
+      frozen = w.frozen;
+    } };
 }
 
 /// A store that was not opened.
@@ -43,7 +67,9 @@ pub struct Unopened<S> {
 fn copied_checkpoints(
     alloc: Global,
     checkpoints: &[Checkpoint],
-) -> Result<Vec<Checkpoint>, AllocError> {
+) -> Result<Vec<Checkpoint>, AllocError>
+    ensures { IfOk result (λ copy. copy.items ≡ checkpoints.now) }
+{
     let mut copy = Vec::new(alloc);
     for checkpoint in checkpoints {
         copy.push(Checkpoint {
@@ -54,160 +80,98 @@ fn copied_checkpoints(
     Ok(copy)
 }
 
-impl<S: ObjectStore, C: Clock> World<S, C> {
+impl<S: ObjectStore, C: SteadyClock> World<S, C> {
     /// Opens the index of a store. NoIndex where its journal has no entry.
-    pub fn load(alloc: Global, store: S, clock: C) -> Result<World<S, C>, Unopened<S>> {
+    pub fn load(alloc: Global, store: S, clock: C) -> Result<World<S, C>, Unopened<S>>
+        ensures { (kept : State) (core : Core) (log : Log) → S.told store ≡ Some kept → S.fault_count store ≡ core.store_faults →
+            C.told clock ≡ Some core.clock → core.clock < 2 ^ 62 → IsWorld kept core log →
+            MatchResult result (LoadsWorld core log) (λ unopened. LoadsNone core log unopened.error (S.told unopened.store) (S.fault_count unopened.store)) }
+    {
         let mut store = store;
         match open(alloc, &mut store) {
-            Ok(opened) => {
-                let Opened {
-                    journal,
-                    meta,
-                    moment,
-                } = opened;
-                Ok(World {
-                    store,
-                    journal,
-                    meta,
-                    clock,
-                    moment,
-                    frozen: false,
-                })
-            }
+            Ok(life) => Ok(World {
+                store,
+                life,
+                clock,
+                frozen: false,
+            }),
             Err(error) => Err(Unopened { error, store }),
         }
     }
 
     /// Ends this life, and opens the index of its store anew. Where that fails the world is as it was.
-    pub fn reload(&mut self, alloc: Global) -> Result<(), WorldError> {
-        let Opened {
-            journal,
-            meta,
-            moment,
-        } = open(alloc, &mut self.store)?;
-        self.moment = moment;
-        self.journal = journal;
-        self.meta = meta;
-        self.frozen = false;
+    pub fn reload(&mut self, alloc: Global) -> Result<(), WorldError>
+        ensures { (core : Core) (log : Log) → WorldStands self.old core log → LoadsAnew core log result self.new }
+    {
+        self.life = open(alloc, &mut self.store)?;
         Ok(())
     }
 
-    pub fn unload(self) -> (S, C) {
+    pub fn unload(self) -> (S, C)
+        ensures told { S.told result.0 ≡ self.told }
+        ensures faults { S.fault_count result.0 ≡ self.store_faults }
+    {
         let World {
             store,
-            journal: _,
-            meta: _,
+            life: _,
             clock,
-            moment: _,
             frozen: _,
         } = self;
         (store, clock)
     }
 
-    pub fn clock_mut(&mut self) -> &mut C {
+    pub fn clock_mut(&mut self) -> &mut C
+        ensures* writes_back { sem 𝓛 (Lends (the_row S.row C.row S.ObjectStore C.Clock) C.row self.entry result (λ clock. record self.old { clock = C.told clock })) }
+        ensures value { C.told result.now ≡ self.old.clock }
+    {
         &mut self.clock
     }
 
     /// The state.
-    pub fn meta(&self) -> &Meta {
-        &self.meta
+    pub fn meta(&self) -> &Meta
+        ensures { result.now.state ≡ self.now.meta }
+    {
+        &self.life.meta
     }
 
     /// From here on no call asks the clock.
-    pub fn freeze(&mut self) {
+    pub fn freeze(&mut self)
+        ensures { self.new ≡ record self.old { frozen = true } }
+    {
         self.frozen = true;
     }
 
-    fn ask(&mut self) {
+    fn ask(&mut self)
+        ensures { (clock : ℕ) → self.old.clock ≡ Some clock → self.old.frozen ≡ false → self.new ≡ record self.old { moment = max self.old.moment clock } }
+    {
         if !self.frozen {
-            self.moment = self.moment.max(self.clock.now());
-        }
-    }
-
-    // Takes in the entry that the journal gave at its next number.
-    fn take_in(&mut self, entry: Entry) -> Result<(), WorldError>
-        requires { self.old.journal.place ≡ Given }
-        ensures { OnOk result (self.new.journal.place ≡ Sure) }
-    {
-        let reading = reading_of(&entry);
-        let moment = moment_of(&entry);
-        // Only a number below the limit is in doubt.
-        let _place = self.journal.place();
-        admit(&mut self.meta, reading, &entry, self.journal.next())?;
-        self.journal.step_over();
-        self.meta.apply(entry, reading);
-        self.moment = self.moment.max(moment);
-        Ok(())
-    }
-
-    // Closes an unsure number, and takes in the entry that stands there.
-    fn settle(&mut self, alloc: Global, before: u64) -> Result<(), WorldError>
-        ensures { OnOk result (self.new.journal.place ≡ Sure) }
-    {
-        match self.journal.settle(alloc, &mut self.store, self.moment) {
-            Ok(None) => Ok(()),
-            Ok(Some(entry)) => self.take_in(entry),
-            Err(error) => Err(world_error(error, self.journal.next(), before)),
-        }
-    }
-
-    // Creates an entry of one's own, made of the state as it is. Gives the entry that stands there where one does.
-    fn create(&mut self, alloc: Global, own: Own, before: u64) -> Result<Option<Entry>, WorldError>
-        requires sure { self.old.journal.place ≡ Sure }
-        requires can { CanOwn own }
-        ensures { IfOk result (λ given. IsPlaceMade given self.new.journal.place) }
-    {
-        let entry = Entry {
-            moment: self.moment,
-            act: act_of(alloc, own, &self.meta)?,
-        };
-        let reading = reading_of(&entry);
-        prepare(&mut self.meta, reading, &entry)?;
-        match self.journal.append(alloc, &mut self.store, &entry) {
-            Ok(_) => {
-                self.meta.apply(entry, reading);
-                Ok(None)
-            }
-            Err(JournalError::Adopted { entry }) => Ok(Some(entry)),
-            Err(error) => Err(world_error(error, self.journal.next(), before)),
-        }
-    }
-
-    // One transaction: it settles and appends. Where an entry stands at the number already, that one is taken in, and the
-    // own one is made anew and created once more.
-    fn append(&mut self, alloc: Global, own: Own, before: u64) -> Result<(), WorldError>
-        requires { CanOwn own }
-    {
-        self.settle(alloc, before)?;
-        let Some(entry) = self.create(alloc, own, before)? else {
-            return Ok(());
-        };
-        self.take_in(entry)?;
-        match self.create(alloc, own, before)? {
-            None => Ok(()),
-            Some(_) => Err(WorldError::Foreign {
-                key: meta_key(self.journal.next()),
-            }),
+            self.life.moment = self.life.moment.max(self.clock.ask());
         }
     }
 
     /// The checkpoints, the last opstamp and the revision.
-    pub fn checkpoints(&mut self, alloc: Global) -> Result<Marks, WorldError> {
+    pub fn checkpoints(&mut self, alloc: Global) -> Result<Marks, WorldError>
+        ensures { (core : Core) (log : Log) → WorldStands self.old core log →
+            Does WorldStands NoneBetween None looked IsTrouble AreMarks result core log self.new }
+    {
         let before = self.store.faults();
-        self.settle(alloc, before)?;
+        self.life.settle(alloc, &mut self.store, before)?;
+        let meta = &self.life.meta;
         Ok(Marks {
-            checkpoints: copied_checkpoints(alloc, self.meta.checkpoints().as_slice())?,
-            opstamp: self.meta.last_opstamp(),
-            revision: self.meta.revision(),
+            checkpoints: copied_checkpoints(alloc, meta.checkpoints().as_slice())?,
+            opstamp: meta.last_opstamp(),
+            revision: meta.revision(),
         })
     }
 
     /// Asks the clock, and gives the greatest moment.
     pub fn moment(&mut self) -> Result<u64, WorldError>
-        ensures { IfOk result (λ moment. moment < 2 ^ 62) }
+        ensures below { IfOk result (λ moment. moment < 2 ^ 62) }
+        ensures step { (core : Core) (log : Log) → WorldStands self.old core log →
+            Does WorldStands NoneBetween None asked IsTrouble IsMoment result core log self.new }
     {
         self.ask();
-        Ok(self.moment)
+        Ok(self.life.moment)
     }
 
     /// Stages a split file of these parts with these facts, under the next number.
@@ -218,13 +182,16 @@ impl<S: ObjectStore, C: Clock> World<S, C> {
         facts: &RowFacts,
     ) -> Result<Staged, WorldError>
         requires { CanSpellFacts facts.now }
+        ensures { (core : Core) (log : Log) → WorldStands self.old core log →
+            Does WorldStands NoneBetween None (stage_call delta.now facts.now) IsUnmade (WasStaged core delta.now facts.now) result core log self.new }
     {
         let before = self.store.faults();
         self.ask();
-        self.append(alloc, Own::Stage(delta, facts), before)?;
+        self.life
+            .append(alloc, &mut self.store, Own::Stage(delta, facts), before)?;
         Ok(Staged {
-            number: self.meta.next_number().saturating_sub(1),
-            opstamp: self.meta.last_opstamp(),
+            number: self.life.meta.next_number().saturating_sub(1),
+            opstamp: self.life.meta.last_opstamp(),
         })
     }
 
@@ -234,40 +201,53 @@ impl<S: ObjectStore, C: Clock> World<S, C> {
         alloc: Global,
         staged: Staged,
         content: &[u8],
-    ) -> Result<Uploaded, WorldError> {
+    ) -> Result<Uploaded, WorldError>
+        ensures { (core : Core) (log : Log) → WorldStands self.old core log → IsUnusedIn core staged.number →
+            Does WorldStands NoneBetween (Some staged.number) (λ fate c. upload_made fate staged.number content.now c) IsTrouble
+            (WasUploaded staged.number content.now) result core log self.new }
+    {
         let before = self.store.faults();
         let key = split_key(staged.number);
-        match self.store.create(alloc, &key, content) {
+        let answer = self.store.create(alloc, &key, content);
+        let after = self.store.faults();
+        match answer {
             Ok(()) => Ok(Uploaded {
                 number: staged.number,
             }),
-            Err(CreateError::Exists) => Err(WorldError::Foreign { key }),
-            Err(CreateError::Failed) => Err(WorldError::StoreFault {
-                before,
-                after: self.store.faults(),
-            }),
-            Err(CreateError::Memory(refused)) => Err(WorldError::Memory(refused)),
+            Err(error) => Err(create_error(error, key, before, after)),
         }
     }
 
     /// Publishes an uploaded file: its checkpoints move with it. Gives the revision.
-    pub fn publish(&mut self, alloc: Global, uploaded: Uploaded) -> Result<u64, WorldError> {
+    pub fn publish(&mut self, alloc: Global, uploaded: Uploaded) -> Result<u64, WorldError>
+        ensures { (core : Core) (log : Log) → WorldStands self.old core log → IsPublishable log core uploaded.number →
+            Does WorldStands NoneBetween None (publish_call uploaded.number) IsUnmade IsRevision result core log self.new }
+    {
         let before = self.store.faults();
         self.ask();
-        self.append(alloc, Own::Publish(uploaded.number), before)?;
-        Ok(self.meta.revision())
+        self.life.append(
+            alloc,
+            &mut self.store,
+            Own::Publish(uploaded.number),
+            before,
+        )?;
+        Ok(self.life.meta.revision())
     }
 
     /// Plans rows over the newest state.
-    pub fn plan(&mut self, alloc: Global, choice: Choice) -> Result<Plan, WorldError> {
+    pub fn plan(&mut self, alloc: Global, choice: Choice) -> Result<Plan, WorldError>
+        ensures { (core : Core) (log : Log) → WorldStands self.old core log →
+            Does WorldStands NoneBetween None asked_and_looked IsTrouble (IsPlan choice) result core log self.new }
+    {
         let before = self.store.faults();
         self.ask();
-        self.settle(alloc, before)?;
+        self.life.settle(alloc, &mut self.store, before)?;
+        let life = &self.life;
         Ok(Plan {
-            revision: self.meta.revision(),
-            moment: self.moment,
-            upto: self.meta.last_opstamp(),
-            rows: plan_rows(alloc, self.meta.rows(), choice)?,
+            revision: life.meta.revision(),
+            moment: life.moment,
+            upto: life.meta.last_opstamp(),
+            rows: plan_rows(alloc, life.meta.rows(), choice)?,
         })
     }
 
@@ -281,18 +261,18 @@ impl<S: ObjectStore, C: Clock> World<S, C> {
         len: u64,
     ) -> Result<Piece, WorldError>
         requires { place < length plan.now.rows }
+        ensures { (core : Core) (log : Log) (row : PlanRow) (bytes : List ℕ) → WorldStands self.old core log →
+            slice_get plan.now.rows place ≡ Some row → IsUploadedIn core row.number bytes →
+            Does WorldStands NoneBetween None fetched IsTrouble (IsPieceGiven bytes from len) result core log self.new }
     {
         let before = self.store.faults();
         self.ask();
         let key = split_key(plan.rows.at(place as usize).number);
-        match self.store.get(alloc, &key, from, len) {
+        let answer = self.store.get(alloc, &key, from, len);
+        let after = self.store.faults();
+        match answer {
             Ok(piece) => Ok(piece),
-            Err(GetError::Absent) => Err(WorldError::Missing { key }),
-            Err(GetError::Failed) => Err(WorldError::StoreFault {
-                before,
-                after: self.store.faults(),
-            }),
-            Err(GetError::Memory(refused)) => Err(WorldError::Memory(refused)),
+            Err(error) => Err(get_error(error, key, before, after)),
         }
     }
 }

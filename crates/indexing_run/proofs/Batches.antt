@@ -1,5 +1,5 @@
 -- What an indexer reads into its batch is made of the log, within a split's limits.
-use Rattle.std.proofs.Common.{◌≡◌, ◌⊎◌, ℕ, zero, suc, ◌+◌, ◌-◌, ◌<◌, ◌≤◌, ◌==◌, ◌||◌, ◌&&◌, ◌^◌, min, List, [], ◌∷◌, ◌++◌, refl, sym, ap, ◌∙◌, subst, inl, inr, Bool, true, false, flat_map, take, drop, length, arith, append-nil, append_assoc, nat_le, nat_lt, bytes_eq, length-take, length-drop, take-take, lit<}
+use Rattle.std.proofs.Common.{◌≡◌, ◌⊎◌, ℕ, zero, suc, ◌+◌, ◌-◌, ◌<◌, ◌≤◌, ◌==◌, ◌||◌, ◌&&◌, ◌^◌, List, [], ◌∷◌, ◌++◌, refl, sym, ap, ◌∙◌, subst, inl, inr, Bool, true, false, take, drop, length, arith, append-nil, append_assoc, nat_le, nat_lt, bytes_eq, length-take, length-drop, take-take, lit<}
 use Rattle.std.proofs.lemmas.Bool.Decides.{nat_tests}
 use Rattle.std.proofs.lemmas.List.{length-append}
 use Rattle.std.proofs.lemmas.Grind.{flat_map-append}
@@ -7,7 +7,7 @@ use Rattle.std.specs.List.{AllByRecursion}
 use Rattle.std.specs.List.Sorted.{IsStrictlySortedBy}
 use Rattle.std.specs.Ordering.{nat_cmp}
 use Rattle.std.specs.Cmp.Lexicographic.{slice_cmp}
-use Rattle.std.specs.Prelude.{Option, Some, None, if◌then◌else◌, map}
+use Rattle.std.specs.Prelude.{Option, Some, None, if◌then◌else◌}
 use Rattle.doc_value.specs.declared.doc.DocField.{DocField}
 use Rattle.source_checkpoint.specs.declared.delta.Part.{Part}
 use Rattle.source_checkpoint.specs.declared.ledger.Checkpoint.{Checkpoint}
@@ -18,11 +18,11 @@ use Rattle.index_world.specs.Accepted.{accepted}
 use Rattle.index_world.specs.Config.{docs_target, commit_timeout}
 use Rattle.index_world.specs.Index.{IsMade, facts_of}
 use Rattle.index_world.specs.Seen.{onto, accepted_from, accepted_part, accepted_in, record_count}
-use Rattle.index_world.specs.SplitFile.{weight, weight_of, split_file, max_documents, max_weight}
+use Rattle.index_world.specs.SplitFile.{weight, weight_of, split_file, max_weight}
 use Rattle.index_world.specs.declared.placed.Placed.{Placed}
+use Rattle.indexing_run.specs.Making.{IsNew, Follows, AreOthers, AreNew, IsQueue, EndWithin, IsBatch, AreApart}
 use Rattle.indexing_run.specs.Places.{Batch}
-use Rattle.indexing_run.specs.Steps.{Taken, with_document, with_record, taken_from, extended, parts_after, is_closed, is_empty, queue_after, batch_after, read_limit, max_read, max_batch_weight, first_moment, batch_facts, fresh_batch, marks_at}
-use Rattle.source_checkpoint.specs.Checkpoints.{checkpoint_at}
+use Rattle.indexing_run.specs.Steps.{start_of, Taken, with_record, taken_from, extended, parts_after, is_closed, is_empty, queue_after, batch_after, read_limit, max_batch_weight, first_moment, batch_facts, fresh_batch, marks_at}
 use Rattle.indexing_run.proofs.Slices.{part_of, part_more, part_none}
 
 -- one document is no heavier than a batch may be before it
@@ -30,7 +30,7 @@ abbrev pub IsLight : Type 0
 IsLight = (bytes name : List ℕ) (offset : ℕ) (doc : List DocField) → accepted bytes ≡ Some doc → offset < 2 ^ 64 →
     weight_of (record { partition = name; offset = offset; doc = doc }) ≤ max_batch_weight
 
-weight-snoc : (xs : List Placed) (x : Placed) → weight (xs ++ x ∷ []) ≡ weight xs + weight_of x
+pub weight-snoc : (xs : List Placed) (x : Placed) → weight (xs ++ x ∷ []) ≡ weight xs + weight_of x
 weight-snoc [] x = omega arith
 weight-snoc (y ∷ xs) x = let again = weight-snoc xs x in omega (arith, again)
 
@@ -120,46 +120,6 @@ accepted_few name offset (r ∷ records) = by (accepted r) (accepted_few name (s
 
 -- ---- a batch
 
--- no part has this name
-abbrev pub IsNew : List Part → List ℕ → Type 0
-IsNew parts name = AllByRecursion (λ p. bytes_eq p.partition name ≡ false) parts
-
--- the last part is of this name and ends here
-pub record IsLast (parts : List Part) (mark : Checkpoint) : Type 0 where
-  pub front : List Part
-  pub from : ℕ
-  pub is : parts ≡ front ++ part_of mark.partition from mark.at ∷ []
-  pub rises : from ≤ mark.at
-  pub new : IsNew front mark.partition
-
--- what is read next goes on where the parts end
-abbrev pub Follows : List Part → Checkpoint → Type 0
-Follows parts mark = IsNew parts mark.partition ⊎ IsLast parts mark
-
-abbrev pub AreOthers : List ℕ → List Checkpoint → Type 0
-AreOthers name marks = AllByRecursion (λ m. bytes_eq name m.partition ≡ false) marks
-
-abbrev pub AreNew : List Part → List Checkpoint → Type 0
-AreNew parts [] = Unit {0}
-AreNew parts (m ∷ ms) = IsNew parts m.partition × AreOthers m.partition ms × AreNew parts ms
-
-abbrev pub IsQueue : List Part → List Checkpoint → Type 0
-IsQueue parts [] = Unit {0}
-IsQueue parts (mark ∷ rest) = Follows parts mark × AreOthers mark.partition rest × AreNew parts rest
-
-abbrev pub EndWithin : Log → List Part → Type 0
-EndWithin log parts = AllByRecursion (λ part. part.to ≤ length (records_of log part.partition)) parts
-
-pub record IsBatch (log : Log) (batch : Batch) : Type 0 where
-  pub documents : batch.documents ≡ accepted_in log batch.parts
-  pub ends : EndWithin log batch.parts
-  pub count : record_count batch.parts ≡ batch.count
-  pub less : length batch.documents ≤ batch.count
-  pub few : batch.count ≤ docs_target
-  pub weighs : weight batch.documents ≤ max_weight
-  pub calm : batch.closed ≡ false → weight batch.documents ≤ max_batch_weight
-  pub queue : IsQueue batch.parts batch.queue
-
 -- ---- more parts
 
 new-append : (xs ys : List Part) (name : List ℕ) → IsNew xs name → IsNew ys name → IsNew (xs ++ ys) name
@@ -183,13 +143,13 @@ count-append [] ys = omega arith
 count-append (x ∷ xs) ys = let again = count-append xs ys in omega (arith, again)
 
 -- a name that is new comes behind the parts
-extended-new : (parts : List Part) (name : List ℕ) (from to : ℕ) → IsNew parts name → extended parts name from to ≡ parts ++ part_of name from to ∷ []
+pub extended-new : (parts : List Part) (name : List ℕ) (from to : ℕ) → IsNew parts name → extended parts name from to ≡ parts ++ part_of name from to ∷ []
 extended-new [] name from to h = refl
 extended-new (p ∷ parts) name from to h =
     ap (λ b. if b then record p { to = to } ∷ parts else p ∷ extended parts name from to) h.0 ∙ ap (λ l. p ∷ l) (extended-new parts name from to h.1)
 
 -- the last part's name is extended
-extended-last : (front : List Part) (name : List ℕ) (from at start to : ℕ) → IsNew front name → extended (front ++ part_of name from at ∷ []) name start to ≡ front ++ part_of name from to ∷ []
+pub extended-last : (front : List Part) (name : List ℕ) (from at start to : ℕ) → IsNew front name → extended (front ++ part_of name from at ∷ []) name start to ≡ front ++ part_of name from to ∷ []
 extended-last [] name from at start to h = ap (λ b. if b then part_of name from to ∷ [] else part_of name from at ∷ part_of name start to ∷ []) (partition_itself name name refl)
 extended-last (p ∷ front) name from at start to h =
     ap (λ b. if b then record p { to = to } ∷ (front ++ part_of name from at ∷ []) else p ∷ extended (front ++ part_of name from at ∷ []) name start to) h.0
@@ -295,10 +255,6 @@ slice_low log name at limit h = by (take limit (drop at (records_of log name))) 
         let few = records_few log name h in
         inl (omega (arith, end, few))
 
--- what a read takes, behind which nothing is weighed yet
-abbrev pub start_of : Batch → Taken
-start_of batch = record { count = 0; documents = batch.documents; weight = weight batch.documents; heavy = false }
-
 abbrev pub slice_of : Log → Batch → Checkpoint → List (List ℕ)
 slice_of log batch mark = take (read_limit batch.count) (drop mark.at (records_of log mark.partition))
 
@@ -315,15 +271,21 @@ read_taken light log batch mark l b going = by (slice_low log mark.partition mar
         subst (λ rs. TakenTo mark.partition mark.at rs (start_of batch) (taken_from mark.partition mark.at rs (start_of batch))) (sym none)
         (nothing_taken mark.partition mark.at [] (start_of batch) (start_weighed log batch b going))
 
--- a batch that isn't closed behind a read is not too heavy
-not_heavy : (queue : List Checkpoint) (count : ℕ) (heavy : Bool) (since now : ℕ) → is_closed queue count heavy since now ≡ false → heavy ≡ false
-not_heavy queue count heavy since now e = by (is_empty queue) (nat_le docs_target count) heavy (nat_lt 0 count && nat_le (since + commit_timeout) now) e
+-- a batch that isn't closed behind a read is not too heavy, has room, and has something to read
+abbrev IsGoing : Bool → Bool → Bool → Type 0
+IsGoing a b h = (a ≡ false) × (b ≡ false) × (h ≡ false)
+
+going : (queue : List Checkpoint) (count : ℕ) (heavy : Bool) (since now : ℕ) → is_closed queue count heavy since now ≡ false → IsGoing (is_empty queue) (nat_le docs_target count) heavy
+going queue count heavy since now e = by (is_empty queue) (nat_le docs_target count) heavy (nat_lt 0 count && nat_le (since + commit_timeout) now) e
   where
-    by : (a b h c : Bool) → (a || b || h || c) ≡ false → h ≡ false
+    by : (a b h c : Bool) → (a || b || h || c) ≡ false → IsGoing a b h
     by true b h c e = cc e
     by false true h c e = cc e
     by false false true c e = cc e
-    by false false false c e = refl
+    by false false false c e = (refl, refl, refl)
+
+below_target : (a b : ℕ) → nat_le a b ≡ false → b < a
+below_target a b e = grind (e, arith, nat_tests)
 
 -- ---- the queue behind a read
 
@@ -417,16 +379,13 @@ module _ (log : Log) (batch : Batch) (mark : Checkpoint) (rest : List Checkpoint
         less = less_still;
         few = few_still;
         weighs = let w = t.weight in let most = t.most in omega (arith, w, most);
-        calm = λ e. let w = t.weight in let calm = t.calm (not_heavy (queue_after at_end mark now.count rest) (batch.count + now.count) now.heavy (first_moment batch.first_read moment) moment e) in omega (arith, w, calm);
+        calm = λ e. let w = t.weight in let calm = t.calm (going (queue_after at_end mark now.count rest) (batch.count + now.count) now.heavy (first_moment batch.first_read moment) moment e).2 in omega (arith, w, calm);
+        room = λ e. below_target docs_target (batch.count + now.count) (going (queue_after at_end mark now.count rest) (batch.count + now.count) now.heavy (first_moment batch.first_read moment) moment e).1;
+        ahead = λ e. (going (queue_after at_end mark now.count rest) (batch.count + now.count) now.heavy (first_moment batch.first_read moment) moment e).0;
         queue = reads.queue;
       }
 
 -- ---- a fresh batch, and a closed one
-
--- the names differ
-abbrev pub AreApart : List (List ℕ) → Type 0
-AreApart [] = Unit {0}
-AreApart (name ∷ names) = AllByRecursion (λ other. bytes_eq name other ≡ false) names × AreApart names
 
 others_marked : (checkpoints : List Checkpoint) (name : List ℕ) (names : List (List ℕ)) → AllByRecursion (λ other. bytes_eq name other ≡ false) names → AreOthers name (marks_at checkpoints names)
 others_marked checkpoints name [] h = tt
@@ -446,6 +405,8 @@ fresh_is_batch log checkpoints names h =
       few = omega arith;
       weighs = omega arith;
       calm = λ e. omega arith;
+      room = λ e. omega arith;
+      ahead = λ e. e;
       queue = queue_rest [] (marks_at checkpoints names) (new_marked checkpoints names h);
     }
 

@@ -1,3 +1,11 @@
 pub mod Slices
 pub mod Batches
+pub mod Texts
+pub mod Light
+pub mod Queues
+pub mod Takes
 pub mod Steps
+pub mod Holding
+pub mod Stepping
+pub mod Reading
+pub mod Printing

@@ -1,5 +1,5 @@
 -- The accepted records of a part of a log, as what is read of it one behind the other.
-use Rattle.std.proofs.Common.{◌≡◌, ℕ, zero, suc, ◌+◌, ◌-◌, ◌<◌, ◌≤◌, ◌&&◌, List, [], ◌∷◌, ◌++◌, refl, sym, ap, ◌∙◌, subst, Bool, true, false, cond, filter, flat_map, map, take, drop, length, arith, append-nil, append_assoc, nat_le, nat_lt, bytes_eq}
+use Rattle.std.proofs.Common.{◌≡◌, ℕ, zero, suc, ◌+◌, ◌-◌, ◌<◌, ◌≤◌, ◌&&◌, List, [], ◌∷◌, ◌++◌, refl, sym, ap, ◌∙◌, subst, Bool, true, false, cond, filter, take, drop, arith, append-nil, nat_le, nat_lt, bytes_eq}
 use Rattle.std.proofs.lemmas.Bool.Decides.{nat_tests}
 use Rattle.std.proofs.lemmas.List.Elements.{filter-append}
 use Rattle.std.proofs.lemmas.Map.Keys.{sorted_head, sorted_tail}
@@ -13,8 +13,7 @@ use Rattle.doc_value.specs.declared.doc.DocField.{DocField}
 use Rattle.source_checkpoint.specs.declared.delta.Part.{Part}
 use Rattle.source_checkpoint.proofs.Ranges.{partition_itself, same_partition}
 use Rattle.source_log.proofs.Ordered.{eq-by_order}
-use Rattle.source_log.specs.Log.{Log, records_of, names_of, IsLog}
-use Rattle.source_log.specs.declared.memory.PartitionLog.{PartitionLog}
+use Rattle.source_log.specs.Log.{Log, records_of, names_of}
 use Rattle.delete_tasks.specs.Removed.{lies_in}
 use Rattle.index_world.specs.Accepted.{accepted}
 use Rattle.index_world.specs.Seen.{onto, accepted_from, accepted_records, accepted_part, place_of}

@@ -1,5 +1,6 @@
 -- Each step of an indexer keeps its batch made of the log.
-use Rattle.std.proofs.Common.{◌≡◌, ℕ, List, [], ◌∷◌, refl, sym, ap, ◌∙◌, subst, Bool, true, false, bytes_eq, drop, take, length, nat_le, ◌==◌}
+use Rattle.std.proofs.Common.{◌≡◌, ℕ, suc, ◌<◌, List, [], ◌∷◌, refl, subst, Bool, true, false, bytes_eq, drop, length, nat_le, ◌==◌, AllPairs, slice_index_or, arith}
+use Rattle.source_checkpoint.proofs.Ranges.{same_partition}
 use Rattle.std.proofs.lemmas.Map.Keys.{sorted_head, sorted_tail}
 use Rattle.std.specs.List.{AllByRecursion}
 use Rattle.std.specs.List.Sorted.{IsStrictlySortedBy}
@@ -12,14 +13,15 @@ use Rattle.meta_store.specs.State.{checkpoints_of}
 use Rattle.source_checkpoint.specs.declared.ledger.Checkpoint.{Checkpoint}
 use Rattle.source_log.proofs.Ordered.{eq-by_order}
 use Rattle.source_log.specs.Log.{Log, records_of, names_of, IsLog}
-use Rattle.index_world.specs.Calls.{Trouble, Unmade, Gives, looked, asked, upload_made}
+use Rattle.index_world.specs.Calls.{Trouble, Unmade, looked, asked, upload_made}
 use Rattle.index_world.specs.Core.{Core}
 use Rattle.index_world.specs.Gate.{publish_call, stage_call}
 use Rattle.index_world.specs.SplitFile.{split_file}
 use Rattle.indexing_run.specs.Outcomes.{CaughtUp}
 use Rattle.indexing_run.specs.Places.{Batch, Held, Place, idle, reading, staged, uploaded, Indexer}
-use Rattle.indexing_run.specs.Steps.{Luck, Stepped, stepped, partitions_for, log_may_fail, log_called, checkpoints_by, take_checkpoints, idle_by, step_idle, taken_from, read_limit, read_current, read_by, read_given, step_read, stage_by, step_stage, batch_facts, upload_by, step_upload, publish_by, step_publish, step_batch, step_place, or_short, step_indexer}
-use Rattle.indexing_run.proofs.Batches.{IsLight, IsBatch, IsQueue, AreApart, fresh_is_batch, read_taken, read_keeps, start_of, slice_of}
+use Rattle.indexing_run.specs.Steps.{Luck, Stepped, stepped, partitions_for, log_may_fail, log_called, checkpoints_by, idle_by, idle_unless, taken_from, read_limit, read_current, read_by, read_given, step_read, stage_by, step_stage, batch_facts, upload_by, publish_by, step_batch, step_place, or_short, step_indexer, start_of}
+use Rattle.indexing_run.proofs.Batches.{IsLight, fresh_is_batch, read_taken, read_keeps, slice_of}
+use Rattle.indexing_run.specs.Making.{IsBatch, IsQueue, AreApart, IsAssigned}
 
 -- what an indexer reads is made of the log
 abbrev pub IsPlaceMade : Log → Place → Type 0
@@ -27,11 +29,6 @@ IsPlaceMade log idle = Unit {0}
 IsPlaceMade log (reading batch) = IsBatch log batch
 IsPlaceMade log (staged held) = Unit {0}
 IsPlaceMade log (uploaded held) = Unit {0}
-
--- the names of an assignment differ
-abbrev pub IsAssigned : Option (List (List ℕ)) → Type 0
-IsAssigned None = Unit {0}
-IsAssigned (Some names) = AreApart names
 
 others : (name : List ℕ) (names : List (List ℕ)) → AllByRecursion (λ y. slice_cmp nat_cmp name y ≡ Less) names → AllByRecursion (λ other. bytes_eq name other ≡ false) names
 others name [] h = tt
@@ -41,9 +38,25 @@ sorted_apart : (names : List (List ℕ)) → IsStrictlySortedBy (slice_cmp nat_c
 sorted_apart [] s = tt
 sorted_apart (name ∷ names) s = (others name names (sorted_head (slice_cmp nat_cmp) name names s), sorted_apart names (sorted_tail (slice_cmp nat_cmp) name names s))
 
-assigned_apart : (log : Log) (assignment : Option (List (List ℕ))) → IsLog log → IsAssigned assignment → AreApart (partitions_for assignment log)
+names_apart : (a b : List ℕ) → (a ≡ b → ⊥) → bytes_eq a b ≡ false
+names_apart a b h = by (bytes_eq a b) refl
+  where
+    by : (t : Bool) → bytes_eq a b ≡ t → bytes_eq a b ≡ false
+    by true e = absurd (h (same_partition a b e))
+    by false e = e
+
+-- names that differ pairwise are apart
+pairs_apart : (names : List (List ℕ)) → AllPairs (λ a b. a ≡ b → ⊥) names → AreApart names
+pairs_apart [] h = tt
+pairs_apart (name ∷ names) h = (others_of names (λ i d low. h 0 (suc i) d (omega arith) (omega (arith, low))), pairs_apart names (λ i j d less low. h (suc i) (suc j) d (omega (arith, less)) (omega (arith, low))))
+  where
+    others_of : (rest : List (List ℕ)) → ((i : ℕ) (d : List ℕ) → i < length rest → name ≡ slice_index_or rest i d → ⊥) → AllByRecursion (λ other. bytes_eq name other ≡ false) rest
+    others_of [] k = tt
+    others_of (r ∷ rest) k = (names_apart name r (k 0 r (omega arith)), others_of rest (λ i d low. k (suc i) d (omega (arith, low))))
+
+pub assigned_apart : (log : Log) (assignment : Option (List (List ℕ))) → IsLog log → IsAssigned assignment → AreApart (partitions_for assignment log)
 assigned_apart log None l a = sorted_apart (names_of log) l.in_order
-assigned_apart log (Some names) l a = a
+assigned_apart log (Some names) l a = pairs_apart names a.1
 
 module _ (light : IsLight) (log : Log) (l : IsLog log) where
   checkpoints_kept : (r : Result ⊤ Trouble) (indexer : Indexer) (core : Core) → IsAssigned indexer.assignment → IsPlaceMade log (checkpoints_by r log indexer core).indexer.place
@@ -55,6 +68,10 @@ module _ (light : IsLight) (log : Log) (l : IsLog log) where
   idle_kept false None luck indexer core a = let g = looked luck.world core in checkpoints_kept g.answer (log_called luck.log indexer) g.core a
   idle_kept true (Some names) luck indexer core a = let g = looked luck.world core in checkpoints_kept g.answer indexer g.core a
   idle_kept false (Some names) luck indexer core a = let g = looked luck.world core in checkpoints_kept g.answer indexer g.core a
+
+  unless_kept : (short : Bool) (luck : Luck) (indexer : Indexer) (core : Core) → IsAssigned indexer.assignment → IsPlaceMade log (idle_unless short luck log indexer core).indexer.place
+  unless_kept true luck indexer core a = tt
+  unless_kept false luck indexer core a = idle_kept (log_may_fail luck.log indexer.log_faults) indexer.assignment luck indexer core a
 
   module _ (batch : Batch) (b : IsBatch log batch) (calm : batch.closed ≡ false) where
     current_kept : (mark : Checkpoint) (rest : List Checkpoint) (indexer : Indexer) (core : Core) → batch.queue ≡ mark ∷ rest →
@@ -101,7 +118,7 @@ module _ (light : IsLight) (log : Log) (l : IsLog log) where
       by false e = read_kept batch b e batch.queue luck indexer core refl
 
   place_kept : (place : Place) (luck : Luck) (indexer : Indexer) (core : Core) → IsPlaceMade log place → IsAssigned indexer.assignment → IsPlaceMade log (step_place place luck log indexer core).indexer.place
-  place_kept idle luck indexer core h a = idle_kept (log_may_fail luck.log indexer.log_faults) indexer.assignment luck indexer core a
+  place_kept idle luck indexer core h a = unless_kept luck.log.short luck indexer core a
   place_kept (reading batch) luck indexer core h a = batch_kept batch luck indexer core h
   place_kept (staged held) luck indexer core h a = let g = upload_made luck.world held.number (split_file held.documents) core in upload_kept g.answer held indexer g.core
   place_kept (uploaded held) luck indexer core h a = let g = publish_call held.number luck.world core in publish_kept g.answer held indexer g.core

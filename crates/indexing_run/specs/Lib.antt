@@ -1,3 +1,5 @@
 pub mod Places
 pub mod Outcomes
 pub mod Steps
+pub mod Making
+pub mod Standing

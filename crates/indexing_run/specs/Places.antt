@@ -1,5 +1,5 @@
 -- What an indexer holds between its steps.
-use Rattle.std.specs.Prelude.{ℕ, ◌-◌, Bool, List, length, Option, Some, None}
+use Rattle.std.specs.Prelude.{ℕ, ◌-◌, Bool, true, false, List, length, Option, Some, None}
 use Rattle.index_world.specs.declared.placed.Placed.{Placed}
 use Rattle.source_checkpoint.specs.declared.delta.Part.{Part}
 use Rattle.source_checkpoint.specs.declared.ledger.Checkpoint.{Checkpoint}
@@ -30,6 +30,12 @@ pub data Place : Type 0 where
   reading : Batch → Place
   staged : Held → Place
   uploaded : Held → Place
+
+abbrev pub is_idle : Place → Bool
+is_idle idle = true
+is_idle (reading batch) = false
+is_idle (staged held) = false
+is_idle (uploaded held) = false
 
 pub record Indexer : Type 0 where
   pub assignment : Option (List (List ℕ))

@@ -14,7 +14,7 @@ use Rattle.split_states.specs.declared.facts.RowFacts.{RowFacts}
 use Rattle.doc_value.specs.declared.doc.DocField.{DocField}
 use Rattle.source_checkpoint.specs.declared.delta.StaleDelta.TheVariants as deltas
 use Rattle.index_world.specs.Accepted.{accepted}
-use Rattle.index_world.specs.Calls.{Fate, Fault, Trouble, faulted, no_memory, Unmade, refused, troubled, Gives, risen, looked, asked, upload_made}
+use Rattle.index_world.specs.Calls.{Fate, Trouble, faulted, no_memory, Unmade, refused, troubled, Gives, risen, looked, asked, upload_made}
 use Rattle.index_world.specs.Config.{docs_target, commit_timeout}
 use Rattle.index_world.specs.Core.{Core, last_count}
 use Rattle.index_world.specs.Gate.{stage_call, publish_call}
@@ -24,10 +24,12 @@ use Rattle.indexing_run.specs.Outcomes.{IndexerOutcome}
 use Rattle.indexing_run.specs.Outcomes as said
 use Rattle.indexing_run.specs.Places.{Batch, Held, Place, idle, reading, staged, uploaded, Indexer}
 
--- the fate of one call of a log
+-- The fate of one call of a log: whether it fails, by how much its count rises, and whether there is no memory for the names
+-- of an idle indexer's partitions, read or copied.
 pub record LogCall : Type 0 where
   pub fails : Bool
   pub rises : ℕ
+  pub short : Bool
 
 -- the fate of one step: its call of a log, its call of the world, and whether it finds no memory behind them
 pub record Luck : Type 0 where
@@ -92,8 +94,13 @@ idle_by false None luck log indexer core = take_checkpoints luck log (log_called
 idle_by true (Some names) luck log indexer core = take_checkpoints luck log indexer core
 idle_by false (Some names) luck log indexer core = take_checkpoints luck log indexer core
 
+-- without memory for the names nothing more is done
+abbrev pub idle_unless : Bool → Luck → Log → Indexer → Core → Stepped
+idle_unless true luck log indexer core = stepped None idle (log_called luck.log indexer) core
+idle_unless false luck log indexer core = idle_by (log_may_fail luck.log indexer.log_faults) indexer.assignment luck log indexer core
+
 abbrev pub step_idle : Luck → Log → Indexer → Core → Stepped
-step_idle luck log indexer core = idle_by (log_may_fail luck.log indexer.log_faults) indexer.assignment luck log indexer core
+step_idle luck log indexer core = idle_unless luck.log.short luck log indexer core
 
 -- ---- reading
 
@@ -170,12 +177,15 @@ abbrev pub read_with : Taken → Bool → Batch → Checkpoint → List Checkpoi
 read_with taken at_end batch mark rest indexer core =
     stepped (Some (said.Read taken.count)) (reading (batch_after batch mark rest taken at_end core.moment)) indexer core
 
+-- what a read begins with, behind which nothing is taken yet
+abbrev pub start_of : Batch → Taken
+start_of batch = record { count = 0; documents = batch.documents; weight = weight batch.documents; heavy = false }
+
 -- `behind` are the records from the current place on
 abbrev pub read_current : Batch → Checkpoint → List Checkpoint → List (List ℕ) → Indexer → Core → Stepped
 read_current batch mark rest behind indexer core =
     read_with
-    (taken_from mark.partition mark.at (take (read_limit batch.count) behind)
-    (record { count = 0; documents = batch.documents; weight = weight batch.documents; heavy = false }))
+    (taken_from mark.partition mark.at (take (read_limit batch.count) behind) (start_of batch))
     (nat_le (length behind) (read_limit batch.count)) batch mark rest indexer core
 
 abbrev pub read_by : Bool → Luck → Log → Batch → Checkpoint → List Checkpoint → Indexer → Core → Stepped

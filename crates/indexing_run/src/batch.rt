@@ -1,10 +1,18 @@
 //! What an indexer has read since its checkpoints.
 
-ghost use Rattle.std.specs.Prelude.{◌≡◌, ◌≤◌, ◌<◌, ◌+◌, ◌^◌, ◌++◌, length, IfOk, IfSome};
+ghost use Rattle.std.specs.Prelude.{◌≡◌, ◌≤◌, ◌<◌, ◌+◌, ◌^◌, ℕ, suc, List, length, nat_lt, OnOk, IfOk, IfSome};
+ghost use Rattle.index_world.specs.Accepted.{accepted};
+ghost use Rattle.index_world.specs.Config.{docs_target};
+ghost use Rattle.source_checkpoint.specs.declared.ledger.Checkpoint.{Checkpoint};
+ghost use Rattle.indexing_run.specs.Making.{Follows};
+ghost use Rattle.indexing_run.specs.Places.{Batch as Made};
+ghost use Rattle.indexing_run.specs.Steps.{marks_at, fresh_batch, extended, parts_after, with_record, taken_from, start_of, is_closed};
+ghost use Rattle.indexing_run.specs.Standing.{left_of, kept_weight, taken_so_far, BatchStands, next_read, ReadsOn, batch_read};
 
+use crate::queue::Queue;
 use byte_fields::Bytes;
 use index_world::{Marks, Placed, PlacedList, accept, weight_of};
-use source_checkpoint::{Checkpoint, Part, Partition};
+use source_checkpoint::{Part, Partition};
 use source_log::{Partitions, Records};
 use std::alloc::{AllocError, Global};
 
@@ -17,12 +25,18 @@ const MAX_WEIGHT: u64 = 134_217_728;
 
 const MAX_READ: u64 = 1_000;
 
+/// What is read next: from where on, and how many records at most.
+#[derive(Drop)]
+pub struct NextRead {
+    pub partition: Partition,
+    pub from: u64,
+    pub room: u32,
+}
+
 /// The records of a batch.
 #[derive(Drop)]
 pub struct Batch {
-    // What is still to be read, each partition from its position on, from the place `current`.
-    queue: Vec<Checkpoint>,
-    current: usize,
+    queue: Queue,
     pub parts: Vec<Part>,
     pub documents: PlacedList,
     pub count: u64,
@@ -37,7 +51,10 @@ fn extend(
     partition: &Partition,
     from: u64,
     to: u64,
-) -> Result<(), AllocError> {
+) -> Result<(), AllocError>
+    ensures { Follows parts.old.items (record { partition = partition.now; at = from }) →
+        OnOk result (parts.new.items ≡ extended parts.old.items partition.now from to) }
+{
     let count = parts.len();
     if count > 0 && parts[count - 1].partition.is(partition) {
         parts[count - 1].to = to;
@@ -51,6 +68,47 @@ fn extend(
     Ok(())
 }
 
+// So many records from a place on were taken.
+fn extend_taken(
+    parts: &mut Vec<Part>,
+    partition: &Partition,
+    from: u64,
+    taken: u64,
+) -> Result<(), AllocError>
+    requires { from + taken < 2 ^ 64 }
+    ensures { Follows parts.old.items (record { partition = partition.now; at = from }) →
+        OnOk result (parts.new.items ≡ parts_after taken parts.old.items partition.now from) }
+{
+    if taken == 0 {
+        return Ok(());
+    }
+    extend(parts, partition, from, from + taken)
+}
+
+// Takes the record at an offset: a document where it is accepted.
+fn take_record(
+    alloc: Global,
+    partition: &Partition,
+    offset: u64,
+    bytes: &Bytes,
+    documents: &mut PlacedList,
+    weight: &mut u64,
+) -> Result<(), AllocError>
+    ensures { (n : ℕ) → weight.old ≡ kept_weight documents.old → OnOk result ((weight.new ≡ kept_weight documents.new)
+        × (with_record partition.now offset (accepted bytes.now) (taken_so_far n documents.old) ≡ taken_so_far (suc n) documents.new)) }
+{
+    let Some(doc) = accept(alloc, bytes.as_slice())? else {
+        return Ok(());
+    };
+    let placed = Placed {
+        partition: partition.copy(),
+        offset,
+        doc,
+    };
+    *weight = weight.saturating_add(weight_of(&placed));
+    documents.push(placed)
+}
+
 // The records one after another, up to the one with which the batch is too heavy. Gives how many were taken.
 fn take_records(
     alloc: Global,
@@ -61,48 +119,28 @@ fn take_records(
     weight: &mut u64,
 ) -> Result<u64, AllocError>
     requires { from + length records.now < 2 ^ 64 }
-    ensures { IfOk result (λ taken. taken ≤ length records.now) }
+    ensures within { IfOk result (λ taken. taken ≤ length records.now) }
+    ensures taken { weight.old ≡ kept_weight documents.old → IfOk result (λ taken. (weight.new ≡ kept_weight documents.new)
+        × (taken_from partition.now from records.now (taken_so_far 0 documents.old) ≡ taken_so_far taken documents.new)) }
 {
     for (i, record) in records.iter().enumerate() {
         if *weight > MAX_WEIGHT {
             return Ok(i as u64);
         }
-        if let Some(doc) = accept(alloc, record.as_slice())? {
-            let placed = Placed {
-                partition: partition.copy(),
-                offset: from + i as u64,
-                doc,
-            };
-            *weight = weight.saturating_add(weight_of(&placed));
-            documents.push(placed)?;
-        }
+        take_record(alloc, partition, from + i as u64, record, documents, weight)?;
     }
     Ok(records.len() as u64)
 }
 
-fn queue_of(
-    alloc: Global,
-    names: &Partitions,
-    marks: &Marks,
-) -> Result<Vec<Checkpoint>, AllocError> {
-    let mut queue = Vec::new(alloc);
-    for partition in names.as_slice() {
-        queue.push(Checkpoint {
-            partition: partition.copy(),
-            at: marks.position(partition),
-        })?;
-    }
-    Ok(queue)
-}
-
 impl Batch {
     /// An empty batch of these partitions, from the checkpoints on.
-    pub fn begin(alloc: Global, names: &Partitions, marks: &Marks) -> Result<Batch, AllocError> {
-        let queue = queue_of(alloc, names, marks)?;
+    pub fn begin(alloc: Global, names: &Partitions, marks: &Marks) -> Result<Batch, AllocError>
+        ensures { IfOk result (λ batch. BatchStands batch (fresh_batch (marks_at marks.now.checkpoints.items names.now))) }
+    {
+        let queue = Queue::from_marks(alloc, names, marks)?;
         let closed = queue.is_empty();
         Ok(Batch {
             queue,
-            current: 0,
             parts: Vec::new(alloc),
             documents: PlacedList::vacant(alloc),
             count: 0,
@@ -113,35 +151,29 @@ impl Batch {
     }
 
     /// Where the next read begins, and how many records it may give.
-    pub fn next_read(&self) -> Option<(Partition, u64, u32)>
-        ensures { IfSome result (λ x. 1 ≤ x.2) }
+    pub fn next_read(&self) -> Option<NextRead>
+        ensures room { IfSome result (λ next. 1 ≤ next.room) }
+        ensures next { (batch : Made) → BatchStands self.now batch → batch.count < docs_target → result ≡ next_read batch.queue batch.count }
     {
-        let mark = self.queue.get(self.current)?;
+        let mark = self.queue.first()?;
+        // A batch that is read on has room for a record.
         let room = DOCS_TARGET.saturating_sub(self.count).min(MAX_READ).max(1);
-        Some((mark.partition.copy(), mark.at, room as u32))
+        Some(NextRead {
+            partition: mark.partition.copy(),
+            from: mark.at,
+            room: room as u32,
+        })
     }
-}
 
-impl Batch {
     // Whether a batch is to be read no further behind a read at this moment.
-    fn is_full(&self, now: u64) -> bool {
-        let since = self.first_read.unwrap_or(now);
-        self.current >= self.queue.len()
+    fn is_full(&self, since: u64, now: u64) -> bool
+        requires { now < 2 ^ 62 }
+        ensures { result ≡ is_closed (left_of self.now.queue) self.now.count (nat_lt 134217728 self.now.weight) since now }
+    {
+        self.queue.is_empty()
             || self.count >= DOCS_TARGET
             || self.weight > MAX_WEIGHT
             || (self.count > 0 && now >= since.saturating_add(COMMIT_TIMEOUT))
-    }
-
-    // The current partition was read so far, or to its end.
-    fn move_on(&mut self, taken: u64, end: bool) {
-        if self.current < self.queue.len() {
-            if end {
-                self.current += 1;
-            } else {
-                let mark = &mut self.queue[self.current];
-                mark.at = mark.at.saturating_add(taken);
-            }
-        }
     }
 
     /// Takes what was read of a partition from a place on, at a moment. Gives how many records were taken.
@@ -153,7 +185,12 @@ impl Batch {
         records: &Records,
         now: u64,
     ) -> Result<u64, AllocError>
-        requires { from + length records.now.list < 2 ^ 64 }
+        requires low { from + length records.now.list < 2 ^ 64 }
+        requires moment { now < 2 ^ 62 }
+        ensures { (batch : Made) (mark : Checkpoint) (rest : List Checkpoint) → BatchStands self.old batch →
+            ReadsOn batch mark rest records.now → partition.now ≡ mark.partition → from ≡ mark.at →
+            IfOk result (λ count. (count ≡ (taken_from mark.partition mark.at records.now.list (start_of batch)).count)
+            × BatchStands self.new (batch_read batch mark rest records.now now)) }
     {
         let mut weight = self.weight;
         let taken = take_records(
@@ -165,13 +202,12 @@ impl Batch {
             &mut weight,
         )?;
         self.weight = weight;
-        if taken > 0 {
-            extend(&mut self.parts, partition, from, from + taken)?;
-        }
+        extend_taken(&mut self.parts, partition, from, taken)?;
+        let since = self.first_read.unwrap_or(now);
+        self.first_read = Some(since);
         self.count = self.count.saturating_add(taken);
-        self.first_read = Some(self.first_read.unwrap_or(now));
-        self.move_on(taken, records.end);
-        self.closed = self.is_full(now);
+        self.queue.move_on(taken, records.end);
+        self.closed = self.is_full(since, now);
         Ok(taken)
     }
 }

@@ -1,6 +1,19 @@
 //! An indexer and its steps.
 
+ghost use Rattle.std.specs.Prelude.{◌≡◌, ◌<◌, ℕ, List, true, false, Some, None, IfOk};
+ghost use Rattle.byte_fields.specs.Causes.{HasCause};
 ghost use Rattle.meta_journal.specs.Spelling.{CanSpellFacts};
+ghost use Rattle.meta_store.specs.declared.refusal.Refusal.{Refusal};
+ghost use Rattle.source_log.specs.Log.{Log};
+ghost use Rattle.split_states.specs.declared.facts.RowFacts.{RowFacts};
+ghost use Rattle.index_world.specs.Calls.{Trouble, Unmade};
+ghost use Rattle.index_world.specs.Core.{Core};
+ghost use Rattle.index_world.specs.Gate.{IsTrouble, IsUnmade};
+ghost use Rattle.index_world.specs.SplitFile.{split_file};
+ghost use Rattle.indexing_run.specs.Making.{IsBatch, IsAssigned};
+ghost use Rattle.indexing_run.specs.Places.{Batch as Made, Held, Indexer as Actor, IsStagedHeld, IsUploadedHeld, is_idle, idle, reading, staged as staged_at, uploaded as uploaded_at};
+ghost use Rattle.indexing_run.specs.Steps.{trouble_outcome, publish_refused, publish_outcome, stage_outcome};
+ghost use Rattle.indexing_run.specs.Standing.{BatchStands, IndexerStands, IsSaid, Answers, NamesGiven, StepsAs};
 
 use crate::batch::Batch;
 use crate::outcome::IndexerOutcome;
@@ -31,14 +44,18 @@ pub struct Indexer<L: SourceLog> {
 }
 
 // A fault of the world; want of memory is the step's own answer.
-fn faulted(error: WorldError) -> Result<IndexerOutcome, AllocError> {
+fn faulted(error: WorldError) -> Result<IndexerOutcome, AllocError>
+    ensures { (trouble : Trouble) → IsTrouble error trouble → Answers result (trouble_outcome trouble) }
+{
     match error {
         WorldError::Memory(refused) => Err(refused),
         error => Ok(IndexerOutcome::Fault { error }),
     }
 }
 
-fn copied(alloc: Global, names: &Partitions) -> Result<Partitions, AllocError> {
+fn copied(alloc: Global, names: &Partitions) -> Result<Partitions, AllocError>
+    ensures { IfOk result (λ copy. copy ≡ names.now) }
+{
     let mut copy = Partitions::vacant(alloc);
     for name in names.as_slice() {
         copy.push(name.copy())?;
@@ -49,7 +66,8 @@ fn copied(alloc: Global, names: &Partitions) -> Result<Partitions, AllocError> {
 // The facts of a split whose ranges have so many refused records.
 fn with_rejected(facts: RowFacts, rejected: u64) -> RowFacts
     requires { CanSpellFacts facts }
-    ensures { CanSpellFacts result }
+    ensures can { CanSpellFacts result }
+    ensures facts { result ≡ record facts { rejected = rejected } }
 {
     let mut facts = facts;
     facts.rejected = rejected;
@@ -57,7 +75,9 @@ fn with_rejected(facts: RowFacts, rejected: u64) -> RowFacts
 }
 
 // What became of a Publish that was refused.
-fn refused_publish(number: u64, refusal: Refusal) -> IndexerOutcome {
+fn refused_publish(number: u64, refusal: Refusal) -> IndexerOutcome
+    ensures { IsSaid result (publish_refused number refusal) }
+{
     if let Refusal::Delta(
         StaleDelta::Stale {
             partition,
@@ -75,9 +95,33 @@ fn refused_publish(number: u64, refusal: Refusal) -> IndexerOutcome {
     IndexerOutcome::Lost { number, refusal }
 }
 
+// Why a Publish was not made.
+fn unpublished(number: u64, error: WorldError) -> Result<IndexerOutcome, AllocError>
+    ensures { (unmade : Unmade) → IsUnmade error unmade → Answers result (publish_outcome number unmade) }
+{
+    match error {
+        WorldError::Refused(refusal) => Ok(refused_publish(number, refusal)),
+        error => faulted(error),
+    }
+}
+
+// Why a Stage was not made.
+fn unstaged(error: WorldError) -> Result<IndexerOutcome, AllocError>
+    ensures { (unmade : Unmade) → IsUnmade error unmade → Answers result (stage_outcome unmade) }
+{
+    match error {
+        WorldError::Refused(refusal) => Ok(IndexerOutcome::Refused { refusal }),
+        error => faulted(error),
+    }
+}
+
 impl<L: SourceLog> Indexer<L> {
     /// An idle indexer of a log, which reads all its partitions.
-    pub fn start(log: L) -> Indexer<L> {
+    pub fn start(log: L) -> Indexer<L>
+        ensures log { result.log ≡ log }
+        ensures stands { (core : Core) (read : Log) → L.told log ≡ Some read →
+            IndexerStands L.told L.fault_count result (record { assignment = None; place = idle; log_faults = L.fault_count log }) core read }
+    {
         Indexer {
             log,
             assignment: None,
@@ -86,11 +130,18 @@ impl<L: SourceLog> Indexer<L> {
     }
 
     /// Drops the batch. The log and the assignment stay.
-    pub fn restart(&mut self) {
+    pub fn restart(&mut self)
+        ensures log { self.new.log ≡ self.old.log }
+        ensures stands { (indexer : Actor) (core after : Core) (read : Log) → IndexerStands L.told L.fault_count self.old indexer core read →
+            IndexerStands L.told L.fault_count self.new (record indexer { place = idle }) after read }
+    {
         self.place = Place::Idle;
     }
 
-    pub fn is_idle(&self) -> bool {
+    pub fn is_idle(&self) -> bool
+        ensures { (indexer : Actor) (core : Core) (read : Log) → IndexerStands L.told L.fault_count self.now indexer core read →
+            result ≡ is_idle indexer.place }
+    {
         match &self.place {
             Place::Idle => true,
             _ => false,
@@ -98,16 +149,29 @@ impl<L: SourceLog> Indexer<L> {
     }
 
     /// The log's count of faults.
-    pub fn log_faults(&self) -> u64 {
+    pub fn log_faults(&self) -> u64
+        ensures { result ≡ L.fault_count self.now.log }
+    {
         self.log.faults()
     }
 
     /// From here on it reads these partitions alone, in this order.
-    pub fn assign(&mut self, partitions: Partitions) {
+    pub fn assign(&mut self, partitions: Partitions)
+        ensures log { self.new.log ≡ self.old.log }
+        ensures stands { (indexer : Actor) (core : Core) (read : Log) → IndexerStands L.told L.fault_count self.old indexer core read →
+            IsAssigned (Some partitions) → IndexerStands L.told L.fault_count self.new (record indexer { assignment = Some partitions }) core read }
+    {
         self.assignment = Some(partitions);
     }
 
-    fn names(&mut self, alloc: Global) -> Result<Partitions, ReadError> {
+    fn names(&mut self, alloc: Global) -> Result<Partitions, ReadError>
+        ensures later { L.since self.old.log self.new.log }
+        ensures place { self.new.place ≡ self.old.place }
+        ensures assignment { self.new.assignment ≡ self.old.assignment }
+        ensures names { (read : Log) → L.told self.old.log ≡ Some read →
+            NamesGiven self.old.assignment result (L.fault_count self.old.log) (L.fault_count self.new.log) read }
+        ensures told { (read : Log) → L.told self.old.log ≡ Some read → L.told self.new.log ≡ Some read }
+    {
         match &self.assignment {
             Some(partitions) => Ok(copied(alloc, partitions)?),
             None => self.log.partitions(alloc),
@@ -118,17 +182,19 @@ impl<L: SourceLog> Indexer<L> {
         &mut self,
         alloc: Global,
         gate: &mut G,
-    ) -> Result<IndexerOutcome, AllocError> {
+    ) -> Result<IndexerOutcome, AllocError>
+        ensures later { L.since self.old.log self.new.log }
+        ensures step { (indexer : Actor) (core : Core) (read : Log) →
+            IndexerStands L.told L.fault_count self.old (record indexer { place = idle }) core read → G.Stands gate.old core read →
+            StepsAs L.told L.fault_count G.Stands G.Between result (record indexer { place = idle }) core read self.new gate.new }
+    {
         let before = self.log.faults();
-        let names = match self.names(alloc) {
+        let names = self.names(alloc);
+        let after = self.log.faults();
+        let names = match names {
             Ok(names) => names,
             Err(ReadError::Memory(refused)) => return Err(refused),
-            Err(ReadError::Failed) => {
-                return Ok(IndexerOutcome::SourceFault {
-                    before,
-                    after: self.log.faults(),
-                });
-            }
+            Err(ReadError::Failed) => return Ok(IndexerOutcome::SourceFault { before, after }),
         };
         match gate.checkpoints(alloc) {
             Ok(marks) => {
@@ -143,29 +209,34 @@ impl<L: SourceLog> Indexer<L> {
         &mut self,
         alloc: Global,
         gate: &mut G,
-        mut batch: Batch,
-    ) -> Result<IndexerOutcome, AllocError> {
+        batch: Batch,
+    ) -> Result<IndexerOutcome, AllocError>
+        ensures later { L.since self.old.log self.new.log }
+        ensures step { (indexer : Actor) (core : Core) (read : Log) (made : Made) →
+            IndexerStands L.told L.fault_count self.old (record indexer { place = idle }) core read → G.Stands gate.old core read → BatchStands batch made → IsBatch read made → made.closed ≡ false →
+            StepsAs L.told L.fault_count G.Stands G.Between result (record indexer { place = reading made }) core read self.new gate.new }
+    {
+        let mut batch = batch;
         let now = match gate.moment(alloc) {
             Ok(now) => now,
             Err(error) => return faulted(error),
         };
-        let Some((partition, from, room)) = batch.next_read() else {
+        let Some(next) = batch.next_read() else {
             return Ok(IndexerOutcome::CaughtUp);
         };
         let before = self.log.faults();
-        match self.log.read(alloc, &partition, from, room) {
+        let records = self.log.read(alloc, &next.partition, next.from, next.room);
+        let after = self.log.faults();
+        match records {
             Ok(records) => {
-                let count = batch.take(alloc, &partition, from, &records, now)?;
+                let count = batch.take(alloc, &next.partition, next.from, &records, now)?;
                 self.place = Place::Reading(batch);
                 Ok(IndexerOutcome::Read { count })
             }
             Err(ReadError::Memory(refused)) => Err(refused),
             Err(ReadError::Failed) => {
                 self.place = Place::Reading(batch);
-                Ok(IndexerOutcome::SourceFault {
-                    before,
-                    after: self.log.faults(),
-                })
+                Ok(IndexerOutcome::SourceFault { before, after })
             }
         }
     }
@@ -175,7 +246,12 @@ impl<L: SourceLog> Indexer<L> {
         alloc: Global,
         gate: &mut G,
         batch: Batch,
-    ) -> Result<IndexerOutcome, AllocError> {
+    ) -> Result<IndexerOutcome, AllocError>
+        ensures later { L.since self.old.log self.new.log }
+        ensures step { (indexer : Actor) (core : Core) (read : Log) (made : Made) →
+            IndexerStands L.told L.fault_count self.old (record indexer { place = idle }) core read → G.Stands gate.old core read → BatchStands batch made → IsBatch read made → made.closed ≡ true → (made.count ≡ 0 → ⊥) →
+            StepsAs L.told L.fault_count G.Stands G.Between result (record indexer { place = reading made }) core read self.new gate.new }
+    {
         let BuiltSplit { bytes, facts } = build(alloc, &batch.documents)?;
         let rejected = batch.count.saturating_sub(facts.docs);
         let facts = with_rejected(facts, rejected);
@@ -186,8 +262,7 @@ impl<L: SourceLog> Indexer<L> {
                 self.place = Place::Staged(staged, bytes);
                 Ok(IndexerOutcome::Staged { number })
             }
-            Err(WorldError::Refused(refusal)) => Ok(IndexerOutcome::Refused { refusal }),
-            Err(error) => faulted(error),
+            Err(error) => unstaged(error),
         }
     }
 
@@ -197,7 +272,12 @@ impl<L: SourceLog> Indexer<L> {
         gate: &mut G,
         staged: Staged,
         bytes: &Bytes,
-    ) -> Result<IndexerOutcome, AllocError> {
+    ) -> Result<IndexerOutcome, AllocError>
+        ensures later { L.since self.old.log self.new.log }
+        ensures step { (indexer : Actor) (core : Core) (read : Log) (held : Held) →
+            IndexerStands L.told L.fault_count self.old (record indexer { place = idle }) core read → G.Stands gate.old core read → staged.number ≡ held.number → bytes.now ≡ split_file held.documents → IsStagedHeld read core held →
+            StepsAs L.told L.fault_count G.Stands G.Between result (record indexer { place = staged_at held }) core read self.new gate.new }
+    {
         let number = staged.number;
         match gate.upload(alloc, staged, bytes.as_slice()) {
             Ok(uploaded) => {
@@ -213,12 +293,16 @@ impl<L: SourceLog> Indexer<L> {
         alloc: Global,
         gate: &mut G,
         uploaded: Uploaded,
-    ) -> Result<IndexerOutcome, AllocError> {
+    ) -> Result<IndexerOutcome, AllocError>
+        ensures later { L.since self.old.log self.new.log }
+        ensures step { (indexer : Actor) (core : Core) (read : Log) (held : Held) →
+            IndexerStands L.told L.fault_count self.old (record indexer { place = idle }) core read → G.Stands gate.old core read → uploaded.number ≡ held.number → IsUploadedHeld read core held →
+            StepsAs L.told L.fault_count G.Stands G.Between result (record indexer { place = uploaded_at held }) core read self.new gate.new }
+    {
         let number = uploaded.number;
         match gate.publish(alloc, uploaded) {
             Ok(_) => Ok(IndexerOutcome::Published { number }),
-            Err(WorldError::Refused(refusal)) => Ok(refused_publish(number, refusal)),
-            Err(error) => faulted(error),
+            Err(error) => unpublished(number, error),
         }
     }
 
@@ -227,7 +311,12 @@ impl<L: SourceLog> Indexer<L> {
         alloc: Global,
         gate: &mut G,
         batch: Batch,
-    ) -> Result<IndexerOutcome, AllocError> {
+    ) -> Result<IndexerOutcome, AllocError>
+        ensures later { L.since self.old.log self.new.log }
+        ensures step { (indexer : Actor) (core : Core) (read : Log) (made : Made) →
+            IndexerStands L.told L.fault_count self.old (record indexer { place = idle }) core read → G.Stands gate.old core read → BatchStands batch made → IsBatch read made →
+            StepsAs L.told L.fault_count G.Stands G.Between result (record indexer { place = reading made }) core read self.new gate.new }
+    {
         if !batch.closed {
             return self.read_on(alloc, gate, batch);
         }
@@ -243,7 +332,12 @@ impl<L: SourceLog> Indexer<L> {
         &mut self,
         alloc: Global,
         gate: &mut G,
-    ) -> Result<IndexerOutcome, AllocError> {
+    ) -> Result<IndexerOutcome, AllocError>
+        ensures later { L.since self.old.log self.new.log }
+        ensures step { (indexer : Actor) (core : Core) (read : Log) →
+            IndexerStands L.told L.fault_count self.old indexer core read → G.Stands gate.old core read →
+            StepsAs L.told L.fault_count G.Stands G.Between result indexer core read self.new gate.new }
+    {
         match mem::replace(&mut self.place, Place::Idle) {
             Place::Idle => self.take_checkpoints(alloc, gate),
             Place::Reading(batch) => self.go_on(alloc, gate, batch),

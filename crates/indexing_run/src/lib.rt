@@ -4,6 +4,7 @@
 mod batch;
 mod indexer;
 mod outcome;
+mod queue;
 
 pub use indexer::Indexer;
 pub use outcome::{IndexerOutcome, print_outcome};

@@ -1,5 +1,10 @@
 //! What a step of an indexer answers, and its words.
 
+ghost use Rattle.std.specs.Prelude.{◌≡◌, ◌∷◌, [], OnOk, IfOk, decimal};
+ghost use Rattle.index_world.specs.Saying.{with_words};
+ghost use Rattle.indexing_run.specs.Outcomes.{IndexerOutcome as Outcome, outcome_words, words};
+ghost use Rattle.indexing_run.specs.Standing.{IsSaid, said_words};
+
 use byte_fields::Bytes;
 use index_world::{WorldError, put_fault, put_number, put_refusal, put_word};
 use meta_store::Refusal;
@@ -53,17 +58,16 @@ pub enum IndexerOutcome {
     },
 }
 
-fn put_numbered(
-    alloc: Global,
-    out: &mut Bytes,
-    word: &[u8],
-    number: u64,
-) -> Result<(), AllocError> {
+fn put_numbered(alloc: Global, out: &mut Bytes, word: &[u8], number: u64) -> Result<(), AllocError>
+    ensures { OnOk result (out.new ≡ with_words out.old (word.now ∷ decimal number ∷ [])) }
+{
     put_word(out, word)?;
     put_number(alloc, out, number)
 }
 
-fn put_outcome(alloc: Global, out: &mut Bytes, outcome: &IndexerOutcome) -> Result<(), AllocError> {
+fn put_outcome(alloc: Global, out: &mut Bytes, outcome: &IndexerOutcome) -> Result<(), AllocError>
+    ensures { OnOk result (out.new ≡ with_words out.old (said_words outcome.now)) }
+{
     match outcome {
         IndexerOutcome::Checkpoint => put_word(out, b"checkpoint"),
         IndexerOutcome::Read { count } => put_numbered(alloc, out, b"read", *count),
@@ -98,7 +102,9 @@ fn put_outcome(alloc: Global, out: &mut Bytes, outcome: &IndexerOutcome) -> Resu
 }
 
 /// The words of an outcome, with one blank between.
-pub fn print_outcome(alloc: Global, outcome: &IndexerOutcome) -> Result<Bytes, AllocError> {
+pub fn print_outcome(alloc: Global, outcome: &IndexerOutcome) -> Result<Bytes, AllocError>
+    ensures { (said : Outcome) → IsSaid outcome.now said → IfOk result (λ bytes. bytes ≡ words (outcome_words said)) }
+{
     let mut out = Bytes::vacant(alloc);
     put_outcome(alloc, &mut out, outcome)?;
     Ok(out)

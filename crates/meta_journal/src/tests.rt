@@ -88,6 +88,31 @@ fn bytes_that_are_no_entry(rt: HostRuntime) -> Result<(), Fail> {
     Ok(())
 }
 
+// A Fence, a Publish, a Remove, a Retire, a Task and a Create.
+#[test]
+fn each_cut_is_refused_at_its_end(rt: HostRuntime) -> Result<(), Fail> {
+    let alloc = rt.alloc();
+    let table: [&[u8]; 6] = [
+        b"QWJ\x02\x00\xe8\x07",
+        b"QWJ\x02\x03\xe8\x07\x01",
+        b"QWJ\x02\x08\x94\x0a\x02\x01\x02",
+        b"QWJ\x02\x09\xf8\x23\x01\x01",
+        b"QWJ\x02\x06\x00\x01\x01a\x01\x01b\x01\x01\x00",
+        b"QWJ\x01\x01\xe8\x07\x05hello",
+    ];
+    for bytes in &table {
+        for cut in 0..bytes.len() {
+            let expected = if cut < 3 {
+                format!(in alloc; "BadMagic")?
+            } else {
+                format!(in alloc; "Field(Short {{ at: {cut} }})")?
+            };
+            assert_eq!(rt; told(alloc, &bytes[..cut])?, expected);
+        }
+    }
+    Ok(())
+}
+
 // Why the bytes are no entry.
 fn told(alloc: Global, bytes: &[u8]) -> Result<String, Fail> {
     match decode_entry(alloc, bytes) {

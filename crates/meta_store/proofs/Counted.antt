@@ -10,6 +10,7 @@ use Rattle.meta_store.specs.History.History.{Start, ◌▸◌}
 use Rattle.meta_store.specs.Ledgers.{ledger}
 use Rattle.meta_store.specs.State.{Reads, Legal}
 use Rattle.meta_store.specs.Laws.{IsCounted, IsNumbered, NumberedFrom, holds_place, times_at, all_ranges}
+use Rattle.meta_store.proofs.Kept.{kept}
 use Rattle.meta_store.proofs.Covering.{one_if, once_at}
 use Rattle.meta_store.proofs.Current.{tasks_agree}
 use Rattle.meta_store.proofs.Sound.{IsSound, sound}
@@ -38,7 +39,8 @@ counted reads es l = by_parts (sound reads (history es) l) (tallied reads (histo
       last_opstamp = rw (tasks_agree (history es)) t.last;
       spans = t.spans;
       checkpoints = s.agree;
-      retired = t.retired;
+      retired = (kept reads (history es) l).same;
+      joined = (kept reads (history es) l).joined;
     }
 
 at_most_one : (b : Bool) → one_if b ≤ 1

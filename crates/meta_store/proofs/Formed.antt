@@ -64,7 +64,7 @@ rise_without_each [] rows h = h
 rise_without_each (n ∷ numbers) rows h = rise_without_each numbers (without n rows) (rise_without rows n h)
 
 -- each span of a row has its form
-abbrev IsGood : ℕ → Row → Type 0
+abbrev pub IsGood : ℕ → Row → Type 0
 IsGood last row = AllOf (IsSpan last) row.spans
 
 good_staged : (k : ℕ) (delta : List Part) → IsDelta delta → AllOf (IsSpan k) (spans_of k delta)
@@ -84,7 +84,7 @@ good_found last n (r ∷ rows) h =
     let rest = good_found last n rows h.1 in
     elim (r.number == n) as (λ b. AllOf (IsSpan last) (row_spans (cond b (Some r) (row_at rows n)))) [ true ↦ h.0 | false ↦ rest ]
 
-good_joined : (last : ℕ) (numbers : List ℕ) (rows : List Row) → AllOf (IsGood last) rows → AllOf (IsSpan last) (joined_spans rows numbers)
+pub good_joined : (last : ℕ) (numbers : List ℕ) (rows : List Row) → AllOf (IsGood last) rows → AllOf (IsSpan last) (joined_spans rows numbers)
 good_joined last [] rows h = tt
 good_joined last (n ∷ numbers) rows h = AllOf-append (IsSpan last) (row_spans (row_at rows n)) (joined_spans rows numbers) (good_found last n rows h) (good_joined last numbers rows h)
 
@@ -101,7 +101,7 @@ good_shown last (r ∷ rows) h =
     (elim (is_published r.state) as (λ b. AllOf (IsSpan last) (cond b r.spans [])) [ true ↦ h.0 | false ↦ tt ])
     (good_shown last rows h.1)
 
-record IsShaped (h : History) : Type 0 where
+pub record IsShaped (h : History) : Type 0 where
   pub rise : RowsRise (rows h)
   pub good : AllOf (IsGood (last_of (tasks_of h))) (rows h)
 
@@ -164,7 +164,7 @@ shaped_next : (reads : Reads) (reading : Reading) (c : Option Config) (h : Histo
 shaped_next reads reading None h m act s t f = shaped_first reading h m act t f
 shaped_next reads reading (Some config) h m act s t f = shaped_after reads reading config.settings h m act s t f
 
-shaped : (reads : Reads) (h : History) → Legal reads h → IsShaped h
+pub shaped : (reads : Reads) (h : History) → Legal reads h → IsShaped h
 shaped reads Start l = record { rise = tt; good = tt }
 shaped reads (h ▸ e) l = shaped_next reads (reading_of reads (config_of reads h) e.act) (config_of reads h) h e.moment e.act (sound reads h l.0) (shaped reads h l.0) l.1.1
 

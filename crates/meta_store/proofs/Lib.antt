@@ -3,6 +3,8 @@ pub mod RowLists
 pub mod Covering
 pub mod Distinct
 pub mod Moves
+pub mod Retiring
+pub mod Joined
 pub mod Sound
 pub mod Seen
 pub mod Current
@@ -13,4 +15,6 @@ pub mod Counted
 pub mod Worked
 pub mod Answered
 pub mod Formed
+pub mod Kept
+pub mod TakenOut
 pub mod ByWords

@@ -39,7 +39,6 @@ use Rattle.split_states.specs.declared.rows.RowState.TheVariants.{Staged, Publis
 -- the counters, and what the Publishes took in
 pub record IsTallied (h : History) : Type 0 where
   pub spans : span_count_of h ≡ length (ledger h).spans
-  pub retired : IsPermutation (retired_of h) (ledger h).retired
   pub last : last_of (tasks_of h) ≡ length (tasks_of h)
   pub numbered : NumberedFrom 1 (tasks_of h)
   pub staged_low : AllOf (λ n. n ≤ last_number h) (staged_numbers h)
@@ -88,7 +87,6 @@ deltas_stay last number delta so_far (n ∷ numbers) h lt =
 tallied_start : IsTallied Start
 tallied_start = record {
   spans = refl;
-  retired = IsPermutation-refl [];
   last = refl;
   numbered = tt;
   staged_low = tt;
@@ -102,7 +100,6 @@ tallied_start = record {
 tallied_fence : (h : History) (m : ℕ) → IsTallied h → IsTallied (h ▸ at m Fence)
 tallied_fence h m t = record {
   spans = t.spans;
-  retired = t.retired;
   last = t.last;
   numbered = t.numbered;
   staged_low = t.staged_low;
@@ -116,7 +113,6 @@ tallied_fence h m t = record {
 tallied_create : (h : History) (m : ℕ) (config : List ℕ) → IsTallied h → IsTallied (h ▸ at m (Create config))
 tallied_create h m config t = record {
   spans = t.spans;
-  retired = t.retired;
   last = t.last;
   numbered = t.numbered;
   staged_low = t.staged_low;
@@ -133,7 +129,6 @@ tallied_task h m opstamp text fields times t next =
     let count = length-append (tasks_of h) (task_of opstamp text fields times ∷ []) in
     record {
       spans = t.spans;
-      retired = t.retired;
       last = pushed ∙ omega (arith, next, count, t.last);
       numbered = numbered_push 1 (tasks_of h) (task_of opstamp text fields times) t.numbered (omega (arith, next, t.last));
       staged_low = t.staged_low;
@@ -153,7 +148,6 @@ tallied_stage h m number delta facts t next =
     let pushed : HoldRows waits (last_number h + 1) (rows h ++ new ∷ []) = HoldRows-push waits (last_number h) (rows h) new next t.waiting (λ e. fresh) in
     record {
       spans = t.spans;
-      retired = t.retired;
       last = t.last;
       numbered = t.numbered;
       staged_low = AllOf-append (λ n. n ≤ max (last_number h) number) (staged_numbers h) (number ∷ []) (AllOf-weaker (λ n. n ≤ last_number h) (λ n. n ≤ max (last_number h) number) (staged_numbers h) (λ n le. omega arith) t.staged_low) (omega arith, tt);
@@ -180,7 +174,6 @@ tallied_publish h m number row s t found still =
     let listed = ap length ranges in
     record {
       spans = omega (arith, t.spans, live, count, listed);
-      retired = t.retired;
       last = t.last;
       numbered = t.numbered;
       staged_low = t.staged_low;
@@ -211,7 +204,6 @@ tallied_raise h m number upto t =
     let count = length-map (ledger h).spans (raised_among (reach h number) upto) in
     record {
       spans = omega (arith, t.spans, count);
-      retired = t.retired;
       last = t.last;
       numbered = t.numbered;
       staged_low = t.staged_low;
@@ -227,7 +219,6 @@ tallied_replace h m new upto old t =
     let count = length-map (ledger h).spans (raised_among (flat_map (reach h) old) upto) in
     record {
       spans = omega (arith, t.spans, count);
-      retired = t.retired;
       last = t.last;
       numbered = t.numbered;
       staged_low = t.staged_low;
@@ -244,7 +235,6 @@ tallied_replace h m new upto old t =
 tallied_mark : (h : History) (m : ℕ) (numbers : List ℕ) → IsTallied h → IsTallied (h ▸ at m (MarkStaged numbers))
 tallied_mark h m numbers t = record {
   spans = t.spans;
-  retired = t.retired;
   last = t.last;
   numbered = t.numbered;
   staged_low = t.staged_low;
@@ -258,7 +248,6 @@ tallied_mark h m numbers t = record {
 tallied_remove : (h : History) (m : ℕ) (numbers : List ℕ) → IsTallied h → IsTallied (h ▸ at m (Remove numbers))
 tallied_remove h m numbers t = record {
   spans = t.spans;
-  retired = t.retired;
   last = t.last;
   numbered = t.numbered;
   staged_low = t.staged_low;
@@ -283,7 +272,6 @@ tallied_retire h m numbers s t apart i =
     let gone : IsPermutation joined (filter (is_among (map range_of joined)) (ledger h).spans) = IsPermutation-taken joined hidden (ledger h).spans none all in
     record {
       spans = rw (← ranges) (omega (arith, t.spans, whole, split, rest));
-      retired = rw (← ranges) (IsPermutation-append (retired_of h) (ledger h).retired (map range_of joined) (map range_of (filter (is_among (map range_of joined)) (ledger h).spans)) t.retired (IsPermutation-map range_of _ _ gone));
       last = t.last;
       numbered = t.numbered;
       staged_low = t.staged_low;

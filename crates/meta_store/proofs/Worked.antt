@@ -11,7 +11,7 @@ use Rattle.meta_journal.specs.declared.entry.Act.TheVariants.{Fence, Create, Sta
 use Rattle.meta_store.specs.History.{history, at}
 use Rattle.meta_store.specs.Ledgers.{ledger}
 use Rattle.meta_store.specs.Rows.{rows}
-use Rattle.meta_store.specs.State.{Reads, Legal}
+use Rattle.meta_store.specs.State.{Reads, Legal, state_of}
 
 reads : Reads
 reads = record { config = λ text. Some (record { staged_grace = 10; deletion_grace = 20; period = Some 100 }); task = λ config task. true }
@@ -51,3 +51,8 @@ live_then = refl
 retired_then : (ledger (history entries)).retired ≡ part 0 2 ∷ part 2 5 ∷ []
 unfolding reads part facts entries
 retired_then = refl
+
+-- the state keeps both as one
+kept_then : (state_of reads (history entries)).retired ≡ part 0 5 ∷ []
+unfolding reads part facts entries
+kept_then = refl

@@ -1,14 +1,18 @@
 -- Which records of the log are seen, by the ledger and by the rows. What a record and its document are is a parameter.
-use Rattle.std.specs.Prelude.{ℕ, ◌&&◌, Bool, not, List, filter, flat_map, nat_lt}
+use Rattle.std.specs.Prelude.{ℕ, ◌≡◌, ◌==◌, ◌&&◌, Bool, true, not, List, Some, filter, flat_map, nat_lt}
+use Rattle.std.specs.List.{list_any}
 use Rattle.source_checkpoint.specs.declared.span.Span.{Span}
 use Rattle.source_checkpoint.specs.Deltas.{Partition, range_of}
 use Rattle.doc_value.specs.declared.doc.Doc.{Doc}
 use Rattle.split_states.specs.declared.rows.Row.{Row}
-use Rattle.split_states.specs.Rows.{is_published}
+use Rattle.source_checkpoint.specs.declared.delta.Part.{Part}
+use Rattle.split_states.specs.Answers.{IsOld}
+use Rattle.split_states.specs.Rows.{is_published, row_at}
+use Rattle.split_states.specs.declared.rows.RowState.TheVariants.{Published}
 use Rattle.delete_tasks.specs.declared.tasks.Task.{Task}
-use Rattle.delete_tasks.specs.Ledger.{Ledger}
+use Rattle.delete_tasks.specs.Ledger.{Ledger, is_among}
 use Rattle.delete_tasks.specs.Removed.{Place, lies_in, erased_by, removed}
-use Rattle.meta_store.specs.History.{History}
+use Rattle.meta_store.specs.History.{History, reach}
 use Rattle.meta_store.specs.Ledgers.{ledger}
 use Rattle.meta_store.specs.Rows.{rows}
 
@@ -45,3 +49,23 @@ pub record Placed : Type 0 where
   pub partition : Partition
   pub offset : ℕ
   pub doc : Doc
+
+-- ---- what a Retire takes out
+
+-- in a live span with one of these ranges, and not erased there
+abbrev pub is_taken_out : {X : Type 0} → Meaning X → Ledger → List Part → X → Bool
+is_taken_out meaning l ranges x = list_any (λ s. is_among ranges s && is_kept meaning l.tasks s x) l.spans
+
+-- the accepted records that a Retire of these rows takes out
+abbrev pub taken_out : {X : Type 0} → Meaning X → History → List ℕ → List X → List X
+taken_out meaning h numbers records = filter (is_taken_out meaning (ledger h) (flat_map (reach h) numbers)) records
+
+-- a record that is held, and not erased, by one of these Published rows, all of whose documents are a period old
+pub record IsTakenFrom {X : Type 0} (meaning : Meaning X) (h : History) (moment period : ℕ) (numbers : List ℕ) (x : X) : Type 0 where
+  pub number : ℕ
+  pub among : list_any (λ n. n == number) numbers ≡ true
+  pub row : Row
+  pub found : row_at (rows h) number ≡ Some row
+  pub published : row.state ≡ Published
+  pub old : IsOld moment period row.facts
+  pub holds : list_any (λ s. is_kept meaning (ledger h).tasks s x) row.spans ≡ true

@@ -14,6 +14,7 @@ use Rattle.delete_tasks.specs.declared.tasks.Task.{Task}
 use Rattle.delete_tasks.specs.Ledger.{Ledger, last_of}
 use Rattle.meta_store.specs.History.{History, history, delta_of, staged_numbers, published_numbers}
 use Rattle.meta_store.specs.Ledgers.{ledger}
+use Rattle.meta_store.specs.Retired.{AreJoined}
 use Rattle.meta_store.specs.Rows.{rows}
 use Rattle.meta_store.specs.State.{Reads, State, state_of}
 
@@ -48,6 +49,13 @@ pub record Once (h : History) : Type 0 where
   -- in each partition the live spans and the retired ranges, put in order, cover 0 to the checkpoint
   pub covers : (p : Partition) → CoversInOrder ((ledger h).checkpoints p) (of_partition p (all_ranges (ledger h)))
 
+-- how many of these ranges hold the place
+abbrev pub holds_place : Partition → ℕ → Part → Bool
+holds_place p offset r = bytes_eq r.partition p && (nat_le r.from offset && nat_lt offset r.to)
+
+abbrev pub times_at : Partition → ℕ → List Part → ℕ
+times_at p offset ranges = sum_by (λ r. if holds_place p offset r then 1 else 0) ranges
+
 -- the state's counters are those of the ledger
 pub record IsCounted (reads : Reads) (entries : List Entry) : Type 0 where
   pub revision : (state_of reads (history entries)).revision ≡ length entries
@@ -56,19 +64,14 @@ pub record IsCounted (reads : Reads) (entries : List Entry) : Type 0 where
   pub last_opstamp : last_of (ledger (history entries)).tasks ≡ length (ledger (history entries)).tasks
   pub spans : (state_of reads (history entries)).span_count ≡ length (ledger (history entries)).spans
   pub checkpoints : (p : Partition) → checkpoint_at (state_of reads (history entries)).checkpoints p ≡ (ledger (history entries)).checkpoints p
-  pub retired : IsPermutation (state_of reads (history entries)).retired (ledger (history entries)).retired
+  -- the retired ranges hold the same places, and are in order, apart and joined where they touch
+  pub retired : (p : Partition) (offset : ℕ) → times_at p offset (state_of reads (history entries)).retired ≡ times_at p offset (ledger (history entries)).retired
+  pub joined : AreJoined (state_of reads (history entries)).retired
 
 -- opstamps go up by one from the first
 abbrev pub NumberedFrom : ℕ → List Task → Type 0
 NumberedFrom first [] = ⊤
 NumberedFrom first (task ∷ tasks) = (task.opstamp ≡ first) × NumberedFrom (first + 1) tasks
-
--- how many of these ranges hold the place
-abbrev pub holds_place : Partition → ℕ → Part → Bool
-holds_place p offset r = bytes_eq r.partition p && (nat_le r.from offset && nat_lt offset r.to)
-
-abbrev pub times_at : Partition → ℕ → List Part → ℕ
-times_at p offset ranges = sum_by (λ r. if holds_place p offset r then 1 else 0) ranges
 
 -- each number is given once
 pub record IsNumbered (h : History) : Type 0 where

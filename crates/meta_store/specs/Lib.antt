@@ -1,6 +1,8 @@
 pub mod History
 pub mod Ledgers
 pub mod Rows
+pub mod Retired
+pub mod Lying
 pub mod State
 pub mod Room
 pub mod Answers

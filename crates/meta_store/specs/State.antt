@@ -19,6 +19,7 @@ use Rattle.meta_store.specs.declared.config.Config.{Config}
 use Rattle.meta_store.specs.declared.config.Reading.{Reading}
 use Rattle.meta_store.specs.History.{History, revision_of, moment_of, task_of, tasks_after, tasks_of, number_after, last_number}
 use Rattle.meta_store.specs.History.History.{Start, ◌▸◌}
+use Rattle.meta_store.specs.Retired.{with_ranges}
 use Rattle.meta_store.specs.Rows.{rows_after, rows}
 
 -- What the readers of texts say: what a configuration says of time, where the bytes are a configuration; and whether a
@@ -117,7 +118,7 @@ retired_after (Raise number upto) rows so_far = so_far
 retired_after (AddTask opstamp text fields times) rows so_far = so_far
 retired_after (MarkStaged numbers) rows so_far = so_far
 retired_after (Remove numbers) rows so_far = so_far
-retired_after (Retire numbers) rows so_far = so_far ++ map range_of (joined_spans rows numbers)
+retired_after (Retire numbers) rows so_far = with_ranges (map range_of (joined_spans rows numbers)) so_far
 
 -- the state behind an entry
 abbrev pub after : Reading → Entry → State → State

@@ -1,6 +1,6 @@
 //! What holds of every legal history. Each law is the contract of a function that does nothing.
 
-ghost use Rattle.std.specs.Prelude.{ℕ, List, None, IsOk, ◌↔◌, take, IsPermutation, ◌≡◌, ◌++◌, ◌∷◌, []};
+ghost use Rattle.std.specs.Prelude.{ℕ, List, None, Some, IsOk, ◌↔◌, take, IsPermutation, ◌≡◌, ◌++◌, ◌∷◌, []};
 ghost use Rattle.std.specs.List.{AllByRecursion};
 ghost use Rattle.meta_journal.specs.declared.entry.Entry.{Entry};
 ghost use Rattle.delete_tasks.specs.declared.tasks.Task.{Task};
@@ -14,8 +14,9 @@ ghost use Rattle.meta_store.specs.Words.{IsFirst, FollowsLedger};
 ghost use Rattle.meta_store.specs.declared.config.Reading.{Reading};
 ghost use Rattle.meta_store.specs.declared.config.Settings.{Settings};
 ghost use Rattle.meta_journal.specs.declared.entry.Act.{Act};
+ghost use Rattle.meta_journal.specs.declared.entry.Act.TheVariants.{Retire};
 ghost use Rattle.meta_store.specs.Laws.{Once, IsCounted, IsNumbered, IsFormed};
-ghost use Rattle.meta_store.specs.Contents.{Meaning, Placed, visible, contents, published_contents};
+ghost use Rattle.meta_store.specs.Contents.{Meaning, Placed, visible, contents, published_contents, taken_out, IsTakenFrom};
 
 /// Every legal history keeps each record once, at each of its revisions.
 pub fn once()
@@ -74,4 +75,15 @@ pub fn in_words()
 pub fn first_only()
     ensures { (reads : Reads) (entries : List Entry) → Legal reads (history entries) →
         ((config_of reads (history entries) ≡ None) ↔ IsFirst (history entries)) }
+{}
+
+/// A record that a Retire takes out, and that isn't erased, is held by one of the rows that the Retire names, whose
+/// greatest time is a period before the Retire's moment, if it has a time.
+pub fn only_old_records_are_retired()
+    ensures { (reads : Reads) (entries : List Entry) → Legal reads (history entries) →
+        (reading : Reading) (settings : Settings) (moment : ℕ) (numbers : List ℕ) →
+        let h = history entries in
+        Follows reading settings (state_of reads h) moment (Retire numbers) →
+        (period : ℕ) × (settings.period ≡ Some period) × ((meaning : Meaning Placed) (records : List Placed) →
+        AllByRecursion (IsTakenFrom meaning h moment period numbers) (taken_out meaning h numbers records)) }
 {}

@@ -19,7 +19,7 @@ use crate::checks::{
 };
 use crate::config::{Config, Reading, Settings};
 use crate::refusal::Refusal;
-use crate::spans::{admit_row, count_left, fill_spans, push_retired, reserve_retired, span_count};
+use crate::spans::{admit_row, count_left, fill_spans, join_retired, reserve_retired, span_count};
 use byte_fields::Bytes;
 use delete_tasks::{Task, Tasks};
 use meta_journal::{Act, Entry};
@@ -464,7 +464,7 @@ impl Meta {
         requires few { self.old.state.revision + 2 < 2 ^ 64 }
         ensures { (reading : Reading) → self.new.state ≡ after reading (at moment (Act.Retire numbers.now)) self.old.state }
     {
-        push_retired(&mut self.retired, &self.rows, numbers.as_slice());
+        join_retired(&mut self.retired, &self.rows, numbers.as_slice());
         self.span_count = count_left(self.span_count, &self.rows, numbers.as_slice());
         self.rows.mark(numbers, moment);
         self.moment = self.moment.max(moment);

@@ -4,9 +4,10 @@ use crate::{Meta, Reading, Refusal, Settings};
 use byte_fields::{Bytes, Text, Texts};
 use doc_value::{TagFacts, TimeRange};
 use meta_journal::{Act, Entry};
-use source_checkpoint::{Delta, Part, Partition, StaleDelta};
+use source_checkpoint::{Delta, Part, Partition, Span, StaleDelta};
 use split_states::{Numbers, RowFacts, StateRefusal};
 use std::alloc::Global;
+use std::str;
 use std::test::Fail;
 
 const READING: Reading = Reading {
@@ -91,15 +92,62 @@ fn replaced(meta: &mut Meta, alloc: Global, new: u64, old: &[u64], upto: u64) ->
     take(meta, 1000, Act::Replace { new, old, upto })
 }
 
-/// Whether a span of a row has these marks.
-fn has_marks(meta: &Meta, number: u64, index: usize, admitted: u64, applied: u64) -> bool {
-    match meta.rows().get(number) {
-        None => false,
-        Some(row) => match row.spans.as_slice().get(index) {
-            None => false,
-            Some(span) => span.admitted == admitted && span.applied == applied,
-        },
+fn name_of(partition: &Partition) -> &str {
+    match str::from_utf8(partition.as_bytes()) {
+        Ok(name) => name,
+        Err(_) => "",
     }
+}
+
+/// The spans of a row, each as its partition, its range and its marks, with a blank between.
+fn spans_of(alloc: Global, meta: &Meta, number: u64) -> Result<String, Fail> {
+    let mut text = String::new(alloc);
+    let Some(row) = meta.rows().get(number) else {
+        return Ok(text);
+    };
+    for span in row.spans.as_slice() {
+        if !text.is_empty() {
+            text.push(' ')?;
+        }
+        text.push_str(name_of(&span.partition))?;
+        let Span {
+            from,
+            to,
+            admitted,
+            applied,
+            ..
+        } = span;
+        text.push_str(format!(in alloc; ":{from}-{to}:{admitted}:{applied}")?.as_str())?;
+    }
+    Ok(text)
+}
+
+/// Why the delta of an entry is refused, with what is kept of it.
+fn told(alloc: Global, meta: &Meta, entry: &Entry) -> Result<String, Fail> {
+    let Err(Refusal::Delta(fault)) = meta.check(entry, READING) else {
+        return Ok(String::new(alloc));
+    };
+    let mut text = String::new(alloc);
+    match fault {
+        StaleDelta::Stale {
+            partition,
+            current,
+            from,
+        } => {
+            text.push_str("stale ")?;
+            text.push_str(name_of(&partition))?;
+            text.push_str(format!(in alloc; " {current} {from}")?.as_str())?;
+        }
+        StaleDelta::BackwardDelta { partition } => {
+            text.push_str("backward ")?;
+            text.push_str(name_of(&partition))?;
+        }
+        StaleDelta::DoubledPartition { partition } => {
+            text.push_str("doubled ")?;
+            text.push_str(name_of(&partition))?;
+        }
+    }
+    Ok(text)
 }
 
 #[test]
@@ -122,9 +170,15 @@ fn merged_spans_keep_their_marks(rt: HostRuntime) -> Result<(), Fail> {
     )?;
     published(&mut meta, alloc, 2, "p1")?;
     replaced(&mut meta, alloc, 3, &[1, 2], 0)?;
-    assert!(rt; has_marks(&meta, 3, 0, 0, 0) && has_marks(&meta, 3, 1, 1, 1));
+    assert_eq!(rt;
+        spans_of(alloc, &meta, 3)?.as_str(),
+        "p0:0-1:0:0 p1:0-1:1:1"
+    );
     replaced(&mut meta, alloc, 4, &[3], 1)?;
-    assert!(rt; has_marks(&meta, 4, 0, 0, 1) && has_marks(&meta, 4, 1, 1, 1));
+    assert_eq!(rt;
+        spans_of(alloc, &meta, 4)?.as_str(),
+        "p0:0-1:0:1 p1:0-1:1:1"
+    );
     assert_eq!(rt; meta.revision(), 10);
     assert_eq!(rt; meta.next_number(), 5);
     Ok(())
@@ -149,26 +203,12 @@ fn deltas_are_refused(rt: HostRuntime) -> Result<(), Fail> {
         moment: 1000,
         act: Act::Publish { number: 2 },
     };
-    assert!(rt;
-        matches!(
-            meta.check(&late, READING),
-            Err(Refusal::Delta(StaleDelta::Stale {
-                current: 3,
-                from: 0,
-                ..
-            }))
-        )
-    );
+    assert_eq!(rt; told(alloc, &meta, &late)?.as_str(), "stale p0 3 0");
     let backward = Entry {
         moment: 1000,
         act: stage(alloc, 3, delta_of(alloc, "p1", 1, 1)?),
     };
-    assert!(rt;
-        matches!(
-            meta.check(&backward, READING),
-            Err(Refusal::Delta(StaleDelta::BackwardDelta { .. }))
-        )
-    );
+    assert_eq!(rt; told(alloc, &meta, &backward)?.as_str(), "backward p1");
     Ok(())
 }
 
@@ -187,12 +227,7 @@ fn doubled_partitions_are_refused(rt: HostRuntime) -> Result<(), Fail> {
         moment: 1000,
         act: stage(alloc, 1, delta),
     };
-    assert!(rt;
-        matches!(
-            meta.check(&doubled, READING),
-            Err(Refusal::Delta(StaleDelta::DoubledPartition { .. }))
-        )
-    );
+    assert_eq!(rt; told(alloc, &meta, &doubled)?.as_str(), "doubled p0");
     Ok(())
 }
 

@@ -1,40 +1,38 @@
 -- What is in the grammar is read by the machine.
-use Rattle.std.proofs.Common.{◌≡◌, ◌≢◌, ◌⊎◌, inl, inr, Option, Some, None, ℕ, zero, suc, ◌+◌, ◌-◌, ◌<◌, ◌≤◌, ◌==◌, ◌&&◌, Bool, true, false, not, List, [], ◌∷◌, ◌++◌, length, take, drop, get_or, Result, Ok, Err, refl, ap, sym, ◌∙◌, arith, length-drop, get_or-drop, if◌then◌else◌}
+use Rattle.std.proofs.Common.{◌≡◌, ◌≢◌, ◌⊎◌, inl, inr, Option, Some, None, ℕ, ◌+◌, ◌-◌, ◌<◌, ◌≤◌, ◌==◌, ◌&&◌, Bool, true, false, not, List, [], ◌∷◌, ◌++◌, length, take, drop, get_or, Ok, refl, ap, sym, ◌∙◌, arith, length-drop, get_or-drop}
 use Rattle.std.specs.Prelude.{slice_range}
 use Rattle.std.specs.Str.{bytes_eq}
 use Rattle.std.proofs.lemmas.Bool.{cases_lt, eqb-true}
-use Rattle.std.proofs.lemmas.List.{drop_all, length-take-le, get_or-take}
-use Rattle.query_reader.proofs.Steps.{steps, goes, ends, begins, in_word, in_quote, slice_more, quote_plain, quote_escape, quote_hidden, word_plain, word_escape, word_escaped}
-use Rattle.query_reader.proofs.Parts.{stuck_at, alike, want_operand, tight_operand, operand_word, no_joined, and_wants, or_wants, word_ends, word_prefix, named_field, behind_word, after_word, other_joined, after_end, behind_special, spaced_special}
-use Rattle.query_reader.proofs.Nest.{operand_plus, operand_minus, operand_open, operand_star, operand_quote, not_wants}
+use Rattle.std.proofs.lemmas.List.{length-take-le, get_or-take}
+use Rattle.query_reader.proofs.Steps.{goes, ends, begins, in_word, in_quote, slice_more, quote_plain, word_plain, word_escape, word_escaped}
+use Rattle.query_reader.proofs.Parts.{alike, want_operand, operand_word, no_joined, and_wants, or_wants, word_ends, word_prefix, named_field, behind_word, after_word, other_joined, after_end, behind_special, spaced_special}
+use Rattle.query_reader.proofs.Nest.{operand_plus, operand_minus, operand_open, operand_star, not_wants}
 use Rattle.query_reader.proofs.Specials.{set_begins, set_ends, word_in, letter_i, letter_n, unequal}
 use Rattle.query_reader.specs.Kinds.{kind_of, said, names_set, ends_word, begins_word, is_escape_kind, StandsAt, ByteAt}
 use Rattle.query_reader.specs.Asking.{Asking}
 use Rattle.query_reader.specs.Asking as asks
-use Rattle.query_reader.specs.Tree.{Tree, Trees, no_trees, behind, and_tree, or_tree, Group, Not}
-use Rattle.query_reader.specs.Ranges.{ends_run, run_bound, edge_before, want_bound, range_step, sign_of}
-use Rattle.query_reader.specs.Machine.{run, state, State, Frame, Mode, Step, Go, Stuck, go_on, step, finish, begin, from_operand, word, begun_word, Role, First, Joined, Fielded, InASet, Want, After, InWord, InQuote, Behind, Spaced, LetterI, BehindIn, InSet, InRange, with_operand, with_or, leaf, after_leaf, negated, fresh, reads, start, begin_special, step_after}
-use Rattle.query_reader.specs.Reading.{IsOperatorEnd, IsSetOpening, operand_rest, set_rest, range_rest, special_rest, sunk}
-use Rattle.query_reader.specs.Grammar.{Blanks, Letters, Word, Quotes, Asks, Run, RunEnds, Bounds, Compares, Items, Opens, Shuts, Specials, NoSetWord, Gap, Ors, Ands, Unary, IsQuery, span, member}
+use Rattle.query_reader.specs.Tree.{Tree, Trees, no_trees, behind, and_tree, or_tree, Group}
+use Rattle.query_reader.specs.Ranges.{ends_run, run_bound, sign_of}
+use Rattle.query_reader.specs.Machine.{run, state, State, Frame, Go, go_on, step, from_operand, word, begun_word, Role, First, Joined, Fielded, InASet, Want, After, InQuote, Behind, Spaced, BehindIn, InSet, InRange, with_operand, with_or, leaf, negated, fresh, reads, begin_special}
+use Rattle.query_reader.specs.Reading.{IsOperatorEnd, IsSetOpening, operand_rest, set_rest, special_rest, sunk}
+use Rattle.query_reader.specs.Grammar.{Blanks, Letters, Word, Quotes, Asks, Run, RunEnds, Bounds, Compares, Items, Opens, Shuts, Specials, NoSetWord, Gap, Ors, Ands, Unary, IsQuery, span}
 use Rattle.query_reader.specs.Grammar.{no_blank, blank, no_letter, letter, escaped_letter, no_quoted, quoted_byte, escaped_byte, a_word, a_prefix, a_quote, run_one, run_more, a_star, a_quoted, a_run, at_least, at_most, above, below, no_item, item_blank, item_word, item_quoted, any_value, a_range, compared, a_set, one_and, by_or, one_operand, next_operand, by_and, by_not, by_plus, by_minus, anything, by_bracket, of_defaults, of_field, of_special}
 use Rattle.query_reader.specs.declared.kind.Kind.{Kind}
-use Rattle.query_reader.specs.declared.kind.Kind.TheVariants.{Blank, Quote, Open, Close, Star, Colon, Plus, Minus, Escape, Angle, SquareOpen, SquareClose, CurlyOpen, CurlyClose, Reserved, Plain}
+use Rattle.query_reader.specs.declared.kind.Kind.TheVariants.{Blank, Quote, Open, Close, Star, Plus, Minus, Escape, Angle, SquareOpen, SquareClose, CurlyOpen, CurlyClose, Plain}
 use Rattle.query_reader.specs.declared.kind.Said.{Said}
-use Rattle.query_reader.specs.declared.kind.Said.TheVariants.{SaidWord, SaidAnd, SaidOr, SaidNot}
+use Rattle.query_reader.specs.declared.kind.Said.TheVariants.{SaidAnd, SaidOr}
 use Rattle.query_reader.specs.declared.tree.Span.{Span}
 use Rattle.query_reader.specs.declared.special.Member.{Member}
 use Rattle.query_reader.specs.declared.special.Bound.{Bound}
 use Rattle.query_reader.specs.declared.special.Bound.TheVariants as bounds
 use Rattle.query_reader.specs.declared.special.Compare.{Compare}
-use Rattle.query_reader.specs.declared.special.Compare.TheVariants.{AtLeast, AtMost, Above, Below}
 use Rattle.query_reader.specs.declared.special.Ranged.TheVariants.{Between, Compared}
 use Rattle.query_reader.specs.declared.special.Spot.{Spot}
 use Rattle.query_reader.specs.declared.special.Spot.TheVariants.{Low, High, One}
 use Rattle.query_reader.specs.declared.special.RangeMode.TheVariants.{Wanted, Quoting, Running, BehindLow, LetterT, BehindTo, Closing, Sign}
-use Rattle.query_reader.specs.declared.special.RangeStep.TheVariants as moves
 
 -- white space
-blanks_want : {text : List ℕ} {i j : ℕ} → Blanks text i j → (f : Frame) (fs : List Frame) → run i (state (Want true) f fs) (drop i text) ≡ run j (state (Want true) f fs) (drop j text)
+pub blanks_want : {text : List ℕ} {i j : ℕ} → Blanks text i j → (f : Frame) (fs : List Frame) → run i (state (Want true) f fs) (drop i text) ≡ run j (state (Want true) f fs) (drop j text)
 blanks_want no_blank f fs = refl
 blanks_want {text} {i} (blank s r) f fs = goes text i (Want true) f fs Blank _ s.0 s.1 refl ∙ blanks_want r f fs
 
@@ -42,7 +40,7 @@ blanks_after : {text : List ℕ} {i j : ℕ} → Blanks text i j → (f : Frame)
 blanks_after no_blank f fs = refl
 blanks_after {text} {i} (blank s r) f fs = goes text i (After true) f fs Blank _ s.0 s.1 refl ∙ blanks_after r f fs
 
-gap_joined : {text : List ℕ} {b : Bool} {i j : ℕ} → Blanks text i j → (i < j) ⊎ ((b ≡ true) ⊎ StandsAt text j Open) → (f : Frame) (fs : List Frame)
+pub gap_joined : {text : List ℕ} {b : Bool} {i j : ℕ} → Blanks text i j → (i < j) ⊎ ((b ≡ true) ⊎ StandsAt text j Open) → (f : Frame) (fs : List Frame)
     → run i (state (After b) f fs) (drop i text) ≡ run j (state (After true) f fs) (drop j text)
 gap_joined {text} {b} {i} (blank s r) g f fs = goes text i (After b) f fs Blank _ s.0 s.1 refl ∙ blanks_after r f fs
 gap_joined {text} {b} {i} no_blank (inl l) f fs = absurd (omega (arith, l))
@@ -50,7 +48,7 @@ gap_joined {text} {b} {i} no_blank (inr (inl e)) f fs = ap (λ x. run i (state (
 gap_joined {text} {b} {i} no_blank (inr (inr o)) f fs = after_end text i b true f fs (λ l. inr o.1)
 
 -- an operator is followed by white space or a bracket
-gap_operator : {text : List ℕ} {i j : ℕ} → Gap text false i j → IsOperatorEnd text i
+pub gap_operator : {text : List ℕ} {i j : ℕ} → Gap text false i j → IsOperatorEnd text i
 gap_operator {text} {i} g = of g.0 g.1
   where
     of : {j : ℕ} → Blanks text i j → (i < j) ⊎ ((false ≡ true) ⊎ StandsAt text j Open) → IsOperatorEnd text i
@@ -152,13 +150,13 @@ quotes_run {text} {i} (escaped_byte {j} r s (inl x)) role f fs = quotes_run r ro
 quotes_run {text} {i} (escaped_byte {j} r s (inr x)) role f fs = quotes_run r role f fs
     ∙ in_quote text j role i f fs false true Escape s.0 s.1 refl ∙ in_quote text (j + 1) role i f fs true false Escape x.0 x.1 refl
 
-word_within : {text : List ℕ} {i j : ℕ} {p : Bool} → Letters text i j p → i < j → j ≤ length text
+pub word_within : {text : List ℕ} {i j : ℕ} {p : Bool} → Letters text i j p → i < j → j ≤ length text
 word_within no_letter l = absurd (omega (arith, l))
 word_within (letter r a b d) l = omega (arith, a)
 word_within (escaped_letter r s b) l = omega (arith, b)
 
 -- a word where an operand is wanted, and behind a field
-word_run : {text : List ℕ} {i j : ℕ} {s : Said} (w : Word text i j s) (f : Frame) (fs : List Frame)
+pub word_run : {text : List ℕ} {i j : ℕ} {s : Said} (w : Word text i j s) (f : Frame) (fs : List Frame)
     → from_operand i f fs (drop i text) ≡ run j (state (word First i (slice_range text i j) w.plain false) f fs) (drop j text)
 word_run {text} {i} {j} w f fs = operand_word text i f fs (omega (arith, w.some, word_within w.letters w.some)) w.begins ∙ letters_run text First i f fs w.letters w.some
 
@@ -487,7 +485,7 @@ special_run no_blank x s f fs = behind_run_special x s f fs
 special_run {text} {i} (blank st r) x s f fs = goes text i (Behind s) f fs Blank _ st.0 st.1 refl ∙ spaced_blanks r s f fs ∙ spaced_run_special x s f fs
 
 -- an operand begins with no white space and no closing bracket, and no `AND` or `OR`: so it reads alike behind another
-word_joined : {text : List ℕ} {i j : ℕ} {s : Said} (w : Word text i j s) → (s ≡ SaidAnd → ⊥) → (s ≡ SaidOr → ⊥) → (f : Frame) (fs : List Frame)
+pub word_joined : {text : List ℕ} {i j : ℕ} {s : Said} (w : Word text i j s) → (s ≡ SaidAnd → ⊥) → (s ≡ SaidOr → ⊥) → (f : Frame) (fs : List Frame)
     → run i (state (After true) f fs) (drop i text) ≡ from_operand i f fs (drop i text)
 word_joined {text} {i} {j} w a b f fs =
     let l : i < length text = omega (arith, w.some, word_within w.letters w.some) in
@@ -495,7 +493,7 @@ word_joined {text} {i} {j} w a b f fs =
     ∙ no_joined text j i w.plain false f fs w.ends (λ l. refl) (λ l. inr ((λ h. a (sym w.says ∙ h)), (λ h. b (sym w.says ∙ h))))
     ∙ sym (letters_run text First i f fs w.letters w.some) ∙ sym (operand_word text i f fs l w.begins)
 
-kind_joined : (text : List ℕ) (i : ℕ) (k : Kind) → StandsAt text i k → (k ≡ Blank → ⊥) → (k ≡ Close → ⊥) → (k ≡ Plain → ⊥) → (k ≡ Angle → ⊥) → (k ≡ Escape → ⊥) → (f : Frame) (fs : List Frame)
+pub kind_joined : (text : List ℕ) (i : ℕ) (k : Kind) → StandsAt text i k → (k ≡ Blank → ⊥) → (k ≡ Close → ⊥) → (k ≡ Plain → ⊥) → (k ≡ Angle → ⊥) → (k ≡ Escape → ⊥) → (f : Frame) (fs : List Frame)
     → run i (state (After true) f fs) (drop i text) ≡ from_operand i f fs (drop i text)
 kind_joined text i k s a b d e g f fs = other_joined text i f fs k s.0 s.1 a b d e g
 
@@ -515,7 +513,7 @@ unary_joined (of_field w c n m a) f fs = word_joined w (λ h. cc) (λ h. cc) f f
 unary_joined (of_special w c x y) f fs = word_joined w (λ h. cc) (λ h. cc) f fs
 
 -- no white space stands where an operand begins
-begins_no_blank : (k : Kind) → begins_word k ≡ true → k ≡ Blank → ⊥
+pub begins_no_blank : (k : Kind) → begins_word k ≡ true → k ≡ Blank → ⊥
 begins_no_blank Blank e h = absurd (let x : false ≡ true = e in cc)
 begins_no_blank _ e h = cc
 
@@ -542,12 +540,12 @@ ands_no_blank (one_operand u) h = unary_no_blank u h
 ands_no_blank (next_operand a g u) h = ands_no_blank a h
 ands_no_blank (by_and a g w x u) h = ands_no_blank a h
 
-ors_no_blank : {text : List ℕ} {t : Trees} {i j n : ℕ} {b : Bool} → Ors text t i j b n → kind_of (get_or text i 0) ≡ Blank → ⊥
+pub ors_no_blank : {text : List ℕ} {t : Trees} {i j n : ℕ} {b : Bool} → Ors text t i j b n → kind_of (get_or text i 0) ≡ Blank → ⊥
 ors_no_blank (one_and a) h = ands_no_blank a h
 ors_no_blank (by_or o g w x a) h = ors_no_blank o h
 
 -- the members of a bracket so far
-abbrev at_depth : ℕ → Trees → Trees → Frame
+abbrev pub at_depth : ℕ → Trees → Trees → Frame
 at_depth d ors ands = record { ors = ors; ands = ands; negations = 0; base = d; deep = d }
 
 -- behind a gap an operand begins
@@ -556,13 +554,13 @@ gap_operand : {text : List ℕ} {t : Tree} {i j k n : ℕ} {a b : Bool} → Gap 
 gap_operand g u f fs = gap_joined g.0 g.1 f fs ∙ unary_joined u f fs
 
 -- behind a gap an operator stands
-gap_and : {text : List ℕ} {i j k m : ℕ} {a : Bool} → Gap text a i j → Word text j k SaidAnd → Gap text false k m → (kind_of (get_or text m 0) ≡ Blank → ⊥) → (f : Frame) (fs : List Frame)
+pub gap_and : {text : List ℕ} {i j k m : ℕ} {a : Bool} → Gap text a i j → Word text j k SaidAnd → Gap text false k m → (kind_of (get_or text m 0) ≡ Blank → ⊥) → (f : Frame) (fs : List Frame)
     → run i (state (After a) f fs) (drop i text) ≡ from_operand m f fs (drop m text)
 gap_and {text} {i} {j} {k} {m} g w x n f fs = gap_joined g.0 g.1 f fs
     ∙ after_word text j f fs (omega (arith, w.some, word_within w.letters w.some)) w.begins ∙ letters_run text Joined j f fs w.letters w.some
     ∙ and_wants text k j w.plain false f fs (gap_operator x) refl w.says ∙ blanks_want x.0 f fs ∙ want_operand text m true f fs (λ l. n)
 
-gap_or : {text : List ℕ} {i j k m : ℕ} {a : Bool} → Gap text a i j → Word text j k SaidOr → Gap text false k m → (kind_of (get_or text m 0) ≡ Blank → ⊥) → (f : Frame) (fs : List Frame)
+pub gap_or : {text : List ℕ} {i j k m : ℕ} {a : Bool} → Gap text a i j → Word text j k SaidOr → Gap text false k m → (kind_of (get_or text m 0) ≡ Blank → ⊥) → (f : Frame) (fs : List Frame)
     → run i (state (After a) f fs) (drop i text) ≡ from_operand m (with_or f) fs (drop m text)
 gap_or {text} {i} {j} {k} {m} g w x n f fs = gap_joined g.0 g.1 f fs
     ∙ after_word text j f fs (omega (arith, w.some, word_within w.letters w.some)) w.begins ∙ letters_run text Joined j f fs w.letters w.some
@@ -581,7 +579,7 @@ ands_some (next_operand a g u) = (_, _, refl)
 ands_some (by_and a g w x u) = (_, _, refl)
 
 -- the members of a bracket as they were read
-abbrev Members : List ℕ → Trees → ℕ → ℕ → Bool → ℕ → List Frame → Type 0
+abbrev pub Members : List ℕ → Trees → ℕ → ℕ → Bool → ℕ → List Frame → Type 0
 Members text t i j b d fs = (ors : Trees) × (a : Trees) × (u : Tree) × (behind ors (and_tree (behind a u)) ≡ t) × (from_operand i (fresh d) fs (drop i text) ≡ run j (state (After b) (at_depth d ors (behind a u)) fs) (drop j text))
 
 mutual
@@ -614,7 +612,7 @@ mutual
   ands_run (next_operand {s = s} a g u) d l ors fs = ands_run a d l ors fs ∙ gap_operand g u (at_depth d ors s) fs ∙ unary_run u d l (at_depth d ors s) fs
   ands_run (by_and {s = s} a g w x u) d l ors fs = ands_run a d l ors fs ∙ gap_and g w x (unary_no_blank u) (at_depth d ors s) fs ∙ unary_run u d l (at_depth d ors s) fs
 
-  ors_run : {text : List ℕ} {t : Trees} {i j n : ℕ} {b : Bool} → Ors text t i j b n → (d : ℕ) → n + d ≤ 64 → (fs : List Frame) → Members text t i j b d fs
+  pub ors_run : {text : List ℕ} {t : Trees} {i j n : ℕ} {b : Bool} → Ors text t i j b n → (d : ℕ) → n + d ≤ 64 → (fs : List Frame) → Members text t i j b d fs
   ors_run {text} {j = j} {b = b} (one_and a) d l fs =
       let x = ands_some a in
       (no_trees, x.0, x.1, ap (λ t. behind no_trees (and_tree t)) (sym x.2), ands_run a d l no_trees fs ∙ ap (λ t. run j (state (After b) (at_depth d no_trees t) fs) (drop j text)) x.2)

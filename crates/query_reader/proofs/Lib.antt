@@ -7,3 +7,12 @@ pub mod Rows
 pub mod Each
 pub mod Complete
 pub mod Sound
+pub mod Pieces
+pub mod Utf8
+pub mod Words
+pub mod Edges
+pub mod Digits
+pub mod Readable
+pub mod Spelling
+pub mod Back
+pub mod Deep

@@ -1,10 +1,10 @@
 -- Each state of the machine can be brought to an end, so where it is stuck is where no query goes on.
 use Rattle.std.proofs.Math.Seq.{take-add}
 use Rattle.std.proofs.lemmas.Bool.{cases_lt}
-use Rattle.std.proofs.Common.{◌≡◌, ℕ, zero, suc, ◌+◌, ◌-◌, drop, inl, inr, ◌<◌, ◌≤◌, Bool, true, false, List, [], ◌∷◌, ◌++◌, length, take, Option, Some, None, Result, Ok, Err, refl, ap, sym, ◌∙◌, subst, arith, add-zero, append_assoc}
+use Rattle.std.proofs.Common.{◌≡◌, ℕ, suc, ◌+◌, ◌-◌, drop, inl, inr, ◌<◌, ◌≤◌, Bool, true, false, List, [], ◌∷◌, ◌++◌, length, take, Option, Some, None, Result, Ok, Err, refl, ap, sym, ◌∙◌, arith, add-zero, append_assoc}
 use Rattle.query_reader.specs.Kinds.{kind_of, said, names_set}
-use Rattle.query_reader.specs.Tree.{Tree, Group}
-use Rattle.query_reader.specs.Machine.{run, start, reads, state, State, Frame, Mode, Role, First, Joined, Fielded, InASet, Step, Go, Stuck, Deep, Want, After, InWord, InQuote, Behind, Spaced, LetterI, BehindIn, InSet, InRange, Head, word, go_on, step, finish, with_operand, whole, whole_with, done_with, finished, finish_plain, finish_not, finish_word, finish_range, limit}
+use Rattle.query_reader.specs.Tree.{Tree}
+use Rattle.query_reader.specs.Machine.{run, start, reads, state, State, Frame, Mode, Role, First, Joined, Fielded, InASet, Step, Go, Stuck, Deep, Want, After, InWord, InQuote, Behind, Spaced, LetterI, BehindIn, InSet, InRange, Head, word, go_on, step, finish, with_operand, whole, done_with, finished, finish_plain, finish_not, finish_word, finish_range, limit}
 use Rattle.std.proofs.Common.{nat_lt, if◌then◌else◌}
 use Rattle.query_reader.specs.Ranges.{range_end}
 use Rattle.query_reader.specs.declared.special.Ranged.{Ranged}

@@ -1,28 +1,26 @@
 -- What brackets, signs and `NOT` do to the machine.
-use Rattle.std.proofs.Common.{◌≡◌, IsTrue, ◌↔◌, ◌⊎◌, inl, inr, Option, Some, None, ℕ, suc, ◌+◌, ◌-◌, ◌<◌, ◌≤◌, Bool, true, false, not, List, [], ◌∷◌, ◌++◌, length, take, drop, get_or, Result, Ok, Err, refl, ap, sym, ◌∙◌, arith}
+use Rattle.std.proofs.Common.{◌≡◌, ◌⊎◌, inl, inr, Some, None, ℕ, ◌+◌, ◌<◌, ◌≤◌, Bool, true, false, List, [], ◌∷◌, length, drop, get_or, Result, Ok, Err, refl, ap, sym, ◌∙◌, arith}
 use Rattle.std.specs.Prelude.{slice_range}
 use Rattle.std.proofs.lemmas.Bool.{cases_lt}
 use Rattle.std.proofs.lemmas.List.{drop_all}
 use Rattle.query_reader.proofs.Steps.{steps, goes, ends, begins}
-use Rattle.query_reader.specs.Kinds.{kind_of, StandsAt, said, ends_word, begins_word, is_escape_kind}
+use Rattle.query_reader.specs.Kinds.{kind_of, said, ends_word}
 use Rattle.query_reader.specs.declared.fault.ReadError.{ReadError}
 use Rattle.query_reader.specs.declared.fault.ReadError.TheVariants as errors
 use Rattle.query_reader.specs.Tree.{Tree, Trees, Group, view, no_trees, behind, trees_after, and_tree, or_tree}
-use Rattle.query_reader.specs.Machine.{run, state, State, Frame, Mode, Step, Go, Stuck, Deep, go_on, step, finish, begin, from_operand, word, begun_word, First, Want, After, InWord, with_operand, with_or, leaf, after_leaf, after_not, Head, Behind, step_after}
+use Rattle.query_reader.specs.Machine.{run, state, State, Frame, Go, Stuck, Deep, go_on, step, begin, from_operand, word, First, Want, After, with_operand, after_leaf, after_not}
 use Rattle.query_reader.specs.Reading.{IsOperatorEnd, Rest, Reads}
 use Rattle.query_reader.specs.declared.reader.Operand.{Operand}
 use Rattle.query_reader.specs.declared.kind.Kind.{Kind}
-use Rattle.query_reader.specs.declared.kind.Kind.TheVariants.{Blank, Quote, Open, Close, Star, Colon, Plus, Minus, Escape, Angle, SquareOpen, SquareClose, CurlyOpen, CurlyClose, Reserved, Plain}
-use Rattle.query_reader.specs.declared.kind.Said.{Said}
-use Rattle.query_reader.specs.declared.kind.Said.TheVariants.{SaidWord, SaidAnd, SaidOr, SaidNot}
-use Rattle.query_reader.specs.declared.tree.Span.{Span}
+use Rattle.query_reader.specs.declared.kind.Kind.TheVariants.{Blank, Quote, Open, Close, Star, Plus, Minus, Escape, Angle, Plain}
+use Rattle.query_reader.specs.declared.kind.Said.TheVariants.{SaidNot}
 use Rattle.query_reader.specs.Asking as asks
 use Rattle.query_reader.specs.declared.fault.Fault.{Fault}
 use Rattle.query_reader.specs.declared.fault.Fault.TheVariants as faults
-use Rattle.query_reader.proofs.Parts.{stuck_at, alike, want_operand, tight_operand, operand_word}
+use Rattle.query_reader.proofs.Parts.{stuck_at, alike, tight_operand}
 use Rattle.std.proofs.Common.{nat_lt, lt-ltb, le-ltb, if◌then◌else◌, map}
-use Rattle.query_reader.specs.Machine.{deeper, negated, open_bracket, nest, limit, behind_not, close_with, whole, whole_with, done_with, finished, fresh}
-use Rattle.query_reader.specs.Reading.{operand_rest, negated_rest, quote_rest, behind_operand, sunk, Fails, group_rest, group_end, ReadsGroup, members, Arrives}
+use Rattle.query_reader.specs.Machine.{deeper, negated, limit, behind_not, close_with, whole, whole_with, done_with, finished, fresh}
+use Rattle.query_reader.specs.Reading.{operand_rest, negated_rest, quote_rest, sunk, Fails, group_rest, ReadsGroup, members}
 use Rattle.query_reader.specs.declared.tree.Raw.{Raw}
 use Rattle.query_reader.proofs.Rows.{count, count_after}
 

@@ -1,15 +1,14 @@
 -- What the parts of a text do to the machine.
-use Rattle.std.proofs.Common.{◌≡◌, IsTrue, ◌↔◌, ◌⊎◌, inl, inr, Option, Some, None, ℕ, suc, ◌+◌, ◌-◌, ◌<◌, ◌≤◌, Bool, true, false, not, List, [], ◌∷◌, ◌++◌, length, take, drop, get_or, Result, Ok, Err, refl, ap, sym, ◌∙◌, arith}
+use Rattle.std.proofs.Common.{◌≡◌, IsTrue, ◌↔◌, ◌⊎◌, inl, inr, Option, Some, None, ℕ, ◌+◌, ◌<◌, ◌≤◌, Bool, true, false, not, List, [], ◌∷◌, length, drop, get_or, Result, Ok, Err, refl, ap, sym, ◌∙◌, arith}
 use Rattle.std.specs.Prelude.{slice_range}
 use Rattle.std.proofs.lemmas.Bool.{cases_lt}
 use Rattle.std.proofs.lemmas.List.{drop_all}
 use Rattle.query_reader.proofs.Steps.{steps, goes, ends, begins}
-use Rattle.query_reader.specs.Kinds.{kind_of, StandsAt, said, names_set, ends_word, begins_word, is_escape_kind}
+use Rattle.query_reader.specs.Kinds.{kind_of, said, names_set, ends_word, begins_word, is_escape_kind}
 use Rattle.query_reader.specs.declared.fault.ReadError.{ReadError}
 use Rattle.query_reader.specs.declared.fault.ReadError.TheVariants as errors
-use Rattle.query_reader.specs.Tree.{Tree}
-use Rattle.query_reader.specs.Machine.{run, state, State, Frame, Mode, Step, Go, Stuck, go_on, step, finish, begin, from_operand, word, begun_word, Role, First, Joined, Fielded, InASet, field_of, span, member, Want, After, InWord, InSet, BehindIn, Spaced, LetterI, with_operand, with_or, leaf, after_leaf, end_word, end_field, end_prefix, end_plain, end_not, behind_operator, behind_not, behind_in, begin_special, step_set, finish_word, finish_plain, finish_not, Head, Behind, step_after}
-use Rattle.query_reader.specs.Reading.{IsOperatorEnd, IsSetOpening, BeginsNoSet, role_for, special_rest, set_rest, Rest, Reads}
+use Rattle.query_reader.specs.Machine.{run, state, Frame, Mode, Go, Stuck, go_on, step, finish, begin, from_operand, word, begun_word, Role, First, Joined, Fielded, InASet, span, Want, After, Spaced, with_operand, with_or, leaf, after_leaf, end_word, end_field, end_prefix, end_plain, behind_operator, behind_in, begin_special, finish_word, finish_plain, Head, Behind, step_after}
+use Rattle.query_reader.specs.Reading.{IsOperatorEnd, IsSetOpening, role_for, special_rest, Rest, Reads}
 use Rattle.query_reader.specs.declared.reader.Operand.{Operand}
 use Rattle.query_reader.specs.declared.kind.Kind.{Kind}
 use Rattle.query_reader.specs.declared.kind.Kind.TheVariants.{Blank, Quote, Open, Close, Star, Colon, Plus, Minus, Escape, Angle, SquareOpen, SquareClose, CurlyOpen, CurlyClose, Reserved, Plain}
@@ -17,8 +16,6 @@ use Rattle.query_reader.specs.declared.kind.Said.{Said}
 use Rattle.query_reader.specs.declared.kind.Said.TheVariants.{SaidWord, SaidAnd, SaidOr, SaidNot}
 use Rattle.query_reader.specs.declared.tree.Span.{Span}
 use Rattle.query_reader.specs.Asking as asks
-use Rattle.query_reader.specs.declared.special.Member.{Member}
-use Rattle.query_reader.specs.declared.fault.Fault.{Fault}
 use Rattle.query_reader.specs.declared.fault.Fault.TheVariants as faults
 
 -- two states that take the byte at a place alike, and end alike, read alike

@@ -1,5 +1,5 @@
 -- Rows of a tree in memory, as lists.
-use Rattle.std.proofs.Common.{◌≡◌, ℕ, suc, ◌+◌, ◌<◌, List, [], ◌∷◌, ◌++◌, map, length, refl, ap, sym, ◌∙◌, arith}
+use Rattle.std.proofs.Common.{◌≡◌, ℕ, ◌+◌, ◌<◌, List, [], ◌∷◌, ◌++◌, map, length, refl, ap, ◌∙◌, arith}
 use Rattle.std.specs.Prelude.{slice_index_or}
 use Rattle.query_reader.specs.Tree.{Tree, Trees, no_trees, behind, And, Or, view, view_row, trees_after, and_tree, or_tree}
 use Rattle.query_reader.specs.declared.tree.Raw.{Raw, Row_of-Raw, end_of-Raw, more_of-Raw, items-the_row-Raw}

@@ -1,22 +1,17 @@
 -- What the machine reads is in the grammar.
-use Rattle.std.proofs.Common.{◌≡◌, ◌≢◌, ◌⊎◌, inl, inr, Option, Some, None, ℕ, zero, suc, ◌+◌, ◌-◌, ◌<◌, ◌≤◌, ◌==◌, ◌&&◌, ◌||◌, Bool, true, false, not, List, [], ◌∷◌, ◌++◌, length, take, drop, get_or, Result, Ok, Err, refl, ap, sym, ◌∙◌, arith, length-drop, get_or-drop, if◌then◌else◌, subst, nat_lt}
+use Rattle.std.proofs.Common.{◌≡◌, ◌⊎◌, inl, inr, Option, Some, None, ℕ, zero, suc, ◌+◌, ◌-◌, ◌<◌, ◌≤◌, ◌==◌, ◌||◌, Bool, true, false, List, [], ◌∷◌, ◌++◌, length, drop, get_or, Result, Ok, Err, refl, ap, sym, ◌∙◌, arith, if◌then◌else◌, subst, nat_lt}
 use Rattle.std.specs.Prelude.{slice_range}
-use Rattle.std.specs.Str.{bytes_eq}
-use Rattle.std.proofs.lemmas.Bool.{cases_lt, eqb-true, ltb-true}
-use Rattle.std.proofs.lemmas.List.{drop_all, length-take-le, get_or-take}
-use Rattle.query_reader.proofs.Steps.{steps, goes, ends, begins, in_word, in_quote, slice_more, quote_plain, quote_escape, quote_hidden, word_plain, word_escape, word_escaped}
-use Rattle.query_reader.proofs.Parts.{stuck_at, alike, want_operand, tight_operand, operand_word, no_joined, and_wants, or_wants, word_ends, word_prefix, named_field, behind_word, after_word, other_joined, after_end, behind_special, spaced_special}
-use Rattle.query_reader.proofs.Nest.{operand_plus, operand_minus, operand_open, operand_star, operand_quote, not_wants}
+use Rattle.std.proofs.lemmas.Bool.{eqb-true, ltb-true, ltb-false}
+use Rattle.query_reader.proofs.Steps.{steps, ends, slice_more}
 use Rattle.query_reader.proofs.Complete.{slice_one, slice_two, bytes_two}
-use Rattle.query_reader.proofs.Specials.{set_begins, set_ends, word_in, letter_i, letter_n, unequal}
-use Rattle.query_reader.specs.Kinds.{kind_of, is_blank, is_one_of, is_reserved, said, names_set, ends_word, begins_word, is_escape_kind, StandsAt, ByteAt}
+use Rattle.query_reader.specs.Kinds.{kind_of, is_blank, is_one_of, is_reserved, said, names_set, ends_word, begins_word, StandsAt, ByteAt}
 use Rattle.query_reader.specs.Asking.{Asking}
 use Rattle.query_reader.specs.Asking as asks
 use Rattle.query_reader.specs.Tree.{Tree, Trees, no_trees, behind, and_tree, or_tree, Group, Not}
 use Rattle.query_reader.specs.Ranges.{ends_run, run_bound, edge_closed, edge_before, behind_low, close_range, want_bound, want_blank, quoting, behind_to, range_step, range_end, sign_of}
-use Rattle.query_reader.specs.Machine.{run, state, State, Frame, Mode, Step, Go, Stuck, go_on, step, finish, begin, from_operand, word, begun_word, Role, First, Joined, Fielded, InASet, Want, After, InWord, InQuote, Behind, Spaced, LetterI, BehindIn, InSet, InRange, with_operand, with_or, leaf, after_leaf, negated, deeper, fresh, reads, start, limit, nest, open_bracket, begin_special, step_want, step_after, step_behind, step_spaced, step_in, step_set, step_word, step_quote, end_word, end_field, end_prefix, end_plain, end_join, end_not, name_field, name_prefix, behind_operator, behind_not, behind_in, after_not, close_with, whole, whole_with, done_with, finished, finish_with, finish_plain, finish_not, finish_word, finish_range, move_range, more_of, Head, Deep}
-use Rattle.query_reader.specs.Reading.{IsOperatorEnd, IsSetOpening, operand_rest, set_rest, range_rest, special_rest, sunk}
-use Rattle.query_reader.specs.Grammar.{Blanks, Letters, Word, NoSetWord, Quotes, Asks, Run, RunEnds, Bounds, Compares, Items, Opens, Shuts, Specials, Gap, Ors, Ands, Unary, IsQuery, span, member}
+use Rattle.query_reader.specs.Machine.{run, state, State, Frame, Mode, Step, Go, Stuck, go_on, step, finish, begin, Role, First, Joined, Fielded, InASet, Want, After, InWord, InQuote, Behind, Spaced, LetterI, BehindIn, InSet, InRange, with_operand, with_or, leaf, negated, fresh, reads, start, limit, nest, begin_special, step_want, step_after, step_behind, step_spaced, step_in, step_set, step_word, step_quote, end_word, end_field, end_prefix, end_plain, end_not, behind_operator, behind_not, behind_in, after_not, close_with, whole, whole_with, done_with, finished, finish_plain, finish_not, finish_word, finish_range, move_range, more_of, Head, Deep}
+use Rattle.query_reader.specs.Reading.{IsSetOpening}
+use Rattle.query_reader.specs.Grammar.{Blanks, Letters, Word, NoSetWord, Quotes, Asks, Run, Bounds, Compares, Items, Opens, Shuts, Specials, Gap, Ors, Ands, Unary, IsQuery, span, member, Begins, the_whole, a_bracket, Wants, wants_first, wants_next, wants_and, wants_or, wants_negated, wants_signed, Nests, IsTooDeepAt}
 use Rattle.query_reader.specs.Grammar.{no_blank, blank, no_letter, letter, escaped_letter, no_quoted, quoted_byte, escaped_byte, a_word, a_prefix, a_quote, run_one, run_more, a_star, a_quoted, a_run, at_least, at_most, above, below, no_item, item_blank, item_word, item_quoted, any_value, a_range, compared, a_set, one_and, by_or, one_operand, next_operand, by_and, by_not, by_plus, by_minus, anything, by_bracket, of_defaults, of_field, of_special}
 use Rattle.query_reader.specs.declared.kind.Kind.{Kind}
 use Rattle.query_reader.specs.declared.kind.Kind.TheVariants.{Blank, Quote, Open, Close, Star, Colon, Plus, Minus, Escape, Angle, SquareOpen, SquareClose, CurlyOpen, CurlyClose, Reserved, Plain}
@@ -63,11 +58,11 @@ chain_whole (later {s} x o g w h a) = (s, x, by_or o g w h a)
 
 -- the operand that begins at a place completes the members
 abbrev OperandFn : List ℕ → ℕ → ℕ → Frame → Type 0
-OperandFn text from i f = (t : Tree) (k : ℕ) (b : Bool) → Unary text t i k b (64 - f.deep) → Chain text f.base from k f.ors (behind f.ands (nots f.negations t)) b
+OperandFn text from i f = ((t : Tree) (k : ℕ) (b : Bool) → Unary text t i k b (64 - f.deep) → Chain text f.base from k f.ors (behind f.ands (nots f.negations t)) b) × Wants text f.deep i × (f.deep ≤ 64)
 
 -- the same with white space before it
 abbrev WantFn : List ℕ → ℕ → ℕ → Frame → Type 0
-WantFn text from at f = (i : ℕ) → Blanks text at i → (t : Tree) (k : ℕ) (b : Bool) → Unary text t i k b (64 - f.deep) → Chain text f.base from k f.ors (behind f.ands (nots f.negations t)) b
+WantFn text from at f = (i : ℕ) → Blanks text at i → OperandFn text from i f
 
 record Ended (text : List ℕ) (from at : ℕ) (free : Bool) (f : Frame) : Type 0 where
   pub front : Trees
@@ -234,7 +229,7 @@ Inv text at s = (from : ℕ) × Outer text s.outer from s.frame.base × ModeInv 
 abbrev Holds : List ℕ → ℕ → Step → Type 0
 Holds text at (Go s) = Inv text (at + 1) s
 Holds text at Stuck = Unit {0}
-Holds text at (Deep n) = Unit {0}
+Holds text at (Deep n) = IsTooDeepAt text n
 
 blanks_more : {text : List ℕ} {i j : ℕ} → Blanks text i j → StandsAt text j Blank → Blanks text i (j + 1)
 blanks_more no_blank s = blank s no_blank
@@ -256,21 +251,31 @@ so_far_below : (text : List ℕ) (i at : ℕ) (p b : Bool) → LettersSoFar text
 so_far_below text i at p false x = x.1
 so_far_below text i at p true x = omega (arith, x.2, letters_below x.3)
 
-nest_holds : (text : List ℕ) (at n d : ℕ) (s : State) → (d < 64 → Inv text (at + 1) s) → Holds text at (if nat_lt d limit then Go s else Deep n)
-nest_holds text at n d s g = go (nat_lt d limit) refl
+nest_holds : (text : List ℕ) (at n d : ℕ) (s : State) → Wants text d n → d ≤ 64 → Nests text n → (d < 64 → Inv text (at + 1) s) → Holds text at (if nat_lt d limit then Go s else Deep n)
+nest_holds text at n d s w m k g = go (nat_lt d limit) refl
   where
     go : (b : Bool) → nat_lt d limit ≡ b → Holds text at (if b then Go s else Deep n)
     go true e = g (ltb-true d 64 e)
-    go false e = tt
+    go false e = let l : 64 ≤ d = ltb-false d 64 e in record { inside = subst (λ d. Wants text d n) (let y : d ≡ 64 = omega (arith, l, m) in y) w; nests = k }
+
+-- where the bracket that is open begins, or the whole
+begins_of : {text : List ℕ} (fs : List Frame) (from base : ℕ) → Outer text fs from base → Begins text base from × (base ≤ 64)
+begins_of {text} [] from base o = (subst (λ i. Begins text base i) (sym o.0) (subst (λ d. Begins text d 0) (sym o.1) the_whole), omega (arith, o.1))
+begins_of {text} (g ∷ gs) from base o = (subst (λ i. Begins text base i) (sym o.2) (subst (λ d. Begins text d (o.0 + 1)) (sym o.4) (a_bracket o.6.1 o.3)), omega (arith, o.4, o.5))
 
 -- an operand has ended
 ended_at : {text : List ℕ} {from k : ℕ} {b : Bool} (f : Frame) (t : Tree) (free : Bool) → Chain text f.base from k f.ors (behind f.ands (nots f.negations t)) b → (free ≡ true → b ≡ true) → Ended text from k free (with_operand f t)
 ended_at f t free x g = record { front = _; last = _; end = _; bracket = _; some = refl; clean = refl; level = refl; chain = x; blanks = no_blank; gap = λ h. inr (g h) }
 
 -- behind an operand another may follow
-ended_operand : {text : List ℕ} {from at : ℕ} {free : Bool} {f : Frame} (x : Ended text from at free f) → (x.end < at) ⊎ ((x.bracket ≡ true) ⊎ StandsAt text at Open) → OperandFn text from at f
-ended_operand {text} {from} {at} {free} {f} x g = λ t k b u.
-    rw (x.some, x.clean) (chain_next x.chain (x.blanks, g) (subst (λ d. Unary text t at k b (64 - d)) x.level u))
+ended_operand : {text : List ℕ} {from at : ℕ} {free : Bool} {f : Frame} (fs : List Frame) → Outer text fs from f.base → (x : Ended text from at free f) → (x.end < at) ⊎ ((x.bracket ≡ true) ⊎ StandsAt text at Open) → OperandFn text from at f
+ended_operand {text} {from} {at} {free} {f} fs o x g =
+    let p = begins_of fs from f.base o in
+    let w = chain_whole x.chain in (
+      λ t k b u. rw (x.some, x.clean) (chain_next x.chain (x.blanks, g) (subst (λ d. Unary text t at k b (64 - d)) x.level u)),
+      subst (λ d. Wants text d at) (sym x.level) (wants_next p.0 w.1 w.2 (omega (arith, p.1)) (x.blanks, g)),
+      omega (arith, x.level, p.1),
+    )
 
 deep_unary : {text : List ℕ} {t : Tree} {i k d : ℕ} {b : Bool} → d < 64 → Unary text t i k b (suc (64 - (d + 1))) → Unary text t i k b (64 - d)
 deep_unary {text} {t} {i} {k} {d} {b} l u = subst (λ n. Unary text t i k b n) (deeper_index d l) u
@@ -326,9 +331,9 @@ angle_byte text at l e false t = go (get_or text at 0 == 60) refl
     go false h = absurd (not_angle (get_or text at 0) h t e)
 
 module _ (text : List ℕ) (at : ℕ) (l : at < length text) where
-  open_holds : (n : ℕ) (from : ℕ) (f : Frame) (fs : List Frame) → StandsAt text at Open → Outer text fs from f.base → OperandFn text from at f
+  open_holds : (n : ℕ) (from : ℕ) (f : Frame) (fs : List Frame) → StandsAt text at Open → Outer text fs from f.base → OperandFn text from at f → n ≡ at
       → Holds text at (nest n f (state (Want true) (fresh (f.deep + 1)) (f ∷ fs)))
-  open_holds n from f fs s o g = nest_holds text at n f.deep _ (λ d. (at + 1, (at, from, refl, s, refl, d, g, o), λ i x t k b u. first x (one_operand u)))
+  open_holds n from f fs s o g e = nest_holds text at n f.deep _ (subst (λ i. Wants text f.deep i) (sym e) g.1) g.2 (subst (λ i. Nests text i) (sym e) (inl s)) (λ d. (at + 1, (at, from, refl, s, refl, d, g, o), λ i x. (λ t k b u. first x (one_operand u), wants_first (a_bracket g.1 s) x, omega (arith, d))))
 
   begin_holds : (joined : Bool) (k : Kind) (from : ℕ) (f : Frame) (fs : List Frame) → kind_of (get_or text at 0) ≡ k → Outer text fs from f.base → OperandFn text from at f
       → (joined ≡ true → Ended text from at true f) → Holds text at (begin joined at (get_or text at 0) k f fs)
@@ -339,10 +344,10 @@ module _ (text : List ℕ) (at : ℕ) (l : at < length text) where
   begin_holds false Angle from f fs e o g j = (from, o, record { start = at; operand = g; lead = refl; first = rw e refl; bytes = sym (slice_one text at l); letters = (letter no_letter l (rw e refl) (λ h. let x : Angle ≡ Escape = sym e ∙ h in cc), omega arith); joined = λ h. absurd (let x : First ≡ Joined = h in cc) })
   begin_holds false Escape from f fs e o g j = (from, o, record { start = at; operand = g; lead = refl; first = rw e refl; bytes = sym (slice_one text at l); letters = (at, true, refl, no_letter, (l, e)); joined = λ h. absurd (let x : First ≡ Joined = h in cc) })
   begin_holds joined Quote from f fs e o g j = (from, o, record { start = at; mark = at; operand = g; lead = refl; quote = (l, e); behind = refl; quotes = no_quoted })
-  begin_holds joined Star from f fs e o g j = (from, o, ended_at f (leaf None asks.Any) false (g _ (at + 1) false (anything (l, e))) (λ h. absurd (let x : false ≡ true = h in cc)))
-  begin_holds joined Open from f fs e o g j = open_holds at from f fs (l, e) o g
-  begin_holds joined Plus from f fs e o g j = nest_holds text at at f.deep _ (λ d. (from, o, λ t k b u. g t k b (deep_unary d (by_plus (l, e) u))))
-  begin_holds joined Minus from f fs e o g j = nest_holds text at at f.deep _ (λ d. (from, o, λ t k b u. g (Not t) k b (deep_unary d (by_minus (l, e) u))))
+  begin_holds joined Star from f fs e o g j = (from, o, ended_at f (leaf None asks.Any) false (g.0 _ (at + 1) false (anything (l, e))) (λ h. absurd (let x : false ≡ true = h in cc)))
+  begin_holds joined Open from f fs e o g j = open_holds at from f fs (l, e) o g refl
+  begin_holds joined Plus from f fs e o g j = nest_holds text at at f.deep _ g.1 g.2 (inr (inl (l, e))) (λ d. (from, o, (λ t k b u. g.0 t k b (deep_unary d (by_plus (l, e) u)), wants_signed g.1 (inl (l, e)), omega (arith, d))))
+  begin_holds joined Minus from f fs e o g j = nest_holds text at at f.deep _ g.1 g.2 (inr (inr (inl (l, e)))) (λ d. (from, o, (λ t k b u. g.0 (Not t) k b (deep_unary d (by_minus (l, e) u)), wants_signed g.1 (inr (l, e)), omega (arith, d))))
   begin_holds joined Blank from f fs e o g j = tt
   begin_holds joined Colon from f fs e o g j = tt
   begin_holds joined Close from f fs e o g j = tt
@@ -367,13 +372,13 @@ module _ (text : List ℕ) (at : ℕ) (l : at < length text) where
       let w = chain_whole x.chain in
       let ors : Ors text (behind f.ors (and_tree (behind x.front x.last))) w.0 x.end x.bracket (64 - (g.deep + 1)) = subst (λ d. Ors text (behind f.ors (and_tree (behind x.front x.last))) w.0 x.end x.bracket (64 - d)) o.4 w.2 in
       let bl : Blanks text (o.0 + 1) w.0 = subst (λ i. Blanks text i w.0) o.2 w.1 in
-      (o.1, o.7, ended_at g (Group (or_tree (behind f.ors (and_tree (behind x.front x.last))))) true (o.6 _ (at + 1) true (deep_unary o.5 (by_bracket o.3 bl ors x.blanks s))) (λ h. refl))
+      (o.1, o.7, ended_at g (Group (or_tree (behind f.ors (and_tree (behind x.front x.last))))) true (o.6.0 _ (at + 1) true (deep_unary o.5 (by_bracket o.3 bl ors x.blanks s))) (λ h. refl))
 
   after_holds : (free : Bool) (k : Kind) (from : ℕ) (f : Frame) (fs : List Frame) → kind_of (get_or text at 0) ≡ k → Outer text fs from f.base → Ended text from at free f → Holds text at (step_after free at (get_or text at 0) k f fs)
   after_holds free Blank from f fs e o x = (from, o, record { front = x.front; last = x.last; end = x.end; bracket = x.bracket; some = x.some; clean = x.clean; level = x.level; chain = x.chain; blanks = blanks_more x.blanks (l, e); gap = λ h. inl (omega (arith, blanks_le x.blanks)) })
   after_holds free Close from f fs e o x = rw x.some (close_holds fs from f free (l, e) o x)
-  after_holds free Open from f fs e o x = open_holds at from f fs (l, e) o (ended_operand x (inr (inr (l, e))))
-  after_holds true k from f fs e o x = begin_holds true k from f fs e o (ended_operand x (gap_of x)) (λ h. x)
+  after_holds free Open from f fs e o x = open_holds at from f fs (l, e) o (ended_operand fs o x (inr (inr (l, e)))) refl
+  after_holds true k from f fs e o x = begin_holds true k from f fs e o (ended_operand fs o x (gap_of x)) (λ h. x)
   after_holds false k from f fs e o x = tt
 
   -- what is asked, of a field or of the default fields
@@ -397,7 +402,7 @@ module _ (text : List ℕ) (at : ℕ) (l : at < length text) where
       → Holds text at (step_set s n ms at (get_or text at 0) k f fs)
   set_byte Blank from f fs s n ms start e o g x = (from, o, record { start = start; operand = g; lead = record { lead = x.lead; letter_i = x.letter_i; letter_n = x.letter_n; bracket = x.bracket; blanks = x.blanks; opens = x.opens; items = item_blank x.items (l, e) } })
   set_byte SquareClose from f fs s n ms start e o g x =
-      (from, o, ended_at f (leaf (Some s) (asks.OneOf n ms)) true (g _ (at + 1) true (special_unary s x.lead (a_set x.letter_i x.letter_n x.blanks x.opens x.items (l, e)))) (λ h. refl))
+      (from, o, ended_at f (leaf (Some s) (asks.OneOf n ms)) true (g.0 _ (at + 1) true (special_unary s x.lead (a_set x.letter_i x.letter_n x.blanks x.opens x.items (l, e)))) (λ h. refl))
   set_byte Quote from f fs s n ms start e o g x = (from, o, record { start = start; mark = at; operand = g; lead = x; quote = (l, e); behind = refl; quotes = no_quoted })
   set_byte Plain from f fs s n ms start e o g x = (from, o, record { start = start; operand = g; lead = x; first = rw e refl; bytes = sym (slice_one text at l); letters = (letter no_letter l (rw e refl) (λ h. let x : Plain ≡ Escape = sym e ∙ h in cc), omega arith); joined = λ h. absurd (let x : InASet s n ms ≡ Joined = h in cc) })
   set_byte Angle from f fs s n ms start e o g x = (from, o, record { start = start; operand = g; lead = x; first = rw e refl; bytes = sym (slice_one text at l); letters = (letter no_letter l (rw e refl) (λ h. let x : Angle ≡ Escape = sym e ∙ h in cc), omega arith); joined = λ h. absurd (let x : InASet s n ms ≡ Joined = h in cc) })
@@ -409,25 +414,47 @@ module _ (text : List ℕ) (at : ℕ) (l : at < length text) where
       → ends_word (kind_of (get_or text at 0)) ≡ true → said p bytes ≡ s → Word text q at s
   said_here q bytes p s b y r m d h = record { plain = p; letters = r; begins = b; some = m; ends = λ _. d; says = ap (said p) (sym y) ∙ h }
 
+  -- an operand behind an `AND`
+  joined_operand : (from : ℕ) (f : Frame) (fs : List Frame) (q i : ℕ) → Outer text fs from f.base → Ended text from q true f → Word text q at SaidAnd → Gap text false at i → OperandFn text from i f
+  joined_operand from f fs q i o x w g =
+      let p = begins_of fs from f.base o in
+      let c = chain_whole x.chain in (
+        λ t k b u. rw (x.some, x.clean) (chain_and x.chain (x.blanks, gap_of x) w g (subst (λ d. Unary text t i k b (64 - d)) x.level u)),
+        subst (λ d. Wants text d i) (sym x.level) (wants_and p.0 c.1 c.2 (omega (arith, p.1)) (x.blanks, gap_of x) w g),
+        omega (arith, x.level, p.1),
+      )
+
   operator_holds : (from : ℕ) (f : Frame) (fs : List Frame) (q : ℕ) (k : Kind) → kind_of (get_or text at 0) ≡ k → Outer text fs from f.base → Ended text from q true f → Word text q at SaidAnd
       → Holds text at (behind_operator at (get_or text at 0) k f fs)
-  operator_holds from f fs q Blank e o x w = (from, o, λ i y t k b u. rw (x.some, x.clean) (chain_and x.chain (x.blanks, gap_of x) w (blank (l, e) y, inl (omega (arith, blanks_le y))) (subst (λ d. Unary text t i k b (64 - d)) x.level u)))
-  operator_holds from f fs q Open e o x w = open_holds at from f fs (l, e) o (λ t k b u. rw (x.some, x.clean) (chain_and x.chain (x.blanks, gap_of x) w (no_blank, inr (inr (l, e))) (subst (λ d. Unary text t at k b (64 - d)) x.level u)))
+  operator_holds from f fs q Blank e o x w = (from, o, λ i y. joined_operand from f fs q i o x w (blank (l, e) y, inl (omega (arith, blanks_le y))))
+  operator_holds from f fs q Open e o x w = open_holds at from f fs (l, e) o (joined_operand from f fs q at o x w (no_blank, inr (inr (l, e)))) refl
   operator_holds from f fs q _ e o x w = tt
 
   or_chain : {from q i kk : ℕ} {t : Tree} {b : Bool} (f : Frame) (x : Ended text from q true f) → Word text q at SaidOr → Gap text false at i → Unary text t i kk b (64 - f.base) → Chain text f.base from kk (behind f.ors (and_tree f.ands)) (behind no_trees t) b
   or_chain f x w g u = rw x.some (chain_or x.chain (x.blanks, gap_of x) w g (one_operand u))
 
+  -- an operand behind an `OR`
+  either_operand : (from : ℕ) (f : Frame) (fs : List Frame) (q i : ℕ) → Outer text fs from f.base → Ended text from q true f → Word text q at SaidOr → Gap text false at i → OperandFn text from i (with_or f)
+  either_operand from f fs q i o x w g =
+      let p = begins_of fs from f.base o in
+      let c = chain_whole x.chain in
+      (λ t k b u. or_chain f x w g u, wants_or p.0 c.1 c.2 (omega (arith, p.1)) (x.blanks, gap_of x) w g, p.1)
+
   either_holds : (from : ℕ) (f : Frame) (fs : List Frame) (q : ℕ) (k : Kind) → kind_of (get_or text at 0) ≡ k → Outer text fs from f.base → Ended text from q true f → Word text q at SaidOr
       → Holds text at (behind_operator at (get_or text at 0) k (with_or f) fs)
-  either_holds from f fs q Blank e o x w = (from, o, λ i y t k b u. or_chain f x w (blank (l, e) y, inl (omega (arith, blanks_le y))) u)
-  either_holds from f fs q Open e o x w = open_holds at from (with_or f) fs (l, e) o (λ t k b u. or_chain f x w (no_blank, inr (inr (l, e))) u)
+  either_holds from f fs q Blank e o x w = (from, o, λ i y. either_operand from f fs q i o x w (blank (l, e) y, inl (omega (arith, blanks_le y))))
+  either_holds from f fs q Open e o x w = open_holds at from (with_or f) fs (l, e) o (either_operand from f fs q at o x w (no_blank, inr (inr (l, e)))) refl
   either_holds from f fs q _ e o x w = tt
+
+  -- an operand behind a `NOT`
+  negated_operand_at : (from : ℕ) (f : Frame) (q i : ℕ) → f.deep < 64 → OperandFn text from q f → Word text q at SaidNot → Gap text false at i → OperandFn text from i (negated f)
+  negated_operand_at from f q i d g w h =
+      (λ t k b u. g.0 (Not t) k b (deep_unary d (by_not w h u)), wants_negated g.1 w h, omega (arith, d))
 
   not_then : (from : ℕ) (f : Frame) (fs : List Frame) (q : ℕ) (k : Kind) → kind_of (get_or text at 0) ≡ k → f.deep < 64 → Outer text fs from f.base → OperandFn text from q f → Word text q at SaidNot
       → Holds text at (after_not at (get_or text at 0) k f fs)
-  not_then from f fs q Blank e d o g w = (from, o, λ i y t k b u. g (Not t) k b (deep_unary d (by_not w (blank (l, e) y, inl (omega (arith, blanks_le y))) u)))
-  not_then from f fs q Open e d o g w = open_holds at from (negated f) fs (l, e) o (λ t k b u. g (Not t) k b (deep_unary d (by_not w (no_blank, inr (inr (l, e))) u)))
+  not_then from f fs q Blank e d o g w = (from, o, λ i y. negated_operand_at from f q i d g w (blank (l, e) y, inl (omega (arith, blanks_le y))))
+  not_then from f fs q Open e d o g w = open_holds at from (negated f) fs (l, e) o (negated_operand_at from f q at d g w (no_blank, inr (inr (l, e)))) refl
   not_then from f fs q _ e d o g w = tt
 
   not_holds : (from : ℕ) (f : Frame) (fs : List Frame) (q : ℕ) (k : Kind) → kind_of (get_or text at 0) ≡ k → Outer text fs from f.base → OperandFn text from q f → Word text q at SaidNot
@@ -436,7 +463,9 @@ module _ (text : List ℕ) (at : ℕ) (l : at < length text) where
     where
       go : (b : Bool) → nat_lt f.deep limit ≡ b → Holds text at (if b then after_not at (get_or text at 0) k f fs else Deep q)
       go true h = not_then from f fs q k e (ltb-true f.deep 64 h) o g w
-      go false h = tt
+      go false h =
+          let full : 64 ≤ f.deep = ltb-false f.deep 64 h in
+          record { inside = subst (λ d. Wants text d q) (let y : f.deep ≡ 64 = omega (arith, full, g.2) in y) g.1; nests = inr (inr (inr (at, w))) }
 
   abbrev Facts : ℕ → Role → ℕ → List ℕ → Bool → Frame → Type 0
   Facts from role q bytes p f = (start : ℕ) × OperandFn text from start f × Lead text role start q × (begins_word (kind_of (get_or text q 0)) ≡ true) × (bytes ≡ slice_range text q at) × Letters text q at p × (q < at) × (role ≡ Joined → Ended text from q true f)
@@ -446,7 +475,7 @@ module _ (text : List ℕ) (at : ℕ) (l : at < length text) where
       → (IsSetOpening text at → slice_range text q at ≡ 73 ∷ 78 ∷ [] → ⊥) → Word text q at SaidWord
       → Holds text at (step_after false at (get_or text at 0) k (with_operand f (leaf (Some s) (asks.Word (span q at)))) fs)
   plain_field from f fs s q start k e nc ns o g d m w = after_holds false k from (with_operand f (leaf (Some s) (asks.Word (span q at)))) fs e o
-      (ended_at f (leaf (Some s) (asks.Word (span q at))) false (g _ at false (asked_field s d m (a_word w (λ x c. nc (sym e ∙ c)) (λ x c. ns (sym e ∙ c))))) no_true)
+      (ended_at f (leaf (Some s) (asks.Word (span q at))) false (g.0 _ at false (asked_field s d m (a_word w (λ x c. nc (sym e ∙ c)) (λ x c. ns (sym e ∙ c))))) no_true)
 
   set_lead : (s : Span) (q start : ℕ) → Lead text (Fielded s) start q → FieldLead text s start q
   set_lead s q start d = record { colon = d.0; named = d.2; stands = d.3; same = d.1; blanks = subst (λ i. Blanks text (d.0 + 1) i) (sym d.4) no_blank }
@@ -469,9 +498,9 @@ module _ (text : List ℕ) (at : ℕ) (l : at < length text) where
       → Outer text fs from f.base → Facts from role q bytes p f → Word text q at SaidWord → (b : Bool) → names_set bytes ≡ b → Holds text at (end_plain role b q at (get_or text at 0) k f fs)
   unfolding names_set
   end_plain_holds from f fs First q bytes p k e nc ns o x w b h = after_holds false k from (with_operand f (leaf None (asks.Word (span q at)))) fs e o
-      (ended_at f (leaf None (asks.Word (span q at))) false (x.1 _ at false (asked_first x.2 (a_word w (λ m c. nc (sym e ∙ c)) (λ m c. ns (sym e ∙ c))))) no_true)
+      (ended_at f (leaf None (asks.Word (span q at))) false (x.1.0 _ at false (asked_first x.2 (a_word w (λ m c. nc (sym e ∙ c)) (λ m c. ns (sym e ∙ c))))) no_true)
   end_plain_holds from f fs Joined q bytes p k e nc ns o x w b h = after_holds false k from (with_operand f (leaf None (asks.Word (span q at)))) fs e o
-      (ended_at f (leaf None (asks.Word (span q at))) false (x.1 _ at false (asked_first x.2 (a_word w (λ m c. nc (sym e ∙ c)) (λ m c. ns (sym e ∙ c))))) no_true)
+      (ended_at f (leaf None (asks.Word (span q at))) false (x.1.0 _ at false (asked_first x.2 (a_word w (λ m c. nc (sym e ∙ c)) (λ m c. ns (sym e ∙ c))))) no_true)
   end_plain_holds from f fs (Fielded s) q bytes p k e nc ns o x w true h = behind_in_holds from f fs s q x.0 k e nc ns o x.1 x.2 (sym x.4 ∙ bytes_two bytes 73 78 h) x.6 w
   end_plain_holds from f fs (Fielded s) q bytes p k e nc ns o x w false h =
       plain_field from f fs s q x.0 k e nc ns o x.1 x.2 (λ z y. let t : true ≡ false = ap names_set (sym (x.4 ∙ y)) ∙ h in cc) w
@@ -516,11 +545,11 @@ module _ (text : List ℕ) (at : ℕ) (l : at < length text) where
       → Outer text fs from f.base → Facts from role q bytes p f → (s : Said) → said p bytes ≡ s
       → Holds text at (end_prefix (record { role = role; from = q; bytes = bytes; plain = p; escaped = false }) at (get_or text at 0) Star s f fs)
   star_holds from f fs First q bytes p e o x SaidWord h =
-      (from, o, ended_at f (leaf None (asks.Prefix (span q at))) false (x.1 _ (at + 1) false (asked_first x.2 (a_prefix (said_here q bytes p SaidWord x.3 x.4 x.5 x.6 (ap ends_word e) h) (l, e)))) no_true)
+      (from, o, ended_at f (leaf None (asks.Prefix (span q at))) false (x.1.0 _ (at + 1) false (asked_first x.2 (a_prefix (said_here q bytes p SaidWord x.3 x.4 x.5 x.6 (ap ends_word e) h) (l, e)))) no_true)
   star_holds from f fs Joined q bytes p e o x SaidWord h =
-      (from, o, ended_at f (leaf None (asks.Prefix (span q at))) false (x.1 _ (at + 1) false (asked_first x.2 (a_prefix (said_here q bytes p SaidWord x.3 x.4 x.5 x.6 (ap ends_word e) h) (l, e)))) no_true)
+      (from, o, ended_at f (leaf None (asks.Prefix (span q at))) false (x.1.0 _ (at + 1) false (asked_first x.2 (a_prefix (said_here q bytes p SaidWord x.3 x.4 x.5 x.6 (ap ends_word e) h) (l, e)))) no_true)
   star_holds from f fs (Fielded s) q bytes p e o x SaidWord h =
-      (from, o, ended_at f (leaf (Some s) (asks.Prefix (span q at))) false (x.1 _ (at + 1) false (asked_field s x.2 tt (a_prefix (said_here q bytes p SaidWord x.3 x.4 x.5 x.6 (ap ends_word e) h) (l, e)))) no_true)
+      (from, o, ended_at f (leaf (Some s) (asks.Prefix (span q at))) false (x.1.0 _ (at + 1) false (asked_field s x.2 tt (a_prefix (said_here q bytes p SaidWord x.3 x.4 x.5 x.6 (ap ends_word e) h) (l, e)))) no_true)
   star_holds from f fs (InASet s n ms) q bytes p e o x SaidWord h = tt
   star_holds from f fs role q bytes p e o x SaidNot h = end_not_holds from f fs role q bytes p Star e o x (said_here q bytes p SaidNot x.3 x.4 x.5 x.6 (ap ends_word e) h)
   star_holds from f fs role q bytes p e o x SaidAnd h = tt
@@ -574,15 +603,15 @@ module _ (text : List ℕ) (at : ℕ) (l : at < length text) where
   -- a quotation mark that closes
   quote_closes : (from : ℕ) (f : Frame) (fs : List Frame) (role : Role) (q : ℕ) → kind_of (get_or text at 0) ≡ Quote → Outer text fs from f.base → InQuoteInv text from at role q false f
       → Holds text at (step_quote role q false at Quote f fs)
-  quote_closes from f fs First q e o x = (from, o, ended_at f (leaf None (asks.Quoted (span q at))) false (x.operand _ (at + 1) false (asked_first x.lead (closed x))) no_true)
+  quote_closes from f fs First q e o x = (from, o, ended_at f (leaf None (asks.Quoted (span q at))) false (x.operand.0 _ (at + 1) false (asked_first x.lead (closed x))) no_true)
     where
       closed : (x : InQuoteInv text from at First q false f) → Asks text x.mark (at + 1) (asks.Quoted (span q at))
       closed x = subst (λ i. Asks text x.mark (at + 1) (asks.Quoted (span i at))) (sym x.behind) (a_quote x.quote (subst (λ i. Quotes text i at) x.behind x.quotes) (l, e))
-  quote_closes from f fs Joined q e o x = (from, o, ended_at f (leaf None (asks.Quoted (span q at))) false (x.operand _ (at + 1) false (asked_first x.lead (closed x))) no_true)
+  quote_closes from f fs Joined q e o x = (from, o, ended_at f (leaf None (asks.Quoted (span q at))) false (x.operand.0 _ (at + 1) false (asked_first x.lead (closed x))) no_true)
     where
       closed : (x : InQuoteInv text from at Joined q false f) → Asks text x.mark (at + 1) (asks.Quoted (span q at))
       closed x = subst (λ i. Asks text x.mark (at + 1) (asks.Quoted (span i at))) (sym x.behind) (a_quote x.quote (subst (λ i. Quotes text i at) x.behind x.quotes) (l, e))
-  quote_closes from f fs (Fielded s) q e o x = (from, o, ended_at f (leaf (Some s) (asks.Quoted (span q at))) false (x.operand _ (at + 1) false (asked_field s x.lead tt (closed x))) no_true)
+  quote_closes from f fs (Fielded s) q e o x = (from, o, ended_at f (leaf (Some s) (asks.Quoted (span q at))) false (x.operand.0 _ (at + 1) false (asked_field s x.lead tt (closed x))) no_true)
     where
       closed : (x : InQuoteInv text from at (Fielded s) q false f) → Asks text x.mark (at + 1) (asks.Quoted (span q at))
       closed x = subst (λ i. Asks text x.mark (at + 1) (asks.Quoted (span i at))) (sym x.behind) (a_quote x.quote (subst (λ i. Quotes text i at) x.behind x.quotes) (l, e))
@@ -750,15 +779,15 @@ module _ (text : List ℕ) (at : ℕ) (l : at < length text) where
   move_holds : (p : RangeStep) (k : Kind) (from : ℕ) (f : Frame) (fs : List Frame) (s : Span) (n start : ℕ) → kind_of (get_or text at 0) ≡ k → Outer text fs from f.base → OperandFn text from start f → FieldLead text s start n → RangeHolds text n at p
       → Holds text at (move_range s n p at (get_or text at 0) k f fs)
   move_holds (moves.More m) k from f fs s n start e o g d h = (from, o, record { start = start; operand = g; lead = d; range = h })
-  move_holds (moves.Done r) k from f fs s n start e o g d h = (from, o, ended_at f (leaf (Some s) (asks.Within n r)) true (g _ (at + 1) true (special_unary s d h)) (λ z. refl))
-  move_holds (moves.Ended r) k from f fs s n start e o g d h = (from, o, ended_at f (leaf (Some s) (asks.Within n r)) false (g _ (at + 1) false (special_unary s d h)) no_true)
-  move_holds (moves.Before r) k from f fs s n start e o g d h = after_holds false k from (with_operand f (leaf (Some s) (asks.Within n r))) fs e o (ended_at f (leaf (Some s) (asks.Within n r)) false (g _ at false (special_unary s d h)) no_true)
+  move_holds (moves.Done r) k from f fs s n start e o g d h = (from, o, ended_at f (leaf (Some s) (asks.Within n r)) true (g.0 _ (at + 1) true (special_unary s d h)) (λ z. refl))
+  move_holds (moves.Ended r) k from f fs s n start e o g d h = (from, o, ended_at f (leaf (Some s) (asks.Within n r)) false (g.0 _ (at + 1) false (special_unary s d h)) no_true)
+  move_holds (moves.Before r) k from f fs s n start e o g d h = after_holds false k from (with_operand f (leaf (Some s) (asks.Within n r))) fs e o (ended_at f (leaf (Some s) (asks.Within n r)) false (g.0 _ at false (special_unary s d h)) no_true)
   move_holds moves.Refused k from f fs s n start e o g d h = tt
 
   -- behind a field and its colon
   special_holds : (k : Kind) (from : ℕ) (f : Frame) (fs : List Frame) (s : Span) (start : ℕ) → kind_of (get_or text at 0) ≡ k → Outer text fs from f.base → OperandFn text from start f → FieldLead text s start at
       → Holds text at (begin_special s at (get_or text at 0) k f fs)
-  special_holds Star from f fs s start e o g d = (from, o, ended_at f (leaf (Some s) asks.Any) false (g _ (at + 1) false (special_unary s d (any_value (l, e)))) no_true)
+  special_holds Star from f fs s start e o g d = (from, o, ended_at f (leaf (Some s) asks.Any) false (g.0 _ (at + 1) false (special_unary s d (any_value (l, e)))) no_true)
   special_holds SquareOpen from f fs s start e o g d = (from, o, record { start = start; operand = g; lead = d; range = low_spot (inl (refl, (l, e))) no_blank })
   special_holds CurlyOpen from f fs s start e o g d = (from, o, record { start = start; operand = g; lead = d; range = low_spot (inr (refl, (l, e))) no_blank })
   special_holds Angle from f fs s start e o g d = (from, o, record { start = start; operand = g; lead = d; range = (angle_byte text at l e (get_or text at 0 == 62) refl, refl) })
@@ -834,14 +863,14 @@ plain_query : (text : List ℕ) (at from : ℕ) (f : Frame) (fs : List Frame) (t
     → finish_plain role q at f fs ≡ Ok t → IsQuery 64 text t
 plain_query text at from f fs t (InASet s n ms) q start e o g d w h = no_read text t _ h
 plain_query text at from f fs t First q start e o g d w h = whole_query text at from false (with_operand f (leaf None (asks.Word (span q at)))) fs t e o
-    (ended_at f (leaf None (asks.Word (span q at))) false (g _ at false (subst (λ i. Unary text (leaf None (asks.Word (span q at))) i at false (64 - f.deep)) d (of_defaults (a_word w (λ l. absurd (omega (arith, e, l))) (λ l. absurd (omega (arith, e, l))))))) (λ z. absurd (let y : false ≡ true = z in cc))) h
+    (ended_at f (leaf None (asks.Word (span q at))) false (g.0 _ at false (subst (λ i. Unary text (leaf None (asks.Word (span q at))) i at false (64 - f.deep)) d (of_defaults (a_word w (λ l. absurd (omega (arith, e, l))) (λ l. absurd (omega (arith, e, l))))))) (λ z. absurd (let y : false ≡ true = z in cc))) h
 plain_query text at from f fs t Joined q start e o g d w h = whole_query text at from false (with_operand f (leaf None (asks.Word (span q at)))) fs t e o
-    (ended_at f (leaf None (asks.Word (span q at))) false (g _ at false (subst (λ i. Unary text (leaf None (asks.Word (span q at))) i at false (64 - f.deep)) d (of_defaults (a_word w (λ l. absurd (omega (arith, e, l))) (λ l. absurd (omega (arith, e, l))))))) (λ z. absurd (let y : false ≡ true = z in cc))) h
+    (ended_at f (leaf None (asks.Word (span q at))) false (g.0 _ at false (subst (λ i. Unary text (leaf None (asks.Word (span q at))) i at false (64 - f.deep)) d (of_defaults (a_word w (λ l. absurd (omega (arith, e, l))) (λ l. absurd (omega (arith, e, l))))))) (λ z. absurd (let y : false ≡ true = z in cc))) h
 plain_query text at from f fs t (Fielded s) q start e o g d w h =
     let y : Asks text (d.0 + 1) at (asks.Word (span q at)) = subst (λ i. Asks text i at (asks.Word (span q at))) d.4 (a_word w (λ l. absurd (omega (arith, e, l))) (λ l. absurd (omega (arith, e, l)))) in
     let z : kind_of (get_or text (d.0 + 1) 0) ≡ Angle → ⊥ = λ h. d.5 (ap (λ i. kind_of (get_or text i 0)) d.4 ∙ h) in
     whole_query text at from false (with_operand f (leaf (Some s) (asks.Word (span q at)))) fs t e o
-    (ended_at f (leaf (Some s) (asks.Word (span q at))) false (g _ at false (subst (λ s. Unary text (leaf (Some s) (asks.Word (span q at))) start at false (64 - f.deep)) (sym d.1) (of_field d.2 d.3 z (λ x. absurd (omega (arith, e, x.0))) y))) (λ z. absurd (let y : false ≡ true = z in cc))) h
+    (ended_at f (leaf (Some s) (asks.Word (span q at))) false (g.0 _ at false (subst (λ s. Unary text (leaf (Some s) (asks.Word (span q at))) start at false (64 - f.deep)) (sym d.1) (of_field d.2 d.3 z (λ x. absurd (omega (arith, e, x.0))) y))) (λ z. absurd (let y : false ≡ true = z in cc))) h
 
 not_query : (text : List ℕ) (t : Tree) (role : Role) (q at : ℕ) (f : Frame) → finish_not role q at f ≡ Ok t → IsQuery 64 text t
 not_query text t First q at f h = go (nat_lt f.deep limit) h
@@ -881,7 +910,7 @@ range_finish text at from f fs s n (Running (One op) i false) t (Some r) g e o x
     let u : Unary text (leaf (Some s) (asks.Within n (Compared op (bounds.Run (span i at))))) x.start at false (64 - f.deep)
     = subst (λ s. Unary text (leaf (Some s) (asks.Within n (Compared op (bounds.Run (span i at))))) x.start at false (64 - f.deep)) (sym x.lead.same) (of_special x.lead.named x.lead.stands x.lead.blanks sp) in
     whole_query text at from false (with_operand f (leaf (Some s) (asks.Within n (Compared op (bounds.Run (span i at)))))) fs t e o
-    (ended_at f (leaf (Some s) (asks.Within n (Compared op (bounds.Run (span i at))))) false (x.operand _ at false u) (λ z. absurd (let y : false ≡ true = z in cc)))
+    (ended_at f (leaf (Some s) (asks.Within n (Compared op (bounds.Run (span i at))))) false (x.operand.0 _ at false u) (λ z. absurd (let y : false ≡ true = z in cc)))
     (ap (λ r. finish_range s n (Some r) at f fs) (sym same) ∙ d)
   where
     of_run : Spotted text n (One op) i → Bounds text i at (bounds.Run (span i at)) → Specials text n at (asks.Within n (Compared op (bounds.Run (span i at)))) false
@@ -913,4 +942,83 @@ run_query (suc n) text at s t l x e =
 
 -- what is read is in the grammar
 pub reads_query : (text : List ℕ) (t : Tree) → reads text ≡ Ok t → IsQuery 64 text t
-reads_query text t e = run_query (length text) text 0 start t (omega arith) (0, (refl, refl), λ i x u k b v. first x (one_operand v)) e
+reads_query text t e = run_query (length text) text 0 start t (omega arith) (0, (refl, refl), λ i x. (λ u k b v. first x (one_operand v), wants_first the_whole x, omega arith)) e
+
+-- a text that ends too deep ends in a `NOT`
+not_deep : {A : Type 0} (at n : ℕ) → ◌≡◌ {A = Result Tree Fault} (Err (faults.Syntax at)) (Err (faults.TooDeep n)) → A
+not_deep at n e = absurd (let y : ◌≡◌ {A = Fault} (faults.Syntax at) (faults.TooDeep n) = cc in cc)
+
+ended_deep : {A : Type 0} (at n : ℕ) (o : Option Tree) → finished at o ≡ Err (faults.TooDeep n) → A
+ended_deep at n (Some t) e = absurd (let y : ◌≡◌ {A = Result Tree Fault} (Ok t) (Err (faults.TooDeep n)) = e in cc)
+ended_deep at n None e = not_deep at n e
+
+plain_deep : {A : Type 0} (role : Role) (q at : ℕ) (f : Frame) (fs : List Frame) (n : ℕ) → finish_plain role q at f fs ≡ Err (faults.TooDeep n) → A
+plain_deep (InASet s m ms) q at f fs n e = not_deep at n e
+plain_deep First q at f fs n e = ended_deep at n _ e
+plain_deep Joined q at f fs n e = ended_deep at n _ e
+plain_deep (Fielded s) q at f fs n e = ended_deep at n _ e
+
+not_ends_deep : (text : List ℕ) (q at : ℕ) (f : Frame) (n : ℕ) → Wants text f.deep q → f.deep ≤ 64 → Word text q at SaidNot
+    → ◌≡◌ {A = Result Tree Fault} (if nat_lt f.deep limit then Err (faults.Syntax at) else Err (faults.TooDeep q)) (Err (faults.TooDeep n)) → IsTooDeepAt text n
+not_ends_deep text q at f n w m k e = go (nat_lt f.deep limit) refl
+  where
+    go : (b : Bool) → nat_lt f.deep limit ≡ b → IsTooDeepAt text n
+    go true h = not_deep at n (rw h at e)
+    go false h =
+        let y : ◌≡◌ {A = Result Tree Fault} (Err (faults.TooDeep q)) (Err (faults.TooDeep n)) = rw h at e in
+        let z : ◌≡◌ {A = Fault} (faults.TooDeep q) (faults.TooDeep n) = cc in
+        let i : q ≡ n = cc in
+        let full : 64 ≤ f.deep = ltb-false f.deep 64 h in
+        subst (IsTooDeepAt text) i (record { inside = subst (λ d. Wants text d q) (let y : f.deep ≡ 64 = omega (arith, full, m) in y) w; nests = inr (inr (inr (at, k))) })
+
+not_role_deep : (text : List ℕ) (role : Role) (start q at : ℕ) (f : Frame) (n : ℕ) → Lead text role start q → Wants text f.deep start → f.deep ≤ 64 → Word text q at SaidNot → finish_not role q at f ≡ Err (faults.TooDeep n) → IsTooDeepAt text n
+not_role_deep text First start q at f n d w m k e = not_ends_deep text q at f n (subst (λ i. Wants text f.deep i) (sym d) w) m k e
+not_role_deep text Joined start q at f n d w m k e = not_ends_deep text q at f n (subst (λ i. Wants text f.deep i) (sym d) w) m k e
+not_role_deep text (Fielded s) start q at f n d w m k e = not_deep at n e
+not_role_deep text (InASet s i ms) start q at f n d w m k e = not_deep at n e
+
+word_deep : (text : List ℕ) (at from : ℕ) (f : Frame) (fs : List Frame) (h : Head) (n : ℕ) → at ≡ length text → InWordInv text from at h f → Letters text h.from at h.plain → h.from < at
+    → (s : Said) → said h.plain h.bytes ≡ s → finish_word h.role s h.from at f fs ≡ Err (faults.TooDeep n) → IsTooDeepAt text n
+word_deep text at from f fs h n e x r m SaidWord i d = plain_deep h.role h.from at f fs n d
+word_deep text at from f fs h n e x r m SaidAnd i d = not_deep at n d
+word_deep text at from f fs h n e x r m SaidOr i d = not_deep at n d
+word_deep text at from f fs h n e x r m SaidNot i d =
+    not_role_deep text h.role x.start h.from at f n x.lead x.operand.1 x.operand.2
+    (record { plain = h.plain; letters = r; begins = x.first; some = m; ends = λ l. absurd (omega (arith, e, l)); says = ap (said h.plain) (sym x.bytes) ∙ i }) d
+
+word_end_deep : (b : Bool) (text : List ℕ) (at from : ℕ) (f : Frame) (fs : List Frame) (h : Head) (n : ℕ) → h.escaped ≡ b → at ≡ length text → InWordInv text from at h f
+    → finish (InWord h) at f fs ≡ Err (faults.TooDeep n) → IsTooDeepAt text n
+word_end_deep true text at from f fs h n z e x d = not_deep at n (rw z at d)
+word_end_deep false text at from f fs h n z e x d =
+    let y : LettersSoFar text h.from at h.plain false = subst (λ b. LettersSoFar text h.from at h.plain b) z x.letters in
+    word_deep text at from f fs h n e x y.0 y.1 (said h.plain h.bytes) refl (rw z at d)
+
+range_deep : {A : Type 0} (s : Span) (q : ℕ) (r : Option Ranged) (at : ℕ) (f : Frame) (fs : List Frame) (n : ℕ) → finish_range s q r at f fs ≡ Err (faults.TooDeep n) → A
+range_deep s q None at f fs n e = not_deep at n e
+range_deep s q (Some r) at f fs n e = ended_deep at n _ e
+
+finish_deep : (text : List ℕ) (at from : ℕ) (m : Mode) (f : Frame) (fs : List Frame) (n : ℕ) → at ≡ length text → ModeInv text from at m f → finish m at f fs ≡ Err (faults.TooDeep n) → IsTooDeepAt text n
+finish_deep text at from (After free) f fs n e x d = ended_deep at n _ d
+finish_deep text at from (InWord h) f fs n e x d = word_end_deep h.escaped text at from f fs h n refl e x d
+finish_deep text at from (InRange s q m) f fs n e x d = range_deep s q (range_end m at) at f fs n d
+finish_deep text at from m f fs n e x d = not_deep at n d
+
+go_deep : (text : List ℕ) (at : ℕ) (p : Step) (n : ℕ) → Holds text at p → go_on at p (λ next. run (at + 1) next (drop (at + 1) text)) ≡ Err (faults.TooDeep n)
+    → ((s : State) → Inv text (at + 1) s → run (at + 1) s (drop (at + 1) text) ≡ Err (faults.TooDeep n) → IsTooDeepAt text n) → IsTooDeepAt text n
+go_deep text at (Go s) n h e next = next s h e
+go_deep text at Stuck n h e next = not_deep at n e
+go_deep text at (Deep m) n h e next =
+    let z : ◌≡◌ {A = Fault} (faults.TooDeep m) (faults.TooDeep n) = cc in
+    let i : m ≡ n = cc in subst (IsTooDeepAt text) i h
+
+run_deep : (k : ℕ) (text : List ℕ) (at : ℕ) (s : State) (n : ℕ) → at + k ≡ length text → Inv text at s → run at s (drop at text) ≡ Err (faults.TooDeep n) → IsTooDeepAt text n
+run_deep zero text at s n l x e = finish_deep text at x.0 s.mode s.frame s.outer n (omega arith) x.2 (sym (ends text at s.mode s.frame s.outer (omega arith)) ∙ e)
+run_deep (suc k) text at s n l x e =
+    let m : at < length text = omega arith in
+    go_deep text at (step s.mode at (get_or text at 0) (kind_of (get_or text at 0)) s.frame s.outer) n
+    (step_holds text at m s.mode x.0 s.frame s.outer x.1 x.2) (sym (steps text at s.mode s.frame s.outer (kind_of (get_or text at 0)) m refl) ∙ e)
+    (λ s' y. run_deep k text (at + 1) s' n (omega arith) y)
+
+-- what is too deep stands in 64 others
+pub deep_stands : (text : List ℕ) (n : ℕ) → reads text ≡ Err (faults.TooDeep n) → IsTooDeepAt text n
+deep_stands text n e = run_deep (length text) text 0 start n (omega arith) (0, (refl, refl), λ i x. (λ u k b v. first x (one_operand v), wants_first the_whole x, omega arith)) e

@@ -1,16 +1,15 @@
 -- What ranges, comparisons and sets do to the machine.
-use Rattle.std.proofs.Common.{◌≡◌, ◌⊎◌, inl, inr, Option, Some, None, ℕ, ◌+◌, ◌<◌, ◌≤◌, ◌==◌, Bool, true, false, not, List, [], ◌∷◌, ◌++◌, length, drop, get_or, Result, Ok, Err, refl, ap, sym, ◌∙◌, arith}
-use Rattle.std.specs.Prelude.{slice_range}
+use Rattle.std.proofs.Common.{◌≡◌, ◌⊎◌, inl, inr, Some, None, ℕ, ◌+◌, ◌<◌, ◌≤◌, ◌==◌, Bool, true, false, not, List, [], ◌∷◌, ◌++◌, length, drop, get_or, Err, refl, ap, ◌∙◌, arith}
 use Rattle.std.proofs.lemmas.Bool.Decides.{eqb_tells}
-use Rattle.query_reader.proofs.Steps.{steps, goes, ends}
+use Rattle.query_reader.proofs.Steps.{goes, ends}
 use Rattle.query_reader.proofs.Parts.{alike, stuck_at}
 use Rattle.query_reader.specs.Kinds.{kind_of, said, ends_word, begins_word, names_set, is_escape_kind}
 use Rattle.query_reader.specs.Asking as asks
 use Rattle.query_reader.specs.Ranges.{range_step, range_end}
-use Rattle.query_reader.specs.Machine.{run, state, State, Frame, Mode, Step, Go, Stuck, go_on, step, finish, word, begun_word, Role, Fielded, InASet, member, After, InSet, InRange, BehindIn, Spaced, LetterI, with_operand, leaf, step_in, step_set, move_range, finish_range}
-use Rattle.query_reader.specs.Reading.{IsSetOpening, set_rest, range_rest, special_rest}
+use Rattle.query_reader.specs.Machine.{run, state, Frame, Go, Stuck, step, word, begun_word, Fielded, InASet, member, After, InSet, InRange, BehindIn, Spaced, LetterI, with_operand, leaf, step_in, move_range, finish_range}
+use Rattle.query_reader.specs.Reading.{IsSetOpening, set_rest, range_rest}
 use Rattle.query_reader.specs.declared.kind.Kind.{Kind}
-use Rattle.query_reader.specs.declared.kind.Kind.TheVariants.{Blank, Quote, Open, Close, Star, Colon, Plus, Minus, Escape, Angle, SquareOpen, SquareClose, CurlyOpen, CurlyClose, Reserved, Plain}
+use Rattle.query_reader.specs.declared.kind.Kind.TheVariants.{Blank, Quote, Minus, Escape, Angle, SquareOpen, SquareClose, Plain}
 use Rattle.query_reader.specs.declared.kind.Said.TheVariants.{SaidWord}
 use Rattle.query_reader.specs.declared.tree.Span.{Span}
 use Rattle.query_reader.specs.declared.special.Member.{Member}

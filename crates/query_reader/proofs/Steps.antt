@@ -1,16 +1,12 @@
 -- One step of the machine over a slice.
-use Rattle.std.proofs.Common.{◌≡◌, ◌⊎◌, inl, inr, Option, ◌||◌, nat_lt, lt-ltb, ℕ, suc, ◌+◌, ◌-◌, ◌<◌, ◌≤◌, Bool, true, false, not, List, [], ◌∷◌, ◌++◌, length, take, drop, get_or, Result, Ok, Err, refl, ap, sym, ◌∙◌, arith, add-one, length-drop, get_or-drop}
+use Rattle.std.proofs.Common.{◌≡◌, ◌⊎◌, inl, inr, ◌||◌, nat_lt, lt-ltb, ℕ, suc, ◌+◌, ◌-◌, ◌<◌, ◌≤◌, Bool, true, false, not, List, [], ◌∷◌, ◌++◌, length, take, drop, get_or, refl, ap, sym, ◌∙◌, arith, add-one, length-drop, get_or-drop}
 use Rattle.std.specs.Prelude.{slice_range}
 use Rattle.std.proofs.Math.Seq.{drop-cons}
 use Rattle.std.proofs.lemmas.List.{take_more, drop_all}
 use Rattle.query_reader.specs.Kinds.{kind_of}
-use Rattle.query_reader.specs.Tree.{Tree}
-use Rattle.query_reader.specs.Machine.{run, state, State, Frame, Mode, Role, Step, Go, Stuck, go_on, step, finish, begin, from_operand, step_quote, word, InQuote}
+use Rattle.query_reader.specs.Machine.{run, state, State, Frame, Mode, Role, Go, Stuck, go_on, step, finish, begin, from_operand, step_quote, word, InQuote}
 use Rattle.query_reader.specs.declared.kind.Kind.{Kind}
 use Rattle.query_reader.specs.declared.kind.Kind.TheVariants.{Quote, Escape, Plain, Angle, Minus}
-use Rattle.query_reader.specs.declared.tree.Span.{Span}
-use Rattle.query_reader.specs.declared.fault.Fault.{Fault}
-use Rattle.query_reader.specs.declared.fault.Fault.TheVariants as faults
 
 -- the machine takes the byte at a place
 pub steps : (text : List ℕ) (at : ℕ) (m : Mode) (f : Frame) (fs : List Frame) (k : Kind) → at < length text → kind_of (get_or text at 0) ≡ k

@@ -1,11 +1,10 @@
 -- What a query text is, and which query it gives: a text from a place to a place, rule by rule.
-use Rattle.std.specs.Prelude.{◌≡◌, ◌≢◌, ◌<◌, ◌≤◌, ◌++◌, [], ◌∷◌, take, ℕ, suc, ◌+◌, Bool, true, false, List, length, slice_index, slice_range, Option, Some, None, ◌⊎◌}
+use Rattle.std.specs.Prelude.{◌≡◌, ◌≢◌, ◌<◌, ◌≤◌, ◌++◌, [], ◌∷◌, take, ℕ, suc, ◌+◌, Bool, true, false, List, length, slice_index, slice_range, Some, None, ◌⊎◌}
 use Rattle.query_reader.specs.Kinds.{kind_of, said, ends_word, begins_word, StandsAt, ByteAt}
 use Rattle.query_reader.specs.Tree.{Tree, Trees, no_trees, behind, and_tree, or_tree, Leaf, Group, Not}
 use Rattle.query_reader.specs.Asking.{Asking}
 use Rattle.query_reader.specs.Asking as asks
 use Rattle.query_reader.specs.Ranges.{ends_run}
-use Rattle.query_reader.specs.declared.kind.Kind.{Kind}
 use Rattle.query_reader.specs.declared.kind.Kind.TheVariants.{Blank, Quote, Open, Close, Star, Colon, Plus, Minus, Escape, Angle, SquareOpen, SquareClose, CurlyOpen, CurlyClose}
 use Rattle.query_reader.specs.declared.kind.Said.{Said}
 use Rattle.query_reader.specs.declared.kind.Said.TheVariants.{SaidWord, SaidAnd, SaidOr, SaidNot}
@@ -161,3 +160,29 @@ pub record IsLongestFront (text : List ℕ) (at : ℕ) : Type 0 where
   pub within : at ≤ length text
   pub begins : BeginsQuery (take at text)
   pub longest : (n : ℕ) → n ≤ length text → BeginsQuery (take n text) → n ≤ at
+
+-- Where an operand may begin, and how many brackets, NOTs and signs stand around it; and where the content of a bracket
+-- begins, or the whole. What stands before it nests no deeper than 64.
+mutual
+  pub data Begins (text : List ℕ) : ℕ → ℕ → Type 0 where
+    the_whole : Begins text 0 0
+    a_bracket : {d i : ℕ} → Wants text d i → StandsAt text i Open → Begins text (d + 1) (i + 1)
+
+  pub data Wants (text : List ℕ) : ℕ → ℕ → Type 0 where
+    wants_first : {d i j : ℕ} → Begins text d i → Blanks text i j → Wants text d j
+    -- behind other operands of the bracket, at once or behind an operator
+    wants_next : {t : Trees} {d i s j k n : ℕ} {b : Bool} → Begins text d i → Blanks text i s → Ors text t s j b n → d + n ≤ 64 → Gap text b j k → Wants text d k
+    wants_and : {t : Trees} {d i s j k l m n : ℕ} {b : Bool} → Begins text d i → Blanks text i s → Ors text t s j b n → d + n ≤ 64 → Gap text b j k → Word text k l SaidAnd → Gap text false l m → Wants text d m
+    wants_or : {t : Trees} {d i s j k l m n : ℕ} {b : Bool} → Begins text d i → Blanks text i s → Ors text t s j b n → d + n ≤ 64 → Gap text b j k → Word text k l SaidOr → Gap text false l m → Wants text d m
+    -- behind a `NOT` and behind a sign
+    wants_negated : {d i j k : ℕ} → Wants text d i → Word text i j SaidNot → Gap text false j k → Wants text (d + 1) k
+    wants_signed : {d i : ℕ} → Wants text d i → StandsAt text i Plus ⊎ StandsAt text i Minus → Wants text (d + 1) (i + 1)
+
+-- a bracket, a sign or a `NOT` begins here
+abbrev pub Nests : List ℕ → ℕ → Type 0
+Nests text at = StandsAt text at Open ⊎ (StandsAt text at Plus ⊎ (StandsAt text at Minus ⊎ ((j : ℕ) × Word text at j SaidNot)))
+
+-- the bracket, sign or `NOT` that begins here stands in 64 others
+pub record IsTooDeepAt (text : List ℕ) (at : ℕ) : Type 0 where
+  pub inside : Wants text 64 at
+  pub nests : Nests text at

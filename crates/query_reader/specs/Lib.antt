@@ -7,3 +7,4 @@ pub mod Reading
 pub mod Grammar
 pub mod Texts
 pub mod Resolve
+pub mod Printed

@@ -1,5 +1,5 @@
 -- How a query text is read, one byte after another: the machine whose stuck places are the faults of syntax.
-use Rattle.std.specs.Prelude.{slice_index, ◌≡◌, ◌≤◌, length, take, ℕ, zero, suc, ◌+◌, ◌==◌, Bool, true, false, not, ◌&&◌, ◌||◌, nat_lt, List, [], ◌∷◌, ◌++◌, Option, Some, None, Result, Ok, Err, if◌then◌else◌}
+use Rattle.std.specs.Prelude.{slice_index, ℕ, suc, ◌+◌, ◌==◌, Bool, true, false, not, nat_lt, List, [], ◌∷◌, ◌++◌, Option, Some, None, Result, Ok, Err, if◌then◌else◌}
 use Rattle.query_reader.specs.Kinds.{kind_of, said, names_set, is_escape_kind}
 use Rattle.query_reader.specs.Asking.{Asking}
 use Rattle.query_reader.specs.Asking as asks

@@ -1,8 +1,7 @@
 -- How a range or a comparison is read, one byte after another.
-use Rattle.std.specs.Prelude.{ℕ, suc, ◌+◌, ◌==◌, ◌&&◌, Bool, true, false, Option, Some, None, if◌then◌else◌}
+use Rattle.std.specs.Prelude.{ℕ, ◌+◌, ◌==◌, ◌&&◌, Bool, true, false, Option, Some, None, if◌then◌else◌}
 use Rattle.query_reader.specs.declared.kind.Kind.{Kind}
 use Rattle.query_reader.specs.declared.kind.Kind.TheVariants.{Blank, Quote, Close, Star, Escape, SquareClose, CurlyClose, Plain}
-use Rattle.query_reader.specs.declared.tree.Span.{Span}
 use Rattle.query_reader.specs.declared.special.Bound.{Bound}
 use Rattle.query_reader.specs.declared.special.Bound.TheVariants as bounds
 use Rattle.query_reader.specs.declared.special.Compare.{Compare}

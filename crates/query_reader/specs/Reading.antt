@@ -3,7 +3,6 @@ use Rattle.std.specs.Prelude.{◌≡◌, Option, Ok, Err, slice_range, ◌<◌, 
 use Rattle.query_reader.specs.Kinds.{kind_of, said, names_set, ends_word}
 use Rattle.query_reader.specs.Tree.{Tree, view, no_trees, trees_after}
 use Rattle.query_reader.specs.Machine.{Frame, go_on, begin_special, run, state, After, InQuote, Behind, word, Role, First, Fielded, Spaced, LetterI, InSet, InRange, BehindIn, with_or, with_operand, from_operand, Want, fresh}
-use Rattle.query_reader.specs.declared.kind.Kind.{Kind}
 use Rattle.query_reader.specs.declared.kind.Kind.TheVariants.{Blank, Open, Close, SquareOpen}
 use Rattle.query_reader.specs.declared.special.Member.{Member}
 use Rattle.query_reader.specs.declared.special.RangeMode.{RangeMode}
@@ -14,7 +13,6 @@ use Rattle.query_reader.specs.declared.reader.Operand.{Operand}
 use Rattle.query_reader.specs.declared.fault.ReadError.{ReadError}
 use Rattle.query_reader.specs.declared.fault.ReadError.TheVariants as errors
 use Rattle.query_reader.specs.declared.tree.Raw.{Raw}
-use Rattle.query_reader.specs.declared.fault.Fault.TheVariants as faults
 use Rattle.query_reader.specs.declared.fault.Fault.{Fault}
 use Rattle.query_reader.specs.declared.reader.Next.{Next}
 use Rattle.query_reader.specs.declared.reader.Next.TheVariants.{End, And, Or}

@@ -1,7 +1,6 @@
 -- A query as it is written, without where it lies in memory.
-use Rattle.std.specs.Prelude.{ℕ, zero, suc, Option, Some, None, List, [], ◌∷◌}
+use Rattle.std.specs.Prelude.{ℕ, zero, suc, Option, List, [], ◌∷◌}
 use Rattle.query_reader.specs.declared.tree.Span.{Span}
-use Rattle.query_reader.specs.declared.tree.Clause.{Clause}
 use Rattle.query_reader.specs.declared.tree.Ask.{Ask}
 use Rattle.query_reader.specs.declared.tree.Ask.TheVariants as written
 use Rattle.query_reader.specs.Asking.{Asking}

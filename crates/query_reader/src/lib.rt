@@ -1,4 +1,4 @@
-//! Reads query texts.
+//! Reads and prints query texts.
 #![tactic(auto)]
 
 mod asked;
@@ -6,6 +6,7 @@ mod fault;
 mod kind;
 mod laws;
 mod numbers;
+mod printer;
 mod reader;
 mod refusal;
 mod resolve;
@@ -17,8 +18,9 @@ mod texts;
 mod tree;
 
 pub use fault::{Fault, ReadError};
-pub use laws::reading_laws;
+pub use laws::{printing_laws, reading_laws};
 pub use numbers::FieldNumbers;
+pub use printer::print_query;
 pub use refusal::QueryError;
 pub use resolve::read_query;
 pub use special::{Bound, Compare, Member, Ranged};

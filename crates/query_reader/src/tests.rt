@@ -1,4 +1,4 @@
-use crate::{FieldNumbers, QueryError, read_query};
+use crate::{FieldNumbers, QueryError, print_query, read_query};
 use doc_value::{Field, Fields, Kind, Schema, Text, Tokenizer, Value};
 use query_ast::{Edge, Item, Query};
 use std::alloc::{AllocError, Global};
@@ -333,5 +333,91 @@ fn no_default_fields(rt: HostRuntime) -> Result<(), Fail> {
         _ => false,
     };
     assert!(rt; refused);
+    Ok(())
+}
+
+const PRINTED: [(&str, &str); 24] = [
+    (
+        "body:a b OR NOT level:x",
+        "(body:a AND body:b) OR NOT level:x",
+    ),
+    ("*", "*"),
+    ("-a", "NOT body:a"),
+    ("--a", "NOT NOT body:a"),
+    ("((a))", "body:a"),
+    ("NOT (a b)", "NOT (body:a AND body:b)"),
+    ("(a OR b) c", "(body:a OR body:b) AND body:c"),
+    ("level:x*", "level:x*"),
+    ("level: *", "level:*"),
+    ("size:>5", "size:{5 TO *]"),
+    ("size:<=5", "size:[* TO 5]"),
+    ("size:[-5 TO 0}", "size:[-5 TO 0}"),
+    ("size:\\-5", "size:\\-5"),
+    ("level: IN[a  \"b c\"]", "level:IN [a \"b c\"]"),
+    ("level:IN []", "level:IN []"),
+    ("level:\\AND", "level:\\AND"),
+    ("level:A\\ND", "level:\\AND"),
+    ("level:IN", "level:\\IN"),
+    ("a\\ b", "body:a\\ b"),
+    ("<x", "body:\\<x"),
+    ("level:\"a\\\"b\"", "level:\"a\\\"b\""),
+    ("ts:2020-01-01T00\\:00\\:00Z", "ts:2020-01-01T00\\:00\\:00Z"),
+    ("ts:[2020-01-01T00:00:00Z TO *]", "ts:[1577836800 TO *]"),
+    (
+        "ts:{1969-12-31T23:59:59Z TO 2300-01-01T00:00:00Z}",
+        "ts:{\"1969-12-31T23:59:59Z\" TO \"2300-01-01T00:00:00Z\"}",
+    ),
+];
+
+fn printed(alloc: Global, schema: &Schema, text: &str) -> Result<Text, AllocError> {
+    let defaults = FieldNumbers::from_slice(alloc, &[0])?;
+    match read_query(alloc, schema, &defaults, text) {
+        Ok(query) => print_query(alloc, schema, &query),
+        Err(_) => Ok(Text::vacant(alloc)),
+    }
+}
+
+#[test]
+fn printing(rt: HostRuntime) -> Result<(), Fail> {
+    let schema = schema(rt.alloc())?;
+    for (text, wanted) in PRINTED.iter() {
+        let shown = printed(rt.alloc(), &schema, text)?;
+        assert_eq!(rt; shown.as_str(), *wanted);
+        let first = outcome(rt.alloc(), &schema, text)?;
+        assert_eq!(rt;
+            outcome(rt.alloc(), &schema, shown.as_str())?.as_str(),
+            first.as_str()
+        );
+    }
+    assert_eq!(rt;
+        print_query(rt.alloc(), &schema, &Query::Nothing)?.as_str(),
+        "NOT *"
+    );
+    Ok(())
+}
+
+#[test]
+fn few_fields(rt: HostRuntime) -> Result<(), Fail> {
+    let mut fields = Fields::vacant(rt.alloc());
+    fields.push(field(
+        rt.alloc(),
+        "body",
+        Kind::Text,
+        true,
+        Tokenizer::Default,
+        true,
+    )?)?;
+    let schema = Schema {
+        fields,
+        timestamp: None,
+    };
+    assert_eq!(rt;
+        outcome(rt.alloc(), &schema, "size:[1 TO")?.as_str(),
+        "Syntax 10"
+    );
+    assert_eq!(rt;
+        outcome(rt.alloc(), &schema, "size:1")?.as_str(),
+        "UnknownField size"
+    );
     Ok(())
 }

@@ -101,4 +101,6 @@ fn main(rt: HostRuntime) -> ExitCode {
 }
 
 #[cfg(test)]
+mod end_tests;
+#[cfg(test)]
 mod tests;

@@ -1,0 +1,11 @@
+pub mod Asked
+pub mod Commas
+pub mod Lines
+pub mod Runs
+pub mod Orders
+pub mod Records
+pub mod Rows
+pub mod Stands
+pub mod Steps
+pub mod Finds
+pub mod Planned

@@ -1,3 +1,7 @@
 pub mod Requests
 pub mod Replies
 pub mod Steps
+pub mod Said
+pub mod Matching
+pub mod Finding
+pub mod Searching

@@ -59,14 +59,17 @@ abbrev pub refused_pairs : Refused → List (List ℕ)
 refused_pairs NotBuilt = pair_text (codes "kind") (quoted (codes "NotBuilt")) ∷ pair_text (codes "name") (quoted (codes "request")) ∷ []
 refused_pairs (Faulted fault) = fault_pairs fault
 
+abbrev pub refusal_text : List ℕ → ℕ → List (List ℕ) → List ℕ
+refusal_text client revision pairs =
+    object_text (pair_text (codes "client") (quoted client) ∷ pair_text (codes "error") (object_text pairs)
+    ∷ pair_text (codes "revision") (decimal revision) ∷ [])
+
 abbrev pub said_text : List ℕ → ℕ → Said → List ℕ
 said_text client revision (Found count hits) =
     object_text (pair_text (codes "aggregations") (codes "{}") ∷ pair_text (codes "client") (quoted client)
     ∷ pair_text (codes "hits") (91 ∷ (with_commas hits ++ 93 ∷ []))
     ∷ pair_text (codes "num_hits") (decimal count) ∷ pair_text (codes "revision") (decimal revision) ∷ [])
-said_text client revision (Refusal refused) =
-    object_text (pair_text (codes "client") (quoted client) ∷ pair_text (codes "error") (object_text (refused_pairs refused))
-    ∷ pair_text (codes "revision") (decimal revision) ∷ [])
+said_text client revision (Refusal refused) = refusal_text client revision (refused_pairs refused)
 
 -- in compact JSON, keys in byte order
 abbrev pub reply_text : Reply → List ℕ

@@ -1,5 +1,5 @@
 -- Search requests of one word, and what is replied.
-use Rattle.std.specs.Prelude.{ℕ, ◌&&◌, ◌||◌, Bool, not, List, [], ◌∷◌, length, nat_le, if◌then◌else◌, Option, Some, None, option_and_then, codes, bytes_eq}
+use Rattle.std.specs.Prelude.{ℕ, ◌&&◌, ◌||◌, Bool, not, List, length, nat_le, if◌then◌else◌, Option, Some, None, option_and_then, codes, bytes_eq}
 use Rattle.std.specs.List.{list_all}
 use Rattle.std.specs.Str.{is_utf8}
 use Rattle.serde_json.specs.Data.{Data, Members, no_members, member}
@@ -10,12 +10,13 @@ use Rattle.index_world.specs.Tokens.{is_alphanumeric}
 abbrev pub is_operator : List ℕ → Bool
 is_operator word = bytes_eq word (codes "AND") || bytes_eq word (codes "OR") || bytes_eq word (codes "NOT")
 
--- one to 255 letters and digits that are no operator
+-- one to 255 letters and digits
+abbrev pub is_run : List ℕ → Bool
+is_run text = nat_le 1 (length text) && nat_le (length text) 255 && list_all is_alphanumeric text
+
+-- a word is one that is no operator
 abbrev pub word_in : List ℕ → Option (List ℕ)
-word_in text =
-    if nat_le 1 (length text) && nat_le (length text) 255 && list_all is_alphanumeric text && not (is_operator text)
-    then Some text
-    else None
+word_in text = if is_run text && not (is_operator text) then Some text else None
 
 -- the value of an object's one key
 abbrev pub sole : List ℕ → Members → Option Data

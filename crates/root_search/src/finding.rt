@@ -1,5 +1,16 @@
 //! The documents of fetched splits that match.
 
+ghost use Rattle.std.specs.Prelude.{◌≡◌, List, true, map, take, Some, IfOk, MatchResult};
+ghost use Rattle.std.specs.List.{AllByRecursion};
+ghost use Rattle.doc_value.specs.Printed.{printed_doc};
+ghost use Rattle.index_world.specs.Config.{logs_schema};
+ghost use Rattle.index_world.specs.SplitFile.{split_file, IsPlaced};
+ghost use Rattle.index_world.specs.declared.placed.Placed as placed;
+ghost use Rattle.root_search.specs.Finding.{place_order, AreHeld, FindsIn, FindsAll};
+ghost use Rattle.root_search.specs.Replies.{answer, default_hits};
+ghost use Rattle.root_search.specs.Requests.{is_run};
+ghost use Rattle.root_search.specs.Said.{said_of};
+
 use crate::matching::matches;
 use crate::printing::print_doc;
 use crate::reply::{Hits, ReplyRefusal, Said};
@@ -19,13 +30,20 @@ enum FindError {
 }
 
 impl From<AllocError> for FindError {
+    ghost use Rattle.std.specs.Prelude.{◌≡◌};
+    ghost use Rattle.root_search.specs.declared.finding.FindError.TheVariants.{Memory};
+
+    ghost from_gives = { λ a e. e ≡ Memory a };
+
     fn from(refused: AllocError) -> Self {
         FindError::Memory(refused)
     }
 }
 
 /// By partition, and then by offset.
-fn compare_places(one: &Placed, other: &Placed) -> Ordering {
+fn compare_places(one: &Placed, other: &Placed) -> Ordering
+    ensures { result ≡ place_order one.now other.now }
+{
     match one.partition.compare(&other.partition) {
         Ordering::Equal => one.offset.cmp(&other.offset),
         order => order,
@@ -39,7 +57,10 @@ fn find_in(
     number: u64,
     bytes: &Bytes,
     found: &mut Vec<Placed>,
-) -> Result<(), FindError> {
+) -> Result<(), FindError>
+    ensures { (documents : List placed.Placed) → is_run word.now ≡ true → AllByRecursion IsPlaced documents → bytes.now ≡ split_file documents →
+        FindsIn word.now documents result found.old.items found.new.items }
+{
     let documents = match read_split(alloc, bytes.as_slice()) {
         Ok(documents) => documents,
         Err(SplitError::Memory(refused)) => return Err(FindError::Memory(refused)),
@@ -58,15 +79,21 @@ fn find_in(
 }
 
 // The first documents in the order of their places, each as it is printed.
-fn first_hits(alloc: Global, found: &[Placed]) -> Result<Hits, AllocError> {
+fn first_hits(alloc: Global, found: &[Placed]) -> Result<Hits, AllocError>
+    ensures { IfOk result (λ hits. hits.list.items ≡ map (λ placed. printed_doc logs_schema placed.doc) (take default_hits found.now)) }
+{
     let mut list = Vec::new(alloc);
-    for placed in found.iter().take(MAX_HITS) {
+    let first = &found[..found.len().min(MAX_HITS)];
+    for placed in first {
         list.push(print_doc(alloc, &placed.doc)?)?;
     }
     Ok(Hits { list })
 }
 
-fn find_all(alloc: Global, word: &[u8], files: &[(u64, Bytes)]) -> Result<Vec<Placed>, FindError> {
+fn find_all(alloc: Global, word: &[u8], files: &[(u64, Bytes)]) -> Result<Vec<Placed>, FindError>
+    ensures { (documents : List placed.Placed) → is_run word.now ≡ true → AreHeld files.now documents →
+        MatchResult result (λ found. FindsAll word.now documents (Ok found.items)) (λ e. FindsAll word.now documents (Err e)) }
+{
     let mut found = Vec::new(alloc);
     for (number, bytes) in files {
         find_in(alloc, word, *number, bytes, &mut found)?;
@@ -76,7 +103,11 @@ fn find_all(alloc: Global, word: &[u8], files: &[(u64, Bytes)]) -> Result<Vec<Pl
 }
 
 /// What is found of a word in these split files, each with its number.
-pub fn find(alloc: Global, word: &[u8], files: &[(u64, Bytes)]) -> Result<Said, AllocError> {
+pub fn find(alloc: Global, word: &[u8], files: &[(u64, Bytes)]) -> Result<Said, AllocError>
+    // Over files that hold these documents together, the answer to the word. It is no refusal.
+    ensures { (documents : List placed.Placed) → is_run word.now ≡ true → AreHeld files.now documents →
+        IfOk result (λ said. said_of said ≡ Some (answer word.now documents)) }
+{
     match find_all(alloc, word, files) {
         Ok(found) => Ok(Said::Found {
             count: found.len() as u64,

@@ -1,5 +1,8 @@
 //! What a step of a client answers, and its words.
 
+ghost use Rattle.std.specs.Prelude.{◌≡◌, IfOk};
+ghost use Rattle.root_search.specs.Said.{step_line};
+
 use crate::reply::{Reply, print_reply};
 use byte_fields::Bytes;
 use index_world::{put_number, put_word};
@@ -18,7 +21,9 @@ pub enum SearchStep {
 }
 
 /// The words of an outcome with one blank between, or the line of a reply.
-pub fn print_outcome(alloc: Global, outcome: &SearchStep) -> Result<Bytes, AllocError> {
+pub fn print_outcome(alloc: Global, outcome: &SearchStep) -> Result<Bytes, AllocError>
+    ensures { IfOk result (λ text. text ≡ step_line outcome.now) }
+{
     let mut out = Bytes::vacant(alloc);
     match outcome {
         SearchStep::Idle => put_word(&mut out, b"idle")?,

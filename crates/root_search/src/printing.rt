@@ -1,75 +1,47 @@
 //! Documents as compact JSON.
 
-ghost use Rattle.std.specs.Prelude.{◌≡◌, ◌<◌};
+ghost use Rattle.std.specs.Prelude.{◌≡◌, IfOk};
+ghost use Rattle.doc_value.specs.Printed.{printed_doc};
+ghost use Rattle.index_world.specs.Config.{logs_schema};
 
 use byte_fields::Bytes;
-use doc_value::{Doc, DocField, Value};
+use doc_value::{Doc, Field, Fields, Kind, Schema, Text, Tokenizer};
 use std::alloc::{AllocError, Global};
 
-fn hex_digit(digit: u8) -> u8
-    requires { digit < 16 }
+/// The fields of the one configuration.
+fn logs_schema(alloc: Global) -> Result<Schema, AllocError>
+    ensures { IfOk result (λ schema. schema ≡ logs_schema) }
 {
-    if digit < 10 {
-        b'0' + digit
-    } else {
-        b'a' + (digit - 10)
-    }
-}
-
-// A byte of a text between quotes.
-fn put_escaped(out: &mut Bytes, byte: u8) -> Result<(), AllocError> {
-    match byte {
-        b'"' => out.append(b"\\\""),
-        b'\\' => out.append(b"\\\\"),
-        8 => out.append(b"\\b"),
-        9 => out.append(b"\\t"),
-        10 => out.append(b"\\n"),
-        12 => out.append(b"\\f"),
-        13 => out.append(b"\\r"),
-        0..=31 => {
-            out.append(b"\\u00")?;
-            out.push(hex_digit(byte / 16))?;
-            out.push(hex_digit(byte % 16))
-        }
-        _ => out.push(byte),
-    }
-}
-
-fn put_text(out: &mut Bytes, text: &[u8]) -> Result<(), AllocError> {
-    out.push(b'"')?;
-    for byte in text {
-        put_escaped(out, *byte)?;
-    }
-    out.push(b'"')
-}
-
-fn path_of(number: usize) -> &'static [u8] {
-    match number {
-        0 => b"body",
-        1 => b"level",
-        _ => b"",
-    }
-}
-
-fn put_field(out: &mut Bytes, field: &DocField) -> Result<(), AllocError> {
-    put_text(out, path_of(field.number))?;
-    out.push(b':')?;
-    match field.values.as_slice().first() {
-        Some(Value::Text(text)) => put_text(out, text.as_slice()),
-        _ => put_text(out, b""),
-    }
+    let mut fields = Fields::vacant(alloc);
+    fields.push(Field {
+        path: Text::from_str(alloc, "body")?,
+        kind: Kind::Text,
+        fast: false,
+        indexed: true,
+        tag: false,
+        tokenizer: Tokenizer::Default,
+        positions: true,
+    })?;
+    fields.push(Field {
+        path: Text::from_str(alloc, "level")?,
+        kind: Kind::Text,
+        fast: true,
+        indexed: true,
+        tag: false,
+        tokenizer: Tokenizer::Raw,
+        positions: false,
+    })?;
+    Ok(Schema {
+        fields,
+        timestamp: None,
+    })
 }
 
 /// A document as it is printed, the fields by their paths.
-pub fn print_doc(alloc: Global, doc: &Doc) -> Result<Bytes, AllocError> {
-    let mut out = Bytes::vacant(alloc);
-    out.push(b'{')?;
-    for (i, field) in doc.as_slice().iter().enumerate() {
-        if i > 0 {
-            out.push(b',')?;
-        }
-        put_field(&mut out, field)?;
-    }
-    out.push(b'}')?;
-    Ok(out)
+pub fn print_doc(alloc: Global, doc: &Doc) -> Result<Bytes, AllocError>
+    ensures { IfOk result (λ text. text ≡ printed_doc logs_schema doc.now) }
+{
+    let schema = logs_schema(alloc)?;
+    let text = doc_value::print_doc(alloc, &schema, doc)?;
+    Ok(Bytes::from_vec(text.into_vec()))
 }

@@ -114,23 +114,50 @@ fn ranges_are_lent(rt: HostRuntime) -> Result<(), Fail> {
 #[test]
 fn cuts_are_read_safely(rt: HostRuntime) -> Result<(), Fail> {
     let alloc = rt.alloc();
+    for count in [1u16, 64, 65] {
+        let list = terms(alloc, count)?;
+        assert!(rt; list.is_rising());
+        let (area, index) = build_dict(alloc, &list)?;
+        let whole = area.as_slice();
+        for cut in 0..whole.len() {
+            assert!(rt; is_lacking(&whole[..cut], &index, count));
+        }
+    }
     let list = terms(alloc, 65)?;
+    assert!(rt; list.is_rising());
+    let (area, _index) = build_dict(alloc, &list)?;
+    let block = Block::read(area.as_slice())?;
+    assert_eq!(rt; block.find(key(64).as_slice())?, Some(info(64)));
+    assert_eq!(rt; Block::read(b"").err(), Some(Corrupt { at: 0 }));
+    Ok(())
+}
+
+// Whether the bytes are no dictionary, or not all keys are found in them. A cut between two terms leaves the terms before
+// it.
+fn is_lacking(bytes: &[u8], index: &BlockIndex, count: u16) -> bool {
+    match Dict::read(bytes, index) {
+        Ok(dict) => match found(&dict, count) {
+            Ok(found) => found < count,
+            Err(_) => true,
+        },
+        Err(_) => true,
+    }
+}
+
+// A dictionary of 1,000 keys, where the last key is looked for alone.
+#[test]
+fn cuts_of_a_long_one(rt: HostRuntime) -> Result<(), Fail> {
+    let alloc = rt.alloc();
+    let list = terms(alloc, 1000)?;
     assert!(rt; list.is_rising());
     let (area, index) = build_dict(alloc, &list)?;
     let whole = area.as_slice();
-    let mut refused = 0usize;
     for cut in 0..whole.len() {
-        if let Ok(dict) = Dict::read(&whole[..cut], &index) {
-            if found(&dict, 65).is_err() {
-                refused = refused.saturating_add(1);
-            }
-        } else {
-            refused = refused.saturating_add(1);
-        }
+        let is_lacking = match Dict::read(&whole[..cut], &index) {
+            Ok(dict) => dict.find(key(999).as_slice()) != Ok(Some(info(999))),
+            Err(_) => true,
+        };
+        assert!(rt; is_lacking);
     }
-    assert_eq!(rt; refused, whole.len());
-    let block = Block::read(whole)?;
-    assert_eq!(rt; block.find(key(64).as_slice())?, Some(info(64)));
-    assert_eq!(rt; Block::read(b"").err(), Some(Corrupt { at: 0 }));
     Ok(())
 }

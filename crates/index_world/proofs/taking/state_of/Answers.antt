@@ -1,10 +1,51 @@
-use Rattle.std.proofs.Common.{◌≡◌, ap, arith}
-use Rattle.meta_store.specs.State.{State}
+use Rattle.std.proofs.Common.{◌≡◌, ◌+◌, ap, arith, sym, subst, ◌∙◌}
+use Rattle.meta_store.specs.State.{State, after}
+use Rattle.index_world.specs.Taking.{IsWant}
 use Rattle.index_world.specs.Config.{reads}
+use Rattle.index_world.proofs.Fronts.{front_start, front_more, front_answers, front_state, front_moment, err_so, no_entry_left}
 use Rattle.index_world.proofs.taking.state_of.Goals as goal
 
 -- Nothing is taken in yet.
 pub entries-init : goal.entries-init
 entries-init c =
     let none : c.vacant-meta.result.state.revision ≡ 0 = ap (λ (s : State). s.revision) (c.vacant-meta.ensures reads) in
-    record { count = omega (arith, c.reverse.ensures.len); few = c.requires; early = omega arith }
+    record {
+      count = omega (arith, c.reverse.ensures.len);
+      few = c.requires;
+      early = omega arith;
+      front = front_start _ _ _ c.reverse.ensures.items (c.vacant-meta.ensures reads);
+    }
+
+pub entries-preserved : goal.entries-preserved
+entries-preserved c =
+    let i = c.entries.invariant.count in
+    let early = c.entries.invariant.early in
+    let a : c.apply.new.self.state.revision ≡ c.admit.new.meta.state.revision + 1 = ap (λ (s : State). s.revision) c.apply.ensures in
+    let b : c.admit.new.meta.state.revision ≡ c.entries.meta.state.revision = ap (λ (s : State). s.revision) c.admit.ensures.same in
+    let l = c.in-Some.ensures.len in
+    let m = c.max-moment.ensures in
+    let low = c.moment_of.ensures.below in
+    record {
+      count = omega (arith, i, a, b, l);
+      few = c.entries.invariant.few;
+      early = omega (arith, m, low, early);
+      front = front_more _ _ _ c.in-Some.entry c.reading_of-reading.result c.entries.meta.state _ _ _ c.moment_of.result c.entries.invariant.front c.in-Some.ensures.items
+          (c.apply.ensures ∙ ap (λ (s : State). after c.reading_of-reading.result c.in-Some.entry s) c.admit.ensures.same) c.reading_of-reading.ensures c.moment_of.ensures.same c.max-moment.ensures;
+    }
+
+pub returns-in_err-admit-clause-want : goal.returns-in_err-admit-clause-want
+returns-in_err-admit-clause-want c legal =
+    err_so c.from_residual.result _ IsWant c.from_residual.ensures.1
+    (λ error is. subst IsWant (sym is) (c.in_err-admit.ensures.want (front_answers _ _ _ c.in-Some.entry c.reading_of-reading.result _ _ c.entries.invariant.front c.in-Some.ensures.items c.reading_of-reading.ensures legal)))
+
+pub returns-clause-state : goal.returns-clause-state
+returns-clause-state c =
+    let z = c.in_default.ensures.cases.0 in
+    let ok = c.entries.left.ok.0 in
+    front_state _ _ _ _ c.entries.invariant.front (no_entry_left c.entries.left.items (omega (arith, z, ok)))
+
+pub returns-clause-greatest : goal.returns-clause-greatest
+returns-clause-greatest c low =
+    let z = c.in_default.ensures.cases.0 in
+    let ok = c.entries.left.ok.0 in
+    front_moment _ _ _ _ c.entries.invariant.front (no_entry_left c.entries.left.items (omega (arith, z, ok))) low

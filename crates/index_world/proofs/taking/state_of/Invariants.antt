@@ -1,4 +1,5 @@
 use Rattle.std.proofs.Common.{◌≡◌, ◌+◌, ◌<◌, ◌≤◌, ◌^◌, vec_len}
+use Rattle.index_world.proofs.Fronts.{FrontTaken}
 use Rattle.index_world.proofs.taking.state_of.Given as goal
 
 abbrev pub invariant-entries : goal.invariant-entries
@@ -6,6 +7,7 @@ invariant-entries l = record {
   count : l.meta.state.revision + vec_len l.left ≡ vec_len l.fn.entries;
   few : vec_len l.fn.entries ≤ 10000000;
   early : l.moment < 2 ^ 62;
+  front : FrontTaken l.fn.entries.items l.left.items l.meta.state l.moment;
 }
 
 abbrev pub decreases-entries : goal.decreases-entries

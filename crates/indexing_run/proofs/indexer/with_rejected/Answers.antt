@@ -1,8 +1,8 @@
 use Rattle.std.proofs.Common.{arith}
 use Rattle.indexing_run.proofs.indexer.with_rejected.Goals as goal
 
-pub returns : goal.returns
-returns c = record {
+pub returns-clause-can : goal.returns-clause-can
+returns-clause-can c = record {
   docs = c.requires.docs;
   rejected = omega arith;
   weight = c.requires.weight;

@@ -1,7 +1,8 @@
-use Rattle.std.proofs.Common.{◌≡◌, ℕ, List, Result, Ok, Err, arith}
+use Rattle.std.proofs.Common.{◌≡◌, ℕ, List, Err, arith}
 use Rattle.query_reader.proofs.Live.{longest_read, IsLongestRead}
 use Rattle.query_reader.proofs.Complete.{query_reads}
-use Rattle.query_reader.proofs.Sound.{reads_query}
+use Rattle.query_reader.proofs.Deep.{too_deep}
+use Rattle.query_reader.proofs.Sound.{reads_query, deep_stands}
 use Rattle.query_reader.specs.Grammar.{IsLongestFront}
 use Rattle.query_reader.specs.Machine.{reads}
 use Rattle.query_reader.specs.declared.fault.Fault.TheVariants as faults
@@ -21,4 +22,5 @@ returns c = record {
   read = λ text t q. query_reads q (omega arith);
   only = λ text t h. reads_query text t h;
   syntax = λ text at h. longest_front text at h;
+  deep = λ text at. (deep_stands text at, too_deep text at);
 }

@@ -1,12 +1,9 @@
-use Rattle.std.proofs.Common.{inl, inr, ◌≡◌, ◌≢◌, ◌<◌, ◌≤◌, ◌+◌, ◌∷◌, arith, None, Some, true, false, ◌∙◌, sym, ap, refl, length, drop, List, [], map, length-append}
-use Rattle.std.specs.Prelude.{slice_index, slice_range}
+use Rattle.std.proofs.Common.{◌<◌, ◌+◌, ◌∷◌, arith, true, ◌∙◌, sym, ap, refl, length, drop, [], map, length-append}
 use Rattle.std.proofs.lemmas.Result.{err_from_is_err_and}
-use Rattle.query_reader.specs.Kinds.{kind_of}
 use Rattle.query_reader.specs.Tree.{view, Group, Not, no_trees, behind, trees_after, or_tree}
 use Rattle.query_reader.proofs.Rows.{more_trees}
-use Rattle.query_reader.specs.Machine.{Frame, First, run, state, After, Want, fresh, with_operand, negated, word, from_operand, with_or}
-use Rattle.query_reader.specs.Reading.{operand_rest, negated_rest, sunk_word_rest, word_rest, quote_rest, group_rest, sunk, next_run, members, Rest}
-use Rattle.query_reader.specs.declared.kind.Kind.TheVariants.{Quote, Star, Plus, Minus, Open}
+use Rattle.query_reader.specs.Machine.{First, run, state, After, Want, fresh, with_operand, negated, with_or}
+use Rattle.query_reader.specs.Reading.{operand_rest, negated_rest, sunk_word_rest, word_rest, quote_rest, group_rest, sunk, next_run, members}
 use Rattle.query_reader.proofs.Parts.{operand_word, escaped_end, misplaced, no_operand, refuted, want_operand, reads_from}
 use Rattle.query_reader.proofs.Nest.{fails_more, reads_sunk, fails_in_group, group_fails, operand_end, operand_quote, operand_star, operand_plus, operand_minus, plus_deep, minus_deep, operand_open, open_deep, operand_stuck, not_wants, not_stuck, not_deep, group_closes, group_open, members_end}
 use Rattle.query_reader.proofs.reader.+reader.Goals as goal

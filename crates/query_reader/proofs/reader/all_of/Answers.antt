@@ -1,4 +1,4 @@
-use Rattle.std.proofs.Common.{◌≡◌, ◌∙◌, sym, ap, length}
+use Rattle.std.proofs.Common.{◌∙◌, sym, ap, length}
 use Rattle.query_reader.proofs.Rows.{and_several, and_only}
 use Rattle.query_reader.proofs.reader.all_of.Goals as goal
 

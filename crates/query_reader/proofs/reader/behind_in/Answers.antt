@@ -1,4 +1,4 @@
-use Rattle.std.proofs.Common.{◌≡◌, ◌∙◌, refl, [], ◌+◌}
+use Rattle.std.proofs.Common.{◌∙◌, refl, [], ◌+◌}
 use Rattle.query_reader.proofs.Steps.{goes}
 use Rattle.query_reader.proofs.Parts.{reads_from, refuted}
 use Rattle.query_reader.proofs.Specials.{in_stuck}

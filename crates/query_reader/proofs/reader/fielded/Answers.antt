@@ -1,4 +1,4 @@
-use Rattle.std.proofs.Common.{◌≡◌, ◌∙◌, refl, ◌<◌, ◌+◌, length, arith, sym}
+use Rattle.std.proofs.Common.{◌∙◌, refl, ◌<◌, ◌+◌, length, arith, sym}
 use Rattle.query_reader.proofs.Steps.{goes, ends}
 use Rattle.query_reader.proofs.Parts.{reads_from, behind_special}
 use Rattle.query_reader.specs.Machine.{Behind, Fielded}

@@ -1,4 +1,4 @@
-use Rattle.std.proofs.Common.{◌≡◌, ◌∙◌, sym}
+use Rattle.std.proofs.Common.{◌∙◌}
 use Rattle.query_reader.proofs.Parts.{behind_word, escaped_end, misplaced, no_word, reads_from}
 use Rattle.query_reader.specs.Machine.{Fielded}
 use Rattle.query_reader.specs.Reading.{behind_rest, word_rest}

@@ -1,4 +1,4 @@
-use Rattle.std.proofs.Common.{refl, ◌≡◌, inl, inr, None, true, false, ◌∙◌, sym}
+use Rattle.std.proofs.Common.{refl, ◌≡◌, inl, inr, true, false, ◌∙◌, sym}
 use Rattle.query_reader.proofs.Parts.{after_word, operand_word, no_joined, and_wants, or_wants, want_operand}
 use Rattle.query_reader.specs.Machine.{with_or, Want, First, Joined}
 use Rattle.query_reader.proofs.reader.joined_word.Goals as goal

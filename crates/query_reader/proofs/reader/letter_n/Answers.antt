@@ -1,4 +1,4 @@
-use Rattle.std.proofs.Common.{◌≡◌, ◌∙◌, refl, ◌<◌, ◌+◌, length, arith}
+use Rattle.std.proofs.Common.{◌<◌, ◌+◌, length, arith}
 use Rattle.query_reader.proofs.Steps.{ends}
 use Rattle.query_reader.proofs.Parts.{reads_from}
 use Rattle.query_reader.proofs.Specials.{letter_n, no_letter_n}

@@ -1,4 +1,4 @@
-use Rattle.std.proofs.Common.{◌≡◌, ◌∙◌, ap, drop, false, ◌+◌}
+use Rattle.std.proofs.Common.{◌∙◌, ap, drop, ◌+◌}
 use Rattle.std.specs.Prelude.{slice_range}
 use Rattle.query_reader.proofs.Parts.{named_field, reads_from}
 use Rattle.query_reader.specs.Machine.{run, state, word, First, span}

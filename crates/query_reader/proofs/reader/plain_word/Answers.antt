@@ -1,4 +1,4 @@
-use Rattle.std.proofs.Common.{◌≡◌, ◌∙◌, ◌⊎◌, inl, inr, ap, drop, false, true, sym, Option, Some, None}
+use Rattle.std.proofs.Common.{◌≡◌, ◌∙◌, ◌⊎◌, ap, drop, false, Option, Some, None}
 use Rattle.std.specs.Prelude.{slice_range, ℕ, List}
 use Rattle.query_reader.proofs.Parts.{word_ends, word_prefix, refuted}
 use Rattle.query_reader.specs.Kinds.{names_set}

@@ -1,6 +1,6 @@
 use Rattle.std.proofs.Common.{◌≡◌, ◌∙◌, refl, false, Option, Some, None, List, ℕ, ◌+◌, ap, drop}
 use Rattle.query_reader.proofs.Steps.{goes}
-use Rattle.query_reader.specs.Machine.{InQuote, Frame, State, after_quote, after_leaf}
+use Rattle.query_reader.specs.Machine.{InQuote, Frame, after_quote, after_leaf}
 use Rattle.query_reader.specs.Asking as asks
 use Rattle.query_reader.specs.Machine.{span, run}
 use Rattle.query_reader.specs.Reading.{role_for}

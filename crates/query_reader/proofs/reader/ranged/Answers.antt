@@ -1,4 +1,4 @@
-use Rattle.std.proofs.Common.{◌≡◌, ◌∙◌, sym, ap, arith, get_or}
+use Rattle.std.proofs.Common.{◌∙◌, sym, ap, arith, get_or}
 use Rattle.query_reader.proofs.Specials.{range_more, range_done, range_ended, range_before, range_refused, range_whole, range_open}
 use Rattle.query_reader.specs.Ranges.{range_step}
 use Rattle.query_reader.proofs.reader.ranged.Goals as goal

@@ -1,5 +1,5 @@
-use Rattle.std.proofs.Common.{◌≡◌, ◌∙◌, refl, sym, ap, inl, inr}
-use Rattle.query_reader.proofs.Parts.{reads_from, refuted, second_colon}
+use Rattle.std.proofs.Common.{◌∙◌, sym}
+use Rattle.query_reader.proofs.Parts.{reads_from, second_colon}
 use Rattle.query_reader.proofs.Specials.{word_in}
 use Rattle.query_reader.specs.Machine.{Fielded}
 use Rattle.query_reader.specs.Reading.{in_rest, word_rest}

@@ -1,9 +1,9 @@
-use Rattle.std.proofs.Common.{◌≡◌, ◌∙◌, refl, ◌<◌, ◌+◌, length, arith, sym, ap, [], false, drop}
+use Rattle.std.proofs.Common.{◌∙◌, refl, ◌<◌, ◌+◌, length, arith, sym, ap, false}
 use Rattle.query_reader.proofs.Steps.{goes, ends}
 use Rattle.query_reader.proofs.Specials.{set_stuck}
-use Rattle.query_reader.specs.Machine.{InSet, InQuote, InASet, run}
+use Rattle.query_reader.specs.Machine.{InSet, InQuote, InASet}
 use Rattle.query_reader.specs.Reading.{set_rest}
-use Rattle.query_reader.specs.declared.kind.Kind.TheVariants.{Quote, SquareClose, Blank}
+use Rattle.query_reader.specs.declared.kind.Kind.TheVariants.{Quote, SquareClose}
 use Rattle.query_reader.proofs.reader.set.Goals as goal
 
 pub returns-then-place-text-clause-read : goal.returns-then-place-text-clause-read

@@ -1,4 +1,4 @@
-use Rattle.std.proofs.Common.{◌≡◌, ◌∙◌, sym, refl, arith}
+use Rattle.std.proofs.Common.{◌∙◌, sym}
 use Rattle.query_reader.proofs.Parts.{escaped_end, misplaced, no_word}
 use Rattle.query_reader.proofs.Specials.{set_begins, set_ends}
 use Rattle.query_reader.specs.Machine.{InASet}

@@ -1,4 +1,4 @@
-use Rattle.std.proofs.Common.{◌≡◌, ◌∙◌, sym, ap, map, length, arith}
+use Rattle.std.proofs.Common.{◌∙◌, ap, map, length, arith}
 use Rattle.query_reader.proofs.Rows.{or_more}
 use Rattle.query_reader.specs.Tree.{Or, view, trees_after, no_trees}
 use Rattle.query_reader.proofs.reader.some_of.Goals as goal

@@ -1,4 +1,4 @@
-use Rattle.std.proofs.Common.{◌≡◌, ◌∙◌, refl, ◌<◌, ◌+◌, length, arith, sym}
+use Rattle.std.proofs.Common.{◌∙◌, refl, ◌<◌, ◌+◌, length, arith}
 use Rattle.query_reader.proofs.Steps.{ends}
 use Rattle.query_reader.proofs.Parts.{reads_from, refuted, spaced_special}
 use Rattle.query_reader.proofs.Specials.{letter_i, no_letter_i}

@@ -1,7 +1,7 @@
 use Rattle.std.proofs.Common.{◌≡◌, ◌∙◌, sym, ap, drop, map, ◌+◌, rules, Ok}
 use Rattle.query_reader.proofs.Each.{view_more, and_is, or_is, each_step, refuses_bind, refuses_same}
 use Rattle.query_reader.proofs.Rows.{row_after}
-use Rattle.query_reader.specs.Resolve.{◌>>=◌, and_then, resolve_after, resolve}
+use Rattle.query_reader.specs.Resolve.{◌>>=◌, resolve_after}
 use Rattle.query_reader.specs.Tree.{view, trees_after, no_trees, And, Or}
 use Rattle.query_reader.specs.declared.tree.Raw.{the_lemmas}
 use Rattle.query_ast.specs.Sought.{view_all, no_more}

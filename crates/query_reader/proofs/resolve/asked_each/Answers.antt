@@ -1,4 +1,4 @@
-use Rattle.std.proofs.Common.{◌≡◌, ◌∙◌, sym, ap, drop, ◌+◌}
+use Rattle.std.proofs.Common.{◌∙◌, sym, ap, drop, ◌+◌}
 use Rattle.query_reader.proofs.Each.{view_more, asked_step}
 use Rattle.query_reader.specs.Resolve.{and_then, asked_after}
 use Rattle.query_reader.specs.Tree.{view_ask}

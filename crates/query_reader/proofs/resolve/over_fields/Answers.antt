@@ -1,4 +1,4 @@
-use Rattle.std.proofs.Common.{◌≡◌, ◌∙◌, sym, ap, length, Ok}
+use Rattle.std.proofs.Common.{◌∙◌, sym, ap, length, Ok}
 use Rattle.query_reader.proofs.Each.{over_none, over_one, over_several}
 use Rattle.query_reader.proofs.resolve.over_fields.Goals as goal
 

@@ -1,10 +1,9 @@
-use Rattle.std.proofs.Common.{◌≡◌, refl, arith, ◌∙◌, ap, sym, true, false, not, Err, get_or}
+use Rattle.std.proofs.Common.{refl, arith, ◌∙◌, sym, get_or}
 use Rattle.query_reader.proofs.Steps.{in_quote, quote_hidden, quote_escape, quote_plain, quote_stuck, ends}
 use Rattle.query_reader.proofs.Parts.{stuck_at}
-use Rattle.query_reader.specs.Machine.{InQuote, run, go_on}
+use Rattle.query_reader.specs.Machine.{InQuote}
 use Rattle.query_reader.specs.Kinds.{kind_of}
 use Rattle.query_reader.specs.declared.kind.Kind.TheVariants.{Quote, Escape}
-use Rattle.query_reader.specs.declared.fault.Fault.TheVariants as faults
 use Rattle.query_reader.proofs.scan.quote_end.Goals.{in-Quote+else-not-escaped, in-Escape, in_default+else-escaped}
 use Rattle.query_reader.proofs.scan.quote_end.Goals as goal
 

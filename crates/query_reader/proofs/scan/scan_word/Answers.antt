@@ -1,4 +1,4 @@
-use Rattle.std.proofs.Common.{arith, ◌∙◌, sym, get_or}
+use Rattle.std.proofs.Common.{arith, ◌∙◌, sym}
 use Rattle.query_reader.proofs.Steps.{in_word, word_escaped, word_escape, word_plain}
 use Rattle.query_reader.proofs.scan.scan_word.Goals.{then-escaped, else-escaped+in-Plain, else-escaped+in-Escape}
 use Rattle.query_reader.proofs.scan.scan_word.Goals as goal

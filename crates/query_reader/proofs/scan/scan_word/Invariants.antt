@@ -1,4 +1,4 @@
-use Rattle.std.proofs.Common.{◌≡◌, ◌<◌, ◌≤◌, ◌+◌, ◌-◌, Bool, length, drop, List}
+use Rattle.std.proofs.Common.{◌≡◌, ◌<◌, ◌≤◌, ◌+◌, ◌-◌, length, drop, List}
 use Rattle.std.specs.Prelude.{slice_range}
 use Rattle.query_reader.specs.Machine.{Frame, Role, run, state, word, begun_word}
 use Rattle.query_reader.proofs.scan.scan_word.Given as goal

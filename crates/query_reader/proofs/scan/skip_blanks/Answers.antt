@@ -1,7 +1,6 @@
-use Rattle.std.proofs.Common.{◌≡◌, ◌<◌, arith, ◌∙◌, refl, ap, ◌||◌, Bool, true, nat_lt, drop, ◌+◌, List, sym, length}
-use Rattle.std.proofs.lemmas.Grind.{common_steps}
+use Rattle.std.proofs.Common.{arith, ◌∙◌, refl, ap, ◌||◌, nat_lt, drop, ◌+◌, sym}
 use Rattle.query_reader.proofs.Steps.{goes, free_or}
-use Rattle.query_reader.specs.Machine.{Frame, run, state, Want, After}
+use Rattle.query_reader.specs.Machine.{run, state, After}
 use Rattle.query_reader.specs.declared.kind.Kind.TheVariants.{Blank}
 use Rattle.query_reader.proofs.scan.skip_blanks.Goals as goal
 

@@ -1,0 +1,12 @@
+use Rattle.std.proofs.lemmas.Result.{on_ok_weaker}
+use Rattle.index_config.proofs.Nesting.{chain}
+use Rattle.index_config.proofs.tables.check_field_values.Goals as goal
+
+pub returns : goal.returns
+returns c =
+    let s1 = c.in_ok-check_optional.ensures in
+    let s2 = chain _ _ _ _ _ s1 c.in_ok-check_optional-2.ensures in
+    let s3 = chain _ _ _ _ _ s2 c.in_ok-check_optional-3.ensures in
+    let s4 = chain _ _ _ _ _ s3 c.in_ok-check_optional-4.ensures in
+    let s5 = chain _ _ _ _ _ s4 c.in_ok-check_list.ensures in
+    on_ok_weaker c.check_mappings.result (chain _ _ _ _ _ s5) c.check_mappings.ensures

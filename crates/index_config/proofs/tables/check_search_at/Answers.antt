@@ -1,0 +1,12 @@
+use Rattle.std.proofs.lemmas.Result.{on_ok_weaker}
+use Rattle.index_config.specs.Tables.{search_faults, search_path}
+use Rattle.index_config.proofs.Nesting.{wrong-table, right-table}
+use Rattle.index_config.proofs.tables.check_search_at.Goals as goal
+
+pub returns-then-is_table : goal.returns-then-is_table
+returns-then-is_table c =
+    on_ok_weaker c.check_search.result (right-table search_path _ search_faults _ _ _ _ c.in-Some.ensures (cc) c.in_ok-path-in-Some.ensures) c.check_search.ensures
+
+pub returns-else-is_table : goal.returns-else-is_table
+returns-else-is_table c =
+    on_ok_weaker c.wrong_unless.result (wrong-table search_path _ _ _ _ _ _ c.in-Some.ensures (cc) c.in_ok-path-in-Some.ensures) c.wrong_unless.ensures

@@ -1,0 +1,64 @@
+ghost use Rattle.std.specs.Prelude.{◌≡◌, IfOk, Ok, Err, Some, MatchResult};
+ghost use Rattle.toml.specs.View.{view};
+ghost use Rattle.index_config.specs.Answer.{config_answer, read_answer, IsMemory};
+ghost use Rattle.index_config.specs.Fields.{all_raws};
+
+use crate::building::config_of;
+use crate::config::IndexConfig;
+use crate::config_error::ConfigError;
+use crate::fields::push_fields;
+use crate::raw::{Faults, RawFields};
+use crate::tables::{MAX_LEVELS, check_tables};
+use crate::whole::{check_whole, mapping_items};
+use doc_value::Text;
+use std::alloc::{AllocError, Global};
+use std::str;
+use toml::Value;
+
+/// The configuration of a TOML text, or the first thing that is wrong with it.
+pub fn read_config(alloc: Global, text: &[u8]) -> Result<IndexConfig, ConfigError>
+    ensures { MatchResult result
+        (λ config. config_answer text.now ≡ Ok config)
+        (λ refusal. ¬ IsMemory refusal → config_answer text.now ≡ Err refusal) }
+{
+    let Ok(text) = str::from_utf8(text) else {
+        return Err(ConfigError::NotToml);
+    };
+    match toml::table_from_str(alloc, text) {
+        Ok(table) => read_root(alloc, &Value::Table(table)),
+        Err(error) => {
+            if error.is_memory() {
+                Err(ConfigError::Memory(AllocError))
+            } else {
+                Err(ConfigError::NotToml)
+            }
+        }
+    }
+}
+
+fn read_root(alloc: Global, root: &Value) -> Result<IndexConfig, ConfigError>
+    ensures { MatchResult result
+        (λ config. read_answer (Some (view root.now)) ≡ Ok config)
+        (λ refusal. ¬ IsMemory refusal → read_answer (Some (view root.now)) ≡ Err refusal) }
+{
+    let raws = raws_of(alloc, root)?;
+    let mut faults = Faults::vacant(alloc);
+    check_tables(alloc, &mut faults, root)?;
+    check_whole(alloc, &mut faults, root, raws.as_slice())?;
+    if let Some(fault) = faults.into_first() {
+        return Err(fault);
+    }
+    Ok(config_of(alloc, root, raws)?)
+}
+
+/// The fields and objects of a configuration in reading order.
+fn raws_of(alloc: Global, root: &Value) -> Result<RawFields, AllocError>
+    ensures { IfOk result (λ raws. raws ≡ all_raws (view root.now)) }
+{
+    let mut raws = RawFields::vacant(alloc);
+    let place = Text::from_str(alloc, "doc_mapping.field_mappings")?;
+    let path = Text::vacant(alloc);
+    let items = mapping_items(root, "field_mappings");
+    push_fields(alloc, &mut raws, MAX_LEVELS, &place, &path, items)?;
+    Ok(raws)
+}

@@ -1,0 +1,57 @@
+/// What a value of the configuration has to be.
+#[derive(Clone, Copy, Debug, PartialEq, Eq)]
+pub enum Rule {
+    AnyText,
+    Truth,
+    AnyTable,
+    Whole { least: u64, most: u64 },
+    IndexId,
+    FieldName,
+    ModeName,
+    TypeName,
+    TokenizerName,
+    RecordName,
+    FormatName,
+    PolicyName,
+    Duration,
+}
+
+/// What a table asks of a key: whether it has to be there, whether it is a list, and what its value or each member is.
+#[derive(Clone, Copy, Debug, PartialEq, Eq)]
+pub struct Ask {
+    pub required: bool,
+    pub list: bool,
+    pub rule: Rule,
+}
+
+/// The types of fields.
+#[derive(Clone, Copy, Debug, PartialEq, Eq)]
+pub enum FieldType {
+    Text,
+    I64,
+    U64,
+    Bool,
+    Datetime,
+    Object,
+    TextList,
+}
+
+/// The types of merge policies.
+#[derive(Clone, Copy, Debug, PartialEq, Eq)]
+pub enum PolicyType {
+    StableLog,
+    LimitMerge,
+    NoMerge,
+}
+
+/// The tables of a configuration.
+#[derive(Clone, Copy, Debug, PartialEq, Eq)]
+pub enum Place {
+    Top,
+    Mapping,
+    Indexing,
+    Search,
+    Upkeep,
+    OfField(Option<FieldType>),
+    OfPolicy(Option<PolicyType>),
+}

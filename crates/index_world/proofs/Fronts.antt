@@ -1,0 +1,99 @@
+-- The state behind the first entries of a journal.
+use Rattle.std.proofs.Common.{◌≡◌, ℕ, ◌+◌, ◌<◌, ◌^◌, List, [], ◌∷◌, ◌++◌, refl, sym, ap, ◌∙◌, subst, arith, append_assoc, append-nil, IsOk}
+use Rattle.std.proofs.lemmas.List.{reverse-append, reverse-reverse}
+use Rattle.std.proofs.lemmas.List.Sums.{fold-append}
+use Rattle.std.specs.List.{AllByRecursion}
+use Rattle.std.specs.Prelude.{Option, None, Result, Ok, Err, IfErr, length, reverse, fold, max}
+use Rattle.std.specs.Result.{IsErrAnd}
+use Rattle.index_world.specs.declared.world_error.WorldError.{WorldError}
+use Rattle.meta_journal.specs.Places.{StandFrom, IsJournal}
+use Rattle.meta_journal.specs.declared.entry.Entry.{Entry}
+use Rattle.meta_store.specs.Answers.{answer_to}
+use Rattle.meta_store.specs.History.{History, history, moment_of}
+use Rattle.meta_store.specs.History.History.{Start, ◌▸◌}
+use Rattle.meta_store.specs.State.{Legal, state_of, reading_of, after}
+use Rattle.meta_store.specs.State as meta
+use Rattle.meta_store.specs.declared.config.Config.{Config}
+use Rattle.meta_store.specs.declared.config.Reading.{Reading}
+use Rattle.object_store.specs.Store.{State}
+use Rattle.index_world.specs.Config.{reads}
+use Rattle.index_world.specs.Index.{IsAllowed}
+use Rattle.index_world.proofs.Lives.{answers_allowed}
+use Rattle.index_world.proofs.Numbers.{history-snoc}
+
+abbrev pub AreTimely : List Entry → Type 0
+AreTimely es = AllByRecursion (λ e. e.moment < 2 ^ 62) es
+
+pub record FrontTaken (all left : List Entry) (state : meta.State) (time : ℕ) : Type 0 where
+  pub taken : List Entry
+  pub parts : all ≡ taken ++ reverse left
+  pub state_is : state ≡ state_of reads (history taken)
+  pub greatest : AreTimely all → time ≡ moment_of (history taken)
+
+pub front_start : (all left : List Entry) (s : meta.State) → left ≡ reverse all → s ≡ state_of reads Start → FrontTaken all left s 0
+front_start all left s e state = record { taken = []; parts = sym (ap reverse e ∙ reverse-reverse all); state_is = state; greatest = λ low. refl }
+
+timely_mid : (xs : List Entry) (e : Entry) (ys : List Entry) → AreTimely (xs ++ e ∷ ys) → e.moment < 2 ^ 62
+timely_mid [] e ys h = h.0
+timely_mid (x ∷ xs) e ys h = timely_mid xs e ys h.1
+
+parts_more : (all taken left left' : List Entry) (e : Entry) → all ≡ taken ++ reverse left → left ≡ left' ++ e ∷ [] → all ≡ taken ++ e ∷ reverse left'
+parts_more all taken left left' e p l = p ∙ ap (λ es. taken ++ reverse es) l ∙ ap (λ es. taken ++ es) (reverse-append left' (e ∷ []))
+
+pub front_more : (all left left' : List Entry) (e : Entry) (reading : Reading) (s s' : meta.State) (time time' q : ℕ) → FrontTaken all left s time → left ≡ left' ++ e ∷ [] → s' ≡ after reading e s → ((config : Option Config) → reading ≡ reading_of reads config e.act) →
+    (e.moment < 2 ^ 62 → q ≡ e.moment) → time' ≡ max q time → FrontTaken all left' s' time'
+front_more all left left' e reading s s' time time' q f l applied read low m =
+    record {
+      taken = f.taken ++ e ∷ [];
+      parts = p ∙ sym (append_assoc f.taken (e ∷ []) (reverse left'));
+      state_is = applied ∙ ap (λ (r : Reading). after r e s) (read s.config) ∙ ap (λ (x : meta.State). after (reading_of reads x.config e.act) e x) f.state_is ∙ ap (state_of reads) (sym (history-snoc f.taken e));
+      greatest = λ t.
+          let g = f.greatest t in
+          let a = low (timely_mid f.taken e (reverse left') (subst AreTimely p t)) in
+          let h = ap moment_of (history-snoc f.taken e) in omega (arith, m, g, a, h);
+    }
+  where
+    p : all ≡ f.taken ++ e ∷ reverse left'
+    p = parts_more all f.taken left left' e f.parts l
+
+legal_front : (h : History) (es : List Entry) → Legal reads (fold ◌▸◌ h es) → Legal reads h
+legal_front h [] l = l
+legal_front h (e ∷ es) l = (legal_front (h ▸ e) es l).0
+
+pub front_answers : (all left left' : List Entry) (e : Entry) (reading : Reading) (s : meta.State) (time : ℕ) → FrontTaken all left s time → left ≡ left' ++ e ∷ [] → ((config : Option Config) → reading ≡ reading_of reads config e.act) → Legal reads (history all) →
+    IsOk (answer_to reading s e)
+front_answers all left left' e reading s time f l read legal =
+    subst (λ (r : Reading). IsOk (answer_to r s e)) (sym (read s.config)) (answers_allowed s f.taken e f.state_is allowed)
+  where
+    allowed : IsAllowed f.taken e
+    allowed = (legal_front (history f.taken ▸ e) (reverse left') (subst (Legal reads) (ap history (parts_more all f.taken left left' e f.parts l) ∙ fold-append ◌▸◌ Start f.taken (e ∷ reverse left')) legal)).1
+
+front_end : (all left : List Entry) (s : meta.State) (time : ℕ) (f : FrontTaken all left s time) → left ≡ [] → all ≡ f.taken
+front_end all left s time f e = f.parts ∙ ap (λ es. f.taken ++ reverse es) e ∙ append-nil f.taken
+
+pub front_state : (all left : List Entry) (s : meta.State) (time : ℕ) → FrontTaken all left s time → left ≡ [] → s ≡ state_of reads (history all)
+front_state all left s time f e = f.state_is ∙ ap (λ es. state_of reads (history es)) (sym (front_end all left s time f e))
+
+pub front_moment : (all left : List Entry) (s : meta.State) (time : ℕ) → FrontTaken all left s time → left ≡ [] → AreTimely all → time ≡ moment_of (history all)
+front_moment all left s time f e t = f.greatest t ∙ ap (λ es. moment_of (history es)) (sym (front_end all left s time f e))
+
+timely_from : (s : State) (k : ℕ) (es : List Entry) (behind : Option (List ℕ)) → StandFrom s k es behind → AreTimely es
+timely_from s k [] behind h = tt
+timely_from s k (e ∷ es) behind h = (h.0.can.moment, timely_from s (k + 1) es behind h.1)
+
+pub journal_timely : (s : State) (es : List Entry) → IsJournal s es → AreTimely es
+journal_timely s es j = timely_from s 0 es None j
+
+-- ---- at a result
+
+pub err_so : {T : Type 0} (r : Result T WorldError) (Is P : WorldError → Type 0) → IsErrAnd r Is → ((error : WorldError) → Is error → P error) → IfErr r P
+err_so (Ok x) Is P h f = tt
+err_so (Err error) Is P h f = f error h
+
+pub no_entry_left : (items : List Entry) → length items ≡ 0 → items ≡ []
+no_entry_left [] e = refl
+no_entry_left (x ∷ items) e = absurd (omega (arith, e))
+
+pub some_entry : (es : List Entry) → (es ≡ [] → ⊥) → 0 < length es
+some_entry [] h = absurd (h refl)
+some_entry (e ∷ es) h = omega arith

@@ -1,0 +1,434 @@
+-- What a world's calls did, put together from what its life did.
+use Rattle.std.proofs.Common.{append-nil, ◌≡◌, ◌⊎◌, ℕ, ◌+◌, ◌<◌, ◌≤◌, List, [], ◌∷◌, ◌++◌, refl, sym, ap, ◌∙◌, subst, inl, inr, Bool, true, false, length, arith}
+use Rattle.std.specs.Prelude.{Option, Some, None, Result, Ok, Err, IsErrOf, max, ⊤}
+use Rattle.std.specs.Result.{IsErrAnd}
+use Rattle.byte_fields.specs.Causes.{HasCause, Rose}
+use Rattle.std.specs.FinMap.{get}
+use Rattle.meta_journal.specs.Places.{split_key}
+use Rattle.meta_journal.specs.declared.entry.Entry.{Entry}
+use Rattle.object_store.specs.Store.{AfterLanding, Creates, Gets, Finds, HasLanded, LandsThen}
+use Rattle.object_store.specs.declared.store.CreateError.{CreateError}
+use Rattle.object_store.specs.declared.store.CreateError.TheVariants as creates
+use Rattle.object_store.specs.declared.store.GetError.{GetError}
+use Rattle.object_store.specs.declared.store.GetError.TheVariants as gets
+use Rattle.object_store.specs.declared.store.Piece.{Piece}
+use Rattle.index_world.specs.declared.tokens.Uploaded.{Uploaded}
+use Rattle.index_world.specs.declared.world_error.WorldError.TheVariants as errors
+use Rattle.index_world.specs.Index.{IsUnused}
+use Rattle.index_world.proofs.FileCalls.{UploadLaw, upload_is_made, upload_failed, upload_never_exists, upload_short, got_law, got_failed_law, got_short_law}
+use Rattle.index_world.proofs.InCore.{unused-of, uploaded-of}
+use Rattle.index_world.proofs.Journals.{once}
+use Rattle.index_world.proofs.StoreKeys.{none_some}
+use Rattle.index_world.proofs.WholeFiles.{Fetches, whole_upload, whole_fetched, uploaded_in_hand}
+use Rattle.delete_tasks.specs.Ledger.{last_of}
+use Rattle.meta_store.specs.History.{History, history, last_number, tasks_of}
+use Rattle.meta_store.specs.Rows.{rows}
+use Rattle.index_world.specs.declared.planning.Choice.{Choice}
+use Rattle.index_world.specs.declared.planning.Choice.TheVariants as choices
+use Rattle.index_world.specs.Planning.{rows_in}
+use Rattle.meta_store.specs.State as meta
+use Rattle.source_checkpoint.specs.declared.delta.Part.{Part}
+use Rattle.split_states.specs.declared.facts.RowFacts.{RowFacts}
+use Rattle.std.specs.Borrow.{Bor}
+use Rattle.meta_store.specs.State.{state_of}
+use Rattle.object_store.specs.Store.{State}
+use Rattle.source_log.specs.Log.{Log}
+use Rattle.index_world.specs.declared.life.Life.{Life}
+use Rattle.index_world.specs.declared.own.Own.{Own}
+use Rattle.index_world.specs.declared.own.Own.TheVariants as owns
+use Rattle.index_world.specs.declared.world_error.WorldError.{WorldError}
+use Rattle.index_world.specs.Calls.{Fate, Gives, Trouble, no_memory, appended, looked, asked, asked_and_looked, asked_clock, entry_of, fetched, upload_made, faulted, store_fault, store_failed}
+use Rattle.index_world.specs.Config.{reads}
+use Rattle.index_world.specs.Core.{Core, last_count, journal_of, HasStagedIn, IsUnusedIn, IsUploadedIn}
+use Rattle.index_world.specs.Gate.{Does, Says, NoneBetween, IsTrouble, IsUnmade, WasStaged, IsStagedIn, WasUploaded, IsMoment, IsPieceGiven, rows_for}
+use Rattle.index_world.specs.Life.{LifeIs, StandsBy, SettledSure, SettledIn, Settling, OwnMade, Appending}
+use Rattle.index_world.specs.Owning.{own_act}
+use Rattle.index_world.specs.Steps.{Counted, greatest}
+use Rattle.index_world.specs.Taking.{IsWant, of_create, of_get}
+use Rattle.index_world.specs.Unsure.{is_unsure}
+use Rattle.index_world.specs.World.{IsWorld, IsTimely, Keeping, WorldStands}
+use Rattle.index_world.proofs.Asking.{timely_asked}
+use Rattle.index_world.proofs.Lives.{Told, told_of, want_trouble, knows_of}
+use Rattle.index_world.proofs.Numbers.{history-snoc, revision_is, staged_le}
+use Rattle.index_world.proofs.WholeCalls.{Whole, Looks, looks_sure, looks_settled, looks_unsettled, whole_appended, whole_asked, whole_looked, whole_asked_and_looked, world_asked, copied}
+use Rattle.index_world.proofs.Worlds.{world-same}
+
+-- ---- what a world keeps
+
+abbrev pub kept_by : Option State → ℕ → Option ℕ → Life → Bool → Keeping
+kept_by told count clock life frozen =
+    record {
+      told = told;
+      store_faults = count;
+      clock = clock;
+      moment = life.moment;
+      meta = life.meta.state;
+      next = life.journal.next;
+      unsure = is_unsure life.journal.place;
+      frozen = frozen;
+    }
+
+pub stands_of : (told : Option State) (count : ℕ) (clock : Option ℕ) (life : Life) (frozen : Bool) (core : Core) (log : Log) → count ≤ last_count → (s : WorldStands (kept_by told count clock life frozen) core log) → StandsBy s.kept core log count life
+stands_of told count clock life frozen core log within s =
+    record { world = s.world; timely = s.timely; faults = s.store_faults; within = within; knows = record { next = s.next; unsure = s.unsure; moment = s.moment; meta = s.meta }; opened = s.opened }
+
+-- the clock was asked
+pub world_asks : (w w' : Keeping) (core : Core) (log : Log) → WorldStands w core log → w' ≡ record w { moment = max w.moment core.clock } → WorldStands w' (asked_clock core) log
+world_asks w w' core log s e =
+    subst (λ (k : Keeping). WorldStands k (asked_clock core) log) (sym e)
+    (record {
+      kept = s.kept;
+      told = s.told;
+      world = world_asked s.kept core log s.world;
+      timely = timely_asked core s.timely;
+      store_faults = s.store_faults;
+      clock = s.clock;
+      moment = ap (λ (m : ℕ). max m core.clock) s.moment;
+      meta = s.meta;
+      next = s.next;
+      unsure = s.unsure;
+      awake = s.awake;
+      opened = s.opened;
+    })
+
+-- ---- from a whole call
+
+pub world_by : (new : State) (start after : Core) (log : Log) (more : List Entry) (doubt : Bool) (now : ℕ) (told : Option State) (clock : Option ℕ) (life : Life) (frozen : Bool) {E : Type 0} (call : Fate → Core → Gives E ⊤) (one : Option ℕ) (core : Core) (answer : Core → Result ⊤ E) →
+    (u : Whole call one new core start log answer more doubt now) → told ≡ Some new → clock ≡ Some start.clock → frozen ≡ false → LifeIs life (start.history ++ more) (greatest start.moment more) doubt → WorldStands (kept_by told now clock life frozen) u.after log
+world_by new start after log more doubt now told clock life frozen call one core answer u t c f k =
+    record {
+      kept = new;
+      told = t;
+      world = let same : ◌≡◌ {A = Option State} (Some new) (Some u.stands.kept) = u.stands.told in let is : u.stands.kept ≡ new = cc same in subst (λ (s : State). IsWorld s u.after log) is u.stands.world;
+      timely = u.stands.timely;
+      store_faults = sym u.ends.faults;
+      clock = c ∙ ap Some (sym u.ends.clock);
+      moment = k.moment ∙ sym u.ends.moment;
+      meta = k.meta ∙ ap (λ (es : List Entry). state_of reads (history es)) (sym u.ends.history);
+      next = k.next ∙ ap length (sym u.ends.history);
+      unsure = k.unsure ∙ sym u.ends.unsure;
+      awake = f;
+      opened = u.stands.opened;
+    }
+
+pub does_by : {E A : Type 0} (call : Fate → Core → Gives E ⊤) (one : Option ℕ) (is : WorldError → E → Type 0) (holds : A → Core → Type 0) (r : Result A WorldError) (core start : Core) (log : Log) (new : State) (answer : Core → Result ⊤ E) (more : List Entry) (doubt : Bool) (now : ℕ)
+    (told : Option State) (clock : Option ℕ) (life : Life) (frozen : Bool) → (u : Whole call one new core start log answer more doubt now) → told ≡ Some new → clock ≡ Some start.clock → frozen ≡ false → LifeIs life (start.history ++ more) (greatest start.moment more) doubt →
+    Says is holds r (answer u.after) u.after → Does WorldStands NoneBetween one call is holds r core log (kept_by told now clock life frozen)
+does_by call one is holds r core start log new answer more doubt now told clock life frozen u t c f k says =
+    record {
+      mid = core;
+      passed = refl;
+      fate = u.fate;
+      answer = answer u.after;
+      after = u.after;
+      did = u.did;
+      says = says;
+      goes_on = u.goes_on;
+      stands = world_by new start u.after log more doubt now told clock life frozen call one core answer u t c f k;
+    }
+
+-- a life behind the call, by the core that the call gave
+pub life_behind : (life : Life) (entries : List Entry) (time : ℕ) (doubt : Bool) (after : Core) → LifeIs life entries time doubt → after.history ≡ entries → after.moment ≡ time → after.unsure ≡ doubt → LifeIs life after.history after.moment after.unsure
+life_behind life entries time doubt after k h m u = knows_of life entries after.history time after.moment doubt after.unsure (sym h) (sym m) (sym u) k
+
+-- ---- a transaction
+
+pub says_on : {A B E : Type 0} (is : WorldError → E → Type 0) (P : A → Core → Type 0) (Q : B → Core → Type 0) (answer : Result ⊤ E) (after : Core) (a : A) (b : B) → Says is P (Ok a) answer after → (P a after → Q b after) → Says is Q (Ok b) answer after
+says_on is P Q (Ok done) after a b s f = f s
+says_on is P Q (Err e) after a b s f = absurd s
+
+pub says_err : {A B E : Type 0} (is : WorldError → E → Type 0) (P : A → Core → Type 0) (Q : B → Core → Type 0) (answer : Result ⊤ E) (after : Core) (x : WorldError) (r : Result B WorldError) (Is : WorldError → Type 0) → Says is P (Err x) answer after →
+    IsErrAnd r Is → ((error : WorldError) → Is error → error ≡ x) → Says is Q r answer after
+says_err is P Q answer after x (Ok b) Is s h same = absurd h
+says_err is P Q (Ok done) after x (Err error) Is s h same = absurd s
+says_err is P Q (Err e) after x (Err error) Is s h same = subst (λ (y : WorldError). is y e) (sym (same error h)) s
+
+module _ (told told' : Option State) (n now : ℕ) (clock : Option ℕ) (life life' : Life) (frozen : Bool) (core : Core) (log : Log) (s : WorldStands (kept_by told n clock life frozen) (asked_clock core) log) (own : Own) where
+  w : IsWorld s.kept core log
+  w = world-same s.kept (asked_clock core) log core.store_faults core.moment core.clock core.unsure s.world
+
+  pub appends_ok : {A : Type 0} (Q : A → Core → Type 0) (a : A) → (x : Appending s.kept (asked_clock core) log own (Ok tt) told' now life') →
+      ((after : Core) → LifeIs life' after.history after.moment after.unsure → OwnMade own (asked_clock core) tt after → Q a after) →
+      Does WorldStands NoneBetween None (λ fate c. appended fate (own_act own) c) IsUnmade Q (Ok a) core log (kept_by told' now clock life' frozen)
+  appends_ok Q a x holds =
+      does_by (λ fate c. appended fate (own_act own) c) None IsUnmade Q (Ok a) core (asked_clock core) log x.new x.answer x.more x.doubt now told' clock life' frozen
+      (whole_appended s.kept x.new core log (own_act own) x.answer x.more x.doubt now w s.opened (record { later = x.counted.later; within = x.counted.within }) x.did) x.tells s.clock s.awake
+      (life_behind' x)
+      (says_on IsUnmade (OwnMade own (asked_clock core)) Q (x.answer x.did.after) x.did.after tt a x.says (holds x.did.after x.stands.knows))
+    where
+      life_behind' : (x : Appending s.kept (asked_clock core) log own (Ok tt) told' now life') → LifeIs life' (core.history ++ x.more) (greatest (max core.moment core.clock) x.more) x.doubt
+      life_behind' x =
+          knows_of life' x.did.after.history (core.history ++ x.more) x.did.after.moment (greatest (max core.moment core.clock) x.more) x.did.after.unsure x.doubt x.did.ends.history x.did.ends.moment x.did.ends.unsure x.stands.knows
+
+  pub appends_err : {A : Type 0} (Q : A → Core → Type 0) (e : WorldError) (r : Result A WorldError) (Is : WorldError → Type 0) → (x : Appending s.kept (asked_clock core) log own (Err e) told' now life') → IsErrAnd r Is → ((error : WorldError) → Is error → error ≡ e) →
+      Does WorldStands NoneBetween None (λ fate c. appended fate (own_act own) c) IsUnmade Q r core log (kept_by told' now clock life' frozen)
+  appends_err Q e r Is x h same =
+      does_by (λ fate c. appended fate (own_act own) c) None IsUnmade Q r core (asked_clock core) log x.new x.answer x.more x.doubt now told' clock life' frozen
+      (whole_appended s.kept x.new core log (own_act own) x.answer x.more x.doubt now w s.opened (record { later = x.counted.later; within = x.counted.within }) x.did) x.tells s.clock s.awake
+      (knows_of life' x.did.after.history (core.history ++ x.more) x.did.after.moment (greatest (max core.moment core.clock) x.more) x.did.after.unsure x.doubt x.did.ends.history x.did.ends.moment x.did.ends.unsure x.stands.knows)
+      (says_err IsUnmade (OwnMade own (asked_clock core)) Q (x.answer x.did.after) x.did.after e r Is x.says h same)
+
+-- the number of entries that a life took in
+pub life_revision : (life : Life) (entries : List Entry) (time : ℕ) (doubt : Bool) → LifeIs life entries time doubt → life.meta.state.revision ≡ length entries
+life_revision life entries time doubt k = ap (λ (m : meta.State). m.revision) k.meta ∙ revision_is entries
+
+pub life_opstamp : (life : Life) (entries : List Entry) (time : ℕ) (doubt : Bool) → LifeIs life entries time doubt → last_of life.meta.state.tasks ≡ last_of (tasks_of (history entries))
+life_opstamp life entries time doubt k = ap (λ (m : meta.State). last_of m.tasks) k.meta
+
+pub staged_holds : (delta : List Part) (facts : RowFacts) (d : Bor (List Part)) (f : Bor RowFacts) (core after : Core) (life : Life) (number opstamp : ℕ) → d.now ≡ delta → f.now ≡ facts → LifeIs life after.history after.moment after.unsure → OwnMade (owns.Stage d f) (asked_clock core) tt after →
+    number ≡ life.meta.state.last_number → opstamp ≡ last_of life.meta.state.tasks → WasStaged core delta facts (record { number = number; opstamp = opstamp }) after
+staged_holds delta facts d f core after life number opstamp ed ef k m n o =
+    record {
+      number = n ∙ ap (λ (x : meta.State). x.last_number) k.meta;
+      apart = λ x h. let low = staged_le (history m.before.history) x (m.was x h) in omega (arith, low, number_is);
+      opstamp = o ∙ life_opstamp life after.history after.moment after.unsure k;
+      in_hand = subst (λ (x : ℕ). IsStagedIn delta facts after x) (sym number_is) (let h = m.fresh (last_number (history m.before.history) + 1) d.now f.now refl in
+          record { unused = h.0; staged = subst (λ (y : List Part). HasStagedIn after (last_number (history m.before.history) + 1) y facts) ed (subst (λ (y : RowFacts). HasStagedIn after (last_number (history m.before.history) + 1) d.now y) ef h.1) });
+    }
+  where
+    number_is : number ≡ last_number (history m.before.history) + 1
+    number_is =
+        let e : last_number (history after.history) ≡ max (last_number (history m.before.history)) (last_number (history m.before.history) + 1) =
+        ap (λ es. last_number (history es)) m.history ∙ ap last_number (history-snoc m.before.history (entry_of (own_act (owns.Stage d f) m.before) m.before)) in
+        let a : number ≡ last_number (history after.history) = n ∙ ap (λ (x : meta.State). x.last_number) k.meta in
+        omega (arith, e, a)
+
+-- ---- settling, and what is copied behind it
+
+pub settles_said : (old : State) (core : Core) (log : Log) (r r' : Result ⊤ WorldError) (told : Option State) (now : ℕ) (life : Life) → r ≡ r' → Settling old core log r told now life → Settling old core log r' told now life
+settles_said old core log r r' told now life e s = subst (λ (x : Result ⊤ WorldError). Settling old core log x told now life) e s
+
+abbrev behind_short : Bool → Core → Result ⊤ Trouble
+behind_short true after = Err no_memory
+behind_short false after = Ok tt
+
+record Looked (old : State) (core : Core) (log : Log) (short : Bool) (told : Option State) (now : ℕ) (life : Life) : Type 0 where
+  new : State
+  tells : told ≡ Some new
+  counted : Counted core now
+  more : List Entry
+  doubt : Bool
+  looks : Looks old new core log (behind_short short) more doubt now
+  knows : LifeIs life (core.history ++ more) (greatest core.moment more) doubt
+
+-- settling was Ok, and then the copy was given or found no memory
+looked_of : (old : State) (core : Core) (log : Log) (short : Bool) (told : Option State) (now : ℕ) (life : Life) (count : ℕ) (start : Life) → StandsBy old core log count start → Settling old core log (Ok tt) told now life → Looked old core log short told now life
+looked_of old core log short told now life count start b s = by s.did
+  where
+    sure : SettledSure old s.new core log now life → Looked old core log short told now life
+    sure d =
+        record {
+          new = old;
+          tells = s.tells ∙ ap Some d.same;
+          counted = s.counted;
+          more = [];
+          doubt = core.unsure;
+          looks = subst (λ (n : ℕ). Looks old old core log (behind_short short) [] core.unsure n) (sym d.stands.faults) (looks_by short (looks_sure old core log short b.world b.timely d.sure));
+          knows = knows_of life core.history (core.history ++ []) core.moment core.moment core.unsure core.unsure (sym (append-nil core.history)) refl refl d.stands.knows;
+        }
+      where
+        looks_by : (short : Bool) → Looks old old core log (copied short) [] core.unsure core.store_faults → Looks old old core log (behind_short short) [] core.unsure core.store_faults
+        looks_by true l = l
+        looks_by false l = l
+
+    taken : SettledIn old s.new core log now life → Looked old core log short told now life
+    taken d =
+        record {
+          new = s.new;
+          tells = s.tells;
+          counted = s.counted;
+          more = d.entry ∷ [];
+          doubt = false;
+          looks = looks_by short (looks_settled old s.new core log d.entry now short b.timely d.can d.step);
+          knows = knows_of life d.step.after.history (core.history ++ d.entry ∷ []) d.step.after.moment (max core.moment d.entry.moment) d.step.after.unsure false d.step.history d.step.moment d.step.unsure d.stands.knows;
+        }
+      where
+        looks_by : (short : Bool) → Looks old s.new core log (copied short) (d.entry ∷ []) false now → Looks old s.new core log (behind_short short) (d.entry ∷ []) false now
+        looks_by true l = l
+        looks_by false l = l
+
+    by : SettledSure old s.new core log now life ⊎ SettledIn old s.new core log now life → Looked old core log short told now life
+    by (inl d) = sure d
+    by (inr d) = taken d
+
+-- a call that settles behind this start, as a whole
+abbrev pub Wholes : (Fate → Core → Gives Trouble ⊤) → Core → Core → Log → State → Type 0
+Wholes call core start log old = (new : State) (answer : Core → Result ⊤ Trouble) (more : List Entry) (doubt : Bool) (now : ℕ) → Counted start now →
+    (l : Looks old new start log answer more doubt now) → (u : Whole call None new core start log answer more doubt now) × (u.after ≡ l.after)
+
+module _ (call : Fate → Core → Gives Trouble ⊤) (told told' : Option State) (n now : ℕ) (clock : Option ℕ) (life life' : Life) (frozen : Bool) (core start : Core) (log : Log) (s : WorldStands (kept_by told n clock life frozen) start log) (within : n ≤ last_count) (wholes : Wholes call core start log s.kept) where
+  pub looks_failed : {A : Type 0} (Q : A → Core → Type 0) (e : WorldError) (r : Result A WorldError) (Is : WorldError → Type 0) → Settling s.kept start log (Err e) told' now life' → IsErrAnd r Is → ((error : WorldError) → Is error → error ≡ e) →
+      Does WorldStands NoneBetween None call IsTrouble Q r core log (kept_by told' now clock life' frozen)
+  looks_failed Q e (Ok a) Is x h same = absurd h
+  looks_failed Q e (Err error) Is x h same =
+      let d = x.did in
+      let l = looks_unsettled s.kept x.new start log d.trouble now s.timely d.doubt d.step in
+      let u = wholes x.new (λ after. Err (d.trouble after)) [] true now x.counted l in
+      does_by call None IsTrouble Q (Err error) core start log x.new (λ after. Err (d.trouble after)) [] true now told' clock life' frozen u.0 x.tells s.clock s.awake
+      (knows_of life' d.step.after.history (start.history ++ []) d.step.after.moment start.moment d.step.after.unsure true (d.step.history ∙ sym (append-nil start.history)) d.step.moment d.step.unsure d.stands.knows)
+      (subst (λ (y : WorldError). IsTrouble y (d.trouble u.0.after)) (sym (same error h)) (subst (λ (a : Core). IsTrouble e (d.trouble a)) (sym u.1) d.is))
+
+  pub looks_ok : {A : Type 0} (Q : A → Core → Type 0) (a : A) → Settling s.kept start log (Ok tt) told' now life' → ((after : Core) → LifeIs life' after.history after.moment after.unsure → Q a after) →
+      Does WorldStands NoneBetween None call IsTrouble Q (Ok a) core log (kept_by told' now clock life' frozen)
+  looks_ok Q a x holds =
+      let l = looked_of s.kept start log false told' now life' n life (stands_of told n clock life frozen start log within s) x in
+      let u = (wholes l.new (behind_short false) l.more l.doubt now l.counted l.looks).0 in
+      does_by call None IsTrouble Q (Ok a) core start log l.new (behind_short false) l.more l.doubt now told' clock life' frozen u l.tells s.clock s.awake l.knows
+      (holds u.after (knows_of life' (start.history ++ l.more) u.after.history (greatest start.moment l.more) u.after.moment l.doubt u.after.unsure (sym u.ends.history) (sym u.ends.moment) (sym u.ends.unsure) l.knows))
+
+  pub looks_wants : {A : Type 0} (Q : A → Core → Type 0) (r : Result A WorldError) (Is : WorldError → Type 0) → Settling s.kept start log (Ok tt) told' now life' → IsErrAnd r Is → ((error : WorldError) → Is error → IsWant error) →
+      Does WorldStands NoneBetween None call IsTrouble Q r core log (kept_by told' now clock life' frozen)
+  looks_wants Q (Ok a) Is x h want = absurd h
+  looks_wants Q (Err error) Is x h want =
+      let l = looked_of s.kept start log true told' now life' n life (stands_of told n clock life frozen start log within s) x in
+      let u = (wholes l.new (behind_short true) l.more l.doubt now l.counted l.looks).0 in
+      does_by call None IsTrouble Q (Err error) core start log l.new (behind_short true) l.more l.doubt now told' clock life' frozen u l.tells s.clock s.awake l.knows
+      (want_trouble error (want error h))
+
+-- ---- the two calls that settle
+
+pub looked_wholes : (core : Core) (log : Log) (old : State) → IsWorld old core log → 0 < length core.history → Wholes looked core core log old
+looked_wholes core log old w some new answer more doubt now c l = (whole_looked old new core log answer more doubt now w some c l, refl)
+
+pub asked_wholes : (core : Core) (log : Log) (old : State) → IsWorld old (asked_clock core) log → 0 < length core.history → Wholes asked_and_looked core (asked_clock core) log old
+asked_wholes core log old w some new answer more doubt now c l =
+    (whole_asked_and_looked old new core log answer more doubt now (world-same old (asked_clock core) log core.store_faults core.moment core.clock core.unsure w) some (record { later = c.later; within = c.within }) l, refl)
+
+pub rows_are : (choice : Choice) (h : History) → rows_for choice h ≡ rows_in choice (rows h)
+rows_are choices.Search h = refl
+rows_are choices.Look h = refl
+
+-- ---- the clock alone
+
+pub asks_alone : (w w' : Keeping) (core : Core) (log : Log) → WorldStands w core log → w' ≡ record w { moment = max w.moment core.clock } → (m : ℕ) → m ≡ w'.moment → Does WorldStands NoneBetween None asked IsTrouble IsMoment (Ok m) core log w'
+asks_alone w w' core log s e m same =
+    let u = whole_asked s.kept core log s.world s.opened s.timely in
+    record {
+      mid = core;
+      passed = refl;
+      fate = u.fate;
+      answer = Ok tt;
+      after = asked_clock core;
+      did = refl;
+      says = same ∙ ap (λ (k : Keeping). k.moment) e ∙ ap (λ (x : ℕ). max x core.clock) s.moment;
+      goes_on = u.goes_on;
+      stands = world_asks w w' core log s e;
+    }
+
+-- ---- files
+
+same_life : (life : Life) (core : Core) → LifeIs life core.history core.moment core.unsure → LifeIs life (core.history ++ []) (greatest core.moment []) core.unsure
+same_life life core k = knows_of life core.history (core.history ++ []) core.moment core.moment core.unsure core.unsure (sym (append-nil core.history)) refl refl k
+
+landed_then : (old new mid : State) → HasLanded old mid → new ≡ mid → HasLanded old new
+landed_then old new mid l e = (l.0, e ∙ l.1)
+
+pub uploads : (told told' : Option State) (n now : ℕ) (clock : Option ℕ) (life : Life) (frozen : Bool) (core : Core) (log : Log) (s : WorldStands (kept_by told n clock life frozen) core log) (number : ℕ) (key bytes : List ℕ) (before after : ℕ) (answer : Result ⊤ CreateError) (r : Result Uploaded WorldError) →
+    IsUnusedIn core number → key ≡ split_key number → AfterLanding told told' (Creates key bytes answer) → HasCause n now (IsErrOf answer creates.Failed) → now ≤ last_count → before ≡ core.store_faults → after ≡ now →
+    ((answer ≡ Ok tt) × (r ≡ Ok (record { number = number }))) ⊎ ((e : CreateError) × (answer ≡ Err e) × (r ≡ Err (of_create key before after e))) →
+    Does WorldStands NoneBetween (Some number) (λ fate c. upload_made fate number bytes c) IsTrouble (WasUploaded number bytes) r core log (kept_by told' now clock life frozen)
+uploads told told' n now clock life frozen core log s number key bytes before after answer r u ek step cause within at behind rel =
+    by answer r rel (told_of told told' s.kept (LandsThen (Creates key bytes answer)) s.told step) cause.failed
+  where
+    counted : Counted core now
+    counted = record { later = let a = cause.later in let f = s.store_faults in omega (arith, a, f); within = within }
+
+    unused : IsUnused s.kept (journal_of core) number
+    unused = unused-of s.kept core number s.world.stands_for u
+
+    knows : LifeIs life core.history core.moment core.unsure
+    knows = record { next = s.next; unsure = s.unsure; moment = s.moment; meta = s.meta }
+
+    lands : (answer : Result ⊤ CreateError) (new : State) → LandsThen (Creates key bytes answer) s.kept new → LandsThen (Creates (split_key number) bytes answer) s.kept new
+    lands answer new l = subst (λ (k : List ℕ). LandsThen (Creates k bytes answer) s.kept new) ek l
+
+    ends_by : (r : Result Uploaded WorldError) (new : State) (a : Core → Result ⊤ Trouble) → told' ≡ Some new → (l : UploadLaw s.kept new core log number bytes a now) → Says IsTrouble (WasUploaded number bytes) r (a l.after) l.after →
+        Does WorldStands NoneBetween (Some number) (λ fate c. upload_made fate number bytes c) IsTrouble (WasUploaded number bytes) r core log (kept_by told' now clock life frozen)
+    ends_by r new a tells l says =
+        does_by (λ fate c. upload_made fate number bytes c) (Some number) IsTrouble (WasUploaded number bytes) r core core log new a [] core.unsure now told' clock life frozen
+        (whole_upload s.kept new core log number bytes a now s.world s.opened s.timely counted l) tells s.clock s.awake (same_life life core knows) says
+
+    failed_by : (new : State) → told' ≡ Some new → (e : CreateError) → LandsThen (Creates key bytes (Err e)) s.kept new → (e ≡ creates.Failed → Rose n now) →
+        Does WorldStands NoneBetween (Some number) (λ fate c. upload_made fate number bytes c) IsTrouble (WasUploaded number bytes) (Err (of_create key before after e)) core log (kept_by told' now clock life frozen)
+    failed_by new tells creates.Exists l rose =
+        absurd (upload_never_exists once s.kept new core log number bytes s.world (let a = counted.later in omega (arith, a, within)) unused (lands (Err creates.Exists) new l))
+    failed_by new tells creates.Failed l rose =
+        let f = upload_failed once s.kept new core log number bytes now s.world counted (subst (λ (m : ℕ). Rose m now) s.store_faults (rose refl)) unused (lands (Err creates.Failed) new l) in
+        ends_by (Err (errors.StoreFault before after)) new (λ c. Err (store_failed core.store_faults c)) tells f
+        (ap (λ (m : ℕ). faulted (store_fault core.store_faults m)) (f.faults ∙ sym behind) ∙ ap (λ (m : ℕ). faulted (store_fault m after)) (sym at))
+    failed_by new tells (creates.Memory a) l rose =
+        ends_by (Err (errors.Memory a)) new (λ c. Err no_memory) tells (upload_short once s.kept new core log number bytes now s.world counted (landed_then s.kept new l.0 l.1 l.2)) refl
+
+    by : (answer : Result ⊤ CreateError) (r : Result Uploaded WorldError) → ((answer ≡ Ok tt) × (r ≡ Ok (record { number = number }))) ⊎ ((e : CreateError) × (answer ≡ Err e) × (r ≡ Err (of_create key before after e))) →
+        Told told' (LandsThen (Creates key bytes answer) s.kept) → (IsErrOf answer creates.Failed → Rose n now) →
+        Does WorldStands NoneBetween (Some number) (λ fate c. upload_made fate number bytes c) IsTrouble (WasUploaded number bytes) r core log (kept_by told' now clock life frozen)
+    by answer r (inl d) t rose =
+        let m = upload_is_made once s.kept t.new core log number bytes now s.world counted unused (lands (Ok tt) t.new (subst (λ (a : Result ⊤ CreateError). LandsThen (Creates key bytes a) s.kept t.new) d.0 t.says)) in
+        subst (λ (x : Result Uploaded WorldError). Does WorldStands NoneBetween (Some number) (λ fate c. upload_made fate number bytes c) IsTrouble (WasUploaded number bytes) x core log (kept_by told' now clock life frozen)) (sym d.1)
+        (ends_by (Ok (record { number = number })) t.new (λ c. Ok tt) t.is m.0 (record { same = refl; in_hand = uploaded_in_hand s.kept t.new core log number bytes now m.0 m.1 }))
+    by answer r (inr d) t rose =
+        subst (λ (x : Result Uploaded WorldError). Does WorldStands NoneBetween (Some number) (λ fate c. upload_made fate number bytes c) IsTrouble (WasUploaded number bytes) x core log (kept_by told' now clock life frozen)) (sym d.2)
+        (failed_by t.new t.is d.0 (subst (λ (a : Result ⊤ CreateError). LandsThen (Creates key bytes a) s.kept t.new) d.1 t.says) (λ f. rose (d.1 ∙ ap Err f)))
+
+pub fetches : (told told' : Option State) (n now : ℕ) (clock : Option ℕ) (life : Life) (frozen : Bool) (core : Core) (log : Log) (s : WorldStands (kept_by told n clock life frozen) (asked_clock core) log) (low : IsTimely core) (number : ℕ) (key bytes : List ℕ) (from len before after : ℕ) (answer : Result Piece GetError) (r : Result Piece WorldError) →
+    IsUploadedIn core number bytes → key ≡ split_key number → AfterLanding told told' (Gets key from len answer) → HasCause n now (IsErrOf answer gets.Failed) → now ≤ last_count → before ≡ core.store_faults → after ≡ now →
+    ((piece : Piece) × (answer ≡ Ok piece) × (r ≡ Ok piece)) ⊎ ((e : GetError) × (answer ≡ Err e) × (r ≡ Err (of_get key before after e))) →
+    Does WorldStands NoneBetween None fetched IsTrouble (IsPieceGiven bytes from len) r core log (kept_by told' now clock life frozen)
+fetches told told' n now clock life frozen core log s low number key bytes from len before after answer r u ek step cause within at behind rel =
+    by answer r rel (told_of told told' s.kept (LandsThen (Gets key from len answer)) s.told step) cause.failed
+  where
+    w : IsWorld s.kept core log
+    w = world-same s.kept (asked_clock core) log core.store_faults core.moment core.clock core.unsure s.world
+
+    counted : Counted (asked_clock core) now
+    counted = record { later = let a = cause.later in let f = s.store_faults in omega (arith, a, f); within = within }
+
+    knows : LifeIs life core.history (max core.moment core.clock) core.unsure
+    knows = record { next = s.next; unsure = s.unsure; moment = s.moment; meta = s.meta }
+
+    ends_by : (r : Result Piece WorldError) (new : State) (a : Core → Result ⊤ Trouble) → told' ≡ Some new → (f : Fetches s.kept new core log a now) → Says IsTrouble (IsPieceGiven bytes from len) r (a f.after) f.after →
+        Does WorldStands NoneBetween None fetched IsTrouble (IsPieceGiven bytes from len) r core log (kept_by told' now clock life frozen)
+    ends_by r new a tells f says =
+        does_by fetched None IsTrouble (IsPieceGiven bytes from len) r core (asked_clock core) log new a [] core.unsure now told' clock life frozen
+        (whole_fetched s.kept new core log a now w s.opened low (record { later = counted.later; within = within }) f) tells s.clock s.awake (same_life life (asked_clock core) knows) says
+
+    -- the file stands with its bytes, whatever landed
+    stands : (new : State) → HasLanded s.kept new → get new.objects key ≡ Some bytes
+    stands new l =
+        let g = got_law once s.kept new (asked_clock core) log now s.world counted l in
+        ap (get new.objects) ek ∙ (g.3.onward.held.uploaded number bytes (uploaded-of s.kept (asked_clock core) number bytes s.world.stands_for (record { staged = u.staged; file = u.file; not_late = u.not_late }))).file
+
+    found : (new : State) (x : Result Piece GetError) → LandsThen (Gets key from len x) s.kept new → HasLanded s.kept new × Finds (Some bytes) from len x
+    found new x l =
+        let landed = landed_then s.kept new l.0 l.1 l.2.0 in
+        (landed, subst (λ (o : Option (List ℕ)). Finds o from len x) (ap (λ (k : State). get k.objects key) (sym l.2.0) ∙ stands new landed) l.2.1)
+
+    failed_by : (new : State) → told' ≡ Some new → (e : GetError) → HasLanded s.kept new × Finds (Some bytes) from len (Err e) → (e ≡ gets.Failed → Rose n now) →
+        Does WorldStands NoneBetween None fetched IsTrouble (IsPieceGiven bytes from len) (Err (of_get key before after e)) core log (kept_by told' now clock life frozen)
+    failed_by new tells gets.Absent l rose = absurd (none_some bytes (sym l.1))
+    failed_by new tells gets.Failed l rose =
+        let g = got_failed_law once s.kept new (asked_clock core) log now s.world counted (subst (λ (m : ℕ). Rose m now) s.store_faults (rose refl)) l.0 in
+        ends_by (Err (errors.StoreFault before after)) new (λ c. Err (store_failed core.store_faults c)) tells (record { call = g.0; after = g.1; did = g.2; begun = g.3 })
+        (ap (λ (m : ℕ). faulted (store_fault core.store_faults m)) (g.3.faults ∙ sym behind) ∙ ap (λ (m : ℕ). faulted (store_fault m after)) (sym at))
+    failed_by new tells (gets.Memory a) l rose =
+        let g = got_short_law once s.kept new (asked_clock core) log now s.world counted l.0 in
+        ends_by (Err (errors.Memory a)) new (λ c. Err no_memory) tells (record { call = g.0; after = g.1; did = g.2; begun = g.3 }) refl
+
+    by : (answer : Result Piece GetError) (r : Result Piece WorldError) → ((piece : Piece) × (answer ≡ Ok piece) × (r ≡ Ok piece)) ⊎ ((e : GetError) × (answer ≡ Err e) × (r ≡ Err (of_get key before after e))) →
+        Told told' (LandsThen (Gets key from len answer) s.kept) → (IsErrOf answer gets.Failed → Rose n now) →
+        Does WorldStands NoneBetween None fetched IsTrouble (IsPieceGiven bytes from len) r core log (kept_by told' now clock life frozen)
+    by answer r (inl d) t rose =
+        let f = found t.new (Ok d.0) (subst (λ (a : Result Piece GetError). LandsThen (Gets key from len a) s.kept t.new) d.1 t.says) in
+        let g = got_law once s.kept t.new (asked_clock core) log now s.world counted f.0 in
+        subst (λ (x : Result Piece WorldError). Does WorldStands NoneBetween None fetched IsTrouble (IsPieceGiven bytes from len) x core log (kept_by told' now clock life frozen)) (sym d.2)
+        (ends_by (Ok d.0) t.new (λ c. Ok tt) t.is (record { call = g.0; after = g.1; did = g.2; begun = g.3 }) f.1)
+    by answer r (inr d) t rose =
+        subst (λ (x : Result Piece WorldError). Does WorldStands NoneBetween None fetched IsTrouble (IsPieceGiven bytes from len) x core log (kept_by told' now clock life frozen)) (sym d.2)
+        (failed_by t.new t.is d.0 (found t.new (Err d.0) (subst (λ (a : Result Piece GetError). LandsThen (Gets key from len a) s.kept t.new) d.1 t.says)) (λ f. rose (d.1 ∙ ap Err f)))
+
+-- ---- a gate that holds another
+
+pub does_held : {W V E A : Type 0} (Stands : W → Core → Log → Type 0) (Held : V → Core → Log → Type 0) (Between : Core → Core → Type 0) (one : Option ℕ) (call : Fate → Core → Gives E ⊤) (is : WorldError → E → Type 0) (holds : A → Core → Type 0) (r : Result A WorldError) (core : Core) (log : Log)
+    (new : W) (held : V) → ((after : Core) → Stands new after log → Held held after log) → Does Stands Between one call is holds r core log new → Does Held Between one call is holds r core log held
+does_held Stands Held Between one call is holds r core log new held on d =
+    record { mid = d.mid; passed = d.passed; fate = d.fate; answer = d.answer; after = d.after; did = d.did; says = d.says; goes_on = d.goes_on; stands = on d.after d.stands }

@@ -1,0 +1,52 @@
+use Rattle.std.proofs.Common.{◌≡◌, ◌<◌, ap, arith, sym, subst, ◌∙◌, List}
+use Rattle.std.specs.Prelude.{Result, Ok, Err, IfOk, IfErr, length}
+use Rattle.meta_journal.specs.Journal.{Numbered, FaultIs}
+use Rattle.meta_journal.specs.Loading.{loaded}
+use Rattle.meta_journal.specs.declared.entry.Entry.{Entry}
+use Rattle.meta_journal.specs.declared.journal_error.JournalError.{JournalError}
+use Rattle.meta_store.specs.History.{history, moment_of}
+use Rattle.meta_store.specs.State.{Legal, state_of}
+use Rattle.index_world.specs.Config.{reads}
+use Rattle.index_world.specs.Taking.{IsWant}
+use Rattle.index_world.proofs.Fronts.{AreTimely, some_entry}
+use Rattle.index_world.proofs.Reading.{opening_failed, opening_empty, opening_short_by, opening_ok, read_legal, read_timely, loads_ok_at, loads_err_at}
+use Rattle.index_world.proofs.taking.open.Goals as goal
+
+pub returns-then-is_empty-clause-step : goal.returns-then-is_empty-clause-step
+returns-then-is_empty-clause-step g c old core log e at w clock =
+    let counts = c.faults-count.ensures in
+    let fits = c.faults-count.type_inv in
+    let said : c.load-answer.result ≡ Ok (c.in-Ok.journal, c.in-Ok.entries) = cc in
+    opening_empty old core log _ _ _ _ e w at c.load-answer.ensures.later (omega (arith, counts, fits)) c.in-Ok.entries (loads_ok_at _ _ _ _ _ said c.load-answer.ensures.answer) (c.is_empty.ensures.0 c.if-is_empty.true)
+
+pub returns-in_err-meta-in-Ok-clause-step : goal.returns-in_err-meta-in-Ok-clause-step
+returns-in_err-meta-in-Ok-clause-step g c old core log e at w clock =
+    let counts = c.faults-count.ensures in
+    let fits = c.faults-count.type_inv in
+    let said : c.load-answer.result ≡ Ok (c.in-Ok.journal, c.in-Ok.entries) = cc in
+    let l = loads_ok_at _ _ _ _ _ said c.load-answer.ensures.answer in
+    let legal = read_legal old core log _ _ _ _ e w at c.load-answer.ensures.later (omega (arith, counts, fits)) c.in-Ok.entries l in
+    opening_short_by old core log _ _ _ _ e w at c.load-answer.ensures.later (omega (arith, counts, fits)) c.in-Ok.entries l c.from_residual.result _ c.from_residual.ensures.1
+    (λ error is. subst IsWant (sym is) (c.in_err-meta-in-Ok.ensures.want (subst (λ (es : List Entry). Legal reads (history es)) (sym c.into_vec.ensures) legal)))
+
+pub returns-in_ok-meta-in-Ok-clause-step : goal.returns-in_ok-meta-in-Ok-clause-step
+returns-in_ok-meta-in-Ok-clause-step g c old core log e at w clock =
+    let counts = c.faults-count.ensures in
+    let fits = c.faults-count.type_inv in
+    let said : c.load-answer.result ≡ Ok (c.in-Ok.journal, c.in-Ok.entries) = cc in
+    let l = loads_ok_at _ _ _ _ _ said c.load-answer.ensures.answer in
+    let timely = read_timely old core log _ _ _ _ e w at c.load-answer.ensures.later (omega (arith, counts, fits)) c.in-Ok.entries l in
+    let j : c.in-Ok.journal ≡ loaded (length c.in-Ok.entries) = subst (λ (r : Result (Numbered × List Entry) JournalError). IfOk r (λ x. x.0 ≡ loaded (length x.1))) said c.load-answer.ensures.journal in
+    let some : 0 < length c.in-Ok.entries = some_entry c.in-Ok.entries (λ none. let h = c.is_empty.ensures.1 none in let f = c.if-is_empty.false in cc) in
+    opening_ok old core log _ _ _ _ e w at c.load-answer.ensures.later (omega (arith, counts, fits)) c.in-Ok.entries l _ clock some j
+    (c.in_ok-meta-in-Ok.ensures.state ∙ ap (λ (es : List Entry). state_of reads (history es)) c.into_vec.ensures)
+    (c.in_ok-meta-in-Ok.ensures.greatest (subst AreTimely (sym c.into_vec.ensures) timely) ∙ ap (λ (es : List Entry). moment_of (history es)) c.into_vec.ensures)
+
+pub returns-in-Err-clause-step : goal.returns-in-Err-clause-step
+returns-in-Err-clause-step g c old core log e at w clock =
+    let counts = c.faults-count.ensures in
+    let fits = c.faults-count.type_inv in
+    let said : c.load-answer.result ≡ Err c.in-Err.error = cc in
+    opening_failed old core log _ _ _ _ e w at c.load-answer.ensures.later (omega (arith, counts, fits)) _ _ c.in-Err.error _ c.world_error.ensures c.faults-before.ensures
+    (subst (λ (r : Result (Numbered × List Entry) JournalError). IfErr r (FaultIs (g.S.ObjectStore.fault_count c.args.store.now) (g.S.ObjectStore.fault_count c.load-answer.new.store))) said c.load-answer.ensures.faults)
+    (loads_err_at _ _ _ _ said c.load-answer.ensures.answer)

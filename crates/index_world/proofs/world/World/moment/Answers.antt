@@ -1,0 +1,7 @@
+use Rattle.std.proofs.Common.{ap}
+use Rattle.index_world.specs.World.{Keeping}
+use Rattle.index_world.proofs.Gates.{asks_alone}
+use Rattle.index_world.proofs.world.World.moment.Goals as goal
+
+pub returns-clause-step : goal.returns-clause-step
+returns-clause-step g c core log s = asks_alone _ _ core log s (c.ask.ensures core.clock s.clock s.awake) _ (ap (λ (k : Keeping). k.moment) c.self.view_is)

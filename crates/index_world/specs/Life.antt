@@ -1,0 +1,222 @@
+-- What one life of a world knows of its journal, and what its calls do, in the words of the core.
+use Rattle.std.specs.Prelude.{◌≡◌, ◌⊎◌, ◌+◌, ◌<◌, ◌≤◌, ◌^◌, ℕ, Bool, true, false, List, [], ◌∷◌, ◌++◌, length, max, IsOk, Option, Some, None, Result, Ok, Err, ⊤}
+use Rattle.meta_journal.specs.Places.{meta_key}
+use Rattle.meta_journal.specs.Spelling.{CanSpell, CanSpellAct}
+use Rattle.meta_journal.specs.declared.entry.Act.{Act}
+use Rattle.meta_journal.specs.declared.entry.Act.TheVariants as acts
+use Rattle.meta_journal.specs.declared.entry.Entry.{Entry}
+use Rattle.meta_journal.specs.declared.place.Place.TheVariants.{Sure, Given}
+use Rattle.meta_store.specs.Answers.{answer_to}
+use Rattle.meta_store.specs.History.{history}
+use Rattle.meta_store.specs.State.{state_of, reading_of, after}
+use Rattle.meta_store.specs.State as meta
+use Rattle.meta_store.specs.declared.config.Reading.{Reading}
+use Rattle.object_store.specs.Store.{State, HasLanded}
+use Rattle.source_checkpoint.specs.declared.delta.Part.{Part}
+use Rattle.source_log.specs.Log.{Log}
+use Rattle.split_states.specs.declared.facts.RowFacts.{RowFacts}
+use Rattle.index_world.specs.declared.life.Life.{Life}
+use Rattle.index_world.specs.declared.own.Own.{Own}
+use Rattle.index_world.specs.declared.world_error.WorldError.{WorldError}
+use Rattle.index_world.specs.declared.world_error.WorldError.TheVariants as errors
+use Rattle.index_world.specs.Calls.{Trouble, Unmade, Unread, may_append, entry_of}
+use Rattle.index_world.specs.Config.{reads}
+use Rattle.index_world.specs.Core.{Core, last_count, journal_of, IsUnusedIn, HasStagedIn}
+use Rattle.index_world.specs.Gate.{IsTrouble, IsUnmade, Says}
+use Rattle.index_world.specs.Index.{has_staged}
+use Rattle.index_world.specs.Loading.{LoadsAs, IsUnread}
+use Rattle.index_world.specs.Owning.{own_act}
+use Rattle.index_world.specs.Steps.{Counted, MadeLaw, AdoptedLaw, FailedLaw, ExistsLaw, Settled, Unsettled, Transacted}
+use Rattle.index_world.specs.Taking.{IsWant}
+use Rattle.index_world.specs.Unsure.{is_unsure}
+use Rattle.index_world.specs.World.{IsWorld, IsTimely}
+
+-- it took these entries in, has this moment, and its next number is unsure or not
+pub record LifeIs (life : Life) (entries : List Entry) (time : ℕ) (doubt : Bool) : Type 0 where
+  pub next : life.journal.next ≡ length entries
+  pub unsure : is_unsure life.journal.place ≡ doubt
+  pub moment : life.moment ≡ time
+  pub meta : life.meta.state ≡ state_of reads (history entries)
+
+-- with a store that holds and counts this it stands for the core
+pub record StandsBy (kept : State) (core : Core) (log : Log) (count : ℕ) (life : Life) : Type 0 where
+  pub world : IsWorld kept core log
+  pub timely : IsTimely core
+  pub faults : count ≡ core.store_faults
+  pub within : count ≤ last_count
+  pub knows : LifeIs life core.history core.moment core.unsure
+  pub opened : 0 < length core.history
+
+-- ---- taking an entry in
+
+abbrev pub reading_in : meta.State → Act → Reading
+reading_in state act = reading_of reads state.config act
+
+-- it was taken in
+pub record TookIn (old : Life) (entry : Entry) (new : Life) : Type 0 where
+  pub journal : new.journal ≡ record { next = old.journal.next + 1; place = Sure; settled = true }
+  pub meta : new.meta.state ≡ after (reading_in old.meta.state entry.act) entry old.meta.state
+  pub moment : entry.moment < 2 ^ 62 → new.moment ≡ max old.moment entry.moment
+
+-- it was not, which an entry that may come next meets by want of memory alone
+pub record TookNone (old : Life) (entry : Entry) (error : WorldError) (new : Life) : Type 0 where
+  pub journal : new.journal ≡ old.journal
+  pub meta : new.meta.state ≡ old.meta.state
+  pub moment : new.moment ≡ old.moment
+  pub want : IsOk (answer_to (reading_in old.meta.state entry.act) old.meta.state entry) → IsWant error
+
+-- ---- settling
+
+-- nothing was unsure
+pub record SettledSure (old new : State) (core : Core) (log : Log) (count : ℕ) (life : Life) : Type 0 where
+  pub sure : core.unsure ≡ false
+  pub same : new ≡ old
+  pub stands : StandsBy new core log count life
+  pub first : life.journal.settled ≡ false
+
+-- an entry was taken in
+pub record SettledIn (old new : State) (core : Core) (log : Log) (count : ℕ) (life : Life) : Type 0 where
+  pub doubt : core.unsure ≡ true
+  pub entry : Entry
+  pub can : CanSpell entry
+  pub step : Settled old new core log entry count
+  pub stands : StandsBy new step.after log count life
+  pub again : life.journal.settled ≡ true
+
+-- none was
+pub record SettledNone (old new : State) (core : Core) (log : Log) (count : ℕ) (error : WorldError) (life : Life) : Type 0 where
+  pub doubt : core.unsure ≡ true
+  pub trouble : Core → Trouble
+  pub step : Unsettled old new core log trouble count
+  pub is : IsTrouble error (trouble step.after)
+  pub stands : StandsBy new step.after log count life
+
+abbrev pub SettlesBy : State → State → Core → Log → ℕ → Life → Result ⊤ WorldError → Type 0
+SettlesBy old new core log count life (Ok done) = SettledSure old new core log count life ⊎ SettledIn old new core log count life
+SettlesBy old new core log count life (Err error) = SettledNone old new core log count error life
+
+pub record Settling (old : State) (core : Core) (log : Log) (result : Result ⊤ WorldError) (told : Option State) (count : ℕ) (life : Life) : Type 0 where
+  pub new : State
+  pub tells : told ≡ Some new
+  pub counted : Counted core count
+  pub did : SettlesBy old new core log count life result
+
+-- ---- one create of an entry of one's own
+
+-- it was made and taken in
+pub record CreatedOwn (old new : State) (core : Core) (log : Log) (act : Act) (count : ℕ) (life : Life) : Type 0 where
+  pub can : CanSpellAct act
+  pub may : may_append act core ≡ Ok tt
+  pub step : MadeLaw old new core log (entry_of act core) count
+  pub knows : LifeIs life (core.history ++ entry_of act core ∷ []) core.moment false
+
+-- an entry stood at its number, and is given
+pub record CreateGives (old new : State) (core : Core) (log : Log) (act : Act) (settled : Bool) (before count : ℕ) (entry : Entry) (life : Life) : Type 0 where
+  pub first : settled ≡ false
+  pub may : may_append act core ≡ Ok tt
+  pub step : AdoptedLaw old new core log (entry_of act core) entry before count
+  pub can : CanSpell entry
+  pub given : life.journal.place ≡ Given
+  pub knows : LifeIs life core.history core.moment true
+
+-- it is refused, or the journal is full: the store isn't called
+pub record CreateRefused (old new : State) (core : Core) (act : Act) (count : ℕ) (error : WorldError) (life : Life) : Type 0 where
+  pub unmade : Unmade
+  pub may : may_append act core ≡ Err unmade
+  pub is : IsUnmade error unmade
+  pub same : new ≡ old
+  pub faults : count ≡ core.store_faults
+  pub knows : LifeIs life core.history core.moment false
+
+-- no memory is found
+pub record CreateWants (old new : State) (core : Core) (error : WorldError) (life : Life) : Type 0 where
+  pub is : IsWant error
+  pub landed : HasLanded old new
+  pub knows : LifeIs life core.history core.moment false
+
+-- the store failed
+pub record CreateFails (old new : State) (core : Core) (log : Log) (act : Act) (before count : ℕ) (error : WorldError) (life : Life) : Type 0 where
+  pub may : may_append act core ≡ Ok tt
+  pub step : FailedLaw old new core log (entry_of act core) count
+  pub is : error ≡ errors.StoreFault before count
+  pub knows : LifeIs life core.history core.moment true
+
+-- behind a number that was settled something stood
+pub record CreateMeets (old new : State) (core : Core) (log : Log) (act : Act) (settled : Bool) (count : ℕ) (error : WorldError) (life : Life) : Type 0 where
+  pub again : settled ≡ true
+  pub may : may_append act core ≡ Ok tt
+  pub step : ExistsLaw old new core log (entry_of act core) count
+  pub is : error ≡ errors.Foreign (meta_key (length core.history))
+  pub knows : LifeIs life core.history core.moment false
+
+abbrev pub CreatesBy : State → State → Core → Log → Act → Bool → (before count : ℕ) → Life → Result (Option Entry) WorldError → Type 0
+CreatesBy old new core log act settled before count life (Ok None) = CreatedOwn old new core log act count life
+CreatesBy old new core log act settled before count life (Ok (Some entry)) = CreateGives old new core log act settled before count entry life
+CreatesBy old new core log act settled before count life (Err error) =
+    CreateRefused old new core act count error life
+    ⊎ (CreateWants old new core error life
+    ⊎ (CreateFails old new core log act before count error life
+    ⊎ CreateMeets old new core log act settled count error life))
+
+pub record Creating (old : State) (core : Core) (log : Log) (act : Act) (settled : Bool) (before : ℕ) (result : Result (Option Entry) WorldError) (told : Option State) (count : ℕ) (life : Life) : Type 0 where
+  pub new : State
+  pub tells : told ≡ Some new
+  pub counted : Counted core count
+  pub did : CreatesBy old new core log act settled before count life result
+  pub still : life.journal.settled ≡ settled
+
+-- ---- a transaction
+
+-- The own entry is the last one, made of the state before it. What was staged before was staged then, and where it is a
+-- Stage its number is in hand.
+pub record OwnMade (own : Own) (core : Core) (done : ⊤) (after : Core) : Type 0 where
+  pub before : Core
+  pub history : after.history ≡ before.history ++ entry_of (own_act own before) before ∷ []
+  pub was : (number : ℕ) → has_staged (journal_of core) number ≡ true → has_staged before.history number ≡ true
+  pub fresh : (number : ℕ) (delta : List Part) (facts : RowFacts) → own_act own before ≡ acts.Stage number delta facts → IsUnusedIn after number × HasStagedIn after number delta facts
+
+pub record Appending (old : State) (core : Core) (log : Log) (own : Own) (result : Result ⊤ WorldError) (told : Option State) (count : ℕ) (life : Life) : Type 0 where
+  pub new : State
+  pub tells : told ≡ Some new
+  pub counted : Counted core count
+  pub answer : Core → Result ⊤ Unmade
+  pub more : List Entry
+  pub doubt : Bool
+  pub did : Transacted old new core log (own_act own) answer more doubt count
+  pub says : Says IsUnmade (OwnMade own core) result (answer did.after) did.after
+  pub stands : StandsBy new did.after log count life
+
+-- ---- opening
+
+-- all but what is in the store, and the count
+pub record SameBut (core after : Core) : Type 0 where
+  pub history : after.history ≡ core.history
+  pub moment : after.moment ≡ core.moment
+  pub clock : after.clock ≡ core.clock
+  pub unsure : after.unsure ≡ core.unsure
+
+-- the index was opened
+pub record OpensLife (new : State) (core : Core) (log : Log) (count : ℕ) (life : Life) : Type 0 where
+  pub after : Core
+  pub loads : LoadsAs core after (Ok tt)
+  pub stands : StandsBy new after log count life
+  pub clock : after.clock ≡ core.clock
+
+-- it was not; but for what landed the core of a world is as it was
+pub record OpensNone (new : State) (core : Core) (log : Log) (count : ℕ) (error : WorldError) : Type 0 where
+  pub unread : Unread
+  pub after : Core
+  pub loads : LoadsAs core after (Err unread)
+  pub says : IsUnread error unread
+  pub world : IsWorld new after log
+  pub faults : count ≡ after.store_faults
+  pub same : 0 < length core.history → SameBut core after
+
+abbrev pub OpensBy : State → Core → Log → ℕ → Result Life WorldError → Type 0
+OpensBy new core log count (Ok life) = OpensLife new core log count life
+OpensBy new core log count (Err error) = OpensNone new core log count error
+
+pub record Opening (core : Core) (log : Log) (result : Result Life WorldError) (told : Option State) (count : ℕ) : Type 0 where
+  pub new : State
+  pub tells : told ≡ Some new
+  pub did : OpensBy new core log count result

@@ -1,0 +1,50 @@
+-- What the taking in of an entry answers.
+use Rattle.std.specs.Prelude.{◌≡◌, ◌⊎◌, ◌≤◌, ℕ, List, Ok, Err, ⊤}
+use Rattle.meta_journal.specs.Places.{meta_key}
+use Rattle.meta_journal.specs.declared.journal_error.JournalError.{JournalError}
+use Rattle.meta_journal.specs.declared.journal_error.JournalError.TheVariants as journal
+use Rattle.meta_store.specs.Answers.{Answer}
+use Rattle.object_store.specs.declared.store.CreateError.{CreateError}
+use Rattle.object_store.specs.declared.store.CreateError.TheVariants as creates
+use Rattle.object_store.specs.declared.store.GetError.{GetError}
+use Rattle.object_store.specs.declared.store.GetError.TheVariants as gets
+use Rattle.index_world.specs.Index.{max_entries}
+use Rattle.index_world.specs.declared.world_error.WorldError.{WorldError}
+use Rattle.index_world.specs.declared.world_error.WorldError.TheVariants as errors
+
+-- want of memory
+abbrev pub IsWant : WorldError → Type 0
+IsWant (errors.Memory e) = ⊤
+IsWant (errors.Refused refusal) = ⊥
+IsWant (errors.StoreFault before after) = ⊥
+IsWant (errors.Missing key) = ⊥
+IsWant (errors.Corrupt key) = ⊥
+IsWant (errors.Foreign key) = ⊥
+IsWant errors.Full = ⊥
+IsWant errors.NoIndex = ⊥
+
+-- an entry of one's own is refused as its answer says, or the journal has no further number, or memory wants
+abbrev pub IsUnprepared : Answer → ℕ → WorldError → Type 0
+IsUnprepared (Ok done) revision error = IsWant error ⊎ ((error ≡ errors.Full) × (max_entries ≤ revision))
+IsUnprepared (Err refusal) revision error = error ≡ errors.Refused refusal
+
+-- what an error of the journal is to the world, whose call began at this count
+abbrev pub of_journal : (number before : ℕ) → JournalError → WorldError
+of_journal number before (journal.Memory e) = errors.Memory e
+of_journal number before (journal.Adopted entry) = errors.Foreign (meta_key number)
+of_journal number before (journal.StoreFault low high) = errors.StoreFault before high
+of_journal number before (journal.Foreign key) = errors.Foreign key
+of_journal number before (journal.Corrupt key) = errors.Corrupt key
+of_journal number before journal.Full = errors.Full
+of_journal number before (journal.Missing key) = errors.Missing key
+
+-- what the store's error is to the world, whose call began and ended at these counts
+abbrev pub of_create : (key : List ℕ) (before after : ℕ) → CreateError → WorldError
+of_create key before after creates.Exists = errors.Foreign key
+of_create key before after creates.Failed = errors.StoreFault before after
+of_create key before after (creates.Memory e) = errors.Memory e
+
+abbrev pub of_get : (key : List ℕ) (before after : ℕ) → GetError → WorldError
+of_get key before after gets.Absent = errors.Missing key
+of_get key before after gets.Failed = errors.StoreFault before after
+of_get key before after (gets.Memory e) = errors.Memory e

@@ -1,0 +1,137 @@
+//! What one life of a world knows of its journal.
+
+ghost use Rattle.std.specs.Prelude.{◌≡◌, ◌<◌, ◌^◌};
+
+use crate::config::reading_of;
+use crate::own::{Own, act_of};
+use crate::taking::{admit, moment_of, prepare, world_error};
+use crate::world_error::WorldError;
+use meta_journal::{Entry, Journal, JournalError, meta_key};
+use meta_store::Meta;
+use object_store::ObjectStore;
+use std::alloc::Global;
+
+/// The journal, the state behind the entries that were taken in, and the greatest moment.
+#[derive(Drop)]
+pub struct Life {
+    pub journal: Journal,
+    pub meta: Meta,
+    pub moment: u64,
+    ghost timely: { moment < 2 ^ 62 },
+    ghost in_step: { meta.state.revision ≡ journal.next },
+}
+
+impl Life {
+    ghost use Rattle.std.specs.Prelude.{◌≡◌, OnOk, IfOk, MatchResult, Some};
+    ghost use Rattle.meta_journal.specs.declared.place.Place.TheVariants.{Sure, Given};
+    ghost use Rattle.object_store.specs.Store.{State};
+    ghost use Rattle.source_log.specs.Log.{Log};
+    ghost use Rattle.index_world.specs.Core.{Core};
+    ghost use Rattle.index_world.specs.Life.{TookIn, TookNone, StandsBy, Settling, Creating, Appending};
+    ghost use Rattle.index_world.specs.Owning.{CanOwn, MayOwn, own_act};
+    ghost use Rattle.index_world.specs.PlaceMade.{IsPlaceMade};
+
+    // Takes in the entry that the journal gave at its next number.
+    fn take_in(&mut self, entry: Entry) -> Result<(), WorldError>
+        requires { self.old.journal.place ≡ Given }
+        ensures place { OnOk result (self.new.journal.place ≡ Sure) }
+        ensures taken { MatchResult result (λ done. TookIn self.old entry self.new) (λ error. TookNone self.old entry error self.new) }
+    {
+        let reading = reading_of(&entry);
+        let moment = moment_of(&entry);
+        // Only a number below the limit is in doubt.
+        let _place = self.journal.place();
+        match admit(&mut self.meta, reading, &entry, self.journal.next()) {
+            Ok(()) => {
+                self.journal.step_over();
+                self.meta.apply(entry, reading);
+                self.moment = self.moment.max(moment);
+                Ok(())
+            }
+            Err(error) => Err(error),
+        }
+    }
+
+    /// Closes an unsure number, and takes in the entry that stands there. `before` is the store's count at the start of
+    /// the world's call.
+    pub fn settle<S: ObjectStore>(
+        &mut self,
+        alloc: Global,
+        store: &mut S,
+        before: u64,
+    ) -> Result<(), WorldError>
+        ensures place { OnOk result (self.new.journal.place ≡ Sure) }
+        ensures step { (old : State) (core : Core) (log : Log) → S.told store.old ≡ Some old → StandsBy old core log (S.fault_count store.old) self.old →
+            before ≡ core.store_faults → Settling old core log result (S.told store.new) (S.fault_count store.new) self.new }
+    {
+        let answer = self.journal.settle(alloc, store, self.moment);
+        // The count of a store has its range.
+        let _count = store.faults();
+        match answer {
+            Ok(None) => Ok(()),
+            Ok(Some(entry)) => self.take_in(entry),
+            Err(error) => Err(world_error(error, self.journal.next(), before)),
+        }
+    }
+
+    // Creates an entry of one's own, made of the state as it is. Gives the entry that stands there where one does.
+    fn create<S: ObjectStore>(
+        &mut self,
+        alloc: Global,
+        store: &mut S,
+        own: Own,
+        before: u64,
+    ) -> Result<Option<Entry>, WorldError>
+        requires sure { self.old.journal.place ≡ Sure }
+        requires can { CanOwn own }
+        ensures place { IfOk result (λ given. IsPlaceMade given self.new.journal.place) }
+        ensures step { (old : State) (core : Core) (log : Log) → S.told store.old ≡ Some old → StandsBy old core log (S.fault_count store.old) self.old →
+            MayOwn own.entry log core → Creating old core log (own_act own.entry core) self.old.journal.settled before result (S.told store.new) (S.fault_count store.new) self.new }
+    {
+        let entry = Entry {
+            moment: self.moment,
+            act: act_of(alloc, own, &self.meta)?,
+        };
+        let reading = reading_of(&entry);
+        prepare(&mut self.meta, reading, &entry)?;
+        let answer = self.journal.append(alloc, store, &entry);
+        // The count of a store has its range.
+        let _count = store.faults();
+        match answer {
+            Ok(_) => {
+                self.meta.apply(entry, reading);
+                Ok(None)
+            }
+            Err(error) => match error {
+                JournalError::Adopted { entry } => Ok(Some(entry)),
+                error => Err(world_error(error, self.journal.next(), before)),
+            },
+        }
+    }
+
+    /// One transaction: it settles and appends. Where an entry stands at the number already, that one is taken in, and the
+    /// own one is made anew and created once more.
+    pub fn append<S: ObjectStore>(
+        &mut self,
+        alloc: Global,
+        store: &mut S,
+        own: Own,
+        before: u64,
+    ) -> Result<(), WorldError>
+        requires { CanOwn own }
+        ensures { (old : State) (core : Core) (log : Log) → S.told store.old ≡ Some old → StandsBy old core log (S.fault_count store.old) self.old →
+            before ≡ core.store_faults → MayOwn own.entry log core → Appending old core log own.entry result (S.told store.new) (S.fault_count store.new) self.new }
+    {
+        self.settle(alloc, store, before)?;
+        let Some(entry) = self.create(alloc, store, own, before)? else {
+            return Ok(());
+        };
+        self.take_in(entry)?;
+        let Some(_) = self.create(alloc, store, own, before)? else {
+            return Ok(());
+        };
+        Err(WorldError::Foreign {
+            key: meta_key(self.journal.next()),
+        })
+    }
+}

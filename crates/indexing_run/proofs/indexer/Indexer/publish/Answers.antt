@@ -1,0 +1,20 @@
+use Rattle.std.proofs.Common.{sym, subst, Ok, Err}
+use Rattle.index_world.specs.Gate.{IsPublishable}
+use Rattle.indexing_run.specs.declared.outcome.IndexerOutcome.TheVariants as said
+use Rattle.indexing_run.proofs.Stepping.{publishes, published_answers, unpublished_answers}
+use Rattle.indexing_run.proofs.Holding.{held_is_publishable}
+use Rattle.indexing_run.proofs.indexer.Indexer.publish.Goals as goal
+
+pub returns-in-Ok-clause-step : goal.returns-in-Ok-clause-step
+returns-in-Ok-clause-step g c = λ indexer core read held s stands same u.
+    publishes g.L.SourceLog.told g.L.SourceLog.fault_count g.G.Gate.Stands g.G.Gate.Between indexer core read c.args.self.now c.publish.new.self s held c.args.uploaded.number
+    (Ok c.in-Ok.field-0) (Ok (said.Published c.args.uploaded.number)) same
+    (c.in-Ok.ensures core read stands (subst (IsPublishable read core) (sym same) (held_is_publishable read core held u)))
+    (published_answers held c.args.uploaded.number indexer c.in-Ok.field-0 same)
+
+pub returns-in-Err-clause-step : goal.returns-in-Err-clause-step
+returns-in-Err-clause-step g c = λ indexer core read held s stands same u.
+    publishes g.L.SourceLog.told g.L.SourceLog.fault_count g.G.Gate.Stands g.G.Gate.Between indexer core read c.args.self.now c.publish.new.self s held c.args.uploaded.number
+    (Err c.in-Err.error) c.unpublished.result same
+    (c.in-Err.ensures core read stands (subst (IsPublishable read core) (sym same) (held_is_publishable read core held u)))
+    (unpublished_answers held c.args.uploaded.number indexer c.in-Err.error c.unpublished.result same c.unpublished.ensures)

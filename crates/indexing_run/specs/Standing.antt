@@ -1,0 +1,154 @@
+-- What an indexer of the code stands for, and what its step says.
+use Rattle.std.specs.Prelude.{◌≡◌, ℕ, ◌+◌, ◌≤◌, min, nat_lt, true, List, [], ◌∷◌, length, drop, decimal, codes, Option, Some, None, Result, Ok, Err, ⊤}
+use Rattle.source_checkpoint.specs.declared.ledger.Checkpoint.{Checkpoint as Mark}
+use Rattle.std.specs.declared.alloc.AllocError.{AllocError}
+use Rattle.source_log.specs.Log.{Log, names_of}
+use Rattle.byte_fields.specs.Causes.{Rose}
+use Rattle.source_log.specs.declared.log.ReadError.{ReadError}
+use Rattle.source_log.specs.declared.log.ReadError.TheVariants as errors
+use Rattle.source_log.specs.declared.lists.Records.{Records}
+use Rattle.index_world.specs.Config.{docs_target}
+use Rattle.index_world.specs.declared.placed.Placed.{Placed}
+use Rattle.index_world.specs.Calls.{Fault, faulted}
+use Rattle.index_world.specs.Core.{Core, journal_of}
+use Rattle.index_world.specs.Gate.{IsTrouble}
+use Rattle.index_world.specs.Index.{has_staged, most}
+use Rattle.index_world.specs.Saying.{refusal_words, error_words}
+use Rattle.index_world.specs.SplitFile.{weight, split_file}
+use Rattle.index_world.specs.World.{GoesOn}
+use Rattle.indexing_run.specs.declared.batch.Batch.{Batch as HeldBatch}
+use Rattle.indexing_run.specs.declared.batch.NextRead.{NextRead}
+use Rattle.indexing_run.specs.declared.indexer.Indexer.{Indexer as Reader}
+use Rattle.indexing_run.specs.declared.indexer.Place.{Place as HeldPlace}
+use Rattle.indexing_run.specs.declared.indexer.Place.TheVariants as places
+use Rattle.indexing_run.specs.declared.queue.Queue.{Queue}
+use Rattle.indexing_run.specs.declared.outcome.IndexerOutcome.{IndexerOutcome as Said}
+use Rattle.indexing_run.specs.declared.outcome.IndexerOutcome.TheVariants as said
+use Rattle.indexing_run.specs.Making.{Follows, IsBatch, IsAssigned}
+use Rattle.indexing_run.specs.Outcomes.{IndexerOutcome, Checkpoint, Read, Staged, Uploaded, Published, CaughtUp, Stale, Lost, Refused, SourceFault, Faulted}
+use Rattle.indexing_run.specs.Places.{Batch, Held, Place, idle, reading, staged, uploaded, Indexer, IsStagedHeld, IsUploadedHeld, number_held}
+use Rattle.indexing_run.specs.Steps.{Taken, taken_from, max_batch_weight, start_of, read_limit, batch_after, Luck, step_indexer}
+
+-- ---- outcomes
+
+-- an outcome of the code is this outcome
+abbrev pub IsSaid : Said → IndexerOutcome → Type 0
+IsSaid said.Checkpoint outcome = outcome ≡ Checkpoint
+IsSaid (said.Read count) outcome = outcome ≡ Read count
+IsSaid (said.Staged number) outcome = outcome ≡ Staged number
+IsSaid (said.Uploaded number) outcome = outcome ≡ Uploaded number
+IsSaid (said.Published number) outcome = outcome ≡ Published number
+IsSaid said.CaughtUp outcome = outcome ≡ CaughtUp
+IsSaid (said.Stale partition current from) outcome = outcome ≡ Stale partition current from
+IsSaid (said.Lost number refusal) outcome = outcome ≡ Lost number refusal
+IsSaid (said.Refused refusal) outcome = outcome ≡ Refused refusal
+IsSaid (said.Fault error) outcome = (fault : Fault) × (outcome ≡ Faulted fault) × IsTrouble error (faulted fault)
+IsSaid (said.SourceFault before after) outcome = outcome ≡ SourceFault before after
+
+-- the words of an outcome of the code
+abbrev pub said_words : Said → List (List ℕ)
+said_words said.Checkpoint = codes "checkpoint" ∷ []
+said_words (said.Read count) = codes "read" ∷ decimal count ∷ []
+said_words (said.Staged number) = codes "staged" ∷ decimal number ∷ []
+said_words (said.Uploaded number) = codes "uploaded" ∷ decimal number ∷ []
+said_words (said.Published number) = codes "published" ∷ decimal number ∷ []
+said_words said.CaughtUp = codes "caughtup" ∷ []
+said_words (said.Stale partition current from) = codes "stale" ∷ partition ∷ decimal current ∷ decimal from ∷ []
+said_words (said.Lost number refusal) = codes "lost" ∷ decimal number ∷ refusal_words refusal
+said_words (said.Refused refusal) = codes "refused" ∷ refusal_words refusal
+said_words (said.Fault error) = error_words error
+said_words (said.SourceFault before after) = codes "sourcefault" ∷ decimal before ∷ decimal after ∷ []
+
+-- an outcome was given, or there was no memory for it
+abbrev pub Answers : Result Said AllocError → Option IndexerOutcome → Type 0
+Answers (Ok given) (Some outcome) = IsSaid given outcome
+Answers (Ok given) None = ⊥
+Answers (Err refused) (Some outcome) = ⊥
+Answers (Err refused) None = ⊤
+
+-- ---- what an indexer holds
+
+-- what is left of a queue from its current place on
+abbrev pub left_of : Queue → List Mark
+left_of queue = drop queue.current queue.marks.items
+
+-- a weight past 64 bits is kept as the greatest number
+abbrev pub kept_weight : List Placed → ℕ
+kept_weight documents = min (weight documents) most
+
+-- what was taken so far of a read
+abbrev pub taken_so_far : ℕ → List Placed → Taken
+taken_so_far count documents =
+    record { count = count; documents = documents; weight = weight documents; heavy = nat_lt max_batch_weight (weight documents) }
+
+pub record BatchStands (held : HeldBatch) (batch : Batch) : Type 0 where
+  pub queue : left_of held.queue ≡ batch.queue
+  pub parts : held.parts.items ≡ batch.parts
+  pub documents : held.documents ≡ batch.documents
+  pub count : held.count ≡ batch.count
+  pub weight : held.weight ≡ kept_weight batch.documents
+  pub first_read : held.first_read ≡ batch.first_read
+  pub closed : held.closed ≡ batch.closed
+
+-- what is read next: from where on, and how many records at most
+abbrev pub next_read : List Mark → ℕ → Option NextRead
+next_read [] count = None
+next_read (mark ∷ rest) count = Some (record { partition = mark.partition; from = mark.at; room = read_limit count })
+
+-- this is read of a batch: records from its first mark on, no more than there is room for
+pub record ReadsOn (batch : Batch) (mark : Mark) (rest : List Mark) (records : Records) : Type 0 where
+  pub queue : batch.queue ≡ mark ∷ rest
+  pub follows : Follows batch.parts mark
+  pub calm : weight batch.documents ≤ max_batch_weight
+  pub room : batch.count + length records.list ≤ docs_target
+
+-- the batch behind such a read at a moment
+abbrev pub batch_read : Batch → Mark → List Mark → Records → ℕ → Batch
+batch_read batch mark rest records now =
+    batch_after batch mark rest (taken_from mark.partition mark.at records.list (start_of batch)) records.end now
+
+-- what is held is what the place says, made of the log and in hand
+abbrev pub PlaceStands : Log → Core → HeldPlace → Place → Type 0
+PlaceStands log core places.Idle place = place ≡ idle
+PlaceStands log core (places.Reading held) place =
+    (batch : Batch) × (place ≡ reading batch) × BatchStands held batch × IsBatch log batch
+PlaceStands log core (places.Staged token bytes) place =
+    (held : Held) × (place ≡ staged held) × (token.number ≡ held.number) × (bytes ≡ split_file held.documents) × IsStagedHeld log core held
+PlaceStands log core (places.Uploaded token) place =
+    (held : Held) × (place ≡ uploaded held) × (token.number ≡ held.number) × IsUploadedHeld log core held
+
+-- A reader of a log that tells stands for an indexer, over a core and the log.
+pub record IndexerStands {L : Type 0} (tells : L → Option Log) (count : L → ℕ) (reader : Reader L) (indexer : Indexer) (core : Core) (log : Log) : Type 0 where
+  pub told : tells reader.log ≡ Some log
+  pub log_faults : count reader.log ≡ indexer.log_faults
+  pub assignment : reader.assignment ≡ indexer.assignment
+  pub assigned : IsAssigned indexer.assignment
+  pub place : PlaceStands log core reader.place indexer.place
+
+-- ---- a step
+
+-- the names for an indexer with this assignment were copied, or read of a log whose count was the first number and is the second
+abbrev pub NamesGiven : Option (List (List ℕ)) → Result (List (List ℕ)) ReadError → ℕ → ℕ → Log → Type 0
+NamesGiven (Some names) (Ok given) before now log = (given ≡ names) × (now ≡ before)
+NamesGiven (Some names) (Err (errors.Memory refused)) before now log = now ≡ before
+NamesGiven (Some names) (Err errors.Failed) before now log = ⊥
+NamesGiven None (Ok given) before now log = (given ≡ names_of log) × (before ≤ now)
+NamesGiven None (Err (errors.Memory refused)) before now log = before ≤ now
+NamesGiven None (Err errors.Failed) before now log = Rose before now × (before ≤ now)
+
+-- A step is the machine's with some luck, behind what other actors did before its call of the world.
+pub record StepsAs {L W : Type 0} (tells : L → Option Log) (count : L → ℕ) (Stands : W → Core → Log → Type 0) (Between : Core → Core → Type 0)
+    (result : Result Said AllocError) (indexer : Indexer) (core : Core) (log : Log) (reader : Reader L) (caller : W) : Type 0 where
+  pub mid : Core
+  pub passed : Between core mid
+  pub luck : Luck
+  pub outcome : Option IndexerOutcome
+  pub after : Indexer
+  pub behind : Core
+  pub did : step_indexer luck log indexer mid ≡ record { outcome = outcome; indexer = after; core = behind }
+  pub answer : Answers result outcome
+  pub stands : IndexerStands tells count reader after behind log
+  pub gate : Stands caller behind log
+  pub goes_on : GoesOn (number_held indexer.place) core behind
+  -- a number that it holds from now on was not staged before, or is the one that it held
+  pub apart : (n : ℕ) → has_staged (journal_of core) n ≡ true → number_held after.place ≡ Some n → number_held indexer.place ≡ Some n

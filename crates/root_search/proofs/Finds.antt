@@ -1,0 +1,86 @@
+-- What is found in files is the answer over their documents.
+use Rattle.std.proofs.Common.{◌≡◌, ℕ, zero, suc, ◌+◌, ◌<◌, ◌≤◌, get_or, arith, true, false, cond, List, [], ◌∷◌, ◌++◌, map, filter, length, take, refl, sym, ap, ap₂, ◌∙◌, subst, IsPermutation, IsSorted, append_assoc}
+use Rattle.std.specs.List.{AllByRecursion}
+use Rattle.std.proofs.lemmas.List.{take-map, take_more, take_all, length-map, append-nil, get_or-map}
+use Rattle.std.proofs.lemmas.List.Kept.{IsStrictlySortedBy-filter}
+use Rattle.std.proofs.lemmas.List.Elements.{filter-append}
+use Rattle.std.proofs.lemmas.List.Sorted.{IsPermutation-trans, IsPermutation-sym}
+use Rattle.meta_store.proofs.Lists.{IsPermutation-filter}
+use Rattle.doc_value.specs.Printed.{printed_doc}
+use Rattle.index_world.specs.Config.{logs_schema}
+use Rattle.index_world.specs.SplitFile.{split_file, IsPlaced}
+use Rattle.index_world.specs.Words.{matches}
+use Rattle.index_world.specs.declared.placed.Placed.{Placed}
+use Rattle.root_search.specs.Finding.{place_order, all_of, has_word, AreHeld}
+use Rattle.root_search.specs.Replies.{Found, answer, matching, default_hits}
+use Rattle.root_search.proofs.Orders.{sorted_unique}
+use Rattle.root_search.proofs.Records.{place_order_total}
+
+matching_is : (word : List ℕ) (documents : List Placed) → map (λ placed. placed.doc) (filter (has_word word) documents) ≡ matching word documents
+matching_is word [] = refl
+matching_is word (placed ∷ documents) =
+    elim (matches word placed.doc) as (λ b. map (λ p. p.doc) (cond b (placed ∷ filter (has_word word) documents) (filter (has_word word) documents))
+    ≡ cond b (placed.doc ∷ matching word documents) (matching word documents)) [
+      | true ↦ ap (λ l. placed.doc ∷ l) (matching_is word documents)
+      | false ↦ matching_is word documents
+    ]
+
+printed_docs : (list : List Placed) → map (λ placed. printed_doc logs_schema placed.doc) list ≡ map (printed_doc logs_schema) (map (λ placed. placed.doc) list)
+printed_docs [] = refl
+printed_docs (placed ∷ list) = ap (λ l. printed_doc logs_schema placed.doc ∷ l) (printed_docs list)
+
+pub answer_is : (word : List ℕ) (documents found : List Placed) → found ≡ filter (has_word word) documents →
+    Found (length found) (map (λ placed. printed_doc logs_schema placed.doc) (take default_hits found)) ≡ answer word documents
+answer_is word documents found e =
+    let docs : map (λ placed. placed.doc) found ≡ matching word documents = ap (map (λ (placed : Placed). placed.doc)) e ∙ matching_is word documents in
+    let count : length found ≡ length (matching word documents) = sym (length-map found (λ (placed : Placed). placed.doc)) ∙ ap length docs in
+    let hits : map (λ placed. printed_doc logs_schema placed.doc) (take default_hits found) ≡ map (printed_doc logs_schema) (take default_hits (matching word documents)) =
+    printed_docs (take default_hits found) ∙ ap (map (printed_doc logs_schema)) (sym (take-map (λ (placed : Placed). placed.doc) default_hits found) ∙ ap (take default_hits) docs) in
+    ap₂ Found count hits
+
+-- the documents that some files hold, each file's with the word
+pub found_more : (word : List ℕ) (lists : List (List Placed)) (list : List Placed) → filter (has_word word) (all_of (lists ++ list ∷ [])) ≡ filter (has_word word) (all_of lists) ++ filter (has_word word) list
+found_more word [] list = ap (filter (has_word word)) (append-nil list)
+found_more word (l ∷ lists) list =
+    filter-append (has_word word) l (all_of (lists ++ list ∷ []))
+    ∙ (ap (λ r. filter (has_word word) l ++ r) (found_more word lists list)
+    ∙ (sym (append_assoc (filter (has_word word) l) (filter (has_word word) (all_of lists)) (filter (has_word word) list))
+    ∙ ap (λ r. r ++ filter (has_word word) list) (sym (filter-append (has_word word) l (all_of lists)))))
+
+-- what was found, put in order
+pub found_in_order : (word : List ℕ) (files : List (ℕ × List ℕ)) (documents found sorted : List Placed) → (a : AreHeld files documents) → found ≡ filter (has_word word) (all_of a.held) → IsPermutation found sorted →
+    IsSorted place_order sorted → sorted ≡ filter (has_word word) documents
+found_in_order word files documents found sorted a e moved up =
+    sorted_unique place_order place_order_total (filter (has_word word) documents) sorted (IsStrictlySortedBy-filter place_order (has_word word) documents a.in_order)
+    (IsPermutation-trans _ _ _ (IsPermutation-sym _ _ (subst (λ l. IsPermutation l (filter (has_word word) documents)) (sym e) (IsPermutation-filter (has_word word) _ _ a.together))) moved) up
+
+-- ---- one file after the other
+
+pub record IsHeldAt (word : List ℕ) (held : List (List Placed)) (i : ℕ) (bytes : List ℕ) : Type 0 where
+  pub list : List Placed
+  pub spelled : bytes ≡ split_file list
+  pub placed : AllByRecursion IsPlaced list
+  pub more : filter (has_word word) (all_of (take (i + 1) held)) ≡ filter (has_word word) (all_of (take i held)) ++ filter (has_word word) list
+
+all_at : (P : List Placed → Type 0) (lists : List (List Placed)) (i : ℕ) (d : List Placed) → i < length lists → AllByRecursion P lists → P (get_or lists i d)
+all_at P [] i d lt all = absurd (omega arith)
+all_at P (list ∷ lists) zero d lt all = all.0
+all_at P (list ∷ lists) (suc i) d lt all = all_at P lists i d (omega (arith, lt)) all.1
+
+pub held_at : (word : List ℕ) (files : List (ℕ × List ℕ)) (documents : List Placed) (a : AreHeld files documents) (i : ℕ) (file : ℕ × List ℕ) → i < length files → file ≡ get_or files i file →
+    IsHeldAt word a.held i file.1
+held_at word files documents a i file lt is =
+    record {
+      list = get_or a.held i [];
+      spelled = ap (λ (f : ℕ × List ℕ). f.1) is ∙ (sym (get_or-map (λ (f : ℕ × List ℕ). f.1) files i file [] lt) ∙ (ap (λ l. get_or l i []) a.files_are ∙ get_or-map split_file a.held i [] [] there));
+      placed = all_at (AllByRecursion IsPlaced) a.held i [] there a.placed;
+      more = ap (λ l. filter (has_word word) (all_of l)) (take_more a.held i [] there) ∙ found_more word (take i a.held) (get_or a.held i []);
+    }
+  where
+    there : i < length a.held
+    there = omega (arith, lt, ap length a.files_are, length-map files (λ (f : ℕ × List ℕ). f.1), length-map a.held split_file)
+
+-- behind the last one
+pub held_all : (word : List ℕ) (files : List (ℕ × List ℕ)) (documents : List Placed) (a : AreHeld files documents) (i : ℕ) → length files ≤ i → filter (has_word word) (all_of (take i a.held)) ≡ filter (has_word word) (all_of a.held)
+held_all word files documents a i le =
+    ap (λ l. filter (has_word word) (all_of l)) (take_all i a.held (omega (arith, le, ap length a.files_are, length-map files (λ (f : ℕ × List ℕ). f.1), length-map a.held split_file)))

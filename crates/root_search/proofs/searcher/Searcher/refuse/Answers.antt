@@ -1,0 +1,17 @@
+use Rattle.std.proofs.Common.{ap, sym, subst, Ok, option_map}
+use Rattle.root_search.specs.Replies.{Refusal, Faulted}
+use Rattle.root_search.specs.Searching.{Ends}
+use Rattle.root_search.specs.Steps.{trouble_replied}
+use Rattle.root_search.proofs.Steps.{ends_short}
+use Rattle.root_search.proofs.searcher.Searcher.refuse.Goals as goal
+
+pub returns-in_err-refusal : goal.returns-in_err-refusal
+returns-in_err-refusal c trouble client core log is w =
+    subst (λ t. Ends c.from_residual.result c.args.self.now (trouble_replied c.args.revision t client core) log) (sym (c.in_err-refusal.ensures trouble is))
+    (ends_short c.from_residual.result c.args.self.now client core log c.from_residual.ensures.0 w)
+
+pub returns : goal.returns
+returns c trouble client core log is w =
+    let r = c.in_ok-refusal.ensures trouble is in
+    subst (λ t. Ends (Ok c.reply.result) c.reply.new.self (trouble_replied c.args.revision t client core) log) (sym r.1)
+    (c.reply.ensures (Refusal (Faulted r.0)) client core log (ap (option_map Refusal) r.2) w)
