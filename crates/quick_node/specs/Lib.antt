@@ -2,3 +2,4 @@ pub mod Reading
 pub mod Serve
 pub mod Pieces
 pub mod Held
+pub mod Ending
