@@ -1,13 +1,13 @@
 -- Where the counts stand still and nothing is late, an opening and a step are those with a calm luck, or find no memory.
-use Rattle.std.proofs.Common.{◌≡◌, ◌⊎◌, ℕ, ◌+◌, ◌<◌, ◌≤◌, min, List, [], ◌∷◌, length, refl, sym, ap, ◌∙◌, Bool, true, false, subst, inl, inr, arith, le-ltb}
+use Rattle.std.proofs.Common.{◌≡◌, ◌⊎◌, ℕ, ◌+◌, ◌<◌, min, List, [], ◌∷◌, length, refl, sym, ap, ◌∙◌, Bool, true, false, subst, inl, inr, arith, le-ltb}
 use Rattle.std.proofs.lemmas.Bool.{ne_eqb}
-use Rattle.std.specs.Prelude.{Option, Some, None, Result, Ok, Err, ⊤, nat_lt, drop, if◌then◌else◌, ◌==◌, ◌&&◌, ◌||◌}
+use Rattle.std.specs.Prelude.{Option, Some, None, Result, Ok, Err, ⊤, nat_lt, drop, if◌then◌else◌, ◌==◌, ◌||◌}
 use Rattle.meta_journal.specs.declared.entry.Act.TheVariants.{Publish}
 use Rattle.meta_journal.specs.declared.entry.Entry.{Entry}
 use Rattle.meta_journal.specs.Places.{split_key}
 use Rattle.source_checkpoint.specs.declared.ledger.Checkpoint.{Checkpoint}
 use Rattle.source_log.specs.Log.{Log, records_of}
-use Rattle.index_world.specs.Calls.{Fate, Call, Trouble, no_memory, Unmade, troubled, Unread, not_read, Gives, gives, risen, may_fail, begun, looked, asked, appended, file_made, asked_and_looked, fetched, with_standing, reborn, read_journal, unless_empty, load_by, loaded, calm_call, calm_fate}
+use Rattle.index_world.specs.Calls.{Fate, Call, Trouble, no_memory, Unmade, troubled, not_read, Gives, risen, may_fail, begun, looked, asked, file_made, asked_and_looked, fetched, with_standing, reborn, read_journal, unless_empty, load_by, loaded, calm_call, calm_fate}
 use Rattle.index_world.specs.Core.{Core, last_count}
 use Rattle.index_world.specs.Gate.{stage_call, publish_call, stage_act}
 use Rattle.index_world.specs.SplitFile.{split_file}
@@ -20,7 +20,7 @@ use Rattle.root_search.specs.Steps.{Request, no_request, opened, planned, Plan, 
 use Rattle.root_search.specs.Steps as searching
 use Rattle.node_run.specs.Calm.{IsStill}
 use Rattle.node_run.specs.Turns.{calm, indexing_luck, searching_luck}
-use Rattle.node_run.proofs.Counting.{landed_same, checkpoints_same, stage_same, upload_same, publish_same, given_same, plan_same, fetch_same, client_short_same, indexer_short_same}
+use Rattle.node_run.proofs.Counting.{landed_same, stage_same, upload_same, publish_same, given_same, plan_same, fetch_same}
 use Rattle.node_run.proofs.Calming.{Same, Calms, begun_still, calm_risen, false_by, not_fails, looked_calms, asked_calms, appended_calms, file_made_calms, asked_and_looked_calms, fetched_calms}
 
 -- ---- an indexer's step
@@ -39,7 +39,7 @@ take_calms : (luck : indexing.Luck) (log : Log) (indexer : Indexer) (core : Core
     StepCalms (take_checkpoints luck log indexer core) (take_checkpoints calm_indexing log indexer core)
 take_calms luck log indexer core s = checkpoints_calms log indexer (looked luck.world core) (looked calm_fate core) (looked_calms luck.world core s)
 
-checkpoints_log : (r : Result ⊤ Trouble) (log : Log) (indexer : Indexer) (core : Core) → (checkpoints_by r log indexer core).indexer.log_faults ≡ indexer.log_faults
+pub checkpoints_log : (r : Result ⊤ Trouble) (log : Log) (indexer : Indexer) (core : Core) → (checkpoints_by r log indexer core).indexer.log_faults ≡ indexer.log_faults
 checkpoints_log (Ok done) log indexer core = refl
 checkpoints_log (Err e) log indexer core = refl
 
@@ -128,7 +128,7 @@ load_count false second before core =
     ∙ ap (λ n. min (n + second.rises) last_count) (standing_count core.standing core)
 
 module _ (first second : Call) (core : Core) (s : IsStill core) where
-  load_still : risen core.store_faults first.rises ≡ core.store_faults → risen core.store_faults second.rises ≡ core.store_faults →
+  pub load_still : risen core.store_faults first.rises ≡ core.store_faults → risen core.store_faults second.rises ≡ core.store_faults →
       load_by false (may_fail first core.store_faults || may_fail second (begun first core).store_faults) second core.store_faults (begun first core)
       ≡ unless_empty (length core.history == 0) (reborn core)
   load_still r1 r2 =

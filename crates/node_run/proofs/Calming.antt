@@ -1,11 +1,11 @@
 -- Where the count of the store stands still and nothing is late, a call of the world gives what it gives with a calm fate,
 -- or finds no memory.
-use Rattle.std.proofs.Common.{◌≡◌, ◌⊎◌, ℕ, ◌+◌, ◌<◌, ◌≤◌, min, List, [], ◌∷◌, refl, sym, ap, ◌∙◌, Bool, true, false, subst, inl, inr, arith, le-ltb}
+use Rattle.std.proofs.Common.{◌≡◌, ◌⊎◌, ℕ, ◌<◌, List, [], ◌∷◌, refl, sym, ap, ◌∙◌, Bool, true, false, subst, inl, inr, arith, le-ltb}
 use Rattle.std.proofs.lemmas.Bool.{ne_eqb}
-use Rattle.std.specs.Prelude.{Option, Some, None, Result, Ok, Err, ⊤, is_some, slice_get, nat_lt, ◌==◌, ◌&&◌, ◌||◌}
+use Rattle.std.specs.Prelude.{Option, None, Result, Ok, Err, ⊤, is_some, slice_get, nat_lt, ◌==◌, ◌&&◌, ◌||◌}
 use Rattle.meta_journal.specs.declared.entry.Act.{Act}
 use Rattle.meta_journal.specs.declared.entry.Entry.{Entry}
-use Rattle.index_world.specs.Calls.{Fate, Call, Trouble, no_memory, Unmade, troubled, Gives, gives, Made, Making, risen, may_fail, land_at, all_landed, begun, made_behind, made_at, create_at_end, or_short, unless_short, asked_clock, asking, settle_with, settled_and_copied, and_then, entry_of, may_append, adopted_making, first_unless, transact, appended, looked, asked_and_looked, asked, file_by, file_made, got_file, file_got, fetched, calm_call, calm_fate}
+use Rattle.index_world.specs.Calls.{Fate, Call, Trouble, no_memory, Unmade, troubled, Gives, gives, risen, may_fail, land_at, all_landed, begun, made_behind, made_at, create_at_end, or_short, unless_short, asked_clock, asking, settle_with, settled_and_copied, and_then, entry_of, may_append, adopted_making, first_unless, transact, appended, looked, asked_and_looked, asked, file_by, file_made, got_file, file_got, fetched, calm_call, calm_fate}
 use Rattle.index_world.specs.Core.{Core, file_at, last_count}
 use Rattle.node_run.specs.Calm.{IsStill}
 use Rattle.node_run.proofs.Counting.{landed_same, tried_same, file_by_same, got_file_same}
@@ -94,7 +94,7 @@ asking_calms : {E A : Type 0} (b : Bool) (e : E) (core : Core) (next next' : Cor
 asking_calms true e core next next' h same = inl refl
 asking_calms false e core next next' h same = h same
 
-asked_still : (core : Core) → IsStill core → IsStill (asked_clock core)
+pub asked_still : (core : Core) → IsStill core → IsStill (asked_clock core)
 asked_still core s = record { late = s.late; standing = s.standing; unsure = s.unsure; below = s.below }
 
 -- ---- the calls

@@ -1,6 +1,6 @@
 -- Whatever lands and fails, the store's count never falls.
 use Rattle.std.proofs.Common.{◌≡◌, ℕ, ◌+◌, ◌≤◌, min, List, [], ◌∷◌, refl, sym, ap, ◌∙◌, Bool, true, false, subst, arith}
-use Rattle.std.specs.Prelude.{Option, Some, None, Result, Ok, Err, ⊤, if◌then◌else◌, ◌==◌, ◌||◌, slice_get, nat_le, length}
+use Rattle.std.specs.Prelude.{Option, Some, None, Result, Ok, Err, ⊤, if◌then◌else◌, ◌==◌, ◌||◌, slice_get, length}
 use Rattle.meta_journal.specs.declared.entry.Act.{Act}
 use Rattle.meta_journal.specs.declared.entry.Act.TheVariants.{Publish}
 use Rattle.meta_journal.specs.declared.entry.Entry.{Entry}
@@ -8,7 +8,7 @@ use Rattle.source_checkpoint.specs.declared.ledger.Checkpoint.{Checkpoint}
 use Rattle.source_log.specs.Log.{Log}
 use Rattle.index_world.specs.Calls.{Fate, Call, Trouble, faulted, no_memory, Unmade, troubled, Unread, not_read, Gives, Made, made, exists, failed, Making, may_fail, risen, entry_lands, file_lands, late_lands, land_at, all_landed, begun, tried, made_behind, made_at, create_at_end, taken_in, or_short, unless_short, asked_clock, asking, and_then_by, settled_and_copied, taken_unless, got_at, get_at_end, settle_made, settle_with, settled, fence_of, entry_of, may_append, last_made, last_unless, last_create, troubled_by, as_unmade, adopted_made, first_unless, transact, appended, looked, asked_and_looked, asked, file_by, file_made, got_file, file_got, fetched, with_standing, read_journal, unless_empty, load_by, loaded}
 use Rattle.index_world.specs.Calls as calls
-use Rattle.index_world.specs.Core.{Core, Late, late_entry, late_dead, late_file, file_at, last_count}
+use Rattle.index_world.specs.Core.{Core, Late, late_entry, late_dead, late_file, last_count}
 use Rattle.index_world.specs.Gate.{stage_call, publish_call, stage_act}
 use Rattle.index_world.specs.SplitFile.{split_file}
 use Rattle.indexing_run.specs.Outcomes as said
@@ -398,18 +398,18 @@ client_rises luck log client core =
 
 -- ---- a line
 
-assign_same : (place : Place) (i : ℕ) (names : List (List ℕ)) (indexer : Indexer) (node : Node) → (assign_at place i names indexer node).node.core ≡ node.core
+pub assign_same : (place : Place) (i : ℕ) (names : List (List ℕ)) (indexer : Indexer) (node : Node) → (assign_at place i names indexer node).node.core ≡ node.core
 assign_same idle i names indexer node = refl
 assign_same (reading batch) i names indexer node = refl
 assign_same (staged held) i names indexer node = refl
 assign_same (uploaded held) i names indexer node = refl
 
-open_same : (request : Request) (name text : List ℕ) (client : Client) (node : Node) → (open_by request name text client node).node.core ≡ node.core
+pub open_same : (request : Request) (name text : List ℕ) (client : Client) (node : Node) → (open_by request name text client node).node.core ≡ node.core
 open_same no_request name text client node = refl
 open_same (opened other) name text client node = refl
 open_same (planned plan) name text client node = refl
 
-restart_same : (r : Result ⊤ Unread) (core : Core) (node : Node) → (restart_by r core node).node.core ≡ core
+pub restart_same : (r : Result ⊤ Unread) (core : Core) (node : Node) → (restart_by r core node).node.core ≡ core
 restart_same (Ok done) core node = refl
 restart_same (Err (not_read (faulted fault))) core node = refl
 restart_same (Err (not_read no_memory)) core node = refl

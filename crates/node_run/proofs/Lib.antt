@@ -15,3 +15,6 @@ pub mod Ticking
 pub mod Zips
 pub mod Names
 pub mod Parts
+pub mod StillCalls
+pub mod LogCounts
+pub mod CalmTurns

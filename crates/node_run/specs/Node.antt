@@ -1,5 +1,5 @@
 -- A node: what one life of the program holds, and what each line of a schedule says and is answered.
-use Rattle.std.specs.Prelude.{ℕ, Bool, List, Option}
+use Rattle.std.specs.Prelude.{ℕ, Bool, List}
 use Rattle.source_log.specs.Log.{Log}
 use Rattle.index_world.specs.Calls.{Fault}
 use Rattle.index_world.specs.Core.{Core}

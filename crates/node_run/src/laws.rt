@@ -1,6 +1,6 @@
 //! What holds of each node, whatever lands and fails. Each law is the contract of a function that does nothing.
 
-ghost use Rattle.std.specs.Prelude.{◌≡◌, ◌⊎◌, ℕ, ◌≤◌, ◌<◌, min, Bool, false, List, [], ◌∷◌, ◌++◌, Option, Some, None};
+ghost use Rattle.std.specs.Prelude.{◌≡◌, ◌⊎◌, ℕ, ◌≤◌, ◌<◌, min, Bool, false, List, [], ◌∷◌, ◌++◌, length, All, Option, Some, None};
 ghost use Rattle.meta_journal.specs.declared.entry.Entry.{Entry};
 ghost use Rattle.source_log.specs.Log.{Log};
 ghost use Rattle.index_world.specs.Core.{Core, last_count};
@@ -11,8 +11,8 @@ ghost use Rattle.root_search.specs.Steps.{Client, step_client};
 ghost use Rattle.root_search.specs.Steps as searching;
 ghost use Rattle.node_run.specs.Lines.{Spells};
 ghost use Rattle.node_run.specs.Node.{Node, Line, Outcome};
-ghost use Rattle.node_run.specs.Calm.{IsStill};
-ghost use Rattle.node_run.specs.Turns.{Turn, Turns, calm, indexing_luck, searching_luck};
+ghost use Rattle.node_run.specs.Calm.{IsStill, log_counts, IsOfThese};
+ghost use Rattle.node_run.specs.Turns.{Turn, Turns, turns, calm, indexing_luck, searching_luck};
 
 /// A line adds to the history at its end, whatever it says.
 pub fn line_adds_to_the_history()
@@ -58,4 +58,12 @@ pub fn a_still_count_makes_a_search_step_calm()
         (step_client luck log client core).core.store_faults ≡ core.store_faults →
         ((step_client luck log client core).outcome ≡ None)
         ⊎ (step_client luck log client core ≡ step_client (searching_luck calm) log client core) }
+{}
+
+/// Where nothing is late and no count rises, a schedule is answered as with a calm luck.
+pub fn still_counts_make_a_schedule_calm()
+    ensures { (node last : Node) (lines : List Line) (outcomes : List Outcome) → IsStill node.core →
+        All (λ n. n < last_count) (log_counts node.indexers) → All (IsOfThese (length node.indexers)) lines → Turns node lines outcomes last →
+        last.core.store_faults ≡ node.core.store_faults → log_counts last.indexers ≡ log_counts node.indexers →
+        outcomes ≡ (turns node lines).outcomes }
 {}

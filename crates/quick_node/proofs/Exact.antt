@@ -1,8 +1,8 @@
 -- Where nothing failed, the status is that of the input.
-use Rattle.std.proofs.Common.{◌≡◌, ◌⊎◌, ℕ, ◌+◌, ◌<◌, ◌≤◌, Bool, true, false, List, [], ◌∷◌, ◌++◌, refl, sym, ap, ◌∙◌, subst, inl, inr, length, min, arith}
+use Rattle.std.proofs.Common.{◌≡◌, ◌⊎◌, ℕ, ◌+◌, ◌<◌, Bool, true, false, List, [], ◌∷◌, refl, sym, ap, ◌∙◌, subst, inl, inr, length, min, arith}
 use Rattle.std.proofs.lemmas.Bool.{eqb-true, ltb-true, or_cases}
 use Rattle.std.proofs.lemmas.List.{length-append}
-use Rattle.std.specs.Prelude.{◌≢◌, Option, Some, None, Result, Ok, Err, ⊤, slice_get, is_some, nat_lt, ◌==◌, ◌&&◌, ◌||◌}
+use Rattle.std.specs.Prelude.{◌≢◌, Option, Some, None, Result, Err, ⊤, slice_get, is_some, nat_lt, ◌==◌, ◌&&◌, ◌||◌}
 use Rattle.byte_fields.specs.Causes.{MayFail}
 use Rattle.meta_journal.specs.declared.entry.Entry.{Entry}
 use Rattle.index_world.specs.Calls.{Fate, Call, Fault, store_fault, faulted, no_memory, Unread, not_read, Gives, gives, risen, may_fail, entry_lands, file_lands, late_lands, land_at, all_landed, begun, loaded, load_by, unless_empty, read_journal}

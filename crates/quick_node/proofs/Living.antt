@@ -1,10 +1,10 @@
 -- What the node of a call gives for each of its ends: the journal went on, and the searches are answered.
-use Rattle.std.proofs.Common.{◌≡◌, ◌⊎◌, ℕ, List, [], ◌∷◌, ◌++◌, refl, sym, ap, ◌∙◌, subst, length, inl, inr}
-use Rattle.std.specs.Prelude.{Option, Some, None, Result, Ok, Err, ⊤}
+use Rattle.std.proofs.Common.{◌≡◌, List, [], ◌∷◌, ◌++◌, sym, ap, ◌∙◌, subst, length, inl, inr}
+use Rattle.std.specs.Prelude.{Some, None, Result, Ok, Err, ⊤}
 use Rattle.meta_journal.specs.declared.entry.Entry.{Entry}
-use Rattle.index_world.specs.Calls.{Unread, loaded}
+use Rattle.index_world.specs.Calls.{Unread}
 use Rattle.node_run.specs.Node.{Node, Line, Outcome}
-use Rattle.node_run.specs.Turns.{Turn, Turns}
+use Rattle.node_run.specs.Turns.{Turn}
 use Rattle.node_run.proofs.Growing.{Grows, same_grows, grows_on, loaded_grows, turn_grows, turns_grow, turns_go_on}
 use Rattle.quick_node.specs.Serve.{IsPrefixOf, Before, End, by_reading, no_index, opening_failed, read_failed, write_failed, out_of_memory, IsFresh, Opens, Answers, Unopened, RanShort, Lives, AnswersFrom}
 use Rattle.quick_node.proofs.Searching.{prefix_on, searches_follow}

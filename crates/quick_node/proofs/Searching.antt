@@ -15,13 +15,13 @@ use Rattle.index_world.specs.Seen.{visible}
 use Rattle.indexing_run.specs.Outcomes.{IndexerOutcome}
 use Rattle.indexing_run.specs.Places.{Place, idle, reading, staged, uploaded, Indexer}
 use Rattle.indexing_run.specs.Steps.{step_indexer}
-use Rattle.root_search.specs.Replies.{Said, Found, Refusal, Refused, NotBuilt, Faulted, answer}
+use Rattle.root_search.specs.Replies.{Said, Refusal, NotBuilt, Faulted, answer}
 use Rattle.root_search.specs.Requests.{word_asked}
 use Rattle.root_search.specs.Steps.{Client, Request, no_request, opened, planned, Plan, SearchStep, Idle, Planned, Fetched, Replied, Luck, Searched, plan_by, reply_with, trouble_replied, refusal_by, fetch_by, next_step, step_request, or_short, step_client, answer_of, without_request}
 use Rattle.node_run.specs.Node.{Node, Line, At, Assign, StepIndexer, RestartIndexer, RestartClient, RestartNode, Open, StepClient, Outcome, client_said}
 use Rattle.node_run.specs.Turns as node_turns
 use Rattle.node_run.specs.Turns.{full_turn, turn_with, turn_by, or_quiet, quiet, Turn, Turns, Turned, client_named, with_client, keep_client, said_by_indexer, indexer_stepped, indexer_turn_by, said_by_client, client_turn_by, client_stepped, assign_at, open_by, restart_by, indexer_at, indexing_luck, searching_luck}
-use Rattle.node_run.proofs.Growing.{Grows, same_grows, grows_on, asked_and_looked_grows, fetched_grows, indexer_grows, client_grows, loaded_grows, turn_grows, turns_grow}
+use Rattle.node_run.proofs.Growing.{Grows, same_grows, asked_and_looked_grows, fetched_grows, indexer_grows, client_grows, loaded_grows, turns_grow}
 use Rattle.quick_node.specs.Serve.{IsPrefixOf, Known, known_of, after_outcome, AnswersOne, AnswersFrom}
 
 same-true : (a b : List ℕ) → bytes_eq a b ≡ true → a ≡ b

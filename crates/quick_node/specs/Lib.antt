@@ -1,3 +1,5 @@
 pub mod Reading
 pub mod Serve
 pub mod Pieces
+pub mod Held
+pub mod Ending

@@ -91,6 +91,14 @@ end_of total at raw = min (at + length raw + 1) total
 abbrev pub Within : ℕ → ℕ → List ℕ → Type 0
 Within total at raw = (length raw ≤ max_line) × (end_of total at raw ≤ max_input)
 
+-- the limit on a line is passed, and at an earlier byte than the one on the input
+abbrev pub PassesLine : ℕ → List ℕ → Type 0
+PassesLine at raw = (max_line < length raw) × (at + max_line < max_input)
+
+-- the limit on the input is passed, and at no later byte than the one on a line
+abbrev pub PassesInput : ℕ → ℕ → List ℕ → Type 0
+PassesInput total at raw = (max_input < end_of total at raw) × ((length raw ≤ max_line) ⊎ (max_input ≤ at + max_line))
+
 abbrev pub IsBad : ℕ → List Line → List ℕ → Type 0
 IsBad readers before raw =
     ((line : Line) → Spells raw line → ⊥) ⊎ ((line : Line) × Spells raw line × (fit_of readers before line ≡ falls_or_unknown))
@@ -101,9 +109,8 @@ EndsAt readers total at before raw all_read = ⊥
 EndsAt readers total at before raw (bad_line number) = Within total at raw × (number ≡ suc (length before)) × IsBad readers before raw
 EndsAt readers total at before raw clients_over =
     Within total at raw × ((line : Line) × Spells raw line × (fit_of readers before line ≡ too_many_clients))
-EndsAt readers total at before raw line_over = (max_line < length raw) × (at + max_line < max_input)
-EndsAt readers total at before raw input_over =
-    (max_input < end_of total at raw) × ((length raw ≤ max_line) ⊎ (max_input ≤ at + max_line))
+EndsAt readers total at before raw line_over = PassesLine at raw
+EndsAt readers total at before raw input_over = PassesInput total at raw
 EndsAt readers total at before raw stopped = Unit {0}
 
 -- From these raw lines, behind these lines and so many bytes, these further lines are read, and the reading ends so.

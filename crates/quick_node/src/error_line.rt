@@ -1,6 +1,8 @@
 //! How a call of `serve` ends, its status and its last line.
 
-ghost use Rattle.std.specs.Prelude.{◌≡◌};
+ghost use Rattle.std.specs.Prelude.{◌≡◌, ◌∷◌, [], IfOk, OnOk, decimal, codes};
+ghost use Rattle.index_world.specs.Saying.{with_words};
+ghost use Rattle.quick_node.specs.Ending.{opening_status as status_of_opening, ended_status, limit_words, cause_words, last_line};
 
 use crate::lines::{MAX_INPUT, MAX_LINE};
 use byte_fields::Bytes;
@@ -27,7 +29,9 @@ pub enum End {
     Memory,
 }
 
-fn opening_status(error: &WorldError) -> u8 {
+fn opening_status(error: &WorldError) -> u8
+    ensures { result ≡ status_of_opening error.now }
+{
     match error {
         WorldError::Memory(_) => 11,
         WorldError::StoreFault { .. } => 4,
@@ -36,7 +40,9 @@ fn opening_status(error: &WorldError) -> u8 {
     }
 }
 
-pub fn status_of(end: &End) -> u8 {
+pub fn status_of(end: &End) -> u8
+    ensures { result ≡ ended_status end.now }
+{
     match end {
         End::Done => 0,
         End::BadWords => 1,
@@ -51,13 +57,17 @@ pub fn status_of(end: &End) -> u8 {
     }
 }
 
-fn put_limit(alloc: Global, out: &mut Bytes, name: &[u8], number: u64) -> Result<(), AllocError> {
+fn put_limit(alloc: Global, out: &mut Bytes, name: &[u8], number: u64) -> Result<(), AllocError>
+    ensures { OnOk result (out.new ≡ with_words out.old (limit_words name.now number)) }
+{
     put_word(out, b"limit")?;
     put_word(out, name)?;
     put_number(alloc, out, number)
 }
 
-fn put_cause(alloc: Global, out: &mut Bytes, end: &End) -> Result<(), AllocError> {
+fn put_cause(alloc: Global, out: &mut Bytes, end: &End) -> Result<(), AllocError>
+    ensures { OnOk result (out.new ≡ with_words out.old (cause_words end.now)) }
+{
     match end {
         End::Done => Ok(()),
         End::BadWords => put_word(out, b"badwords"),
@@ -76,7 +86,9 @@ fn put_cause(alloc: Global, out: &mut Bytes, end: &End) -> Result<(), AllocError
 }
 
 /// The last line, with its line feed; nothing with the statuses 0, 6 and 11.
-pub fn print_end(alloc: Global, end: &End) -> Result<Bytes, AllocError> {
+pub fn print_end(alloc: Global, end: &End) -> Result<Bytes, AllocError>
+    ensures { IfOk result (λ text. text ≡ last_line end.now) }
+{
     let mut out = Bytes::vacant(alloc);
     let status = status_of(end);
     if status == 0 || status == 6 || status == 11 {

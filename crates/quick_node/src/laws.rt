@@ -3,7 +3,7 @@
 ghost use Rattle.std.specs.Prelude.{◌≡◌, ◌⊎◌, ◌≢◌, ℕ, ◌<◌, List, [], ◌∷◌, ◌++◌, length, Option, Some};
 ghost use Rattle.meta_journal.specs.declared.entry.Entry.{Entry};
 ghost use Rattle.node_run.specs.Node.{Node, Line, Outcome};
-ghost use Rattle.node_run.specs.Turns.{Turn};
+ghost use Rattle.node_run.specs.Turns.{Turn, turns};
 ghost use Rattle.quick_node.specs.Reading.{Ending, stopped, Reads};
 ghost use Rattle.quick_node.specs.Serve.{IsPrefixOf, Before, After, End, HasEnd, IsFresh, Answers, Lives, IsShown, IsCalm, AnswersFrom, status_of, reading_status};
 
@@ -42,4 +42,12 @@ pub fn the_status_is_that_of_the_input()
         (end : End) (lines : List Line) (outcomes : List Outcome) → HasEnd before after lines end → Lives before end fresh lines outcomes last →
         0 < length history → (read : List Line) (ending : Ending) → ending ≢ stopped → Reads (length before.log_faults) before.input read ending →
         (status_of end ≡ reading_status ending) ⊎ (status_of end ≡ 11) }
+{}
+
+/// Where no count rose, none stands at its end and nothing was late, the outcomes are those of the node with a calm luck.
+pub fn the_outcomes_are_those_of_the_node()
+    ensures { (history : List Entry) (before : Before) (after : After) (fresh last : Node) →
+        IsFresh before history fresh → IsShown after last → IsCalm before after → before.kept.late ≡ [] →
+        (end : End) (lines : List Line) (outcomes : List Outcome) → HasEnd before after lines end → Lives before end fresh lines outcomes last →
+        outcomes ≡ (turns fresh lines).outcomes }
 {}

@@ -1,7 +1,9 @@
 //! The lines of an input, within the limits.
 
-ghost use Rattle.std.specs.Prelude.{◌≡◌, ◌<◌, ◌≤◌, ◌+◌, true, false, IfOk, vec_len, length};
-ghost use Rattle.quick_node.specs.Pieces.{GoesOn, IsLine};
+ghost use Rattle.std.specs.Prelude.{◌≡◌, ◌<◌, ◌≤◌, ◌+◌, true, false, IfOk, MatchResult, IsErr, IsOkAnd, Some, ℕ, [], List, ◌++◌, vec_len, length, take, drop};
+ghost use Rattle.byte_fields.specs.Causes.{HasCause};
+ghost use Rattle.quick_node.specs.Reading.{max_line, max_input};
+ghost use Rattle.quick_node.specs.Pieces.{GoesOn, IsLine, IsFault, EndsWith, Splits, Takes, Comes};
 
 use byte_fields::{Failed, Source};
 use std::alloc::{AllocError, Global};
@@ -38,12 +40,16 @@ pub struct Lines {
     line: Vec<u8>,
     ghost order: { from ≤ to },
     ghost within: { to ≤ vec_len chunk },
+    ghost room: { 0 < vec_len chunk },
     ghost limit: { taken ≤ 1073741824 },
 }
 
 impl Lines {
+    ghost use Rattle.quick_node.specs.Held.{held};
+
     pub fn start(alloc: Global) -> Result<Lines, AllocError>
-        ensures { IfOk result (λ lines. lines.taken ≡ 0) }
+        ensures taken { IfOk result (λ lines. lines.taken ≡ 0) }
+        ensures held { IfOk result (λ lines. held lines ≡ []) }
     {
         let mut chunk = Vec::new(alloc);
         chunk.resize(CHUNK, 0)?;
@@ -77,8 +83,7 @@ enum Taken {
 fn front_of(piece: &[u8]) -> (usize, bool)
     requires { 0 < length piece.now }
     ensures within { result.0 ≤ length piece.now }
-    ensures feed { result.1 ≡ true → result.0 + 1 ≤ length piece.now }
-    ensures some { result.1 ≡ false → 0 < result.0 }
+    ensures splits { Splits piece.now result.0 result.1 }
 {
     for (i, byte) in piece.iter().enumerate() {
         if *byte == b'\n' {
@@ -95,6 +100,7 @@ fn take_piece(line: &mut Vec<u8>, piece: &[u8], before: u64) -> Result<(Taken, u
     ensures within { IfOk result (λ x. x.1 ≤ length piece.now) }
     ensures limit { IfOk result (λ x. before + x.1 ≤ 1073741824) }
     ensures goes_on { IfOk result (λ x. GoesOn x.0 → 0 < x.1) }
+    ensures takes { length line.old.items ≤ max_line → IfOk result (λ x. Takes x.0 before x.1 piece.now line.old.items line.new.items) }
 {
     let (len, has_feed) = front_of(piece);
     let total = if has_feed { len + 1 } else { len };
@@ -114,10 +120,18 @@ fn take_piece(line: &mut Vec<u8>, piece: &[u8], before: u64) -> Result<(Taken, u
 }
 
 impl Lines {
+    ghost use Rattle.quick_node.specs.Held.{held};
+
     // Reads the next chunk. Gives how many bytes it has, 0 at the end.
     fn refill<R: Source>(&mut self, input: &mut R) -> Result<usize, Failed>
         ensures taken { self.new.taken ≡ self.old.taken }
+        ensures line { self.new.line ≡ self.old.line }
         ensures left { IfOk result (λ count. self.new.to ≡ self.new.from + count) }
+        ensures reads { (more : List ℕ) → R.left input.old ≡ Some more → MatchResult result
+            (λ count. (behind : List ℕ) × (R.left input.new ≡ Some behind)
+            × (more ≡ held self.new ++ behind) × (count ≡ 0 → more ≡ []))
+            (λ _. R.left input.new ≡ Some more) }
+        ensures cause { HasCause (R.fault_count input.old) (R.fault_count input.new) (IsErr result) }
     {
         let count = input.read(self.chunk.as_mut_slice())?;
         self.from = 0;
@@ -125,9 +139,30 @@ impl Lines {
         Ok(count)
     }
 
+    // Reads the next chunk where nothing is left of the last one. Says whether there is more.
+    fn fill<R: Source>(&mut self, input: &mut R) -> Result<bool, Failed>
+        ensures taken { self.new.taken ≡ self.old.taken }
+        ensures line { self.new.line ≡ self.old.line }
+        ensures some { IfOk result (λ some. some ≡ true → self.new.from < self.new.to) }
+        ensures reads { (more : List ℕ) → R.left input.old ≡ Some more → (behind : List ℕ) × (R.left input.new ≡ Some behind)
+            × IfOk result (λ some. (held self.old ++ more
+            ≡ held self.new ++ behind)
+            × (some ≡ false → held self.new ++ behind ≡ [])) }
+        ensures cause { HasCause (R.fault_count input.old) (R.fault_count input.new) (IsErr result) }
+    {
+        if self.from < self.to {
+            return Ok(true);
+        }
+        Ok(self.refill(input)? > 0)
+    }
+
     fn take(&mut self) -> Result<Taken, AllocError>
         requires { self.old.from < self.old.to }
-        ensures { IfOk result (λ taken. GoesOn taken → self.old.taken < self.new.taken) }
+        ensures goes_on { IfOk result (λ taken. GoesOn taken → self.old.taken < self.new.taken) }
+        ensures kept { (self.new.chunk ≡ self.old.chunk) × (self.new.to ≡ self.old.to) }
+        ensures takes { IfOk result (λ taken. (count : ℕ) × (self.new.from ≡ self.old.from + count) × (self.new.taken ≡ self.old.taken + count)
+            × (length self.old.line.items ≤ max_line →
+            Takes taken self.old.taken count (held self.old) self.old.line.items self.new.line.items)) }
     {
         let (taken, count) = take_piece(
             &mut self.line,
@@ -141,17 +176,19 @@ impl Lines {
 
     /// What comes next. Where it is a line, `line` gives it.
     pub fn next<R: Source>(&mut self, input: &mut R) -> Result<Next, AllocError>
-        ensures { IfOk result (λ next. IsLine next → self.old.taken < self.new.taken) }
+        ensures moves { IfOk result (λ next. IsLine next → self.old.taken < self.new.taken) }
+        ensures comes { (more : List ℕ) → R.left input.old ≡ Some more → IfOk result (λ next. (behind : List ℕ) × (R.left input.new ≡ Some behind)
+            × Comes next self.old.taken (held self.old ++ more)
+            self.new.line.items self.new.taken (held self.new ++ behind)) }
+        ensures cause { HasCause (R.fault_count input.old) (R.fault_count input.new) (IsOkAnd result IsFault) }
     {
         self.line.clear();
         let before = self.taken;
         'pieces: loop {
-            if self.from == self.to {
-                match self.refill(input) {
-                    Err(_) => return Ok(Next::Fault),
-                    Ok(0) => return Ok(last(before, self.taken)),
-                    Ok(_) => {}
-                }
+            match self.fill(input) {
+                Ok(true) => {}
+                Ok(false) => return Ok(last(before, self.taken)),
+                Err(_) => return Ok(Next::Fault),
             }
             match self.take()? {
                 Taken::More => {}
@@ -165,7 +202,7 @@ impl Lines {
 
 // What comes at the end of the input, which had so many bytes before the line and has so many now.
 fn last(before: u64, taken: u64) -> Next
-    ensures { IsLine result → before < taken }
+    ensures { EndsWith result before taken }
 {
     if before < taken {
         return Next::Line;

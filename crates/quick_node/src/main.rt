@@ -6,6 +6,7 @@ pub mod laws;
 mod lines;
 mod serving;
 mod streams;
+mod writing;
 
 use crate::serving::serve;
 use crate::streams::{StdSink, StdSource};

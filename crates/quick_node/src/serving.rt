@@ -5,7 +5,8 @@ ghost use Rattle.node_run.specs.Fitting.{IsNumbered};
 
 use crate::error_line::{End, print_end, status_of};
 use crate::lines::{Lines, Next};
-use byte_fields::{Bytes, Failed, Sink, Source};
+use crate::writing::write_all;
+use byte_fields::{Bytes, Sink, Source};
 use clock_time::{Clock, ScriptClock};
 use index_world::{Unopened, World, WorldError};
 use node_run::{Accepts, DriveNode, Line, LineError, Unstarted, read_line};
@@ -22,15 +23,6 @@ pub struct Finished<S> {
     pub store: S,
     pub store_faults: u64,
     pub log_faults: u64,
-}
-
-// Writes all of a text.
-fn write_all<W: Sink>(output: &mut W, text: &[u8]) -> Result<(), Failed> {
-    let mut at = 0;
-    'pieces: while at < text.len() {
-        at += output.write(&text[at..])?;
-    }
-    Ok(())
 }
 
 fn sum_of_faults<L: SourceLog>(logs: &[L]) -> u64 {

@@ -1,8 +1,16 @@
-use Rattle.std.proofs.Common.{◌≤◌, ◌-◌}
+use Rattle.std.proofs.Common.{◌≡◌, ◌≤◌, ◌-◌, ◌++◌, ℕ, List}
+use Rattle.std.specs.Prelude.{Some}
+use Rattle.quick_node.specs.Held.{held}
+use Rattle.quick_node.proofs.Feeding.{IsUnderWay}
 use Rattle.quick_node.proofs.lines.Lines.next.Given as goal
 
 abbrev pub invariant-pieces : goal.invariant-pieces
-invariant-pieces g l = l.before ≤ l.self.taken
+invariant-pieces g l = record {
+  reaches : (more : List ℕ) → g.R.Source.left l.fn.input ≡ Some more → (behind : List ℕ) × (g.R.Source.left l.input ≡ Some behind)
+      × IsUnderWay l.before (held l.fn.self ++ more) l.self.line.items l.self.taken (held l.self ++ behind);
+  counted : g.R.Source.fault_count l.fn.input ≤ g.R.Source.fault_count l.input;
+  ahead : l.before ≤ l.self.taken;
+}
 
 abbrev pub decreases-pieces : goal.decreases-pieces
 decreases-pieces g l = 1073741824 - l.self.taken

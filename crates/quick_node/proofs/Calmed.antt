@@ -1,0 +1,175 @@
+-- Where no count rose and nothing was late, the outcomes are those of the node with a calm luck.
+use Rattle.std.proofs.Common.{◌≡◌, ℕ, ◌+◌, ◌<◌, Bool, true, false, List, [], ◌∷◌, ◌++◌, length, map, refl, sym, ap, ◌∙◌, subst, inl, inr, arith}
+use Rattle.std.proofs.lemmas.Bool.{ltb-true}
+use Rattle.std.proofs.lemmas.List.{length-map}
+use Rattle.std.proofs.lemmas.List.Elements.{All-nil, All-cons}
+use Rattle.std.specs.Prelude.{None, Result, Ok, Err, ⊤, All, nat_lt, ◌==◌}
+use Rattle.meta_journal.specs.declared.entry.Entry.{Entry}
+use Rattle.index_world.specs.Calls.{no_memory, Unread, not_read, gives, reborn, unless_empty, loaded}
+use Rattle.index_world.specs.Calls as calls
+use Rattle.index_world.specs.Core.{Core, Late, last_count}
+use Rattle.index_world.specs.Standing.{late_object}
+use Rattle.node_run.specs.Calm.{IsStill, log_counts, IsOfThese}
+use Rattle.node_run.specs.Node.{Node, Line, At, Assign, StepIndexer, RestartIndexer, RestartClient, RestartNode, Open, StepClient, Outcome}
+use Rattle.node_run.specs.Turns.{Turns, turns, reader_of, Opening}
+use Rattle.node_run.proofs.Calming.{Calms}
+use Rattle.node_run.proofs.CalmSteps.{loaded_calms}
+use Rattle.node_run.proofs.CalmTurns.{count_between, calm_turns}
+use Rattle.node_run.proofs.Counting.{Rises, loaded_rises, turn_rises, turns_rise}
+use Rattle.node_run.proofs.LogCounts.{NoneFell, none_rose, turn_counted, turns_counted}
+use Rattle.quick_node.specs.Reading.{fits, falls_or_unknown, fit_if, fit_of, Ending, stopped, ReadsFrom, Reads, raw_lines}
+use Rattle.quick_node.specs.Serve.{Before, After, End, by_reading, no_index, opening_failed, read_failed, write_failed, out_of_memory, HasEnd, IsCalm, IsFresh, Opens, Answers, Unopened, RanShort, Lives, IsShown}
+
+-- ---- the lines that were read name readers that there are
+
+fit_holds : (b : Bool) → fit_if b falls_or_unknown ≡ fits → b ≡ true
+fit_holds true e = refl
+fit_holds false e = cc
+
+read_of_these : (readers : ℕ) (before : List Line) (line : Line) → fit_of readers before line ≡ fits → IsOfThese readers line
+read_of_these readers before (At moment) e = tt
+read_of_these readers before (Assign i names) e = ltb-true i readers (fit_holds (nat_lt i readers) e)
+read_of_these readers before (StepIndexer i) e = ltb-true i readers (fit_holds (nat_lt i readers) e)
+read_of_these readers before (RestartIndexer i) e = ltb-true i readers (fit_holds (nat_lt i readers) e)
+read_of_these readers before (RestartClient name) e = tt
+read_of_these readers before RestartNode e = tt
+read_of_these readers before (Open name text) e = tt
+read_of_these readers before (StepClient name) e = tt
+
+all_of_these : (readers total at : ℕ) (before : List Line) (raws : List (List ℕ)) (lines : List Line) (ending : Ending) →
+    ReadsFrom readers total at before raws lines ending → All (IsOfThese readers) lines
+all_of_these readers total at before [] [] ending r = All-nil (IsOfThese readers)
+all_of_these readers total at before [] (line ∷ lines) ending r = absurd r
+all_of_these readers total at before (raw ∷ raws) [] ending r = All-nil (IsOfThese readers)
+all_of_these readers total at before (raw ∷ raws) (line ∷ lines) ending r =
+    All-cons (IsOfThese readers) line lines (read_of_these readers before line r.2)
+    (all_of_these readers total (at + length raw + 1) (before ++ line ∷ []) raws lines ending r.3)
+
+-- ---- the node at entry
+
+none_late : (lates : List Late) → map late_object lates ≡ [] → lates ≡ []
+none_late [] e = refl
+none_late (late ∷ lates) e = cc
+
+reader_counts : (counts : List ℕ) → log_counts (map reader_of counts) ≡ counts
+reader_counts [] = refl
+reader_counts (count ∷ counts) = ap (λ ns. count ∷ ns) (reader_counts counts)
+
+not_both : (e : Unread) (done : ⊤) (r : Result ⊤ Unread) → r ≡ Err e → r ≡ Ok done → ⊥
+not_both e done r f g = cc
+
+-- an opening that was answered gives the core, born anew
+opened_reborn : (b : Bool) (core after : Core) → unless_empty b core ≡ gives (Ok tt) after → after ≡ core
+opened_reborn true core after e = absurd (not_both calls.no_index tt (unless_empty true core).answer refl (ap (λ g. g.answer) e))
+opened_reborn false core after e = ap (λ g. g.core) (sym e)
+
+module _ (history : List Entry) (before : Before) (after : After) (fresh last : Node) (is : IsFresh before history fresh) (shown : IsShown after last) (calm : IsCalm before after)
+    (late : before.kept.late ≡ []) where
+  opening : Opening
+  opening =
+      record {
+        log = before.log;
+        log_faults = before.log_faults;
+        history = history;
+        store_faults = before.store_faults;
+        files = fresh.core.files;
+        late = fresh.core.late;
+      }
+
+  fresh_count : fresh.core.store_faults ≡ before.store_faults
+  fresh_count = ap (λ n. n.core.store_faults) is.is
+
+  last_same : last.core.store_faults ≡ fresh.core.store_faults
+  last_same = shown.store_count ∙ sym calm.store.0 ∙ sym fresh_count
+
+  still : IsStill fresh.core
+  still =
+      record {
+        late = none_late fresh.core.late (is.stands.late ∙ late);
+        standing = ap (λ n. n.core.standing) is.is;
+        unsure = ap (λ n. n.core.unsure) is.is;
+        below = omega (arith, fresh_count, calm.store.0, calm.store.1);
+      }
+
+  fresh_counts : log_counts fresh.indexers ≡ before.log_faults
+  fresh_counts = ap (λ n. log_counts n.indexers) is.is ∙ reader_counts before.log_faults
+
+  last_counts : log_counts last.indexers ≡ log_counts fresh.indexers
+  last_counts = shown.log_count ∙ sym calm.log.0 ∙ sym fresh_counts
+
+  below : All (λ n. n < last_count) (log_counts fresh.indexers)
+  below = subst (λ ns. All (λ n. n < last_count) ns) (sym (fresh_counts ∙ calm.log.0)) calm.log.1
+
+  long : length fresh.indexers ≡ length before.log_faults
+  long = sym (length-map fresh.indexers (λ i. i.log_faults)) ∙ ap length fresh_counts
+
+  -- an opened node of which the counts didn't rise is the fresh one
+  opened_same : (opened : Node) (opens : Opens fresh (Ok tt) opened) → opened.core.store_faults ≡ fresh.core.store_faults → opened ≡ fresh
+  opened_same opened opens same = opens.is ∙ ap (λ c. record fresh { core = c }) core_same
+    where
+      by : Calms (not_read no_memory) (loaded opens.fate fresh.core) (unless_empty (length fresh.core.history == 0) (reborn fresh.core)) → opens.core ≡ reborn fresh.core
+      by (inl none) = absurd (not_both (not_read no_memory) tt (loaded opens.fate fresh.core).answer none (ap (λ g. g.answer) opens.did))
+      by (inr e) = opened_reborn (length fresh.core.history == 0) (reborn fresh.core) opens.core (sym e ∙ opens.did)
+
+      core_same : opens.core ≡ fresh.core
+      core_same =
+          by (loaded_calms opens.fate fresh.core still (ap (λ g. g.core.store_faults) opens.did ∙ ap (λ n. n.core.store_faults) (sym opens.is) ∙ same))
+          ∙ ap (λ n. reborn n.core) is.is ∙ ap (λ n. n.core) (sym is.is)
+
+  opened_rises : (opened : Node) (opens : Opens fresh (Ok tt) opened) → Rises fresh.core opened.core
+  opened_rises opened opens =
+      subst (λ n. Rises fresh.core n.core) (sym opens.is) (subst (λ g. Rises fresh.core g.core) opens.did (loaded_rises opens.fate fresh.core))
+
+  answers_calm : (lines : List Line) (outcomes : List Outcome) (mid : Node) → Answers fresh lines outcomes mid → mid.core.store_faults ≡ fresh.core.store_faults →
+      log_counts mid.indexers ≡ log_counts fresh.indexers → All (IsOfThese (length before.log_faults)) lines → outcomes ≡ (turns fresh lines).outcomes
+  answers_calm lines outcomes mid a same counts of =
+      calm_turns fresh mid lines outcomes still below (subst (λ n. All (IsOfThese n) lines) (sym long) of) (subst (λ n. Turns n lines outcomes mid) begins a.turns) same counts
+    where
+      begins : a.opened ≡ fresh
+      begins =
+          opened_same a.opened a.opens
+          (count_between fresh.core.store_faults a.opened.core.store_faults mid.core.store_faults same still.below (opened_rises a.opened a.opens)
+          (turns_rise a.opened mid lines outcomes a.turns))
+
+  none_calm : (lines : List Line) (outcomes : List Outcome) → lines ≡ [] → outcomes ≡ [] → outcomes ≡ (turns fresh lines).outcomes
+  none_calm lines outcomes no_lines no_outcomes = no_outcomes ∙ ap (λ ls. (turns fresh ls).outcomes) (sym no_lines)
+
+  unopened_calm : (lines : List Line) (outcomes : List Outcome) (why : Unread) → Unopened fresh lines outcomes why last → outcomes ≡ (turns fresh lines).outcomes
+  unopened_calm lines outcomes why u = none_calm lines outcomes u.no_lines u.no_outcomes
+
+  short_calm : (lines : List Line) (outcomes : List Outcome) → RanShort before fresh lines outcomes last → All (IsOfThese (length before.log_faults)) lines →
+      outcomes ≡ (turns fresh lines).outcomes
+  short_calm lines outcomes r of = answers_calm lines outcomes r.mid r.answers mid_same mid_counts of
+    where
+      opened : Node
+      opened = r.answers.opened
+
+      mid_same : r.mid.core.store_faults ≡ fresh.core.store_faults
+      mid_same =
+          count_between fresh.core.store_faults r.mid.core.store_faults last.core.store_faults last_same still.below
+          (omega (arith, opened_rises opened r.answers.opens, turns_rise opened r.mid lines outcomes r.answers.turns))
+          (turn_rises r.mid r.line None last r.turn)
+
+      opened_counts : log_counts opened.indexers ≡ log_counts fresh.indexers
+      opened_counts = ap (λ n. log_counts n.indexers) r.answers.opens.is
+
+      mid_counts : log_counts r.mid.indexers ≡ log_counts fresh.indexers
+      mid_counts =
+          none_rose (log_counts fresh.indexers) (log_counts r.mid.indexers) below
+          (subst (λ ns. NoneFell ns (log_counts r.mid.indexers)) opened_counts (turns_counted opened r.mid lines outcomes r.answers.turns))
+          (subst (λ ns. NoneFell (log_counts r.mid.indexers) ns) last_counts (turn_counted r.mid r.line None last r.turn))
+
+  read_all : (lines : List Line) (ending : Ending) → Reads (length before.log_faults) before.input lines ending → All (IsOfThese (length before.log_faults)) lines
+  read_all lines ending r = all_of_these (length before.log_faults) (length before.input) 0 [] (raw_lines before.input) lines ending r
+
+  pub lives_calm : (end : End) (lines : List Line) (outcomes : List Outcome) → HasEnd before after lines end → Lives before end fresh lines outcomes last →
+      outcomes ≡ (turns fresh lines).outcomes
+  lives_calm (by_reading ending) lines outcomes ends l = answers_calm lines outcomes last l last_same last_counts (read_all lines ending ends.1)
+  lives_calm no_index lines outcomes ends l = unopened_calm lines outcomes _ l
+  lives_calm (opening_failed low high) lines outcomes ends l = unopened_calm lines outcomes _ l
+  lives_calm read_failed lines outcomes ends l = answers_calm lines outcomes last l last_same last_counts (read_all lines stopped ends.0)
+  lives_calm write_failed lines outcomes ends l = answers_calm lines outcomes last l last_same last_counts (read_all lines stopped ends.0)
+  lives_calm out_of_memory lines outcomes ends (inl none) = none_calm lines outcomes none.0 none.1
+  lives_calm out_of_memory lines outcomes ends (inr (inl u)) = unopened_calm lines outcomes _ u
+  lives_calm out_of_memory lines outcomes ends (inr (inr (inl a))) = answers_calm lines outcomes last a last_same last_counts (read_all lines stopped ends)
+  lives_calm out_of_memory lines outcomes ends (inr (inr (inr r))) = short_calm lines outcomes r (read_all lines stopped ends)
