@@ -1,13 +1,12 @@
 -- What the cases of a value say.
-use Rattle.std.proofs.Common.{◌≡◌, ℕ, suc, ◌≤◌, ◌<◌, ◌+◌, max, nat_le, Bool, true, false, List, [], ◌∷◌, Option, Some, None, is_some, Result, Ok, Err, is_ok, refl, sym, ap, ◌∙◌, arith, inl, inr}
+use Rattle.std.proofs.Common.{◌≡◌, ℕ, suc, max, nat_le, true, false, List, Option, Some, None, is_some, is_ok, refl, ap, arith, inl, inr}
 use Rattle.std.proofs.lemmas.Bool.{cases_Bool}
 use Rattle.std.specs.Option.{ok_or}
 use Rattle.std.specs.Result.{result_ok}
 use Rattle.std.proofs.lemmas.Bool.Decides.{nat_tests}
-use Rattle.serde_json.specs.Data.{Data, null, boolean, number, string, array, object, Items, no_items, item, Members, no_members, member, depth, items_depth, members_depth}
-use Rattle.serde_json.specs.Find.{as_null, as_str, as_array, as_object}
+use Rattle.serde_json.specs.Data.{Data, null, boolean, number, string, array, object, Items, Members, depth, items_depth, members_depth}
+use Rattle.serde_json.specs.Find.{as_null, as_array, as_object}
 use Rattle.index_config.specs.declared.config.IndexConfig.{IndexConfig}
-use Rattle.doc_mapping.specs.declared.reject.Reject.{Reject}
 use Rattle.doc_mapping.specs.declared.reject.Reject.TheVariants.{WrongType}
 use Rattle.doc_mapping.specs.Faults.{unless, members_fault, inner_fault}
 

@@ -1,3 +1,4 @@
 pub mod Choices
 pub mod Splitting
 pub mod Answering
+pub mod Rising

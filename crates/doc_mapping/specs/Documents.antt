@@ -1,5 +1,5 @@
 -- The document of a record: for each path of the schema the values that stand there.
-use Rattle.std.specs.Prelude.{ℕ, suc, ◌==◌, ◌||◌, Bool, true, false, List, [], ◌∷◌, ◌++◌, Option, Some, None, option_and_then, ℤ}
+use Rattle.std.specs.Prelude.{ℕ, suc, ◌==◌, ◌||◌, Bool, false, List, [], ◌∷◌, ◌++◌, Option, Some, None, option_and_then, ℤ}
 use Rattle.serde_json.specs.Data.{Data, Items, no_items, item}
 use Rattle.serde_json.specs.Find.{get, as_bool, as_str, as_array}
 use Rattle.clock_time.specs.Datetimes.{rfc3339_seconds, unix_seconds}

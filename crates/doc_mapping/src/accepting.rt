@@ -4,6 +4,7 @@ ghost use Rattle.doc_mapping.specs.Answer.{answer, read_answer, lacks_timestamp,
 ghost use Rattle.doc_mapping.specs.Documents.{has_number};
 
 use crate::documents::doc_of;
+use crate::faults::paths_rise;
 use crate::levels::is_within;
 use crate::reject::Reject;
 use crate::walk::members_fault;
@@ -55,8 +56,9 @@ fn accept_value(alloc: Global, config: &IndexConfig, value: &Value) -> Result<Do
     if !is_within(value, MAX_LEVELS) {
         return Err(Reject::TooDeep);
     }
+    let rise = paths_rise(&config.schema.fields);
     let root = Text::vacant(alloc);
-    if let Some(refusal) = members_fault(alloc, config, &root, map, MAX_LEVELS)? {
+    if let Some(refusal) = members_fault(alloc, config, rise, &root, map, MAX_LEVELS)? {
         return Err(refusal);
     }
     let doc = doc_of(alloc, &config.schema.fields, value)?;

@@ -1,15 +1,19 @@
-ghost use Rattle.std.specs.Prelude.{◌≡◌, Some, None, is_some};
+ghost use Rattle.std.specs.Prelude.{◌≡◌, Some, None, is_some, IsTrue};
+ghost use Rattle.std.specs.Ordering.{nat_cmp, is_lt};
+ghost use Rattle.std.specs.Cmp.Lexicographic.{slice_cmp};
 ghost use Rattle.serde_json.specs.View.{view, items_view};
 ghost use Rattle.clock_time.specs.Datetimes.{rfc3339_seconds, unix_seconds};
 ghost use Rattle.serde_json.specs.Find.{as_str, as_array};
-ghost use Rattle.doc_value.specs.Documents as schema;
+ghost use Rattle.doc_value.specs.Documents as words;
+ghost use Rattle.doc_value.specs.Documents.{PathsRise};
 ghost use Rattle.doc_mapping.specs.Faults as spec;
 
 use crate::reject::Reject;
 use clock_time::{read_rfc3339, read_unix};
-use doc_value::{Field, Kind, Text};
+use doc_value::{Field, Fields, Kind, Schema, Text};
 use index_config::{FieldFormats, Formats, Mode};
 use serde_json::Value;
+use std::cmp::Ordering;
 
 /// A refusal unless a test passes.
 pub fn unless(passes: bool, refusal: Reject) -> Option<Reject>
@@ -139,9 +143,42 @@ pub fn is_object(fields: &[Field], start: &[u8]) -> bool
     false
 }
 
-/// The number of the field with this path.
-pub fn number_of(fields: &[Field], path: &[u8]) -> Option<usize>
-    ensures { result ≡ schema.number_of fields.now path.now }
+/// Whether one path comes before another in byte order.
+fn is_before(path: &[u8], other: &[u8]) -> bool
+    ensures { result ≡ is_lt (slice_cmp nat_cmp path.now other.now) }
+{
+    path.cmp(other) == Ordering::Less
+}
+
+/// Whether each path comes before the next.
+pub fn paths_rise(fields: &Fields) -> bool
+    ensures { IsTrue result → PathsRise fields.now }
+{
+    let mut left = fields.len();
+    while left > 1 {
+        left -= 1;
+        let path = fields.at(left - 1).path.as_slice();
+        if !is_before(path, fields.at(left).path.as_slice()) {
+            return false;
+        }
+    }
+    true
+}
+
+/// The number of the field with this path, found in logarithmic time where the paths rise.
+pub fn number_of(schema: &Schema, rise: bool, path: &[u8]) -> Option<usize>
+    requires { IsTrue rise → PathsRise schema.now.fields }
+    ensures { result ≡ words.number_of schema.now.fields path.now }
+{
+    if rise {
+        return schema.number_of(path);
+    }
+    first_number_of(schema.fields.as_slice(), path)
+}
+
+/// The number of the first field with this path, looked for one by one.
+fn first_number_of(fields: &[Field], path: &[u8]) -> Option<usize>
+    ensures { result ≡ words.number_of fields.now path.now }
 {
     for (number, field) in fields.iter().enumerate() {
         if field.path.as_slice() == path {

@@ -106,37 +106,155 @@ fn is_answered(
 }
 
 #[test]
-fn records_are_mapped(rt: HostRuntime) -> Result<(), AllocError> {
-    let alloc = rt.alloc();
-    let config = config_in(alloc, Mode::Strict, None)?;
-    assert!(rt; is_answered(alloc, &config, "{\"body\":null}", "{}")?);
-    assert!(rt; is_answered(alloc, &config, "{\"list\":\"a\",\"ts\":-0}", "WrongType ts")?);
-    assert!(rt; is_answered(alloc, &config, "{\"o\":{\"w\":1}}", "{\"o\":{\"w\":1}}")?);
+fn texts_and_keys_are_read_or_refused(rt: HostRuntime) -> Result<(), AllocError> {
+    let config = config_in(rt.alloc(), Mode::Strict, None)?;
+    for (record, want) in [
+        ("", "NotJson"),
+        ("oops", "NotJson"),
+        ("{\"body\":", "NotJson"),
+        ("{\"body\":\"a\"}x", "NotJson"),
+        ("[]", "NotObject"),
+        ("7", "NotObject"),
+        ("null", "NotObject"),
+        ("{}", "{}"),
+        ("{\"size\":1}", "Unmapped size"),
+        ("{\"size\":null}", "Unmapped size"),
+        ("{\"size\":[]}", "Unmapped size"),
+        ("{\"body\":\"red fox\"}", "{\"body\":\"red fox\"}"),
+        ("{\"body\":7}", "WrongType body"),
+        ("{\"body\":null}", "{}"),
+        ("{\"body\":[]}", "WrongType body"),
+        ("{\"body\":[\"a\"]}", "WrongType body"),
+        ("{\"body\":1,\"body\":\"b\"}", "{\"body\":\"b\"}"),
+    ] {
+        assert!(rt; is_answered(rt.alloc(), &config, record, want)?, "{record}");
+    }
     Ok(())
 }
 
 #[test]
-fn records_are_refused(rt: HostRuntime) -> Result<(), AllocError> {
-    let alloc = rt.alloc();
-    let config = config_in(alloc, Mode::Strict, None)?;
-    assert!(rt; is_answered(alloc, &config, "[]", "NotObject")?);
-    assert!(rt; is_answered(alloc, &config, "{\"size\":1}", "Unmapped size")?);
-    assert!(rt; is_answered(alloc, &config, "{\"body\":7}", "WrongType body")?);
+fn numbers_and_lists_are_read_or_refused(rt: HostRuntime) -> Result<(), AllocError> {
+    let config = config_in(rt.alloc(), Mode::Strict, None)?;
+    for (record, want) in [
+        ("{\"count\":0}", "{\"count\":0}"),
+        (
+            "{\"count\":18446744073709551615}",
+            "{\"count\":18446744073709551615}",
+        ),
+        ("{\"count\":-1}", "WrongType count"),
+        ("{\"count\":1.0}", "WrongType count"),
+        ("{\"count\":18446744073709551616}", "WrongType count"),
+        ("{\"done\":true}", "{\"done\":true}"),
+        ("{\"done\":1}", "WrongType done"),
+        ("{\"list\":\"a\"}", "{\"list\":[\"a\"]}"),
+        ("{\"list\":[\"a\",\"b\"]}", "{\"list\":[\"a\",\"b\"]}"),
+        ("{\"list\":[]}", "{}"),
+        ("{\"list\":[\"a\",null]}", "WrongType list"),
+        ("{\"list\":[\"a\",7]}", "WrongType list"),
+        ("{\"list\":{}}", "WrongType list"),
+        (
+            "{\"number\":-9223372036854775808}",
+            "{\"number\":-9223372036854775808}",
+        ),
+        (
+            "{\"number\":9223372036854775807}",
+            "{\"number\":9223372036854775807}",
+        ),
+        ("{\"number\":9223372036854775808}", "WrongType number"),
+        ("{\"number\":-0}", "WrongType number"),
+        ("{\"number\":\"7\"}", "WrongType number"),
+    ] {
+        assert!(rt; is_answered(rt.alloc(), &config, record, want)?, "{record}");
+    }
+    Ok(())
+}
+
+#[test]
+fn objects_are_read_or_refused(rt: HostRuntime) -> Result<(), AllocError> {
+    let config = config_in(rt.alloc(), Mode::Strict, None)?;
+    for (record, want) in [
+        ("{\"o\":{\"w\":1}}", "{\"o\":{\"w\":1}}"),
+        (
+            "{\"o\":{\"p\":{\"w\":\"x\"},\"w\":1}}",
+            "{\"o\":{\"p\":{\"w\":\"x\"},\"w\":1}}",
+        ),
+        ("{\"o\":null}", "{}"),
+        ("{\"o\":{\"p\":null}}", "{}"),
+        ("{\"o\":5}", "WrongType o"),
+        ("{\"o\":{\"p\":[]}}", "WrongType o.p"),
+        ("{\"o\":{\"v\":1}}", "Unmapped o.v"),
+        ("{\"o.w\":1}", "Unmapped o.w"),
+        (
+            "{\"o\":{\"p\":{\"w\":1},\"w\":\"x\"},\"zz\":1}",
+            "WrongType o.p.w",
+        ),
+        ("{\"zz\":1,\"number\":\"x\"}", "WrongType number"),
+    ] {
+        assert!(rt; is_answered(rt.alloc(), &config, record, want)?, "{record}");
+    }
+    Ok(())
+}
+
+#[test]
+fn datetimes_are_read_or_refused(rt: HostRuntime) -> Result<(), AllocError> {
+    let config = config_in(rt.alloc(), Mode::Strict, None)?;
+    for (record, want) in [
+        ("{\"spelled\":\"1970-01-01T00:00:01Z\"}", "{\"spelled\":1}"),
+        ("{\"spelled\":\"yesterday\"}", "BadDate spelled"),
+        ("{\"spelled\":5}", "WrongType spelled"),
+        ("{\"ts\":\"1969-12-31T23:59:59.5Z\"}", "{\"ts\":-1}"),
+        ("{\"ts\":1700000000123}", "{\"ts\":1700000000}"),
+        ("{\"ts\":8589934592}", "BadDate ts"),
+        ("{\"ts\":-1}", "BadDate ts"),
+        ("{\"ts\":9223372036854775808}", "BadDate ts"),
+        ("{\"ts\":18446744073709551616}", "WrongType ts"),
+        ("{\"ts\":1.5}", "WrongType ts"),
+        ("{\"ts\":true}", "WrongType ts"),
+        ("{\"unix\":7}", "{\"unix\":7}"),
+        ("{\"unix\":\"1970-01-01T00:00:01Z\"}", "WrongType unix"),
+    ] {
+        assert!(rt; is_answered(rt.alloc(), &config, record, want)?, "{record}");
+    }
     Ok(())
 }
 
 #[test]
 fn timestamps_are_asked_for(rt: HostRuntime) -> Result<(), AllocError> {
+    let config = config_in(rt.alloc(), Mode::Lenient, Some(8))?;
+    for (record, want) in [
+        ("{\"ts\":1}", "{\"ts\":1}"),
+        ("{\"ts\":1,\"size\":1,\"o.w\":2}", "{\"ts\":1}"),
+        ("{\"ts\":null}", "MissingTimestamp"),
+        ("{}", "MissingTimestamp"),
+        ("{\"size\":1}", "MissingTimestamp"),
+        ("{\"number\":\"x\"}", "WrongType number"),
+        ("{\"ts\":1700000000123,\"x\":1}", "{\"ts\":1700000000}"),
+    ] {
+        assert!(rt; is_answered(rt.alloc(), &config, record, want)?, "{record}");
+    }
+    Ok(())
+}
+
+fn nested(alloc: Global, levels: usize) -> Result<Bytes, AllocError> {
+    let mut text = Bytes::from_slice(alloc, b"{\"x\":")?;
+    for _ in 0..levels {
+        text.push(b'[')?;
+    }
+    for _ in 0..levels {
+        text.push(b']')?;
+    }
+    text.push(b'}')?;
+    Ok(text)
+}
+
+#[test]
+fn deep_records_are_refused(rt: HostRuntime) -> Result<(), AllocError> {
     let alloc = rt.alloc();
-    let config = config_in(alloc, Mode::Lenient, Some(8))?;
-    assert!(rt;
-        is_answered(
-            alloc,
-            &config,
-            "{\"ts\":1700000000123,\"x\":1}",
-            "{\"ts\":1700000000}"
-        )?
-    );
-    assert!(rt; is_answered(alloc, &config, "{\"x\":1}", "MissingTimestamp")?);
+    let config = config_in(alloc, Mode::Strict, None)?;
+    for (levels, want) in [(31, "Unmapped x"), (32, "TooDeep")] {
+        let record = nested(alloc, levels)?;
+        let answer = shown(alloc, &config, record.as_slice())?;
+        assert!(rt; answer.as_slice() == want.as_bytes(), "{levels}");
+    }
     Ok(())
 }

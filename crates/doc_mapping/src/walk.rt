@@ -1,4 +1,5 @@
-ghost use Rattle.std.specs.Prelude.{◌≡◌, ◌<◌, ◌≤◌, ◌++◌, ◌∷◌, [], slice_get, IfOk};
+ghost use Rattle.std.specs.Prelude.{◌≡◌, ◌<◌, ◌≤◌, ◌++◌, ◌∷◌, [], slice_get, IfOk, IsTrue};
+ghost use Rattle.doc_value.specs.Documents.{PathsRise};
 ghost use Rattle.serde_json.specs.Data.{depth, members_depth};
 ghost use Rattle.serde_json.specs.View.{view, members_view};
 ghost use Rattle.doc_mapping.specs.Faults as spec;
@@ -15,15 +16,17 @@ use std::alloc::{AllocError, Global};
 pub fn members_fault(
     alloc: Global,
     config: &IndexConfig,
+    rise: bool,
     prefix: &Text,
     map: &Map<String, Value>,
     levels: usize,
 ) -> Result<Option<Reject>, AllocError>
-    requires { members_depth (members_view map.now.entries) ≤ levels }
+    requires rising { IsTrue rise → PathsRise config.now.schema.fields }
+    requires shallow { members_depth (members_view map.now.entries) ≤ levels }
     ensures { IfOk result (λ fault. fault ≡ spec.members_fault config.now prefix.now (members_view map.now.entries)) }
 {
     for (key, value) in map {
-        let fault = key_fault(alloc, config, prefix, key.as_str(), value, levels)?;
+        let fault = key_fault(alloc, config, rise, prefix, key.as_str(), value, levels)?;
         if fault.is_some() {
             return Ok(fault);
         }
@@ -36,12 +39,14 @@ pub fn members_fault(
 fn key_fault(
     alloc: Global,
     config: &IndexConfig,
+    rise: bool,
     prefix: &Text,
     key: &str,
     value: &Value,
     levels: usize,
 ) -> Result<Option<Reject>, AllocError>
-    requires { depth (view value.now) ≤ levels }
+    requires rising { IsTrue rise → PathsRise config.now.schema.fields }
+    requires shallow { depth (view value.now) ≤ levels }
     ensures { IfOk result (λ fault. fault ≡
         spec.key_fault config.now (spec.under prefix.now key.now) key.now (view value.now)
         (spec.inner_fault config.now (spec.under prefix.now key.now) (view value.now))) }
@@ -50,14 +55,14 @@ fn key_fault(
     if has_dot(key) {
         return Ok(unmapped(config.mode, path));
     }
-    if let Some(number) = number_of(config.schema.fields.as_slice(), path.as_slice()) {
+    if let Some(number) = number_of(&config.schema, rise, path.as_slice()) {
         return Ok(field_fault(config, number, path, value));
     }
     if !lies_above_fields(alloc, config, &path)? {
         return Ok(unmapped(config.mode, path));
     }
     match value.as_object() {
-        Some(inner) => members_fault(alloc, config, &path, inner, levels - 1),
+        Some(inner) => members_fault(alloc, config, rise, &path, inner, levels - 1),
         None => Ok(unless(value.is_null(), Reject::WrongType { path })),
     }
 }
