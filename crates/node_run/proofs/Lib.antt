@@ -18,3 +18,4 @@ pub mod Parts
 pub mod StillCalls
 pub mod LogCounts
 pub mod CalmTurns
+pub mod Starting

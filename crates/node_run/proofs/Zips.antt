@@ -2,9 +2,8 @@
 use Rattle.std.proofs.Common.{◌≡◌, ℕ, zero, suc, ◌<◌, List, [], ◌∷◌, ◌++◌, length, get_or, refl, sym, ap, ◌∙◌, subst, arith, map}
 use Rattle.std.specs.List.{AllByRecursion, AllZip}
 use Rattle.std.specs.Prelude.{slice_set, Option, Some, None}
-use Rattle.index_world.specs.Core.{Core, IsOther, journal_of}
-use Rattle.index_world.specs.Index.{has_staged}
-use Rattle.indexing_run.specs.Places.{Indexer, Place, number_held, idle}
+use Rattle.index_world.specs.Core.{IsOther}
+use Rattle.indexing_run.specs.Places.{Indexer, number_held}
 use Rattle.node_run.specs.Each.{ChangedUpTo}
 use Rattle.node_run.specs.Standing.{HoldApart, AllApart}
 use Rattle.node_run.specs.Turns.{indexer_at, made_idle}

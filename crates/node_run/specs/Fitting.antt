@@ -1,5 +1,5 @@
 -- Which lines a node takes.
-use Rattle.std.specs.Prelude.{ℕ, ◌<◌, ◌^◌}
+use Rattle.std.specs.Prelude.{ℕ, ◌<◌}
 use Rattle.node_run.specs.declared.line.Line.{Line}
 use Rattle.node_run.specs.declared.line.Line.TheVariants as line
 use Rattle.node_run.specs.declared.drive.Accepts.{Accepts}

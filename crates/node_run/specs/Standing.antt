@@ -41,6 +41,11 @@ pub record PartsStand {L : Type 0} (told : L → Option Log) (count : L → ℕ)
   pub clients : AllZip (λ searcher client. SearcherStands searcher client node.core node.log) searchers node.clients
   pub later : AllZip since firsts (map (λ reader. reader.log) readers)
 
+-- a reader of this log that was started and has done nothing
+abbrev pub IsFresh : {L : Type 0} → (L → Option Log) → (L → ℕ) → L → Reader L → Type 0
+IsFresh told count log reader =
+    (reader.log ≡ log) × ((core : Core) (read : Log) → told log ≡ Some read → IndexerStands told count reader (reader_of (count log)) core read)
+
 -- a node of the code stands for this one
 abbrev pub NodeStands : {S L : Type 0} → (L → Option Log) → (L → ℕ) → (L → L → Type 0) → List L → DriveNode S L → Node → Type 0
 NodeStands {S} {L} told count since firsts drive node =

@@ -1,6 +1,6 @@
 //! A node that takes the lines of a schedule one at a time.
 
-ghost use Rattle.std.specs.Prelude.{◌≡◌, ◌<◌, ◌≤◌, ◌^◌, vec_len, length, List, All, map, min, sum, ℕ, IfOk, IfErr, IfSome, IfNone, IsErr, OnOk, OnErr, Some, None, true, false};
+ghost use Rattle.std.specs.Prelude.{◌++◌, ◌∷◌, [], ◌+◌, vec_capacity, ◌≡◌, ◌<◌, ◌≤◌, ◌^◌, vec_len, length, List, All, map, min, sum, ℕ, IfOk, IfErr, IfSome, IfNone, IsErr, OnOk, OnErr, Some, None, true, false};
 ghost use Rattle.std.specs.List.{AllZip};
 ghost use Rattle.source_log.specs.Log.{Log, IsLog};
 ghost use Rattle.index_world.specs.Calls.{Fault, faulted, no_memory, not_read, no_index};
@@ -19,7 +19,7 @@ ghost use Rattle.node_run.specs.Named.{NamedAt, IsUnknown};
 ghost use Rattle.node_run.specs.Node.{Node};
 ghost use Rattle.node_run.specs.Node as said;
 ghost use Rattle.node_run.specs.Seen.{seen};
-ghost use Rattle.node_run.specs.Standing.{NodeStands, fresh_node, accepts_of, accepts_client, accepts_indexer, DoesLine, DoesMost, LetGo, GivesStore};
+ghost use Rattle.node_run.specs.Standing.{NodeStands, IsFresh, fresh_node, accepts_of, accepts_client, accepts_indexer, DoesLine, DoesMost, LetGo, GivesStore};
 ghost use Rattle.node_run.specs.Turns.{made_idle, client_named, with_client, quiet, stopped};
 
 use crate::line::Line;
@@ -195,6 +195,33 @@ fn sum_of_faults<L: SourceLog>(indexers: &[Indexer<L>]) -> u64
     sum
 }
 
+// A fresh reader of a log, behind those of other logs.
+fn push_reader<L: SourceLog>(readers: &mut Vec<Indexer<L>>, log: L)
+    requires { vec_len readers.old < vec_capacity readers.old }
+    ensures fresh { (logs : List L) → AllZip (IsFresh L.told L.fault_count) logs readers.old.items →
+        AllZip (IsFresh L.told L.fault_count) (logs ++ log ∷ []) readers.new.items }
+    ensures len { vec_len readers.new ≡ vec_len readers.old + 1 }
+    ensures room { vec_capacity readers.old ≤ vec_capacity readers.new }
+{
+    match readers.push(Indexer::start(log)) {
+        Ok(()) => {}
+        Err(_) => unreachable!(),
+    }
+}
+
+// A fresh reader of each log, in a list that has room.
+fn readers_of<L: SourceLog>(readers: Vec<Indexer<L>>, logs: Vec<L>) -> Vec<Indexer<L>>
+    requires none { readers.items ≡ [] }
+    requires room { vec_len logs ≤ vec_capacity readers }
+    ensures { AllZip (IsFresh L.told L.fault_count) logs.items result.items }
+{
+    let mut readers = readers;
+    for log in logs {
+        push_reader(&mut readers, log);
+    }
+    readers
+}
+
 impl<S: ObjectStore, L: SourceLog> DriveNode<S, L> {
     /// A node over a world whose clock tells 0, with one idle indexer for each log.
     pub fn start(
@@ -202,20 +229,16 @@ impl<S: ObjectStore, L: SourceLog> DriveNode<S, L> {
         world: World<S, ScriptClock>,
         logs: Vec<L>,
     ) -> Result<DriveNode<S, L>, Unstarted<S, L>>
+        ensures ok { IfOk result (λ drive. (core : Core) (log : Log) → WorldStands world core log → core.clock ≡ 0 → IsLog log →
+            All (λ l. L.told l ≡ Some log) logs.items →
+            NodeStands L.told L.fault_count L.since logs.items drive (fresh_node core log (map L.fault_count logs.items))) }
         ensures err { IfErr result (λ unstarted. (unstarted.world ≡ world) × (unstarted.logs.items ≡ logs.items)) }
     {
-        let mut indexers = match Vec::with_capacity(alloc, logs.len()) {
+        let indexers = match Vec::with_capacity(alloc, logs.len()) {
             Ok(indexers) => indexers,
             Err(error) => return Err(Unstarted { world, logs, error }),
         };
-        let mut left = logs;
-        left.reverse();
-        'logs: while let Some(log) = left.pop() {
-            match indexers.push(Indexer::start(log)) {
-                Ok(()) => {}
-                Err(_) => unreachable!(),
-            }
-        }
+        let indexers = readers_of(indexers, logs);
         Ok(DriveNode {
             world,
             indexers,
