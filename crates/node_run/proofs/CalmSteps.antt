@@ -83,6 +83,11 @@ module _ (luck : indexing.Luck) (log : Log) (indexer : Indexer) (core : Core) (s
   idle_calms None same = idle_none (log_may_fail luck.log indexer.log_faults) refl same
   idle_calms (Some names) same = idle_some (log_may_fail luck.log indexer.log_faults) false names
 
+  unless_calms : (b : Bool) → SameLog (indexing.idle_unless b luck log indexer core) →
+      StepCalms (indexing.idle_unless b luck log indexer core) (step_idle calm_indexing log indexer core)
+  unless_calms true same = inl refl
+  unless_calms false same = idle_calms indexer.assignment same
+
   module _ (batch : Batch) (mark : Checkpoint) (rest : List Checkpoint) where
     read_by_calms : (b : Bool) (at : Core) → log_may_fail luck.log indexer.log_faults ≡ b → SameLog (read_by b luck log batch mark rest indexer at) →
         read_by b luck log batch mark rest indexer at ≡ read_by false calm_indexing log batch mark rest indexer at
@@ -210,7 +215,7 @@ module _ (luck : indexing.Luck) (log : Log) (indexer : Indexer) (core : Core) (s
       (step_read_calms batch batch.queue)
 
   place_calms : (place : Place) → StepIs (step_place place luck log indexer core) (step_place place calm_indexing log indexer core)
-  place_calms idle same same_log = idle_calms luck log indexer core s below indexer.assignment same_log
+  place_calms idle same same_log = unless_calms luck log indexer core s below luck.log.short same_log
   place_calms (reading batch) same same_log = batch_calms batch same same_log
   place_calms (staged held) same same_log = step_upload_calms held same same_log
   place_calms (uploaded held) same same_log = step_publish_calms held same same_log

@@ -331,8 +331,13 @@ batch_rises luck log batch indexer core =
     (stage_rises luck batch indexer core))
     (step_read_rises luck log batch batch.queue indexer core)
 
+unless_rises : (b : Bool) (luck : indexing.Luck) (log : Log) (indexer : Indexer) (core : Core) →
+    Rises core (indexing.idle_unless b luck log indexer core).core
+unless_rises true luck log indexer core = same_rises core core refl
+unless_rises false luck log indexer core = idle_rises _ indexer.assignment luck log indexer core
+
 place_rises : (place : Place) (luck : indexing.Luck) (log : Log) (indexer : Indexer) (core : Core) → Rises core (step_place place luck log indexer core).core
-place_rises idle luck log indexer core = idle_rises _ indexer.assignment luck log indexer core
+place_rises idle luck log indexer core = unless_rises luck.log.short luck log indexer core
 place_rises (reading batch) luck log indexer core = batch_rises luck log batch indexer core
 place_rises (staged held) luck log indexer core = step_upload_rises luck held indexer core
 place_rises (uploaded held) luck log indexer core = publish_rises luck held indexer core

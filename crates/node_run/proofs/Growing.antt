@@ -329,8 +329,13 @@ batch_grows luck log batch indexer core =
     (stage_grows luck batch indexer core))
     (step_read_grows luck log batch batch.queue indexer core)
 
+unless_grows : (b : Bool) (luck : indexing.Luck) (log : Log) (indexer : Indexer) (core : Core) →
+    Grows core (indexing.idle_unless b luck log indexer core).core
+unless_grows true luck log indexer core = same_grows core core refl
+unless_grows false luck log indexer core = idle_grows _ indexer.assignment luck log indexer core
+
 place_grows : (place : Place) (luck : indexing.Luck) (log : Log) (indexer : Indexer) (core : Core) → Grows core (step_place place luck log indexer core).core
-place_grows idle luck log indexer core = idle_grows _ indexer.assignment luck log indexer core
+place_grows idle luck log indexer core = unless_grows luck.log.short luck log indexer core
 place_grows (reading batch) luck log indexer core = batch_grows luck log batch indexer core
 place_grows (staged held) luck log indexer core = step_upload_grows luck held indexer core
 place_grows (uploaded held) luck log indexer core = publish_grows luck held indexer core

@@ -8,3 +8,13 @@ pub mod CalmSteps
 pub mod StillCalls
 pub mod LogCounts
 pub mod CalmTurns
+pub mod Digits
+pub mod Begins
+pub mod Naming
+pub mod Splitting
+pub mod Bad
+pub mod Answered
+pub mod Ticking
+pub mod Zips
+pub mod Names
+pub mod Parts

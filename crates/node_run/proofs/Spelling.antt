@@ -17,40 +17,40 @@ use Rattle.node_run.specs.Node.{Line, At, Assign, StepIndexer, RestartIndexer, R
 
 -- ---- words without a blank
 
-abbrev Blankless : List ℕ → Type 0
+abbrev pub Blankless : List ℕ → Type 0
 Blankless [] = Unit {0}
 Blankless (c ∷ text) = ((c == 32) ≡ false) × Blankless text
 
-abbrev onto_word : ℕ → List (List ℕ) → List (List ℕ)
+abbrev pub onto_word : ℕ → List (List ℕ) → List (List ℕ)
 onto_word c [] = (c ∷ []) ∷ []
 onto_word c (word ∷ more) = (c ∷ word) ∷ more
 
-abbrev words_in : List ℕ → List (List ℕ)
+abbrev pub words_in : List ℕ → List (List ℕ)
 words_in [] = [] ∷ []
 words_in (c ∷ text) = if c == 32 then [] ∷ words_in text else onto_word c (words_in text)
 
-abbrev after_blank : List ℕ → Option (List ℕ)
+abbrev pub after_blank : List ℕ → Option (List ℕ)
 after_blank [] = None
 after_blank (c ∷ text) = if c == 32 then Some text else after_blank text
 
-words_in-one : (word : List ℕ) → Blankless word → words_in word ≡ word ∷ []
+pub words_in-one : (word : List ℕ) → Blankless word → words_in word ≡ word ∷ []
 words_in-one [] b = refl
 words_in-one (c ∷ word) b = rw (b.0, words_in-one word b.1)
 
-words_in-next : (word rest : List ℕ) → Blankless word → words_in (word ++ 32 ∷ rest) ≡ word ∷ words_in rest
+pub words_in-next : (word rest : List ℕ) → Blankless word → words_in (word ++ 32 ∷ rest) ≡ word ∷ words_in rest
 words_in-next [] rest b = refl
 words_in-next (c ∷ word) rest b = rw (b.0, words_in-next word rest b.1)
 
-words_in-words : (word : List ℕ) (more : List (List ℕ)) → Blankless word → AllByRecursion Blankless more → words_in (words (word ∷ more)) ≡ word ∷ more
+pub words_in-words : (word : List ℕ) (more : List (List ℕ)) → Blankless word → AllByRecursion Blankless more → words_in (words (word ∷ more)) ≡ word ∷ more
 words_in-words word [] b all = words_in-one word b
 words_in-words word (next ∷ more) b all =
     words_in-next word (words (next ∷ more)) b ∙ ap (λ ws. word ∷ ws) (words_in-words next more all.0 all.1)
 
-after_blank-one : (word : List ℕ) → Blankless word → after_blank word ≡ None
+pub after_blank-one : (word : List ℕ) → Blankless word → after_blank word ≡ None
 after_blank-one [] b = refl
 after_blank-one (c ∷ word) b = rw b.0 (after_blank-one word b.1)
 
-after_blank-next : (word rest : List ℕ) → Blankless word → after_blank (word ++ 32 ∷ rest) ≡ Some rest
+pub after_blank-next : (word rest : List ℕ) → Blankless word → after_blank (word ++ 32 ∷ rest) ≡ Some rest
 after_blank-next [] rest b = refl
 after_blank-next (c ∷ word) rest b = rw b.0 (after_blank-next word rest b.1)
 
@@ -63,7 +63,7 @@ digits-blankless : (ds : List ℕ) → AllDigits 10 ds → Blankless ds
 digits-blankless [] d = tt
 digits-blankless (c ∷ ds) d = (apart c (λ e. omega (arith, e, digit_from_value c d.0)), digits-blankless ds d.1)
 
-decimal-blankless : (n : ℕ) → n < 2 ^ 64 → Blankless (decimal n)
+pub decimal-blankless : (n : ℕ) → n < 2 ^ 64 → Blankless (decimal n)
 decimal-blankless n h = digits-blankless (decimal n) (decimal_is_IsNumeral n h).0.1
 
 decimal-value : (n : ℕ) → n < 2 ^ 64 → digits_value 10 (decimal n) ≡ n
@@ -79,15 +79,15 @@ bytes-blankless : (is_byte : ℕ → Bool) → is_byte 32 ≡ false → (name : 
 bytes-blankless is_byte none [] all = tt
 bytes-blankless is_byte none (b ∷ name) all = (apart b (no_name_byte is_byte none b all.0), bytes-blankless is_byte none name all.1)
 
-partition-blankless : (name : List ℕ) → IsPartition name → Blankless name
+pub partition-blankless : (name : List ℕ) → IsPartition name → Blankless name
 partition-blankless name p =
     bytes-blankless partitions.is_name_byte refl name (recursion_from_All (λ b. IsTrue (partitions.is_name_byte b)) name p.each)
 
-client-blankless : (name : List ℕ) → IsClientName name → Blankless name
+pub client-blankless : (name : List ℕ) → IsClientName name → Blankless name
 client-blankless name p =
     bytes-blankless clients.is_name_byte refl name (recursion_from_All (λ b. IsTrue (clients.is_name_byte b)) name p.each)
 
-each-blankless : (names : List (List ℕ)) → AllByRecursion IsPartition names → AllByRecursion Blankless names
+pub each-blankless : (names : List (List ℕ)) → AllByRecursion IsPartition names → AllByRecursion Blankless names
 each-blankless [] all = tt
 each-blankless (name ∷ names) all = (partition-blankless name all.0, each-blankless names all.1)
 
@@ -140,7 +140,7 @@ line_in text = line_by (shape_in text) text
 line_in-text : (line : Line) → IsWellFormed line → line_in (line_text line) ≡ line
 line_in-text (At moment) f = ap At (decimal-value moment (omega (arith, f)))
 line_in-text (Assign i names) f =
-    ap assign_of (words_in-words (decimal i) names (decimal-blankless i f.0) (each-blankless names (recursion_from_All IsPartition names f.3)))
+    ap assign_of (words_in-words (decimal i) names (decimal-blankless i f.0) (each-blankless names (recursion_from_All IsPartition names f.1.each)))
     ∙ ap (λ n. Assign n names) (decimal-value i f.0)
 line_in-text (StepIndexer i) f = ap StepIndexer (decimal-value i f)
 line_in-text (RestartIndexer i) f = ap RestartIndexer (decimal-value i f)

@@ -3,3 +3,9 @@ pub mod Lines
 pub mod Turns
 pub mod Calm
 pub mod Fitting
+pub mod Seen
+pub mod Pieces
+pub mod Standing
+pub mod Named
+pub mod Each
+pub mod Restarting

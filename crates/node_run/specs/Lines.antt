@@ -17,12 +17,17 @@ line_text RestartNode = words (codes "restart" ∷ codes "node" ∷ [])
 line_text (Open client text) = words (codes "client" ∷ client ∷ text ∷ [])
 line_text (StepClient client) = words (codes "client" ∷ client ∷ [])
 
+-- one to 64 different partitions
+pub record AreNames (names : List (List ℕ)) : Type 0 where
+  pub some : 1 ≤ length names
+  pub most : length names ≤ 64
+  pub each : All IsPartition names
+  pub apart : AllPairs (λ a b. a ≡ b → ⊥) names
+
 -- What the numbers and names of a line must be. The rest of a client's line is bytes as they stand, also none.
 abbrev pub IsWellFormed : Line → Type 0
 IsWellFormed (At moment) = moment < 2 ^ 62
-IsWellFormed (Assign indexer partitions) =
-    (indexer < 2 ^ 64) × (1 ≤ length partitions) × (length partitions ≤ 64) × All IsPartition partitions
-    × AllPairs (λ a b. a ≡ b → ⊥) partitions
+IsWellFormed (Assign indexer partitions) = (indexer < 2 ^ 64) × AreNames partitions
 IsWellFormed (StepIndexer indexer) = indexer < 2 ^ 64
 IsWellFormed (RestartIndexer indexer) = indexer < 2 ^ 64
 IsWellFormed (RestartClient client) = IsClientName client

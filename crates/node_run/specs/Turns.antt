@@ -13,16 +13,17 @@ use Rattle.root_search.specs.Steps.{Request, no_request, opened, planned, Client
 use Rattle.root_search.specs.Steps as searching
 use Rattle.node_run.specs.Node.{Node, Line, At, Assign, StepIndexer, RestartIndexer, RestartClient, RestartNode, Open, StepClient, world_fault, no_index, Outcome, at_said, assigned, indexer_busy, indexer_said, indexer_down, indexer_restarted, client_restarted, node_restarted, node_failed, request_opened, request_busy, client_said, client_down}
 
--- The fate of one line: its call of a log, its call of the world, and whether it finds no memory, either before it does
--- anything or behind it.
+-- The fate of one line: its call of a log, its call of the world, and whether memory is missing: in its actor's own step,
+-- before the line does anything, or behind all that it does.
 pub record Luck : Type 0 where
   pub log : indexing.LogCall
   pub world : Fate
+  pub inner : Bool
   pub early : Bool
   pub short : Bool
 
 abbrev pub calm : Luck
-calm = record { log = record { fails = false; rises = 0 }; world = calm_fate; early = false; short = false }
+calm = record { log = record { fails = false; rises = 0; short = false }; world = calm_fate; inner = false; early = false; short = false }
 
 -- What a line says, and the node behind it. Without memory it says nothing.
 pub record Turned : Type 0 where
@@ -79,10 +80,10 @@ abbrev pub assign_turn : ℕ → List (List ℕ) → Indexer → Node → Turned
 assign_turn i names indexer node = assign_at indexer.place i names indexer node
 
 abbrev pub indexing_luck : Luck → indexing.Luck
-indexing_luck luck = record { log = luck.log; world = luck.world; short = luck.short }
+indexing_luck luck = record { log = luck.log; world = luck.world; short = luck.inner }
 
 abbrev pub searching_luck : Luck → searching.Luck
-searching_luck luck = record { world = luck.world; short = luck.short }
+searching_luck luck = record { world = luck.world; short = luck.inner }
 
 abbrev pub said_by_indexer : ℕ → Option IndexerOutcome → Option Outcome
 said_by_indexer i None = None
@@ -159,16 +160,25 @@ full_turn luck node RestartNode = restart_turn luck node
 full_turn luck node (Open name text) = open_turn name text (client_named name node.clients) node
 full_turn luck node (StepClient name) = client_turn luck name node
 
+-- the request of the client of this name is dropped; a client that no line named yet stays so
+abbrev pub with_dropped : List ℕ → List Client → List Client
+with_dropped name [] = []
+with_dropped name (client ∷ clients) =
+    if bytes_eq client.name name then without_request client ∷ clients else client ∷ with_dropped name clients
+
+abbrev pub drop_request : List ℕ → Node → Node
+drop_request name node = record node { clients = with_dropped name node.clients }
+
 -- where a line finds no memory its actor is idle, its request is dropped, and a node that was to be restarted is down
 abbrev pub quiet : Line → Node → Node
 quiet (At moment) node = node
 quiet (Assign i names) node = with_indexer i (made_idle (indexer_at node.indexers i)) node
 quiet (StepIndexer i) node = with_indexer i (made_idle (indexer_at node.indexers i)) node
 quiet (RestartIndexer i) node = with_indexer i (made_idle (indexer_at node.indexers i)) node
-quiet (RestartClient name) node = keep_client (without_request (client_named name node.clients)) node
+quiet (RestartClient name) node = drop_request name node
 quiet RestartNode node = stopped node.core node
-quiet (Open name text) node = keep_client (without_request (client_named name node.clients)) node
-quiet (StepClient name) node = keep_client (without_request (client_named name node.clients)) node
+quiet (Open name text) node = drop_request name node
+quiet (StepClient name) node = drop_request name node
 
 abbrev pub or_quiet : Bool → Line → Turned → Turned
 or_quiet true line turn = record { said = None; node = quiet line turn.node }

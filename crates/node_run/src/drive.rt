@@ -1,13 +1,30 @@
 //! A node that takes the lines of a schedule one at a time.
 
-ghost use Rattle.std.specs.Prelude.{◌≡◌, ◌<◌, ◌+◌, ◌^◌, vec_len, length, IfOk, IfSome};
+ghost use Rattle.std.specs.Prelude.{◌≡◌, ◌<◌, ◌≤◌, ◌^◌, vec_len, length, List, All, map, min, sum, ℕ, IfOk, IfErr, IfSome, IfNone, OnOk, OnErr, Some, None, true, false};
+ghost use Rattle.std.specs.List.{AllZip};
+ghost use Rattle.source_log.specs.Log.{Log, IsLog};
+ghost use Rattle.index_world.specs.Core.{Core, last_count};
+ghost use Rattle.index_world.specs.Gate.{NoneBetween};
+ghost use Rattle.index_world.specs.World.{WorldStands};
+ghost use Rattle.indexing_run.specs.Making.{IsAssigned};
+ghost use Rattle.indexing_run.specs.Places.{Indexer as Actor, is_idle};
+ghost use Rattle.indexing_run.specs.Standing.{IndexerStands, StepsAs};
+ghost use Rattle.root_search.specs.Searching.{SearcherStands, SearchesAs};
+ghost use Rattle.root_search.specs.Steps.{Client as Asker, without_request};
 ghost use Rattle.node_run.specs.Fitting.{IsNumbered, IsYes};
+ghost use Rattle.node_run.specs.Lines.{IsWellFormed, AreNames};
+ghost use Rattle.node_run.specs.Named.{NamedAt, IsUnknown};
+ghost use Rattle.node_run.specs.Node.{Node};
+ghost use Rattle.node_run.specs.Node as said;
+ghost use Rattle.node_run.specs.Seen.{seen};
+ghost use Rattle.node_run.specs.Standing.{NodeStands, fresh_node, accepts_of, accepts_client, accepts_indexer, DoesLine, DoesMost, LetGo, GivesStore};
+ghost use Rattle.node_run.specs.Turns.{made_idle, client_named, with_client, quiet, stopped};
 
 use crate::line::Line;
 use crate::out_line::OutLine;
 use byte_fields::{Client, Text};
 use clock_time::ScriptClock;
-use index_world::{Direct, World, WorldError};
+use index_world::{World, WorldError};
 use indexing_run::{Indexer, IndexerOutcome};
 use object_store::ObjectStore;
 use root_search::{SearchStep, Searcher};
@@ -51,9 +68,13 @@ fn step_indexer<S: ObjectStore, L: SourceLog>(
     alloc: Global,
     world: &mut World<S, ScriptClock>,
     indexer: &mut Indexer<L>,
-) -> Result<IndexerOutcome, AllocError> {
-    let mut gate = Direct::over(world);
-    indexer.step(alloc, &mut gate)
+) -> Result<IndexerOutcome, AllocError>
+    ensures later { L.since indexer.old.log indexer.new.log }
+    ensures step { (actor : Actor) (core : Core) (log : Log) → IndexerStands L.told L.fault_count indexer.old actor core log →
+        WorldStands world.old core log →
+        StepsAs L.told L.fault_count WorldStands NoneBetween result actor core log indexer.new world.new }
+{
+    indexer.step(alloc, world)
 }
 
 fn step_searcher<Rt: Threads + Sync, S: ObjectStore>(
@@ -61,12 +82,17 @@ fn step_searcher<Rt: Threads + Sync, S: ObjectStore>(
     alloc: Global,
     world: &mut World<S, ScriptClock>,
     searcher: &mut Searcher,
-) -> Result<SearchStep, AllocError> {
-    let mut gate = Direct::over(world);
-    searcher.step(rt, alloc, &mut gate)
+) -> Result<SearchStep, AllocError>
+    ensures { (client : Asker) (core : Core) (log : Log) → IsLog log → WorldStands world.old core log →
+        SearcherStands searcher.old client core log →
+        SearchesAs WorldStands NoneBetween result searcher.new world.new client core log }
+{
+    searcher.step(rt, alloc, world)
 }
 
-fn copied(alloc: Global, names: &Partitions) -> Result<Partitions, AllocError> {
+fn copied(alloc: Global, names: &Partitions) -> Result<Partitions, AllocError>
+    ensures { IfOk result (λ copy. copy ≡ names.now) }
+{
     let mut copy = Partitions::vacant(alloc);
     for name in names.as_slice() {
         copy.push(name.copy())?;
@@ -74,7 +100,16 @@ fn copied(alloc: Global, names: &Partitions) -> Result<Partitions, AllocError> {
     Ok(copy)
 }
 
-fn assign<L: SourceLog>(indexer: &mut Indexer<L>, partitions: Partitions) -> Option<usize> {
+// Gives how many partitions were assigned, where the indexer was idle. Else it stays as it was.
+fn assign<L: SourceLog>(indexer: &mut Indexer<L>, partitions: Partitions) -> Option<usize>
+    ensures log { indexer.new.log ≡ indexer.old.log }
+    ensures count { IfSome result (λ count. count ≡ length partitions) }
+    ensures some { (actor : Actor) (core : Core) (log : Log) → IndexerStands L.told L.fault_count indexer.old actor core log →
+        IsAssigned (Some partitions) → IfSome result (λ count. (is_idle actor.place ≡ true)
+        × IndexerStands L.told L.fault_count indexer.new (record actor { assignment = Some partitions }) core log) }
+    ensures none { (actor : Actor) (core : Core) (log : Log) → IndexerStands L.told L.fault_count indexer.old actor core log →
+        IfNone result ((is_idle actor.place ≡ false) × IndexerStands L.told L.fault_count indexer.new actor core log) }
+{
     if !indexer.is_idle() {
         return None;
     }
@@ -84,7 +119,8 @@ fn assign<L: SourceLog>(indexer: &mut Indexer<L>, partitions: Partitions) -> Opt
 }
 
 fn place_of(clients: &[Searcher], client: &Client) -> Option<usize>
-    ensures { IfSome result (λ i. i < length clients.now) }
+    ensures some { IfSome result (λ place. NamedAt client.now clients.now place) }
+    ensures none { IfNone result (IsUnknown client.now clients.now) }
 {
     for (i, searcher) in clients.iter().enumerate() {
         if searcher.client().is_same(client) {
@@ -96,7 +132,12 @@ fn place_of(clients: &[Searcher], client: &Client) -> Option<usize>
 
 // The place of a client's searcher, which begins where the client wasn't named yet.
 fn known(clients: &mut Vec<Searcher>, client: &Client) -> Result<usize, AllocError>
-    ensures { IfOk result (λ i. i < vec_len clients.new) }
+    ensures bound { IfOk result (λ place. place < vec_len clients.new) }
+    ensures place { IfOk result (λ place. NamedAt client.now clients.new.items place) }
+    ensures stands { OnOk result ((models : List Asker) (core : Core) (log : Log) →
+        AllZip (λ searcher model. SearcherStands searcher model core log) clients.old.items models →
+        AllZip (λ searcher model. SearcherStands searcher model core log) clients.new.items (with_client (client_named client.now models) models)) }
+    ensures err { OnErr result (clients.new.items ≡ clients.old.items) }
 {
     match place_of(clients.as_slice(), client) {
         Some(place) => Ok(place),
@@ -108,19 +149,30 @@ fn known(clients: &mut Vec<Searcher>, client: &Client) -> Result<usize, AllocErr
     }
 }
 
-fn restart_indexers<L: SourceLog>(indexers: &mut [Indexer<L>]) {
-    for indexer in indexers.iter_mut() {
-        indexer.restart();
+fn restart_indexers<L: SourceLog>(indexers: &mut [Indexer<L>])
+    ensures logs { map (λ reader. reader.log) indexers.new ≡ map (λ reader. reader.log) indexers.old }
+    ensures stand { (actors : List Actor) (core after : Core) (log : Log) →
+        AllZip (λ reader actor. IndexerStands L.told L.fault_count reader actor core log) indexers.old actors →
+        AllZip (λ reader actor. IndexerStands L.told L.fault_count reader actor after log) indexers.new (map made_idle actors) }
+{
+    for i in 0..indexers.len() {
+        indexers[i].restart();
     }
 }
 
-fn restart_clients(clients: &mut [Searcher]) {
-    for searcher in clients.iter_mut() {
-        searcher.restart();
+fn restart_clients(clients: &mut [Searcher])
+    ensures { (models : List Asker) (core after : Core) (log : Log) →
+        AllZip (λ searcher model. SearcherStands searcher model core log) clients.old models →
+        AllZip (λ searcher model. SearcherStands searcher model after log) clients.new (map without_request models) }
+{
+    for i in 0..clients.len() {
+        clients[i].restart();
     }
 }
 
-fn sum_of_faults<L: SourceLog>(indexers: &[Indexer<L>]) -> u64 {
+fn sum_of_faults<L: SourceLog>(indexers: &[Indexer<L>]) -> u64
+    ensures { result ≡ min (sum (map (λ reader. L.fault_count reader.log) indexers.now)) last_count }
+{
     let mut sum: u64 = 0;
     for indexer in indexers {
         sum = sum.saturating_add(indexer.log_faults());
@@ -134,7 +186,12 @@ impl<S: ObjectStore, L: SourceLog> DriveNode<S, L> {
         alloc: Global,
         world: World<S, ScriptClock>,
         logs: Vec<L>,
-    ) -> Result<DriveNode<S, L>, Unstarted<S, L>> {
+    ) -> Result<DriveNode<S, L>, Unstarted<S, L>>
+        ensures ok { IfOk result (λ drive. (core : Core) (log : Log) → WorldStands world core log → core.clock ≡ 0 → IsLog log →
+            All (λ l. L.told l ≡ Some log) logs.items →
+            NodeStands L.told L.fault_count L.since logs.items drive (fresh_node core log (map L.fault_count logs.items))) }
+        ensures err { IfErr result (λ unstarted. (unstarted.world ≡ world) × (unstarted.logs.items ≡ logs.items)) }
+    {
         let mut indexers = match Vec::with_capacity(alloc, logs.len()) {
             Ok(indexers) => indexers,
             Err(error) => return Err(Unstarted { world, logs, error }),
@@ -157,7 +214,12 @@ impl<S: ObjectStore, L: SourceLog> DriveNode<S, L> {
     }
 
     /// Ends the node. Gives the store, and the sum of the logs' counts of faults, at most 2 ^ 64 - 1.
-    pub fn finish(self) -> (S, u64) {
+    pub fn finish(self) -> (S, u64)
+        ensures store { (firsts : List L) (node : Node) → NodeStands L.told L.fault_count L.since firsts self node →
+            GivesStore S.told S.fault_count result.0 node.core node.log }
+        ensures faults { (firsts : List L) (node : Node) → NodeStands L.told L.fault_count L.since firsts self node →
+            LetGo L.fault_count L.since firsts result.1 }
+    {
         let DriveNode {
             world,
             indexers,
@@ -169,7 +231,9 @@ impl<S: ObjectStore, L: SourceLog> DriveNode<S, L> {
         (world.unload().0, faults)
     }
 
-    fn accepts_client(&self, client: &Client) -> Accepts {
+    fn accepts_client(&self, client: &Client) -> Accepts
+        ensures { (firsts : List L) (node : Node) → NodeStands L.told L.fault_count L.since firsts self.now node → result ≡ accepts_client client.now node }
+    {
         if self.clients.len() as u64 >= MAX_CLIENTS
             && place_of(self.clients.as_slice(), client).is_none()
         {
@@ -179,7 +243,8 @@ impl<S: ObjectStore, L: SourceLog> DriveNode<S, L> {
     }
 
     fn accepts_indexer(&self, indexer: u64) -> Accepts
-        ensures { IsYes result → indexer < vec_len self.now.indexers }
+        ensures numbered { IsYes result → indexer < vec_len self.now.indexers }
+        ensures exact { (firsts : List L) (node : Node) → NodeStands L.told L.fault_count L.since firsts self.now node → result ≡ accepts_indexer indexer node }
     {
         if indexer < self.indexers.len() as u64 {
             Accepts::Yes
@@ -191,7 +256,8 @@ impl<S: ObjectStore, L: SourceLog> DriveNode<S, L> {
     /// Whether the node takes this line: its indexer has a number, its moment doesn't fall, and its client is known or
     /// one of the first 10,000.
     pub fn accepts(&self, line: &Line) -> Accepts
-        ensures { IsYes result → IsNumbered line.now (vec_len self.now.indexers) }
+        ensures numbered { IsYes result → IsNumbered line.now (vec_len self.now.indexers) }
+        ensures exact { (firsts : List L) (node : Node) → NodeStands L.told L.fault_count L.since firsts self.now node → result ≡ accepts_of node (seen line.now) }
     {
         match line {
             Line::At { moment } => {
@@ -211,10 +277,22 @@ impl<S: ObjectStore, L: SourceLog> DriveNode<S, L> {
         }
     }
 
-    fn restart_node(&mut self, alloc: Global) -> Result<OutLine, AllocError> {
+    // All actors are idle, and the node is down.
+    fn stop(&mut self)
+        ensures count { vec_len self.new.indexers ≡ vec_len self.old.indexers }
+        ensures does { (firsts : List L) (node : Node) → NodeStands L.told L.fault_count L.since firsts self.old node → NodeStands L.told L.fault_count L.since firsts self.new (stopped node.core node) }
+    {
         restart_indexers(self.indexers.as_mut_slice());
         restart_clients(self.clients.as_mut_slice());
         self.down = true;
+    }
+
+    fn restart_node(&mut self, alloc: Global) -> Result<OutLine, AllocError>
+        ensures count { vec_len self.new.indexers ≡ vec_len self.old.indexers }
+        ensures does { (firsts : List L) (node : Node) → NodeStands L.told L.fault_count L.since firsts self.old node →
+            DoesMost L.told L.fault_count L.since firsts node said.RestartNode result self.new }
+    {
+        self.stop();
         match self.world.reload(alloc) {
             Ok(()) => {
                 self.down = false;
@@ -227,6 +305,9 @@ impl<S: ObjectStore, L: SourceLog> DriveNode<S, L> {
 
     fn indexer_line(&mut self, alloc: Global, number: u64) -> Result<OutLine, AllocError>
         requires { number < vec_len self.old.indexers }
+        ensures count { vec_len self.new.indexers ≡ vec_len self.old.indexers }
+        ensures does { (firsts : List L) (node : Node) → NodeStands L.told L.fault_count L.since firsts self.old node →
+            DoesMost L.told L.fault_count L.since firsts node (said.StepIndexer number) result self.new }
     {
         if self.down {
             return OutLine::indexer_down(alloc, number);
@@ -240,7 +321,11 @@ impl<S: ObjectStore, L: SourceLog> DriveNode<S, L> {
         rt: &Rt,
         alloc: Global,
         client: &Client,
-    ) -> Result<OutLine, AllocError> {
+    ) -> Result<OutLine, AllocError>
+        ensures count { vec_len self.new.indexers ≡ vec_len self.old.indexers }
+        ensures does { (firsts : List L) (node : Node) → NodeStands L.told L.fault_count L.since firsts self.old node →
+            DoesMost L.told L.fault_count L.since firsts node (said.StepClient client.now) result self.new }
+    {
         let place = known(&mut self.clients, client)?;
         if self.down {
             return OutLine::client_down(alloc, client);
@@ -254,7 +339,11 @@ impl<S: ObjectStore, L: SourceLog> DriveNode<S, L> {
         alloc: Global,
         client: &Client,
         text: Text,
-    ) -> Result<OutLine, AllocError> {
+    ) -> Result<OutLine, AllocError>
+        ensures count { vec_len self.new.indexers ≡ vec_len self.old.indexers }
+        ensures does { (firsts : List L) (node : Node) → NodeStands L.told L.fault_count L.since firsts self.old node →
+            DoesMost L.told L.fault_count L.since firsts node (said.Open client.now text) result self.new }
+    {
         let place = known(&mut self.clients, client)?;
         match self.clients[place].submit(text) {
             Ok(()) => OutLine::opened(alloc, client),
@@ -269,6 +358,9 @@ impl<S: ObjectStore, L: SourceLog> DriveNode<S, L> {
         partitions: &Partitions,
     ) -> Result<OutLine, AllocError>
         requires { number < vec_len self.old.indexers }
+        ensures count { vec_len self.new.indexers ≡ vec_len self.old.indexers }
+        ensures does { (firsts : List L) (node : Node) → NodeStands L.told L.fault_count L.since firsts self.old node → AreNames partitions.now →
+            DoesMost L.told L.fault_count L.since firsts node (said.Assign number partitions.now) result self.new }
     {
         let partitions = copied(alloc, partitions)?;
         match assign(&mut self.indexers[number as usize], partitions) {
@@ -277,7 +369,11 @@ impl<S: ObjectStore, L: SourceLog> DriveNode<S, L> {
         }
     }
 
-    fn at_line(&mut self, alloc: Global, moment: u64) -> Result<OutLine, AllocError> {
+    fn at_line(&mut self, alloc: Global, moment: u64) -> Result<OutLine, AllocError>
+        ensures count { vec_len self.new.indexers ≡ vec_len self.old.indexers }
+        ensures does { (firsts : List L) (node : Node) → NodeStands L.told L.fault_count L.since firsts self.old node → moment < 2 ^ 62 →
+            DoesMost L.told L.fault_count L.since firsts node (said.At moment) result self.new }
+    {
         if moment < MOMENT_END {
             self.moment = moment;
             self.world.clock_mut().set(moment);
@@ -287,26 +383,34 @@ impl<S: ObjectStore, L: SourceLog> DriveNode<S, L> {
 
     fn restart_indexer(&mut self, alloc: Global, number: u64) -> Result<OutLine, AllocError>
         requires { number < vec_len self.old.indexers }
+        ensures count { vec_len self.new.indexers ≡ vec_len self.old.indexers }
+        ensures does { (firsts : List L) (node : Node) → NodeStands L.told L.fault_count L.since firsts self.old node →
+            DoesMost L.told L.fault_count L.since firsts node (said.RestartIndexer number) result self.new }
     {
         self.indexers[number as usize].restart();
         OutLine::indexer_restarted(alloc, number)
     }
 
-    fn restart_client(&mut self, alloc: Global, client: &Client) -> Result<OutLine, AllocError> {
+    fn restart_client(&mut self, alloc: Global, client: &Client) -> Result<OutLine, AllocError>
+        ensures count { vec_len self.new.indexers ≡ vec_len self.old.indexers }
+        ensures does { (firsts : List L) (node : Node) → NodeStands L.told L.fault_count L.since firsts self.old node →
+            DoesMost L.told L.fault_count L.since firsts node (said.RestartClient client.now) result self.new }
+    {
         let place = known(&mut self.clients, client)?;
         self.clients[place].restart();
         OutLine::client_restarted(alloc, client)
     }
 
-    /// Does one line. After want of memory the line's actor is idle and its request is dropped; after that of a restart of
-    /// the node the node is down.
-    pub fn step<Rt: Threads + Sync>(
+    fn do_line<Rt: Threads + Sync>(
         &mut self,
         rt: &Rt,
         alloc: Global,
         line: &Line,
     ) -> Result<OutLine, AllocError>
         requires { IsNumbered line.now (vec_len self.old.indexers) }
+        ensures count { vec_len self.new.indexers ≡ vec_len self.old.indexers }
+        ensures does { (firsts : List L) (node : Node) → NodeStands L.told L.fault_count L.since firsts self.old node → IsWellFormed (seen line.now) →
+            DoesMost L.told L.fault_count L.since firsts node (seen line.now) result self.new }
     {
         match line {
             Line::At { moment } => self.at_line(alloc, *moment),
@@ -323,6 +427,59 @@ impl<S: ObjectStore, L: SourceLog> DriveNode<S, L> {
                 self.open_line(alloc, client, text)
             }
             Line::Client { client } => self.client_line(rt, alloc, client),
+        }
+    }
+
+    fn quiet_indexer(&mut self, number: u64)
+        requires { number < vec_len self.old.indexers }
+        ensures { (firsts : List L) (node : Node) → NodeStands L.told L.fault_count L.since firsts self.old node → NodeStands L.told L.fault_count L.since firsts self.new (quiet (said.RestartIndexer number) node) }
+    {
+        self.indexers[number as usize].restart();
+    }
+
+    fn quiet_client(&mut self, client: &Client)
+        ensures { (firsts : List L) (node : Node) → NodeStands L.told L.fault_count L.since firsts self.old node → NodeStands L.told L.fault_count L.since firsts self.new (quiet (said.RestartClient client.now) node) }
+    {
+        if let Some(place) = place_of(self.clients.as_slice(), client) {
+            self.clients[place].restart();
+        }
+    }
+
+    // The line's actor is idle and its request is dropped.
+    fn quiet(&mut self, line: &Line)
+        requires { IsNumbered line.now (vec_len self.old.indexers) }
+        ensures { (firsts : List L) (node : Node) → NodeStands L.told L.fault_count L.since firsts self.old node → NodeStands L.told L.fault_count L.since firsts self.new (quiet (seen line.now) node) }
+    {
+        match line {
+            Line::At { .. } => {}
+            Line::Assign { indexer, .. } => self.quiet_indexer(*indexer),
+            Line::Indexer { indexer } => self.quiet_indexer(*indexer),
+            Line::RestartIndexer { indexer } => self.quiet_indexer(*indexer),
+            Line::RestartClient { client } => self.quiet_client(client),
+            Line::RestartNode => self.stop(),
+            Line::Open { client, .. } => self.quiet_client(client),
+            Line::Client { client } => self.quiet_client(client),
+        }
+    }
+
+    /// Does one line. After want of memory the line's actor is idle and its request is dropped; after that of a restart of
+    /// the node the node is down.
+    pub fn step<Rt: Threads + Sync>(
+        &mut self,
+        rt: &Rt,
+        alloc: Global,
+        line: &Line,
+    ) -> Result<OutLine, AllocError>
+        requires { IsNumbered line.now (vec_len self.old.indexers) }
+        ensures { (firsts : List L) (node : Node) → NodeStands L.told L.fault_count L.since firsts self.old node → IsWellFormed (seen line.now) →
+            DoesLine L.told L.fault_count L.since firsts node (seen line.now) result self.new }
+    {
+        match self.do_line(rt, alloc, line) {
+            Ok(out) => Ok(out),
+            Err(refused) => {
+                self.quiet(line);
+                Err(refused)
+            }
         }
     }
 }

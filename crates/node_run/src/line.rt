@@ -1,5 +1,13 @@
 //! A line of a schedule, and how it is read.
 
+ghost use Rattle.std.specs.Prelude.{◌≡◌, ◌≢◌, ◌<◌, ◌^◌, ◌++◌, ℕ, List, MatchResult, bytes_eq, codes, decimal};
+ghost use Rattle.std.specs.List.{list_any};
+ghost use Rattle.byte_fields.specs.ClientName.{IsClientName};
+ghost use Rattle.source_checkpoint.specs.Names.{IsPartition};
+ghost use Rattle.indexing_run.specs.Outcomes.{words};
+ghost use Rattle.node_run.specs.Lines.{AreNames};
+ghost use Rattle.node_run.specs.Seen.{IsBadWhere, IsRead};
+
 use crate::pieces::{behind, first_word, number_in};
 use byte_fields::{Client, Text};
 use source_checkpoint::Partition;
@@ -66,18 +74,25 @@ impl From<AllocError> for LineError {
     }
 }
 
-fn number_of(word: &[u8]) -> Result<u64, LineError> {
+fn number_of(word: &[u8]) -> Result<u64, LineError>
+    ensures { MatchResult result (λ number. word.now ≡ decimal number)
+        (λ e. IsBadWhere ((number : ℕ) → number < 2 ^ 64 → word.now ≢ decimal number) e) }
+{
     number_in(word).ok_or(LineError::BadLine)
 }
 
-fn client_of(word: &[u8]) -> Result<Client, LineError> {
+fn client_of(word: &[u8]) -> Result<Client, LineError>
+    ensures { MatchResult result (λ client. (client ≡ word.now) × IsClientName word.now) (λ e. IsBadWhere (¬ (IsClientName word.now)) e) }
+{
     let Ok(text) = str::from_utf8(word) else {
         return Err(LineError::BadLine);
     };
     Client::from_text(text).ok_or(LineError::BadLine)
 }
 
-fn partition_of(word: &[u8]) -> Result<Partition, LineError> {
+fn partition_of(word: &[u8]) -> Result<Partition, LineError>
+    ensures { MatchResult result (λ partition. (partition ≡ word.now) × IsPartition word.now) (λ e. IsBadWhere (¬ (IsPartition word.now)) e) }
+{
     let Ok(text) = str::from_utf8(word) else {
         return Err(LineError::BadLine);
     };
@@ -87,7 +102,9 @@ fn partition_of(word: &[u8]) -> Result<Partition, LineError> {
     }
 }
 
-fn at_line(rest: &[u8]) -> Result<Line, LineError> {
+fn at_line(rest: &[u8]) -> Result<Line, LineError>
+    ensures { IsRead (codes "at " ++ rest.now) result }
+{
     let moment = number_of(rest)?;
     if moment >= MOMENT_END {
         return Err(LineError::BadLine);
@@ -95,18 +112,23 @@ fn at_line(rest: &[u8]) -> Result<Line, LineError> {
     Ok(Line::At { moment })
 }
 
+fn is_among(partition: &Partition, partitions: &[Partition]) -> bool
+    ensures { result ≡ list_any (λ other. bytes_eq other partition.now) partitions.now }
+{
+    partitions.iter().any(|other| other.is(partition))
+}
+
 /// One to 64 different partitions, one blank between.
-fn partitions_of(alloc: Global, words: &[u8]) -> Result<Partitions, LineError> {
+fn partitions_of(alloc: Global, text: &[u8]) -> Result<Partitions, LineError>
+    ensures { MatchResult result (λ names. (text.now ≡ words names) × AreNames names)
+        (λ e. IsBadWhere ((names : List (List ℕ)) → AreNames names → text.now ≢ words names) e) }
+{
     let mut partitions = Partitions::vacant(alloc);
-    let mut rest = words;
-    for _ in 0..MAX_PARTITIONS {
+    let mut rest = text;
+    'words: while partitions.len() < MAX_PARTITIONS {
         let (word, more) = first_word(rest);
         let partition = partition_of(word)?;
-        if partitions
-            .as_slice()
-            .iter()
-            .any(|other| other.is(&partition))
-        {
+        if is_among(&partition, partitions.as_slice()) {
             return Err(LineError::BadLine);
         }
         partitions.push(partition)?;
@@ -118,18 +140,24 @@ fn partitions_of(alloc: Global, words: &[u8]) -> Result<Partitions, LineError> {
     Err(LineError::BadLine)
 }
 
-fn assign_line(alloc: Global, rest: &[u8]) -> Result<Line, LineError> {
-    let (number, words) = first_word(rest);
-    let Some(words) = words else {
+fn assign_line(alloc: Global, rest: &[u8]) -> Result<Line, LineError>
+    ensures { IsRead (codes "assign " ++ rest.now) result }
+{
+    let (number, names) = first_word(rest);
+    let Some(names) = names else {
         return Err(LineError::BadLine);
     };
+    let indexer = number_of(number)?;
+    let partitions = partitions_of(alloc, names)?;
     Ok(Line::Assign {
-        indexer: number_of(number)?,
-        partitions: partitions_of(alloc, words)?,
+        indexer,
+        partitions,
     })
 }
 
-fn client_line(alloc: Global, rest: &[u8]) -> Result<Line, LineError> {
+fn client_line(alloc: Global, rest: &[u8]) -> Result<Line, LineError>
+    ensures { IsRead (codes "client " ++ rest.now) result }
+{
     let (name, text) = first_word(rest);
     let client = client_of(name)?;
     match text {
@@ -141,7 +169,9 @@ fn client_line(alloc: Global, rest: &[u8]) -> Result<Line, LineError> {
     }
 }
 
-fn restart_line(rest: &[u8]) -> Result<Line, LineError> {
+fn restart_line(rest: &[u8]) -> Result<Line, LineError>
+    ensures { IsRead (codes "restart " ++ rest.now) result }
+{
     if rest == b"node".as_slice() {
         return Ok(Line::RestartNode);
     }
@@ -159,7 +189,9 @@ fn restart_line(rest: &[u8]) -> Result<Line, LineError> {
 }
 
 /// The line that these bytes spell, without its line feed.
-pub fn read_line(alloc: Global, bytes: &[u8]) -> Result<Line, LineError> {
+pub fn read_line(alloc: Global, bytes: &[u8]) -> Result<Line, LineError>
+    ensures { IsRead bytes.now result }
+{
     if let Some(rest) = behind(bytes, b"at ") {
         return at_line(rest);
     }

@@ -1,5 +1,15 @@
 //! What a line of a schedule is answered.
 
+ghost use Rattle.std.specs.Prelude.{◌≡◌, ◌++◌, ◌∷◌, [], Some, IfOk, codes, decimal};
+ghost use Rattle.index_world.specs.Calls.{Fault, faulted, not_read, no_index};
+ghost use Rattle.index_world.specs.Loading.{IsUnread};
+ghost use Rattle.indexing_run.specs.Outcomes as indexing;
+ghost use Rattle.indexing_run.specs.Standing.{IsSaid};
+ghost use Rattle.root_search.specs.Said.{step_of};
+ghost use Rattle.root_search.specs.Steps as searching;
+ghost use Rattle.node_run.specs.Lines.{outcome_text};
+ghost use Rattle.node_run.specs.Node as said;
+
 use byte_fields::{Bytes, Client};
 use index_world::{WorldError, put_fault, put_number, put_word};
 use indexing_run::IndexerOutcome;
@@ -12,46 +22,61 @@ pub struct OutLine {
     pub bytes: Bytes,
 }
 
-// A client's name and a word.
-fn named(alloc: Global, client: &Client, word: &[u8]) -> Result<OutLine, AllocError> {
-    let mut bytes = Bytes::vacant(alloc);
-    put_word(&mut bytes, client.as_bytes())?;
-    put_word(&mut bytes, word)?;
+// A client's name and a text behind a blank.
+fn named(alloc: Global, client: &Client, text: &[u8]) -> Result<OutLine, AllocError>
+    ensures { IfOk result (λ out. out.bytes ≡ client.now ++ 32 ∷ text.now) }
+{
+    let mut bytes = Bytes::from_slice(alloc, client.as_bytes())?;
+    bytes.push(b' ')?;
+    bytes.append(text)?;
     Ok(OutLine { bytes })
 }
 
-// `indexer`, its number and some words.
-fn of_indexer(alloc: Global, number: u64, words: &[u8]) -> Result<OutLine, AllocError> {
+// `indexer`, its number and a text.
+fn of_indexer(alloc: Global, number: u64, text: &[u8]) -> Result<OutLine, AllocError>
+    ensures { IfOk result (λ out. out.bytes ≡ codes "indexer" ++ 32 ∷ (decimal number ++ 32 ∷ text.now)) }
+{
     let mut bytes = Bytes::vacant(alloc);
     put_word(&mut bytes, b"indexer")?;
     put_number(alloc, &mut bytes, number)?;
-    put_word(&mut bytes, words)?;
+    put_word(&mut bytes, text)?;
     Ok(OutLine { bytes })
 }
 
 impl OutLine {
-    pub fn at(alloc: Global, moment: u64) -> Result<OutLine, AllocError> {
+    pub fn at(alloc: Global, moment: u64) -> Result<OutLine, AllocError>
+        ensures { IfOk result (λ out. out.bytes ≡ outcome_text (said.at_said moment)) }
+    {
         let mut bytes = Bytes::vacant(alloc);
         put_word(&mut bytes, b"at")?;
         put_number(alloc, &mut bytes, moment)?;
         Ok(OutLine { bytes })
     }
 
-    pub fn assigned(alloc: Global, number: u64, count: usize) -> Result<OutLine, AllocError> {
-        let mut line = of_indexer(alloc, number, b"assigned")?;
-        put_number(alloc, &mut line.bytes, count as u64)?;
-        Ok(line)
+    pub fn assigned(alloc: Global, number: u64, count: usize) -> Result<OutLine, AllocError>
+        ensures { IfOk result (λ out. out.bytes ≡ outcome_text (said.assigned number count)) }
+    {
+        let mut words = Bytes::vacant(alloc);
+        put_word(&mut words, b"assigned")?;
+        put_number(alloc, &mut words, count as u64)?;
+        of_indexer(alloc, number, words.as_slice())
     }
 
-    pub fn indexer_busy(alloc: Global, number: u64) -> Result<OutLine, AllocError> {
+    pub fn indexer_busy(alloc: Global, number: u64) -> Result<OutLine, AllocError>
+        ensures { IfOk result (λ out. out.bytes ≡ outcome_text (said.indexer_busy number)) }
+    {
         of_indexer(alloc, number, b"busy")
     }
 
-    pub fn indexer_down(alloc: Global, number: u64) -> Result<OutLine, AllocError> {
+    pub fn indexer_down(alloc: Global, number: u64) -> Result<OutLine, AllocError>
+        ensures { IfOk result (λ out. out.bytes ≡ outcome_text (said.indexer_down number)) }
+    {
         of_indexer(alloc, number, b"down")
     }
 
-    pub fn indexer_restarted(alloc: Global, number: u64) -> Result<OutLine, AllocError> {
+    pub fn indexer_restarted(alloc: Global, number: u64) -> Result<OutLine, AllocError>
+        ensures { IfOk result (λ out. out.bytes ≡ outcome_text (said.indexer_restarted number)) }
+    {
         of_indexer(alloc, number, b"restarted")
     }
 
@@ -59,24 +84,35 @@ impl OutLine {
         alloc: Global,
         number: u64,
         outcome: &IndexerOutcome,
-    ) -> Result<OutLine, AllocError> {
+    ) -> Result<OutLine, AllocError>
+        ensures { (answer : indexing.IndexerOutcome) → IsSaid outcome.now answer →
+            IfOk result (λ out. out.bytes ≡ outcome_text (said.indexer_said number answer)) }
+    {
         let words = indexing_run::print_outcome(alloc, outcome)?;
         of_indexer(alloc, number, words.as_slice())
     }
 
-    pub fn opened(alloc: Global, client: &Client) -> Result<OutLine, AllocError> {
+    pub fn opened(alloc: Global, client: &Client) -> Result<OutLine, AllocError>
+        ensures { IfOk result (λ out. out.bytes ≡ outcome_text (said.request_opened client.now)) }
+    {
         named(alloc, client, b"opened")
     }
 
-    pub fn busy(alloc: Global, client: &Client) -> Result<OutLine, AllocError> {
+    pub fn busy(alloc: Global, client: &Client) -> Result<OutLine, AllocError>
+        ensures { IfOk result (λ out. out.bytes ≡ outcome_text (said.request_busy client.now)) }
+    {
         named(alloc, client, b"busy")
     }
 
-    pub fn client_down(alloc: Global, client: &Client) -> Result<OutLine, AllocError> {
+    pub fn client_down(alloc: Global, client: &Client) -> Result<OutLine, AllocError>
+        ensures { IfOk result (λ out. out.bytes ≡ outcome_text (said.client_down client.now)) }
+    {
         named(alloc, client, b"down")
     }
 
-    pub fn client_restarted(alloc: Global, client: &Client) -> Result<OutLine, AllocError> {
+    pub fn client_restarted(alloc: Global, client: &Client) -> Result<OutLine, AllocError>
+        ensures { IfOk result (λ out. out.bytes ≡ outcome_text (said.client_restarted client.now)) }
+    {
         named(alloc, client, b"restarted")
     }
 
@@ -84,7 +120,10 @@ impl OutLine {
         alloc: Global,
         client: &Client,
         outcome: &SearchStep,
-    ) -> Result<OutLine, AllocError> {
+    ) -> Result<OutLine, AllocError>
+        ensures { (answer : searching.SearchStep) → step_of outcome.now ≡ Some answer →
+            IfOk result (λ out. out.bytes ≡ outcome_text (said.client_said client.now answer)) }
+    {
         let words = root_search::print_outcome(alloc, outcome)?;
         match outcome {
             SearchStep::Replied(_) => Ok(OutLine { bytes: words }),
@@ -92,7 +131,9 @@ impl OutLine {
         }
     }
 
-    pub fn node_restarted(alloc: Global, revision: u64) -> Result<OutLine, AllocError> {
+    pub fn node_restarted(alloc: Global, revision: u64) -> Result<OutLine, AllocError>
+        ensures { IfOk result (λ out. out.bytes ≡ outcome_text (said.node_restarted revision)) }
+    {
         let mut bytes = Bytes::vacant(alloc);
         put_word(&mut bytes, b"node")?;
         put_word(&mut bytes, b"restarted")?;
@@ -100,7 +141,11 @@ impl OutLine {
         Ok(OutLine { bytes })
     }
 
-    pub fn node_fault(alloc: Global, error: &WorldError) -> Result<OutLine, AllocError> {
+    pub fn node_fault(alloc: Global, error: &WorldError) -> Result<OutLine, AllocError>
+        ensures fault { (fault : Fault) → IsUnread error.now (not_read (faulted fault)) →
+            IfOk result (λ out. out.bytes ≡ outcome_text (said.node_failed (said.world_fault fault))) }
+        ensures none { IsUnread error.now no_index → IfOk result (λ out. out.bytes ≡ outcome_text (said.node_failed said.no_index)) }
+    {
         let mut bytes = Bytes::vacant(alloc);
         put_word(&mut bytes, b"node")?;
         put_fault(alloc, &mut bytes, error)?;

@@ -1,0 +1,109 @@
+-- What a line is that begins with a front.
+use Rattle.std.proofs.Common.{◌≡◌, ◌≢◌, ℕ, zero, suc, Bool, true, false, eq-eqb, drop, ◌<◌, ◌≤◌, ◌^◌, List, [], ◌∷◌, ◌++◌, length, refl, sym, ap, ◌∙◌, arith}
+use Rattle.std.specs.Prelude.{◌==◌, decimal, codes, All, AllPairs}
+use Rattle.byte_fields.specs.ClientName.{IsClientName}
+use Rattle.source_checkpoint.specs.Names.{IsPartition}
+use Rattle.indexing_run.specs.Outcomes.{words}
+use Rattle.node_run.specs.Lines.{line_text, IsWellFormed, Spells, AreNames}
+use Rattle.node_run.specs.Node.{Line, At, Assign, StepIndexer, RestartIndexer, RestartClient, RestartNode, Open, StepClient}
+
+abbrev byte_at : ℕ → List ℕ → ℕ
+byte_at k [] = 0
+byte_at zero (c ∷ text) = c
+byte_at (suc k) (c ∷ text) = byte_at k text
+
+true_is_false : false ≡ true → ⊥
+true_is_false e = cc
+
+-- two texts differ at a place
+differ : (k : ℕ) (a b : List ℕ) → (byte_at k a == byte_at k b) ≡ false → a ≡ b → ⊥
+differ k a b apart same = true_is_false (sym apart ∙ eq-eqb (byte_at k a) (byte_at k b) (ap (byte_at k) same))
+
+pub record IsAt (rest : List ℕ) : Type 0 where
+  pub moment : ℕ
+  pub digits : rest ≡ decimal moment
+  pub below : moment < 2 ^ 62
+
+pub record IsAssign (rest : List ℕ) : Type 0 where
+  pub indexer : ℕ
+  pub names : List (List ℕ)
+  pub text : rest ≡ words (decimal indexer ∷ names)
+  pub below : indexer < 2 ^ 64
+  pub are : AreNames names
+
+pub record IsNumber (rest : List ℕ) : Type 0 where
+  pub number : ℕ
+  pub digits : rest ≡ decimal number
+  pub below : number < 2 ^ 64
+
+pub data IsOfClient (rest : List ℕ) : Type 0 where
+  opens : (name text : List ℕ) → rest ≡ name ++ 32 ∷ text → IsClientName name → IsOfClient rest
+  steps : (name : List ℕ) → rest ≡ name → IsClientName name → IsOfClient rest
+
+pub data IsRestart (rest : List ℕ) : Type 0 where
+  of_node : rest ≡ codes "node" → IsRestart rest
+  of_indexer : (number : ℕ) → rest ≡ codes "indexer " ++ decimal number → number < 2 ^ 64 → IsRestart rest
+  of_client : (name : List ℕ) → rest ≡ codes "client " ++ name → IsClientName name → IsRestart rest
+
+pub at_only : (rest : List ℕ) (line : Line) → Spells (codes "at " ++ rest) line → IsAt rest
+at_only rest (At moment) s = record { moment = moment; digits = ap (drop 3) s.is; below = s.formed }
+at_only rest (Assign i names) s = absurd (differ 1 _ _ refl s.is)
+at_only rest (StepIndexer i) s = absurd (differ 0 _ _ refl s.is)
+at_only rest (RestartIndexer i) s = absurd (differ 0 _ _ refl s.is)
+at_only rest (RestartClient name) s = absurd (differ 0 _ _ refl s.is)
+at_only rest RestartNode s = absurd (differ 0 _ _ refl s.is)
+at_only rest (Open name text) s = absurd (differ 0 _ _ refl s.is)
+at_only rest (StepClient name) s = absurd (differ 0 _ _ refl s.is)
+
+pub assign_only : (rest : List ℕ) (line : Line) → Spells (codes "assign " ++ rest) line → IsAssign rest
+assign_only rest (At moment) s = absurd (differ 1 _ _ refl s.is)
+assign_only rest (Assign i names) s = record { indexer = i; names = names; text = ap (drop 7) s.is; below = s.formed.0; are = s.formed.1 }
+assign_only rest (StepIndexer i) s = absurd (differ 0 _ _ refl s.is)
+assign_only rest (RestartIndexer i) s = absurd (differ 0 _ _ refl s.is)
+assign_only rest (RestartClient name) s = absurd (differ 0 _ _ refl s.is)
+assign_only rest RestartNode s = absurd (differ 0 _ _ refl s.is)
+assign_only rest (Open name text) s = absurd (differ 0 _ _ refl s.is)
+assign_only rest (StepClient name) s = absurd (differ 0 _ _ refl s.is)
+
+pub indexer_only : (rest : List ℕ) (line : Line) → Spells (codes "indexer " ++ rest) line → IsNumber rest
+indexer_only rest (At moment) s = absurd (differ 0 _ _ refl s.is)
+indexer_only rest (Assign i names) s = absurd (differ 0 _ _ refl s.is)
+indexer_only rest (StepIndexer i) s = record { number = i; digits = ap (drop 8) s.is; below = s.formed }
+indexer_only rest (RestartIndexer i) s = absurd (differ 0 _ _ refl s.is)
+indexer_only rest (RestartClient name) s = absurd (differ 0 _ _ refl s.is)
+indexer_only rest RestartNode s = absurd (differ 0 _ _ refl s.is)
+indexer_only rest (Open name text) s = absurd (differ 0 _ _ refl s.is)
+indexer_only rest (StepClient name) s = absurd (differ 0 _ _ refl s.is)
+
+pub client_only : (rest : List ℕ) (line : Line) → Spells (codes "client " ++ rest) line → IsOfClient rest
+client_only rest (At moment) s = absurd (differ 0 _ _ refl s.is)
+client_only rest (Assign i names) s = absurd (differ 0 _ _ refl s.is)
+client_only rest (StepIndexer i) s = absurd (differ 0 _ _ refl s.is)
+client_only rest (RestartIndexer i) s = absurd (differ 0 _ _ refl s.is)
+client_only rest (RestartClient name) s = absurd (differ 0 _ _ refl s.is)
+client_only rest RestartNode s = absurd (differ 0 _ _ refl s.is)
+client_only rest (Open name text) s = opens name text (ap (drop 7) s.is) s.formed
+client_only rest (StepClient name) s = steps name (ap (drop 7) s.is) s.formed
+
+pub restart_only : (rest : List ℕ) (line : Line) → Spells (codes "restart " ++ rest) line → IsRestart rest
+restart_only rest (At moment) s = absurd (differ 0 _ _ refl s.is)
+restart_only rest (Assign i names) s = absurd (differ 0 _ _ refl s.is)
+restart_only rest (StepIndexer i) s = absurd (differ 0 _ _ refl s.is)
+restart_only rest (RestartIndexer i) s = of_indexer i (ap (drop 8) s.is) s.formed
+restart_only rest (RestartClient name) s = of_client name (ap (drop 8) s.is) s.formed
+restart_only rest RestartNode s = of_node (ap (drop 8) s.is)
+restart_only rest (Open name text) s = absurd (differ 0 _ _ refl s.is)
+restart_only rest (StepClient name) s = absurd (differ 0 _ _ refl s.is)
+
+-- each line begins with one of five fronts
+pub no_front : (text : List ℕ) → ((rest : List ℕ) → text ≢ codes "at " ++ rest) → ((rest : List ℕ) → text ≢ codes "assign " ++ rest) →
+    ((rest : List ℕ) → text ≢ codes "indexer " ++ rest) → ((rest : List ℕ) → text ≢ codes "restart " ++ rest) →
+    ((rest : List ℕ) → text ≢ codes "client " ++ rest) → (line : Line) → Spells text line → ⊥
+no_front text a b d e f (At moment) s = a (decimal moment) s.is
+no_front text a b d e f (Assign i names) s = b (words (decimal i ∷ names)) s.is
+no_front text a b d e f (StepIndexer i) s = d (decimal i) s.is
+no_front text a b d e f (RestartIndexer i) s = e (codes "indexer " ++ decimal i) s.is
+no_front text a b d e f (RestartClient name) s = e (codes "client " ++ name) s.is
+no_front text a b d e f RestartNode s = e (codes "node") s.is
+no_front text a b d e f (Open name rest) s = f (name ++ 32 ∷ rest) s.is
+no_front text a b d e f (StepClient name) s = f name s.is

@@ -1,0 +1,514 @@
+-- The parts of a node behind each of its lines.
+use Rattle.std.proofs.Common.{◌≡◌, ℕ, zero, suc, ◌<◌, ◌^◌, List, [], ◌∷◌, ◌++◌, length, get_or, refl, sym, ap, ◌∙◌, subst, arith, Bool, true, false, map, inl, inr, take, drop, ◌≤◌}
+use Rattle.std.proofs.lemmas.List.{append-nil, take_at}
+use Rattle.std.proofs.lemmas.Bool.{lt-ltb, le-ltb}
+use Rattle.std.proofs.lemmas.Result.{err_from_is_err_and}
+use Rattle.std.specs.List.{AllZip}
+use Rattle.std.specs.Prelude.{◌⊎◌, if◌then◌else◌, nat_lt, slice_set, Option, Some, None, Result, Ok, Err, IfOk, ⊤}
+use Rattle.std.specs.Result.{IsErrAnd}
+use Rattle.std.specs.declared.alloc.AllocError.{AllocError}
+use Rattle.source_log.specs.Log.{Log, IsLog}
+use Rattle.index_world.specs.Calls.{Fate, Trouble, faulted, no_memory, Unread, Gives, gives, loaded, calm_fate, fetched, asked_and_looked}
+use Rattle.root_search.specs.Requests.{word_asked}
+use Rattle.index_world.specs.Core.{Core, KeepsBut, IsOther, IsUnusedIn, IsUploadedIn, HasStagedIn, journal_of}
+use Rattle.index_world.specs.Gate.{NoneBetween}
+use Rattle.index_world.specs.Index.{has_staged}
+use Rattle.index_world.specs.World.{Keeping, WorldStands, GoesOn}
+use Rattle.indexing_run.proofs.Holding.{indexer_stays}
+use Rattle.indexing_run.specs.Outcomes.{IndexerOutcome}
+use Rattle.indexing_run.specs.Making.{IsAssigned}
+use Rattle.indexing_run.specs.Places.{Indexer, Held, Place, reading, staged, uploaded, idle, is_idle, number_held}
+use Rattle.node_run.specs.Lines.{AreNames}
+use Rattle.node_run.specs.Seen.{seen}
+use Rattle.node_run.specs.declared.line.Line.{Line as CodeLine}
+use Rattle.node_run.specs.declared.drive.Accepts.TheVariants as accepts
+use Rattle.indexing_run.specs.Standing.{IndexerStands, PlaceStands, StepsAs, Answers, IsSaid as IsIndexerSaid}
+use Rattle.indexing_run.specs.Steps as indexing
+use Rattle.indexing_run.specs.declared.indexer.Indexer.{Indexer as Reader}
+use Rattle.indexing_run.specs.declared.indexer.Place.{Place as HeldPlace}
+use Rattle.indexing_run.specs.declared.indexer.Place.TheVariants as places
+use Rattle.indexing_run.specs.declared.outcome.IndexerOutcome.{IndexerOutcome as Said}
+use Rattle.root_search.proofs.Stands.{searcher_goes_on}
+use Rattle.root_search.specs.Searching.{SearcherStands, SearchesAs, IsRequest}
+use Rattle.root_search.specs.declared.searcher.Request.{Request as KeptRequest}
+use Rattle.root_search.specs.declared.searcher.Request.TheVariants as requests
+use Rattle.root_search.specs.Steps.{Client, without_request}
+use Rattle.root_search.specs.Steps as searching
+use Rattle.root_search.specs.declared.outcome.SearchStep.{SearchStep as GivenStep}
+use Rattle.root_search.specs.declared.searcher.Searcher.{Searcher}
+use Rattle.node_run.specs.declared.drive.DriveNode.{DriveNode}
+use Rattle.node_run.specs.declared.out_line.OutLine.{OutLine}
+use Rattle.node_run.specs.Lines.{outcome_text}
+use Rattle.node_run.specs.Named.{NamedAt}
+use Rattle.node_run.specs.Node.{Node, Line, At, Assign, StepIndexer, RestartIndexer, RestartClient, RestartNode, Open, StepClient, Outcome, indexer_said, client_said, request_busy, assigned, indexer_busy}
+use Rattle.node_run.specs.Standing.{PartsStand, NodeStands, DoesMost, DoesLine, IsSaid, HoldApart, AllApart}
+use Rattle.node_run.specs.Turns.{Luck, calm, Turn, Turned, turned, full_turn, turn_with, quiet, assign_at, with_indexer, indexer_at, made_idle, client_named, with_client, keep_client, stopped, restarted, indexer_stepped, client_stepped, indexing_luck, searching_luck, indexer_turn_by, client_turn_by, said_by_indexer, said_by_client, open_by}
+use Rattle.node_run.proofs.Names.{named_name, named_with, with_with, named_stands, named_set}
+use Rattle.node_run.proofs.Ticking.{indexer_ticks, client_ticks, loaded_ticks}
+use Rattle.node_run.proofs.Zips.{zip_length, zip_weaker, zip_set, zip_at, zip_right, map_set, map_at, others_apart, zip_step, new_apart, idle_apart, idle_all_apart, same_apart, other_of}
+
+-- ---- what is answered
+
+module _ {S L : Type 0} (told : L → Option Log) (count : L → ℕ) (since : L → L → Type 0) (firsts : List L) (node : Node) (line : Line) (new : DriveNode S L) where
+  pub most_done : (r : Result OutLine AllocError) (luck : Luck) (outcome : Outcome) (last : Node) → full_turn luck node line ≡ turned outcome last →
+      IfOk r (λ out. out.bytes ≡ outcome_text outcome) → NodeStands told count since firsts new last → DoesMost told count since firsts node line r new
+  most_done (Ok out) luck outcome last e text stands = (luck, outcome, last, e, text, stands)
+  most_done (Err refused) luck outcome last e text stands = inr (luck, turned outcome last, e, stands)
+
+  pub most_short : (Q : AllocError → Type 0) (r : Result OutLine AllocError) → IsErrAnd r Q → (luck : Luck) (turn : Turned) → full_turn luck node line ≡ turn →
+      NodeStands told count since firsts new turn.node → DoesMost told count since firsts node line r new
+  most_short Q (Ok out) err luck turn e stands = absurd err
+  most_short Q (Err refused) err luck turn e stands = inr (luck, turn, e, stands)
+
+  pub most_none : (Q : AllocError → Type 0) (r : Result OutLine AllocError) → IsErrAnd r Q → NodeStands told count since firsts new node →
+      DoesMost told count since firsts node line r new
+  most_none Q (Ok out) err stands = absurd err
+  most_none Q (Err refused) err stands = inl stands
+
+-- ---- an indexer changes
+
+pub clock_on : (core : Core) (clock : ℕ) → GoesOn None core (record core { clock = clock })
+clock_on core clock =
+    record {
+      grown = ([], sym (append-nil core.history));
+      faults = omega arith;
+      moment = omega arith;
+      keeps = record {
+        unused = λ n other u. record { staged = u.staged; unpublished = u.unpublished; absent = u.absent; not_late = u.not_late };
+        uploaded = λ n bytes u. record { staged = u.staged; file = u.file; not_late = u.not_late };
+        staged = λ n delta facts h. h;
+      };
+    }
+
+staged_of : {L : Type 0} (told : L → Option Log) (count : L → ℕ) (reader : Reader L) (indexer : Indexer) (core : Core) (log : Log) (n : ℕ) →
+    IndexerStands told count reader indexer core log → number_held indexer.place ≡ Some n → has_staged (journal_of core) n ≡ true
+staged_of {L} told count reader indexer core log n s held = by reader.place s.place where
+  some_same : (a b : ℕ) → Some a ≡ Some b → a ≡ b
+  some_same a b e = cc
+
+  none_some : None ≡ Some n → ⊥
+  none_some e = cc
+
+  by : (kept : HeldPlace) → PlaceStands log core kept indexer.place → has_staged (journal_of core) n ≡ true
+  by places.Idle p = absurd (none_some (sym (ap number_held p) ∙ held))
+  by (places.Reading batch) p = absurd (none_some (sym (ap number_held p.1) ∙ held))
+  by (places.Staged token bytes) p =
+      subst (λ m. has_staged (journal_of core) m ≡ true) (some_same p.0.number n (sym (ap number_held p.1) ∙ held)) p.4.unused.staged
+  by (places.Uploaded token) p =
+      subst (λ m. has_staged (journal_of core) m ≡ true) (some_same p.0.number n (sym (ap number_held p.1) ∙ held)) p.3.uploaded.staged
+
+module _ {L : Type 0} (told : L → Option Log) (count : L → ℕ) (since : L → L → Type 0) (on_then : (a b c : L) → since a b → since b c → since a c) (firsts : List L)
+    (world : Keeping) (readers : List (Reader L)) (searchers : List Searcher) (clock : ℕ) (down : Bool) (node : Node)
+    (p : PartsStand told count since firsts world readers searchers clock down node) where
+  abbrev R : Reader L → Indexer → Type 0
+  R reader indexer = IndexerStands told count reader indexer node.core node.log
+
+  abbrev C : Searcher → Client → Type 0
+  C searcher client = SearcherStands searcher client node.core node.log
+
+  pub later_set : (i : ℕ) (old new : Reader L) → old ≡ get_or readers i old → since old.log new.log → AllZip since firsts (map (λ reader. reader.log) (slice_set readers i new))
+  later_set i old new e on =
+      subst (λ (l : List L). AllZip since firsts l) (sym (map_set (λ reader. reader.log) readers i new))
+      (zip_right since firsts (map (λ reader. reader.log) readers) i old.log new.log p.later (map_at (λ reader. reader.log) readers i old e)
+      (λ first before. on_then first old.log new.log before on))
+
+  -- it is made idle
+  pub idle_parts : (i : ℕ) (old new : Reader L) → i < length readers → old ≡ get_or readers i old → since old.log new.log →
+      ((indexer : Indexer) (core after : Core) (read : Log) → IndexerStands told count old indexer core read → IndexerStands told count new (made_idle indexer) after read) →
+      PartsStand told count since firsts world (slice_set readers i new) searchers clock down (with_indexer i (made_idle (indexer_at node.indexers i)) node)
+  idle_parts i old new h e on again =
+      record {
+        world_stands = p.world_stands;
+        is_log = p.is_log;
+        moment = p.moment;
+        down = p.down;
+        indexers = zip_set R readers node.indexers i new (made_idle (indexer_at node.indexers i)) p.indexers
+            (again (indexer_at node.indexers i) node.core node.core node.log
+            (zip_at R readers node.indexers i old p.indexers h e));
+        apart = idle_apart node.indexers i (indexer_at node.indexers i) p.apart;
+        clients = p.clients;
+        later = later_set i old new e on;
+      }
+
+  -- it stands for another one with the same place
+  pub placed_parts : (i : ℕ) (old new : Reader L) (after : Indexer) → i < length readers → old ≡ get_or readers i old → since old.log new.log →
+      after.place ≡ (indexer_at node.indexers i).place → IndexerStands told count new after node.core node.log →
+      PartsStand told count since firsts world (slice_set readers i new) searchers clock down (with_indexer i after node)
+  placed_parts i old new after h e on same stands =
+      record {
+        world_stands = p.world_stands;
+        is_log = p.is_log;
+        moment = p.moment;
+        down = p.down;
+        indexers = zip_set R readers node.indexers i new after p.indexers stands;
+        apart = same_apart node.indexers i after
+            (subst (λ n. i < n) (zip_length R readers node.indexers p.indexers) h) same p.apart;
+        clients = p.clients;
+        later = later_set i old new e on;
+      }
+
+  -- it took a step
+  pub stepped_parts : (i : ℕ) (old new : Reader L) (world' : Keeping) (result : Result Said AllocError) → i < length readers → old ≡ get_or readers i old →
+      since old.log new.log → (s : StepsAs told count WorldStands NoneBetween result (indexer_at node.indexers i) node.core node.log new world') →
+      PartsStand told count since firsts world' (slice_set readers i new) searchers clock down (record (with_indexer i s.after node) { core = s.behind })
+  stepped_parts i old new world' result h e on s =
+      let apart = others_apart node.indexers i p.apart (subst (λ n. i < n) (zip_length R readers node.indexers p.indexers) h) in
+      record {
+        world_stands = s.gate;
+        is_log = p.is_log;
+        moment = p.moment ∙ sym (ap (λ c. c.clock) s.passed) ∙ sym (indexer_ticks s.luck node.log (indexer_at node.indexers i) s.mid) ∙ ap (λ step. step.core.clock) s.did;
+        down = p.down;
+        indexers = zip_step R (λ reader indexer. IndexerStands told count reader indexer s.behind node.log) (HoldApart (indexer_at node.indexers i)) readers node.indexers i new s.after p.indexers apart
+            (λ reader indexer stands off. indexer_stays told count reader indexer node.core s.behind node.log (number_held (indexer_at node.indexers i).place) s.goes_on (other_of (indexer_at node.indexers i) indexer off) stands)
+            s.stands;
+        apart = new_apart R (HoldApart (indexer_at node.indexers i)) readers node.indexers i s.after p.indexers apart p.apart
+            (λ reader indexer stands off n at_after at_other.
+            off n (s.apart n (staged_of told count reader indexer node.core node.log n stands at_other) at_after) at_other);
+        clients = zip_weaker C (λ searcher client. SearcherStands searcher client s.behind node.log)
+            searchers node.clients (λ searcher client stands. searcher_goes_on (number_held (indexer_at node.indexers i).place) searcher client node.core s.behind node.log s.goes_on stands) p.clients;
+        later = later_set i old new e on;
+      }
+
+  -- ---- a client changes
+
+  -- of a list of searchers in which it is known, one is changed
+  pub client_parts : (name : List ℕ) (known : List Searcher) (m c : Client) (place : ℕ) (searcher : Searcher) → m.name ≡ name → c.name ≡ name →
+      AllZip C known (with_client m node.clients) → NamedAt name known place → SearcherStands searcher c node.core node.log →
+      PartsStand told count since firsts world readers (slice_set known place searcher) clock down (keep_client c node)
+  client_parts name known m c place searcher em ec zip at stands =
+      record {
+        world_stands = p.world_stands;
+        is_log = p.is_log;
+        moment = p.moment;
+        down = p.down;
+        indexers = p.indexers;
+        apart = p.apart;
+        clients = subst (λ (l : List Client). AllZip C (slice_set known place searcher) l) (with_with c m node.clients (ec ∙ sym em))
+            (named_set node.core node.core node.log name known (with_client m node.clients) place searcher c (λ t n w. w) ec at zip stands);
+        later = p.later;
+      }
+
+  -- none is changed
+  pub known_parts : (known : List Searcher) (ms : List Client) → AllZip C known ms →
+      PartsStand told count since firsts world readers known clock down (record node { clients = ms })
+  known_parts known ms zip =
+      record {
+        world_stands = p.world_stands;
+        is_log = p.is_log;
+        moment = p.moment;
+        down = p.down;
+        indexers = p.indexers;
+        apart = p.apart;
+        clients = zip;
+        later = p.later;
+      }
+
+  -- a client that was known stays as it was
+  pub same_parts : (searchers' : List Searcher) (ms : List Client) → ms ≡ node.clients →
+      PartsStand told count since firsts world readers searchers' clock down (record node { clients = ms }) →
+      PartsStand told count since firsts world readers searchers' clock down node
+  same_parts searchers' ms e q =
+      subst (λ (ns : List Client). PartsStand told count since firsts world readers searchers' clock down (record node { clients = ns })) e q
+
+  -- it took a step
+  pub searched_parts : (name : List ℕ) (known : List Searcher) (m : Client) (place : ℕ) (new : Searcher) (world' : Keeping) (result : Result GivenStep AllocError) →
+      m.name ≡ name → AllZip C known (with_client m node.clients) → NamedAt name known place →
+      (s : SearchesAs WorldStands NoneBetween result new world' m node.core node.log) → s.later.name ≡ name →
+      PartsStand told count since firsts world' readers (slice_set known place new) clock down (record (keep_client s.later node) { core = s.after })
+  searched_parts name known m place new world' result em zip at s el =
+      record {
+        world_stands = s.gate_stands;
+        is_log = p.is_log;
+        moment = p.moment ∙ sym (ap (λ c. c.clock) s.passed) ∙ sym (client_ticks s.luck node.log m s.mid) ∙ ap (λ step. step.core.clock) s.did;
+        down = p.down;
+        indexers = zip_weaker R (λ reader indexer. IndexerStands told count reader indexer s.after node.log) readers node.indexers
+            (λ reader indexer stands. indexer_stays told count reader indexer node.core s.after node.log None s.goes_on (λ n held. tt) stands) p.indexers;
+        apart = p.apart;
+        clients = subst (λ (l : List Client). AllZip (λ searcher client. SearcherStands searcher client s.after node.log) (slice_set known place new) l)
+            (with_with s.later m node.clients (el ∙ sym em))
+            (named_set node.core s.after node.log name known (with_client m node.clients) place new s.later
+            (λ t n w. searcher_goes_on None t n node.core s.after node.log s.goes_on w) el at zip s.searcher);
+        later = p.later;
+      }
+
+  -- ---- the clock is set
+
+  pub clock_parts : (moment : ℕ) (world' : Keeping) → WorldStands world' (record (node.core) { clock = moment }) node.log →
+      PartsStand told count since firsts world' readers searchers moment down (record node { core = record (node.core) { clock = moment } })
+  clock_parts moment world' stands =
+      record {
+        world_stands = stands;
+        is_log = p.is_log;
+        moment = refl;
+        down = p.down;
+        indexers = zip_weaker R (λ reader indexer. IndexerStands told count reader indexer (record (node.core) { clock = moment }) node.log) readers node.indexers
+            (λ reader indexer stands. indexer_stays told count reader indexer node.core (record (node.core) { clock = moment }) node.log None
+            (clock_on node.core moment) (λ n held. tt) stands) p.indexers;
+        apart = p.apart;
+        clients = zip_weaker C (λ searcher client. SearcherStands searcher client (record (node.core) { clock = moment }) node.log) searchers node.clients
+            (λ searcher client w. searcher_goes_on None searcher client node.core (record (node.core) { clock = moment }) node.log (clock_on node.core moment) w) p.clients;
+        later = p.later;
+      }
+
+  -- ---- all stop
+
+  pub stopped_parts : (readers' : List (Reader L)) (searchers' : List Searcher) (world' : Keeping) (down' : Bool) (core : Core) → core.clock ≡ node.core.clock →
+      WorldStands world' core node.log → map (λ reader. reader.log) readers' ≡ map (λ reader. reader.log) readers →
+      AllZip (λ reader indexer. IndexerStands told count reader indexer core node.log) readers' (map made_idle node.indexers) →
+      AllZip (λ searcher client. SearcherStands searcher client core node.log) searchers' (map without_request node.clients) →
+      PartsStand told count since firsts world' readers' searchers' clock down' (record (restarted node) { core = core; down = down' })
+  stopped_parts readers' searchers' world' down' core same stands logs indexers clients =
+      record {
+        world_stands = stands;
+        is_log = p.is_log;
+        moment = p.moment ∙ sym same;
+        down = refl;
+        indexers = indexers;
+        apart = idle_all_apart node.indexers;
+        clients = clients;
+        later = subst (λ (l : List L). AllZip since firsts l) (sym logs) p.later;
+      }
+
+-- ---- a step's names
+
+pub searched_name : (luck : searching.Luck) (log : Log) (client : Client) (core : Core) → (searching.step_client luck log client core).client.name ≡ client.name
+searched_name luck log client core = short luck.short where
+  troubled : (revision : ℕ) (t : Trouble) (c : Core) → (searching.trouble_replied revision t client c).client.name ≡ client.name
+  troubled revision (faulted fault) c = refl
+  troubled revision no_memory c = refl
+
+  refused : (revision : ℕ) (t : Trouble) (c : Core) → (searching.refusal_by revision t client c).client.name ≡ client.name
+  refused revision (faulted fault) c = refl
+  refused revision no_memory c = refl
+
+  plan : (r : Result ⊤ Trouble) (asked : Option (List ℕ)) (c : Core) → (searching.plan_by r asked client c).client.name ≡ client.name
+  plan (Ok done) (Some word) c = refl
+  plan (Ok done) None c = refl
+  plan (Err t) (Some word) c = troubled client.front t c
+  plan (Err t) None c = refused client.front t c
+
+  fetch : (r : Result ⊤ Trouble) (plan : searching.Plan) (number : ℕ) (more : List ℕ) (c : Core) → (searching.fetch_by r plan number more client c).client.name ≡ client.name
+  fetch (Ok done) plan number more c = refl
+  fetch (Err t) plan number more c = troubled plan.revision t c
+
+  next : (p : searching.Plan) (unfetched : List ℕ) → (searching.next_step luck log p unfetched client core).client.name ≡ client.name
+  next p [] = refl
+  next p (number ∷ more) = fetch (fetched luck.world core).answer p number more (fetched luck.world core).core
+
+  request : (r : searching.Request) → (searching.step_request r luck log client core).client.name ≡ client.name
+  request searching.no_request = refl
+  request (searching.opened text) = plan (asked_and_looked luck.world core).answer (word_asked text) (asked_and_looked luck.world core).core
+  request (searching.planned p) = next p p.unfetched
+
+  short : (b : Bool) → (searching.or_short b client (searching.step_request client.request luck log client core)).client.name ≡ client.name
+  short true = refl
+  short false = request client.request
+
+-- ---- turns
+
+pub indexer_turns : {L : Type 0} (told : L → Option Log) (count : L → ℕ) (node : Node) (i : ℕ) (new : Reader L) (world' : Keeping) (result : Result Said AllocError) →
+    node.down ≡ false → (s : StepsAs told count WorldStands NoneBetween result (indexer_at node.indexers i) node.core node.log new world') →
+    full_turn (record { log = s.luck.log; world = s.luck.world; inner = s.luck.short; early = false; short = false }) node (StepIndexer i)
+    ≡ record { said = said_by_indexer i s.outcome; node = record (with_indexer i s.after node) { core = s.behind } }
+indexer_turns told count node i new world' result up s =
+    let luck : Luck = record { log = s.luck.log; world = s.luck.world; inner = s.luck.short; early = false; short = false } in
+    ap (λ b. indexer_turn_by b luck i node) up
+    ∙ ap (λ core. indexer_stepped i node (indexing.step_indexer s.luck node.log (indexer_at node.indexers i) core)) (sym s.passed)
+    ∙ ap (indexer_stepped i node) s.did
+
+pub client_turns : (node : Node) (name : List ℕ) (new : Searcher) (world' : Keeping) (result : Result GivenStep AllocError) → node.down ≡ false →
+    (s : SearchesAs WorldStands NoneBetween result new world' (client_named name node.clients) node.core node.log) →
+    full_turn (record { log = calm.log; world = s.luck.world; inner = s.luck.short; early = false; short = false }) node (StepClient name)
+    ≡ record { said = said_by_client name s.outcome; node = record (keep_client s.later node) { core = s.after } }
+client_turns node name new world' result up s =
+    let luck : Luck = record { log = calm.log; world = s.luck.world; inner = s.luck.short; early = false; short = false } in
+    ap (λ b. client_turn_by b luck name node) up
+    ∙ ap (λ core. client_stepped name node (searching.step_client s.luck node.log (client_named name node.clients) core)) (sym s.passed)
+    ∙ ap (client_stepped name node) s.did
+
+pub said_some : (given : Said) (o : Option IndexerOutcome) → Answers (Ok given) o → (x : IndexerOutcome) × (o ≡ Some x) × IsIndexerSaid given x
+said_some given None a = absurd a
+said_some given (Some x) a = (x, refl, a)
+
+pub busy_turn : (r : searching.Request) (name text : List ℕ) (client : Client) (node : Node) → (r ≡ searching.no_request → ⊥) →
+    open_by r name text client node ≡ turned (request_busy name) node
+busy_turn searching.no_request name text client node busy = absurd (busy refl)
+busy_turn (searching.opened other) name text client node busy = refl
+busy_turn (searching.planned plan) name text client node busy = refl
+
+-- ---- a whole line
+
+full_same : (luck : Luck) (early short : Bool) (node : Node) (line : Line) → full_turn (record luck { early = early; short = short }) node line ≡ full_turn luck node line
+full_same luck early short node (At moment) = refl
+full_same luck early short node (Assign i names) = refl
+full_same luck early short node (StepIndexer i) = by node.down where
+  by : (b : Bool) → indexer_turn_by b (record luck { early = early; short = short }) i node ≡ indexer_turn_by b luck i node
+  by true = refl
+  by false = refl
+full_same luck early short node (RestartIndexer i) = refl
+full_same luck early short node (RestartClient name) = refl
+full_same luck early short node RestartNode = refl
+full_same luck early short node (Open name text) = refl
+full_same luck early short node (StepClient name) = by node.down where
+  by : (b : Bool) → client_turn_by b (record luck { early = early; short = short }) name node ≡ client_turn_by b luck name node
+  by true = refl
+  by false = refl
+
+module _ {S L : Type 0} (told : L → Option Log) (count : L → ℕ) (since : L → L → Type 0) (firsts : List L) (node : Node) (line : Line) where
+  pub does_ok : (out : OutLine) (new : DriveNode S L) → DoesMost told count since firsts node line (Ok out) new →
+      DoesLine told count since firsts node line (Ok out) new
+  does_ok out new d =
+      record {
+        outcome = Some d.1;
+        last = d.2;
+        turn = record { luck = record (d.0) { early = false; short = false }; is = full_same d.0 false false node line ∙ d.3 };
+        says = d.4;
+        stands = d.5;
+      }
+
+  pub does_err : (refused : AllocError) (mid new : DriveNode S L) → DoesMost told count since firsts node line (Err refused) mid →
+      ((n : Node) → NodeStands told count since firsts mid n → NodeStands told count since firsts new (quiet line n)) →
+      DoesLine told count since firsts node line (Err refused) new
+  does_err refused mid new (inl stands) quieted =
+      record {
+        outcome = None;
+        last = quiet line node;
+        turn = record { luck = record calm { early = true }; is = refl };
+        says = tt;
+        stands = quieted node stands;
+      }
+  does_err refused mid new (inr d) quieted =
+      record {
+        outcome = None;
+        last = quiet line d.1.node;
+        turn = record {
+          luck = record (d.0) { early = false; short = true };
+          is = ap (λ turn. record { said = None; node = quiet line turn.node }) (full_same d.0 false true node line ∙ d.2);
+        };
+        says = tt;
+        stands = quieted d.1.node d.3;
+      }
+
+pub quiet_along : {S L : Type 0} (told : L → Option Log) (count : L → ℕ) (since : L → L → Type 0) (firsts : List L) (node : Node) (a b : CodeLine) (new : DriveNode S L) →
+    a ≡ b → NodeStands told count since firsts new (quiet (seen b) node) → NodeStands told count since firsts new (quiet (seen a) node)
+quiet_along {S} {L} told count since firsts node a b new e stands =
+    subst (λ (l : CodeLine). NodeStands told count since firsts new (quiet (seen l) node)) (sym e) stands
+
+-- a slice of all is written back whole
+pub whole_back : {X : Type 0} (new old : List X) (len : ℕ) → length new ≡ length old → len ≡ length old → take len (new ++ drop (length new) old) ≡ new
+whole_back new old len e l = take_at new (drop (length new) old) len (e ∙ sym l)
+
+pub assign_idle : (place : Place) (i : ℕ) (names : List (List ℕ)) (indexer : Indexer) (node : Node) → is_idle place ≡ true →
+    assign_at place i names indexer node ≡ turned (assigned i (length names)) (with_indexer i (record indexer { assignment = Some names }) node)
+assign_idle idle i names indexer node e = refl
+assign_idle (reading batch) i names indexer node e = cc
+assign_idle (staged held) i names indexer node e = cc
+assign_idle (uploaded held) i names indexer node e = cc
+
+pub assign_busy : (place : Place) (i : ℕ) (names : List (List ℕ)) (indexer : Indexer) (node : Node) → is_idle place ≡ false →
+    assign_at place i names indexer node ≡ turned (indexer_busy i) node
+assign_busy idle i names indexer node e = cc
+assign_busy (reading batch) i names indexer node e = refl
+assign_busy (staged held) i names indexer node e = refl
+assign_busy (uploaded held) i names indexer node e = refl
+
+pub assigned_names : (names copy : List (List ℕ)) → copy ≡ names → AreNames names → IsAssigned (Some copy)
+assigned_names names copy e are = subst (λ (ns : List (List ℕ)). IsAssigned (Some ns)) (sym e) (are.each, are.apart)
+
+pub yes_below : (i n : ℕ) → i < n → accepts.Yes ≡ (if nat_lt i n then accepts.Yes else accepts.BadLine)
+yes_below i n h = rw (lt-ltb i n h) refl
+
+pub bad_above : (i n : ℕ) → n ≤ i → accepts.BadLine ≡ (if nat_lt i n then accepts.Yes else accepts.BadLine)
+bad_above i n h = rw (le-ltb i n h) refl
+
+pub set_self : (ys : List Indexer) (i : ℕ) → slice_set ys i (indexer_at ys i) ≡ ys
+set_self [] i = refl
+set_self (y ∷ ys) zero = refl
+set_self (y ∷ ys) (suc i) = ap (λ l. y ∷ l) (set_self ys i)
+
+pub map_twice : {A B C : Type 0} (f : B → C) (h : A → B) (xs : List A) → map (λ x. f (h x)) xs ≡ map f (map h xs)
+map_twice f h [] = refl
+map_twice f h (x ∷ xs) = ap (λ l. f (h x) ∷ l) (map_twice f h xs)
+
+pub stands_along : {S L : Type 0} (told : L → Option Log) (count : L → ℕ) (since : L → L → Type 0) (firsts : List L) (a b : DriveNode S L) (node : Node) → a ≡ b →
+    NodeStands told count since firsts b node → NodeStands told count since firsts a node
+stands_along {S} {L} told count since firsts a b node e stands =
+    subst (λ (d : DriveNode S L). NodeStands told count since firsts d node) (sym e) stands
+
+-- a world whose clock was set
+pub clocked : (world : Keeping) (core : Core) (log : Log) (given moment : ℕ) → WorldStands world core log → moment < 2 ^ 62 → given ≡ moment →
+    WorldStands (record world { clock = Some given }) (record core { clock = moment }) log
+clocked world core log given moment w low e =
+    record {
+      kept = w.kept;
+      told = w.told;
+      store_faults = w.store_faults;
+      moment = w.moment;
+      meta = w.meta;
+      next = w.next;
+      unsure = w.unsure;
+      awake = w.awake;
+      opened = w.opened;
+      world = record {
+        stands_for = record { journal = w.world.stands_for.journal; files = w.world.stands_for.files; late = w.world.stands_for.late; called = w.world.stands_for.called };
+        index = w.world.index;
+      };
+      timely = record { greatest = w.timely.greatest; moment = w.timely.moment; clock = low; room = w.timely.room };
+      clock = ap Some e;
+    }
+
+-- ---- an idle indexer and a client without a request stand over every core
+
+idle_over : {L : Type 0} (told : L → Option Log) (count : L → ℕ) (reader : Reader L) (indexer : Indexer) (core after : Core) (log : Log) →
+    IndexerStands told count reader (made_idle indexer) core log → IndexerStands told count reader (made_idle indexer) after log
+idle_over told count reader indexer core after log s =
+    record { told = s.told; log_faults = s.log_faults; assignment = s.assignment; assigned = s.assigned; place = by reader.place s.place }
+  where
+    by : (kept : HeldPlace) → PlaceStands log core kept idle → PlaceStands log after kept idle
+    by places.Idle p = p
+    by (places.Reading batch) p = p
+    by (places.Staged token bytes) p = absurd (cc p.1)
+    by (places.Uploaded token) p = absurd (cc p.1)
+
+pub all_idle_over : {L : Type 0} (told : L → Option Log) (count : L → ℕ) (readers : List (Reader L)) (indexers : List Indexer) (core after : Core) (log : Log) →
+    AllZip (λ reader indexer. IndexerStands told count reader indexer core log) readers (map made_idle indexers) →
+    AllZip (λ reader indexer. IndexerStands told count reader indexer after log) readers (map made_idle indexers)
+all_idle_over told count [] [] core after log z = z
+all_idle_over told count [] (i ∷ indexers) core after log z = absurd z
+all_idle_over told count (r ∷ readers) [] core after log z = absurd z
+all_idle_over told count (r ∷ readers) (i ∷ indexers) core after log z =
+    (idle_over told count r i core after log z.0, all_idle_over told count readers indexers core after log z.1)
+
+without_over : (searcher : Searcher) (client : Client) (core after : Core) (log : Log) →
+    SearcherStands searcher (without_request client) core log → SearcherStands searcher (without_request client) after log
+without_over searcher client core after log s = record { name = s.name; front = s.front; request = by searcher.request s.request } where
+  by : (kept : KeptRequest) → IsRequest kept searching.no_request core log → IsRequest kept searching.no_request after log
+  by requests.Vacant p = p
+  by (requests.Opened text) p = p
+  by (requests.Planned search) p = absurd (cc p.1)
+
+pub all_without_over : (searchers : List Searcher) (clients : List Client) (core after : Core) (log : Log) →
+    AllZip (λ searcher client. SearcherStands searcher client core log) searchers (map without_request clients) →
+    AllZip (λ searcher client. SearcherStands searcher client after log) searchers (map without_request clients)
+all_without_over [] [] core after log z = z
+all_without_over [] (c ∷ clients) core after log z = absurd z
+all_without_over (s ∷ searchers) [] core after log z = absurd z
+all_without_over (s ∷ searchers) (c ∷ clients) core after log z =
+    (without_over s c core after log z.0, all_without_over searchers clients core after log z.1)
+
+-- a stopped node whose world was loaded, or stayed
+pub loaded_parts : {L : Type 0} (told : L → Option Log) (count : L → ℕ) (since : L → L → Type 0) (firsts : List L) (world world' : Keeping) (readers : List (Reader L))
+    (searchers : List Searcher) (clock : ℕ) (down down' : Bool) (node : Node) (after : Core) (fate : Fate) (answer : Result ⊤ Unread) →
+    PartsStand told count since firsts world readers searchers clock down (stopped node.core node) → loaded fate node.core ≡ gives answer after →
+    WorldStands world' after node.log → PartsStand told count since firsts world' readers searchers clock down' (record (restarted node) { core = after; down = down' })
+loaded_parts told count since firsts world world' readers searchers clock down down' node after fate answer p did stands =
+    record {
+      world_stands = stands;
+      is_log = p.is_log;
+      moment = p.moment ∙ sym (loaded_ticks fate node.core) ∙ ap (λ given. given.core.clock) did;
+      down = refl;
+      indexers = all_idle_over told count readers node.indexers node.core after node.log p.indexers;
+      apart = p.apart;
+      clients = all_without_over searchers node.clients node.core after node.log p.clients;
+      later = p.later;
+    }

@@ -1,0 +1,29 @@
+use Rattle.std.proofs.Common.{◌≡◌, ◌∙◌, ap, sym, subst, refl, arith, true, false, List, map}
+use Rattle.std.specs.List.{AllZip}
+use Rattle.std.specs.Prelude.{Some}
+use Rattle.indexing_run.specs.Standing.{IndexerStands}
+use Rattle.root_search.specs.Searching.{SearcherStands}
+use Rattle.root_search.specs.Steps.{Client, without_request, opened, no_request}
+use Rattle.root_search.specs.declared.searcher.Searcher.{Searcher}
+use Rattle.node_run.specs.Named.{NamedAt, IsUnknown}
+use Rattle.node_run.specs.Node as said
+use Rattle.node_run.specs.Standing.{NodeStands, PartsStand}
+use Rattle.node_run.specs.Turns.{calm, Luck, with_indexer, indexer_at, made_idle, client_named, with_client, keep_client, with_dropped, quiet, indexer_turn_by, client_turn_by, open_by, said_by_indexer, said_by_client}
+use Rattle.node_run.proofs.Names.{named_name, named_below, named_stands, named_set, named_dropped, unknown_dropped, known_one, kept_by_request}
+use Rattle.node_run.proofs.Zips.{zip_at}
+use Rattle.node_run.proofs.Parts.{most_done, most_short, idle_parts, stepped_parts, client_parts, known_parts, searched_parts, stopped_parts, searched_name, indexer_turns, client_turns, said_some, busy_turn, does_ok, does_err}
+use Rattle.node_run.proofs.Parts.{clock_parts, stands_along, clocked}
+use Rattle.node_run.proofs.drive.DriveNode.at_line.Goals as goal
+use Rattle.node_run.proofs.drive.DriveNode.at_line.Goals.{then-moment-lt-MOMENT_END, else-moment-lt-MOMENT_END}
+
+pub returns-clause-does : goal.returns-clause-does
+returns-clause-does g c = λ firsts node p low.
+    elim c.if-moment-lt-MOMENT_END.branch [
+      | then-moment-lt-MOMENT_END w ↦ 
+          most_done g.L.SourceLog.told g.L.SourceLog.fault_count g.L.SourceLog.since firsts node (said.At c.args.moment) c.if-moment-lt-MOMENT_END.self c.at.result calm (said.at_said c.args.moment)
+          (record node { core = record (node.core) { clock = c.args.moment } }) refl c.at.ensures
+          (stands_along g.L.SourceLog.told g.L.SourceLog.fault_count g.L.SourceLog.since firsts c.if-moment-lt-MOMENT_END.self _ (record node { core = record (node.core) { clock = c.args.moment } }) w.self-is
+          (clock_parts g.L.SourceLog.told g.L.SourceLog.fault_count g.L.SourceLog.since g.met.L.SourceLog.since_then firsts c.args.self.now.world c.args.self.now.indexers.items c.args.self.now.clients.items c.args.self.now.moment c.args.self.now.down node p c.args.moment (record (c.args.self.now.world) { clock = Some w.set.new.self })
+          (clocked c.args.self.now.world node.core node.log w.set.new.self c.args.moment p.world_stands low w.set.ensures)))
+      | else-moment-lt-MOMENT_END w ↦ absurd (omega (arith, low, w.if-moment-lt-MOMENT_END.false))
+    ]

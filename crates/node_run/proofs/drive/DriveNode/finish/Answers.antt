@@ -1,0 +1,24 @@
+use Rattle.std.proofs.Common.{◌∙◌, ap, map, sum}
+use Rattle.std.specs.Prelude.{min}
+use Rattle.index_world.specs.Core.{last_count}
+use Rattle.node_run.proofs.Parts.{map_twice}
+use Rattle.node_run.proofs.drive.DriveNode.finish.Goals as goal
+
+pub returns-clause-store : goal.returns-clause-store
+returns-clause-store g c = λ firsts node p.
+    record {
+      kept = p.world_stands.kept;
+      tells = c.unload.ensures.told ∙ p.world_stands.told;
+      world = p.world_stands.world;
+      faults = c.unload.ensures.faults ∙ p.world_stands.store_faults;
+    }
+
+pub returns-clause-faults : goal.returns-clause-faults
+returns-clause-faults g c = λ firsts node p.
+    record {
+      lasts = map (λ reader. reader.log) c.args.self.indexers.items;
+      later = p.later;
+      sum_is = c.sum_of_faults-faults.ensures
+          ∙ ap (λ rs. min (sum (map (λ reader. g.L.SourceLog.fault_count reader.log) rs)) last_count) c.as_slice.ensures.value
+          ∙ ap (λ ns. min (sum ns) last_count) (map_twice g.L.SourceLog.fault_count (λ reader. reader.log) c.args.self.indexers.items);
+    }

@@ -1,0 +1,44 @@
+use Rattle.std.proofs.Common.{◌≡◌, ◌∙◌, ap, sym, subst, refl, arith, true, false, List, map}
+use Rattle.std.specs.List.{AllZip}
+use Rattle.std.specs.Prelude.{Some}
+use Rattle.indexing_run.specs.Standing.{IndexerStands}
+use Rattle.root_search.specs.Searching.{SearcherStands}
+use Rattle.root_search.specs.Steps.{Client, without_request, opened, no_request}
+use Rattle.root_search.specs.declared.searcher.Searcher.{Searcher}
+use Rattle.node_run.specs.Named.{NamedAt, IsUnknown}
+use Rattle.node_run.specs.Node as said
+use Rattle.node_run.specs.Standing.{NodeStands, PartsStand}
+use Rattle.node_run.specs.Turns.{calm, Luck, with_indexer, indexer_at, made_idle, client_named, with_client, keep_client, with_dropped, quiet, indexer_turn_by, client_turn_by, open_by, said_by_indexer, said_by_client}
+use Rattle.node_run.proofs.Names.{named_name, named_below, named_stands, named_set, named_dropped, unknown_dropped, known_one, kept_by_request}
+use Rattle.node_run.proofs.Zips.{zip_at}
+use Rattle.node_run.proofs.Parts.{most_done, most_short, idle_parts, stepped_parts, client_parts, known_parts, searched_parts, stopped_parts, searched_name, indexer_turns, client_turns, said_some, busy_turn, does_ok, does_err}
+use Rattle.node_run.proofs.drive.DriveNode.indexer_line.Goals as goal
+
+pub returns-then-self-clause-does : goal.returns-then-self-clause-does
+returns-then-self-clause-does g c = λ firsts node p.
+    most_done g.L.SourceLog.told g.L.SourceLog.fault_count g.L.SourceLog.since firsts node (said.StepIndexer c.args.number) _ c.indexer_down.result calm (said.indexer_down c.args.number) node
+    (ap (λ b. indexer_turn_by b calm c.args.number node) (sym p.down ∙ c.if-self.true)) c.indexer_down.ensures p
+
+pub returns-in_err-outcome-clause-does : goal.returns-in_err-outcome-clause-does
+returns-in_err-outcome-clause-does g c = λ firsts node p.
+    let s = c.in_err-outcome.ensures.step (indexer_at node.indexers c.args.number) node.core node.log
+        (zip_at (λ reader indexer. IndexerStands g.L.SourceLog.told g.L.SourceLog.fault_count reader indexer node.core node.log) c.args.self.now.indexers.items node.indexers
+        c.args.number c.index_mut.result.now p.indexers (omega (arith, c.requires, c.args.self.now.indexers.ok.0)) c.index_mut.ensures.value) p.world_stands in
+    most_short g.L.SourceLog.told g.L.SourceLog.fault_count g.L.SourceLog.since firsts node (said.StepIndexer c.args.number) _ _ c.from_residual.result c.from_residual.ensures.1 (record { log = s.luck.log; world = s.luck.world; inner = s.luck.short; early = false; short = false })
+    (record { said = said_by_indexer c.args.number s.outcome; node = record (with_indexer c.args.number s.after node) { core = s.behind } })
+    (indexer_turns g.L.SourceLog.told g.L.SourceLog.fault_count node c.args.number c.step_indexer.new.indexer c.step_indexer.new.world _ (sym p.down ∙ c.if-self.false) s)
+    (stepped_parts g.L.SourceLog.told g.L.SourceLog.fault_count g.L.SourceLog.since g.met.L.SourceLog.since_then firsts c.args.self.now.world c.args.self.now.indexers.items c.args.self.now.clients.items c.args.self.now.moment c.args.self.now.down node p c.args.number c.index_mut.result.now c.step_indexer.new.indexer c.step_indexer.new.world _
+    (omega (arith, c.requires, c.args.self.now.indexers.ok.0)) c.index_mut.ensures.value c.in_err-outcome.ensures.later s)
+
+pub returns-clause-does : goal.returns-clause-does
+returns-clause-does g c = λ firsts node p.
+    let s = c.in_ok-outcome.ensures.step (indexer_at node.indexers c.args.number) node.core node.log
+        (zip_at (λ reader indexer. IndexerStands g.L.SourceLog.told g.L.SourceLog.fault_count reader indexer node.core node.log) c.args.self.now.indexers.items node.indexers
+        c.args.number c.index_mut.result.now p.indexers (omega (arith, c.requires, c.args.self.now.indexers.ok.0)) c.index_mut.ensures.value) p.world_stands in
+    let x = said_some c.in_ok-outcome.outcome s.outcome s.answer in
+    most_done g.L.SourceLog.told g.L.SourceLog.fault_count g.L.SourceLog.since firsts node (said.StepIndexer c.args.number) _ c.indexer.result (record { log = s.luck.log; world = s.luck.world; inner = s.luck.short; early = false; short = false }) (said.indexer_said c.args.number x.0)
+    (record (with_indexer c.args.number s.after node) { core = s.behind })
+    (indexer_turns g.L.SourceLog.told g.L.SourceLog.fault_count node c.args.number c.step_indexer.new.indexer c.step_indexer.new.world _ (sym p.down ∙ c.if-self.false) s ∙ ap (λ o. record { said = said_by_indexer c.args.number o; node = record (with_indexer c.args.number s.after node) { core = s.behind } }) x.1)
+    (c.indexer.ensures x.0 x.2)
+    (stepped_parts g.L.SourceLog.told g.L.SourceLog.fault_count g.L.SourceLog.since g.met.L.SourceLog.since_then firsts c.args.self.now.world c.args.self.now.indexers.items c.args.self.now.clients.items c.args.self.now.moment c.args.self.now.down node p c.args.number c.index_mut.result.now c.step_indexer.new.indexer c.step_indexer.new.world _
+    (omega (arith, c.requires, c.args.self.now.indexers.ok.0)) c.index_mut.ensures.value c.in_ok-outcome.ensures.later s)

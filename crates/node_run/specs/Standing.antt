@@ -1,0 +1,121 @@
+-- What a node of the code stands for, and what its calls say of that.
+use Rattle.std.specs.Prelude.{◌≡◌, ◌⊎◌, ℕ, ◌||◌, Bool, false, List, [], ◌∷◌, length, map, min, nat_lt, sum, if◌then◌else◌, Option, Some, None, Result, Ok, Err, bytes_eq}
+use Rattle.std.specs.List.{AllByRecursion, AllZip, list_any}
+use Rattle.std.specs.declared.alloc.AllocError.{AllocError}
+use Rattle.object_store.specs.Store.{State}
+use Rattle.source_log.specs.Log.{Log, IsLog}
+use Rattle.index_world.specs.Core.{Core, last_count}
+use Rattle.index_world.specs.World.{IsWorld, Keeping, WorldStands}
+use Rattle.indexing_run.specs.Places.{Indexer, number_held}
+use Rattle.indexing_run.specs.Standing.{IndexerStands}
+use Rattle.indexing_run.specs.declared.indexer.Indexer.{Indexer as Reader}
+use Rattle.root_search.specs.Steps.{Client}
+use Rattle.root_search.specs.Searching.{SearcherStands}
+use Rattle.root_search.specs.declared.searcher.Searcher.{Searcher}
+use Rattle.node_run.specs.declared.drive.Accepts.{Accepts}
+use Rattle.node_run.specs.declared.drive.Accepts.TheVariants as accepts
+use Rattle.node_run.specs.declared.drive.DriveNode.{DriveNode}
+use Rattle.node_run.specs.declared.out_line.OutLine.{OutLine}
+use Rattle.node_run.specs.Lines.{outcome_text}
+use Rattle.node_run.specs.Node.{Node, Line, At, Assign, StepIndexer, RestartIndexer, RestartClient, RestartNode, Open, StepClient, Outcome}
+use Rattle.node_run.specs.Turns.{Luck, Turn, Turned, turned, full_turn, reader_of}
+
+-- no two of them hold one number
+abbrev pub HoldApart : Indexer → Indexer → Type 0
+HoldApart a b = (number : ℕ) → number_held a.place ≡ Some number → number_held b.place ≡ Some number → ⊥
+
+abbrev pub AllApart : List Indexer → Type 0
+AllApart [] = Unit {0}
+AllApart (indexer ∷ indexers) = AllByRecursion (HoldApart indexer) indexers × AllApart indexers
+
+-- The parts of a node of the code stand for this one. `firsts` are its logs as they were handed in.
+pub record PartsStand {L : Type 0} (told : L → Option Log) (count : L → ℕ) (since : L → L → Type 0) (firsts : List L)
+    (world : Keeping) (readers : List (Reader L)) (searchers : List Searcher) (clock : ℕ) (is_down : Bool) (node : Node) : Type 0 where
+  pub world_stands : WorldStands world node.core node.log
+  pub is_log : IsLog node.log
+  pub moment : clock ≡ node.core.clock
+  pub down : is_down ≡ node.down
+  pub indexers : AllZip (λ reader indexer. IndexerStands told count reader indexer node.core node.log) readers node.indexers
+  pub apart : AllApart node.indexers
+  -- in the order in which lines named them
+  pub clients : AllZip (λ searcher client. SearcherStands searcher client node.core node.log) searchers node.clients
+  pub later : AllZip since firsts (map (λ reader. reader.log) readers)
+
+-- a node of the code stands for this one
+abbrev pub NodeStands : {S L : Type 0} → (L → Option Log) → (L → ℕ) → (L → L → Type 0) → List L → DriveNode S L → Node → Type 0
+NodeStands {S} {L} told count since firsts drive node =
+    PartsStand told count since firsts drive.world drive.indexers.items drive.clients.items drive.moment drive.down node
+
+-- ---- start
+
+-- a node of fresh readers over an opened world
+abbrev pub fresh_node : Core → Log → List ℕ → Node
+fresh_node core log counts = record { log = log; core = core; down = false; indexers = map reader_of counts; clients = [] }
+
+-- ---- accepts
+
+abbrev pub max_clients : ℕ
+max_clients = 10000
+
+abbrev pub is_known : List ℕ → List Client → Bool
+is_known name clients = list_any (λ client. bytes_eq client.name name) clients
+
+abbrev pub accepts_indexer : ℕ → Node → Accepts
+accepts_indexer i node = if nat_lt i (length node.indexers) then accepts.Yes else accepts.BadLine
+
+abbrev pub accepts_client : List ℕ → Node → Accepts
+accepts_client name node =
+    if nat_lt (length node.clients) max_clients || is_known name node.clients then accepts.Yes else accepts.TooManyClients
+
+-- an indexer has a number, a moment doesn't fall, and a client is known or one of the first 10,000
+abbrev pub accepts_of : Node → Line → Accepts
+accepts_of node (At moment) = if nat_lt moment node.core.clock then accepts.BadLine else accepts.Yes
+accepts_of node (Assign i names) = accepts_indexer i node
+accepts_of node (StepIndexer i) = accepts_indexer i node
+accepts_of node (RestartIndexer i) = accepts_indexer i node
+accepts_of node (RestartClient name) = accepts_client name node
+accepts_of node RestartNode = accepts.Yes
+accepts_of node (Open name text) = accepts_client name node
+accepts_of node (StepClient name) = accepts_client name node
+
+-- ---- step
+
+-- the printed line of what was said; without memory nothing is said
+abbrev pub IsSaid : Result OutLine AllocError → Option Outcome → Type 0
+IsSaid (Ok out) (Some outcome) = out.bytes ≡ outcome_text outcome
+IsSaid (Ok out) None = ⊥
+IsSaid (Err refused) (Some outcome) = ⊥
+IsSaid (Err refused) None = Unit {0}
+
+-- a line was done: it is a turn of the node that this one stood for, and it stands for the node behind it
+pub record DoesLine {S L : Type 0} (told : L → Option Log) (count : L → ℕ) (since : L → L → Type 0) (firsts : List L) (node : Node) (line : Line)
+    (result : Result OutLine AllocError) (new : DriveNode S L) : Type 0 where
+  pub outcome : Option Outcome
+  pub last : Node
+  pub turn : Turn node line outcome last
+  pub says : IsSaid result outcome
+  pub stands : NodeStands told count since firsts new last
+
+-- A line was done in full, or, without memory, not at all or as far as it went. What it holds then is dropped later.
+abbrev pub DoesMost : {S L : Type 0} → (L → Option Log) → (L → ℕ) → (L → L → Type 0) → List L → Node → Line → Result OutLine AllocError → DriveNode S L → Type 0
+DoesMost told count since firsts node line (Ok out) new =
+    (luck : Luck) × (outcome : Outcome) × (last : Node) × (full_turn luck node line ≡ turned outcome last)
+    × (out.bytes ≡ outcome_text outcome) × NodeStands told count since firsts new last
+DoesMost told count since firsts node line (Err refused) new =
+    NodeStands told count since firsts new node
+    ⊎ ((luck : Luck) × (turn : Turned) × (full_turn luck node line ≡ turn) × NodeStands told count since firsts new turn.node)
+
+-- ---- finish
+
+-- the sum of the counts of these logs, which are later states of the first ones
+pub record LetGo {L : Type 0} (count : L → ℕ) (since : L → L → Type 0) (firsts : List L) (total : ℕ) : Type 0 where
+  pub lasts : List L
+  pub later : AllZip since firsts lasts
+  pub sum_is : total ≡ min (sum (map count lasts)) last_count
+
+-- the store that a node gives back is that of its core
+pub record GivesStore {S : Type 0} (told : S → Option State) (count : S → ℕ) (store : S) (core : Core) (log : Log) : Type 0 where
+  pub kept : State
+  pub tells : told store ≡ Some kept
+  pub world : IsWorld kept core log
+  pub faults : count store ≡ core.store_faults
