@@ -11,3 +11,4 @@ pub mod Fitted
 pub mod Onward
 pub mod Going
 pub mod Taking
+pub mod Driving

@@ -1,5 +1,10 @@
 //! The top call: one command over a store, logs, a clock, an input and an output.
 
+ghost use Rattle.std.specs.Prelude.{◌≡◌, List, map};
+ghost use Rattle.std.specs.String.{string_bytes};
+ghost use Rattle.meta_journal.specs.declared.entry.Entry.{Entry};
+ghost use Rattle.quick_node.specs.Serve.{Before, After, Shows, ShowsAfter, EntersAs, Drives, IsDrive, RefusesWords, WroteWords};
+
 use crate::error_line::{End, print_end, status_of};
 use crate::running::run;
 use crate::writing::write_all;
@@ -81,7 +86,17 @@ pub fn serve<
     _clock: C,
     input: &mut R,
     output: &mut W,
-) -> Finished<S> {
+) -> Finished<S>
+    ensures drives { (history : List Entry) (before : Before) → IsDrive (map string_bytes words.now) →
+        Shows S.told S.fault_count L.told L.fault_count R.left R.fault_count W.content W.fault_count store logs.items input.old output.old before →
+        EntersAs history before →
+        (after : After) × ShowsAfter S.told L.fault_count L.since R.fault_count W.content W.fault_count
+            result.store result.store_faults result.log_faults logs.items input.new output.new after
+        × Drives history before after result.status }
+    ensures refuses { (IsDrive (map string_bytes words.now) → ⊥) →
+        RefusesWords S.told S.fault_count R.left R.fault_count store result.store input.old input.new
+        × WroteWords result.status (W.fault_count output.old) (W.fault_count output.new) (W.content output.old) (W.content output.new) }
+{
     if !is_drive(words) {
         return ended(
             alloc,
