@@ -50,6 +50,13 @@ zip_right R (a ∷ xs) [] i old new z e f = absurd z
 zip_right R (a ∷ xs) (b ∷ ys) zero old new z e f = (f a (subst (λ v. R a v) (sym e) z.0), z.1)
 zip_right R (a ∷ xs) (b ∷ ys) (suc i) old new z e f = (z.0, zip_right R xs ys i old new z.1 e f)
 
+pub zip_same : {A B C : Type 0} (R : A → B → Type 0) (f : A → C) (g : B → C) (xs : List A) (ys : List B) → ((x : A) (y : B) → R x y → f x ≡ g y) →
+    AllZip R xs ys → map f xs ≡ map g ys
+zip_same R f g [] [] e z = refl
+zip_same R f g [] (y ∷ ys) e z = absurd z
+zip_same R f g (x ∷ xs) [] e z = absurd z
+zip_same R f g (x ∷ xs) (y ∷ ys) e z = ap (λ v. v ∷ map f xs) (e x y z.0) ∙ ap (λ l. g y ∷ l) (zip_same R f g xs ys e z.1)
+
 pub map_set : {A B : Type 0} (f : A → B) (xs : List A) (i : ℕ) (x : A) → map f (slice_set xs i x) ≡ slice_set (map f xs) i (f x)
 map_set f [] i x = refl
 map_set f (a ∷ xs) zero x = refl

@@ -112,10 +112,11 @@ DoesMost told count since firsts node line (Err refused) new =
 
 -- ---- finish
 
--- the sum of the counts of these logs, which are later states of the first ones
-pub record LetGo {L : Type 0} (count : L → ℕ) (since : L → L → Type 0) (firsts : List L) (total : ℕ) : Type 0 where
+-- these are the counts of logs that are later states of the first ones, and this is their sum
+pub record LetGo {L : Type 0} (count : L → ℕ) (since : L → L → Type 0) (firsts : List L) (counts : List ℕ) (total : ℕ) : Type 0 where
   pub lasts : List L
   pub later : AllZip since firsts lasts
+  pub counts_are : map count lasts ≡ counts
   pub sum_is : total ≡ min (sum (map count lasts)) last_count
 
 -- the store that a node gives back is that of its core

@@ -13,6 +13,7 @@ ghost use Rattle.indexing_run.specs.Places.{Indexer as Actor, is_idle};
 ghost use Rattle.indexing_run.specs.Standing.{IndexerStands, StepsAs};
 ghost use Rattle.root_search.specs.Searching.{SearcherStands, SearchesAs};
 ghost use Rattle.root_search.specs.Steps.{Client as Asker, without_request};
+ghost use Rattle.node_run.specs.Calm.{log_counts};
 ghost use Rattle.node_run.specs.Fitting.{IsNumbered, IsYes};
 ghost use Rattle.node_run.specs.Lines.{IsWellFormed, AreNames, outcome_text};
 ghost use Rattle.node_run.specs.Named.{NamedAt, IsUnknown};
@@ -253,7 +254,7 @@ impl<S: ObjectStore, L: SourceLog> DriveNode<S, L> {
         ensures store { (firsts : List L) (node : Node) → NodeStands L.told L.fault_count L.since firsts self node →
             GivesStore S.told S.fault_count result.0 node.core node.log }
         ensures faults { (firsts : List L) (node : Node) → NodeStands L.told L.fault_count L.since firsts self node →
-            LetGo L.fault_count L.since firsts result.1 }
+            LetGo L.fault_count L.since firsts (log_counts node.indexers) result.1 }
     {
         let DriveNode {
             world,
