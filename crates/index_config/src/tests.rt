@@ -1,6 +1,7 @@
 use crate::{ConfigError, Mode, Policy, read_config};
 use doc_value::{Bytes, Kind, Text, Tokenizer};
 use std::alloc::{AllocError, Global};
+use std::test::Fail;
 
 fn with_path(alloc: Global, name: &str, path: &Text) -> Result<Bytes, AllocError> {
     let mut text = Bytes::from_slice(alloc, name.as_bytes())?;
@@ -72,282 +73,284 @@ fn the_first_configuration_is_read(rt: HostRuntime) -> Result<(), AllocError> {
 
 const TOP: &str = "index_id = \"logs\"\ndoc_mapping = {mode = \"strict\"}\n";
 
-#[test]
-fn settings_are_read_or_refused(rt: HostRuntime) -> Result<(), AllocError> {
-    for (rest, want) in [
-        ("", "ok"),
-        ("colour = 1\n", "UnknownKey colour"),
-        ("b = 1\na = 2\n", "UnknownKey a"),
-        ("version = 1\n", "WrongKind version"),
-        ("index_uri = 1\n", "WrongKind index_uri"),
-        ("[upkeep]\nstaged_grace_secs = 1\n", "ok"),
-        (
-            "[upkeep]\nstaged_grace_secs = 0\n",
-            "BadNumber upkeep.staged_grace_secs",
-        ),
-        ("[upkeep]\nstaged_grace_secs = 2147483647\n", "ok"),
-        (
-            "[upkeep]\nstaged_grace_secs = 2147483648\n",
-            "BadNumber upkeep.staged_grace_secs",
-        ),
-        (
-            "[upkeep]\ndeletion_grace_secs = -1\n",
-            "BadNumber upkeep.deletion_grace_secs",
-        ),
-        (
-            "[upkeep]\ndeletion_grace_secs = 1.0\n",
-            "WrongKind upkeep.deletion_grace_secs",
-        ),
-        ("upkeep = 1\n", "WrongKind upkeep"),
-        ("[upkeep]\nzz = 1\n", "UnknownKey upkeep.zz"),
-        ("[indexing_settings]\ncommit_timeout_secs = 86400\n", "ok"),
-        (
-            "[indexing_settings]\ncommit_timeout_secs = 86401\n",
-            "BadNumber indexing_settings.commit_timeout_secs",
-        ),
-        (
-            "[indexing_settings]\nsplit_num_docs_target = 16777216\n",
-            "ok",
-        ),
-        (
-            "[indexing_settings]\nsplit_num_docs_target = 16777217\n",
-            "BadNumber indexing_settings.split_num_docs_target",
-        ),
-        ("[indexing_settings]\nresources = {x = 1}\n", "ok"),
-        (
-            "[indexing_settings]\nresources = 1\n",
-            "WrongKind indexing_settings.resources",
-        ),
-        ("indexing_settings = 1\n", "WrongKind indexing_settings"),
-        (
-            "[indexing_settings]\nmerge_policy = 1\n",
-            "WrongKind indexing_settings.merge_policy",
-        ),
-        ("[indexing_settings.merge_policy]\n", "ok"),
-        (
-            "[indexing_settings.merge_policy]\ntype = \"other\"\n",
-            "WrongKind indexing_settings.merge_policy.type",
-        ),
-        (
-            "[indexing_settings.merge_policy]\ntype = \"no_merge\"\nmerge_factor = 2\n",
-            "UnknownKey indexing_settings.merge_policy.merge_factor",
-        ),
-        (
-            "[indexing_settings.merge_policy]\nmax_merge_ops = 2\n",
-            "UnknownKey indexing_settings.merge_policy.max_merge_ops",
-        ),
-        (
-            "[indexing_settings.merge_policy]\ntype = \"limit_merge\"\nmax_merge_ops = 100\n",
-            "ok",
-        ),
-        (
-            "[indexing_settings.merge_policy]\ntype = \"limit_merge\"\nmax_merge_ops = 101\n",
-            "BadNumber indexing_settings.merge_policy.max_merge_ops",
-        ),
-        (
-            "[indexing_settings.merge_policy]\nmerge_factor = 1\n",
-            "BadNumber indexing_settings.merge_policy.merge_factor",
-        ),
-        (
-            "[indexing_settings.merge_policy]\nmax_merge_factor = 9\n",
-            "BadNumber indexing_settings.merge_policy.max_merge_factor",
-        ),
-        (
-            "[indexing_settings.merge_policy]\nmax_merge_factor = 10\n",
-            "ok",
-        ),
-        (
-            "[indexing_settings.merge_policy]\nmin_level_num_docs = 0\n",
-            "BadNumber indexing_settings.merge_policy.min_level_num_docs",
-        ),
-        (
-            "[indexing_settings.merge_policy]\nmaturation_period = \"2  days\"\n",
-            "ok",
-        ),
-        (
-            "[indexing_settings.merge_policy]\nmaturation_period = \"0 s\"\n",
-            "ok",
-        ),
-        (
-            "[indexing_settings.merge_policy]\nmaturation_period = \"2 Days\"\n",
-            "WrongKind indexing_settings.merge_policy.maturation_period",
-        ),
-        (
-            "[indexing_settings.merge_policy]\nmaturation_period = \"2147483647s\"\n",
-            "ok",
-        ),
-        (
-            "[indexing_settings.merge_policy]\nmaturation_period = \"2147483648s\"\n",
-            "BadNumber indexing_settings.merge_policy.maturation_period",
-        ),
-        (
-            "[indexing_settings.merge_policy]\nmaturation_period = \"99999999999999999999999w\"\n",
-            "BadNumber indexing_settings.merge_policy.maturation_period",
-        ),
-        ("search_settings = []\n", "WrongKind search_settings"),
-        (
-            "[search_settings]\ndefault_search_fields = [\"a\"]\n",
-            "BadReference search_settings.default_search_fields.0",
-        ),
-        (
-            "[search_settings]\ndefault_search_fields = [1]\n",
-            "WrongKind search_settings.default_search_fields.0",
-        ),
-    ] {
-        let answer = shown(rt.alloc(), TOP, rest)?;
-        assert!(rt; answer.as_slice() == want.as_bytes(), "{rest}");
-    }
-    Ok(())
-}
+const SETTINGS: [(&str, &str); 40] = [
+    ("", "ok"),
+    ("colour = 1\n", "UnknownKey colour"),
+    ("b = 1\na = 2\n", "UnknownKey a"),
+    ("version = 1\n", "WrongKind version"),
+    ("index_uri = 1\n", "WrongKind index_uri"),
+    ("[upkeep]\nstaged_grace_secs = 1\n", "ok"),
+    (
+        "[upkeep]\nstaged_grace_secs = 0\n",
+        "BadNumber upkeep.staged_grace_secs",
+    ),
+    ("[upkeep]\nstaged_grace_secs = 2147483647\n", "ok"),
+    (
+        "[upkeep]\nstaged_grace_secs = 2147483648\n",
+        "BadNumber upkeep.staged_grace_secs",
+    ),
+    (
+        "[upkeep]\ndeletion_grace_secs = -1\n",
+        "BadNumber upkeep.deletion_grace_secs",
+    ),
+    (
+        "[upkeep]\ndeletion_grace_secs = 1.0\n",
+        "WrongKind upkeep.deletion_grace_secs",
+    ),
+    ("upkeep = 1\n", "WrongKind upkeep"),
+    ("[upkeep]\nzz = 1\n", "UnknownKey upkeep.zz"),
+    ("[indexing_settings]\ncommit_timeout_secs = 86400\n", "ok"),
+    (
+        "[indexing_settings]\ncommit_timeout_secs = 86401\n",
+        "BadNumber indexing_settings.commit_timeout_secs",
+    ),
+    (
+        "[indexing_settings]\nsplit_num_docs_target = 16777216\n",
+        "ok",
+    ),
+    (
+        "[indexing_settings]\nsplit_num_docs_target = 16777217\n",
+        "BadNumber indexing_settings.split_num_docs_target",
+    ),
+    ("[indexing_settings]\nresources = {x = 1}\n", "ok"),
+    (
+        "[indexing_settings]\nresources = 1\n",
+        "WrongKind indexing_settings.resources",
+    ),
+    ("indexing_settings = 1\n", "WrongKind indexing_settings"),
+    (
+        "[indexing_settings]\nmerge_policy = 1\n",
+        "WrongKind indexing_settings.merge_policy",
+    ),
+    ("[indexing_settings.merge_policy]\n", "ok"),
+    (
+        "[indexing_settings.merge_policy]\ntype = \"other\"\n",
+        "WrongKind indexing_settings.merge_policy.type",
+    ),
+    (
+        "[indexing_settings.merge_policy]\ntype = \"no_merge\"\nmerge_factor = 2\n",
+        "UnknownKey indexing_settings.merge_policy.merge_factor",
+    ),
+    (
+        "[indexing_settings.merge_policy]\nmax_merge_ops = 2\n",
+        "UnknownKey indexing_settings.merge_policy.max_merge_ops",
+    ),
+    (
+        "[indexing_settings.merge_policy]\ntype = \"limit_merge\"\nmax_merge_ops = 100\n",
+        "ok",
+    ),
+    (
+        "[indexing_settings.merge_policy]\ntype = \"limit_merge\"\nmax_merge_ops = 101\n",
+        "BadNumber indexing_settings.merge_policy.max_merge_ops",
+    ),
+    (
+        "[indexing_settings.merge_policy]\nmerge_factor = 1\n",
+        "BadNumber indexing_settings.merge_policy.merge_factor",
+    ),
+    (
+        "[indexing_settings.merge_policy]\nmax_merge_factor = 9\n",
+        "BadNumber indexing_settings.merge_policy.max_merge_factor",
+    ),
+    (
+        "[indexing_settings.merge_policy]\nmax_merge_factor = 10\n",
+        "ok",
+    ),
+    (
+        "[indexing_settings.merge_policy]\nmin_level_num_docs = 0\n",
+        "BadNumber indexing_settings.merge_policy.min_level_num_docs",
+    ),
+    (
+        "[indexing_settings.merge_policy]\nmaturation_period = \"2  days\"\n",
+        "ok",
+    ),
+    (
+        "[indexing_settings.merge_policy]\nmaturation_period = \"0 s\"\n",
+        "ok",
+    ),
+    (
+        "[indexing_settings.merge_policy]\nmaturation_period = \"2 Days\"\n",
+        "WrongKind indexing_settings.merge_policy.maturation_period",
+    ),
+    (
+        "[indexing_settings.merge_policy]\nmaturation_period = \"2147483647s\"\n",
+        "ok",
+    ),
+    (
+        "[indexing_settings.merge_policy]\nmaturation_period = \"2147483648s\"\n",
+        "BadNumber indexing_settings.merge_policy.maturation_period",
+    ),
+    (
+        "[indexing_settings.merge_policy]\nmaturation_period = \"99999999999999999999999w\"\n",
+        "BadNumber indexing_settings.merge_policy.maturation_period",
+    ),
+    ("search_settings = []\n", "WrongKind search_settings"),
+    (
+        "[search_settings]\ndefault_search_fields = [\"a\"]\n",
+        "BadReference search_settings.default_search_fields.0",
+    ),
+    (
+        "[search_settings]\ndefault_search_fields = [1]\n",
+        "WrongKind search_settings.default_search_fields.0",
+    ),
+];
 
 const FIELD: &str =
     "index_id = \"logs\"\n[doc_mapping]\nmode = \"strict\"\n[[doc_mapping.field_mappings]]\n";
 
-#[test]
-fn fields_are_read_or_refused(rt: HostRuntime) -> Result<(), AllocError> {
-    for (rest, want) in [
-        ("", "MissingKey doc_mapping.field_mappings.0.name"),
-        (
-            "name = \"a\"\n",
-            "MissingKey doc_mapping.field_mappings.0.type",
-        ),
-        ("name = \"a\"\ntype = \"u64\"\n", "ok"),
-        (
-            "name = \"1a\"\ntype = \"u64\"\n",
-            "WrongKind doc_mapping.field_mappings.0.name",
-        ),
-        ("name = \"@a-1\"\ntype = \"u64\"\n", "ok"),
-        (
-            "name = \"\"\ntype = \"u64\"\n",
-            "WrongKind doc_mapping.field_mappings.0.name",
-        ),
-        (
-            "name = \"a\"\ntype = \"f64\"\n",
-            "WrongKind doc_mapping.field_mappings.0.type",
-        ),
-        (
-            "name = \"a\"\ntype = \"u64\"\ntokenizer = \"raw\"\n",
-            "UnknownKey doc_mapping.field_mappings.0.tokenizer",
-        ),
-        (
-            "name = \"a\"\ntype = \"array<text>\"\ntokenizer = \"raw\"\n",
-            "ok",
-        ),
-        (
-            "name = \"a\"\ntype = \"text\"\ntokenizer = \"other\"\n",
-            "WrongKind doc_mapping.field_mappings.0.tokenizer",
-        ),
-        (
-            "name = \"a\"\ntype = \"text\"\nrecord = \"none\"\n",
-            "WrongKind doc_mapping.field_mappings.0.record",
-        ),
-        (
-            "name = \"a\"\ntype = \"text\"\nfast = 1\n",
-            "WrongKind doc_mapping.field_mappings.0.fast",
-        ),
-        (
-            "name = \"a\"\ntype = \"text\"\noutput_format = \"x\"\n",
-            "ok",
-        ),
-        (
-            "name = \"a\"\ntype = \"datetime\"\ninput_formats = []\n",
-            "ok",
-        ),
-        (
-            "name = \"a\"\ntype = \"datetime\"\ninput_formats = [\"rfc3339\", \"iso\"]\n",
-            "WrongKind doc_mapping.field_mappings.0.input_formats.1",
-        ),
-        (
-            "name = \"a\"\ntype = \"object\"\n",
-            "MissingKey doc_mapping.field_mappings.0.field_mappings",
-        ),
-        (
-            "name = \"a\"\ntype = \"object\"\nfield_mappings = []\n",
-            "ok",
-        ),
-        (
-            "name = \"a\"\ntype = \"object\"\nfield_mappings = [1]\n",
-            "WrongKind doc_mapping.field_mappings.0.field_mappings.0",
-        ),
-        (
-            "name = \"a\"\ntype = \"object\"\nfast = true\nfield_mappings = []\n",
-            "UnknownKey doc_mapping.field_mappings.0.fast",
-        ),
-        (
-            "name = \"a\"\ntype = \"object\"\nfield_mappings = [{name = \"b\", type = \"x\"}]\n",
-            "WrongKind doc_mapping.field_mappings.0.field_mappings.0.type",
-        ),
-        (
-            "name = \"a\"\ntype = \"u64\"\n[[doc_mapping.field_mappings]]\nname = \"a\"\ntype = \"text\"\n",
-            "DuplicateField doc_mapping.field_mappings.1.name",
-        ),
-        (
-            "name = \"a\"\ntype = \"u64\"\n[search_settings]\ndefault_search_fields = [\"a\"]\n",
-            "BadReference search_settings.default_search_fields.0",
-        ),
-    ] {
-        let answer = shown(rt.alloc(), FIELD, rest)?;
-        assert!(rt; answer.as_slice() == want.as_bytes(), "{rest}");
+const FIELDS: [(&str, &str); 22] = [
+    ("", "MissingKey doc_mapping.field_mappings.0.name"),
+    (
+        "name = \"a\"\n",
+        "MissingKey doc_mapping.field_mappings.0.type",
+    ),
+    ("name = \"a\"\ntype = \"u64\"\n", "ok"),
+    (
+        "name = \"1a\"\ntype = \"u64\"\n",
+        "WrongKind doc_mapping.field_mappings.0.name",
+    ),
+    ("name = \"@a-1\"\ntype = \"u64\"\n", "ok"),
+    (
+        "name = \"\"\ntype = \"u64\"\n",
+        "WrongKind doc_mapping.field_mappings.0.name",
+    ),
+    (
+        "name = \"a\"\ntype = \"f64\"\n",
+        "WrongKind doc_mapping.field_mappings.0.type",
+    ),
+    (
+        "name = \"a\"\ntype = \"u64\"\ntokenizer = \"raw\"\n",
+        "UnknownKey doc_mapping.field_mappings.0.tokenizer",
+    ),
+    (
+        "name = \"a\"\ntype = \"array<text>\"\ntokenizer = \"raw\"\n",
+        "ok",
+    ),
+    (
+        "name = \"a\"\ntype = \"text\"\ntokenizer = \"other\"\n",
+        "WrongKind doc_mapping.field_mappings.0.tokenizer",
+    ),
+    (
+        "name = \"a\"\ntype = \"text\"\nrecord = \"none\"\n",
+        "WrongKind doc_mapping.field_mappings.0.record",
+    ),
+    (
+        "name = \"a\"\ntype = \"text\"\nfast = 1\n",
+        "WrongKind doc_mapping.field_mappings.0.fast",
+    ),
+    (
+        "name = \"a\"\ntype = \"text\"\noutput_format = \"x\"\n",
+        "ok",
+    ),
+    (
+        "name = \"a\"\ntype = \"datetime\"\ninput_formats = []\n",
+        "ok",
+    ),
+    (
+        "name = \"a\"\ntype = \"datetime\"\ninput_formats = [\"rfc3339\", \"iso\"]\n",
+        "WrongKind doc_mapping.field_mappings.0.input_formats.1",
+    ),
+    (
+        "name = \"a\"\ntype = \"object\"\n",
+        "MissingKey doc_mapping.field_mappings.0.field_mappings",
+    ),
+    (
+        "name = \"a\"\ntype = \"object\"\nfield_mappings = []\n",
+        "ok",
+    ),
+    (
+        "name = \"a\"\ntype = \"object\"\nfield_mappings = [1]\n",
+        "WrongKind doc_mapping.field_mappings.0.field_mappings.0",
+    ),
+    (
+        "name = \"a\"\ntype = \"object\"\nfast = true\nfield_mappings = []\n",
+        "UnknownKey doc_mapping.field_mappings.0.fast",
+    ),
+    (
+        "name = \"a\"\ntype = \"object\"\nfield_mappings = [{name = \"b\", type = \"x\"}]\n",
+        "WrongKind doc_mapping.field_mappings.0.field_mappings.0.type",
+    ),
+    (
+        "name = \"a\"\ntype = \"u64\"\n[[doc_mapping.field_mappings]]\nname = \"a\"\ntype = \"text\"\n",
+        "DuplicateField doc_mapping.field_mappings.1.name",
+    ),
+    (
+        "name = \"a\"\ntype = \"u64\"\n[search_settings]\ndefault_search_fields = [\"a\"]\n",
+        "BadReference search_settings.default_search_fields.0",
+    ),
+];
+
+const WHOLE_TEXTS: [(&str, &str); 17] = [
+    ("", "MissingKey index_id"),
+    ("index_id = ", "NotToml"),
+    ("index_id = \"ab\"", "WrongKind index_id"),
+    ("index_id = \"abc\"", "MissingKey doc_mapping"),
+    ("index_id = \"1bc\"\ndoc_mapping = 1", "WrongKind index_id"),
+    (
+        "index_id = \"abc\"\ndoc_mapping = 1",
+        "WrongKind doc_mapping",
+    ),
+    ("index_id = \"abc\"\ndoc_mapping = {}", "ModeNotBuilt"),
+    (
+        "index_id = \"abc\"\ndoc_mapping = {mode = \"dynamic\"}",
+        "ModeNotBuilt",
+    ),
+    (
+        "index_id = \"abc\"\ndoc_mapping = {mode = \"other\"}",
+        "WrongKind doc_mapping.mode",
+    ),
+    (
+        "index_id = \"abc\"\ndoc_mapping = {mode = \"lenient\"}",
+        "ok",
+    ),
+    (
+        "index_id = \"abc\"\ndoc_mapping = {mode = \"strict\", timestamp_field = \"t\"}",
+        "BadTimestampField",
+    ),
+    (
+        "index_id = \"abc\"\ndoc_mapping = {mode = \"strict\", timestamp_field = \"t\", field_mappings = [{name = \"t\", type = \"datetime\"}]}",
+        "BadTimestampField",
+    ),
+    (
+        "index_id = \"abc\"\ndoc_mapping = {mode = \"strict\", timestamp_field = \"t\", field_mappings = [{name = \"t\", type = \"datetime\", fast = true}]}",
+        "ok",
+    ),
+    (
+        "index_id = \"abc\"\ndoc_mapping = {mode = \"strict\", tag_fields = [\"t\"], field_mappings = [{name = \"t\", type = \"text\"}]}",
+        "BadReference doc_mapping.tag_fields.0",
+    ),
+    (
+        "index_id = \"abc\"\ndoc_mapping = {mode = \"strict\", tag_fields = [\"t\"], field_mappings = [{name = \"t\", type = \"text\", tokenizer = \"raw\"}]}",
+        "ok",
+    ),
+    (
+        "index_id = \"abc\"\ndoc_mapping = {mode = \"strict\", tag_fields = [\"o.t\"], field_mappings = [{name = \"o\", type = \"object\", field_mappings = [{name = \"t\", type = \"bool\"}]}]}",
+        "ok",
+    ),
+    (
+        "index_id = \"abc\"\ndoc_mapping = {mode = \"strict\", store_source = 1}",
+        "WrongKind doc_mapping.store_source",
+    ),
+];
+
+/// The place of the first text of a table that isn't answered as it says, behind this head.
+fn first_wrong(
+    alloc: Global,
+    head: &str,
+    table: &[(&str, &str)],
+) -> Result<Option<usize>, AllocError> {
+    for (place, (rest, want)) in table.iter().enumerate() {
+        let answer = shown(alloc, head, rest)?;
+        if answer.as_slice() != want.as_bytes() {
+            return Ok(Some(place));
+        }
     }
-    Ok(())
+    Ok(None)
 }
 
 #[test]
-fn whole_texts_are_read_or_refused(rt: HostRuntime) -> Result<(), AllocError> {
-    for (text, want) in [
-        ("", "MissingKey index_id"),
-        ("index_id = ", "NotToml"),
-        ("index_id = \"ab\"", "WrongKind index_id"),
-        ("index_id = \"abc\"", "MissingKey doc_mapping"),
-        ("index_id = \"1bc\"\ndoc_mapping = 1", "WrongKind index_id"),
-        (
-            "index_id = \"abc\"\ndoc_mapping = 1",
-            "WrongKind doc_mapping",
-        ),
-        ("index_id = \"abc\"\ndoc_mapping = {}", "ModeNotBuilt"),
-        (
-            "index_id = \"abc\"\ndoc_mapping = {mode = \"dynamic\"}",
-            "ModeNotBuilt",
-        ),
-        (
-            "index_id = \"abc\"\ndoc_mapping = {mode = \"other\"}",
-            "WrongKind doc_mapping.mode",
-        ),
-        (
-            "index_id = \"abc\"\ndoc_mapping = {mode = \"lenient\"}",
-            "ok",
-        ),
-        (
-            "index_id = \"abc\"\ndoc_mapping = {mode = \"strict\", timestamp_field = \"t\"}",
-            "BadTimestampField",
-        ),
-        (
-            "index_id = \"abc\"\ndoc_mapping = {mode = \"strict\", timestamp_field = \"t\", field_mappings = [{name = \"t\", type = \"datetime\"}]}",
-            "BadTimestampField",
-        ),
-        (
-            "index_id = \"abc\"\ndoc_mapping = {mode = \"strict\", timestamp_field = \"t\", field_mappings = [{name = \"t\", type = \"datetime\", fast = true}]}",
-            "ok",
-        ),
-        (
-            "index_id = \"abc\"\ndoc_mapping = {mode = \"strict\", tag_fields = [\"t\"], field_mappings = [{name = \"t\", type = \"text\"}]}",
-            "BadReference doc_mapping.tag_fields.0",
-        ),
-        (
-            "index_id = \"abc\"\ndoc_mapping = {mode = \"strict\", tag_fields = [\"t\"], field_mappings = [{name = \"t\", type = \"text\", tokenizer = \"raw\"}]}",
-            "ok",
-        ),
-        (
-            "index_id = \"abc\"\ndoc_mapping = {mode = \"strict\", tag_fields = [\"o.t\"], field_mappings = [{name = \"o\", type = \"object\", field_mappings = [{name = \"t\", type = \"bool\"}]}]}",
-            "ok",
-        ),
-        (
-            "index_id = \"abc\"\ndoc_mapping = {mode = \"strict\", store_source = 1}",
-            "WrongKind doc_mapping.store_source",
-        ),
-    ] {
-        let answer = shown(rt.alloc(), text, "")?;
-        assert!(rt; answer.as_slice() == want.as_bytes(), "{text}");
-    }
+fn configurations_are_read_or_refused(rt: HostRuntime) -> Result<(), Fail> {
+    assert_eq!(rt; first_wrong(rt.alloc(), TOP, &SETTINGS)?, None);
+    assert_eq!(rt; first_wrong(rt.alloc(), FIELD, &FIELDS)?, None);
+    assert_eq!(rt; first_wrong(rt.alloc(), "", &WHOLE_TEXTS)?, None);
     Ok(())
 }
