@@ -2,3 +2,4 @@ pub mod Rules
 pub mod Tables
 pub mod Fields
 pub mod Answer
+pub mod Accepted

@@ -8,6 +8,7 @@ pub mod config_error;
 mod durations;
 mod fields;
 mod keys;
+pub mod laws;
 pub mod lists;
 mod names;
 pub mod raw;

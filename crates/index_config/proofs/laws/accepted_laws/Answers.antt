@@ -1,0 +1,11 @@
+use Rattle.index_config.proofs.Accepted.{accepted-schema, accepted-timestamp, accepted-formats, accepted-defaults, accepted-named}
+use Rattle.index_config.proofs.laws.accepted_laws.Goals as goal
+
+pub returns : goal.returns
+returns c = record {
+  schema = accepted-schema;
+  timestamp = accepted-timestamp;
+  formats = accepted-formats;
+  defaults = accepted-defaults;
+  named = accepted-named;
+}

@@ -1,0 +1,21 @@
+// Laws of accepted configurations, over the definitions alone.
+
+ghost use Rattle.std.specs.Prelude.{◌≡◌, ℕ, List, Ok, length};
+ghost use Rattle.doc_value.specs.Documents.{IsSchema};
+ghost use Rattle.index_config.specs.Accepted.{AreNamed, AreNumbers};
+ghost use Rattle.index_config.specs.Answer.{config_answer};
+ghost use Rattle.index_config.specs.declared.config.IndexConfig.{IndexConfig};
+
+/// What holds of each configuration that is accepted.
+pub fn accepted_laws()
+    // Its fields are a schema: at most 256, in rising byte order of their paths, and its timestamp is a fast datetime field.
+    ensures schema { (text : List ℕ) (config : IndexConfig) → config_answer text ≡ Ok config → IsSchema config.schema }
+    // Its timestamp is the schema's.
+    ensures timestamp { (text : List ℕ) (config : IndexConfig) → config_answer text ≡ Ok config → config.timestamp_field ≡ config.schema.timestamp }
+    // There are as many formats as fields.
+    ensures formats { (text : List ℕ) (config : IndexConfig) → config_answer text ≡ Ok config → length config.formats ≡ length config.schema.fields }
+    // Each default search field is a field.
+    ensures defaults { (text : List ℕ) (config : IndexConfig) → config_answer text ≡ Ok config → AreNumbers config.schema.fields config.default_fields }
+    // Each path is a text with at least one byte.
+    ensures named { (text : List ℕ) (config : IndexConfig) → config_answer text ≡ Ok config → AreNamed config.schema.fields }
+{}
