@@ -3,7 +3,7 @@ use Rattle.std.proofs.Common.{◌≡◌, ◌⊎◌, ℕ, ◌+◌, ◌<◌, Bool,
 use Rattle.std.proofs.lemmas.Bool.{eqb-true, ltb-true, or_cases}
 use Rattle.std.proofs.lemmas.List.{length-append}
 use Rattle.std.specs.Prelude.{◌≢◌, Option, Some, None, Result, Err, ⊤, slice_get, is_some, nat_lt, ◌==◌, ◌&&◌, ◌||◌}
-use Rattle.byte_fields.specs.Causes.{MayFail}
+use Rattle.byte_fields.specs.Causes.{Rose}
 use Rattle.meta_journal.specs.declared.entry.Entry.{Entry}
 use Rattle.index_world.specs.Calls.{Fate, Call, Fault, store_fault, faulted, no_memory, Unread, not_read, Gives, gives, risen, may_fail, entry_lands, file_lands, late_lands, land_at, all_landed, begun, loaded, load_by, unless_empty, read_journal}
 use Rattle.index_world.specs.Calls as calls
@@ -15,9 +15,8 @@ use Rattle.quick_node.specs.Serve.{Before, After, End, by_reading, no_index, ope
 use Rattle.quick_node.proofs.InOneWay.{reads_in_one_way}
 
 -- a count that stood still made nothing fail
-still_not_failed : (before after : ℕ) → StoodStill before after → MayFail before after → ⊥
-still_not_failed before after s (inl rose) = omega (arith, s.0, rose)
-still_not_failed before after s (inr end) = omega (arith, s.0, s.1, end)
+still_not_failed : (before after : ℕ) → StoodStill before after → Rose before after → ⊥
+still_not_failed before after s rose = omega (arith, s.0, s.1, rose)
 
 -- ---- the count of the store
 

@@ -3,3 +3,4 @@ pub mod Serve
 pub mod Pieces
 pub mod Held
 pub mod Ending
+pub mod Running

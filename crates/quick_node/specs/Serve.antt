@@ -3,7 +3,7 @@ use Rattle.std.specs.Prelude.{◌≡◌, ◌⊎◌, ◌≢◌, ℕ, ◌<◌, ◌
 use Rattle.meta_journal.specs.declared.entry.Entry.{Entry}
 use Rattle.object_store.specs.Store.{State}
 use Rattle.source_log.specs.Log.{Log, Extends}
-use Rattle.byte_fields.specs.Causes.{MayFail}
+use Rattle.byte_fields.specs.Causes.{Rose}
 use Rattle.index_world.specs.Calls.{Fate, gives, faulted, no_memory, store_fault, Unread, not_read, loaded}
 use Rattle.index_world.specs.Calls as calls
 use Rattle.index_world.specs.Core.{Core, last_count}
@@ -93,7 +93,7 @@ error_of out_of_memory = []
 
 -- a last line was written, or a front of it where a write may have failed
 abbrev pub WroteLine : ℕ → ℕ → List ℕ → List ℕ → Type 0
-WroteLine before after line text = (text ≡ line) ⊎ (MayFail before after × IsPrefixOf text line)
+WroteLine before after line text = (text ≡ line) ⊎ (Rose before after × IsPrefixOf text line)
 
 -- these lines and then the status's own; where writing failed or memory ran out a front of the lines
 abbrev pub Wrote : ℕ → ℕ → End → List ℕ → List ℕ → Type 0
@@ -110,9 +110,9 @@ HasEnd before after lines (by_reading ending) = (ending ≢ stopped) × Reads (l
 HasEnd before after lines no_index = lines ≡ []
 HasEnd before after lines (opening_failed low high) = lines ≡ []
 HasEnd before after lines read_failed =
-    Reads (length before.log_faults) before.input lines stopped × MayFail before.read_faults after.read_faults
+    Reads (length before.log_faults) before.input lines stopped × Rose before.read_faults after.read_faults
 HasEnd before after lines write_failed =
-    Reads (length before.log_faults) before.input lines stopped × MayFail before.write_faults after.write_faults
+    Reads (length before.log_faults) before.input lines stopped × Rose before.write_faults after.write_faults
 HasEnd before after lines out_of_memory = Reads (length before.log_faults) before.input lines stopped
 
 -- ---- the node's life

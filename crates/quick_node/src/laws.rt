@@ -1,11 +1,12 @@
 //! What holds of each run, by its definitions alone. Each law is the contract of a function that does nothing.
 
-ghost use Rattle.std.specs.Prelude.{◌≡◌, ◌⊎◌, ◌≢◌, ℕ, ◌<◌, List, [], ◌∷◌, ◌++◌, length, Option, Some};
+ghost use Rattle.std.specs.Prelude.{◌≡◌, ◌⊎◌, ◌≢◌, ℕ, ◌<◌, ◌≤◌, List, [], ◌∷◌, ◌++◌, length, Option, Some, Ok};
 ghost use Rattle.meta_journal.specs.declared.entry.Entry.{Entry};
 ghost use Rattle.node_run.specs.Node.{Node, Line, Outcome};
 ghost use Rattle.node_run.specs.Turns.{Turn, turns};
 ghost use Rattle.quick_node.specs.Reading.{Ending, stopped, Reads};
-ghost use Rattle.quick_node.specs.Serve.{IsPrefixOf, Before, After, End, HasEnd, IsFresh, Answers, Lives, IsShown, IsCalm, AnswersFrom, status_of, reading_status};
+ghost use Rattle.quick_node.specs.Running.{Counts, HasRun, HasRunEnd};
+ghost use Rattle.quick_node.specs.Serve.{IsPrefixOf, Before, After, End, HasEnd, IsFresh, Opens, Answers, Lives, IsShown, IsCalm, AnswersFrom, status_of, reading_status};
 
 /// Whatever lands and fails, the journal at entry is a prefix of each history that the last node's is a prefix of, and
 /// each search is answered.
@@ -50,4 +51,18 @@ pub fn the_outcomes_are_those_of_the_node()
         IsFresh before history fresh → IsShown after last → IsCalm before after → before.kept.late ≡ [] →
         (end : End) (lines : List Line) (outcomes : List Outcome) → HasEnd before after lines end → Lives before end fresh lines outcomes last →
         outcomes ≡ (turns fresh lines).outcomes }
+{}
+
+/// What a run over the lines of an opened node did is what the call did.
+pub fn a_run_is_what_the_call_did()
+    ensures { (before : Before) (fresh opened : Node) → Opens fresh (Ok tt) opened → (end : End) (lines : List Line) (outcomes : List Outcome) (last : Node) →
+        HasRun (length before.log_faults) before.input end opened lines outcomes last → Lives before end fresh lines outcomes last }
+{}
+
+/// And its end is the call's, whose counts are those before the run and at least those behind it.
+pub fn a_run_ends_as_the_call_did()
+    ensures { (before : Before) (after : After) (counts : Counts) (lines : List Line) (end : End) →
+        counts.read_before ≡ before.read_faults → counts.read_after ≤ after.read_faults →
+        counts.write_before ≡ before.write_faults → counts.write_after ≤ after.write_faults →
+        HasRunEnd (length before.log_faults) before.input counts lines end → HasEnd before after lines end }
 {}

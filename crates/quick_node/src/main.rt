@@ -4,6 +4,7 @@
 mod error_line;
 pub mod laws;
 mod lines;
+mod running;
 mod serving;
 mod streams;
 mod writing;

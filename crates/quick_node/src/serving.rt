@@ -1,18 +1,15 @@
 //! The top call: one command over a store, logs, a clock, an input and an output.
 
-ghost use Rattle.std.specs.Prelude.{◌≡◌, ◌<◌, ◌≤◌, ◌+◌, length, vec_len};
-ghost use Rattle.node_run.specs.Fitting.{IsNumbered};
-
 use crate::error_line::{End, print_end, status_of};
-use crate::lines::{Lines, Next};
+use crate::running::run;
 use crate::writing::write_all;
-use byte_fields::{Bytes, Sink, Source};
+use byte_fields::{Sink, Source};
 use clock_time::{Clock, ScriptClock};
-use index_world::{Unopened, World, WorldError};
-use node_run::{Accepts, DriveNode, Line, LineError, Unstarted, read_line};
+use index_world::{Unopened, World};
+use node_run::{DriveNode, Unstarted};
 use object_store::ObjectStore;
 use source_log::SourceLog;
-use std::alloc::{AllocError, Global};
+use std::alloc::Global;
 use std::sync::Wait;
 use std::thread::Threads;
 
@@ -31,84 +28,6 @@ fn sum_of_faults<L: SourceLog>(logs: &[L]) -> u64 {
         sum = sum.saturating_add(log.faults());
     }
     sum
-}
-
-// Does one line of the input. Gives how the run ends, where it ends with this line.
-fn take_line<Rt: Threads + Sync, S: ObjectStore, L: SourceLog, W: Sink>(
-    rt: &Rt,
-    alloc: Global,
-    node: &mut DriveNode<S, L>,
-    text: &[u8],
-    number: u64,
-    output: &mut W,
-) -> Result<Option<End>, AllocError> {
-    let line = match read_line(alloc, text) {
-        Ok(line) => line,
-        Err(LineError::BadLine) => return Ok(Some(End::BadLine(number))),
-        Err(LineError::Memory(refused)) => return Err(refused),
-    };
-    match node.accepts(&line) {
-        Accepts::BadLine => Ok(Some(End::BadLine(number))),
-        Accepts::TooManyClients => Ok(Some(End::ClientsOver)),
-        Accepts::Yes => answer_line(rt, alloc, node, &line, output),
-    }
-}
-
-fn answer_line<Rt: Threads + Sync, S: ObjectStore, L: SourceLog, W: Sink>(
-    rt: &Rt,
-    alloc: Global,
-    node: &mut DriveNode<S, L>,
-    line: &Line,
-    output: &mut W,
-) -> Result<Option<End>, AllocError>
-    requires { IsNumbered line.now (vec_len node.old.indexers) }
-{
-    let mut said = node.step(rt, alloc, line)?.bytes;
-    said.push(b'\n')?;
-    match write_all(output, said.as_slice()) {
-        Ok(()) => Ok(None),
-        Err(_) => Ok(Some(End::WriteFault)),
-    }
-}
-
-// Reads the input, and does its lines one after another.
-fn run_lines<Rt: Threads + Sync, S: ObjectStore, L: SourceLog, R: Source, W: Sink>(
-    rt: &Rt,
-    alloc: Global,
-    node: &mut DriveNode<S, L>,
-    input: &mut R,
-    output: &mut W,
-) -> Result<End, AllocError> {
-    let mut lines = Lines::start(alloc)?;
-    let mut number: u64 = 0;
-    'lines: loop {
-        match lines.next(input)? {
-            Next::Line => {
-                number = number.saturating_add(1);
-                let end = take_line(rt, alloc, node, lines.line(), number, output)?;
-                if let Some(end) = end {
-                    return Ok(end);
-                }
-            }
-            Next::End => return Ok(End::Done),
-            Next::LineOver => return Ok(End::LineOver),
-            Next::InputOver => return Ok(End::InputOver),
-            Next::Fault => return Ok(End::ReadFault),
-        }
-    }
-}
-
-fn run<Rt: Threads + Sync, S: ObjectStore, L: SourceLog, R: Source, W: Sink>(
-    rt: &Rt,
-    alloc: Global,
-    node: &mut DriveNode<S, L>,
-    input: &mut R,
-    output: &mut W,
-) -> End {
-    match run_lines(rt, alloc, node, input, output) {
-        Ok(end) => end,
-        Err(_) => End::Memory,
-    }
 }
 
 // Writes the last line. Where its text finds no memory, the status is that of want of memory.

@@ -1,0 +1,5 @@
+use Rattle.quick_node.proofs.Driving.{run_ends}
+use Rattle.quick_node.proofs.laws.a_run_ends_as_the_call_did.Goals as goal
+
+pub returns : goal.returns
+returns c = run_ends

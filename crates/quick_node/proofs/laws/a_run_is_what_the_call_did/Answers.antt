@@ -1,0 +1,5 @@
+use Rattle.quick_node.proofs.Driving.{run_lives}
+use Rattle.quick_node.proofs.laws.a_run_is_what_the_call_did.Goals as goal
+
+pub returns : goal.returns
+returns c before fresh opened opens = run_lives before fresh opened opens

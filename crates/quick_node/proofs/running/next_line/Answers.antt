@@ -1,0 +1,112 @@
+use Rattle.std.proofs.Common.{◌≡◌, ◌≤◌, ◌+◌, ◌++◌, ◌∷◌, [], ℕ, List, refl, sym, ap, ◌∙◌, subst, inl, inr, arith, rules}
+use Rattle.node_run.specs.Standing.{NodeStands}
+use Rattle.node_run.specs.Lines.{printed}
+use Rattle.node_run.specs.Node.{Node}
+use Rattle.quick_node.specs.declared.error_line.End.TheVariants as ended
+use Rattle.quick_node.specs.Held.{held as in_hand}
+use Rattle.quick_node.specs.Pieces.{IsLine, IsFault}
+use Rattle.quick_node.proofs.Going.{rose_earlier, ends_short, ends_by_fault, ends_at_end, ends_at_line, ends_at_input, line_came, ends_in_short, some_not_none, if_ok_any, if_ok_err}
+use Rattle.quick_node.proofs.running.next_line.Goals as goal
+
+pub returns-in_err-next-clause-moves : goal.returns-in_err-next-clause-moves
+returns-in_err-next-clause-moves g c = if_ok_err c.from_residual.result _ c.from_residual.ensures.0
+
+pub returns-in_err-next-clause-read : goal.returns-in_err-next-clause-read
+returns-in_err-next-clause-read g c = c.next.ensures.cause.later
+
+pub returns-in_err-next-clause-written : goal.returns-in_err-next-clause-written
+returns-in_err-next-clause-written g c = omega arith
+
+pub returns-in_err-next-clause-goes : goal.returns-in_err-next-clause-goes
+returns-in_err-next-clause-goes g c firsts readers text begun held counts going rb ra wb wa =
+    let Stands : Node → Type 0 = λ n. NodeStands g.L.SourceLog.told g.L.SourceLog.fault_count g.L.SourceLog.since firsts c.args.node.now n in
+    let content = g.W.Sink.content c.args.output.now in
+    ends_in_short Stands readers text begun held content (g.R.Source.left c.next.new.input) (in_hand c.next.new.self) c.next.new.self.taken (c.args.number + 1) counts c.from_residual.result
+    c.from_residual.ensures.0
+    (ends_short Stands readers text begun held content (g.R.Source.left c.args.input.now) (in_hand c.args.lines.now) c.args.lines.now.taken c.args.number going Stands content counts going.stands refl)
+
+pub returns-in-Line-clause-moves : goal.returns-in-Line-clause-moves
+returns-in-Line-clause-moves g c = if_ok_any c.take_line.result _ (λ end none. c.in_ok-next.ensures.moves (subst IsLine (sym c.in-Line.is) tt))
+
+pub returns-in-Line-clause-read : goal.returns-in-Line-clause-read
+returns-in-Line-clause-read g c = c.next.ensures.cause.later
+
+pub returns-in-Line-clause-written : goal.returns-in-Line-clause-written
+returns-in-Line-clause-written g c = c.take_line.ensures.counted
+
+pub returns-in-Line-clause-goes : goal.returns-in-Line-clause-goes
+returns-in-Line-clause-goes g c firsts readers text begun held counts going rb ra wb wa =
+    let Old : Node → Type 0 = λ n. NodeStands g.L.SourceLog.told g.L.SourceLog.fault_count g.L.SourceLog.since firsts c.args.node.now n in
+    let New : Node → Type 0 = λ n. NodeStands g.L.SourceLog.told g.L.SourceLog.fault_count g.L.SourceLog.since firsts c.take_line.new.node n in
+    let t = c.in_ok-next.ensures.comes going.behind going.left_is in
+    let limit = c.args.lines.now.limit in
+    line_came Old readers text begun held (g.W.Sink.content c.args.output.now) (g.R.Source.left c.args.input.now) (in_hand c.args.lines.now) c.args.lines.now.taken c.args.number going
+    c.in_ok-next.field-0 c.next.new.self.line.items c.line.result.now c.next.new.self.taken (in_hand c.next.new.self) t.0 (g.R.Source.left c.next.new.input) New
+    (g.W.Sink.content c.take_line.new.output) c.saturating_add.result (g.W.Sink.fault_count c.args.output.now) (g.W.Sink.fault_count c.take_line.new.output) counts c.take_line.result
+    c.in-Line.is t.2 t.1 (c.in_ok-next.ensures.moves (subst IsLine (sym c.in-Line.is) tt)) c.line.ensures
+    (omega (arith, c.saturating_add.ensures, going.count, going.read.few, limit)) wb wa
+    (c.take_line.ensures.takes firsts going.mid (held ++ printed going.outcomes) going.stands going.written)
+
+pub returns-in-End-clause-moves : goal.returns-in-End-clause-moves
+returns-in-End-clause-moves g c e = absurd (some_not_none ended.Done e)
+
+pub returns-in-End-clause-read : goal.returns-in-End-clause-read
+returns-in-End-clause-read g c = c.next.ensures.cause.later
+
+pub returns-in-End-clause-written : goal.returns-in-End-clause-written
+returns-in-End-clause-written g c = omega arith
+
+pub returns-in-End-clause-goes : goal.returns-in-End-clause-goes
+returns-in-End-clause-goes g c firsts readers text begun held counts going rb ra wb wa =
+    let Stands : Node → Type 0 = λ n. NodeStands g.L.SourceLog.told g.L.SourceLog.fault_count g.L.SourceLog.since firsts c.args.node.now n in
+    let t = c.in_ok-next.ensures.comes going.behind going.left_is in
+    ends_at_end Stands readers text begun held (g.W.Sink.content c.args.output.now) (g.R.Source.left c.args.input.now) (in_hand c.args.lines.now) c.args.lines.now.taken c.args.number going
+    c.in_ok-next.field-0 c.next.new.self.line.items c.next.new.self.taken (in_hand c.next.new.self ++ t.0) counts c.in-End.is t.2
+
+pub returns-in-LineOver-clause-moves : goal.returns-in-LineOver-clause-moves
+returns-in-LineOver-clause-moves g c e = absurd (some_not_none ended.LineOver e)
+
+pub returns-in-LineOver-clause-read : goal.returns-in-LineOver-clause-read
+returns-in-LineOver-clause-read g c = c.next.ensures.cause.later
+
+pub returns-in-LineOver-clause-written : goal.returns-in-LineOver-clause-written
+returns-in-LineOver-clause-written g c = omega arith
+
+pub returns-in-LineOver-clause-goes : goal.returns-in-LineOver-clause-goes
+returns-in-LineOver-clause-goes g c firsts readers text begun held counts going rb ra wb wa =
+    let Stands : Node → Type 0 = λ n. NodeStands g.L.SourceLog.told g.L.SourceLog.fault_count g.L.SourceLog.since firsts c.args.node.now n in
+    let t = c.in_ok-next.ensures.comes going.behind going.left_is in
+    ends_at_line Stands readers text begun held (g.W.Sink.content c.args.output.now) (g.R.Source.left c.args.input.now) (in_hand c.args.lines.now) c.args.lines.now.taken c.args.number going
+    c.in_ok-next.field-0 c.next.new.self.line.items c.next.new.self.taken (in_hand c.next.new.self ++ t.0) counts c.in-LineOver.is t.2
+
+pub returns-in-InputOver-clause-moves : goal.returns-in-InputOver-clause-moves
+returns-in-InputOver-clause-moves g c e = absurd (some_not_none ended.InputOver e)
+
+pub returns-in-InputOver-clause-read : goal.returns-in-InputOver-clause-read
+returns-in-InputOver-clause-read g c = c.next.ensures.cause.later
+
+pub returns-in-InputOver-clause-written : goal.returns-in-InputOver-clause-written
+returns-in-InputOver-clause-written g c = omega arith
+
+pub returns-in-InputOver-clause-goes : goal.returns-in-InputOver-clause-goes
+returns-in-InputOver-clause-goes g c firsts readers text begun held counts going rb ra wb wa =
+    let Stands : Node → Type 0 = λ n. NodeStands g.L.SourceLog.told g.L.SourceLog.fault_count g.L.SourceLog.since firsts c.args.node.now n in
+    let t = c.in_ok-next.ensures.comes going.behind going.left_is in
+    ends_at_input Stands readers text begun held (g.W.Sink.content c.args.output.now) (g.R.Source.left c.args.input.now) (in_hand c.args.lines.now) c.args.lines.now.taken c.args.number going
+    c.in_ok-next.field-0 c.next.new.self.line.items c.next.new.self.taken (in_hand c.next.new.self ++ t.0) counts c.in-InputOver.is t.2
+
+pub returns-in-Fault-clause-moves : goal.returns-in-Fault-clause-moves
+returns-in-Fault-clause-moves g c e = absurd (some_not_none ended.ReadFault e)
+
+pub returns-in-Fault-clause-read : goal.returns-in-Fault-clause-read
+returns-in-Fault-clause-read g c = c.next.ensures.cause.later
+
+pub returns-in-Fault-clause-written : goal.returns-in-Fault-clause-written
+returns-in-Fault-clause-written g c = omega arith
+
+pub returns-in-Fault-clause-goes : goal.returns-in-Fault-clause-goes
+returns-in-Fault-clause-goes g c firsts readers text begun held counts going rb ra wb wa =
+    let Stands : Node → Type 0 = λ n. NodeStands g.L.SourceLog.told g.L.SourceLog.fault_count g.L.SourceLog.since firsts c.args.node.now n in
+    ends_by_fault Stands readers text begun held (g.W.Sink.content c.args.output.now) (g.R.Source.left c.args.input.now) (in_hand c.args.lines.now) c.args.lines.now.taken c.args.number going counts
+    (rose_earlier counts.read_before (g.R.Source.fault_count c.args.input.now) (g.R.Source.fault_count c.next.new.input) counts.read_after rb
+    (c.in_ok-next.ensures.cause.failed (subst IsFault (sym c.in-Fault.is) tt)) ra)

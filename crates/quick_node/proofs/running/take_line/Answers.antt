@@ -1,0 +1,40 @@
+use Rattle.std.proofs.Common.{◌≡◌, ◌≤◌, ◌++◌, ◌∷◌, [], ℕ, List, refl, sym, ap, ◌∙◌, subst, inl, inr, arith, rules}
+use Rattle.node_run.specs.Seen.{seen}
+use Rattle.quick_node.proofs.running.take_line.Goals as goal
+
+pub answer_line-requires-after_bounds : goal.answer_line-requires-after_bounds
+answer_line-requires-after_bounds g c = search rules
+
+pub returns-in-BadLine-clause-counted : goal.returns-in-BadLine-clause-counted
+returns-in-BadLine-clause-counted g c = omega arith
+
+pub returns-in-BadLine-clause-takes : goal.returns-in-BadLine-clause-takes
+returns-in-BadLine-clause-takes g c firsts mid held stands told =
+    (refl, stands, told, inr (seen c.in-Ok.line, c.in-Ok.ensures, sym (c.accepts.ensures.exact firsts mid stands) ∙ c.in-BadLine.is))
+
+pub returns-in-TooManyClients-clause-counted : goal.returns-in-TooManyClients-clause-counted
+returns-in-TooManyClients-clause-counted g c = omega arith
+
+pub returns-in-TooManyClients-clause-takes : goal.returns-in-TooManyClients-clause-takes
+returns-in-TooManyClients-clause-takes g c firsts mid held stands told =
+    (stands, told, (seen c.in-Ok.line, c.in-Ok.ensures, sym (c.accepts.ensures.exact firsts mid stands) ∙ c.in-TooManyClients.is))
+
+pub returns-in-Err-BadLine-clause-counted : goal.returns-in-Err-BadLine-clause-counted
+returns-in-Err-BadLine-clause-counted g c = omega arith
+
+pub returns-in-Err-BadLine-clause-takes : goal.returns-in-Err-BadLine-clause-takes
+returns-in-Err-BadLine-clause-takes g c firsts mid held stands told =
+    (refl, stands, told, inl (rw c.in-Err-BadLine.field-0-is at c.in-Err-BadLine.ensures))
+
+pub returns-in-Err-Memory-clause-counted : goal.returns-in-Err-Memory-clause-counted
+returns-in-Err-Memory-clause-counted g c = omega arith
+
+pub returns-in-Err-Memory-clause-takes : goal.returns-in-Err-Memory-clause-takes
+returns-in-Err-Memory-clause-takes g c firsts mid held stands told = (told, inl stands)
+
+pub returns-clause-counted : goal.returns-clause-counted
+returns-clause-counted g c = c.answer_line.ensures.counted
+
+pub returns-clause-takes : goal.returns-clause-takes
+returns-clause-takes g c firsts mid held stands told =
+    c.answer_line.ensures.takes firsts mid c.args.text.now c.args.number held stands c.in-Ok.ensures (sym (c.accepts.ensures.exact firsts mid stands) ∙ c.in-Yes.is) told
