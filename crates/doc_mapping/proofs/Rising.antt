@@ -1,11 +1,12 @@
 -- Paths that rise, seen from the last.
-use Rattle.std.proofs.Common.{◌≡◌, ℕ, zero, suc, ◌+◌, ◌-◌, ◌≤◌, true, List, [], ◌∷◌, length, drop, slice_get, Some, refl, sym, subst, arith}
+use Rattle.std.proofs.Common.{◌≡◌, ℕ, zero, suc, ◌+◌, ◌-◌, ◌≤◌, true, false, List, [], ◌∷◌, length, drop, slice_get, Some, refl, sym, ◌∙◌, subst, arith}
 use Rattle.std.specs.Ordering.{nat_cmp, is_lt}
 use Rattle.std.specs.Cmp.Lexicographic.{slice_cmp}
 use Rattle.std.specs.declared.cmp.Ordering.{Ordering}
 use Rattle.std.specs.declared.cmp.Ordering.TheVariants.{Less, Equal, Greater}
 use Rattle.doc_value.specs.declared.schema.Field.{Field}
 use Rattle.doc_value.specs.Documents.{IsBefore, PathsRise}
+use Rattle.doc_value.proofs.Finding.{rise-between}
 
 from-last : (fs : List Field) → PathsRise (drop (length fs - 1) fs)
 from-last [] = tt
@@ -46,3 +47,12 @@ pub rise-whole : (fs : List Field) (left : ℕ) → left ≤ 1 → PathsRise (dr
 rise-whole fs left l h =
     let none : left - 1 ≡ 0 = omega arith in
     subst (λ (m : ℕ). PathsRise (drop m fs)) none h
+
+-- a path that doesn't come before the next one's
+pub rise-broken : (fs : List Field) (i j : ℕ) (f g : Field) (p q : List ℕ) → j ≡ i + 1 → slice_get fs i ≡ Some f → slice_get fs j ≡ Some g
+    → p ≡ f.path → q ≡ g.path → is_lt (slice_cmp nat_cmp p q) ≡ false → PathsRise fs → ⊥
+rise-broken fs i j f g p q n a b e d l h =
+    let less : slice_cmp nat_cmp f.path g.path ≡ Less = rise-between fs i j f g h a b (omega arith) in
+    let here : is_lt (slice_cmp nat_cmp p q) ≡ true = rw (e, d, less) refl in
+    let wrong : true ≡ false = sym here ∙ l in
+    cc

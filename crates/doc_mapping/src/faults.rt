@@ -152,7 +152,8 @@ fn is_before(path: &[u8], other: &[u8]) -> bool
 
 /// Whether each path comes before the next.
 pub fn paths_rise(fields: &Fields) -> bool
-    ensures { IsTrue result → PathsRise fields.now }
+    ensures rise { IsTrue result → PathsRise fields.now }
+    ensures only { PathsRise fields.now → IsTrue result }
 {
     let mut left = fields.len();
     while left > 1 {
