@@ -4,6 +4,7 @@
 mod accepting;
 mod documents;
 mod faults;
+pub mod laws;
 mod levels;
 pub mod reject;
 mod walk;
