@@ -51,7 +51,7 @@ none_late : (lates : List Late) → map late_object lates ≡ [] → lates ≡ [
 none_late [] e = refl
 none_late (late ∷ lates) e = cc
 
-reader_counts : (counts : List ℕ) → log_counts (map reader_of counts) ≡ counts
+pub reader_counts : (counts : List ℕ) → log_counts (map reader_of counts) ≡ counts
 reader_counts [] = refl
 reader_counts (count ∷ counts) = ap (λ ns. count ∷ ns) (reader_counts counts)
 

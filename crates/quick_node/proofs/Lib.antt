@@ -12,3 +12,9 @@ pub mod Onward
 pub mod Going
 pub mod Taking
 pub mod Driving
+pub mod Words
+pub mod SameLog
+pub mod Short
+pub mod LongerLog
+pub mod UpToLast
+pub mod Driven

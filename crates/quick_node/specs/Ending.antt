@@ -1,9 +1,10 @@
 -- The status and the last line of each way in which a call ends.
-use Rattle.std.specs.Prelude.{ℕ, ◌==◌, ◌||◌, Bool, List, [], ◌∷◌, ◌++◌, if◌then◌else◌, decimal, codes}
+use Rattle.std.specs.Prelude.{◌≡◌, ◌⊎◌, ℕ, ◌==◌, ◌||◌, Bool, List, [], ◌∷◌, ◌++◌, if◌then◌else◌, Option, Some, decimal, codes}
 use Rattle.index_world.specs.Saying.{words, error_words}
 use Rattle.index_world.specs.declared.world_error.WorldError.{WorldError}
 use Rattle.index_world.specs.declared.world_error.WorldError.TheVariants as errors
 use Rattle.quick_node.specs.Reading.{max_clients, max_line, max_input}
+use Rattle.quick_node.specs.Serve.{WroteLine}
 use Rattle.quick_node.specs.declared.error_line.End.{End}
 use Rattle.quick_node.specs.declared.error_line.End.TheVariants as ends
 
@@ -53,3 +54,9 @@ is_silent status = status == 0 || status == 6 || status == 11
 abbrev pub last_line : End → List ℕ
 last_line end =
     if is_silent (ended_status end) then [] else words (codes "error" ∷ decimal (ended_status end) ∷ cause_words end) ++ 10 ∷ []
+
+-- the last line of an end was written behind what was held, or there was no memory for it
+pub record EndsSo (end : End) (held : List ℕ) (content : Option (List ℕ)) (before after status : ℕ) : Type 0 where
+  pub text : List ℕ
+  pub written : content ≡ Some (held ++ text)
+  pub wrote : ((status ≡ ended_status end) × WroteLine before after (last_line end) text) ⊎ ((status ≡ 11) × (text ≡ []))

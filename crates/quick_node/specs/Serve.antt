@@ -1,8 +1,8 @@
 -- The clause of the top call for the command `drive`.
-use Rattle.std.specs.Prelude.{◌≡◌, ◌⊎◌, ◌≢◌, ℕ, ◌<◌, ◌≤◌, List, [], ◌∷◌, ◌++◌, length, min, if◌then◌else◌, decimal, codes, map, Ok, Err, Result, ⊤, Option, Some, None, sum, All, bytes_eq}
+use Rattle.std.specs.Prelude.{◌≡◌, ◌⊎◌, ◌≢◌, ℕ, ◌<◌, ◌≤◌, List, [], ◌∷◌, ◌++◌, length, if◌then◌else◌, decimal, codes, map, Ok, Err, Result, ⊤, Option, Some, None, All, bytes_eq}
 use Rattle.meta_journal.specs.declared.entry.Entry.{Entry}
 use Rattle.object_store.specs.Store.{State}
-use Rattle.source_log.specs.Log.{Log, Extends}
+use Rattle.source_log.specs.Log.{Log, IsLog, Extends}
 use Rattle.byte_fields.specs.Causes.{Rose}
 use Rattle.index_world.specs.Calls.{Fate, gives, faulted, no_memory, store_fault, Unread, not_read, loaded}
 use Rattle.index_world.specs.Calls as calls
@@ -17,6 +17,7 @@ use Rattle.root_search.specs.Requests.{word_asked}
 use Rattle.root_search.specs.Steps.{Replied}
 use Rattle.node_run.specs.Lines.{printed}
 use Rattle.node_run.specs.Node.{Node, Line, Open, StepClient, Outcome, client_said, request_opened}
+use Rattle.node_run.specs.Standing.{LetGo}
 use Rattle.node_run.specs.Turns.{Turn, Turns, turns, opened_node}
 use Rattle.quick_node.specs.Reading.{Ending, all_read, bad_line, clients_over, line_over, input_over, stopped, Reads, max_clients, max_line, max_input}
 
@@ -265,31 +266,27 @@ pub record Drives (history : List Entry) (before : Before) (after : After) (stat
 
 -- ---- the premises, at the objects that are handed in
 
+-- what these logs tell is this
+pub record LogsShow {L : Type 0} (log_told : L → Option Log) (log_count : L → ℕ) (logs : List L) (before : Before) : Type 0 where
+  pub log : All (λ l. log_told l ≡ Some before.log) logs
+  pub log_faults : map log_count logs ≡ before.log_faults
+
+-- what this input and this output tell is this
+pub record StreamsShow {R W : Type 0} (left : R → Option (List ℕ)) (read_count : R → ℕ) (taken : W → Option (List ℕ)) (write_count : W → ℕ)
+    (input : R) (output : W) (before : Before) : Type 0 where
+  pub input_left : left input ≡ Some before.input
+  pub read_faults : read_count input ≡ before.read_faults
+  pub written : taken output ≡ Some before.written
+  pub write_faults : write_count output ≡ before.write_faults
+
 -- what these objects tell is this
 pub record Shows {S L R W : Type 0} (told : S → Option State) (count : S → ℕ) (log_told : L → Option Log) (log_count : L → ℕ)
     (left : R → Option (List ℕ)) (read_count : R → ℕ) (taken : W → Option (List ℕ)) (write_count : W → ℕ)
     (store : S) (logs : List L) (input : R) (output : W) (before : Before) : Type 0 where
   pub kept : told store ≡ Some before.kept
   pub store_faults : count store ≡ before.store_faults
-  pub log : All (λ l. log_told l ≡ Some before.log) logs
-  pub log_faults : map log_count logs ≡ before.log_faults
-  pub input_left : left input ≡ Some before.input
-  pub read_faults : read_count input ≡ before.read_faults
-  pub written : taken output ≡ Some before.written
-  pub write_faults : write_count output ≡ before.write_faults
-
--- each reader was let go as a later state of itself
-abbrev pub AllSince : {L : Type 0} → (L → L → Type 0) → List L → List L → Type 0
-AllSince since [] [] = Unit {0}
-AllSince since [] (last ∷ lasts) = ⊥
-AllSince since (first ∷ firsts) [] = ⊥
-AllSince since (first ∷ firsts) (last ∷ lasts) = since first last × AllSince since firsts lasts
-
--- the readers' counts as they were let go, and their sum
-pub record LetGo {L : Type 0} (since : L → L → Type 0) (log_count : L → ℕ) (firsts : List L) (total : ℕ) : Type 0 where
-  pub lasts : List L
-  pub later : AllSince since firsts lasts
-  pub sum_is : total ≡ min (sum (map log_count lasts)) last_count
+  pub logs_show : LogsShow log_told log_count logs before
+  pub streams_show : StreamsShow left read_count taken write_count input output before
 
 -- and behind the call this
 pub record ShowsAfter {S L R W : Type 0} (told : S → Option State) (log_count : L → ℕ) (since : L → L → Type 0) (read_count : R → ℕ)
@@ -297,15 +294,18 @@ pub record ShowsAfter {S L R W : Type 0} (told : S → Option State) (log_count 
     (after : After) : Type 0 where
   pub kept : told store ≡ Some after.kept
   pub store_count : store_faults ≡ after.store_faults
-  pub let_go : LetGo since log_count logs log_faults
-  pub log_counts : map log_count let_go.lasts ≡ after.log_faults
+  pub let_go : LetGo log_count since logs after.log_faults log_faults
   pub read_faults : read_count input ≡ after.read_faults
   pub written : taken output ≡ Some after.written
   pub write_faults : write_count output ≡ after.write_faults
 
 -- the store is an index with this journal, over a log that the handed-in one extends
-abbrev pub EntersAs : List Entry → Before → Type 0
-EntersAs history before = (log : Log) × Extends log before.log × IsIndexOf before.kept history log
+pub record EntersAs (history : List Entry) (before : Before) : Type 0 where
+  pub is_log : IsLog before.log
+  pub log : Log  -- as it was when the store was made
+  pub was_log : IsLog log
+  pub extends : Extends log before.log
+  pub index : IsIndexOf before.kept history log
 
 -- the words of the command line are `drive` alone
 abbrev pub IsDrive : List (List ℕ) → Type 0

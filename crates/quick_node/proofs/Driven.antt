@@ -1,0 +1,167 @@
+-- What a call did before its last line, and that line, are what the top call's clause says.
+use Rattle.std.proofs.Common.{◌≡◌, ◌⊎◌, ℕ, ◌≤◌, false, List, [], ◌∷◌, ◌++◌, length, map, sum, refl, sym, ap, ◌∙◌, subst, inl, inr, append-nil, append_assoc, arith}
+use Rattle.std.proofs.lemmas.List.{length-map}
+use Rattle.std.specs.List.{AllZip}
+use Rattle.std.specs.Prelude.{Option, Some, None, Result, ⊤, min}
+use Rattle.meta_journal.specs.declared.entry.Entry.{Entry}
+use Rattle.meta_store.specs.History.{moment_of, history as told_by}
+use Rattle.object_store.specs.Store.{State}
+use Rattle.index_world.specs.Calls.{Unread}
+use Rattle.index_world.specs.Core.{with_unread, journal_of, last_count}
+use Rattle.index_world.specs.World.{IsWorld}
+use Rattle.index_world.proofs.Opening.{index_opens}
+use Rattle.node_run.specs.Calm.{log_counts}
+use Rattle.node_run.specs.Lines.{printed}
+use Rattle.node_run.specs.Node.{Node, Line, Outcome}
+use Rattle.node_run.specs.Standing.{LetGo, fresh_node}
+use Rattle.node_run.specs.Turns.{opened_node}
+use Rattle.node_run.proofs.Ticking.{loaded_ticks}
+use Rattle.quick_node.specs.Ending.{EndsSo, ended_status, last_line}
+use Rattle.quick_node.specs.Serve.{IsPrefixOf, Before, After, End, out_of_memory, status_of, reading_status, WroteLine, Wrote, HasEnd, IsFresh, Opens, Lives, IsShown, AnswersFrom, EntersAs, Drives, ShowsAfter}
+use Rattle.quick_node.specs.declared.error_line.End.{End as Ended}
+use Rattle.quick_node.proofs.Calmed.{reader_counts, lives_calm}
+use Rattle.quick_node.proofs.Exact.{exact_status}
+use Rattle.quick_node.proofs.Living.{lives_follow}
+use Rattle.quick_node.proofs.LongerLog.{index_longer}
+use Rattle.quick_node.proofs.UpToLast.{Met, front_on}
+
+-- ---- a fresh node, and what opening makes of it
+
+module _ (history : List Entry) (before : Before) (fresh : Node) (is : IsFresh before history fresh) where
+  pub new_moment : fresh.core.moment ≡ moment_of (told_by fresh.core.history)
+  new_moment = ap (λ n. n.core.moment) is.is ∙ sym (ap (λ n. moment_of (told_by n.core.history)) is.is)
+
+  pub new_sure : fresh.core.unsure ≡ false
+  new_sure = ap (λ n. n.core.unsure) is.is
+
+  -- all but the core is that of fresh readers
+  pub opened_is : (answer : Result ⊤ Unread) (node : Node) → Opens fresh answer node → node ≡ fresh_node node.core before.log before.log_faults
+  opened_is answer node o =
+      o.is ∙ ap (λ (n : Node). record n { core = o.core }) is.is ∙ ap (λ c. fresh_node c before.log before.log_faults) (sym (ap (λ n. n.core) o.is))
+
+  pub opened_clock : (answer : Result ⊤ Unread) (node : Node) → Opens fresh answer node → node.core.clock ≡ 0
+  opened_clock answer node o =
+      ap (λ n. n.core.clock) o.is ∙ sym (ap (λ g. g.core.clock) o.did) ∙ loaded_ticks o.fate fresh.core ∙ ap (λ n. n.core.clock) is.is
+
+  pub opened_clients : (answer : Result ⊤ Unread) (node : Node) → Opens fresh answer node → node.clients ≡ []
+  opened_clients answer node o = ap (λ n. n.clients) (opened_is answer node o)
+
+  pub opened_log : (answer : Result ⊤ Unread) (node : Node) → Opens fresh answer node → node.log ≡ before.log
+  opened_log answer node o = ap (λ n. n.log) (opened_is answer node o)
+
+  pub opened_counts : (answer : Result ⊤ Unread) (node : Node) → Opens fresh answer node → log_counts node.indexers ≡ before.log_faults
+  opened_counts answer node o = ap (λ n. log_counts n.indexers) (opened_is answer node o) ∙ reader_counts before.log_faults
+
+  pub opened_readers : (answer : Result ⊤ Unread) (node : Node) → Opens fresh answer node → length node.indexers ≡ length before.log_faults
+  opened_readers answer node o = sym (length-map node.indexers (λ i. i.log_faults)) ∙ ap length (opened_counts answer node o)
+
+-- the fresh node of a store at entry
+pub record Began (history : List Entry) (before : Before) : Type 0 where
+  pub fresh : Node
+  pub is : IsFresh before history fresh
+  pub world : IsWorld before.kept fresh.core before.log
+
+pub begins : (history : List Entry) (before : Before) → EntersAs history before → Began history before
+begins history before e =
+    let index = index_longer before.kept history e.log before.log e.was_log e.is_log e.extends e.index in
+    let o = index_opens before.kept history before.log before.store_faults 0 index in
+    record {
+      fresh = opened_node (record {
+        log = before.log;
+        log_faults = before.log_faults;
+        history = history;
+        store_faults = before.store_faults;
+        files = o.files;
+        late = o.late;
+      });
+      is = record { stands = o.world.stands_for; is = refl };
+      world = o.world;
+    }
+
+-- ---- logs that were never read
+
+module _ {L : Type 0} (count : L → ℕ) (since : L → L → Type 0) (itself : (log : L) → since log log) where
+  all_later : (logs : List L) → AllZip since logs logs
+  all_later [] = tt
+  all_later (log ∷ logs) = (itself log, all_later logs)
+
+  pub kept_logs : (logs : List L) (counts : List ℕ) (total : ℕ) → map count logs ≡ counts → total ≡ min (sum (map count logs)) last_count → LetGo count since logs counts total
+  kept_logs logs counts total are sum = record { lasts = logs; later = all_later logs; counts_are = are; sum_is = sum }
+
+-- ---- the clause
+
+unread_front : (entries : List Entry) (standing : Option Entry) → IsPrefixOf entries (with_unread entries standing)
+unread_front entries None = ([], sym (append-nil entries))
+unread_front entries (Some entry) = (entry ∷ [], refl)
+
+earlier : (a b c : ℕ) (line piece : List ℕ) → a ≤ b → WroteLine b c line piece → WroteLine a c line piece
+earlier a b c line piece le (inl e) = inl e
+earlier a b c line piece le (inr w) = inr (omega (arith, le, w.0), w.1)
+
+module _ (history : List Entry) (before : Before) (after : After) (fresh last : Node) (is : IsFresh before history fresh) (store_count : last.core.store_faults ≡ after.store_faults)
+    (log_count : log_counts last.indexers ≡ after.log_faults) (world : IsWorld after.kept last.core before.log) where
+  shown : IsShown after last
+  shown = record { store_count = store_count; log_count = log_count; stands = world.stands_for }
+
+  drives_with : (status : ℕ) (end : End) (lines : List Line) (outcomes : List Outcome) (text : List ℕ) → status ≡ status_of end → HasEnd before after lines end →
+      after.written ≡ before.written ++ text → Wrote before.write_faults after.write_faults end (printed outcomes) text → Lives before end fresh lines outcomes last →
+      Drives history before after status
+  drives_with status end lines outcomes text status_is ends written wrote lives = record {
+    end = end;
+    status_is = status_is;
+    lines = lines;
+    outcomes = outcomes;
+    ends = ends;
+    text = text;
+    written = written;
+    wrote = wrote;
+    exit = journal_of last.core;
+    index = world.index;
+    goes_on = follows.0;
+    searches = follows.1;
+    fresh = fresh;
+    is_fresh = is;
+    last = last;
+    lives = lives;
+    shown = shown;
+    calm = λ calm late. lives_calm history before after fresh last is shown calm late end lines outcomes ends lives;
+    exact = λ calm some read ending live reads.
+        subst (λ s. (s ≡ reading_status ending) ⊎ (s ≡ 11)) (sym status_is) (exact_status history before after fresh last is shown calm end lines outcomes ends lives some read ending live reads);
+  }
+    where
+      follows : IsPrefixOf history (journal_of last.core) × AnswersFrom (journal_of last.core) before.log (length history) [] lines outcomes
+      follows = lives_follow history (journal_of last.core) before fresh is end lines outcomes last lives (unread_front last.core.history last.core.standing)
+
+  drives_of : (e : Ended) (read write status : ℕ) (text piece : List ℕ) → Met before fresh e read write text last → read ≤ after.read_faults → before.write_faults ≤ write → write ≤ after.write_faults →
+      after.written ≡ (before.written ++ text) ++ piece →
+      ((status ≡ ended_status e) × WroteLine write after.write_faults (last_line e) piece) ⊎ ((status ≡ 11) × (piece ≡ [])) → Drives history before after status
+  drives_of e read write status text piece m ra low wa written (inl w) =
+      drives_with status m.end m.lines m.outcomes (text ++ piece) (w.0 ∙ m.status_is) (m.ends after ra wa) (written ∙ append_assoc before.written text piece)
+      (m.wrote before.write_faults after.write_faults piece (earlier before.write_faults write after.write_faults (last_line e) piece low w.1)) m.lives
+  drives_of e read write status text piece m ra low wa written (inr w) =
+      drives_with status out_of_memory m.lines m.outcomes (text ++ piece) w.0 m.reads (written ∙ append_assoc before.written text piece)
+      (front_on text piece (printed m.outcomes) m.front w.1) m.short
+
+-- the objects behind the call tell it
+module _ {S L R W : Type 0} (told : S → Option State) (log_count : L → ℕ) (since : L → L → Type 0) (read_count : R → ℕ) (taken : W → Option (List ℕ)) (write_count : W → ℕ) where
+  pub returned : (history : List Entry) (before : Before) (fresh last : Node) → IsFresh before history fresh → (e : Ended) (read write : ℕ) (text : List ℕ) →
+      Met before fresh e read write text last → (store : S) (store_faults log_faults status : ℕ) (firsts : List L) (input : R) (output : W) (kept : State) →
+      told store ≡ Some kept → IsWorld kept last.core before.log → last.core.store_faults ≡ store_faults → LetGo log_count since firsts (log_counts last.indexers) log_faults →
+      read ≤ read_count input → before.write_faults ≤ write → write ≤ write_count output →
+      EndsSo e (before.written ++ text) (taken output) write (write_count output) status →
+      (after : After) × ShowsAfter told log_count since read_count taken write_count store store_faults log_faults firsts input output after × Drives history before after status
+  returned history before fresh last is e read write text met store store_faults log_faults status firsts input output kept tells world counts let_go ra low wa line = (
+    after,
+    record { kept = tells; store_count = refl; let_go = let_go; read_faults = refl; written = line.written; write_faults = refl },
+    drives_of history before after fresh last is counts refl world e read write status text line.text met ra low wa refl line.wrote,
+  )
+    where
+      after : After
+      after = record {
+        kept = kept;
+        store_faults = store_faults;
+        log_faults = log_counts last.indexers;
+        read_faults = read_count input;
+        written = (before.written ++ text) ++ line.text;
+        write_faults = write_count output;
+      }

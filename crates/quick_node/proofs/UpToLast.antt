@@ -1,0 +1,245 @@
+-- What a call did before its last line.
+use Rattle.std.proofs.Common.{◌≡◌, ◌⊎◌, ℕ, ◌+◌, ◌≤◌, false, List, [], ◌∷◌, ◌++◌, length, refl, sym, ap, ◌∙◌, subst, inl, inr, append-nil}
+use Rattle.std.specs.Fmt.{digits}
+use Rattle.std.specs.Prelude.{Option, Some, Ok, Err, codes}
+use Rattle.meta_store.specs.History.{history, moment_of}
+use Rattle.index_world.specs.Calls.{no_memory, store_fault, faulted, Unread, not_read}
+use Rattle.index_world.specs.Calls as calls
+use Rattle.index_world.specs.Loading.{IsUnread}
+use Rattle.index_world.specs.declared.world_error.WorldError.{WorldError}
+use Rattle.index_world.specs.declared.world_error.WorldError.TheVariants as errors
+use Rattle.node_run.specs.Lines.{printed}
+use Rattle.node_run.specs.Node.{Node, Line, Outcome}
+use Rattle.node_run.specs.Turns.{Turns}
+use Rattle.quick_node.specs.Ending.{ended_status, last_line, EndsSo}
+use Rattle.quick_node.specs.Reading.{Ending, stopped, ReadsFrom, Reads, raw_lines}
+use Rattle.quick_node.specs.Running.{Counts, IsRunEnd, HasRunEnd, HasRun, HasWritten, Runs}
+use Rattle.quick_node.specs.Serve.{IsPrefixOf, Before, After, End, by_reading, no_index, opening_failed, read_failed, write_failed, out_of_memory, status_of, error_line, error_of, WroteLine, Wrote, HasEnd, Opens, Unopened, Lives}
+use Rattle.quick_node.specs.declared.error_line.End.{End as Ended}
+use Rattle.quick_node.specs.declared.error_line.End.TheVariants as ended
+use Rattle.quick_node.proofs.Driving.{run_ends, run_lives}
+use Rattle.quick_node.proofs.Short.{opens_short}
+
+-- So much was written, and this node is left. The counts of reading and of writing stand so.
+pub record Met (before : Before) (fresh : Node) (e : Ended) (read write : ℕ) (text : List ℕ) (last : Node) : Type 0 where
+  pub end : End
+  pub lines : List Line
+  pub outcomes : List Outcome
+  pub status_is : ended_status e ≡ status_of end
+  pub ends : (after : After) → read ≤ after.read_faults → write ≤ after.write_faults → HasEnd before after lines end
+  pub wrote : (low high : ℕ) (piece : List ℕ) → WroteLine low high (last_line e) piece → Wrote low high end (printed outcomes) (text ++ piece)
+  pub lives : Lives before end fresh lines outcomes last
+  -- and the same where there is no memory for the last line
+  pub reads : Reads (length before.log_faults) before.input lines stopped
+  pub front : IsPrefixOf text (printed outcomes)
+  pub short : Lives before out_of_memory fresh lines outcomes last
+
+-- ---- readings that stopped
+
+stop_from : (readers total at : ℕ) (before : List Line) (raws : List (List ℕ)) (lines : List Line) (ending : Ending) →
+    ReadsFrom readers total at before raws lines ending → ReadsFrom readers total at before raws lines stopped
+stop_from readers total at before [] [] ending r = inr refl
+stop_from readers total at before [] (line ∷ lines) ending r = absurd r
+stop_from readers total at before (raw ∷ raws) [] ending r = tt
+stop_from readers total at before (raw ∷ raws) (line ∷ lines) ending r =
+    (r.0, r.1, r.2, stop_from readers total (at + length raw + 1) (before ++ line ∷ []) raws lines ending r.3)
+
+none_from : (readers total at : ℕ) (before : List Line) (raws : List (List ℕ)) → ReadsFrom readers total at before raws [] stopped
+none_from readers total at before [] = inr refl
+none_from readers total at before (raw ∷ raws) = tt
+
+run_stops : (readers : ℕ) (input : List ℕ) (counts : Counts) (lines : List Line) (end : End) → HasRunEnd readers input counts lines end → Reads readers input lines stopped
+run_stops readers input counts lines (by_reading ending) e = stop_from readers (length input) 0 [] (raw_lines input) lines ending e.1
+run_stops readers input counts lines no_index e = absurd e
+run_stops readers input counts lines (opening_failed low high) e = absurd e
+run_stops readers input counts lines read_failed e = e.0
+run_stops readers input counts lines write_failed e = e.0
+run_stops readers input counts lines out_of_memory e = e
+
+-- ---- a run
+
+run_status : (e : Ended) (end : End) → IsRunEnd e end → ended_status e ≡ status_of end
+run_status ended.Done end is = sym (ap status_of is)
+run_status ended.BadWords end is = absurd is
+run_status (ended.BadLine number) end is = sym (ap status_of is)
+run_status ended.ClientsOver end is = sym (ap status_of is)
+run_status ended.LineOver end is = sym (ap status_of is)
+run_status ended.InputOver end is = sym (ap status_of is)
+run_status (ended.NotOpened error) end is = absurd is
+run_status ended.ReadFault end is = sym (ap status_of is)
+run_status ended.WriteFault end is = sym (ap status_of is)
+run_status ended.Memory end is = sym (ap status_of is)
+
+run_line : (e : Ended) (end : End) → IsRunEnd e end → last_line e ≡ error_of end
+unfolding digits
+run_line ended.Done end is = sym (ap error_of is)
+run_line ended.BadWords end is = absurd is
+run_line (ended.BadLine number) end is = sym (ap error_of is)
+run_line ended.ClientsOver end is = sym (ap error_of is)
+run_line ended.LineOver end is = sym (ap error_of is)
+run_line ended.InputOver end is = sym (ap error_of is)
+run_line (ended.NotOpened error) end is = absurd is
+run_line ended.ReadFault end is = sym (ap error_of is)
+run_line ended.WriteFault end is = sym (ap error_of is)
+run_line ended.Memory end is = sym (ap error_of is)
+
+fault_line : (a b : ℕ) → last_line (ended.NotOpened (errors.StoreFault a b)) ≡ error_of (opening_failed a b)
+unfolding digits
+fault_line a b = refl
+
+none_line : last_line (ended.NotOpened errors.NoIndex) ≡ error_of no_index
+unfolding digits
+none_line = refl
+
+words_line : last_line ended.BadWords ≡ error_line (codes "1" ∷ codes "badwords" ∷ [])
+unfolding digits
+words_line = refl
+
+-- other words
+pub wrote_words : (held : List ℕ) (content : Option (List ℕ)) (before after status : ℕ) → EndsSo ended.BadWords held content before after status →
+    (text : List ℕ) × (content ≡ Some (held ++ text))
+    × (((status ≡ 1) × WroteLine before after (error_line (codes "1" ∷ codes "badwords" ∷ [])) text) ⊎ ((status ≡ 11) × (text ≡ [])))
+wrote_words held content before after status w = (w.text, w.written, by w.wrote)
+  where
+    by : ((status ≡ 1) × WroteLine before after (last_line ended.BadWords) w.text) ⊎ ((status ≡ 11) × (w.text ≡ [])) →
+        ((status ≡ 1) × WroteLine before after (error_line (codes "1" ∷ codes "badwords" ∷ [])) w.text) ⊎ ((status ≡ 11) × (w.text ≡ []))
+    by (inl l) = inl (l.0, subst (λ line. WroteLine before after line w.text) words_line l.1)
+    by (inr none) = inr none
+
+front_none : (piece rest : List ℕ) → [] ≡ piece ++ rest → piece ≡ []
+front_none [] rest e = refl
+front_none (c ∷ cs) rest e = cc
+
+-- of no line nothing is written
+silent : (low high : ℕ) (piece : List ℕ) → WroteLine low high [] piece → piece ≡ []
+silent low high piece (inl e) = e
+silent low high piece (inr w) = let rest = w.1 in front_none piece rest.0 rest.1
+
+pub front_on : (text piece all : List ℕ) → IsPrefixOf text all → piece ≡ [] → IsPrefixOf (text ++ piece) all
+front_on text piece all p none = subst (λ t. IsPrefixOf t all) (sym (ap (λ l. text ++ l) none ∙ append-nil text)) p
+
+run_wrote : (end : End) (outcomes : List Outcome) (text : List ℕ) → HasWritten end text outcomes → (low high : ℕ) (piece : List ℕ) → WroteLine low high (error_of end) piece →
+    Wrote low high end (printed outcomes) (text ++ piece)
+run_wrote (by_reading ending) outcomes text w low high piece l = (piece, ap (λ t. t ++ piece) w, l)
+run_wrote no_index outcomes text w low high piece l = absurd w
+run_wrote (opening_failed a b) outcomes text w low high piece l = absurd w
+run_wrote read_failed outcomes text w low high piece l = (piece, ap (λ t. t ++ piece) w, l)
+run_wrote write_failed outcomes text w low high piece l = front_on text piece (printed outcomes) w (silent low high piece l)
+run_wrote out_of_memory outcomes text w low high piece l = front_on text piece (printed outcomes) w (silent low high piece l)
+
+whole_front : (text all : List ℕ) → text ≡ all → IsPrefixOf text all
+whole_front text all e = ([], sym e ∙ sym (append-nil text))
+
+run_front : (end : End) (outcomes : List Outcome) (text : List ℕ) → HasWritten end text outcomes → IsPrefixOf text (printed outcomes)
+run_front (by_reading ending) outcomes text w = whole_front text (printed outcomes) w
+run_front no_index outcomes text w = absurd w
+run_front (opening_failed a b) outcomes text w = absurd w
+run_front read_failed outcomes text w = whole_front text (printed outcomes) w
+run_front write_failed outcomes text w = w
+run_front out_of_memory outcomes text w = w
+
+module _ (before : Before) (fresh opened : Node) (opens : Opens fresh (Ok tt) opened) where
+  answered : (lines : List Line) (outcomes : List Outcome) (last : Node) → Turns opened lines outcomes last → Lives before out_of_memory fresh lines outcomes last
+  answered lines outcomes last turns = run_lives before fresh opened opens out_of_memory lines outcomes last (inl turns)
+
+  run_short : (end : End) (lines : List Line) (outcomes : List Outcome) (last : Node) → HasRun (length before.log_faults) before.input end opened lines outcomes last →
+      Lives before out_of_memory fresh lines outcomes last
+  run_short (by_reading ending) lines outcomes last did = answered lines outcomes last did
+  run_short no_index lines outcomes last did = absurd did
+  run_short (opening_failed a b) lines outcomes last did = absurd did
+  run_short read_failed lines outcomes last did = answered lines outcomes last did
+  run_short write_failed lines outcomes last did = answered lines outcomes last did
+  run_short out_of_memory lines outcomes last did = run_lives before fresh opened opens out_of_memory lines outcomes last did
+
+  -- of a run
+  pub met_run : (Stands : Node → Type 0) (content : Option (List ℕ)) (counts : Counts) (e : Ended) → counts.read_before ≡ before.read_faults → counts.write_before ≡ before.write_faults →
+      (r : Runs Stands (length before.log_faults) before.input opened before.written content counts e) → Met before fresh e counts.read_after counts.write_after r.text r.last
+  met_run Stands content counts e rb wb r = record {
+    end = r.end;
+    lines = r.lines;
+    outcomes = r.outcomes;
+    status_is = run_status e r.end r.is;
+    ends = λ after ra wa. run_ends before after counts r.lines r.end rb ra wb wa r.ends;
+    wrote = λ low high piece l. run_wrote r.end r.outcomes r.text r.wrote low high piece (subst (λ line. WroteLine low high line piece) (run_line e r.end r.is) l);
+    lives = run_lives before fresh opened opens r.end r.lines r.outcomes r.last r.did;
+    reads = run_stops (length before.log_faults) before.input counts r.lines r.end r.ends;
+    front = run_front r.end r.outcomes r.text r.wrote;
+    short = run_short r.end r.lines r.outcomes r.last r.did;
+  }
+
+  -- of an opened world for which no node was started
+  pub met_unstarted : (read write : ℕ) → Met before fresh ended.Memory read write [] opened
+  met_unstarted read write = record {
+    end = out_of_memory;
+    lines = [];
+    outcomes = [];
+    status_is = refl;
+    ends = λ after ra wa. none;
+    wrote = λ low high piece l. front_on [] piece [] ([], refl) (silent low high piece l);
+    lives = lives;
+    reads = none;
+    front = ([], refl);
+    short = lives;
+  }
+    where
+      none : Reads (length before.log_faults) before.input [] stopped
+      none = none_from (length before.log_faults) (length before.input) 0 [] (raw_lines before.input)
+
+      lives : Lives before out_of_memory fresh [] [] opened
+      lives = answered [] [] opened refl
+
+-- ---- a store that wasn't opened
+
+module _ (before : Before) (fresh last : Node) (moment : fresh.core.moment ≡ moment_of (history fresh.core.history)) (unsure : fresh.core.unsure ≡ false) (read write : ℕ) where
+  unopened : (why : Unread) → Opens fresh (Err why) last → Unopened fresh [] [] why last
+  unopened why opens = record { no_lines = refl; no_outcomes = refl; opens = opens }
+
+  unopened_short : (why : Unread) → Opens fresh (Err why) last → Lives before out_of_memory fresh [] [] last
+  unopened_short why opens = inr (inl (unopened (not_read no_memory) (opens_short fresh last why moment unsure opens)))
+
+  none_read : Reads (length before.log_faults) before.input [] stopped
+  none_read = none_from (length before.log_faults) (length before.input) 0 [] (raw_lines before.input)
+
+  -- by its error
+  pub met_unopened : (error : WorldError) (why : Unread) → IsUnread error why → Opens fresh (Err why) last → Met before fresh (ended.NotOpened error) read write [] last
+  met_unopened (errors.Memory refused) why is opens = record {
+    end = out_of_memory;
+    lines = [];
+    outcomes = [];
+    status_is = refl;
+    ends = λ after ra wa. none_read;
+    wrote = λ low high piece l. front_on [] piece [] ([], refl) (silent low high piece l);
+    lives = unopened_short why opens;
+    reads = none_read;
+    front = ([], refl);
+    short = unopened_short why opens;
+  }
+  met_unopened (errors.Refused refusal) why is opens = absurd is
+  met_unopened (errors.StoreFault a b) why is opens = record {
+    end = opening_failed a b;
+    lines = [];
+    outcomes = [];
+    status_is = refl;
+    ends = λ after ra wa. refl;
+    wrote = λ low high piece l. (piece, refl, subst (λ line. WroteLine low high line piece) (fault_line a b) l);
+    lives = unopened (not_read (faulted (store_fault a b))) (subst (λ w. Opens fresh (Err w) last) is opens);
+    reads = none_read;
+    front = ([], refl);
+    short = unopened_short why opens;
+  }
+  met_unopened (errors.Missing key) why is opens = absurd is
+  met_unopened (errors.Corrupt key) why is opens = absurd is
+  met_unopened (errors.Foreign key) why is opens = absurd is
+  met_unopened errors.Full why is opens = absurd is
+  met_unopened errors.NoIndex why is opens = record {
+    end = no_index;
+    lines = [];
+    outcomes = [];
+    status_is = refl;
+    ends = λ after ra wa. refl;
+    wrote = λ low high piece l. (piece, refl, subst (λ line. WroteLine low high line piece) none_line l);
+    lives = unopened calls.no_index (subst (λ w. Opens fresh (Err w) last) is opens);
+    reads = none_read;
+    front = ([], refl);
+    short = unopened_short why opens;
+  }

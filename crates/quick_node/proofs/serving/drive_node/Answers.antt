@@ -1,0 +1,33 @@
+use Rattle.std.proofs.Common.{◌++◌, length, sym, ap, ◌∙◌, subst, arith}
+use Rattle.std.specs.Prelude.{Ok}
+use Rattle.index_world.specs.World.{IsWorld}
+use Rattle.node_run.specs.Calm.{log_counts}
+use Rattle.node_run.specs.Node.{Node}
+use Rattle.node_run.specs.Standing.{NodeStands}
+use Rattle.node_run.specs.Standing.{LetGo}
+use Rattle.quick_node.specs.Running.{Counts, counts_of, Runs}
+use Rattle.quick_node.proofs.Driven.{opened_clock, opened_clients, opened_log, opened_readers, returned}
+use Rattle.quick_node.proofs.UpToLast.{met_run}
+use Rattle.quick_node.proofs.SameLog.{run_log}
+use Rattle.quick_node.proofs.serving.drive_node.Goals as goal
+
+pub returns : goal.returns
+returns g c history before firsts fresh opened is opens stands streams =
+    let Stands : Node → Type 0 = λ n. NodeStands g.L.SourceLog.told g.L.SourceLog.fault_count g.L.SourceLog.since firsts c.run-end.new.node n in
+    let content = g.W.Sink.content c.run-end.new.output in
+    let counts : Counts = counts_of (g.R.Source.fault_count c.args.input.now) (g.R.Source.fault_count c.run-end.new.input) (g.W.Sink.fault_count c.args.output.now) (g.W.Sink.fault_count c.run-end.new.output) in
+    let r : Runs Stands (length before.log_faults) before.input opened before.written content counts c.run-end.result =
+    subst (λ n. Runs Stands n before.input opened before.written content counts c.run-end.result) (opened_readers history before fresh is (Ok tt) opened opens)
+    (c.run-end.ensures.runs firsts opened before.input before.written stands (opened_clock history before fresh is (Ok tt) opened opens)
+    (opened_clients history before fresh is (Ok tt) opened opens) streams.input_left streams.written) in
+    let given = c.finish-store.ensures.store firsts r.last r.stands in
+    let log = run_log (length before.log_faults) before.input r.end opened r.last r.lines r.outcomes r.did ∙ opened_log history before fresh is (Ok tt) opened opens in
+    returned g.S.ObjectStore.told g.L.SourceLog.fault_count g.L.SourceLog.since g.R.Source.fault_count g.W.Sink.content g.W.Sink.fault_count
+    history before fresh r.last is c.run-end.result (g.R.Source.fault_count c.run-end.new.input) (g.W.Sink.fault_count c.run-end.new.output) r.text
+    (met_run before fresh opened opens Stands content counts c.run-end.result streams.read_faults streams.write_faults r)
+    c.ended.result.store c.ended.result.store_faults c.ended.result.log_faults c.ended.result.status firsts c.run-end.new.input c.ended.new.output
+    given.kept (ap g.S.ObjectStore.told c.ended.ensures.store ∙ given.tells) (subst (λ l. IsWorld given.kept r.last.core l) log given.world)
+    (sym (c.ended.ensures.store_faults ∙ given.faults))
+    (subst (λ n. LetGo g.L.SourceLog.fault_count g.L.SourceLog.since firsts (log_counts r.last.indexers) n) (sym c.ended.ensures.log_faults) (c.finish-store.ensures.faults firsts r.last r.stands))
+    (omega arith) (omega (arith, c.run-end.ensures.written, streams.write_faults)) c.ended.ensures.counted
+    (c.ended.ensures.writes (before.written ++ r.text) r.written)

@@ -1,0 +1,36 @@
+use Rattle.std.proofs.Common.{◌≡◌, ◌++◌, [], map, sum, sym, ap, ◌∙◌, subst, append-nil, arith}
+use Rattle.std.specs.Prelude.{Some, Ok, min}
+use Rattle.index_world.specs.Core.{last_count}
+use Rattle.node_run.specs.Calm.{log_counts}
+use Rattle.node_run.specs.Standing.{NodeStands}
+use Rattle.node_run.specs.Standing.{fresh_node}
+use Rattle.quick_node.specs.declared.error_line.End.TheVariants as ended
+use Rattle.quick_node.proofs.Driven.{opened_is, opened_clock, opened_counts, kept_logs, returned}
+use Rattle.quick_node.proofs.UpToLast.{met_unstarted}
+use Rattle.quick_node.proofs.serving.drive_world.Goals as goal
+
+pub returns-in-Ok : goal.returns-in-Ok
+returns-in-Ok g c history before fresh opened is opens world is_log logs streams =
+    let same : fresh_node opened.core before.log (map g.L.SourceLog.fault_count c.args.logs.items) ≡ opened =
+    ap (fresh_node opened.core before.log) logs.log_faults ∙ sym (opened_is history before fresh is (Ok tt) opened opens) in
+    c.drive_node.ensures history before c.args.logs.items fresh opened is opens
+    (subst (λ n. NodeStands g.L.SourceLog.told g.L.SourceLog.fault_count g.L.SourceLog.since c.args.logs.items c.in-Ok.node n) same
+    (c.in-Ok.ensures.ok opened.core before.log world (opened_clock history before fresh is (Ok tt) opened opens) is_log logs.log))
+    streams
+
+pub returns-in-Err : goal.returns-in-Err
+returns-in-Err g c history before fresh opened is opens world is_log logs streams =
+    let same = c.in-Err.ensures.err in
+    let counts : log_counts opened.indexers ≡ before.log_faults = opened_counts history before fresh is (Ok tt) opened opens in
+    returned g.S.ObjectStore.told g.L.SourceLog.fault_count g.L.SourceLog.since g.R.Source.fault_count g.W.Sink.content g.W.Sink.fault_count
+    history before fresh opened is ended.Memory (g.R.Source.fault_count c.args.input.now) (g.W.Sink.fault_count c.args.output.now) []
+    (met_unstarted before fresh opened opens (g.R.Source.fault_count c.args.input.now) (g.W.Sink.fault_count c.args.output.now))
+    c.ended.result.store c.ended.result.store_faults c.ended.result.log_faults c.ended.result.status c.args.logs.items c.args.input.now c.ended.new.output
+    world.kept (ap g.S.ObjectStore.told c.ended.ensures.store ∙ c.unload-store.ensures.told ∙ ap (λ w. w.told) same.0 ∙ world.told) world.world
+    (sym (c.ended.ensures.store_faults ∙ c.unload-store.ensures.faults ∙ ap (λ w. w.store_faults) same.0 ∙ world.store_faults))
+    (kept_logs g.L.SourceLog.fault_count g.L.SourceLog.since g.met.L.SourceLog.since_itself c.args.logs.items (log_counts opened.indexers) c.ended.result.log_faults
+    (logs.log_faults ∙ sym counts)
+    (c.ended.ensures.log_faults ∙ c.sum_of_faults-log_faults.ensures
+    ∙ ap (λ ls. min (sum (map g.L.SourceLog.fault_count ls)) last_count) (c.as_slice.ensures.value ∙ same.1)))
+    (omega arith) (omega (arith, streams.write_faults)) c.ended.ensures.counted
+    (c.ended.ensures.writes (before.written ++ []) (streams.written ∙ ap Some (sym (append-nil before.written))))
