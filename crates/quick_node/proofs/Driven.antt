@@ -6,6 +6,7 @@ use Rattle.std.specs.Prelude.{Option, Some, None, Result, ⊤, min}
 use Rattle.meta_journal.specs.declared.entry.Entry.{Entry}
 use Rattle.meta_store.specs.History.{moment_of, history as told_by}
 use Rattle.object_store.specs.Store.{State}
+use Rattle.source_log.specs.Log.{IsLog}
 use Rattle.index_world.specs.Calls.{Unread}
 use Rattle.index_world.specs.Core.{with_unread, journal_of, last_count}
 use Rattle.index_world.specs.World.{IsWorld}
@@ -23,6 +24,7 @@ use Rattle.quick_node.proofs.Calmed.{reader_counts, lives_calm}
 use Rattle.quick_node.proofs.Exact.{exact_status}
 use Rattle.quick_node.proofs.Living.{lives_follow}
 use Rattle.quick_node.proofs.LongerLog.{index_longer}
+use Rattle.quick_node.proofs.Onces.{holds_once}
 use Rattle.quick_node.proofs.UpToLast.{Met, front_on}
 
 -- ---- a fresh node, and what opening makes of it
@@ -98,7 +100,7 @@ earlier : (a b c : ℕ) (line piece : List ℕ) → a ≤ b → WroteLine b c li
 earlier a b c line piece le (inl e) = inl e
 earlier a b c line piece le (inr w) = inr (omega (arith, le, w.0), w.1)
 
-module _ (history : List Entry) (before : Before) (after : After) (fresh last : Node) (is : IsFresh before history fresh) (store_count : last.core.store_faults ≡ after.store_faults)
+module _ (history : List Entry) (before : Before) (after : After) (fresh last : Node) (is : IsFresh before history fresh) (is_log : IsLog before.log) (store_count : last.core.store_faults ≡ after.store_faults)
     (log_count : log_counts last.indexers ≡ after.log_faults) (world : IsWorld after.kept last.core before.log) where
   shown : IsShown after last
   shown = record { store_count = store_count; log_count = log_count; stands = world.stands_for }
@@ -118,6 +120,7 @@ module _ (history : List Entry) (before : Before) (after : After) (fresh last : 
     exit = journal_of last.core;
     index = world.index;
     goes_on = follows.0;
+    once = holds_once after.kept (journal_of last.core) before.log is_log world.index;
     searches = follows.1;
     fresh = fresh;
     is_fresh = is;
@@ -144,16 +147,16 @@ module _ (history : List Entry) (before : Before) (after : After) (fresh last : 
 
 -- the objects behind the call tell it
 module _ {S L R W : Type 0} (told : S → Option State) (log_count : L → ℕ) (since : L → L → Type 0) (read_count : R → ℕ) (taken : W → Option (List ℕ)) (write_count : W → ℕ) where
-  pub returned : (history : List Entry) (before : Before) (fresh last : Node) → IsFresh before history fresh → (e : Ended) (read write : ℕ) (text : List ℕ) →
+  pub returned : (history : List Entry) (before : Before) (fresh last : Node) → IsFresh before history fresh → IsLog before.log → (e : Ended) (read write : ℕ) (text : List ℕ) →
       Met before fresh e read write text last → (store : S) (store_faults log_faults status : ℕ) (firsts : List L) (input : R) (output : W) (kept : State) →
       told store ≡ Some kept → IsWorld kept last.core before.log → last.core.store_faults ≡ store_faults → LetGo log_count since firsts (log_counts last.indexers) log_faults →
       read ≤ read_count input → before.write_faults ≤ write → write ≤ write_count output →
       EndsSo e (before.written ++ text) (taken output) write (write_count output) status →
       (after : After) × ShowsAfter told log_count since read_count taken write_count store store_faults log_faults firsts input output after × Drives history before after status
-  returned history before fresh last is e read write text met store store_faults log_faults status firsts input output kept tells world counts let_go ra low wa line = (
+  returned history before fresh last is is_log e read write text met store store_faults log_faults status firsts input output kept tells world counts let_go ra low wa line = (
     after,
     record { kept = tells; store_count = refl; let_go = let_go; read_faults = refl; written = line.written; write_faults = refl },
-    drives_of history before after fresh last is counts refl world e read write status text line.text met ra low wa refl line.wrote,
+    drives_of history before after fresh last is is_log counts refl world e read write status text line.text met ra low wa refl line.wrote,
   )
     where
       after : After

@@ -17,4 +17,5 @@ pub mod SameLog
 pub mod Short
 pub mod LongerLog
 pub mod UpToLast
+pub mod Onces
 pub mod Driven

@@ -1,4 +1,5 @@
 pub mod Reading
+pub mod Once
 pub mod Serve
 pub mod Pieces
 pub mod Held

@@ -19,6 +19,7 @@ use Rattle.node_run.specs.Lines.{printed}
 use Rattle.node_run.specs.Node.{Node, Line, Open, StepClient, Outcome, client_said, request_opened}
 use Rattle.node_run.specs.Standing.{LetGo}
 use Rattle.node_run.specs.Turns.{Turn, Turns, turns, opened_node}
+use Rattle.quick_node.specs.Once.{HoldsOnce}
 use Rattle.quick_node.specs.Reading.{Ending, all_read, bad_line, clients_over, line_over, input_over, stopped, Reads, max_clients, max_line, max_input}
 
 abbrev pub IsPrefixOf : {X : Type 0} → List X → List X → Type 0
@@ -250,6 +251,8 @@ pub record Drives (history : List Entry) (before : Before) (after : After) (stat
   pub exit : List Entry
   pub index : IsIndexOf after.kept exit before.log
   pub goes_on : IsPrefixOf history exit
+  -- each accepted record below the checkpoints that is not removed stands once in the published files, and nothing else does
+  pub once : HoldsOnce after.kept exit before.log
   -- each search is answered, whatever failed
   pub searches : AnswersFrom exit before.log (length history) [] lines outcomes
   -- the node of the store at entry did all this, whatever failed

@@ -2,11 +2,21 @@
 
 ghost use Rattle.std.specs.Prelude.{◌≡◌, ◌⊎◌, ◌≢◌, ℕ, ◌<◌, ◌≤◌, List, [], ◌∷◌, ◌++◌, length, Option, Some, Ok};
 ghost use Rattle.meta_journal.specs.declared.entry.Entry.{Entry};
+ghost use Rattle.object_store.specs.Store.{State};
+ghost use Rattle.source_log.specs.Log.{Log, IsLog};
+ghost use Rattle.index_world.specs.Index.{IsIndexOf};
 ghost use Rattle.node_run.specs.Node.{Node, Line, Outcome};
 ghost use Rattle.node_run.specs.Turns.{Turn, turns};
+ghost use Rattle.quick_node.specs.Once.{HoldsOnce};
 ghost use Rattle.quick_node.specs.Reading.{Ending, stopped, Reads};
 ghost use Rattle.quick_node.specs.Running.{Counts, HasRun, HasRunEnd};
 ghost use Rattle.quick_node.specs.Serve.{IsPrefixOf, Before, After, End, HasEnd, IsFresh, Opens, Answers, Lives, IsShown, IsCalm, AnswersFrom, status_of, reading_status};
+
+/// The published files of a sound index hold each accepted record below the checkpoints that is not removed once, and
+/// nothing else.
+pub fn an_index_holds_each_record_once()
+    ensures { (kept : State) (entries : List Entry) (log : Log) → IsLog log → IsIndexOf kept entries log → HoldsOnce kept entries log }
+{}
 
 /// Whatever lands and fails, the journal at entry is a prefix of each history that the last node's is a prefix of, and
 /// each search is answered.

@@ -37,7 +37,7 @@ returns-in-Err g c history before shows enters =
     let last : Node = record fresh { core = l.after } in
     let opens : Opens fresh (Err l.unread) last = record { fate = l.loads.fate; core = l.after; did = l.loads.did; is = refl } in
     returned g.S.ObjectStore.told g.L.SourceLog.fault_count g.L.SourceLog.since g.R.Source.fault_count g.W.Sink.content g.W.Sink.fault_count
-    history before fresh last b.is (ended.NotOpened c.in-Err.field-0.error) (g.R.Source.fault_count c.args.input.now) (g.W.Sink.fault_count c.args.output.now) []
+    history before fresh last b.is enters.is_log (ended.NotOpened c.in-Err.field-0.error) (g.R.Source.fault_count c.args.input.now) (g.W.Sink.fault_count c.args.output.now) []
     (met_unopened before fresh last (new_moment history before fresh b.is) (new_sure history before fresh b.is) (g.R.Source.fault_count c.args.input.now) (g.W.Sink.fault_count c.args.output.now)
     c.in-Err.field-0.error l.unread l.says opens)
     c.ended.result.store c.ended.result.store_faults c.ended.result.log_faults c.ended.result.status c.args.logs.items c.args.input.now c.ended.new.output

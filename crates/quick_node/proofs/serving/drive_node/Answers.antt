@@ -1,5 +1,6 @@
 use Rattle.std.proofs.Common.{◌++◌, length, sym, ap, ◌∙◌, subst, arith}
 use Rattle.std.specs.Prelude.{Ok}
+use Rattle.source_log.specs.Log.{IsLog}
 use Rattle.index_world.specs.World.{IsWorld}
 use Rattle.node_run.specs.Calm.{log_counts}
 use Rattle.node_run.specs.Node.{Node}
@@ -21,9 +22,10 @@ returns g c history before firsts fresh opened is opens stands streams =
     (c.run-end.ensures.runs firsts opened before.input before.written stands (opened_clock history before fresh is (Ok tt) opened opens)
     (opened_clients history before fresh is (Ok tt) opened opens) streams.input_left streams.written) in
     let given = c.finish-store.ensures.store firsts r.last r.stands in
+    let is_log : IsLog before.log = subst IsLog (opened_log history before fresh is (Ok tt) opened opens) stands.is_log in
     let log = run_log (length before.log_faults) before.input r.end opened r.last r.lines r.outcomes r.did ∙ opened_log history before fresh is (Ok tt) opened opens in
     returned g.S.ObjectStore.told g.L.SourceLog.fault_count g.L.SourceLog.since g.R.Source.fault_count g.W.Sink.content g.W.Sink.fault_count
-    history before fresh r.last is c.run-end.result (g.R.Source.fault_count c.run-end.new.input) (g.W.Sink.fault_count c.run-end.new.output) r.text
+    history before fresh r.last is is_log c.run-end.result (g.R.Source.fault_count c.run-end.new.input) (g.W.Sink.fault_count c.run-end.new.output) r.text
     (met_run before fresh opened opens Stands content counts c.run-end.result streams.read_faults streams.write_faults r)
     c.ended.result.store c.ended.result.store_faults c.ended.result.log_faults c.ended.result.status firsts c.run-end.new.input c.ended.new.output
     given.kept (ap g.S.ObjectStore.told c.ended.ensures.store ∙ given.tells) (subst (λ l. IsWorld given.kept r.last.core l) log given.world)

@@ -23,7 +23,7 @@ returns-in-Err g c history before fresh opened is opens world is_log logs stream
     let same = c.in-Err.ensures.err in
     let counts : log_counts opened.indexers ≡ before.log_faults = opened_counts history before fresh is (Ok tt) opened opens in
     returned g.S.ObjectStore.told g.L.SourceLog.fault_count g.L.SourceLog.since g.R.Source.fault_count g.W.Sink.content g.W.Sink.fault_count
-    history before fresh opened is ended.Memory (g.R.Source.fault_count c.args.input.now) (g.W.Sink.fault_count c.args.output.now) []
+    history before fresh opened is is_log ended.Memory (g.R.Source.fault_count c.args.input.now) (g.W.Sink.fault_count c.args.output.now) []
     (met_unstarted before fresh opened opens (g.R.Source.fault_count c.args.input.now) (g.W.Sink.fault_count c.args.output.now))
     c.ended.result.store c.ended.result.store_faults c.ended.result.log_faults c.ended.result.status c.args.logs.items c.args.input.now c.ended.new.output
     world.kept (ap g.S.ObjectStore.told c.ended.ensures.store ∙ c.unload-store.ensures.told ∙ ap (λ w. w.told) same.0 ∙ world.told) world.world
