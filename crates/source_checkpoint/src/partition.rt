@@ -46,6 +46,12 @@ impl Model for Partition {
 }
 
 impl Clone for Partition {
+    ghost use Rattle.std.specs.Prelude.{◌≡◌, ⊤};
+
+    ghost is_clone = { λ s r. r ≡ s };
+
+    ghost is_infallible = { λ _. ⊤ };
+
     fn clone(&self) -> Result<Partition, AllocError> {
         Ok(*self)
     }
