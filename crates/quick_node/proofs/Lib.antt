@@ -19,3 +19,4 @@ pub mod LongerLog
 pub mod UpToLast
 pub mod Onces
 pub mod Driven
+pub mod Bytes
