@@ -29,6 +29,12 @@ impl Model for Client {
 }
 
 impl Clone for Client {
+    ghost use Rattle.std.specs.Prelude.{◌≡◌, ⊤};
+
+    ghost is_clone = { λ s r. r ≡ s };
+
+    ghost is_infallible = { λ _. ⊤ };
+
     fn clone(&self) -> Result<Client, std::alloc::AllocError> {
         Ok(*self)
     }

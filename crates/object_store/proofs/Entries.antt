@@ -46,7 +46,7 @@ placed_at_rank key content (e ∷ es) none =
 
 -- ---- listing
 
-abbrev keys_of : List Object → List (List ℕ)
+abbrev pub keys_of : List Object → List (List ℕ)
 keys_of os = map (λ (e : List ℕ × List ℕ). e.0) (entries os)
 
 pub listed_more : (p : List ℕ → Bool) (os : List Object) (i : ℕ) (o : Object) → i < length os → o ≡ get_or os i o

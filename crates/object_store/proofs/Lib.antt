@@ -5,3 +5,4 @@ pub mod States
 pub mod Landings
 pub mod Plans
 pub mod Told
+pub mod Starts

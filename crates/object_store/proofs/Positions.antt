@@ -28,10 +28,10 @@ less_is Less e = refl
 less_is Equal e = absurd cc
 less_is Greater e = absurd cc
 
-turned_round : (a b : List ℕ) (r : Ordering) → order a b ≡ r → order b a ≡ ordering_reverse r
+pub turned_round : (a b : List ℕ) (r : Ordering) → order a b ≡ r → order b a ≡ ordering_reverse r
 turned_round a b r e = nat_list_cmp_total.antisymm b a ∙ ap ordering_reverse e
 
-rest_in_order : (o : Object) (os : List Object) → IsInOrder (o ∷ os) → IsInOrder os
+pub rest_in_order : (o : Object) (os : List Object) → IsInOrder (o ∷ os) → IsInOrder os
 rest_in_order o os h = right_of _ _ h
 
 -- a key below all of them is below each
@@ -40,7 +40,7 @@ below_at key [] i d h lt = absurd (omega arith)
 below_at key (o ∷ os) zero d h lt = less_is _ (left_of _ _ h)
 below_at key (o ∷ os) (suc i) d h lt = below_at key os i d (right_of _ _ h) (omega arith)
 
-first_below : (o : Object) (os : List Object) (i : ℕ) (d : Object) → IsInOrder (o ∷ os) → i < length os → order o.key (get_or os i d).key ≡ Less
+pub first_below : (o : Object) (os : List Object) (i : ℕ) (d : Object) → IsInOrder (o ∷ os) → i < length os → order o.key (get_or os i d).key ≡ Less
 first_below o os i d h lt = below_at o.key os i d (left_of _ _ h) lt
 
 next_above : (os : List Object) (k : ℕ) (d : Object) → IsInOrder os → k + 1 < length os → is_lt (order (get_or os (k + 1) d).key (get_or os k d).key) ≡ false

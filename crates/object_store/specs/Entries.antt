@@ -1,5 +1,6 @@
 -- A list of objects as entries in the order of their keys.
-use Rattle.std.specs.Prelude.{◌≡◌, ℕ, ◌+◌, ◌<◌, ◌≤◌, not, List, [], ◌∷◌, length, map, Option, None, slice_index_or, IsTrue}
+use Rattle.std.specs.Prelude.{◌≡◌, ℕ, ◌+◌, ◌<◌, ◌≤◌, not, List, [], ◌∷◌, length, map, Option, None, slice_index_or, All, IsTrue}
+use Rattle.std.specs.declared.cmp.Ordering.TheVariants.{Less}
 use Rattle.std.specs.Ordering.{nat_cmp, eq_by_cmp}
 use Rattle.std.specs.Cmp.Lexicographic.{slice_cmp}
 use Rattle.std.specs.FinMap.Entries.{put, find, by_order, where_key, is_sorted}
@@ -31,6 +32,10 @@ removed key es = where_key (slice_cmp nat_cmp) (λ x. not (eq_by_cmp (slice_cmp 
 abbrev pub rank_of : List ℕ → List (List ℕ × List ℕ) → ℕ
 rank_of key [] = 0
 rank_of key (e ∷ es) = by_order (slice_cmp nat_cmp key e.0) 0 0 (rank_of key es + 1)
+
+-- each of these keys is below a key
+abbrev pub AllBelow : List ℕ → List Object → Type 0
+AllBelow key objects = All (λ o. slice_cmp nat_cmp o.key key ≡ Less) objects
 
 -- the key stands at this place of the list
 pub record IsPlaceOf (key : List ℕ) (objects : List Object) (at : ℕ) : Type 0 where

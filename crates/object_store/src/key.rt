@@ -42,6 +42,12 @@ impl Model for Key {
 }
 
 impl Clone for Key {
+    ghost use Rattle.std.specs.Prelude.{◌≡◌, ⊤};
+
+    ghost is_clone = { λ s r. r ≡ s };
+
+    ghost is_infallible = { λ _. ⊤ };
+
     fn clone(&self) -> Result<Key, AllocError> {
         Ok(*self)
     }

@@ -1,7 +1,7 @@
 // Objects in a list, in the order of their keys.
-ghost use Rattle.std.specs.Prelude.{◌≡◌, ◌≤◌, ◌<◌, ◌+◌, List, ℕ, length, take, filter, map, None, Some, Result, IfOk, IfErr, MatchOption, slice_index_or, vec_len, vec_capacity};
+ghost use Rattle.std.specs.Prelude.{◌≡◌, ◌≤◌, ◌<◌, ◌+◌, List, ℕ, [], length, take, filter, map, None, Some, Result, IfOk, IfErr, MatchOption, slice_index_or, vec_len, vec_capacity};
 ghost use Rattle.std.specs.Option.{option_copied};
-ghost use Rattle.object_store.specs.Entries.{entries, found, placed, removed, IsInOrder, IsPlaceOf, IsGapOf};
+ghost use Rattle.object_store.specs.Entries.{entries, found, placed, removed, AllBelow, IsInOrder, IsPlaceOf, IsGapOf};
 ghost use Rattle.object_store.specs.Store.{is_wanted};
 
 use crate::{Key, Keys};
@@ -84,6 +84,30 @@ fn is_wanted(key: &Key, prefix: &Key, after: Option<&Key>) -> bool
     match after {
         None => true,
         Some(after) => after.compare(key) == Ordering::Less,
+    }
+}
+
+// How many keys stand before a key.
+fn count_before(objects: &[Object], key: &Key) -> usize
+    requires { IsInOrder objects.now }
+    ensures within { result ≤ length objects.now }
+    ensures before { AllBelow key.now (take result objects.now) }
+{
+    match position(objects, key) {
+        Ok(at) | Err(at) => at,
+    }
+}
+
+/// A place before which no key is wanted.
+pub fn start_of(objects: &[Object], prefix: &Key, after: Option<&Key>) -> usize
+    requires { IsInOrder objects.now }
+    ensures within { result ≤ length objects.now }
+    ensures passed { filter (is_wanted prefix.now (option_copied after.entry)) (map (λ e. e.0) (entries (take result objects.now))) ≡ [] }
+{
+    let prefixed = count_before(objects, prefix);
+    match after {
+        None => prefixed,
+        Some(after) => prefixed.max(count_before(objects, after)),
     }
 }
 

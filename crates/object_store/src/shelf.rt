@@ -108,7 +108,8 @@ impl Shelf {
         ensures bound { IfOk result (λ keys. length keys ≤ max) }
         ensures goes { IsErrOf result ListError.Failed → ⊥ }
     {
-        match objects::listed(alloc, &self.held, prefix, after, max) {
+        let start = objects::start_of(&self.held, prefix, after);
+        match objects::listed(alloc, &self.held[start..], prefix, after, max) {
             Ok(keys) => Ok(keys),
             Err(refused) => Err(ListError::Memory(refused)),
         }

@@ -1,10 +1,9 @@
 -- Where the answer to a delta is Ok, it is one, and the other way round.
-use Rattle.std.proofs.Common.{◌≡◌, ℕ, ◌<◌, ◌≤◌, ◌==◌, ◌||◌, ◌↔◌, Bool, true, false, cond, List, [], ◌∷◌, ◌++◌, Result, Ok, Err, IsOk, nat_le, bytes_eq, refl, ap, ap₂, sym, ◌∙◌, inl, inr, eqb-true, eq-eqb}
+use Rattle.std.proofs.Common.{◌≡◌, ℕ, ◌<◌, ◌==◌, ◌||◌, ◌↔◌, Bool, true, false, cond, List, [], ◌∷◌, ◌++◌, Result, Ok, Err, IsOk, nat_le, bytes_eq, refl, sym, ◌∙◌, inl, inr, eqb-true, eq-eqb}
 use Rattle.std.specs.List.{AllByRecursion}
-use Rattle.std.proofs.lemmas.Bool.{cases_Bool, cases_lt, or_parts, lt-leb, false_from_ne_true, false≢true}
+use Rattle.std.proofs.lemmas.Bool.{cases_lt, or_parts, lt-leb, false_from_ne_true, false≢true}
 use Rattle.std.proofs.Common.{le-leb}
 use Rattle.source_checkpoint.proofs.Ranges.{same_partition, partition_itself}
-use Rattle.source_checkpoint.specs.declared.delta.StaleDelta.{StaleDelta}
 use Rattle.source_checkpoint.specs.Deltas.{Partition, Part, Names, IsDelta, MayAdmit, then_answer, answer_to_part, answer_to_delta, answer_at, answer_to_admit}
 
 pub ok_then : {E : Type 0} (a b : Result (Unit {0}) E) → IsOk (then_answer a b) → IsOk a × IsOk b

@@ -1,17 +1,15 @@
 -- Checkpoints that move with the parts of a delta.
-use Rattle.std.proofs.Common.{◌≡◌, ℕ, ◌+◌, ◌<◌, true, false, cond, List, [], ◌∷◌, ◌++◌, length, take, drop, get_or, set, suc, refl, ap, sym, ◌∙◌, inl, inr, bytes_eq, drop-cons, Ordering}
-use Rattle.std.specs.Prelude.{slice_set, insert}
+use Rattle.std.proofs.Common.{◌≡◌, ℕ, true, false, cond, List, [], ◌∷◌, refl, ap, sym, ◌∙◌, inl, inr, bytes_eq, Ordering}
 use Rattle.std.specs.Ordering.{nat_cmp}
 use Rattle.std.specs.Cmp.Lexicographic.{slice_cmp}
 use Rattle.std.specs.FinMap.Entries.{by_order}
 use Rattle.std.specs.declared.cmp.Ordering.TheVariants.{Less, Equal, Greater}
 use Rattle.std.proofs.lemmas.Bool.{cases_Bool, or_parts, false≢true, false_from_ne_true}
-use Rattle.std.proofs.lemmas.List.{set_split}
 use Rattle.std.proofs.lemmas.Map.Text.{is_eq-slice_cmp}
 use Rattle.std.specs.Ordering.{is_eq}
 use Rattle.source_checkpoint.proofs.Ranges.{same_partition, partition_itself}
 use Rattle.source_checkpoint.specs.Deltas.{Partition, Part, Names, IsDelta, moved}
-use Rattle.source_checkpoint.specs.Checkpoints.{Checkpoint, checkpoint_at, end_of, move_to, move_all, IsListedAt}
+use Rattle.source_checkpoint.specs.Checkpoints.{Checkpoint, checkpoint_at, end_of, move_to, move_all}
 
 checkpoint_moved : (part : Part) (checkpoints : List Checkpoint) (p : Partition) → checkpoint_at (move_to part checkpoints) p ≡ cond (bytes_eq part.partition p) part.to (checkpoint_at checkpoints p)
 checkpoint_moved part [] p = refl
@@ -58,14 +56,3 @@ checkpoints_moved (part ∷ parts) checkpoints h p =
           let last = checkpoint_moved part checkpoints p in
           rw other (moved_by parts (checkpoint_at (move_to part checkpoints)) (checkpoint_at checkpoints) p (last ∙ rw other refl))
     ]
-
--- the place that a loop found
-pub listed_found : (checkpoints : List Checkpoint) (p : Partition) (i : ℕ) (c : Checkpoint) → i < length checkpoints → c ≡ get_or checkpoints i c → slice_cmp nat_cmp c.partition p ≡ Equal
-    → ((part : Part) → part.partition ≡ p → move_to part checkpoints ≡ take i checkpoints ++ move_to part (drop i checkpoints)) → IsListedAt checkpoints p i
-listed_found checkpoints p i c h read same left = record {
-  within = h;
-  moves = λ part e.
-      let rest : drop i checkpoints ≡ c ∷ drop (suc i) checkpoints = drop-cons checkpoints i c h ∙ ap (λ x. x ∷ drop (suc i) checkpoints) (sym read) in
-      let here : move_to part (c ∷ drop (suc i) checkpoints) ≡ end_of part ∷ drop (suc i) checkpoints = rw (e, same) refl in
-      left part e ∙ (ap (λ l. take i checkpoints ++ l) (ap (move_to part) rest ∙ here) ∙ sym (set_split checkpoints i (end_of part) h));
-}

@@ -3,3 +3,4 @@ pub mod Ranges
 pub mod Covering
 pub mod Loops
 pub mod Answering
+pub mod Rising

@@ -2,13 +2,12 @@
 
 ghost use Rattle.std.specs.Prelude.{◌≡◌, ◌+◌, ◌<◌, ◌≤◌, ◌++◌, ◌∷◌, [], length, map, OnOk, OnErr, IsOk, ◌↔◌, vec_len, vec_capacity, insert, MatchResult};
 ghost use Rattle.source_checkpoint.specs.Deltas.{answer_to_admit, answer_to_part, answer_at, then_answer, range_of, moved, MayAdmit, Names, IsDelta, Part, Partition};
-ghost use Rattle.source_checkpoint.specs.Checkpoints.{checkpoint_at, move_to, move_all, IsListedAt, IsPutAt};
+ghost use Rattle.source_checkpoint.specs.Checkpoints.{checkpoint_at, move_to, move_all, IsInOrder, IsListedAt, IsPutAt};
 
 use crate::delta::{Delta, Part, StaleDelta, check_part};
 use crate::partition::Partition;
 use crate::span::{Span, Spans};
 use std::alloc::{AllocError, Global};
-use std::cmp::Ordering;
 use std::marker::Model;
 
 /// How far a partition was taken in.
@@ -26,37 +25,32 @@ pub struct Ledger {
 
 impl Model for Ledger {
     ghost use Rattle.std.specs.Prelude.{◌-◌, vec_len, vec_capacity};
-    ghost use Rattle.source_checkpoint.specs.Checkpoints.{Checkpoints};
+    ghost use Rattle.source_checkpoint.specs.Checkpoints.{Checkpoints, IsInOrder};
 
     ghost Value = { Checkpoints };
 
     ghost view = { λ l. record { list = l.list.items; spare = vec_capacity l.list - vec_len l.list } };
-}
 
-/// The checkpoint of a partition, 0 for one that is not listed.
-fn checkpoint_of(checkpoints: &[Checkpoint], partition: &Partition) -> u64
-    ensures { result ≡ checkpoint_at checkpoints.now partition.now }
-{
-    for checkpoint in checkpoints {
-        if checkpoint.partition.is(partition) {
-            return checkpoint.at;
-        }
-    }
-    0
+    ghost invariant = { λ l. IsInOrder l.list.items };
 }
 
 /// Where a partition's checkpoint stands, or where it would be put in.
 fn place_of(checkpoints: &[Checkpoint], partition: &Partition) -> Result<usize, usize>
+    requires { IsInOrder checkpoints.now }
     ensures { MatchResult result (IsListedAt checkpoints.now partition.now) (IsPutAt checkpoints.now partition.now) }
 {
-    for (i, checkpoint) in checkpoints.iter().enumerate() {
-        match checkpoint.partition.compare(partition) {
-            Ordering::Less => {}
-            Ordering::Equal => return Ok(i),
-            Ordering::Greater => return Err(i),
-        }
+    checkpoints.binary_search_by(|checkpoint| checkpoint.partition.compare(partition))
+}
+
+/// The checkpoint of a partition, 0 for one that is not listed.
+fn checkpoint_of(checkpoints: &[Checkpoint], partition: &Partition) -> u64
+    requires { IsInOrder checkpoints.now }
+    ensures { result ≡ checkpoint_at checkpoints.now partition.now }
+{
+    match place_of(checkpoints, partition) {
+        Ok(i) => checkpoints[i].at,
+        Err(_) => 0,
     }
-    Err(checkpoints.len())
 }
 
 /// At its place in a list that has room.
@@ -75,8 +69,10 @@ fn insert_within(list: &mut Vec<Checkpoint>, index: usize, item: Checkpoint)
 
 /// The checkpoint of a part's partition moves to its end.
 fn move_one(list: &mut Vec<Checkpoint>, part: &Part)
-    requires { vec_len list.old < vec_capacity list.old }
+    requires order { IsInOrder list.old.items }
+    requires room { vec_len list.old < vec_capacity list.old }
     ensures items { list.new.items ≡ move_to part.now list.old.items }
+    ensures order { IsInOrder list.new.items }
     ensures len { vec_len list.new ≤ vec_len list.old + 1 }
     ensures room { vec_capacity list.old ≤ vec_capacity list.new }
 {
@@ -92,8 +88,10 @@ fn move_one(list: &mut Vec<Checkpoint>, part: &Part)
 
 /// The checkpoints of these parts' partitions move to their ends.
 fn move_parts(list: &mut Vec<Checkpoint>, parts: &[Part])
-    requires { vec_len list.old + length parts.now ≤ vec_capacity list.old }
-    ensures { list.new.items ≡ move_all parts.now list.old.items }
+    requires order { IsInOrder list.old.items }
+    requires room { vec_len list.old + length parts.now ≤ vec_capacity list.old }
+    ensures items { list.new.items ≡ move_all parts.now list.old.items }
+    ensures order { IsInOrder list.new.items }
 {
     for part in parts {
         move_one(list, part);
@@ -102,8 +100,10 @@ fn move_parts(list: &mut Vec<Checkpoint>, parts: &[Part])
 
 /// The same of the ranges of spans.
 fn move_spans(list: &mut Vec<Checkpoint>, spans: &[Span])
-    requires { vec_len list.old + length (map range_of spans.now) ≤ vec_capacity list.old }
-    ensures { list.new.items ≡ move_all (map range_of spans.now) list.old.items }
+    requires order { IsInOrder list.old.items }
+    requires room { vec_len list.old + length (map range_of spans.now) ≤ vec_capacity list.old }
+    ensures items { list.new.items ≡ move_all (map range_of spans.now) list.old.items }
+    ensures order { IsInOrder list.new.items }
 {
     for span in spans {
         move_one(list, &span.range());
@@ -112,6 +112,7 @@ fn move_spans(list: &mut Vec<Checkpoint>, spans: &[Span])
 
 /// Whether a part begins at its partition's checkpoint.
 fn check_start(checkpoints: &[Checkpoint], part: &Part) -> Result<(), StaleDelta>
+    requires { IsInOrder checkpoints.now }
     ensures { result ≡ answer_at (checkpoint_at checkpoints.now part.now.partition) part.now }
 {
     let current = checkpoint_of(checkpoints, &part.partition);
@@ -126,6 +127,7 @@ fn check_start(checkpoints: &[Checkpoint], part: &Part) -> Result<(), StaleDelta
 }
 
 fn check_parts(checkpoints: &[Checkpoint], parts: &[Part]) -> Result<(), StaleDelta>
+    requires { IsInOrder checkpoints.now }
     ensures { result ≡ answer_to_admit (checkpoint_at checkpoints.now) [] parts.now }
 {
     for (i, part) in parts.iter().enumerate() {

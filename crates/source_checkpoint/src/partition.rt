@@ -8,7 +8,6 @@ ghost use Rattle.source_checkpoint.specs.Names.{IsPartition, IsBadNameAt, is_nam
 use std::alloc::AllocError;
 use std::cmp::Ordering;
 use std::fmt;
-use std::fmt::Write;
 use std::marker::Model;
 use thiserror::Error;
 
@@ -46,6 +45,12 @@ impl Model for Partition {
 }
 
 impl Clone for Partition {
+    ghost use Rattle.std.specs.Prelude.{◌≡◌, ⊤};
+
+    ghost is_clone = { λ s r. r ≡ s };
+
+    ghost is_infallible = { λ _. ⊤ };
+
     fn clone(&self) -> Result<Partition, AllocError> {
         Ok(*self)
     }
@@ -123,15 +128,23 @@ impl Partition {
 
 /// The name itself.
 impl fmt::Display for Partition {
+    ghost use Rattle.std.specs.Prelude.{Some};
+
+    ghost output = { λ name. Some name };
+
     fn fmt<W: fmt::Write>(&self, f: &mut fmt::Formatter<W>) -> fmt::Result {
-        for byte in self.as_bytes() {
-            f.write_char(char::from(*byte))?;
-        }
-        Ok(())
+        let Ok(name) = str::from_utf8(self.as_bytes()) else {
+            unreachable!();
+        };
+        f.write_str(name)
     }
 }
 
 impl fmt::Debug for Partition {
+    ghost use Rattle.std.specs.Prelude.{Some};
+
+    ghost debug_output = { λ name. Some name };
+
     fn fmt<W: fmt::Write>(&self, f: &mut fmt::Formatter<W>) -> fmt::Result {
         write!(f, "{self}")
     }

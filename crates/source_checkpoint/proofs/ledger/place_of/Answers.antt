@@ -1,7 +1,12 @@
-use Rattle.std.proofs.Common.{arith, sym, ◌∙◌}
-use Rattle.source_checkpoint.proofs.Covering.{listed_found}
+use Rattle.std.proofs.Common.{rules, of_calls}
+use Rattle.std.specs.Ordering.{nat_cmp}
+use Rattle.std.specs.Cmp.Lexicographic.{slice_cmp}
+use Rattle.std.proofs.lemmas.Fn.{always_returns_same}
+use Rattle.source_checkpoint.proofs.Rising.{place_found}
 use Rattle.source_checkpoint.proofs.ledger.place_of.Goals as goal
 
-pub returns-in-Equal : goal.returns-in-Equal
-returns-in-Equal c =
-    listed_found c.args.checkpoints.now c.args.partition.now c.loop-i.i c.index-checkpoints-i.result (omega arith) c.index-checkpoints-i.is (sym c.compare.ensures ∙ c.in-Equal.is) c.loop-i.invariant
+pub returns : goal.returns
+returns c =
+    let facts = c.binary_search_by.ensures in
+    place_found c.args.partition.now c.args.checkpoints.now c.binary_search_by.result c.requires facts.bound
+    (facts.position (λ o. slice_cmp nat_cmp o.partition c.args.partition.now) (always_returns_same _ _ _ (λ a r f called. search (rules, of_calls))))

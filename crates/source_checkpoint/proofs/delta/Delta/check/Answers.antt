@@ -1,4 +1,3 @@
-use Rattle.std.proofs.Common.{ap, ◌∙◌}
 use Rattle.source_checkpoint.proofs.Answering.{delta_answer}
 use Rattle.source_checkpoint.proofs.delta.Delta.check.Goals as goal
 
