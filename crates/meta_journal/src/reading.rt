@@ -98,19 +98,7 @@ fn take_act(alloc: Global, bytes: &[u8], kind: Kind, at: usize) -> Result<(Act, 
             let config = Bytes::from_slice(alloc, config)?;
             Ok((Act::Create { config }, next))
         }
-        Kind::Stage => {
-            let (number, next) = take_varint(bytes, at)?;
-            let (delta, next) = take_delta(alloc, bytes, next)?;
-            let (facts, next) = take_facts(alloc, bytes, next)?;
-            Ok((
-                Act::Stage {
-                    number,
-                    delta,
-                    facts,
-                },
-                next,
-            ))
-        }
+        Kind::Stage => take_stage(alloc, bytes, at),
         Kind::Publish => {
             let (number, next) = take_varint(bytes, at)?;
             Ok((Act::Publish { number }, next))
@@ -140,6 +128,24 @@ fn take_act(alloc: Global, bytes: &[u8], kind: Kind, at: usize) -> Result<(Act, 
             Ok((Act::Retire { numbers }, next))
         }
     }
+}
+
+#[tactic(auto, unfolding(crate::specs::Reading::act_at))]
+fn take_stage(alloc: Global, bytes: &[u8], at: usize) -> Result<(Act, usize), EntryError>
+    requires { at ≤ length bytes.now }
+    ensures exact { Reads result (act_at bytes.now Kind.Stage at) }
+{
+    let (number, next) = take_varint(bytes, at)?;
+    let (delta, next) = take_delta(alloc, bytes, next)?;
+    let (facts, next) = take_facts(alloc, bytes, next)?;
+    Ok((
+        Act::Stage {
+            number,
+            delta,
+            facts,
+        },
+        next,
+    ))
 }
 
 #[tactic(auto, unfolding(crate::specs::Reading::act_at))]

@@ -231,6 +231,11 @@ fn doubled_partitions_are_refused(rt: HostRuntime) -> Result<(), Fail> {
     Ok(())
 }
 
+/// What is said to an entry of this moment.
+fn answer(meta: &Meta, moment: u64, act: Act) -> Result<(), Refusal> {
+    meta.check(&Entry { moment, act }, READING)
+}
+
 #[test]
 fn marked_rows_go_after_their_grace(rt: HostRuntime) -> Result<(), Fail> {
     let alloc = rt.alloc();
@@ -242,25 +247,19 @@ fn marked_rows_go_after_their_grace(rt: HostRuntime) -> Result<(), Fail> {
     )?;
     let marked = numbers(alloc, &[1])?;
     take(&mut meta, 1200, Act::MarkStaged { numbers: marked })?;
-    let publish = Entry {
-        moment: 1200,
-        act: Act::Publish { number: 1 },
-    };
+    let publish = Act::Publish { number: 1 };
     assert!(rt;
         matches!(
-            meta.check(&publish, READING),
+            answer(&meta, 1200, publish),
             Err(Refusal::State(StateRefusal::NotStaged { number: 1 }))
         )
     );
-    let early = Entry {
-        moment: 1299,
-        act: Act::Remove {
-            numbers: numbers(alloc, &[1])?,
-        },
+    let early = Act::Remove {
+        numbers: numbers(alloc, &[1])?,
     };
     assert!(rt;
         matches!(
-            meta.check(&early, READING),
+            answer(&meta, 1299, early),
             Err(Refusal::State(StateRefusal::InGrace {
                 number: 1,
                 until: 1300,
@@ -270,13 +269,10 @@ fn marked_rows_go_after_their_grace(rt: HostRuntime) -> Result<(), Fail> {
     );
     let gone = numbers(alloc, &[1])?;
     take(&mut meta, 1300, Act::Remove { numbers: gone })?;
-    let later = Entry {
-        moment: 1300,
-        act: Act::Publish { number: 1 },
-    };
+    let later = Act::Publish { number: 1 };
     assert!(rt;
         matches!(
-            meta.check(&later, READING),
+            answer(&meta, 1300, later),
             Err(Refusal::State(StateRefusal::NoRow { number: 1 }))
         )
     );
