@@ -6,6 +6,7 @@ pub mod Specials
 pub mod Rows
 pub mod Each
 pub mod Complete
+pub mod Reached
 pub mod Sound
 pub mod Pieces
 pub mod Utf8

@@ -2,12 +2,13 @@
 
 ghost use Rattle.std.specs.Prelude.{◌++◌, ◌∷◌, map, ◌≡◌, ◌||◌, nat_lt, ◌≢◌, ◌<◌, ◌≤◌, ◌+◌, ◌⊎◌, ◌↔◌, ℕ, Bool, false, true, length, drop, List, [], Ok, Err, IfOk, IfErr, IsTrue, slice_index, slice_range, MatchResult, Option, Some, None};
 ghost use Rattle.query_reader.specs.Kinds.{kind_of, StandsAt, said, ends_word, begins_word, names_set};
-ghost use Rattle.query_reader.specs.Tree.{Tree, And, Or, view, no_trees, behind, trees_after, and_tree, or_tree};
+ghost use Rattle.query_reader.specs.Tree.{Tree, Leaf, And, Or, view, no_trees, behind, trees_after, and_tree, or_tree};
 ghost use Rattle.query_reader.specs.Machine.{Frame, Role, First, Fielded, run, reads, state, word, Want, After, InQuote, Behind, fresh, with_operand, from_operand};
 ghost use Rattle.query_reader.specs.Reading.{next_run, IsNext, IsOperatorEnd, IsScanned, quote_rest, behind_rest, spaced_rest, in_rest, set_rest, range_rest, word_rest, word_said, BeginsNoSet, IsSetOpening, role_for, special_rest, letter_rest, operand_rest, negated_rest, sunk_word_rest, group_rest, OnFault, Arrives, Reads, ReadsGroup};
 ghost use Rattle.query_reader.specs.declared.kind.Kind.TheVariants.{Blank, Open, Close, Colon, Plain, Escape};
 ghost use Rattle.query_reader.specs.declared.kind.Said.TheVariants.{SaidWord, SaidNot};
 ghost use Rattle.query_reader.specs.declared.fault.Fault.TheVariants.{Syntax};
+ghost use Rattle.query_reader.specs.Asking.{Within};
 ghost use Rattle.query_reader.specs.Machine.{member};
 ghost use Rattle.query_reader.specs.declared.special.Member.{Member};
 
@@ -156,6 +157,22 @@ fn plain_word(text: &[u8], field: Option<Span>, from: usize, scan: Scan) -> Oper
     }
 }
 
+/// A range or a comparison of a field, as an operand that ends before `end`.
+fn edged(field: Span, from: usize, range: Ranged, end: usize, free: bool) -> Operand
+    ensures raw { view result.raw ≡ Leaf (Some field) (Within from range) }
+    ensures end { result.end ≡ end }
+    ensures free { result.free ≡ free }
+{
+    Operand {
+        raw: Raw::Leaf(Clause {
+            field: Some(field),
+            ask: Ask::Within(from, range),
+        }),
+        end,
+        free,
+    }
+}
+
 /// A range or a comparison, which began at `from`, behind its first byte.
 fn ranged(
     text: &[u8],
@@ -174,49 +191,15 @@ fn ranged(
     while at < text.len() {
         match step_range(mode, at, text[at], byte_kind(text[at])) {
             RangeStep::More(next) => mode = next,
-            RangeStep::Done(range) => {
-                return Ok(Operand {
-                    raw: Raw::Leaf(Clause {
-                        field: Some(field),
-                        ask: Ask::Within(from, range),
-                    }),
-                    end: at + 1,
-                    free: true,
-                });
-            }
-            RangeStep::Ended(range) => {
-                return Ok(Operand {
-                    raw: Raw::Leaf(Clause {
-                        field: Some(field),
-                        ask: Ask::Within(from, range),
-                    }),
-                    end: at + 1,
-                    free: false,
-                });
-            }
-            RangeStep::Before(range) => {
-                return Ok(Operand {
-                    raw: Raw::Leaf(Clause {
-                        field: Some(field),
-                        ask: Ask::Within(from, range),
-                    }),
-                    end: at,
-                    free: false,
-                });
-            }
+            RangeStep::Done(range) => return Ok(edged(field, from, range, at + 1, true)),
+            RangeStep::Ended(range) => return Ok(edged(field, from, range, at + 1, false)),
+            RangeStep::Before(range) => return Ok(edged(field, from, range, at, false)),
             RangeStep::Refused => return Err(ReadError::Refused(Fault::Syntax { at })),
         }
         at += 1;
     }
     match end_range(mode, at) {
-        Some(range) => Ok(Operand {
-            raw: Raw::Leaf(Clause {
-                field: Some(field),
-                ask: Ask::Within(from, range),
-            }),
-            end: at,
-            free: false,
-        }),
+        Some(range) => Ok(edged(field, from, range, at, false)),
         None => Err(ReadError::Refused(Fault::Syntax { at })),
     }
 }
