@@ -308,7 +308,7 @@ policy_faults path d =
     ++ asked (whole 1 100) path (codes "max_merge_ops") d
     ++ asked (optional rules.Duration) path (codes "maturation_period") d
 
--- the keys of the indexing settings, and behind them the merge policy
+-- the indexing settings' own keys
 abbrev pub indexing_key_faults : List ℕ → Data → List ConfigError
 indexing_key_faults path d =
     unknown_faults places.Indexing path (members_in d)
@@ -316,6 +316,7 @@ indexing_key_faults path d =
     ++ asked (whole 1 16777216) path (codes "split_num_docs_target") d
     ++ asked (optional rules.AnyTable) path (codes "resources") d
 
+-- those, and behind them the merge policy
 abbrev pub indexing_faults : List ℕ → Data → List ConfigError
 indexing_faults path d =
     indexing_key_faults path d ++ optional_table policy_path (policy_faults policy_path) (get (codes "merge_policy") d)

@@ -7,7 +7,7 @@ ghost use Rattle.index_config.specs.Tables as spec;
 ghost use Rattle.index_config.specs.Fields.{in_option};
 ghost use Rattle.index_config.specs.Sections as sections;
 
-use crate::checks::{check_key, wrong_unless};
+use crate::checks::{Here, check_key, wrong_unless};
 use crate::config_error::ConfigError;
 use crate::keys::is_known;
 use crate::names::{member_path, policy_named, type_named, under};
@@ -20,14 +20,6 @@ use toml::Value;
 /// How deep objects of fields nest.
 pub const MAX_LEVELS: usize = 16;
 
-/// A table that is checked, and its path.
-#[derive(Drop)]
-struct Here<'a> {
-    alloc: Global,
-    path: Text,
-    table: &'a Value,
-}
-
 /// A key that may be absent.
 fn check_optional(here: &Here, faults: &mut Faults, rule: Rule, key: &str) -> Result<(), AllocError>
     ensures { OnOk result (faults.new ≡ faults.old ++ spec.asked (spec.optional rule) here.now.path key.now (view here.now.table.now)) }
@@ -37,7 +29,7 @@ fn check_optional(here: &Here, faults: &mut Faults, rule: Rule, key: &str) -> Re
         list: false,
         rule,
     };
-    check_key(here.alloc, faults, ask, &here.path, key, here.table)
+    check_key(here, faults, ask, key)
 }
 
 /// A key that has to be there.
@@ -49,7 +41,7 @@ fn check_required(here: &Here, faults: &mut Faults, rule: Rule, key: &str) -> Re
         list: false,
         rule,
     };
-    check_key(here.alloc, faults, ask, &here.path, key, here.table)
+    check_key(here, faults, ask, key)
 }
 
 /// A list that may be absent.
@@ -61,7 +53,7 @@ fn check_list(here: &Here, faults: &mut Faults, rule: Rule, key: &str) -> Result
         list: true,
         rule,
     };
-    check_key(here.alloc, faults, ask, &here.path, key, here.table)
+    check_key(here, faults, ask, key)
 }
 
 /// A number that may be absent.
@@ -91,14 +83,7 @@ fn check_mappings(
         list: true,
         rule: Rule::AnyTable,
     };
-    check_key(
-        here.alloc,
-        faults,
-        ask,
-        &here.path,
-        "field_mappings",
-        here.table,
-    )
+    check_key(here, faults, ask, "field_mappings")
 }
 
 /// The keys that a table doesn't know, in byte order.
@@ -424,6 +409,7 @@ pub fn policy_table(root: &Value) -> Option<&Value>
     }
 }
 
+/// The value where the table of a section stands.
 fn section_in(root: &Value, section: Section) -> Option<&Value>
     ensures { option_map (λ v. view v.now) result ≡ sections.section_in section (view root.now) }
 {
@@ -446,6 +432,7 @@ fn section_path(section: Section) -> &'static str
     }
 }
 
+/// The keys of a section.
 fn check_section(here: &Here, faults: &mut Faults, section: Section) -> Result<(), AllocError>
     ensures { OnOk result (faults.new ≡ faults.old ++ sections.key_faults section here.now.path (view here.now.table.now)) }
 {
@@ -457,7 +444,7 @@ fn check_section(here: &Here, faults: &mut Faults, section: Section) -> Result<(
     }
 }
 
-/// A table that may be left out, and is of the wrong kind where it is no table.
+/// A section, which is of the wrong kind where it is no table.
 fn check_section_at(
     alloc: Global,
     faults: &mut Faults,

@@ -1,6 +1,6 @@
 use Rattle.std.proofs.Common.{◌∙◌}
 use Rattle.std.proofs.lemmas.Result.{on_ok_weaker}
-use Rattle.index_config.specs.Sections.{section_path, section_in, key_faults}
+use Rattle.index_config.specs.Sections.{section_path, key_faults}
 use Rattle.index_config.proofs.Nesting.{wrong-table, right-table}
 use Rattle.index_config.proofs.tables.check_section_at.Goals as goal
 
