@@ -170,7 +170,7 @@ member-at (suc levels) list_place path n d u tab e =
     u (rw tab at e)
 
 -- what is no table has no keys
-no-key : (key : List ℕ) (d : Data) → is_some (as_table d) ≡ false → get key d ≡ None
+pub no-key : (key : List ℕ) (d : Data) → is_some (as_table d) ≡ false → get key d ≡ None
 no-key key (string s) e = refl
 no-key key (integer z) e = refl
 no-key key (float x) e = refl

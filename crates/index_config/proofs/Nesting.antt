@@ -1,37 +1,19 @@
 -- What a member of a list of fields gives, by how deep objects may still nest.
-use Rattle.std.proofs.Common.{◌≡◌, ℕ, zero, suc, ◌-◌, ◌<◌, Bool, true, false, List, [], ◌∷◌, ◌++◌, refl, sym, ap, ◌∙◌, subst, arith, append-nil, append_assoc, is_some, Option, Some}
+use Rattle.std.proofs.Common.{◌≡◌, ℕ, zero, suc, ◌-◌, ◌<◌, true, false, List, [], ◌∷◌, ◌++◌, refl, sym, ap, ◌∙◌, subst, arith, append_assoc, is_some, Option, Some, None, inl, inr}
 use Rattle.std.specs.Prelude.{codes}
+use Rattle.std.proofs.lemmas.Bool.{cases_Bool}
 use Rattle.toml.specs.Data.{Data, Items, get, as_table}
 use Rattle.index_config.specs.declared.raw.RawField.{RawField}
 use Rattle.index_config.specs.declared.config_error.ConfigError.{ConfigError}
 use Rattle.index_config.specs.declared.rule.FieldType.{FieldType}
 use Rattle.index_config.specs.Rules.{under, member_path, wrong_unless}
-use Rattle.index_config.specs.Tables.{type_of, is_object, items_in, field_faults, inner_fields, optional_table, where_table, member_at, fields_faults, each_fault}
-use Rattle.index_config.specs.Fields.{name_of, raw_field, inner_raws, raw_member, raw_fields, each_raw, all_raws, in_mapping}
+use Rattle.index_config.specs.Tables.{type_of, is_object, items_in, field_faults, inner_fields, optional_table, where_table, member_at, fields_faults, each_fault, indexing_faults, indexing_key_faults, indexing_path, policy_faults, policy_path}
+use Rattle.index_config.specs.Fields.{name_of, raw_field, inner_raws, raw_member, raw_fields, each_raw, all_raws, in_mapping, in_option}
+use Rattle.index_config.specs.Sections.{section_faults}
+use Rattle.index_config.specs.declared.rule.Section.TheVariants as sections
+use Rattle.index_config.proofs.Named.{no-key}
 
-nothing-inner : (b : Bool) (place : List ℕ) (d : Data) → inner_fields b (λ p i. []) place d ≡ []
-nothing-inner true place d = refl
-nothing-inner false place d = refl
-
-pub member-no_table : (levels : ℕ) (path : List ℕ) (n : ℕ) (d : Data) → is_some (as_table d) ≡ false → member_at levels path n d ≡ []
-member-no_table zero path n d e = rw e refl
-member-no_table (suc levels) path n d e = rw e refl
-
-pub member-deepest : (levels : ℕ) (path : List ℕ) (n : ℕ) (d : Data) → is_some (as_table d) ≡ true → levels ≡ 0
-    → member_at levels path n d ≡ field_faults true (member_path path n) d (type_of d)
-member-deepest zero path n d e z =
-    rw e (ap (λ x. field_faults true (member_path path n) d (type_of d) ++ x) (nothing-inner (is_object (type_of d)) (member_path path n) d)
-    ∙ append-nil (field_faults true (member_path path n) d (type_of d)))
-member-deepest (suc levels) path n d e z = absurd (omega arith)
-
-pub member-leaf : (levels : ℕ) (path : List ℕ) (n : ℕ) (d : Data) → is_some (as_table d) ≡ true → 0 < levels → is_object (type_of d) ≡ false
-    → member_at levels path n d ≡ field_faults false (member_path path n) d (type_of d)
-member-leaf zero path n d e z o = absurd (omega arith)
-member-leaf (suc levels) path n d e z o =
-    rw e (ap (λ b. field_faults false (member_path path n) d (type_of d) ++ inner_fields b (λ p i. each_fault (member_at levels p) 0 i) (member_path path n) d) o
-    ∙ append-nil (field_faults false (member_path path n) d (type_of d)))
-
-pub member-inner : (levels : ℕ) (path : List ℕ) (n : ℕ) (d : Data) → is_some (as_table d) ≡ true → 0 < levels → is_object (type_of d) ≡ true
+member-inner : (levels : ℕ) (path : List ℕ) (n : ℕ) (d : Data) → is_some (as_table d) ≡ true → 0 < levels → is_object (type_of d) ≡ true
     → member_at levels path n d ≡ field_faults false (member_path path n) d (type_of d)
     ++ fields_faults (levels - 1) (under (member_path path n) (codes "field_mappings")) (items_in (get (codes "field_mappings") d))
 member-inner zero path n d e z o = absurd (omega arith)
@@ -39,22 +21,7 @@ member-inner (suc levels) path n d e z o =
     let less : suc levels - 1 ≡ levels = omega arith in
     rw (e, less) (ap (λ b. field_faults false (member_path path n) d (type_of d) ++ inner_fields b (λ p i. each_fault (member_at levels p) 0 i) (member_path path n) d) o)
 
-nothing-raw : (b : Bool) (place path : List ℕ) (d : Data) → inner_raws b (λ p q i. []) place path d ≡ []
-nothing-raw true place path d = refl
-nothing-raw false place path d = refl
-
-pub raw-alone : (levels : ℕ) (place path : List ℕ) (d : Data) → levels ≡ 0
-    → raw_member levels place path d ≡ raw_field place path d ∷ []
-raw-alone zero place path d z = ap (λ x. raw_field place path d ∷ x) (nothing-raw (is_object (type_of d)) place path d)
-raw-alone (suc levels) place path d z = absurd (omega arith)
-
-pub raw-leaf : (levels : ℕ) (place path : List ℕ) (d : Data) → is_object (type_of d) ≡ false
-    → raw_member levels place path d ≡ raw_field place path d ∷ []
-raw-leaf zero place path d o = ap (λ b. raw_field place path d ∷ inner_raws b (λ p q i. []) place path d) o
-raw-leaf (suc levels) place path d o =
-    ap (λ b. raw_field place path d ∷ inner_raws b (λ p q i. each_raw (λ n e. raw_member levels (member_path p n) q e) 0 i) place path d) o
-
-pub raw-inner : (levels : ℕ) (place path : List ℕ) (d : Data) → 0 < levels → is_object (type_of d) ≡ true
+raw-inner : (levels : ℕ) (place path : List ℕ) (d : Data) → 0 < levels → is_object (type_of d) ≡ true
     → raw_member levels place path d ≡ raw_field place path d
     ∷ raw_fields (levels - 1) (under place (codes "field_mappings")) (under path (name_of d)) (items_in (get (codes "field_mappings") d))
 raw-inner zero place path d z o = absurd (omega arith)
@@ -67,40 +34,19 @@ pub chain : {A : Type 0} (old mid new x y : List A) → mid ≡ old ++ x → new
 chain old mid new x y m n = rw (n, m) (append_assoc old x y)
 
 -- a member with its own fields behind it
-pub step-member : (levels : ℕ) (path : List ℕ) (n : ℕ) (d : Data) (t : Option FieldType) (place inner : List ℕ) (items : Items)
-    (old mid new : List ConfigError) → is_some (as_table d) ≡ true → 0 < levels → t ≡ type_of d → is_object t ≡ true
-    → place ≡ member_path path n → inner ≡ under place (codes "field_mappings") → items ≡ items_in (get (codes "field_mappings") d)
-    → mid ≡ old ++ field_faults false place d t → new ≡ mid ++ fields_faults (levels - 1) inner items
+pub step-member : (levels : ℕ) (path : List ℕ) (n : ℕ) (d : Data) (t : Option FieldType) (place : List ℕ) (old mid new : List ConfigError)
+    → is_some (as_table d) ≡ true → 0 < levels → t ≡ type_of d → is_object t ≡ true → place ≡ member_path path n
+    → mid ≡ old ++ field_faults false place d t
+    → new ≡ mid ++ fields_faults (levels - 1) (under place (codes "field_mappings")) (items_in (get (codes "field_mappings") d))
     → new ≡ old ++ member_at levels path n d
-step-member levels path n d t place inner items old mid new tab z ty o p i it m e =
+step-member levels path n d t place old mid new tab z ty o p m e =
     let object : is_object (type_of d) ≡ true = subst (λ x. is_object x ≡ true) ty o in
-    let inner_is : inner ≡ under (member_path path n) (codes "field_mappings") = i ∙ ap (λ x. under x (codes "field_mappings")) p in
     let own : field_faults false place d t ≡ field_faults false (member_path path n) d (type_of d) =
     ap (λ x. field_faults false x d t) p ∙ ap (field_faults false (member_path path n) d) ty in
-    let nested : fields_faults (levels - 1) inner items
-    ≡ fields_faults (levels - 1) (under (member_path path n) (codes "field_mappings")) (items_in (get (codes "field_mappings") d)) =
-    ap (λ x. fields_faults (levels - 1) x items) inner_is ∙ ap (fields_faults (levels - 1) (under (member_path path n) (codes "field_mappings"))) it in
+    let items = items_in (get (codes "field_mappings") d) in
     let first = m ∙ ap (λ x. old ++ x) own in
-    let second = e ∙ ap (λ x. mid ++ x) nested in
+    let second = e ∙ ap (λ x. mid ++ fields_faults (levels - 1) (under x (codes "field_mappings")) items) p in
     chain old mid new _ _ first second ∙ ap (λ x. old ++ x) (sym (member-inner levels path n d tab z object))
-
--- a member alone, where objects nest no deeper or it is none
-pub step-deepest : (levels : ℕ) (path : List ℕ) (n : ℕ) (d : Data) (t : Option FieldType) (place : List ℕ) (old new : List ConfigError)
-    → is_some (as_table d) ≡ true → levels ≡ 0 → t ≡ type_of d → place ≡ member_path path n
-    → new ≡ old ++ field_faults true place d t → new ≡ old ++ member_at levels path n d
-step-deepest levels path n d t place old new tab z ty p e =
-    let own : field_faults true place d t ≡ field_faults true (member_path path n) d (type_of d) =
-    ap (λ x. field_faults true x d t) p ∙ ap (field_faults true (member_path path n) d) ty in
-    e ∙ ap (λ x. old ++ x) (own ∙ sym (member-deepest levels path n d tab z))
-
-pub step-leaf : (levels : ℕ) (path : List ℕ) (n : ℕ) (d : Data) (t : Option FieldType) (place : List ℕ) (old new : List ConfigError)
-    → is_some (as_table d) ≡ true → 0 < levels → t ≡ type_of d → is_object t ≡ false → place ≡ member_path path n
-    → new ≡ old ++ field_faults false place d t → new ≡ old ++ member_at levels path n d
-step-leaf levels path n d t place old new tab z ty o p e =
-    let plain : is_object (type_of d) ≡ false = subst (λ x. is_object x ≡ false) ty o in
-    let own : field_faults false place d t ≡ field_faults false (member_path path n) d (type_of d) =
-    ap (λ x. field_faults false x d t) p ∙ ap (field_faults false (member_path path n) d) ty in
-    e ∙ ap (λ x. old ++ x) (own ∙ sym (member-leaf levels path n d tab z plain))
 
 pub step-raws : (levels : ℕ) (place path : List ℕ) (d : Data) (raw : RawField) (inner_place inner_path : List ℕ) (items : Items)
     (old mid new : List RawField) → 0 < levels → is_object (type_of d) ≡ true → raw ≡ raw_field place path d → mid ≡ old ++ raw ∷ []
@@ -132,6 +78,21 @@ pub there-table : (p path : List ℕ) (g : List ℕ → Data → List ConfigErro
     → Some d ≡ o → is_some (as_table d) ≡ true → path ≡ p → new ≡ old ++ g path d → new ≡ old ++ where_table (g p) o
 there-table p path g o d old new s t e n =
     subst (λ (x : Option Data). new ≡ old ++ where_table (g p) x) s (rw t (n ∙ ap (λ x. old ++ g x d) e))
+
+-- the keys of the indexing settings, and the policy behind them
+settings-parts : (o : Option Data) → optional_table indexing_path (indexing_key_faults indexing_path) o
+    ++ optional_table policy_path (policy_faults policy_path) (in_option (codes "merge_policy") o)
+    ≡ optional_table indexing_path (indexing_faults indexing_path) o
+settings-parts None = refl
+settings-parts (Some d) =
+    elim (cases_Bool (is_some (as_table d))) [
+      | inl there ↦ rw there refl
+      | inr lacks ↦ rw (lacks, no-key (codes "merge_policy") d lacks) refl
+    ]
+
+pub settings-chain : (root : Data) (old mid new : List ConfigError) → mid ≡ old ++ section_faults sections.Indexing root
+    → new ≡ mid ++ section_faults sections.Policy root → new ≡ old ++ optional_table indexing_path (indexing_faults indexing_path) (get indexing_path root)
+settings-chain root old mid new m n = chain old mid new _ _ m n ∙ ap (λ x. old ++ x) (settings-parts (get indexing_path root))
 
 pub raws-all : (root : Data) (place path : List ℕ) (items : Items) (old new : List RawField) → old ≡ []
     → place ≡ codes "doc_mapping.field_mappings" → path ≡ [] → items ≡ items_in (in_mapping (codes "field_mappings") root)

@@ -308,13 +308,18 @@ policy_faults path d =
     ++ asked (whole 1 100) path (codes "max_merge_ops") d
     ++ asked (optional rules.Duration) path (codes "maturation_period") d
 
-abbrev pub indexing_faults : List ℕ → Data → List ConfigError
-indexing_faults path d =
+-- the indexing settings' own keys
+abbrev pub indexing_key_faults : List ℕ → Data → List ConfigError
+indexing_key_faults path d =
     unknown_faults places.Indexing path (members_in d)
     ++ asked (whole 1 86400) path (codes "commit_timeout_secs") d
     ++ asked (whole 1 16777216) path (codes "split_num_docs_target") d
     ++ asked (optional rules.AnyTable) path (codes "resources") d
-    ++ optional_table policy_path (policy_faults policy_path) (get (codes "merge_policy") d)
+
+-- those, and behind them the merge policy
+abbrev pub indexing_faults : List ℕ → Data → List ConfigError
+indexing_faults path d =
+    indexing_key_faults path d ++ optional_table policy_path (policy_faults policy_path) (get (codes "merge_policy") d)
 
 abbrev pub search_path : List ℕ
 search_path = codes "search_settings"

@@ -193,21 +193,22 @@ fn missing_if(faults: &mut Faults, required: bool, path: Text) -> Result<(), All
     Ok(())
 }
 
+/// A table that is checked, and its path.
+#[derive(Drop)]
+pub struct Here<'a> {
+    pub alloc: Global,
+    pub path: Text,
+    pub table: &'a Value,
+}
+
 /// A key of a table.
 #[tactic(auto, unfolding(crate::specs::Tables::asked))]
-pub fn check_key(
-    alloc: Global,
-    faults: &mut Faults,
-    ask: Ask,
-    prefix: &Text,
-    key: &str,
-    table: &Value,
-) -> Result<(), AllocError>
-    ensures { OnOk result (faults.new ≡ faults.old ++ tables.asked ask prefix.now key.now (view table.now)) }
+pub fn check_key(here: &Here, faults: &mut Faults, ask: Ask, key: &str) -> Result<(), AllocError>
+    ensures { OnOk result (faults.new ≡ faults.old ++ tables.asked ask here.now.path key.now (view here.now.table.now)) }
 {
-    let path = under(alloc, prefix, key)?;
-    match table.get(key) {
-        Some(value) => check_value(alloc, faults, ask, path, value),
+    let path = under(here.alloc, &here.path, key)?;
+    match here.table.get(key) {
+        Some(value) => check_value(here.alloc, faults, ask, path, value),
         None => missing_if(faults, ask.required, path),
     }
 }

@@ -55,3 +55,12 @@ pub enum Place {
     OfField(Option<FieldType>),
     OfPolicy(Option<PolicyType>),
 }
+
+/// The tables that may be left out.
+#[derive(Clone, Copy, Debug, PartialEq, Eq)]
+pub enum Section {
+    Indexing,
+    Policy,
+    Search,
+    Upkeep,
+}

@@ -1,166 +1,117 @@
 ghost use Rattle.std.specs.Prelude.{◌≡◌, ◌++◌, ◌&&◌, [], not, OnOk, option_map, codes};
-ghost use Rattle.toml.specs.View.{view, items_view, members_view};
+ghost use Rattle.toml.specs.View.{view, items_view};
 ghost use Rattle.toml.specs.Data.{get};
 ghost use Rattle.index_config.specs.Rules as rules;
 ghost use Rattle.index_config.specs.declared.rule.Place.TheVariants as places;
 ghost use Rattle.index_config.specs.Tables as spec;
+ghost use Rattle.index_config.specs.Fields.{in_option};
+ghost use Rattle.index_config.specs.Sections as sections;
 
-use crate::checks::{check_key, wrong_unless};
+use crate::checks::{Here, check_key, wrong_unless};
 use crate::config_error::ConfigError;
 use crate::keys::is_known;
 use crate::names::{member_path, policy_named, type_named, under};
 use crate::raw::Faults;
-use crate::rule::{Ask, FieldType, Place, PolicyType, Rule};
+use crate::rule::{Ask, FieldType, Place, PolicyType, Rule, Section};
 use doc_value::Text;
 use std::alloc::{AllocError, Global};
-use toml::{Table, Value};
+use toml::Value;
 
 /// How deep objects of fields nest.
 pub const MAX_LEVELS: usize = 16;
 
 /// A key that may be absent.
-fn check_optional(
-    alloc: Global,
-    faults: &mut Faults,
-    rule: Rule,
-    prefix: &Text,
-    key: &str,
-    table: &Value,
-) -> Result<(), AllocError>
-    ensures { OnOk result (faults.new ≡ faults.old ++ spec.asked (spec.optional rule) prefix.now key.now (view table.now)) }
+fn check_optional(here: &Here, faults: &mut Faults, rule: Rule, key: &str) -> Result<(), AllocError>
+    ensures { OnOk result (faults.new ≡ faults.old ++ spec.asked (spec.optional rule) here.now.path key.now (view here.now.table.now)) }
 {
     let ask = Ask {
         required: false,
         list: false,
         rule,
     };
-    check_key(alloc, faults, ask, prefix, key, table)
+    check_key(here, faults, ask, key)
 }
 
 /// A key that has to be there.
-fn check_required(
-    alloc: Global,
-    faults: &mut Faults,
-    rule: Rule,
-    prefix: &Text,
-    key: &str,
-    table: &Value,
-) -> Result<(), AllocError>
-    ensures { OnOk result (faults.new ≡ faults.old ++ spec.asked (spec.required rule) prefix.now key.now (view table.now)) }
+fn check_required(here: &Here, faults: &mut Faults, rule: Rule, key: &str) -> Result<(), AllocError>
+    ensures { OnOk result (faults.new ≡ faults.old ++ spec.asked (spec.required rule) here.now.path key.now (view here.now.table.now)) }
 {
     let ask = Ask {
         required: true,
         list: false,
         rule,
     };
-    check_key(alloc, faults, ask, prefix, key, table)
+    check_key(here, faults, ask, key)
 }
 
 /// A list that may be absent.
-fn check_list(
-    alloc: Global,
-    faults: &mut Faults,
-    rule: Rule,
-    prefix: &Text,
-    key: &str,
-    table: &Value,
-) -> Result<(), AllocError>
-    ensures { OnOk result (faults.new ≡ faults.old ++ spec.asked (spec.list_of rule) prefix.now key.now (view table.now)) }
+fn check_list(here: &Here, faults: &mut Faults, rule: Rule, key: &str) -> Result<(), AllocError>
+    ensures { OnOk result (faults.new ≡ faults.old ++ spec.asked (spec.list_of rule) here.now.path key.now (view here.now.table.now)) }
 {
     let ask = Ask {
         required: false,
         list: true,
         rule,
     };
-    check_key(alloc, faults, ask, prefix, key, table)
+    check_key(here, faults, ask, key)
 }
 
 /// A number that may be absent.
 fn check_whole(
-    alloc: Global,
+    here: &Here,
     faults: &mut Faults,
     least: u64,
     most: u64,
-    prefix: &Text,
     key: &str,
-    table: &Value,
 ) -> Result<(), AllocError>
-    ensures { OnOk result (faults.new ≡ faults.old ++ spec.asked (spec.whole least most) prefix.now key.now (view table.now)) }
+    ensures { OnOk result (faults.new ≡ faults.old ++ spec.asked (spec.whole least most) here.now.path key.now (view here.now.table.now)) }
 {
-    check_optional(
-        alloc,
-        faults,
-        Rule::Whole { least, most },
-        prefix,
-        key,
-        table,
-    )
+    check_optional(here, faults, Rule::Whole { least, most }, key)
 }
 
 /// The list of an object's fields, which an object has to have.
 fn check_mappings(
-    alloc: Global,
+    here: &Here,
     faults: &mut Faults,
     field_type: Option<FieldType>,
-    prefix: &Text,
-    table: &Value,
 ) -> Result<(), AllocError>
     ensures { OnOk result (faults.new ≡ faults.old
-        ++ spec.asked (spec.mappings_ask (spec.is_object field_type)) prefix.now (codes "field_mappings") (view table.now)) }
+        ++ spec.asked (spec.mappings_ask (spec.is_object field_type)) here.now.path (codes "field_mappings") (view here.now.table.now)) }
 {
     let ask = Ask {
         required: is_object(field_type),
         list: true,
         rule: Rule::AnyTable,
     };
-    check_key(alloc, faults, ask, prefix, "field_mappings", table)
+    check_key(here, faults, ask, "field_mappings")
 }
 
 /// The keys that a table doesn't know, in byte order.
-fn check_known(
-    alloc: Global,
-    faults: &mut Faults,
-    place: Place,
-    prefix: &Text,
-    table: &Value,
-) -> Result<(), AllocError>
-    ensures { OnOk result (faults.new ≡ faults.old ++ spec.unknown_faults place prefix.now (spec.members_in (view table.now))) }
+fn check_known(here: &Here, faults: &mut Faults, place: Place) -> Result<(), AllocError>
+    ensures { OnOk result (faults.new ≡ faults.old ++ spec.unknown_faults place here.now.path (spec.members_in (view here.now.table.now))) }
 {
-    match table.as_table() {
-        Some(map) => check_known_in(alloc, faults, place, prefix, map),
-        None => Ok(()),
-    }
-}
-
-fn check_known_in(
-    alloc: Global,
-    faults: &mut Faults,
-    place: Place,
-    prefix: &Text,
-    map: &Table,
-) -> Result<(), AllocError>
-    ensures { OnOk result (faults.new ≡ faults.old ++ spec.unknown_faults place prefix.now (members_view map.now.entries)) }
-{
+    let Some(map) = here.table.as_table() else {
+        return Ok(());
+    };
     for (key, _) in map {
-        check_known_key(alloc, faults, place, prefix, key.as_str())?;
+        check_known_key(here, faults, place, key.as_str())?;
     }
     Ok(())
 }
 
 fn check_known_key(
-    alloc: Global,
+    here: &Here,
     faults: &mut Faults,
     place: Place,
-    prefix: &Text,
     key: &str,
 ) -> Result<(), AllocError>
-    ensures { OnOk result (faults.new ≡ faults.old ++ spec.unknown_unless (spec.is_known place key.now) (rules.under prefix.now key.now)) }
+    ensures { OnOk result (faults.new ≡ faults.old ++ spec.unknown_unless (spec.is_known place key.now) (rules.under here.now.path key.now)) }
 {
     if is_known(place, key.as_bytes()) {
         return Ok(());
     }
     faults.push(ConfigError::UnknownKey {
-        path: under(alloc, prefix, key)?,
+        path: under(here.alloc, &here.path, key)?,
     })
 }
 
@@ -201,98 +152,72 @@ pub fn is_object(field_type: Option<FieldType>) -> bool
 
 /// The keys of a field of this type. An object that lies too deep is of the wrong kind by its type.
 fn check_field(
-    alloc: Global,
+    here: &Here,
     faults: &mut Faults,
     deepest: bool,
-    place: &Text,
-    table: &Value,
     field_type: Option<FieldType>,
 ) -> Result<(), AllocError>
-    ensures { OnOk result (faults.new ≡ faults.old ++ spec.field_faults deepest place.now (view table.now) field_type) }
+    ensures { OnOk result (faults.new ≡ faults.old ++ spec.field_faults deepest here.now.path (view here.now.table.now) field_type) }
 {
-    check_known(alloc, faults, Place::OfField(field_type), place, table)?;
-    check_required(alloc, faults, Rule::FieldName, place, "name", table)?;
-    check_required(alloc, faults, Rule::TypeName, place, "type", table)?;
-    check_depth(alloc, faults, deepest, field_type, place)?;
-    check_field_values(alloc, faults, field_type, place, table)?;
-    check_field_notes(alloc, faults, place, table)
+    check_known(here, faults, Place::OfField(field_type))?;
+    check_required(here, faults, Rule::FieldName, "name")?;
+    check_required(here, faults, Rule::TypeName, "type")?;
+    check_depth(here, faults, deepest, field_type)?;
+    check_field_values(here, faults, field_type)?;
+    check_field_notes(here, faults)
 }
 
 fn check_depth(
-    alloc: Global,
+    here: &Here,
     faults: &mut Faults,
     deepest: bool,
     field_type: Option<FieldType>,
-    place: &Text,
 ) -> Result<(), AllocError>
     ensures { OnOk result (faults.new ≡ faults.old
-        ++ rules.wrong_unless (not (deepest && spec.is_object field_type)) (rules.under place.now (codes "type"))) }
+        ++ rules.wrong_unless (not (deepest && spec.is_object field_type)) (rules.under here.now.path (codes "type"))) }
 {
-    let path = under(alloc, place, "type")?;
+    let path = under(here.alloc, &here.path, "type")?;
     wrong_unless(faults, !(deepest && is_object(field_type)), path)
 }
 
 /// The keys of a field behind its type.
 fn check_field_values(
-    alloc: Global,
+    here: &Here,
     faults: &mut Faults,
     field_type: Option<FieldType>,
-    place: &Text,
-    table: &Value,
 ) -> Result<(), AllocError>
-    ensures { OnOk result (faults.new ≡ faults.old ++ spec.field_value_faults (spec.is_object field_type) place.now (view table.now)) }
+    ensures { OnOk result (faults.new ≡ faults.old
+        ++ spec.field_value_faults (spec.is_object field_type) here.now.path (view here.now.table.now)) }
 {
-    check_optional(alloc, faults, Rule::Truth, place, "fast", table)?;
-    check_optional(alloc, faults, Rule::Truth, place, "indexed", table)?;
-    check_optional(
-        alloc,
-        faults,
-        Rule::TokenizerName,
-        place,
-        "tokenizer",
-        table,
-    )?;
-    check_optional(alloc, faults, Rule::RecordName, place, "record", table)?;
-    check_list(
-        alloc,
-        faults,
-        Rule::FormatName,
-        place,
-        "input_formats",
-        table,
-    )?;
-    check_mappings(alloc, faults, field_type, place, table)
+    check_optional(here, faults, Rule::Truth, "fast")?;
+    check_optional(here, faults, Rule::Truth, "indexed")?;
+    check_optional(here, faults, Rule::TokenizerName, "tokenizer")?;
+    check_optional(here, faults, Rule::RecordName, "record")?;
+    check_list(here, faults, Rule::FormatName, "input_formats")?;
+    check_mappings(here, faults, field_type)
 }
 
 /// The keys of a field that have no effect.
-fn check_field_notes(
-    alloc: Global,
-    faults: &mut Faults,
-    place: &Text,
-    table: &Value,
-) -> Result<(), AllocError>
-    ensures { OnOk result (faults.new ≡ faults.old ++ spec.field_note_faults place.now (view table.now)) }
+fn check_field_notes(here: &Here, faults: &mut Faults) -> Result<(), AllocError>
+    ensures { OnOk result (faults.new ≡ faults.old ++ spec.field_note_faults here.now.path (view here.now.table.now)) }
 {
-    check_optional(alloc, faults, Rule::Truth, place, "stored", table)?;
-    check_optional(alloc, faults, Rule::Truth, place, "fieldnorms", table)?;
-    check_optional(alloc, faults, Rule::AnyText, place, "description", table)?;
-    check_optional(alloc, faults, Rule::AnyText, place, "output_format", table)?;
-    check_optional(alloc, faults, Rule::AnyText, place, "fast_precision", table)
+    check_optional(here, faults, Rule::Truth, "stored")?;
+    check_optional(here, faults, Rule::Truth, "fieldnorms")?;
+    check_optional(here, faults, Rule::AnyText, "description")?;
+    check_optional(here, faults, Rule::AnyText, "output_format")?;
+    check_optional(here, faults, Rule::AnyText, "fast_precision")
 }
 
-/// A list of fields in which objects may nest to so many levels.
+/// The fields in the list of the mapping or an object, in which objects may nest to so many levels.
 #[cycle(fields)]
-pub fn check_fields(
-    alloc: Global,
-    faults: &mut Faults,
-    levels: usize,
-    path: &Text,
-    items: &[Value],
-) -> Result<(), AllocError>
-    ensures { OnOk result (faults.new ≡ faults.old ++ spec.fields_faults levels path.now (items_view items.now)) }
+fn check_fields(here: &Here, faults: &mut Faults, levels: usize) -> Result<(), AllocError>
+    ensures { OnOk result (faults.new ≡ faults.old ++ spec.fields_faults levels
+        (rules.under here.now.path (codes "field_mappings")) (spec.items_in (get (codes "field_mappings") (view here.now.table.now)))) }
 {
+    let list_path = under(here.alloc, &here.path, "field_mappings")?;
+    let items = items_at(here.table, "field_mappings");
     for (number, item) in items.iter().enumerate() {
-        check_member(alloc, faults, levels, path, number, item)?;
+        check_member(here.alloc, faults, levels, &list_path, number, item)?;
     }
     Ok(())
 }
@@ -312,68 +237,30 @@ fn check_member(
     if !table.is_table() {
         return Ok(());
     }
-    let place = member_path(alloc, path, number)?;
+    let path = member_path(alloc, path, number)?;
+    let here = Here { alloc, path, table };
     let field_type = type_of(table);
     if levels == 0 {
-        return check_field(alloc, faults, true, &place, table, field_type);
+        return check_field(&here, faults, true, field_type);
     }
-    check_field(alloc, faults, false, &place, table, field_type)?;
+    check_field(&here, faults, false, field_type)?;
     if !is_object(field_type) {
         return Ok(());
     }
-    let inner = under(alloc, &place, "field_mappings")?;
-    check_fields(
-        alloc,
-        faults,
-        levels - 1,
-        &inner,
-        items_at(table, "field_mappings"),
-    )
+    check_fields(&here, faults, levels - 1)
 }
 
-fn check_mapping(
-    alloc: Global,
-    faults: &mut Faults,
-    path: &Text,
-    table: &Value,
-) -> Result<(), AllocError>
-    ensures { OnOk result (faults.new ≡ faults.old ++ spec.mapping_faults path.now (view table.now)) }
+fn check_mapping(here: &Here, faults: &mut Faults) -> Result<(), AllocError>
+    ensures { OnOk result (faults.new ≡ faults.old ++ spec.mapping_faults here.now.path (view here.now.table.now)) }
 {
-    check_known(alloc, faults, Place::Mapping, path, table)?;
-    check_optional(alloc, faults, Rule::ModeName, path, "mode", table)?;
-    check_list(alloc, faults, Rule::AnyTable, path, "field_mappings", table)?;
-    check_optional(alloc, faults, Rule::AnyText, path, "timestamp_field", table)?;
-    check_list(alloc, faults, Rule::AnyText, path, "tag_fields", table)?;
-    check_optional(alloc, faults, Rule::Truth, path, "store_source", table)?;
-    check_optional(
-        alloc,
-        faults,
-        Rule::Truth,
-        path,
-        "index_field_presence",
-        table,
-    )?;
-    check_mapping_fields(alloc, faults, path, table)
-}
-
-/// The fields of the mapping.
-fn check_mapping_fields(
-    alloc: Global,
-    faults: &mut Faults,
-    path: &Text,
-    table: &Value,
-) -> Result<(), AllocError>
-    ensures { OnOk result (faults.new ≡ faults.old ++ spec.fields_faults spec.max_levels
-        (rules.under path.now (codes "field_mappings")) (spec.items_in (get (codes "field_mappings") (view table.now)))) }
-{
-    let inner = under(alloc, path, "field_mappings")?;
-    check_fields(
-        alloc,
-        faults,
-        MAX_LEVELS,
-        &inner,
-        items_at(table, "field_mappings"),
-    )
+    check_known(here, faults, Place::Mapping)?;
+    check_optional(here, faults, Rule::ModeName, "mode")?;
+    check_list(here, faults, Rule::AnyTable, "field_mappings")?;
+    check_optional(here, faults, Rule::AnyText, "timestamp_field")?;
+    check_list(here, faults, Rule::AnyText, "tag_fields")?;
+    check_optional(here, faults, Rule::Truth, "store_source")?;
+    check_optional(here, faults, Rule::Truth, "index_field_presence")?;
+    check_fields(here, faults, MAX_LEVELS)
 }
 
 /// The number at a key, if it is one and not below 0.
@@ -426,168 +313,74 @@ fn policy_of(value: &Value) -> Option<PolicyType>
     }
 }
 
-fn check_policy(
-    alloc: Global,
-    faults: &mut Faults,
-    path: &Text,
-    table: &Value,
-) -> Result<(), AllocError>
-    ensures { OnOk result (faults.new ≡ faults.old ++ spec.policy_faults path.now (view table.now)) }
+fn check_policy(here: &Here, faults: &mut Faults) -> Result<(), AllocError>
+    ensures { OnOk result (faults.new ≡ faults.old ++ spec.policy_faults here.now.path (view here.now.table.now)) }
 {
-    check_policy_known(alloc, faults, path, table)?;
-    check_optional(alloc, faults, Rule::PolicyName, path, "type", table)?;
-    check_whole(
-        alloc,
-        faults,
-        1,
-        16_777_216,
-        path,
-        "min_level_num_docs",
-        table,
-    )?;
-    check_whole(alloc, faults, 2, 100, path, "merge_factor", table)?;
-    check_greatest(alloc, faults, path, table)?;
-    check_whole(alloc, faults, 1, 100, path, "max_merge_ops", table)?;
-    check_optional(
-        alloc,
-        faults,
-        Rule::Duration,
-        path,
-        "maturation_period",
-        table,
-    )
+    check_policy_known(here, faults)?;
+    check_optional(here, faults, Rule::PolicyName, "type")?;
+    check_whole(here, faults, 1, 16_777_216, "min_level_num_docs")?;
+    check_whole(here, faults, 2, 100, "merge_factor")?;
+    check_greatest(here, faults)?;
+    check_whole(here, faults, 1, 100, "max_merge_ops")?;
+    check_optional(here, faults, Rule::Duration, "maturation_period")
 }
 
-fn check_policy_known(
-    alloc: Global,
-    faults: &mut Faults,
-    path: &Text,
-    table: &Value,
-) -> Result<(), AllocError>
-    ensures { OnOk result (faults.new ≡ faults.old
-        ++ spec.unknown_faults (places.OfPolicy (spec.policy_type (view table.now))) path.now (spec.members_in (view table.now))) }
+fn check_policy_known(here: &Here, faults: &mut Faults) -> Result<(), AllocError>
+    ensures { OnOk result (faults.new ≡ faults.old ++ spec.unknown_faults (places.OfPolicy (spec.policy_type (view here.now.table.now)))
+        here.now.path (spec.members_in (view here.now.table.now))) }
 {
-    check_known(
-        alloc,
-        faults,
-        Place::OfPolicy(policy_type(table)),
-        path,
-        table,
-    )
+    check_known(here, faults, Place::OfPolicy(policy_type(here.table)))
 }
 
 /// The greatest factor, which is no less than the factor in force.
-fn check_greatest(
-    alloc: Global,
-    faults: &mut Faults,
-    path: &Text,
-    table: &Value,
-) -> Result<(), AllocError>
-    ensures { OnOk result (faults.new ≡ faults.old
-        ++ spec.asked (spec.whole (spec.merge_factor (view table.now)) 100) path.now (codes "max_merge_factor") (view table.now)) }
+fn check_greatest(here: &Here, faults: &mut Faults) -> Result<(), AllocError>
+    ensures { OnOk result (faults.new ≡ faults.old ++ spec.asked (spec.whole (spec.merge_factor (view here.now.table.now)) 100)
+        here.now.path (codes "max_merge_factor") (view here.now.table.now)) }
 {
-    check_whole(
-        alloc,
-        faults,
-        merge_factor(table),
-        100,
-        path,
-        "max_merge_factor",
-        table,
-    )
+    let least = merge_factor(here.table);
+    check_whole(here, faults, least, 100, "max_merge_factor")
 }
 
-fn check_indexing(
-    alloc: Global,
-    faults: &mut Faults,
-    path: &Text,
-    table: &Value,
-) -> Result<(), AllocError>
-    ensures { OnOk result (faults.new ≡ faults.old ++ spec.indexing_faults path.now (view table.now)) }
+/// The keys of the indexing settings, without those of the policy in them.
+fn check_indexing(here: &Here, faults: &mut Faults) -> Result<(), AllocError>
+    ensures { OnOk result (faults.new ≡ faults.old ++ spec.indexing_key_faults here.now.path (view here.now.table.now)) }
 {
-    check_known(alloc, faults, Place::Indexing, path, table)?;
-    check_whole(alloc, faults, 1, 86_400, path, "commit_timeout_secs", table)?;
-    check_whole(
-        alloc,
-        faults,
-        1,
-        16_777_216,
-        path,
-        "split_num_docs_target",
-        table,
-    )?;
-    check_optional(alloc, faults, Rule::AnyTable, path, "resources", table)?;
-    check_policy_at(alloc, faults, table)
+    check_known(here, faults, Place::Indexing)?;
+    check_whole(here, faults, 1, 86_400, "commit_timeout_secs")?;
+    check_whole(here, faults, 1, 16_777_216, "split_num_docs_target")?;
+    check_optional(here, faults, Rule::AnyTable, "resources")
 }
 
-fn check_search(
-    alloc: Global,
-    faults: &mut Faults,
-    path: &Text,
-    table: &Value,
-) -> Result<(), AllocError>
-    ensures { OnOk result (faults.new ≡ faults.old ++ spec.search_faults path.now (view table.now)) }
+fn check_search(here: &Here, faults: &mut Faults) -> Result<(), AllocError>
+    ensures { OnOk result (faults.new ≡ faults.old ++ spec.search_faults here.now.path (view here.now.table.now)) }
 {
-    check_known(alloc, faults, Place::Search, path, table)?;
-    check_list(
-        alloc,
-        faults,
-        Rule::AnyText,
-        path,
-        "default_search_fields",
-        table,
-    )
+    check_known(here, faults, Place::Search)?;
+    check_list(here, faults, Rule::AnyText, "default_search_fields")
 }
 
-fn check_upkeep(
-    alloc: Global,
-    faults: &mut Faults,
-    path: &Text,
-    table: &Value,
-) -> Result<(), AllocError>
-    ensures { OnOk result (faults.new ≡ faults.old ++ spec.upkeep_faults path.now (view table.now)) }
+fn check_upkeep(here: &Here, faults: &mut Faults) -> Result<(), AllocError>
+    ensures { OnOk result (faults.new ≡ faults.old ++ spec.upkeep_faults here.now.path (view here.now.table.now)) }
 {
-    check_known(alloc, faults, Place::Upkeep, path, table)?;
-    check_whole(
-        alloc,
-        faults,
-        1,
-        2_147_483_647,
-        path,
-        "staged_grace_secs",
-        table,
-    )?;
-    check_whole(
-        alloc,
-        faults,
-        1,
-        2_147_483_647,
-        path,
-        "deletion_grace_secs",
-        table,
-    )
+    check_known(here, faults, Place::Upkeep)?;
+    check_whole(here, faults, 1, 2_147_483_647, "staged_grace_secs")?;
+    check_whole(here, faults, 1, 2_147_483_647, "deletion_grace_secs")
 }
 
-fn check_top(
-    alloc: Global,
-    faults: &mut Faults,
-    path: &Text,
-    root: &Value,
-) -> Result<(), AllocError>
-    ensures { OnOk result (faults.new ≡ faults.old ++ spec.top_faults path.now (view root.now)) }
+fn check_top(here: &Here, faults: &mut Faults) -> Result<(), AllocError>
+    ensures { OnOk result (faults.new ≡ faults.old ++ spec.top_faults here.now.path (view here.now.table.now)) }
 {
-    check_known(alloc, faults, Place::Top, path, root)?;
-    check_optional(alloc, faults, Rule::AnyText, path, "version", root)?;
-    check_required(alloc, faults, Rule::IndexId, path, "index_id", root)?;
-    check_optional(alloc, faults, Rule::AnyText, path, "index_uri", root)?;
-    check_required(alloc, faults, Rule::AnyTable, path, "doc_mapping", root)
+    check_known(here, faults, Place::Top)?;
+    check_optional(here, faults, Rule::AnyText, "version")?;
+    check_required(here, faults, Rule::IndexId, "index_id")?;
+    check_optional(here, faults, Rule::AnyText, "index_uri")?;
+    check_required(here, faults, Rule::AnyTable, "doc_mapping")
 }
 
-fn check_top_at(alloc: Global, faults: &mut Faults, root: &Value) -> Result<(), AllocError>
-    ensures { OnOk result (faults.new ≡ faults.old ++ spec.top_faults [] (view root.now)) }
+fn check_top_at(alloc: Global, faults: &mut Faults, table: &Value) -> Result<(), AllocError>
+    ensures { OnOk result (faults.new ≡ faults.old ++ spec.top_faults [] (view table.now)) }
 {
     let path = Text::vacant(alloc);
-    check_top(alloc, faults, &path, root)
+    check_top(&Here { alloc, path, table }, faults)
 }
 
 /// The mapping, where it is a table.
@@ -600,68 +393,71 @@ fn check_mapping_at(alloc: Global, faults: &mut Faults, root: &Value) -> Result<
                 return Ok(());
             }
             let path = Text::from_str(alloc, "doc_mapping")?;
-            check_mapping(alloc, faults, &path, table)
+            check_mapping(&Here { alloc, path, table }, faults)
         }
         None => Ok(()),
     }
 }
 
-fn check_policy_at(alloc: Global, faults: &mut Faults, table: &Value) -> Result<(), AllocError>
-    ensures { OnOk result (faults.new ≡ faults.old ++ spec.optional_table spec.policy_path (spec.policy_faults spec.policy_path) (get (codes "merge_policy") (view table.now))) }
-{
-    match table.get("merge_policy") {
-        Some(table) => {
-            let path = Text::from_str(alloc, "indexing_settings.merge_policy")?;
-            if table.is_table() {
-                check_policy(alloc, faults, &path, table)
-            } else {
-                wrong_unless(faults, false, path)
-            }
-        }
-        None => Ok(()),
-    }
-}
-
-fn check_indexing_at(alloc: Global, faults: &mut Faults, root: &Value) -> Result<(), AllocError>
-    ensures { OnOk result (faults.new ≡ faults.old ++ spec.optional_table spec.indexing_path (spec.indexing_faults spec.indexing_path) (get (codes "indexing_settings") (view root.now))) }
+/// The table of the policy, which stands in that of the indexing settings.
+pub fn policy_table(root: &Value) -> Option<&Value>
+    ensures { option_map (λ v. view v.now) result ≡ in_option (codes "merge_policy") (get (codes "indexing_settings") (view root.now)) }
 {
     match root.get("indexing_settings") {
-        Some(table) => {
-            let path = Text::from_str(alloc, "indexing_settings")?;
-            if table.is_table() {
-                check_indexing(alloc, faults, &path, table)
-            } else {
-                wrong_unless(faults, false, path)
-            }
-        }
-        None => Ok(()),
+        Some(table) => table.get("merge_policy"),
+        None => None,
     }
 }
 
-fn check_search_at(alloc: Global, faults: &mut Faults, root: &Value) -> Result<(), AllocError>
-    ensures { OnOk result (faults.new ≡ faults.old ++ spec.optional_table spec.search_path (spec.search_faults spec.search_path) (get (codes "search_settings") (view root.now))) }
+/// The value where the table of a section stands.
+fn section_in(root: &Value, section: Section) -> Option<&Value>
+    ensures { option_map (λ v. view v.now) result ≡ sections.section_in section (view root.now) }
 {
-    match root.get("search_settings") {
-        Some(table) => {
-            let path = Text::from_str(alloc, "search_settings")?;
-            if table.is_table() {
-                check_search(alloc, faults, &path, table)
-            } else {
-                wrong_unless(faults, false, path)
-            }
-        }
-        None => Ok(()),
+    match section {
+        Section::Indexing => root.get("indexing_settings"),
+        Section::Policy => policy_table(root),
+        Section::Search => root.get("search_settings"),
+        Section::Upkeep => root.get("upkeep"),
     }
 }
 
-fn check_upkeep_at(alloc: Global, faults: &mut Faults, root: &Value) -> Result<(), AllocError>
-    ensures { OnOk result (faults.new ≡ faults.old ++ spec.optional_table spec.upkeep_path (spec.upkeep_faults spec.upkeep_path) (get (codes "upkeep") (view root.now))) }
+fn section_path(section: Section) -> &'static str
+    ensures { result.now ≡ sections.section_path section }
 {
-    match root.get("upkeep") {
+    match section {
+        Section::Indexing => "indexing_settings",
+        Section::Policy => "indexing_settings.merge_policy",
+        Section::Search => "search_settings",
+        Section::Upkeep => "upkeep",
+    }
+}
+
+/// The keys of a section.
+fn check_section(here: &Here, faults: &mut Faults, section: Section) -> Result<(), AllocError>
+    ensures { OnOk result (faults.new ≡ faults.old ++ sections.key_faults section here.now.path (view here.now.table.now)) }
+{
+    match section {
+        Section::Indexing => check_indexing(here, faults),
+        Section::Policy => check_policy(here, faults),
+        Section::Search => check_search(here, faults),
+        Section::Upkeep => check_upkeep(here, faults),
+    }
+}
+
+/// A section, which is of the wrong kind where it is no table.
+fn check_section_at(
+    alloc: Global,
+    faults: &mut Faults,
+    section: Section,
+    root: &Value,
+) -> Result<(), AllocError>
+    ensures { OnOk result (faults.new ≡ faults.old ++ sections.section_faults section (view root.now)) }
+{
+    match section_in(root, section) {
         Some(table) => {
-            let path = Text::from_str(alloc, "upkeep")?;
+            let path = Text::from_str(alloc, section_path(section))?;
             if table.is_table() {
-                check_upkeep(alloc, faults, &path, table)
+                check_section(&Here { alloc, path, table }, faults, section)
             } else {
                 wrong_unless(faults, false, path)
             }
@@ -676,9 +472,10 @@ pub fn check_tables(alloc: Global, faults: &mut Faults, root: &Value) -> Result<
 {
     check_top_at(alloc, faults, root)?;
     check_mapping_at(alloc, faults, root)?;
-    check_indexing_at(alloc, faults, root)?;
-    check_search_at(alloc, faults, root)?;
-    check_upkeep_at(alloc, faults, root)
+    check_section_at(alloc, faults, Section::Indexing, root)?;
+    check_section_at(alloc, faults, Section::Policy, root)?;
+    check_section_at(alloc, faults, Section::Search, root)?;
+    check_section_at(alloc, faults, Section::Upkeep, root)
 }
 
 /// The members of the list at a key; none where no list stands there.

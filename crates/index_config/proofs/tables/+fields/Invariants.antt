@@ -1,6 +1,9 @@
 use Rattle.std.proofs.Common.{◌≡◌, ◌++◌, ◌+◌, ◌*◌, drop}
-use Rattle.toml.specs.View.{items_view}
-use Rattle.index_config.specs.Tables.{each_fault, member_at}
+use Rattle.std.specs.Prelude.{codes}
+use Rattle.toml.specs.View.{view, items_view}
+use Rattle.toml.specs.Data.{get}
+use Rattle.index_config.specs.Rules.{under}
+use Rattle.index_config.specs.Tables.{each_fault, member_at, fields_faults, items_in}
 use Rattle.index_config.proofs.tables.+fields.Given as goal
 
 abbrev pub decreases-check_fields : goal.decreases-check_fields
@@ -11,5 +14,6 @@ decreases-check_member l = 2 * l.levels
 
 abbrev pub invariant-check_fields-loop-number : goal.invariant-check_fields-loop-number
 invariant-check_fields-loop-number l =
-    l.faults ++ each_fault (member_at l.levels l.path) l.number (items_view (drop l.number l.items))
-    ≡ l.initial.faults ++ each_fault (member_at l.levels l.path) 0 (items_view l.items)
+    let list_path = under l.here.path (codes "field_mappings") in
+    l.faults ++ each_fault (member_at l.levels list_path) l.number (items_view (drop l.number l.items))
+    ≡ l.initial.faults ++ fields_faults l.levels list_path (items_in (get (codes "field_mappings") (view l.here.table.now)))

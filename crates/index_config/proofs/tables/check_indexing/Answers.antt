@@ -7,5 +7,4 @@ returns c =
     let s1 = c.in_ok-check_known.ensures in
     let s2 = chain _ _ _ _ _ s1 c.in_ok-check_whole.ensures in
     let s3 = chain _ _ _ _ _ s2 c.in_ok-check_whole-2.ensures in
-    let s4 = chain _ _ _ _ _ s3 c.in_ok-check_optional.ensures in
-    on_ok_weaker c.check_policy_at.result (chain _ _ _ _ _ s4) c.check_policy_at.ensures
+    on_ok_weaker c.check_optional.result (chain _ _ _ _ _ s3) c.check_optional.ensures

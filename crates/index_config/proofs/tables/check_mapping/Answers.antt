@@ -11,4 +11,4 @@ returns c =
     let s5 = chain _ _ _ _ _ s4 c.in_ok-check_list-2.ensures in
     let s6 = chain _ _ _ _ _ s5 c.in_ok-check_optional-3.ensures in
     let s7 = chain _ _ _ _ _ s6 c.in_ok-check_optional-4.ensures in
-    on_ok_weaker c.check_mapping_fields.result (chain _ _ _ _ _ s7) c.check_mapping_fields.ensures
+    on_ok_weaker c.check_fields.result (chain _ _ _ _ _ s7) c.check_fields.ensures
