@@ -20,8 +20,8 @@ use Rattle.root_search.specs.Steps.{Request, no_request, opened, planned, Plan, 
 use Rattle.root_search.specs.Steps as searching
 use Rattle.node_run.specs.Calm.{IsStill}
 use Rattle.node_run.specs.Turns.{calm, indexing_luck, searching_luck}
-use Rattle.node_run.proofs.Counting.{landed_same, stage_same, upload_same, publish_same, given_same, plan_same, fetch_same}
-use Rattle.node_run.proofs.Calming.{Same, Calms, begun_still, calm_risen, false_by, not_fails, looked_calms, asked_calms, appended_calms, file_made_calms, asked_and_looked_calms, fetched_calms}
+use Rattle.node_run.proofs.Moving.{stage_same, upload_same, publish_same, given_same, plan_same, fetch_same}
+use Rattle.node_run.proofs.Calming.{Same, Calms, begun_count, begun_still, calm_risen, false_by, not_fails, looked_calms, asked_calms, appended_calms, file_made_calms, asked_and_looked_calms, fetched_calms}
 
 -- ---- an indexer's step
 
@@ -117,9 +117,6 @@ standing_count (Some entry) core = refl
 empty_count : (b : Bool) (core : Core) → (unless_empty b core).core.store_faults ≡ core.store_faults
 empty_count true core = refl
 empty_count false core = refl
-
-begun_count : (call : Call) (core : Core) → (begun call core).store_faults ≡ min (core.store_faults + call.rises) last_count
-begun_count call core = landed_same call.lands (record core { store_faults = risen core.store_faults call.rises })
 
 load_count : (c : Bool) (second : Call) (before : ℕ) (core : Core) → (load_by false c second before core).core.store_faults ≡ min (core.store_faults + second.rises) last_count
 load_count true second before core = begun_count second core

@@ -14,7 +14,7 @@ use Rattle.node_run.specs.Turns.{Luck, calm, Turned, indexer_at, client_named, i
 use Rattle.node_run.proofs.Calming.{Same, Calms}
 use Rattle.node_run.proofs.CalmSteps.{StepCalms, SearchCalms, calm_indexing, calm_searching, loaded_calms, indexer_calms, client_calms}
 use Rattle.node_run.proofs.StillCalls.{opened_calm, turn_still}
-use Rattle.node_run.proofs.Counting.{restart_same, turn_rises, turns_rise}
+use Rattle.node_run.proofs.Moving.{restart_same, turn_later, turns_later}
 use Rattle.node_run.proofs.LogCounts.{NoneFell, none_rose, turn_counted, turns_counted}
 
 abbrev Below : List Indexer → Type 0
@@ -135,8 +135,8 @@ calm_turns node last (line ∷ lines) (o ∷ os) s below of run same counts =
 
     mid_same : mid.core.store_faults ≡ node.core.store_faults
     mid_same =
-        count_between node.core.store_faults mid.core.store_faults last.core.store_faults same s.below (turn_rises node line (Some o) mid run.1)
-        (turns_rise mid last lines os run.2)
+        count_between node.core.store_faults mid.core.store_faults last.core.store_faults same s.below (turn_later node line (Some o) mid run.1).rises
+        (turns_later mid last lines os run.2).rises
 
     mid_counts : log_counts mid.indexers ≡ log_counts node.indexers
     mid_counts =

@@ -8,7 +8,7 @@ use Rattle.meta_journal.specs.declared.entry.Entry.{Entry}
 use Rattle.index_world.specs.Calls.{Fate, Call, Trouble, no_memory, Unmade, troubled, Gives, gives, risen, may_fail, land_at, all_landed, begun, made_behind, made_at, create_at_end, or_short, unless_short, asked_clock, asking, settle_with, settled_and_copied, and_then, entry_of, may_append, adopted_making, first_unless, transact, appended, looked, asked_and_looked, asked, file_by, file_made, got_file, file_got, fetched, calm_call, calm_fate}
 use Rattle.index_world.specs.Core.{Core, file_at, last_count}
 use Rattle.node_run.specs.Calm.{IsStill}
-use Rattle.node_run.proofs.Counting.{landed_same, tried_same, file_by_same, got_file_same}
+use Rattle.node_run.proofs.Moving.{landed_kept, tried_kept, file_by_kept, got_file_same}
 
 -- the count is as it was
 abbrev pub Same : Core → Core → Type 0
@@ -30,8 +30,11 @@ begun_is call core l = landed_none call.lands (record core { store_faults = rise
 pub begun_still : (call : Call) (core : Core) → core.late ≡ [] → risen core.store_faults call.rises ≡ core.store_faults → begun call core ≡ core
 begun_still call core l r = begun_is call core l ∙ ap (λ n. record core { store_faults = n }) r
 
+pub begun_count : (call : Call) (core : Core) → (begun call core).store_faults ≡ risen core.store_faults call.rises
+begun_count call core = ap (λ k. k.1) (landed_kept call.lands (record core { store_faults = risen core.store_faults call.rises }))
+
 risen_same : (call : Call) (core : Core) → Same core (begun call core) → risen core.store_faults call.rises ≡ core.store_faults
-risen_same call core s = sym (landed_same call.lands (record core { store_faults = risen core.store_faults call.rises })) ∙ s
+risen_same call core s = sym (begun_count call core) ∙ s
 
 pub calm_risen : (n : ℕ) → n < last_count → risen n 0 ≡ n
 calm_risen n h = omega (arith, h)
@@ -55,7 +58,7 @@ create_still call entry core s r =
 
 made_count : (b at_once : Bool) (second third : Call) (before : ℕ) (act : Core → Act) (entry : Entry) (core : Core) → core.standing ≡ None →
     (adopted_making second third before act entry (made_at b at_once entry core)).core.store_faults ≡ core.store_faults
-made_count true at_once second third before act entry core e = tried_same at_once core.standing entry core
+made_count true at_once second third before act entry core e = ap (λ k. k.1) (tried_kept at_once core.standing entry core)
 made_count false at_once second third before act entry core e =
     subst (λ st. (adopted_making second third before act entry (made_behind st entry core)).core.store_faults ≡ core.store_faults) (sym e) refl
 
@@ -163,7 +166,7 @@ file_made_calms call key bytes core s same =
     does c = file_by (may_fail c core.store_faults) c.at_once (is_some (file_at (begun c core).files key)) core.store_faults key bytes (begun c core)
 
     kept : (c : Call) → (does c).core.store_faults ≡ (begun c core).store_faults
-    kept c = file_by_same (may_fail c core.store_faults) c.at_once (is_some (file_at (begun c core).files key)) core.store_faults key bytes (begun c core)
+    kept c = ap (λ k. k.1) (file_by_kept (may_fail c core.store_faults) c.at_once (is_some (file_at (begun c core).files key)) core.store_faults key bytes (begun c core))
 
 got_still : (call : Call) (core : Core) → IsStill core → risen core.store_faults call.rises ≡ core.store_faults →
     got_file (may_fail call core.store_faults) core.store_faults (begun call core) ≡ gives (Ok tt) core

@@ -1,8 +1,7 @@
 pub mod OnLiterals
 pub mod Rows
-pub mod Growing
+pub mod Moving
 pub mod Spelling
-pub mod Counting
 pub mod Calming
 pub mod CalmSteps
 pub mod Digits
@@ -11,7 +10,6 @@ pub mod Naming
 pub mod Splitting
 pub mod Bad
 pub mod Answered
-pub mod Ticking
 pub mod Zips
 pub mod Names
 pub mod Parts

@@ -48,7 +48,7 @@ use Rattle.node_run.specs.Node.{Node, Line, At, Assign, StepIndexer, RestartInde
 use Rattle.node_run.specs.Standing.{PartsStand, NodeStands, DoesMost, DoesLine, IsSaid, HoldApart, AllApart}
 use Rattle.node_run.specs.Turns.{restart_by, Luck, calm, Turn, Turned, turned, full_turn, turn_with, quiet, assign_at, with_indexer, indexer_at, made_idle, client_named, with_client, keep_client, stopped, restarted, indexer_stepped, client_stepped, indexing_luck, searching_luck, indexer_turn_by, client_turn_by, said_by_indexer, said_by_client, open_by}
 use Rattle.node_run.proofs.Names.{named_name, named_with, with_with, named_stands, named_set}
-use Rattle.node_run.proofs.Ticking.{indexer_ticks, client_ticks, loaded_ticks}
+use Rattle.node_run.proofs.Moving.{indexer_moves, client_moves, loaded_moves}
 use Rattle.node_run.proofs.Zips.{zip_length, zip_weaker, zip_set, zip_at, zip_right, map_set, map_at, others_apart, zip_step, new_apart, idle_apart, idle_all_apart, same_apart, other_of}
 
 -- ---- what is answered
@@ -160,7 +160,7 @@ module _ {L : Type 0} (told : L → Option Log) (count : L → ℕ) (since : L �
       record {
         world_stands = s.gate;
         is_log = p.is_log;
-        moment = p.moment ∙ sym (ap (λ c. c.clock) s.passed) ∙ sym (indexer_ticks s.luck node.log (indexer_at node.indexers i) s.mid) ∙ ap (λ step. step.core.clock) s.did;
+        moment = p.moment ∙ sym (ap (λ c. c.clock) s.passed) ∙ sym (indexer_moves s.luck node.log (indexer_at node.indexers i) s.mid).ticks ∙ ap (λ step. step.core.clock) s.did;
         down = p.down;
         indexers = zip_step R (λ reader indexer. IndexerStands told count reader indexer s.behind node.log) (HoldApart (indexer_at node.indexers i)) readers node.indexers i new s.after p.indexers apart
             (λ reader indexer stands off. indexer_stays told count reader indexer node.core s.behind node.log (number_held (indexer_at node.indexers i).place) s.goes_on (other_of (indexer_at node.indexers i) indexer off) stands)
@@ -223,7 +223,7 @@ module _ {L : Type 0} (told : L → Option Log) (count : L → ℕ) (since : L �
       record {
         world_stands = s.gate_stands;
         is_log = p.is_log;
-        moment = p.moment ∙ sym (ap (λ c. c.clock) s.passed) ∙ sym (client_ticks s.luck node.log m s.mid) ∙ ap (λ step. step.core.clock) s.did;
+        moment = p.moment ∙ sym (ap (λ c. c.clock) s.passed) ∙ sym (client_moves s.luck node.log m s.mid).ticks ∙ ap (λ step. step.core.clock) s.did;
         down = p.down;
         indexers = zip_weaker R (λ reader indexer. IndexerStands told count reader indexer s.after node.log) readers node.indexers
             (λ reader indexer stands. indexer_stays told count reader indexer node.core s.after node.log None s.goes_on (λ n held. tt) stands) p.indexers;
@@ -509,7 +509,7 @@ loaded_parts told count since firsts world world' readers searchers clock down k
     record {
       world_stands = stands;
       is_log = p.is_log;
-      moment = p.moment ∙ sym (loaded_ticks fate node.core) ∙ ap (λ given. given.core.clock) did;
+      moment = p.moment ∙ sym (loaded_moves fate node.core).ticks ∙ ap (λ given. given.core.clock) did;
       down = same;
       indexers = all_idle_over told count readers node.indexers node.core after node.log p.indexers;
       apart = p.apart;

@@ -21,7 +21,7 @@ use Rattle.node_run.specs.Node.{Node, Line, At, Assign, StepIndexer, RestartInde
 use Rattle.node_run.specs.Turns.{calm, indexer_at, client_named, indexer_turn_by, client_turn_by, turn}
 use Rattle.node_run.proofs.Calming.{asked_still, calm_risen}
 use Rattle.node_run.proofs.CalmSteps.{calm_indexing, calm_searching, load_still}
-use Rattle.node_run.proofs.Counting.{checkpoints_same, stage_same, upload_same, publish_same, given_same, plan_same, fetch_same, assign_same, open_same, restart_same}
+use Rattle.node_run.proofs.Moving.{checkpoints_same, stage_same, upload_same, publish_same, given_same, plan_same, fetch_same, assign_same, open_same, restart_same}
 
 begun_still : (core : Core) → IsStill core → IsStill (begun calm_call core)
 begun_still core s = record { late = s.late; standing = s.standing; unsure = s.unsure; below = omega (arith, s.below) }

@@ -15,10 +15,11 @@ use Rattle.node_run.specs.Turns.{Turns, turns, reader_of, Opening}
 use Rattle.node_run.proofs.Calming.{Calms}
 use Rattle.node_run.proofs.CalmSteps.{loaded_calms}
 use Rattle.node_run.proofs.CalmTurns.{count_between, calm_turns}
-use Rattle.node_run.proofs.Counting.{Rises, loaded_rises, turn_rises, turns_rise}
+use Rattle.node_run.proofs.Moving.{turn_later, turns_later}
 use Rattle.node_run.proofs.LogCounts.{NoneFell, none_rose, turn_counted, turns_counted}
 use Rattle.quick_node.specs.Reading.{fits, falls_or_unknown, fit_if, fit_of, Ending, stopped, ReadsFrom, Reads, raw_lines}
 use Rattle.quick_node.specs.Serve.{Before, After, End, by_reading, no_index, opening_failed, read_failed, write_failed, out_of_memory, HasEnd, IsCalm, IsFresh, Opens, Answers, Unopened, RanShort, Lives, IsShown}
+use Rattle.quick_node.proofs.Living.{opens_moves}
 
 -- ---- the lines that were read name readers that there are
 
@@ -116,10 +117,6 @@ module _ (history : List Entry) (before : Before) (after : After) (fresh last : 
           by (loaded_calms opens.fate fresh.core still (ap (λ g. g.core.store_faults) opens.did ∙ ap (λ n. n.core.store_faults) (sym opens.is) ∙ same))
           ∙ ap (λ n. reborn n.core) is.is ∙ ap (λ n. n.core) (sym is.is)
 
-  opened_rises : (opened : Node) (opens : Opens fresh (Ok tt) opened) → Rises fresh.core opened.core
-  opened_rises opened opens =
-      subst (λ n. Rises fresh.core n.core) (sym opens.is) (subst (λ g. Rises fresh.core g.core) opens.did (loaded_rises opens.fate fresh.core))
-
   answers_calm : (lines : List Line) (outcomes : List Outcome) (mid : Node) → Answers fresh lines outcomes mid → mid.core.store_faults ≡ fresh.core.store_faults →
       log_counts mid.indexers ≡ log_counts fresh.indexers → All (IsOfThese (length before.log_faults)) lines → outcomes ≡ (turns fresh lines).outcomes
   answers_calm lines outcomes mid a same counts of =
@@ -128,8 +125,8 @@ module _ (history : List Entry) (before : Before) (after : After) (fresh last : 
       begins : a.opened ≡ fresh
       begins =
           opened_same a.opened a.opens
-          (count_between fresh.core.store_faults a.opened.core.store_faults mid.core.store_faults same still.below (opened_rises a.opened a.opens)
-          (turns_rise a.opened mid lines outcomes a.turns))
+          (count_between fresh.core.store_faults a.opened.core.store_faults mid.core.store_faults same still.below (opens_moves fresh (Ok tt) a.opened a.opens).later.rises
+          (turns_later a.opened mid lines outcomes a.turns).rises)
 
   none_calm : (lines : List Line) (outcomes : List Outcome) → lines ≡ [] → outcomes ≡ [] → outcomes ≡ (turns fresh lines).outcomes
   none_calm lines outcomes no_lines no_outcomes = no_outcomes ∙ ap (λ ls. (turns fresh ls).outcomes) (sym no_lines)
@@ -147,8 +144,8 @@ module _ (history : List Entry) (before : Before) (after : After) (fresh last : 
       mid_same : r.mid.core.store_faults ≡ fresh.core.store_faults
       mid_same =
           count_between fresh.core.store_faults r.mid.core.store_faults last.core.store_faults last_same still.below
-          (omega (arith, opened_rises opened r.answers.opens, turns_rise opened r.mid lines outcomes r.answers.turns))
-          (turn_rises r.mid r.line None last r.turn)
+          (omega (arith, (opens_moves fresh (Ok tt) opened r.answers.opens).later.rises, (turns_later opened r.mid lines outcomes r.answers.turns).rises))
+          (turn_later r.mid r.line None last r.turn).rises
 
       opened_counts : log_counts opened.indexers ≡ log_counts fresh.indexers
       opened_counts = ap (λ n. log_counts n.indexers) r.answers.opens.is

@@ -16,13 +16,12 @@ use Rattle.node_run.specs.Lines.{printed}
 use Rattle.node_run.specs.Node.{Node, Line, Outcome}
 use Rattle.node_run.specs.Standing.{LetGo, fresh_node}
 use Rattle.node_run.specs.Turns.{opened_node}
-use Rattle.node_run.proofs.Ticking.{loaded_ticks}
 use Rattle.quick_node.specs.Ending.{EndsSo, ended_status, last_line}
 use Rattle.quick_node.specs.Serve.{IsPrefixOf, Before, After, End, out_of_memory, status_of, reading_status, WroteLine, Wrote, HasEnd, IsFresh, Opens, Lives, IsShown, AnswersFrom, EntersAs, Drives, ShowsAfter}
 use Rattle.quick_node.specs.declared.error_line.End.{End as Ended}
 use Rattle.quick_node.proofs.Calmed.{reader_counts, lives_calm}
 use Rattle.quick_node.proofs.Exact.{exact_status}
-use Rattle.quick_node.proofs.Living.{lives_follow}
+use Rattle.quick_node.proofs.Living.{opens_moves, lives_follow}
 use Rattle.quick_node.proofs.LongerLog.{index_longer}
 use Rattle.quick_node.proofs.Onces.{holds_once}
 use Rattle.quick_node.proofs.UpToLast.{Met, front_on}
@@ -43,7 +42,7 @@ module _ (history : List Entry) (before : Before) (fresh : Node) (is : IsFresh b
 
   pub opened_clock : (answer : Result ⊤ Unread) (node : Node) → Opens fresh answer node → node.core.clock ≡ 0
   opened_clock answer node o =
-      ap (λ n. n.core.clock) o.is ∙ sym (ap (λ g. g.core.clock) o.did) ∙ loaded_ticks o.fate fresh.core ∙ ap (λ n. n.core.clock) is.is
+      (opens_moves fresh answer node o).ticks ∙ ap (λ n. n.core.clock) is.is
 
   pub opened_clients : (answer : Result ⊤ Unread) (node : Node) → Opens fresh answer node → node.clients ≡ []
   opened_clients answer node o = ap (λ n. n.clients) (opened_is answer node o)

@@ -9,7 +9,7 @@ use Rattle.index_world.specs.Calls.{Fate, Call, Fault, store_fault, faulted, no_
 use Rattle.index_world.specs.Calls as calls
 use Rattle.index_world.specs.Core.{Core, Late, late_entry, late_dead, late_file, file_at, last_count}
 use Rattle.node_run.specs.Node.{Node, Line, Outcome}
-use Rattle.node_run.proofs.Growing.{Grows, grows_on, begun_grows, standing_grows}
+use Rattle.node_run.proofs.Moving.{Grows, moves_on, begun_moves, journal_moves}
 use Rattle.quick_node.specs.Reading.{Ending, stopped, Reads}
 use Rattle.quick_node.specs.Serve.{Before, After, End, by_reading, no_index, opening_failed, read_failed, write_failed, out_of_memory, status_of, reading_status, HasEnd, StoodStill, IsCalm, IsFresh, Opens, Lives, IsShown}
 use Rattle.quick_node.proofs.InOneWay.{reads_in_one_way}
@@ -116,8 +116,7 @@ load_none false false second before core e = empty_is_none _ (begun second (read
 opening_found : (fate : Fate) (core last : Core) → loaded fate core ≡ gives (Err calls.no_index) last → 0 < length core.history → ⊥
 opening_found fate core last did some =
     let none = eqb-true (length (read_journal (begun fate.first core)).history) 0 (load_none _ _ fate.second core.store_faults (begun fate.first core) (ap (λ g. g.answer) did)) in
-    let g : Grows core (read_journal (begun fate.first core)) = grows_on core (begun fate.first core) (read_journal (begun fate.first core)) (begun_grows fate.first core)
-    (standing_grows (begun fate.first core).standing (begun fate.first core)) in
+    let g : Grows core (read_journal (begun fate.first core)) = (moves_on (begun_moves fate.first core) (journal_moves (begun fate.first core))).later.grows in
     let e : length (read_journal (begun fate.first core)).history ≡ length core.history + length g.0 = ap length g.1 ∙ length-append core.history g.0 in
     omega (arith, none, e, some)
 

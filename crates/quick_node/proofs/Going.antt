@@ -13,7 +13,7 @@ use Rattle.node_run.specs.Lines.{Spells, outcome_text, printed}
 use Rattle.node_run.specs.Node.{Node, Line, At, Assign, StepIndexer, RestartIndexer, RestartClient, RestartNode, Open, StepClient, Outcome}
 use Rattle.node_run.specs.Standing.{accepts_of}
 use Rattle.node_run.specs.Turns.{Turn, Turns}
-use Rattle.node_run.proofs.Growing.{turns_go_on}
+use Rattle.node_run.proofs.Moving.{turns_go_on}
 use Rattle.node_run.proofs.LogCounts.{NotBelow, NoneFell, turn_counted}
 use Rattle.quick_node.specs.declared.error_line.End.{End as Ended}
 use Rattle.quick_node.specs.declared.error_line.End.TheVariants as ended

@@ -5,13 +5,13 @@ use Rattle.meta_journal.specs.declared.entry.Entry.{Entry}
 use Rattle.index_world.specs.Calls.{Unread}
 use Rattle.node_run.specs.Node.{Node, Line, Outcome}
 use Rattle.node_run.specs.Turns.{Turn}
-use Rattle.node_run.proofs.Growing.{Grows, same_grows, grows_on, loaded_grows, turn_grows, turns_grow, turns_go_on}
+use Rattle.node_run.proofs.Moving.{Grows, same_grows, grows_on, Moves, loaded_moves, turn_later, turns_later, turns_go_on}
 use Rattle.quick_node.specs.Serve.{IsPrefixOf, Before, End, by_reading, no_index, opening_failed, read_failed, write_failed, out_of_memory, IsFresh, Opens, Answers, Unopened, RanShort, Lives, AnswersFrom}
 use Rattle.quick_node.proofs.Searching.{prefix_on, searches_follow}
 
-opens_grows : (fresh : Node) (answer : Result ⊤ Unread) (node : Node) → Opens fresh answer node → Grows fresh.core node.core
-opens_grows fresh answer node o =
-    subst (λ n. Grows fresh.core n.core) (sym o.is) (subst (λ g. Grows fresh.core g.core) o.did (loaded_grows o.fate fresh.core))
+pub opens_moves : (fresh : Node) (answer : Result ⊤ Unread) (node : Node) → Opens fresh answer node → Moves fresh.core node.core
+opens_moves fresh answer node o =
+    subst (λ n. Moves fresh.core n.core) (sym o.is) (subst (λ g. Moves fresh.core g.core) o.did (loaded_moves o.fate fresh.core))
 
 module _ (history exit : List Entry) (before : Before) (fresh : Node) (is : IsFresh before history fresh) where
   begins : (node : Node) → Grows fresh.core node.core → IsPrefixOf history node.core.history
@@ -22,13 +22,13 @@ module _ (history exit : List Entry) (before : Before) (fresh : Node) (is : IsFr
 
   answers_follow : (lines : List Line) (outcomes : List Outcome) (last : Node) → Answers fresh lines outcomes last → IsPrefixOf last.core.history exit → Follows lines outcomes
   answers_follow lines outcomes last a p = (
-    prefix_on history last.core.history exit (begins last (grows_on fresh.core a.opened.core last.core opens (turns_grow a.opened last lines outcomes a.turns))) p,
+    prefix_on history last.core.history exit (begins last (grows_on fresh.core a.opened.core last.core opens (turns_later a.opened last lines outcomes a.turns).grows)) p,
     subst (λ l. AnswersFrom exit l (length history) [] lines outcomes) log
         (searches_follow history exit a.opened last lines outcomes clients (begins a.opened opens) p a.turns),
   )
     where
       opens : Grows fresh.core a.opened.core
-      opens = opens_grows fresh (Ok tt) a.opened a.opens
+      opens = (opens_moves fresh (Ok tt) a.opened a.opens).later.grows
 
       clients : a.opened.clients ≡ []
       clients = ap (λ n. n.clients) a.opens.is ∙ ap (λ n. n.clients) is.is
@@ -46,11 +46,11 @@ module _ (history exit : List Entry) (before : Before) (fresh : Node) (is : IsFr
 
   unopened_follow : (lines : List Line) (outcomes : List Outcome) (why : Unread) (last : Node) → Unopened fresh lines outcomes why last →
       IsPrefixOf last.core.history exit → Follows lines outcomes
-  unopened_follow lines outcomes why last u p = none_follow lines outcomes last u.no_lines u.no_outcomes (opens_grows fresh (Err why) last u.opens) p
+  unopened_follow lines outcomes why last u p = none_follow lines outcomes last u.no_lines u.no_outcomes (opens_moves fresh (Err why) last u.opens).later.grows p
 
   short_follow : (lines : List Line) (outcomes : List Outcome) (last : Node) → RanShort before fresh lines outcomes last → IsPrefixOf last.core.history exit → Follows lines outcomes
   short_follow lines outcomes last s p =
-      answers_follow lines outcomes s.mid s.answers (prefix_on s.mid.core.history last.core.history exit (turn_grows s.mid s.line None last s.turn) p)
+      answers_follow lines outcomes s.mid s.answers (prefix_on s.mid.core.history last.core.history exit (turn_later s.mid s.line None last s.turn).grows p)
 
   pub lives_follow : (end : End) (lines : List Line) (outcomes : List Outcome) (last : Node) → Lives before end fresh lines outcomes last →
       IsPrefixOf last.core.history exit → Follows lines outcomes

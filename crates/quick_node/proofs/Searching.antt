@@ -21,7 +21,7 @@ use Rattle.root_search.specs.Steps.{Client, Request, no_request, opened, planned
 use Rattle.node_run.specs.Node.{Node, Line, At, Assign, StepIndexer, RestartIndexer, RestartClient, RestartNode, Open, StepClient, Outcome, client_said}
 use Rattle.node_run.specs.Turns as node_turns
 use Rattle.node_run.specs.Turns.{full_turn, turn_with, turn_by, or_quiet, quiet, Turn, Turns, Turned, client_named, with_client, keep_client, said_by_indexer, indexer_stepped, indexer_turn_by, said_by_client, client_turn_by, client_stepped, assign_at, open_by, restart_by, indexer_at, indexing_luck, searching_luck}
-use Rattle.node_run.proofs.Growing.{Grows, same_grows, asked_and_looked_grows, fetched_grows, indexer_grows, client_grows, loaded_grows, turns_grow}
+use Rattle.node_run.proofs.Moving.{Grows, same_grows, asked_and_looked_moves, fetched_moves, indexer_moves, client_moves, loaded_moves, turns_later}
 use Rattle.quick_node.specs.Serve.{IsPrefixOf, Known, known_of, after_outcome, AnswersOne, AnswersFrom}
 
 same-true : (a b : List ℕ) → bytes_eq a b ≡ true → a ≡ b
@@ -216,7 +216,7 @@ module _ (exit : List Entry) (log : Log) (least : ℕ) (knowns : List Known) (na
   next_went [] luck plan client core a r p = reply_went plan.revision (answer_of plan log core) client core a r.3 (answered plan client core a r p)
   next_went (number ∷ more) luck plan client core a r p =
       let given = fetched luck.world core in
-      let h : length core.history ≤ length given.core.history = longer core given.core (fetched_grows luck.world core) in
+      let h : length core.history ≤ length given.core.history = longer core given.core (fetched_moves luck.world core).later.grows in
       fetch_went given.answer plan number more client given.core
       (agrees-more least (length core.history) (length given.core.history) name (known_of name knowns) client h a)
       (r.0, r.1, r.2, omega (arith, r.3, h))
@@ -227,7 +227,7 @@ module _ (exit : List Entry) (log : Log) (least : ℕ) (knowns : List Known) (na
   request_went no_request luck client core a r l p = said_went Idle client core (record { agrees = a; answers = tt })
   request_went (opened text) luck client core a r l p =
       let given = asked_and_looked luck.world core in
-      let h : length core.history ≤ length given.core.history = longer core given.core (asked_and_looked_grows luck.world core) in
+      let h : length core.history ≤ length given.core.history = longer core given.core (asked_and_looked_moves luck.world core).later.grows in
       plan_went given.answer (word_asked text) text client given.core
       (agrees-more least (length core.history) (length given.core.history) name (known_of name knowns) client h a) r refl (omega (arith, l, h))
   request_went (planned plan) luck client core a r l p = next_went plan.unfetched luck plan client core a r p
@@ -333,7 +333,7 @@ module _ (exit : List Entry) (least : ℕ) (knowns : List Known) (node : Node) (
   client_goes false luck l p =
       let client = client_named name node.clients in
       let step = step_client (searching_luck luck) node.log client node.core in
-      let g = client_grows (searching_luck luck) node.log client node.core in
+      let g = (client_moves (searching_luck luck) node.log client node.core).later.grows in
       stepped_by step.outcome step.client step.core g
       (step_went exit node.log least knowns name (searching_luck luck) client node.core (all name) l (prefix_on node.core.history step.core.history exit g p))
 
@@ -426,7 +426,7 @@ module _ (exit : List Entry) (least : ℕ) (knowns : List Known) (node : Node) (
   indexer_goes true luck i = other_goes (StepIndexer i) _ node refl (same_grows node.core node.core refl) refl refl tt
   indexer_goes false luck i =
       let step = step_indexer (indexing_luck luck) node.log (indexer_at node.indexers i) node.core in
-      indexer_said_goes step.outcome i (indexer_stepped i node step).node refl (indexer_grows (indexing_luck luck) node.log (indexer_at node.indexers i) node.core) refl
+      indexer_said_goes step.outcome i (indexer_stepped i node step).node refl (indexer_moves (indexing_luck luck) node.log (indexer_at node.indexers i) node.core).later.grows refl
 
   assign_goes : (place : Place) (i : ℕ) (names : List (List ℕ)) (indexer : Indexer) → TurnGoes exit least knowns node (Assign i names) (assign_at place i names indexer node)
   assign_goes idle i names indexer = other_goes (Assign i names) _ _ refl (same_grows node.core node.core refl) refl refl tt
@@ -443,7 +443,7 @@ module _ (exit : List Entry) (least : ℕ) (knowns : List Known) (node : Node) (
   full_goes luck (RestartIndexer i) l p = other_goes (RestartIndexer i) _ _ refl (same_grows node.core node.core refl) refl refl tt
   full_goes luck (RestartClient name) l p = restarted_goes exit least knowns node name all _ refl tt
   full_goes luck RestartNode l p =
-      let given = loaded luck.world node.core in restart_goes given.answer given.core (loaded_grows luck.world node.core)
+      let given = loaded luck.world node.core in restart_goes given.answer given.core (loaded_moves luck.world node.core).later.grows
   full_goes luck (Open name text) l p = opened_goes exit least knowns node name all (client_named name node.clients).request text
   full_goes luck (StepClient name) l p = client_goes exit least knowns node name all node.down luck l p
 
@@ -482,7 +482,7 @@ one_more exit least knowns node last line lines o os all l p run more = (goes.an
     is = run.1.is
 
     mid_before : IsPrefixOf mid.core.history exit
-    mid_before = prefix_on mid.core.history last.core.history exit (turns_grow mid last lines os run.2) p
+    mid_before = prefix_on mid.core.history last.core.history exit (turns_later mid last lines os run.2).grows p
 
     goes : Goes exit least knowns node line o mid
     goes = subst (λ x. TurnGoes exit least knowns node line x) is

@@ -1,5 +1,5 @@
-use Rattle.node_run.proofs.Growing.{turn_grows}
+use Rattle.node_run.proofs.Moving.{turn_later}
 use Rattle.node_run.proofs.laws.line_adds_to_the_history.Goals as goal
 
 pub returns : goal.returns
-returns c = turn_grows
+returns c = λ node line said last turn. (turn_later node line said last turn).grows

@@ -1,4 +1,4 @@
-use Rattle.node_run.proofs.Growing.{turns_go_on}
+use Rattle.node_run.proofs.Moving.{turns_go_on}
 use Rattle.node_run.proofs.laws.lines_go_on_by_one.Goals as goal
 
 pub returns : goal.returns
