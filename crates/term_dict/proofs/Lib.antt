@@ -8,3 +8,4 @@ pub mod Ranges
 pub mod Lending
 pub mod Builds
 pub mod Rises
+pub mod Walking

@@ -26,6 +26,10 @@ pub record IsReadTerm (t : Term) (rest left : List ℕ) (e : Entry) : Type 0 whe
   pub info : e.info ≡ t.info
   pub left_is : left ≡ rest
 
+-- the term that was read
+abbrev pub term_of : Entry → Term
+term_of e = record { key = e.key.now; info = e.info }
+
 -- which keys stand before the end of a range
 abbrev pub is_before_end : End → List ℕ → Bool
 is_before_end (Below high) key = is_below key high.now

@@ -1,6 +1,7 @@
 ghost use Rattle.std.specs.Prelude.{◌≡◌, ◌≢◌, ◌≤◌, ◌<◌, ◌++◌, [], List, ℕ, length, drop, IfOk, IsOkAnd, Ok};
+ghost use Rattle.term_dict.specs.Reading.{Gives, Walks, block_of, info_at, term_at, place_there, info_there};
 ghost use Rattle.term_dict.specs.Terms.{AreTerms, Fits, area, term_bytes, info_bytes, lookup, from_key};
-ghost use Rattle.term_dict.specs.Readers.{IsReadTerm};
+ghost use Rattle.term_dict.specs.Readers.{IsReadTerm, term_of};
 ghost use Rattle.term_dict.specs.declared.term.Term.{Term};
 
 use crate::TermInfo;
@@ -18,7 +19,9 @@ impl<'a> Block<'a> {
 
     /// The block that these bytes are. Its terms are read when they are looked for.
     pub fn read(bytes: &'a [u8]) -> Result<Block<'a>, Corrupt>
-        ensures { (terms : List Term) → terms ≢ [] → AreTerms terms → bytes.now ≡ area terms → IsOkAnd result (λ b. IsBlock b terms) }
+        ensures only { (terms : List Term) → terms ≢ [] → AreTerms terms → bytes.now ≡ area terms → IsOkAnd result (λ b. IsBlock b terms) }
+        // Over any bytes: only no bytes are no block.
+        ensures exact { Gives (λ b. b.bytes.now) result (block_of bytes.now) }
     {
         if bytes.is_empty() {
             return Err(Corrupt { at: 0 });
@@ -28,7 +31,9 @@ impl<'a> Block<'a> {
 
     /// What the block has at a key.
     pub fn find(&self, key: &[u8]) -> Result<Option<TermInfo>, Corrupt>
-        ensures { (terms : List Term) → IsBlock self.now terms → result ≡ Ok (lookup key.now terms) }
+        ensures only { (terms : List Term) → IsBlock self.now terms → result ≡ Ok (lookup key.now terms) }
+        // Over any bytes: the walk to the key, and what stands at its end, be it a fault.
+        ensures exact { Walks self.now.bytes.now 0 key.now (info_there key.now) result }
     {
         find_from(self.bytes, 0, key)
     }
@@ -47,6 +52,7 @@ pub(crate) fn scan(bytes: &[u8], from: usize, key: &[u8]) -> Result<usize, Corru
     ensures within { IfOk result (λ at. at ≤ length bytes.now) }
     ensures only { (terms : List Term) → AreTerms terms → drop from bytes.now ≡ area terms
         → IsOkAnd result (λ at. drop at bytes.now ≡ area (from_key key.now terms)) }
+    ensures exact { Walks bytes.now from key.now place_there result }
 {
     let mut at = from;
     while at < bytes.len() {
@@ -62,7 +68,8 @@ pub(crate) fn scan(bytes: &[u8], from: usize, key: &[u8]) -> Result<usize, Corru
 // What the terms from a place on have at a key.
 pub(crate) fn find_from(bytes: &[u8], from: usize, key: &[u8]) -> Result<Option<TermInfo>, Corrupt>
     requires { from ≤ length bytes.now }
-    ensures { (terms : List Term) → AreTerms terms → drop from bytes.now ≡ area terms → result ≡ Ok (lookup key.now terms) }
+    ensures only { (terms : List Term) → AreTerms terms → drop from bytes.now ≡ area terms → result ≡ Ok (lookup key.now terms) }
+    ensures exact { Walks bytes.now from key.now (info_there key.now) result }
 {
     let at = scan(bytes, from, key)?;
     if at == bytes.len() {
@@ -76,11 +83,13 @@ pub(crate) fn find_from(bytes: &[u8], from: usize, key: &[u8]) -> Result<Option<
 }
 
 // The term at a place, and the place behind it.
+#[tactic(auto, unfolding(crate::specs::Reading::term_at))]
 pub(crate) fn read_term(bytes: &[u8], at: usize) -> Result<(Entry<'_>, usize), Corrupt>
     requires { at ≤ length bytes.now }
     ensures forward { IfOk result (λ x. (at < x.1) × (x.1 ≤ length bytes.now)) }
     ensures only { (t : Term) (rest : List ℕ) → Fits t → drop at bytes.now ≡ term_bytes t ++ rest
         → IsOkAnd result (λ x. IsReadTerm t rest (drop x.1 bytes.now) x.0) }
+    ensures exact { Gives {Y = Term × ℕ} (λ x. (term_of x.0, x.1)) result (term_at bytes.now at) }
 {
     let (key, next) = take_bytes(bytes, at)?;
     let (info, next) = read_info(bytes, next)?;
@@ -88,11 +97,13 @@ pub(crate) fn read_term(bytes: &[u8], at: usize) -> Result<(Entry<'_>, usize), C
 }
 
 // The numbers at a place, and the place behind them.
+#[tactic(auto, unfolding(crate::specs::Reading::info_at))]
 fn read_info(bytes: &[u8], at: usize) -> Result<(TermInfo, usize), Corrupt>
     requires { at ≤ length bytes.now }
     ensures forward { IfOk result (λ x. (at ≤ x.1) × (x.1 ≤ length bytes.now)) }
     ensures only { (t : Term) (rest : List ℕ) → Fits t → drop at bytes.now ≡ info_bytes t.info ++ rest
         → IsOkAnd result (λ x. (x.0 ≡ t.info) × (drop x.1 bytes.now ≡ rest)) }
+    ensures exact { result ≡ info_at bytes.now at }
 {
     let (docs, next) = take_varint(bytes, at)?;
     if docs > u64::from(u32::MAX) {

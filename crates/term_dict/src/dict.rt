@@ -4,6 +4,9 @@ ghost use Rattle.term_dict.specs.Keys.{is_below};
 ghost use Rattle.term_dict.specs.Terms.{IsDict, area, lookup, from_key};
 ghost use Rattle.term_dict.specs.Blocks.{IsAround};
 ghost use Rattle.term_dict.specs.Readers.{Lends};
+ghost use Rattle.term_dict.specs.Reading.{Gives, place_there, info_there};
+ghost use Rattle.term_dict.specs.Chosen.{dict_of, start_at, IsChosen, WalksDict, StartsRange};
+ghost use Rattle.term_dict.specs.declared.index.BlockStart.{BlockStart};
 ghost use Rattle.term_dict.specs.declared.term.Term.{Term};
 
 use crate::block::{find_from, scan};
@@ -23,7 +26,9 @@ impl<'a> Dict<'a> {
 
     /// The dictionary that these bytes are. Its blocks are read when they are looked into.
     pub fn read(area: &'a [u8], index: &'a BlockIndex) -> Result<Dict<'a>, Corrupt>
-        ensures { (terms : List Term) → IsDict area.now index.now terms → IsOkAnd result (λ d. IsOver d terms) }
+        ensures only { (terms : List Term) → IsDict area.now index.now terms → IsOkAnd result (λ d. IsOver d terms) }
+        // Over any bytes and any index: only bytes without blocks, or blocks without bytes, are no dictionary.
+        ensures exact { Gives {Y = List ℕ × List BlockStart} (λ d. (d.area.now, d.index.now)) result (dict_of area.now index.now) }
     {
         if index.is_empty() && !area.is_empty() {
             return Err(Corrupt { at: 0 });
@@ -36,7 +41,9 @@ impl<'a> Dict<'a> {
 
     /// What the dictionary has at a key. It reads one block.
     pub fn find(&self, key: &[u8]) -> Result<Option<TermInfo>, Corrupt>
-        ensures { (terms : List Term) → IsOver self.now terms → result ≡ Ok (lookup key.now terms) }
+        ensures only { (terms : List Term) → IsOver self.now terms → result ≡ Ok (lookup key.now terms) }
+        // Over any bytes: the walk to the key in its block, and what stands at its end, be it a fault.
+        ensures exact { WalksDict self.now key.now (info_there key.now) result }
     {
         let (start, end) = self.block_of(key)?;
         find_from(&self.area[..end], start, key)
@@ -44,8 +51,10 @@ impl<'a> Dict<'a> {
 
     /// The terms whose keys begin with a prefix.
     pub fn prefix_range<'b>(&'b self, prefix: &'b [u8]) -> Result<TermRange<'b>, Corrupt>
-        ensures { (terms : List Term) → IsOver self.now terms
+        ensures only { (terms : List Term) → IsOver self.now terms
             → IsOkAnd result (λ r. Lends r (filter (λ t. starts_with nat_eq t.key prefix.now) terms)) }
+        // Over any bytes: the range begins where the walk to the prefix ends, unless a fault stands there.
+        ensures exact { StartsRange self.now prefix.now (λ k. starts_with nat_eq k prefix.now) result }
     {
         let at = self.place_of(prefix)?;
         Ok(TermRange {
@@ -57,8 +66,10 @@ impl<'a> Dict<'a> {
 
     /// The terms from the key `low` up to and without the key `high`.
     pub fn key_range<'b>(&'b self, low: &[u8], high: &'b [u8]) -> Result<TermRange<'b>, Corrupt>
-        ensures { (terms : List Term) → IsOver self.now terms
+        ensures only { (terms : List Term) → IsOver self.now terms
             → IsOkAnd result (λ r. Lends r (filter (λ t. not (is_below t.key low.now) && is_below t.key high.now) terms)) }
+        // Over any bytes: the range begins where the walk to the low key ends, unless a fault stands there.
+        ensures exact { StartsRange self.now low.now (λ k. is_below k high.now) result }
     {
         let at = self.place_of(low)?;
         Ok(TermRange {
@@ -73,6 +84,7 @@ impl<'a> Dict<'a> {
         ensures within { IfOk result (λ at. at ≤ length self.now.area.now) }
         ensures only { (terms : List Term) → IsOver self.now terms
             → IsOkAnd result (λ at. drop at self.now.area.now ≡ area (from_key key.now terms)) }
+        ensures exact { WalksDict self.now key.now place_there result }
     {
         let (start, end) = self.block_of(key)?;
         scan(&self.area[..end], start, key)
@@ -82,6 +94,7 @@ impl<'a> Dict<'a> {
     fn block_of(&self, key: &[u8]) -> Result<(usize, usize), Corrupt>
         ensures within { IfOk result (λ x. (x.0 ≤ x.1) × (x.1 ≤ length self.now.area.now)) }
         ensures only { (terms : List Term) → IsOver self.now terms → IsOkAnd result (λ x. IsAround self.now.area.now terms key.now x.0 x.1) }
+        ensures exact { IsChosen self.now.area.now self.now.index.now key.now result }
     {
         let count = self.index.count_up_to(key);
         if count == 0 {
@@ -100,7 +113,8 @@ impl<'a> Dict<'a> {
     // Where a block starts, or the end behind the last one.
     fn start_of(&self, number: usize) -> usize
         requires { number ≤ length self.now.index.now }
-        ensures { (terms : List Term) → IsOver self.now terms → result ≡ length (area (take (64 * number) terms)) }
+        ensures only { (terms : List Term) → IsOver self.now terms → result ≡ length (area (take (64 * number) terms)) }
+        ensures exact { result ≡ start_at self.now.area.now self.now.index.now number }
     {
         if number == self.index.len() {
             return self.area.len();

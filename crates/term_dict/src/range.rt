@@ -37,11 +37,13 @@ pub struct TermRange<'a> {
 
 impl<'a> TermRange<'a> {
     ghost use Rattle.term_dict.specs.Readers.{Lends};
-    ghost use Rattle.term_dict.specs.Lent.{GivesFirst};
+    ghost use Rattle.term_dict.specs.Lent.{GivesFirst, Advances};
 
     /// The next of the terms. An `Err` changes nothing.
     pub fn next(&mut self) -> Result<Option<(&'a [u8], TermInfo)>, Corrupt>
-        ensures { (lent : List Term) → Lends self.old lent → GivesFirst lent result × Lends self.new (drop 1 lent) }
+        ensures only { (lent : List Term) → Lends self.old lent → GivesFirst lent result × Lends self.new (drop 1 lent) }
+        // Over any bytes: the term at the place where the range stands, none where the bytes or the range end, or the fault there.
+        ensures exact { Advances self.old self.new result }
     {
         if self.at == self.area.len() {
             return Ok(None);

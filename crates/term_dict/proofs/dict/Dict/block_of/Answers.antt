@@ -13,8 +13,8 @@ returns-then-start-end-clause-only c terms d =
     let count = c.count_up_to-count.result in
     let rise = blocks_rise (64 * (count - 1)) (64 * count) terms (omega arith) (omega (arith, d.index_is.count, c.count_up_to-count.ensures.within)) in
     let within = starts_within (64 * count) terms in
-    let start = c.start_of-start.ensures terms d in
-    let end = c.start_of-end.ensures terms d in
+    let start = c.start_of-start.ensures.only terms d in
+    let end = c.start_of-end.ensures.only terms d in
     let size = ap (λ (l : List ℕ). length l) d.area_is in
     elim c.then-start-end.branch [
       | then-start-end-via-then-start-end w ↦ omega arith
@@ -25,7 +25,7 @@ pub returns-clause-only : goal.returns-clause-only
 returns-clause-only c terms d =
     let count = c.count_up_to-count.result in
     let some : 0 < count = omega arith in
-    rw (c.start_of-start.ensures terms d, c.start_of-end.ensures terms d)
+    rw (c.start_of-start.ensures.only terms d, c.start_of-end.ensures.only terms d)
     (around c.args.self.now.area.now terms c.args.key.now (64 * (count - 1)) (64 * count) d.are_terms d.area_is (omega arith)
     (below_block c.args.self.now.area.now c.args.self.now.index.now terms c.args.key.now (count - 1) d (omega (arith, c.count_up_to-count.ensures.within))
     (λ b e. c.count_up_to-count.ensures.up_to b (count - 1) (omega arith) e))

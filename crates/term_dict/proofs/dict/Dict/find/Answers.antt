@@ -7,7 +7,7 @@ use Rattle.term_dict.proofs.dict.Dict.find.Goals as goal
 abbrev found : Option TermInfo → Result (Option TermInfo) Corrupt
 found o = Ok o
 
-pub returns : goal.returns
-returns c terms d =
+pub returns-clause-only : goal.returns-clause-only
+returns-clause-only c terms d =
     let w = c.in_ok-start.ensures.only terms d in
-    c.find_from.ensures w.inside w.inside_terms w.inside_bytes ∙ ap found (sym (lookup_inside c.args.self.now.area.now terms c.args.key.now c.in_ok-start.start c.in_ok-start.end w))
+    c.find_from.ensures.only w.inside w.inside_terms w.inside_bytes ∙ ap found (sym (lookup_inside c.args.self.now.area.now terms c.args.key.now c.in_ok-start.start c.in_ok-start.end w))

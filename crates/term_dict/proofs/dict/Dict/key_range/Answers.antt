@@ -2,8 +2,8 @@ use Rattle.term_dict.proofs.Ranges.{range_is, between}
 use Rattle.term_dict.proofs.Lending.{from_key_terms}
 use Rattle.term_dict.proofs.dict.Dict.key_range.Goals as goal
 
-pub returns : goal.returns
-returns c terms d = record {
+pub returns-clause-only : goal.returns-clause-only
+returns-clause-only c terms d = record {
   rest = _;
   are_terms = from_key_terms c.args.low.now terms d.are_terms;
   bytes_are = c.in_ok-at.ensures.only terms d;
