@@ -4,3 +4,4 @@ pub mod Heads
 pub mod Passes
 pub mod Walks
 pub mod Puts
+pub mod Exact

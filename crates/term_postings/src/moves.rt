@@ -3,6 +3,7 @@ ghost use Rattle.std.specs.List.{AllByRecursion};
 ghost use Rattle.byte_fields.specs.Spelling.{varint};
 ghost use Rattle.term_postings.specs.Postings.{AreDocuments, list_bytes, position_bytes, head_bytes, head_list, document_bytes, count_bytes, Fits, varints};
 ghost use Rattle.term_postings.specs.Cursors.{AreBehind, IsHead, PositionsAt};
+ghost use Rattle.term_postings.specs.Reading.{head_at, heads_behind, count_at, position_at, skipped_behind};
 ghost use Rattle.term_postings.specs.declared.list.Posting.{Posting};
 
 use crate::cursor::{Cursor, Place};
@@ -22,12 +23,14 @@ pub(crate) struct Head {
 }
 
 // The head at a place.
+#[tactic(auto, unfolding(crate::specs::Reading::head_at))]
 pub(crate) fn read_head(postings: &[u8], at: usize) -> Result<Head, Corrupt>
     requires { at ≤ length postings.now }
     ensures within { IfOk result (λ h. h.next ≤ length postings.now) }
     ensures only { (counted : Bool) (before : ℕ) (block : List Posting) (rest : List ℕ) → AreBehind counted before block
         → drop at postings.now ≡ head_bytes counted before block ++ rest
         → IsOkAnd result (λ h. IsHead counted before block h.gap h.len h.positions_len × (drop h.next postings.now ≡ rest)) }
+    ensures exact { result ≡ head_at postings.now at }
 {
     let (gap, behind_gap) = take_varint(postings, at)?;
     let (len, behind_len) = take_varint(postings, behind_gap)?;
@@ -45,6 +48,7 @@ fn behind_heads(postings: &[u8], count: u32) -> Result<usize, Corrupt>
     ensures within { IfOk result (λ at. at ≤ length postings.now) }
     ensures only { (counted : Bool) (before : ℕ) (ps : List Posting) (rest : List ℕ) → AreBehind counted before ps → count ≡ (length ps - 1) / 128
         → postings.now ≡ head_list count counted before ps ++ rest → IsOkAnd result (λ at. drop at postings.now ≡ rest) }
+    ensures exact { result ≡ heads_behind count postings.now 0 }
 {
     let mut at = 0;
     for _number in 0..count {
@@ -59,6 +63,7 @@ fn read_count(postings: &[u8], at: usize, counted: bool) -> Result<(u64, usize),
     ensures within { IfOk result (λ x. x.1 ≤ length postings.now) }
     ensures only { (p : Posting) (rest : List ℕ) → Fits counted p → length p.positions < 2 ^ 64 → drop at postings.now ≡ count_bytes counted p.positions ++ rest
         → IsOkAnd result (λ x. (x.0 ≡ length p.positions) × (drop x.1 postings.now ≡ rest)) }
+    ensures exact { result ≡ count_at counted postings.now at }
 {
     if !counted {
         return Ok((0, at));
@@ -68,6 +73,7 @@ fn read_count(postings: &[u8], at: usize, counted: bool) -> Result<(u64, usize),
 
 impl<'a> Cursor<'a> {
     ghost use Rattle.term_postings.specs.Cursors.{StandsBefore, StandsAt, StandsFrom, IsHeadOf, first_positions, first_document, from_document, first_number};
+    ghost use Rattle.term_postings.specs.Reading.{walk, answered, reached, starting, over_of, passed_one, left_by, in_block, step_of, next_of, LeavesBlocks, IsSought, next_position_of};
 
     /// Before the first of `docs` documents. Both slices begin where the term's bytes start.
     pub fn over(
@@ -76,9 +82,11 @@ impl<'a> Cursor<'a> {
         docs: u32,
         with_positions: bool,
     ) -> Cursor<'a>
-        ensures { (told : Bool) (list : List Posting) (more more_positions : List ℕ) → AreDocuments with_positions list → docs ≡ length list
+        ensures only { (told : Bool) (list : List Posting) (more more_positions : List ℕ) → AreDocuments with_positions list → docs ≡ length list
             → postings.now ≡ list_bytes with_positions list ++ more → (told ≡ true → positions.now ≡ position_bytes list ++ more_positions)
             → StandsBefore told result list [] }
+        // Over any bytes, and which fault it has.
+        ensures exact { walk result ≡ over_of postings.now positions.now docs with_positions }
     {
         let later = docs.saturating_sub(1) / BLOCK;
         match behind_heads(postings, later) {
@@ -101,9 +109,10 @@ impl<'a> Cursor<'a> {
         fault: Option<Corrupt>,
     ) -> Cursor<'a>
         requires { block ≤ length postings.now }
-        ensures { (told : Bool) (list : List Posting) (more more_positions : List ℕ) → AreDocuments counted list → docs ≡ length list → fault ≡ None
+        ensures only { (told : Bool) (list : List Posting) (more more_positions : List ℕ) → AreDocuments counted list → docs ≡ length list → fault ≡ None
             → postings.now ≡ list_bytes counted list ++ more → drop block postings.now ≡ document_bytes counted 0 list ++ more
             → (told ≡ true → positions.now ≡ position_bytes list ++ more_positions) → StandsBefore told result list [] }
+        ensures exact { walk result ≡ starting postings.now positions.now docs counted block fault }
     {
         Cursor {
             postings,
@@ -129,8 +138,10 @@ impl<'a> Cursor<'a> {
 
     /// The next document, if there is one. After an `Err` nothing is said of what the cursor gives.
     pub fn next(&mut self) -> Result<Option<u32>, Corrupt>
-        ensures { (told : Bool) (after : List Posting) (left : List ℕ) → StandsBefore told self.old after left
+        ensures only { (told : Bool) (after : List Posting) (left : List ℕ) → StandsBefore told self.old after left
             → (result ≡ Ok (first_document after)) × StandsBefore told self.new (drop 1 after) (first_positions after left) }
+        // Over any bytes, and which fault it is.
+        ensures exact { answered result (walk self.new) ≡ next_of (walk self.old) }
     {
         if let Some(corrupt) = self.fault {
             return Err(corrupt);
@@ -145,9 +156,11 @@ impl<'a> Cursor<'a> {
     /// The first document to come that is not below `document`, if there is one. Whole blocks before it are passed
     /// over by their heads. After an `Err` nothing is said of what the cursor gives.
     pub fn seek(&mut self, document: u32) -> Result<Option<u32>, Corrupt>
-        ensures { (told : Bool) (after : List Posting) (left : List ℕ) → StandsBefore told self.old after left
+        ensures only { (told : Bool) (after : List Posting) (left : List ℕ) → StandsBefore told self.old after left
             → (result ≡ Ok (first_document (from_document document after)))
             × StandsBefore told self.new (drop 1 (from_document document after)) (first_positions (from_document document after) left) }
+        // Over any bytes, and which fault it is.
+        ensures exact { IsSought document (walk self.old) (answered result (walk self.new)) }
     {
         if let Some(corrupt) = self.fault {
             return Err(corrupt);
@@ -168,8 +181,10 @@ impl<'a> Cursor<'a> {
     /// The next position of the document given last, if there is one. After an `Err` nothing is said of what the
     /// cursor gives.
     pub fn next_position(&mut self) -> Result<Option<u64>, Corrupt>
-        ensures { (after : List Posting) (left : List ℕ) → StandsBefore true self.old after left
+        ensures only { (after : List Posting) (left : List ℕ) → StandsBefore true self.old after left
             → (result ≡ Ok (first_number left)) × StandsBefore true self.new after (drop 1 left) }
+        // Over any bytes, and which fault it is.
+        ensures exact { answered result (walk self.new) ≡ next_position_of (walk self.old) }
     {
         if let Some(corrupt) = self.fault {
             return Err(corrupt);
@@ -185,8 +200,10 @@ impl<'a> Cursor<'a> {
     // Leaves the blocks whose last document is below a document.
     fn skip_blocks(&mut self, document: u32) -> Result<(), Corrupt>
         ensures same { self.new.positions.now ≡ self.old.positions.now }
+        ensures fault { self.new.fault ≡ self.old.fault }
         ensures only { (told : Bool) (after : List Posting) (left : List ℕ) → StandsBefore told self.old after left
             → IsOk result × (StandsFrom told document after self.new) }
+        ensures exact { LeavesBlocks document (walk self.old) (reached result (walk self.new)) }
     {
         while u64::from(self.left) + u64::from(self.passed) > u64::from(BLOCK) {
             let head = read_head(self.postings, self.head)?;
@@ -203,8 +220,10 @@ impl<'a> Cursor<'a> {
         requires { 0 < self.old.left }
         ensures moves { OnOk result (self.new.left + 1 ≡ self.old.left) }
         ensures same { self.new.positions.now ≡ self.old.positions.now }
+        ensures fault { self.new.fault ≡ self.old.fault }
         ensures only { (told : Bool) (after : List Posting) (left : List ℕ) → StandsBefore told self.old after left
             → IsOkAnd result (λ document. first_document after ≡ Some document) × StandsBefore told self.new (drop 1 after) (first_positions after left) }
+        ensures exact { answered result (walk self.new) ≡ step_of (walk self.old) }
     {
         self.begin_block()?;
         self.pass()
@@ -215,8 +234,10 @@ impl<'a> Cursor<'a> {
         requires { 0 < self.old.left }
         ensures moves { OnOk result ((self.new.left ≡ self.old.left) × (self.new.passed < 128)) }
         ensures same { self.new.positions.now ≡ self.old.positions.now }
+        ensures fault { self.new.fault ≡ self.old.fault }
         ensures only { (told : Bool) (after : List Posting) (left : List ℕ) → StandsBefore told self.old after left
             → IsOk result × ((now : List ℕ) × StandsBefore told self.new after now) }
+        ensures exact { reached result (walk self.new) ≡ in_block (walk self.old) }
     {
         if self.passed < BLOCK {
             return Ok(());
@@ -226,13 +247,16 @@ impl<'a> Cursor<'a> {
     }
 
     // Leaves a block by its head. An `Err` changes nothing.
+    #[tactic(auto, unfolding(crate::specs::Reading::left_by))]
     fn leave_block(&mut self, head: Head) -> Result<(), Corrupt>
         requires whole { 128 ≤ self.old.left + self.old.passed }
         requires within { head.next ≤ length self.old.postings.now }
         ensures same { self.new.positions.now ≡ self.old.positions.now }
+        ensures fault { self.new.fault ≡ self.old.fault }
         ensures moves { OnOk result ((self.new.left + 128 ≡ self.old.left + self.old.passed) × (self.new.passed ≡ 0)) }
         ensures only { (told : Bool) (passed after : List Posting) (left rest : List ℕ) → StandsAt told self.old passed after left
             → IsHeadOf self.old passed after head rest → IsOk result × StandsAt told self.new [] (drop 128 (passed ++ after)) [] }
+        ensures exact { reached result (walk self.new) ≡ left_by head (walk self.old) }
     {
         let last = head.last(self.block_before);
         let Some(positions_block) = self.positions_block.checked_add(head.positions_len) else {
@@ -259,13 +283,16 @@ impl<'a> Cursor<'a> {
     }
 
     // Passes the next document of the block. An `Err` changes nothing.
+    #[tactic(auto, unfolding(crate::specs::Reading::passed_one))]
     fn pass(&mut self) -> Result<u32, Corrupt>
         requires some { 0 < self.old.left }
         requires room { self.old.passed < 128 }
         ensures same { self.new.positions.now ≡ self.old.positions.now }
+        ensures fault { self.new.fault ≡ self.old.fault }
         ensures moves { OnOk result (self.new.left + 1 ≡ self.old.left) }
         ensures only { (told : Bool) (passed after : List Posting) (p : Posting) (left : List ℕ) → StandsAt told self.old passed (p ∷ after) left
             → (result ≡ Ok p.document) × StandsAt told self.new (passed ++ p ∷ []) after p.positions }
+        ensures exact { answered result (walk self.new) ≡ passed_one (walk self.old) }
     {
         let (gap, behind_gap) = take_varint(self.postings, self.at)?;
         let (count, next) = read_count(self.postings, behind_gap, self.counted)?;
@@ -299,11 +326,13 @@ impl Head {
 }
 
 // The next position, and where the one behind it is found.
+#[tactic(auto, unfolding(crate::specs::Reading::position_at))]
 fn read_position(positions: &[u8], place: Place) -> Result<(u64, Place), Corrupt>
     requires { 0 < place.count }
     ensures moves { IfOk result (λ x. (x.1.skipped ≡ 0) × (x.1.count + 1 ≡ place.count)) }
     ensures only { (position : ℕ) (left : List ℕ) (after : List Posting) → PositionsAt positions.now place (position ∷ left) after
         → IsOkAnd result (λ x. (x.0 ≡ position) × PositionsAt positions.now x.1 left after) }
+    ensures exact { result ≡ position_at positions.now place }
 {
     let at = behind_numbers(positions, place.at, place.skipped)?;
     let (gap, next) = take_varint(positions, at)?;
@@ -324,6 +353,7 @@ fn behind_numbers(bytes: &[u8], from: u64, count: u64) -> Result<usize, Corrupt>
     ensures within { IfOk result (λ at. at ≤ length bytes.now) }
     ensures only { (numbers rest : List ℕ) → count ≡ length numbers → AllByRecursion (λ n. n < 2 ^ 64) numbers → from ≤ length bytes.now
         → drop from bytes.now ≡ varints numbers ++ rest → IsOkAnd result (λ at. drop at bytes.now ≡ rest) }
+    ensures exact { result ≡ skipped_behind count bytes.now from }
 {
     if from > bytes.len() as u64 {
         return Err(Corrupt { at: bytes.len() });

@@ -7,13 +7,13 @@ use Rattle.term_postings.proofs.cursor.Cursor.next_position.Goals as goal
 abbrev given : Option ℕ → Result (Option ℕ) Corrupt
 given o = Ok o
 
-pub returns-in_err-position : goal.returns-in_err-position
-returns-in_err-position c after left s =
+pub returns-in_err-position-clause-only : goal.returns-in_err-position-clause-only
+returns-in_err-position-clause-only c after left s =
     let g = given_position c.args.self.now s.0 after left s.1 c.if-self-eq0.false in
     absurd (c.in_err-position.ensures.only g.0 g.1 after g.3)
 
-pub returns : goal.returns
-returns c after left s =
+pub returns-clause-only : goal.returns-clause-only
+returns-clause-only c after left s =
     let g = given_position c.args.self.now s.0 after left s.1 c.if-self-eq0.false in
     let got = c.in_ok-position.ensures.only g.0 g.1 after g.3 in
     let rest : drop 1 left ≡ g.1 = ap (λ (l : List ℕ). drop 1 l) g.2 in

@@ -4,8 +4,8 @@ use Rattle.term_postings.proofs.Lists.{counts_within}
 use Rattle.term_postings.proofs.Walks.{start_behind, list_parts}
 use Rattle.term_postings.proofs.cursor.Cursor.starting.Goals as goal
 
-pub returns : goal.returns
-returns c told list more more_positions are docs sound e here positions = (
+pub returns-clause-only : goal.returns-clause-only
+returns-clause-only c told list more more_positions are docs sound e here positions = (
   [],
   record {
     stands = record {
