@@ -3,6 +3,7 @@ ghost use Rattle.std.specs.List.{flat_map, AllByRecursion};
 ghost use Rattle.byte_fields.specs.Spelling.{byte_string};
 ghost use Rattle.fast_fields.specs.Packed.{bit};
 ghost use Rattle.fast_fields.specs.Columns.{has_texts, texts_bytes};
+ghost use Rattle.fast_fields.specs.Reading.{Area, Gives, area_at, behind_texts, piece_at, width_at};
 
 use byte_fields::{Corrupt, take_bytes, take_eight, take_four, take_text, take_varint};
 use doc_value::{Field, Kind};
@@ -25,13 +26,18 @@ pub struct Column<'a> {
 impl<'a> Column<'a> {
     ghost use Rattle.fast_fields.specs.Columns.{IsColumn, numbers, least_of, greatest_of};
     ghost use Rattle.fast_fields.specs.declared.entries.Entry.{Entry};
-    ghost use Rattle.fast_fields.specs.Readers.{Holds, IsOf, LendsText, count_below, first_number, of_some};
+    ghost use Rattle.fast_fields.specs.Reading.{Parts, column_at};
+    ghost use Rattle.fast_fields.specs.Readers.{Holds, IsOf, LendsText, count_below, first_number, of_some, parts};
     ghost use Rattle.fast_fields.specs.declared.rows.ColumnRow.{ColumnRow};
 
     /// The column at the front of the bytes, and the place behind it.
+    #[tactic(auto, unfolding(crate::specs::Reading::column_at, crate::specs::Reading::count_at))]
     pub fn read(field: &Field, bytes: &'a [u8]) -> Result<(Column<'a>, usize), Corrupt>
-        ensures { (column rest : List ℕ) (rows : List ColumnRow) → IsColumn field.now.kind column rows → bytes.now ≡ column ++ rest
+        // What is spelled at the front of the bytes is read.
+        ensures only { (column rest : List ℕ) (rows : List ColumnRow) → IsColumn field.now.kind column rows → bytes.now ≡ column ++ rest
             → IsOkAnd result (λ x. IsOf x.0 rows × (x.1 ≡ length column)) }
+        // Which parts any bytes have, or where they are corrupt.
+        ensures exact { Gives {Y = Parts × ℕ} (λ x. (parts x.0, x.1)) result (column_at field.now.kind bytes.now) }
     {
         let (count, behind_count) = take_varint(bytes, 0)?;
         if count > u64::from(u32::MAX) {
@@ -208,12 +214,14 @@ pub(crate) fn has_texts(kind: Kind) -> bool
 }
 
 // The texts at a place, if there are to be texts, and the place behind them.
+#[tactic(auto, unfolding(crate::specs::Reading::area_at))]
 fn read_texts(bytes: &[u8], at: usize, texted: bool) -> Result<(TextArea<'_>, usize), Corrupt>
     requires { at ≤ length bytes.now }
     ensures within { IfOk result (λ x. x.1 ≤ length bytes.now) }
     ensures only { (texts : List (List ℕ)) (rest : List ℕ) → AllByRecursion IsUtf8 texts → length texts < 2 ^ 64 → (texted ≡ false → texts ≡ [])
         → drop at bytes.now ≡ texts_bytes texted texts ++ rest
         → IsOkAnd result (λ x. (x.0.bytes.now ≡ flat_map byte_string texts) × (x.0.count ≡ length texts) × (drop x.1 bytes.now ≡ rest)) }
+    ensures exact { Gives {Y = Area × ℕ} (λ x. (record { count = x.0.count; bytes = x.0.bytes.now }, x.1)) result (area_at texted bytes.now at) }
 {
     if !texted {
         return Ok((
@@ -241,6 +249,7 @@ fn behind_texts(bytes: &[u8], from: usize, count: u64) -> Result<usize, Corrupt>
     ensures within { IfOk result (λ at. (from ≤ at) × (at ≤ length bytes.now)) }
     ensures only { (texts : List (List ℕ)) (rest : List ℕ) → AllByRecursion IsUtf8 texts → count ≡ length texts
         → drop from bytes.now ≡ flat_map byte_string texts ++ rest → IsOkAnd result (λ at. drop at bytes.now ≡ rest) }
+    ensures exact { result ≡ behind_texts count bytes.now from }
 {
     let mut at = from;
     for _number in 0..count {
@@ -250,11 +259,13 @@ fn behind_texts(bytes: &[u8], from: usize, count: u64) -> Result<usize, Corrupt>
 }
 
 // So many bytes at a place, and the place behind them.
+#[tactic(auto, unfolding(crate::specs::Reading::piece_at))]
 fn take_piece(bytes: &[u8], at: usize, len: usize) -> Result<(&[u8], usize), Corrupt>
     requires { at ≤ length bytes.now }
     ensures within { IfOk result (λ x. (x.1 ≤ length bytes.now) × (length x.0.now ≡ len)) }
     ensures only { (piece rest : List ℕ) → length piece ≡ len → drop at bytes.now ≡ piece ++ rest
         → IsOkAnd result (λ x. (x.0.now ≡ piece) × (drop x.1 bytes.now ≡ rest)) }
+    ensures exact { Gives {Y = List ℕ × ℕ} (λ x. (x.0.now, x.1)) result (piece_at len bytes.now at) }
 {
     if bytes.len() - at < len {
         return Err(Corrupt { at: bytes.len() });
@@ -263,10 +274,12 @@ fn take_piece(bytes: &[u8], at: usize, len: usize) -> Result<(&[u8], usize), Cor
 }
 
 // A width of at most 64 bits at a place, and the place behind it.
+#[tactic(auto, unfolding(crate::specs::Reading::width_at))]
 fn take_width(bytes: &[u8], at: usize) -> Result<(u8, usize), Corrupt>
     requires { at ≤ length bytes.now }
     ensures within { IfOk result (λ x. (x.1 ≤ length bytes.now) × (x.0 ≤ 64)) }
     ensures only { (width : ℕ) (rest : List ℕ) → width ≤ 64 → drop at bytes.now ≡ width ∷ rest → IsOkAnd result (λ x. (x.0 ≡ width) × (drop x.1 bytes.now ≡ rest)) }
+    ensures exact { result ≡ width_at bytes.now at }
 {
     if at == bytes.len() {
         return Err(Corrupt { at });
