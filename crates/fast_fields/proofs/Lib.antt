@@ -6,3 +6,4 @@ pub mod Gathered
 pub mod Grown
 pub mod Packs
 pub mod Readings
+pub mod Looked

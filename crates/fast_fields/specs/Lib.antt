@@ -3,3 +3,4 @@ pub mod Columns
 pub mod Texts
 pub mod Reading
 pub mod Readers
+pub mod Lookups

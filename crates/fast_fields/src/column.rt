@@ -28,6 +28,7 @@ impl<'a> Column<'a> {
     ghost use Rattle.fast_fields.specs.declared.entries.Entry.{Entry};
     ghost use Rattle.fast_fields.specs.Reading.{Parts, column_at};
     ghost use Rattle.fast_fields.specs.Readers.{Holds, IsOf, LendsText, count_below, first_number, of_some, parts};
+    ghost use Rattle.fast_fields.specs.Lookups.{IsBound, bits_at, document_of, greatest_before, if_any, text_of, value_of, value_there};
     ghost use Rattle.fast_fields.specs.declared.rows.ColumnRow.{ColumnRow};
 
     /// The column at the front of the bytes, and the place behind it.
@@ -64,7 +65,9 @@ impl<'a> Column<'a> {
 
     /// The first value of a document, if it has one.
     pub fn value_at(&self, document: u32) -> Option<u64>
-        ensures { (texts : List (List ℕ)) (entries : List Entry) → Holds self.now texts entries → result ≡ first_number document entries }
+        ensures only { (texts : List (List ℕ)) (entries : List Entry) → Holds self.now texts entries → result ≡ first_number document entries }
+        // The value at a place where the documents pass this one, if it is of this document.
+        ensures exact { (place : ℕ) × IsBound self.now document place × (result ≡ value_there self.now document place) }
     {
         let place = self.places_below(u64::from(document));
         if place < self.count && self.document_of(place) == document {
@@ -75,8 +78,9 @@ impl<'a> Column<'a> {
 
     /// The range of a document's places, which is empty where it has no values.
     pub fn values_of(&self, document: u32) -> (u32, u32)
-        ensures { (texts : List (List ℕ)) (entries : List Entry) → Holds self.now texts entries
+        ensures only { (texts : List (List ℕ)) (entries : List Entry) → Holds self.now texts entries
             → (result.0 ≡ count_below document entries) × (result.1 ≡ count_below (document + 1) entries) }
+        ensures exact { IsBound self.now document result.0 × IsBound self.now (document + 1) result.1 }
     {
         let from = self.places_below(u64::from(document));
         let to = self.places_below(u64::from(document) + 1);
@@ -98,17 +102,20 @@ impl<'a> Column<'a> {
     }
 
     /// The value at a place.
+    #[tactic(auto, unfolding(crate::specs::Lookups::value_of))]
     pub fn value(&self, place: u32) -> u64
         requires { place < self.now.count }
-        ensures { (texts : List (List ℕ)) (entries : List Entry) (entry : Entry) → Holds self.now texts entries → slice_get entries place ≡ Some entry
+        ensures only { (texts : List (List ℕ)) (entries : List Entry) (entry : Entry) → Holds self.now texts entries → slice_get entries place ≡ Some entry
             → result ≡ entry.number }
+        ensures exact { result ≡ value_of self.now place }
     {
         self.least.wrapping_add(self.packed_at(place))
     }
 
     /// The text with an ordinal, if there is one.
     pub fn text(&self, ordinal: u64) -> Option<&'a str>
-        ensures { (texts : List (List ℕ)) (entries : List Entry) → Holds self.now texts entries → LendsText result (slice_get texts ordinal) }
+        ensures only { (texts : List (List ℕ)) (entries : List Entry) → Holds self.now texts entries → LendsText result (slice_get texts ordinal) }
+        ensures exact { LendsText result (text_of self.now ordinal) }
     {
         if ordinal >= self.text_count {
             return None;
@@ -128,7 +135,8 @@ impl<'a> Column<'a> {
 
     /// The least of the values, if there are any.
     pub fn least(&self) -> Option<u64>
-        ensures { (texts : List (List ℕ)) (entries : List Entry) → Holds self.now texts entries → result ≡ of_some entries (least_of (numbers entries)) }
+        ensures only { (texts : List (List ℕ)) (entries : List Entry) → Holds self.now texts entries → result ≡ of_some entries (least_of (numbers entries)) }
+        ensures exact { result ≡ if_any self.now self.now.least }
     {
         if self.count == 0 {
             return None;
@@ -138,7 +146,8 @@ impl<'a> Column<'a> {
 
     /// The greatest of the values, if there are any.
     pub fn greatest(&self) -> Option<u64>
-        ensures { (texts : List (List ℕ)) (entries : List Entry) → Holds self.now texts entries → result ≡ of_some entries (greatest_of (numbers entries)) }
+        ensures only { (texts : List (List ℕ)) (entries : List Entry) → Holds self.now texts entries → result ≡ of_some entries (greatest_of (numbers entries)) }
+        ensures exact { result ≡ if_any self.now (greatest_before self.now self.now.count) }
     {
         if self.count == 0 {
             return None;
@@ -153,8 +162,9 @@ impl<'a> Column<'a> {
     // The number at a place, less the least one.
     fn packed_at(&self, place: u32) -> u64
         requires { place < self.now.count }
-        ensures { (texts : List (List ℕ)) (entries : List Entry) (entry : Entry) → Holds self.now texts entries → slice_get entries place ≡ Some entry
+        ensures only { (texts : List (List ℕ)) (entries : List Entry) (entry : Entry) → Holds self.now texts entries → slice_get entries place ≡ Some entry
             → result ≡ entry.number - least_of (numbers entries) }
+        ensures exact { result ≡ bits_at self.now.width self.now.packed.now (self.now.width * place) }
     {
         let start = u64::from(self.width) * u64::from(place);
         let mut value = 0u64;
@@ -169,8 +179,9 @@ impl<'a> Column<'a> {
     // The document of a place.
     fn document_of(&self, place: u32) -> u32
         requires { place < self.now.count }
-        ensures { (texts : List (List ℕ)) (entries : List Entry) (entry : Entry) → Holds self.now texts entries → slice_get entries place ≡ Some entry
+        ensures only { (texts : List (List ℕ)) (entries : List Entry) (entry : Entry) → Holds self.now texts entries → slice_get entries place ≡ Some entry
             → result ≡ entry.document }
+        ensures exact { result ≡ document_of self.now place }
     {
         match take_four(self.documents, 4 * place as usize) {
             Ok((document, _behind)) => document,
@@ -180,8 +191,8 @@ impl<'a> Column<'a> {
 
     // How many places have a document below one.
     fn places_below(&self, document: u64) -> u32
-        ensures within { result ≤ self.now.count }
         ensures only { (texts : List (List ℕ)) (entries : List Entry) → Holds self.now texts entries → result ≡ count_below document entries }
+        ensures exact { IsBound self.now document result }
     {
         let mut low = 0;
         let mut high = self.count;
