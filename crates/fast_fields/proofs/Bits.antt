@@ -1,9 +1,10 @@
 -- Bits of numbers that are packed.
-use Rattle.std.proofs.Common.{◌≡◌, ℕ, ◌+◌, ◌-◌, ◌*◌, ◌/◌, ◌%◌, ◌^◌, ◌<◌, ◌≤◌, List, length, get_or, refl, sym, ◌∙◌, ap, arith, inl, inr}
+use Rattle.std.proofs.Common.{◌≡◌, ℕ, zero, suc, ◌+◌, ◌-◌, ◌*◌, ◌/◌, ◌%◌, ◌^◌, ◌<◌, ◌≤◌, List, length, get_or, refl, sym, ◌∙◌, ap, arith, inl, inr}
 use Rattle.std.proofs.lemmas.Bool.{cases_lt, lt-ltb}
 use Rattle.std.proofs.lemmas.Nat.{div-mul-add, pow-add}
-use Rattle.std.proofs.Math.Nat.{div-div-eq-div-mul, mul-add-mod_self_right, mod-eq_of_lt, mul-le-mul_left, div-eq_of_lt, div-le_self, pow-le-pow_right}
+use Rattle.std.proofs.Math.Nat.{div-div-eq-div-mul, mul-add-mod_self_right, mod-eq_of_lt, mul-le-mul_left, div-eq_of_lt, div-le_self, pow-le-pow_right, pow-suc}
 use Rattle.fast_fields.specs.Packed.{bit, IsPacked, IsWidth}
+use Rattle.fast_fields.specs.Lookups.{bits_at}
 
 -- a number above a bit is twice what stands above the next one, and the bit
 pub bit_step : (x low : ℕ) → x / 2 ^ low ≡ x / 2 ^ (low + 1) * 2 + bit x low
@@ -46,3 +47,34 @@ width_within n width h small = elim (cases_lt 64 width) [
       absurd (omega (arith, h.fewest (omega arith), most))
   | inr le ↦ le
 ]
+
+-- ---- numbers in a row of bits
+
+pub bits_small : (count : ℕ) (bytes : List ℕ) (start : ℕ) → bits_at count bytes start < 2 ^ count
+unfolding bits_at
+bits_small zero bytes start = omega arith
+bits_small (suc more) bytes start =
+    let rest = bits_small more bytes (start + 1) in
+    let twice : 2 ^ suc more ≡ 2 ^ more * 2 = pow-suc 2 more in
+    omega (arith, rest, twice)
+
+-- a bit below the others
+pub bits_more : (count : ℕ) (bytes : List ℕ) (start value next : ℕ) → count < 64 → value ≡ bits_at count bytes (start + 1) → next ≡ bit (get_or bytes (start / 8) 0) (start % 8)
+    → (value * 2 % 2 ^ 64 + next) % 2 ^ 64 ≡ bits_at (suc count) bytes start
+unfolding bits_at
+bits_more count bytes start value next few value_is next_is =
+    let small = bits_small (suc count) bytes start in
+    let some : 0 < 2 = omega arith in
+    let most : 2 ^ suc count ≤ 2 ^ 64 = pow-le-pow_right {n = 2} some {i = suc count} {j = 64} (omega arith) in
+    omega (arith, small, most, value_is, next_is)
+
+pub bits_none : (count : ℕ) (bytes : List ℕ) (start : ℕ) → count ≡ 0 → 0 ≡ bits_at count bytes start
+unfolding bits_at
+bits_none zero bytes start none = refl
+bits_none (suc more) bytes start none = absurd (omega arith)
+
+pub bits_next : (count more : ℕ) (bytes : List ℕ) (start above value next : ℕ) → more ≡ count + 1 → above ≡ start + 1 → count < 64 → value ≡ bits_at count bytes above → next ≡ bit (get_or bytes (start / 8) 0) (start % 8)
+    → (value * 2 % 2 ^ 64 + next) % 2 ^ 64 ≡ bits_at more bytes start
+bits_next count more bytes start above value next more_is above_is few value_is next_is =
+    let one : suc count ≡ more = omega arith in
+    bits_more count bytes start value next few (value_is ∙ ap (λ (s : ℕ). bits_at count bytes s) above_is) next_is ∙ ap (λ (n : ℕ). bits_at n bytes start) one

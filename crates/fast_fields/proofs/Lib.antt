@@ -5,3 +5,5 @@ pub mod SpelledTexts
 pub mod Gathered
 pub mod Grown
 pub mod Packs
+pub mod Readings
+pub mod Looked

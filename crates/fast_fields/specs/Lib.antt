@@ -1,4 +1,6 @@
 pub mod Packed
 pub mod Columns
 pub mod Texts
+pub mod Reading
 pub mod Readers
+pub mod Lookups

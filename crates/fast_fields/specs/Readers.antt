@@ -5,9 +5,14 @@ use Rattle.std.specs.Borrow.{Bor}
 use Rattle.byte_fields.specs.Spelling.{byte_string}
 use Rattle.fast_fields.specs.Packed.{IsPacked, IsWidth}
 use Rattle.fast_fields.specs.Columns.{Fits, AreTexts, AreEntries, cells, numbers, least_of, greatest_of, documents_bytes}
+use Rattle.fast_fields.specs.Reading.{Parts}
 use Rattle.fast_fields.specs.declared.entries.Entry.{Entry}
 use Rattle.fast_fields.specs.declared.rows.ColumnRow.{ColumnRow}
 use Rattle.fast_fields.specs.declared.column.Column.{Column}
+
+-- the parts of a column, as they stand in its bytes
+abbrev pub parts : Column → Parts
+parts c = record { count = c.count; texts = record { count = c.text_count; bytes = c.texts.now }; documents = c.documents.now; least = c.least; width = c.width; packed = c.packed.now }
 
 -- a column over these texts and entries
 pub record Holds (c : Column) (texts : List (List ℕ)) (es : List Entry) : Type 0 where

@@ -3,6 +3,7 @@ ghost use Rattle.std.specs.List.{flat_map, AllByRecursion};
 ghost use Rattle.byte_fields.specs.Spelling.{byte_string};
 ghost use Rattle.fast_fields.specs.Packed.{bit};
 ghost use Rattle.fast_fields.specs.Columns.{has_texts, texts_bytes};
+ghost use Rattle.fast_fields.specs.Reading.{Area, Gives, area_at, behind_texts, piece_at, width_at};
 
 use byte_fields::{Corrupt, take_bytes, take_eight, take_four, take_text, take_varint};
 use doc_value::{Field, Kind};
@@ -25,13 +26,19 @@ pub struct Column<'a> {
 impl<'a> Column<'a> {
     ghost use Rattle.fast_fields.specs.Columns.{IsColumn, numbers, least_of, greatest_of};
     ghost use Rattle.fast_fields.specs.declared.entries.Entry.{Entry};
-    ghost use Rattle.fast_fields.specs.Readers.{Holds, IsOf, LendsText, count_below, first_number, of_some};
+    ghost use Rattle.fast_fields.specs.Reading.{Parts, column_at};
+    ghost use Rattle.fast_fields.specs.Readers.{Holds, IsOf, LendsText, count_below, first_number, of_some, parts};
+    ghost use Rattle.fast_fields.specs.Lookups.{IsBound, bits_at, document_of, greatest_before, if_any, text_of, value_of, value_there};
     ghost use Rattle.fast_fields.specs.declared.rows.ColumnRow.{ColumnRow};
 
     /// The column at the front of the bytes, and the place behind it.
+    #[tactic(auto, unfolding(crate::specs::Reading::column_at, crate::specs::Reading::count_at))]
     pub fn read(field: &Field, bytes: &'a [u8]) -> Result<(Column<'a>, usize), Corrupt>
-        ensures { (column rest : List ℕ) (rows : List ColumnRow) → IsColumn field.now.kind column rows → bytes.now ≡ column ++ rest
+        // What is spelled at the front of the bytes is read.
+        ensures only { (column rest : List ℕ) (rows : List ColumnRow) → IsColumn field.now.kind column rows → bytes.now ≡ column ++ rest
             → IsOkAnd result (λ x. IsOf x.0 rows × (x.1 ≡ length column)) }
+        // Which parts any bytes have, or where they are corrupt.
+        ensures exact { Gives {Y = Parts × ℕ} (λ x. (parts x.0, x.1)) result (column_at field.now.kind bytes.now) }
     {
         let (count, behind_count) = take_varint(bytes, 0)?;
         if count > u64::from(u32::MAX) {
@@ -58,7 +65,9 @@ impl<'a> Column<'a> {
 
     /// The first value of a document, if it has one.
     pub fn value_at(&self, document: u32) -> Option<u64>
-        ensures { (texts : List (List ℕ)) (entries : List Entry) → Holds self.now texts entries → result ≡ first_number document entries }
+        ensures only { (texts : List (List ℕ)) (entries : List Entry) → Holds self.now texts entries → result ≡ first_number document entries }
+        // The value at a place where the documents pass this one, if it is of this document.
+        ensures exact { (place : ℕ) × IsBound self.now document place × (result ≡ value_there self.now document place) }
     {
         let place = self.places_below(u64::from(document));
         if place < self.count && self.document_of(place) == document {
@@ -69,8 +78,9 @@ impl<'a> Column<'a> {
 
     /// The range of a document's places, which is empty where it has no values.
     pub fn values_of(&self, document: u32) -> (u32, u32)
-        ensures { (texts : List (List ℕ)) (entries : List Entry) → Holds self.now texts entries
+        ensures only { (texts : List (List ℕ)) (entries : List Entry) → Holds self.now texts entries
             → (result.0 ≡ count_below document entries) × (result.1 ≡ count_below (document + 1) entries) }
+        ensures exact { IsBound self.now document result.0 × IsBound self.now (document + 1) result.1 }
     {
         let from = self.places_below(u64::from(document));
         let to = self.places_below(u64::from(document) + 1);
@@ -92,17 +102,20 @@ impl<'a> Column<'a> {
     }
 
     /// The value at a place.
+    #[tactic(auto, unfolding(crate::specs::Lookups::value_of))]
     pub fn value(&self, place: u32) -> u64
         requires { place < self.now.count }
-        ensures { (texts : List (List ℕ)) (entries : List Entry) (entry : Entry) → Holds self.now texts entries → slice_get entries place ≡ Some entry
+        ensures only { (texts : List (List ℕ)) (entries : List Entry) (entry : Entry) → Holds self.now texts entries → slice_get entries place ≡ Some entry
             → result ≡ entry.number }
+        ensures exact { result ≡ value_of self.now place }
     {
         self.least.wrapping_add(self.packed_at(place))
     }
 
     /// The text with an ordinal, if there is one.
     pub fn text(&self, ordinal: u64) -> Option<&'a str>
-        ensures { (texts : List (List ℕ)) (entries : List Entry) → Holds self.now texts entries → LendsText result (slice_get texts ordinal) }
+        ensures only { (texts : List (List ℕ)) (entries : List Entry) → Holds self.now texts entries → LendsText result (slice_get texts ordinal) }
+        ensures exact { LendsText result (text_of self.now ordinal) }
     {
         if ordinal >= self.text_count {
             return None;
@@ -122,7 +135,8 @@ impl<'a> Column<'a> {
 
     /// The least of the values, if there are any.
     pub fn least(&self) -> Option<u64>
-        ensures { (texts : List (List ℕ)) (entries : List Entry) → Holds self.now texts entries → result ≡ of_some entries (least_of (numbers entries)) }
+        ensures only { (texts : List (List ℕ)) (entries : List Entry) → Holds self.now texts entries → result ≡ of_some entries (least_of (numbers entries)) }
+        ensures exact { result ≡ if_any self.now self.now.least }
     {
         if self.count == 0 {
             return None;
@@ -132,7 +146,8 @@ impl<'a> Column<'a> {
 
     /// The greatest of the values, if there are any.
     pub fn greatest(&self) -> Option<u64>
-        ensures { (texts : List (List ℕ)) (entries : List Entry) → Holds self.now texts entries → result ≡ of_some entries (greatest_of (numbers entries)) }
+        ensures only { (texts : List (List ℕ)) (entries : List Entry) → Holds self.now texts entries → result ≡ of_some entries (greatest_of (numbers entries)) }
+        ensures exact { result ≡ if_any self.now (greatest_before self.now self.now.count) }
     {
         if self.count == 0 {
             return None;
@@ -147,8 +162,9 @@ impl<'a> Column<'a> {
     // The number at a place, less the least one.
     fn packed_at(&self, place: u32) -> u64
         requires { place < self.now.count }
-        ensures { (texts : List (List ℕ)) (entries : List Entry) (entry : Entry) → Holds self.now texts entries → slice_get entries place ≡ Some entry
+        ensures only { (texts : List (List ℕ)) (entries : List Entry) (entry : Entry) → Holds self.now texts entries → slice_get entries place ≡ Some entry
             → result ≡ entry.number - least_of (numbers entries) }
+        ensures exact { result ≡ bits_at self.now.width self.now.packed.now (self.now.width * place) }
     {
         let start = u64::from(self.width) * u64::from(place);
         let mut value = 0u64;
@@ -163,8 +179,9 @@ impl<'a> Column<'a> {
     // The document of a place.
     fn document_of(&self, place: u32) -> u32
         requires { place < self.now.count }
-        ensures { (texts : List (List ℕ)) (entries : List Entry) (entry : Entry) → Holds self.now texts entries → slice_get entries place ≡ Some entry
+        ensures only { (texts : List (List ℕ)) (entries : List Entry) (entry : Entry) → Holds self.now texts entries → slice_get entries place ≡ Some entry
             → result ≡ entry.document }
+        ensures exact { result ≡ document_of self.now place }
     {
         match take_four(self.documents, 4 * place as usize) {
             Ok((document, _behind)) => document,
@@ -174,8 +191,8 @@ impl<'a> Column<'a> {
 
     // How many places have a document below one.
     fn places_below(&self, document: u64) -> u32
-        ensures within { result ≤ self.now.count }
         ensures only { (texts : List (List ℕ)) (entries : List Entry) → Holds self.now texts entries → result ≡ count_below document entries }
+        ensures exact { IsBound self.now document result }
     {
         let mut low = 0;
         let mut high = self.count;
@@ -208,12 +225,14 @@ pub(crate) fn has_texts(kind: Kind) -> bool
 }
 
 // The texts at a place, if there are to be texts, and the place behind them.
+#[tactic(auto, unfolding(crate::specs::Reading::area_at))]
 fn read_texts(bytes: &[u8], at: usize, texted: bool) -> Result<(TextArea<'_>, usize), Corrupt>
     requires { at ≤ length bytes.now }
     ensures within { IfOk result (λ x. x.1 ≤ length bytes.now) }
     ensures only { (texts : List (List ℕ)) (rest : List ℕ) → AllByRecursion IsUtf8 texts → length texts < 2 ^ 64 → (texted ≡ false → texts ≡ [])
         → drop at bytes.now ≡ texts_bytes texted texts ++ rest
         → IsOkAnd result (λ x. (x.0.bytes.now ≡ flat_map byte_string texts) × (x.0.count ≡ length texts) × (drop x.1 bytes.now ≡ rest)) }
+    ensures exact { Gives {Y = Area × ℕ} (λ x. (record { count = x.0.count; bytes = x.0.bytes.now }, x.1)) result (area_at texted bytes.now at) }
 {
     if !texted {
         return Ok((
@@ -241,6 +260,7 @@ fn behind_texts(bytes: &[u8], from: usize, count: u64) -> Result<usize, Corrupt>
     ensures within { IfOk result (λ at. (from ≤ at) × (at ≤ length bytes.now)) }
     ensures only { (texts : List (List ℕ)) (rest : List ℕ) → AllByRecursion IsUtf8 texts → count ≡ length texts
         → drop from bytes.now ≡ flat_map byte_string texts ++ rest → IsOkAnd result (λ at. drop at bytes.now ≡ rest) }
+    ensures exact { result ≡ behind_texts count bytes.now from }
 {
     let mut at = from;
     for _number in 0..count {
@@ -250,11 +270,13 @@ fn behind_texts(bytes: &[u8], from: usize, count: u64) -> Result<usize, Corrupt>
 }
 
 // So many bytes at a place, and the place behind them.
+#[tactic(auto, unfolding(crate::specs::Reading::piece_at))]
 fn take_piece(bytes: &[u8], at: usize, len: usize) -> Result<(&[u8], usize), Corrupt>
     requires { at ≤ length bytes.now }
     ensures within { IfOk result (λ x. (x.1 ≤ length bytes.now) × (length x.0.now ≡ len)) }
     ensures only { (piece rest : List ℕ) → length piece ≡ len → drop at bytes.now ≡ piece ++ rest
         → IsOkAnd result (λ x. (x.0.now ≡ piece) × (drop x.1 bytes.now ≡ rest)) }
+    ensures exact { Gives {Y = List ℕ × ℕ} (λ x. (x.0.now, x.1)) result (piece_at len bytes.now at) }
 {
     if bytes.len() - at < len {
         return Err(Corrupt { at: bytes.len() });
@@ -263,10 +285,12 @@ fn take_piece(bytes: &[u8], at: usize, len: usize) -> Result<(&[u8], usize), Cor
 }
 
 // A width of at most 64 bits at a place, and the place behind it.
+#[tactic(auto, unfolding(crate::specs::Reading::width_at))]
 fn take_width(bytes: &[u8], at: usize) -> Result<(u8, usize), Corrupt>
     requires { at ≤ length bytes.now }
     ensures within { IfOk result (λ x. (x.1 ≤ length bytes.now) × (x.0 ≤ 64)) }
     ensures only { (width : ℕ) (rest : List ℕ) → width ≤ 64 → drop at bytes.now ≡ width ∷ rest → IsOkAnd result (λ x. (x.0 ≡ width) × (drop x.1 bytes.now ≡ rest)) }
+    ensures exact { result ≡ width_at bytes.now at }
 {
     if at == bytes.len() {
         return Err(Corrupt { at });

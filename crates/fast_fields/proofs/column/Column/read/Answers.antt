@@ -9,8 +9,8 @@ use Rattle.fast_fields.proofs.Bits.{width_within}
 use Rattle.fast_fields.proofs.Places.{length-documents, least_small, greatest_small}
 use Rattle.fast_fields.proofs.column.Column.read.Goals as goal
 
-pub returns-in_err-texts : goal.returns-in_err-texts
-returns-in_err-texts c column rest rows is e =
+pub returns-in_err-texts-clause-only : goal.returns-in_err-texts-clause-only
+returns-in_err-texts-clause-only c column rest rows is e =
     let parts = column_parts c.args.bytes.now column rest (varint (length is.entries)) (texts_bytes (has_texts c.args.field.now.kind) is.texts) (documents_bytes is.entries) (eight (least_of (numbers is.entries))) is.spelled.packed is.spelled.width e is.spelled.bytes_are in
     let a = number_read c.args.bytes.now (varint (length is.entries)) (texts_bytes (has_texts c.args.field.now.kind) is.texts ++ (documents_bytes is.entries ++ (eight (least_of (numbers is.entries)) ++ (is.spelled.width ∷ (is.spelled.packed ++ rest))))) 0 (length is.entries) c.in_ok-count.count c.in_ok-count.behind_count (length (varint (length is.entries))) refl parts
     (c.in_ok-count.ensures.only (length is.entries) (texts_bytes (has_texts c.args.field.now.kind) is.texts ++ (documents_bytes is.entries ++ (eight (least_of (numbers is.entries)) ++ (is.spelled.width ∷ (is.spelled.packed ++ rest))))) (omega (arith, is.fits.few)) parts) in
@@ -18,8 +18,8 @@ returns-in_err-texts c column rest rows is e =
     let no_texts : c.has_texts.result ≡ false → is.texts ≡ [] = λ none. is.no_texts (sym c.has_texts.ensures ∙ none) in
     absurd (c.in_err-texts.ensures.only is.texts (documents_bytes is.entries ++ (eight (least_of (numbers is.entries)) ++ (is.spelled.width ∷ (is.spelled.packed ++ rest)))) is.are_texts.utf8 is.few_texts no_texts texts_at)
 
-pub returns-in_err-documents : goal.returns-in_err-documents
-returns-in_err-documents c column rest rows is e =
+pub returns-in_err-documents-clause-only : goal.returns-in_err-documents-clause-only
+returns-in_err-documents-clause-only c column rest rows is e =
     let parts = column_parts c.args.bytes.now column rest (varint (length is.entries)) (texts_bytes (has_texts c.args.field.now.kind) is.texts) (documents_bytes is.entries) (eight (least_of (numbers is.entries))) is.spelled.packed is.spelled.width e is.spelled.bytes_are in
     let a = number_read c.args.bytes.now (varint (length is.entries)) (texts_bytes (has_texts c.args.field.now.kind) is.texts ++ (documents_bytes is.entries ++ (eight (least_of (numbers is.entries)) ++ (is.spelled.width ∷ (is.spelled.packed ++ rest))))) 0 (length is.entries) c.in_ok-count.count c.in_ok-count.behind_count (length (varint (length is.entries))) refl parts
     (c.in_ok-count.ensures.only (length is.entries) (texts_bytes (has_texts c.args.field.now.kind) is.texts ++ (documents_bytes is.entries ++ (eight (least_of (numbers is.entries)) ++ (is.spelled.width ∷ (is.spelled.packed ++ rest))))) (omega (arith, is.fits.few)) parts) in
@@ -29,8 +29,8 @@ returns-in_err-documents c column rest rows is e =
     let size : length (documents_bytes is.entries) ≡ 4 * c.in_ok-count.count = length-documents is.entries ∙ ap (λ (k : ℕ). 4 * k) (sym a.0) in
     absurd (c.in_err-documents.ensures.only (documents_bytes is.entries) (eight (least_of (numbers is.entries)) ++ (is.spelled.width ∷ (is.spelled.packed ++ rest))) size b.2)
 
-pub returns-in_err-least : goal.returns-in_err-least
-returns-in_err-least c column rest rows is e =
+pub returns-in_err-least-clause-only : goal.returns-in_err-least-clause-only
+returns-in_err-least-clause-only c column rest rows is e =
     let parts = column_parts c.args.bytes.now column rest (varint (length is.entries)) (texts_bytes (has_texts c.args.field.now.kind) is.texts) (documents_bytes is.entries) (eight (least_of (numbers is.entries))) is.spelled.packed is.spelled.width e is.spelled.bytes_are in
     let a = number_read c.args.bytes.now (varint (length is.entries)) (texts_bytes (has_texts c.args.field.now.kind) is.texts ++ (documents_bytes is.entries ++ (eight (least_of (numbers is.entries)) ++ (is.spelled.width ∷ (is.spelled.packed ++ rest))))) 0 (length is.entries) c.in_ok-count.count c.in_ok-count.behind_count (length (varint (length is.entries))) refl parts
     (c.in_ok-count.ensures.only (length is.entries) (texts_bytes (has_texts c.args.field.now.kind) is.texts ++ (documents_bytes is.entries ++ (eight (least_of (numbers is.entries)) ++ (is.spelled.width ∷ (is.spelled.packed ++ rest))))) (omega (arith, is.fits.few)) parts) in
@@ -43,8 +43,8 @@ returns-in_err-least c column rest rows is e =
     let wrong = c.in_err-least.ensures.only (least_of (numbers is.entries)) (is.spelled.width ∷ (is.spelled.packed ++ rest)) least d.1 in
     absurd cc
 
-pub returns-in_err-width : goal.returns-in_err-width
-returns-in_err-width c column rest rows is e =
+pub returns-in_err-width-clause-only : goal.returns-in_err-width-clause-only
+returns-in_err-width-clause-only c column rest rows is e =
     let parts = column_parts c.args.bytes.now column rest (varint (length is.entries)) (texts_bytes (has_texts c.args.field.now.kind) is.texts) (documents_bytes is.entries) (eight (least_of (numbers is.entries))) is.spelled.packed is.spelled.width e is.spelled.bytes_are in
     let a = number_read c.args.bytes.now (varint (length is.entries)) (texts_bytes (has_texts c.args.field.now.kind) is.texts ++ (documents_bytes is.entries ++ (eight (least_of (numbers is.entries)) ++ (is.spelled.width ∷ (is.spelled.packed ++ rest))))) 0 (length is.entries) c.in_ok-count.count c.in_ok-count.behind_count (length (varint (length is.entries))) refl parts
     (c.in_ok-count.ensures.only (length is.entries) (texts_bytes (has_texts c.args.field.now.kind) is.texts ++ (documents_bytes is.entries ++ (eight (least_of (numbers is.entries)) ++ (is.spelled.width ∷ (is.spelled.packed ++ rest))))) (omega (arith, is.fits.few)) parts) in
@@ -59,8 +59,8 @@ returns-in_err-width c column rest rows is e =
     let narrow = width_within (greatest_of (numbers is.entries) - least_of (numbers is.entries)) is.spelled.width is.spelled.width_is (omega (arith, greatest_small is.entries is.fits.small_numbers)) in
     absurd (c.in_err-width.ensures.only is.spelled.width (is.spelled.packed ++ rest) narrow l.1)
 
-pub returns-in_err-packed : goal.returns-in_err-packed
-returns-in_err-packed c column rest rows is e =
+pub returns-in_err-packed-clause-only : goal.returns-in_err-packed-clause-only
+returns-in_err-packed-clause-only c column rest rows is e =
     let parts = column_parts c.args.bytes.now column rest (varint (length is.entries)) (texts_bytes (has_texts c.args.field.now.kind) is.texts) (documents_bytes is.entries) (eight (least_of (numbers is.entries))) is.spelled.packed is.spelled.width e is.spelled.bytes_are in
     let a = number_read c.args.bytes.now (varint (length is.entries)) (texts_bytes (has_texts c.args.field.now.kind) is.texts ++ (documents_bytes is.entries ++ (eight (least_of (numbers is.entries)) ++ (is.spelled.width ∷ (is.spelled.packed ++ rest))))) 0 (length is.entries) c.in_ok-count.count c.in_ok-count.behind_count (length (varint (length is.entries))) refl parts
     (c.in_ok-count.ensures.only (length is.entries) (texts_bytes (has_texts c.args.field.now.kind) is.texts ++ (documents_bytes is.entries ++ (eight (least_of (numbers is.entries)) ++ (is.spelled.width ∷ (is.spelled.packed ++ rest))))) (omega (arith, is.fits.few)) parts) in
@@ -80,8 +80,8 @@ returns-in_err-packed c column rest rows is e =
     is.spelled.packed_are.size ∙ ap (λ (k : ℕ). (is.spelled.width * k + 7) / 8) (count ∙ sym c.from-3.ensures) ∙ ap (λ (k : ℕ). (k * c.from-3.result + 7) / 8) (sym w.0 ∙ sym c.from-2.ensures) in
     absurd (c.in_err-packed.ensures.only is.spelled.packed rest packed_size w.1)
 
-pub returns : goal.returns
-returns c column rest rows is e =
+pub returns-clause-only : goal.returns-clause-only
+returns-clause-only c column rest rows is e =
     let parts = column_parts c.args.bytes.now column rest (varint (length is.entries)) (texts_bytes (has_texts c.args.field.now.kind) is.texts) (documents_bytes is.entries) (eight (least_of (numbers is.entries))) is.spelled.packed is.spelled.width e is.spelled.bytes_are in
     let a = number_read c.args.bytes.now (varint (length is.entries)) (texts_bytes (has_texts c.args.field.now.kind) is.texts ++ (documents_bytes is.entries ++ (eight (least_of (numbers is.entries)) ++ (is.spelled.width ∷ (is.spelled.packed ++ rest))))) 0 (length is.entries) c.in_ok-count.count c.in_ok-count.behind_count (length (varint (length is.entries))) refl parts
     (c.in_ok-count.ensures.only (length is.entries) (texts_bytes (has_texts c.args.field.now.kind) is.texts ++ (documents_bytes is.entries ++ (eight (least_of (numbers is.entries)) ++ (is.spelled.width ∷ (is.spelled.packed ++ rest))))) (omega (arith, is.fits.few)) parts) in

@@ -1,14 +1,15 @@
-use Rattle.std.proofs.Common.{◌≡◌, ◌+◌, ◌++◌, ◌∙◌, [], ℕ, drop, sym, ap, arith}
+use Rattle.std.proofs.Common.{◌≡◌, ◌+◌, ◌-◌, ◌++◌, ◌∙◌, [], ℕ, drop, sym, ap, arith}
 use Rattle.std.specs.Prelude.{slice_get}
 use Rattle.std.specs.List.{flat_map}
 use Rattle.std.proofs.lemmas.List.{append-nil}
 use Rattle.byte_fields.specs.Spelling.{byte_string}
 use Rattle.fast_fields.proofs.Pieces.{bytes_read}
 use Rattle.fast_fields.proofs.SpelledTexts.{text_front, lends_text}
+use Rattle.fast_fields.proofs.Looked.{text_passed, text_failed, text_last, text_past, text_got, text_lost}
 use Rattle.fast_fields.proofs.column.Column.text.Goals as goal
 
-pub returns-in-Err : goal.returns-in-Err
-returns-in-Err c texts es h =
+pub returns-in-Err-clause-only : goal.returns-in-Err-clause-only
+returns-in-Err-clause-only c texts es h =
     let here = c.loop-number.invariant.1 texts es h ∙ sym (append-nil (flat_map byte_string (drop c.loop-number._number texts))) in
     let f = text_front c.args.self.now.texts.now [] c.loop-number.at texts c.loop-number._number (omega (arith, h.text_count_is)) here h.utf8 in
     let wrong = c.in-Err.ensures.only f.0 (flat_map byte_string (drop (c.loop-number._number + 1) texts) ++ []) f.3 in
@@ -23,10 +24,12 @@ loop-number-preserved c = (
       let rest = flat_map byte_string (drop (c.loop-number._number + 1) texts) in
       (bytes_read c.args.self.now.texts.now (flat_map byte_string (drop (c.loop-number._number + 1) texts) ++ []) f.0 c.in-Ok._text.now c.loop-number.at c.in-Ok.next f.3
       (c.in-Ok.ensures.only f.0 (flat_map byte_string (drop (c.loop-number._number + 1) texts) ++ []) f.3)).1 ∙ append-nil (flat_map byte_string (drop (c.loop-number._number + 1) texts)),
+  sym (text_passed (c.args.ordinal - c.loop-number._number) (c.args.ordinal - (c.loop-number._number + 1)) c.args.self.now.texts.now c.loop-number.at (c.in-Ok._text.now, c.in-Ok.next) (omega arith) c.in-Ok.ensures.exact)
+      ∙ c.loop-number.invariant.2,
 )
 
-pub returns-in-Ok-take_text : goal.returns-in-Ok-take_text
-returns-in-Ok-take_text c texts es h =
+pub returns-in-Ok-take_text-clause-only : goal.returns-in-Ok-take_text-clause-only
+returns-in-Ok-take_text-clause-only c texts es h =
     let here = c.loop-number.invariant.1 texts es h ∙ sym (append-nil (flat_map byte_string (drop c.loop-number._number texts))) in
     let f = text_front c.args.self.now.texts.now [] c.loop-number.at texts c.loop-number._number (omega (arith, h.text_count_is)) here h.utf8 in
     let got = (bytes_read c.args.self.now.texts.now (flat_map byte_string (drop (c.loop-number._number + 1) texts) ++ []) f.0 c.in-Ok-take_text.text.now c.loop-number.at c.in-Ok-take_text._behind f.3
@@ -34,9 +37,27 @@ returns-in-Ok-take_text c texts es h =
     let last : c.loop-number._number ≡ c.args.ordinal = omega arith in
     lends_text c.in-Ok-take_text.text f.0 (slice_get texts c.args.ordinal) (ap (λ (i : ℕ). slice_get texts i) (sym last) ∙ f.1) got
 
-pub returns-in-Err-take_text : goal.returns-in-Err-take_text
-returns-in-Err-take_text c texts es h =
+pub returns-in-Err-take_text-clause-only : goal.returns-in-Err-take_text-clause-only
+returns-in-Err-take_text-clause-only c texts es h =
     let here = c.loop-number.invariant.1 texts es h ∙ sym (append-nil (flat_map byte_string (drop c.loop-number._number texts))) in
     let f = text_front c.args.self.now.texts.now [] c.loop-number.at texts c.loop-number._number (omega (arith, h.text_count_is)) here h.utf8 in
     let wrong = c.in-Err-take_text.ensures.only f.0 (flat_map byte_string (drop (c.loop-number._number + 1) texts) ++ []) f.2 f.3 in
     absurd cc
+
+pub returns-then-ordinal-self-clause-exact : goal.returns-then-ordinal-self-clause-exact
+returns-then-ordinal-self-clause-exact c = text_past c.args.self.now c.args.ordinal (omega arith)
+
+pub returns-in-Err-clause-exact : goal.returns-in-Err-clause-exact
+returns-in-Err-clause-exact c =
+    text_lost c.args.self.now c.args.ordinal c.in-Err.field-0 (omega arith) (sym c.loop-number.invariant.2
+    ∙ text_failed (c.args.ordinal - c.loop-number._number) c.args.self.now.texts.now c.loop-number.at c.in-Err.field-0 (omega arith) c.in-Err.ensures.exact)
+
+pub returns-in-Ok-take_text-clause-exact : goal.returns-in-Ok-take_text-clause-exact
+returns-in-Ok-take_text-clause-exact c =
+    text_got c.args.self.now c.args.ordinal c.in-Ok-take_text.text c.in-Ok-take_text._behind (omega arith) (sym c.loop-number.invariant.2
+    ∙ text_last (c.args.ordinal - c.loop-number._number) c.args.self.now.texts.now c.loop-number.at (omega arith) ∙ c.in-Ok-take_text.ensures.exact)
+
+pub returns-in-Err-take_text-clause-exact : goal.returns-in-Err-take_text-clause-exact
+returns-in-Err-take_text-clause-exact c =
+    text_lost c.args.self.now c.args.ordinal c.in-Err-take_text.field-0 (omega arith) (sym c.loop-number.invariant.2
+    ∙ text_last (c.args.ordinal - c.loop-number._number) c.args.self.now.texts.now c.loop-number.at (omega arith) ∙ c.in-Err-take_text.ensures.exact)
