@@ -7,3 +7,4 @@ pub mod Grown
 pub mod Packs
 pub mod Readings
 pub mod Looked
+pub mod Areas

@@ -1,14 +1,13 @@
 -- What the readers of any column answer.
-use Rattle.std.proofs.Common.{◌≡◌, ℕ, zero, suc, ◌+◌, ◌-◌, ◌*◌, ◌<◌, ◌≤◌, Bool, true, false, ◌&&◌, cond, ltb, List, length, take, drop, Option, Some, None, Result, Ok, Err, max, refl, sym, ap, subst, ◌∙◌, arith}
+use Rattle.std.proofs.Common.{◌≡◌, ℕ, zero, suc, ◌+◌, ◌-◌, ◌<◌, ◌≤◌, Bool, true, false, ◌&&◌, cond, ltb, List, length, take, drop, Some, None, Result, Ok, Err, max, refl, ap, ◌∙◌, arith}
 use Rattle.std.specs.Int.{w32, from_le_bytes}
 use Rattle.std.specs.Borrow.{Bor}
 use Rattle.std.proofs.lemmas.Bool.{lt-ltb, le-ltb, eq-eqb, ne_eqb}
 use Rattle.byte_fields.specs.declared.field_error.FieldError.{FieldError}
-use Rattle.byte_fields.specs.declared.field_error.FieldError.TheVariants.{Short}
 use Rattle.byte_fields.specs.Reading.{bytes_at, text_at, four_at}
 use Rattle.fast_fields.specs.declared.column.Column.{Column}
 use Rattle.fast_fields.specs.Readers.{LendsText}
-use Rattle.fast_fields.specs.Lookups.{text_behind, text_of, got, document_of, value_of, value_there, greatest_before, if_any}
+use Rattle.fast_fields.specs.Lookups.{text_behind, text_of, document_of, value_of, value_there, greatest_before, if_any}
 
 -- four bytes where four stand
 pub four_there : (bytes : List ℕ) (at : ℕ) → at + 4 ≤ length bytes → four_at bytes at ≡ Ok (from_le_bytes w32 (take 4 (drop at bytes)), at + 4)

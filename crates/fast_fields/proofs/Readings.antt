@@ -1,5 +1,5 @@
 -- Steps of reading a column.
-use Rattle.std.proofs.Common.{◌≡◌, ℕ, zero, suc, ◌+◌, ◌-◌, ◌<◌, List, length, Result, Ok, Err, refl, ap, sym, arith}
+use Rattle.std.proofs.Common.{◌≡◌, ℕ, zero, suc, ◌+◌, ◌<◌, List, Result, Ok, Err, refl, ap, sym, arith}
 use Rattle.std.specs.Prelude.{IsErrAnd}
 use Rattle.byte_fields.specs.declared.corrupt.Corrupt.{Corrupt}
 use Rattle.byte_fields.specs.declared.field_error.FieldError.{FieldError}

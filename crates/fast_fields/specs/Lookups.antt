@@ -1,5 +1,5 @@
 -- What the readers of a column answer, whatever bytes it was read from.
-use Rattle.std.specs.Prelude.{ℕ, zero, suc, ◌+◌, ◌-◌, ◌*◌, ◌/◌, ◌%◌, ◌^◌, ◌<◌, ◌≤◌, ◌≡◌, ◌&&◌, ◌==◌, List, take, drop, slice_index, Option, Some, None, Result, Ok, Err, nat_lt, max, if◌then◌else◌}
+use Rattle.std.specs.Prelude.{ℕ, zero, suc, ◌+◌, ◌-◌, ◌*◌, ◌/◌, ◌%◌, ◌^◌, ◌<◌, ◌≤◌, ◌&&◌, ◌==◌, List, take, drop, slice_index, Option, Some, None, Result, Ok, Err, nat_lt, max, if◌then◌else◌}
 use Rattle.std.specs.Int.{w32, from_le_bytes}
 use Rattle.byte_fields.specs.declared.field_error.FieldError.{FieldError}
 use Rattle.byte_fields.specs.Reading.{◌>>=◌, bytes_at, text_at}
@@ -40,7 +40,7 @@ abbrev pub got : Result (List ℕ × ℕ) FieldError → Option (List ℕ)
 got (Ok text) = Some text.0
 got (Err e) = None
 
--- the text with an ordinal, if there are so many and it can be read
+-- the text with an ordinal, if there are so many
 unfoldable pub text_of : Column → ℕ → Option (List ℕ)
 text_of c ordinal = if nat_lt ordinal c.text_count then got (text_behind ordinal c.texts.now 0) else None
 

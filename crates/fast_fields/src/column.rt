@@ -1,4 +1,4 @@
-ghost use Rattle.std.specs.Prelude.{◌≡◌, ◌≤◌, ◌<◌, ◌+◌, ◌*◌, ◌/◌, ◌%◌, ◌^◌, ◌++◌, List, ℕ, Bool, length, drop, slice_get, slice_index, Some, IfOk, IsOkAnd, IsTrue, IsUtf8, ◌↔◌, ◌-◌, false, [], ◌∷◌};
+ghost use Rattle.std.specs.Prelude.{◌≡◌, ◌≤◌, ◌<◌, ◌+◌, ◌*◌, ◌/◌, ◌%◌, ◌^◌, ◌++◌, List, ℕ, Bool, length, drop, slice_get, slice_index, Some, IfOk, IsOkAnd, IsSome, IsTrue, Ok, IsUtf8, ◌↔◌, ◌-◌, false, [], ◌∷◌};
 ghost use Rattle.std.specs.List.{flat_map, AllByRecursion};
 ghost use Rattle.byte_fields.specs.Spelling.{byte_string};
 ghost use Rattle.fast_fields.specs.Packed.{bit};
@@ -21,6 +21,7 @@ pub struct Column<'a> {
     ghost documents_size: { length documents.now ≡ 4 * count },
     ghost packed_size: { length packed.now ≡ (width * count + 7) / 8 },
     ghost width_within: { width ≤ 64 },
+    ghost texts_size: { behind_texts text_count texts.now 0 ≡ Ok (length texts.now) },
 }
 
 impl<'a> Column<'a> {
@@ -115,6 +116,8 @@ impl<'a> Column<'a> {
     /// The text with an ordinal, if there is one.
     pub fn text(&self, ordinal: u64) -> Option<&'a str>
         ensures only { (texts : List (List ℕ)) (entries : List Entry) → Holds self.now texts entries → LendsText result (slice_get texts ordinal) }
+        // No text of a column is lost.
+        ensures there { IsSome result ↔ (ordinal < self.now.text_count) }
         ensures exact { LendsText result (text_of self.now ordinal) }
     {
         if ordinal >= self.text_count {
@@ -232,6 +235,7 @@ fn read_texts(bytes: &[u8], at: usize, texted: bool) -> Result<(TextArea<'_>, us
     ensures only { (texts : List (List ℕ)) (rest : List ℕ) → AllByRecursion IsUtf8 texts → length texts < 2 ^ 64 → (texted ≡ false → texts ≡ [])
         → drop at bytes.now ≡ texts_bytes texted texts ++ rest
         → IsOkAnd result (λ x. (x.0.bytes.now ≡ flat_map byte_string texts) × (x.0.count ≡ length texts) × (drop x.1 bytes.now ≡ rest)) }
+    ensures whole { IfOk result (λ x. behind_texts x.0.count x.0.bytes.now 0 ≡ Ok (length x.0.bytes.now)) }
     ensures exact { Gives {Y = Area × ℕ} (λ x. (record { count = x.0.count; bytes = x.0.bytes.now }, x.1)) result (area_at texted bytes.now at) }
 {
     if !texted {

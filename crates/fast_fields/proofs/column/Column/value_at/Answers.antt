@@ -1,6 +1,6 @@
 use Rattle.std.proofs.Common.{◌∙◌, subst, Some, ap, sym, ℕ, arith}
 use Rattle.fast_fields.specs.Readers.{count_below}
-use Rattle.fast_fields.specs.Lookups.{IsBound, value_there, value_of}
+use Rattle.fast_fields.specs.Lookups.{IsBound}
 use Rattle.fast_fields.proofs.Looked.{value_is, value_past, value_other}
 use Rattle.fast_fields.proofs.Places.{get_some, first_there, first_past, first_other}
 use Rattle.fast_fields.proofs.column.Column.value_at.Goals as goal
