@@ -24,6 +24,3 @@ pub use source::{MemorySource, Source};
 pub use take::{take_bytes, take_eight, take_flag, take_four, take_signed, take_text, take_varint};
 pub use text::Text;
 pub use texts::Texts;
-
-#[cfg(test)]
-mod tests;
