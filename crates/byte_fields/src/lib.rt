@@ -28,6 +28,3 @@ pub use source::{MemorySource, Source};
 pub use steps::{take_count, take_piece};
 pub use take::{take_bytes, take_eight, take_flag, take_four, take_signed, take_text, take_varint};
 pub use text::{Text, Texts};
-
-#[cfg(test)]
-mod tests;

@@ -16,6 +16,3 @@ pub use facts::{FieldTags, TagFacts, Tags, Terms, TimeRange};
 pub use printing::print_doc;
 pub use schema::{Field, Fields, Kind, Schema, Tokenizer};
 pub use text::Text;
-
-#[cfg(test)]
-mod tests;
