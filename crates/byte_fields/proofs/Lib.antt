@@ -1,4 +1,3 @@
-pub mod Causes
 pub mod Varint
 pub mod Taken
 pub mod Others
