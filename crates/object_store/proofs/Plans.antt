@@ -1,10 +1,10 @@
 -- Looking through the calls that are to fail, an entry at a time.
-use Rattle.std.proofs.Common.{◌≡◌, ◌≢◌, ℕ, ◌+◌, ◌≤◌, ◌<◌, Bool, true, false, cond, List, [], ◌∷◌, ◌++◌, length, get_or, take, drop, Some, refl, sym, ap, ◌∙◌, append_assoc, add-one}
+use Rattle.std.proofs.Common.{◌≡◌, ◌≢◌, ℕ, ◌+◌, ◌<◌, Bool, true, false, cond, List, [], ◌∷◌, ◌++◌, length, get_or, take, drop, Some, sym, ap, ◌∙◌, append_assoc, add-one}
 use Rattle.std.specs.Ordering.{nat_cmp, eq_by_cmp, is_eq}
 use Rattle.std.specs.Cmp.Lexicographic.{slice_cmp}
-use Rattle.std.proofs.lemmas.List.{get_or_default, at_drop_more, at_drop_all, take_more, take_all, append-nil}
+use Rattle.std.proofs.lemmas.List.{get_or_default, at_drop_more, take_more}
 use Rattle.object_store.specs.declared.plan.Landing.{Landing}
-use Rattle.object_store.specs.Plan.{landing_of_key, without_key, IsFirstOf, IsNowhere}
+use Rattle.object_store.specs.Plan.{landing_of_key, without_key, IsFirstOf}
 use Rattle.object_store.proofs.Entries.{ties_itself, not_tied}
 
 abbrev KeyEntry : Type 0

@@ -1,8 +1,7 @@
-use Rattle.std.proofs.Common.{[], ◌∷◌, ◌∙◌, ◌≤◌, ◌<◌, ap, subst, sym, remove, length, arith, ◌≡◌, take, List}
+use Rattle.std.proofs.Common.{[], ◌∷◌, ◌∙◌, ◌≤◌, ◌<◌, ap, sym, length, arith, take}
 use Rattle.std.specs.Prelude.{filter}
 use Rattle.object_store.specs.Kept.{state_of}
 use Rattle.object_store.specs.Late.{Held, held_of, is_due, begun}
-use Rattle.object_store.specs.declared.kept.LateObject.{LateObject}
 use Rattle.object_store.proofs.Landings.{HasLanded-trans}
 use Rattle.object_store.proofs.Due.{landed_late, due_lands, front_stays, not_due, none_due}
 use Rattle.object_store.proofs.kept.Kept.land.Goals as goal
