@@ -28,12 +28,21 @@ lies part x = lies_in part (place_of x)
 
 -- ---- one record
 
+abbrev onto_if : Bool → List ℕ → ℕ → Option (List DocField) → List Placed → List Placed
+onto_if true name offset doc more = onto name offset doc more
+onto_if false name offset doc more = more
+
 filter-onto : (p : Placed → Bool) (name : List ℕ) (offset : ℕ) (doc : Option (List DocField)) (more : List Placed) (keeps : Bool) →
     ((d : List DocField) → p (record { partition = name; offset = offset; doc = d }) ≡ keeps) → filter p (onto name offset doc more) ≡ onto_if keeps name offset doc (filter p more)
 filter-onto p name offset None more true h = refl
 filter-onto p name offset None more false h = refl
 filter-onto p name offset (Some d) more true h = ap (λ b. cond b (record { partition = name; offset = offset; doc = d } ∷ filter p more) (filter p more)) (h d)
 filter-onto p name offset (Some d) more false h = ap (λ b. cond b (record { partition = name; offset = offset; doc = d } ∷ filter p more) (filter p more)) (h d)
+
+onto_if-append : (b : Bool) (name : List ℕ) (offset : ℕ) (doc : Option (List DocField)) (xs ys : List Placed) → onto_if b name offset doc (xs ++ ys) ≡ onto_if b name offset doc xs ++ ys
+onto_if-append true name offset None xs ys = refl
+onto_if-append true name offset (Some d) xs ys = refl
+onto_if-append false name offset doc xs ys = refl
 
 -- ---- a partition of another name
 

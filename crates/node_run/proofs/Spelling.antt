@@ -29,6 +29,10 @@ abbrev pub words_in : List ℕ → List (List ℕ)
 words_in [] = [] ∷ []
 words_in (c ∷ text) = if c == 32 then [] ∷ words_in text else onto_word c (words_in text)
 
+abbrev pub after_blank : List ℕ → Option (List ℕ)
+after_blank [] = None
+after_blank (c ∷ text) = if c == 32 then Some text else after_blank text
+
 pub words_in-one : (word : List ℕ) → Blankless word → words_in word ≡ word ∷ []
 words_in-one [] b = refl
 words_in-one (c ∷ word) b = rw (b.0, words_in-one word b.1)
@@ -41,6 +45,14 @@ pub words_in-words : (word : List ℕ) (more : List (List ℕ)) → Blankless wo
 words_in-words word [] b all = words_in-one word b
 words_in-words word (next ∷ more) b all =
     words_in-next word (words (next ∷ more)) b ∙ ap (λ ws. word ∷ ws) (words_in-words next more all.0 all.1)
+
+pub after_blank-one : (word : List ℕ) → Blankless word → after_blank word ≡ None
+after_blank-one [] b = refl
+after_blank-one (c ∷ word) b = rw b.0 (after_blank-one word b.1)
+
+pub after_blank-next : (word rest : List ℕ) → Blankless word → after_blank (word ++ 32 ∷ rest) ≡ Some rest
+after_blank-next [] rest b = refl
+after_blank-next (c ∷ word) rest b = rw b.0 (after_blank-next word rest b.1)
 
 -- ---- which words have none
 
@@ -95,6 +107,15 @@ byte_at k [] = 0
 byte_at zero (c ∷ text) = c
 byte_at (suc k) (c ∷ text) = byte_at k text
 
+abbrev shape_in : List ℕ → Shape
+shape_in text =
+    if byte_at 0 text == 97
+    then (if byte_at 1 text == 116 then at_line else assign_line)
+    else (if byte_at 0 text == 105 then indexer_line
+    else (if byte_at 0 text == 114
+    then (if byte_at 8 text == 105 then restart_indexer_line else (if byte_at 8 text == 99 then restart_client_line else restart_node_line))
+    else client_line))
+
 abbrev assign_of : List (List ℕ) → Line
 assign_of [] = RestartNode
 assign_of (word ∷ more) = Assign (digits_value 10 word) more
@@ -103,6 +124,34 @@ abbrev client_of : List (List ℕ) → Option (List ℕ) → Line
 client_of [] text = RestartNode
 client_of (name ∷ more) None = StepClient name
 client_of (name ∷ more) (Some text) = Open name text
+
+abbrev line_by : Shape → List ℕ → Line
+line_by at_line text = At (digits_value 10 (drop 3 text))
+line_by assign_line text = assign_of (words_in (drop 7 text))
+line_by indexer_line text = StepIndexer (digits_value 10 (drop 8 text))
+line_by restart_indexer_line text = RestartIndexer (digits_value 10 (drop 16 text))
+line_by restart_client_line text = RestartClient (drop 15 text)
+line_by restart_node_line text = RestartNode
+line_by client_line text = client_of (words_in (drop 7 text)) (after_blank (drop 7 text))
+
+abbrev line_in : List ℕ → Line
+line_in text = line_by (shape_in text) text
+
+line_in-text : (line : Line) → IsWellFormed line → line_in (line_text line) ≡ line
+line_in-text (At moment) f = ap At (decimal-value moment (omega (arith, f)))
+line_in-text (Assign i names) f =
+    ap assign_of (words_in-words (decimal i) names (decimal-blankless i f.0) (each-blankless names (recursion_from_All IsPartition names f.1.each)))
+    ∙ ap (λ n. Assign n names) (decimal-value i f.0)
+line_in-text (StepIndexer i) f = ap StepIndexer (decimal-value i f)
+line_in-text (RestartIndexer i) f = ap RestartIndexer (decimal-value i f)
+line_in-text (RestartClient name) f = refl
+line_in-text RestartNode f = refl
+line_in-text (Open name text) f =
+    ap (λ ws. client_of ws (after_blank (name ++ 32 ∷ text))) (words_in-next name text (client-blankless name f))
+    ∙ ap (client_of (name ∷ words_in text)) (after_blank-next name text (client-blankless name f))
+line_in-text (StepClient name) f =
+    ap (λ ws. client_of ws (after_blank name)) (words_in-one name (client-blankless name f))
+    ∙ ap (client_of (name ∷ [])) (after_blank-one name (client-blankless name f))
 
 -- two lines with one text are one
 pub spells_one : (text : List ℕ) (a b : Line) → Spells text a → Spells text b → a ≡ b

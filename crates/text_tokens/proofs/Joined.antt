@@ -7,6 +7,11 @@ use Rattle.text_tokens.specs.declared.runs.Cut.{Cut}
 use Rattle.text_tokens.specs.declared.runs.Run.{Run}
 use Rattle.text_tokens.specs.Runs.{is_inside, single, joined_to, runs_from, closed, closed_by}
 
+-- a run that may still be empty, before other runs
+abbrev pub grown_by : List ℕ → Run → List Run → List Run
+grown_by [] run runs = runs
+grown_by (b ∷ bs) run runs = joined_to run runs
+
 abbrev pub grown : Run → List Run → List Run
 grown run runs = grown_by run.text run runs
 
@@ -91,6 +96,10 @@ pub grown-outside : (cut : Cut) (run : Run) (c : ℕ) (cs : List ℕ) → is_ins
 grown-outside cut run c cs is =
     let next = run.to + length (encode_utf8 c) in
     rw is (ends_by run.text run (runs_from cut next cs) next (runs-begin cut next cs) (omega (arith, encode-long c)))
+
+grown_by-end : (bytes : List ℕ) (run : Run) → grown_by bytes run [] ≡ closed_by bytes run
+grown_by-end [] run = refl
+grown_by-end (x ∷ xs) run = refl
 
 pub grown-end : (run : Run) → grown run [] ≡ closed run
 grown-end run = grown_by-end run.text run
