@@ -78,11 +78,6 @@ under bound rows h = recursion_from_All (IsUnder bound) rows h
 above : (bound : ℕ) (rows : List Row) → AllOf (IsUnder bound) rows → IsAbove rows bound
 above bound rows h = All-from_recursion (IsUnder bound) rows h
 
-pub above_push : (last number : ℕ) (rows : List Row) (row : Row) → row.number ≡ number → number ≡ last + 1 → IsAbove rows (last + 1) → IsAbove (rows ++ row ∷ []) (max last number + 1)
-above_push last number rows row is next h =
-    above (max last number + 1) (rows ++ row ∷ [])
-    (AllOf-append (IsUnder (max last number + 1)) rows (row ∷ []) (under (max last number + 1) rows (λ k d lt. let low = h k d lt in omega arith)) (omega (arith, is, next), tt))
-
 pub above_change : (bound n : ℕ) (f : Row → Row) (rows : List Row) → ((row : Row) → (f row).number ≡ row.number) → IsAbove rows bound → IsAbove (change n f rows) bound
 above_change bound n f rows keeps h =
     above bound (change n f rows) (AllOf-change (IsUnder bound) rows n f (λ row low. let same = keeps row in omega arith) (under bound rows h))
