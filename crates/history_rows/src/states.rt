@@ -2,7 +2,7 @@
 
 ghost use Rattle.std.specs.Prelude.{◌≡◌};
 
-use doc_value::TagFacts;
+use doc_value::{Replica, TagFacts};
 use source_checkpoint::{Part, Partition, Span, Spans};
 use split_states::{
     Numbers, Row, RowFacts, RowState, Rows, StateRefusal, Times, may_mark, may_publish, may_remove,
