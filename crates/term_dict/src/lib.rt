@@ -2,6 +2,7 @@
 #![tactic(auto)]
 
 mod block;
+mod bounds;
 mod build;
 mod dict;
 mod index;
