@@ -83,9 +83,9 @@ is_sound None h = refl
 is_sound (Some x) h = absurd (h x refl)
 
 pub sought : (document : ℕ) (w start : Walk) (end : Result (Option ℕ × Walk) Corrupt) → w.source.fault ≡ None → LeavesBlocks document w (Ok start) → Passes document start end
-    → Sought document w.source.fault w (kept w.place end)
+    → Sought document w.source.fault w (kept w end)
 sought document w start end sound blocks seen = by_soundness w.source.fault sound
   where
-    by_soundness : (fault : Option Corrupt) → fault ≡ None → Sought document fault w (kept w.place end)
+    by_soundness : (fault : Option Corrupt) → fault ≡ None → Sought document fault w (kept w end)
     by_soundness None e = (Ok start, blocks, (end, seen, refl))
     by_soundness (Some x) e = absurd cc
