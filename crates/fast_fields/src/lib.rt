@@ -10,6 +10,3 @@ mod texts;
 pub use column::Column;
 pub use encode::encode_column;
 pub use rows::{ColumnList, ColumnRow};
-
-#[cfg(test)]
-mod tests;
