@@ -3,7 +3,8 @@ use Rattle.std.specs.Prelude.{◌≡◌, ℕ, ◌+◌, ◌-◌, ◌≤◌, min, 
 use Rattle.byte_fields.specs.declared.corrupt.Corrupt.{Corrupt}
 use Rattle.term_dict.specs.Keys.{is_below}
 use Rattle.term_dict.specs.Readers.{is_before_end}
-use Rattle.term_dict.specs.Reading.{corrupt, Walks, place_there}
+use Rattle.byte_fields.specs.Steps.{corrupt}
+use Rattle.term_dict.specs.Reading.{Walks, place_there}
 use Rattle.term_dict.specs.declared.index.BlockStart.{BlockStart}
 use Rattle.term_dict.specs.declared.dict.Dict.{Dict}
 use Rattle.term_dict.specs.declared.range.TermRange.{TermRange}

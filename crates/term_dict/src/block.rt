@@ -2,7 +2,8 @@ ghost use Rattle.std.specs.Prelude.{◌≡◌, ◌≢◌, ◌≤◌, ◌<◌, �
 ghost use Rattle.std.specs.List.{starts_with};
 ghost use Rattle.term_dict.specs.Keys.{is_below};
 ghost use Rattle.term_dict.specs.Chosen.{StartsInBlock};
-ghost use Rattle.term_dict.specs.Reading.{Gives, Walks, block_of, info_at, term_at, place_there, info_there};
+ghost use Rattle.byte_fields.specs.Steps.{Gives};
+ghost use Rattle.term_dict.specs.Reading.{Walks, block_of, info_at, term_at, place_there, info_there};
 ghost use Rattle.term_dict.specs.Terms.{AreTerms, Fits, area, term_bytes, info_bytes, lookup, from_key};
 ghost use Rattle.term_dict.specs.Readers.{IsReadTerm, Lends, term_of};
 ghost use Rattle.term_dict.specs.declared.term.Term.{Term};

@@ -5,7 +5,8 @@ use Rattle.std.proofs.lemmas.Bool.{lt-leb, le-leb}
 use Rattle.std.proofs.lemmas.Bool.Decides.{nat_tests}
 use Rattle.byte_fields.specs.declared.corrupt.Corrupt.{Corrupt}
 use Rattle.term_postings.specs.declared.moves.Head.{Head}
-use Rattle.term_postings.specs.Reading.{◌>>=◌, number_at, numbers_behind, head_at, heads_behind, Walk, left_by, step_of, next_of, unless, block_below, LeavesBlocks, Passes, Sought, kept}
+use Rattle.byte_fields.specs.Steps.{◌>>=◌, number_at}
+use Rattle.term_postings.specs.Reading.{numbers_behind, head_at, heads_behind, Walk, left_by, step_of, next_of, unless, block_below, LeavesBlocks, Passes, Sought, kept}
 
 -- so many numbers
 module _ (bytes : List ℕ) (count taken at : ℕ) (whole : Result ℕ Corrupt) (so_far : numbers_behind (count - taken) bytes at ≡ whole) where

@@ -5,7 +5,8 @@ use Rattle.std.proofs.lemmas.List.{drop-drop, map-append, take_at, take_all}
 use Rattle.byte_fields.specs.declared.corrupt.Corrupt.{Corrupt}
 use Rattle.term_postings.specs.Postings.{documents}
 use Rattle.term_postings.specs.Cursors.{StandsBefore, first_document, first_positions, last_positions, PassesMany, GivesMany}
-use Rattle.term_postings.specs.Reading.{◌>>=◌, Walk, passed_one, passed_many}
+use Rattle.byte_fields.specs.Steps.{◌>>=◌}
+use Rattle.term_postings.specs.Reading.{Walk, passed_one, passed_many}
 use Rattle.term_postings.specs.declared.list.Posting.{Posting}
 use Rattle.term_postings.specs.declared.cursor.Cursor.{Cursor}
 use Rattle.term_postings.proofs.Walks.{PassesOne, step_given}

@@ -1,30 +1,10 @@
 -- What is read of any bytes, one step behind the other, up to the first fault that is met.
 use Rattle.std.specs.Prelude.{◌≡◌, ℕ, zero, suc, ◌+◌, ◌-◌, ◌/◌, ◌^◌, ◌<◌, ◌≤◌, Bool, true, false, ◌&&◌, List, [], ◌∷◌, length, take, drop, min, Option, Some, None, Result, Ok, Err, nat_lt, nat_le, ◌==◌, if◌then◌else◌}
-use Rattle.byte_fields.specs.Reading.{varint_at}
-use Rattle.byte_fields.specs.Places.{place_of}
-use Rattle.byte_fields.specs.declared.field_error.FieldError.{FieldError}
+use Rattle.byte_fields.specs.Steps.{◌>>=◌, corrupt_at, number_at}
 use Rattle.byte_fields.specs.declared.corrupt.Corrupt.{Corrupt}
 use Rattle.term_postings.specs.declared.cursor.Cursor.{Cursor}
 use Rattle.term_postings.specs.declared.cursor.Place.{Place}
 use Rattle.term_postings.specs.declared.moves.Head.{Head}
-
-infixl 10 ◌>>=◌
-abbrev pub ◌>>=◌ : {A B : Type 0} → Result A Corrupt → (A → Result B Corrupt) → Result B Corrupt
-(Ok x) >>= f = f x
-(Err e) >>= f = Err e
-
--- a fault at a place
-abbrev pub corrupt_at : {A : Type 0} → ℕ → Result A Corrupt
-corrupt_at at = Err (record { at = at })
-
--- a field, whose fault is at its own place
-abbrev pub field : {A : Type 0} → Result A FieldError → Result A Corrupt
-field (Ok x) = Ok x
-field (Err e) = corrupt_at (place_of e)
-
--- the number at a place, and the place behind it
-abbrev pub number_at : List ℕ → ℕ → Result (ℕ × ℕ) Corrupt
-number_at bytes at = field (varint_at bytes at)
 
 -- the place behind so many numbers
 unfoldable pub numbers_behind : ℕ → List ℕ → ℕ → Result ℕ Corrupt

@@ -1,6 +1,7 @@
 use Rattle.std.proofs.Common.{◌≡◌, ℕ, ◌+◌, ◌-◌, ◌++◌, Bool, List, Ok, take, length}
 use Rattle.term_postings.specs.Cursors.{StandsBefore, PassesMany}
-use Rattle.term_postings.specs.Reading.{◌>>=◌, walk, passed_many}
+use Rattle.byte_fields.specs.Steps.{◌>>=◌}
+use Rattle.term_postings.specs.Reading.{walk, passed_many}
 use Rattle.term_postings.specs.declared.list.Posting.{Posting}
 use Rattle.term_postings.proofs.cursor.Cursor.pass_all.Given as goal
 
