@@ -58,6 +58,7 @@ fn behind_heads(postings: &[u8], count: u32) -> Result<usize, Corrupt>
 }
 
 // The count of a document's positions at a place, where the field has positions.
+#[inline(always)]
 fn read_count(postings: &[u8], at: usize, counted: bool) -> Result<(u64, usize), Corrupt>
     requires { at ≤ length postings.now }
     ensures within { IfOk result (λ x. x.1 ≤ length postings.now) }
@@ -138,6 +139,7 @@ impl<'a> Cursor<'a> {
     }
 
     /// The next document, if there is one. After an `Err` nothing is said of what the cursor gives.
+    #[inline]
     pub fn next(&mut self) -> Result<Option<u32>, Corrupt>
         ensures only { (told : Bool) (after : List Posting) (left : List ℕ) → StandsBefore told self.old after left
             → (result ≡ Ok (first_document after)) × StandsBefore told self.new (drop 1 after) (first_positions after left) }
@@ -274,6 +276,7 @@ impl<'a> Cursor<'a> {
     }
 
     // The next document, of those that are to come.
+    #[inline(always)]
     fn step(&mut self) -> Result<u32, Corrupt>
         requires { 0 < self.old.left }
         ensures moves { OnOk result (self.new.left + 1 ≡ self.old.left) }
@@ -289,6 +292,7 @@ impl<'a> Cursor<'a> {
     }
 
     // Goes on to the block of the next document.
+    #[inline(always)]
     fn begin_block(&mut self) -> Result<(), Corrupt>
         requires { 0 < self.old.left }
         ensures moves { OnOk result ((self.new.left ≡ self.old.left) × (self.new.passed < 128)) }
@@ -342,6 +346,7 @@ impl<'a> Cursor<'a> {
     }
 
     // Passes the next document of the block. An `Err` changes nothing.
+    #[inline(always)]
     #[tactic(auto, unfolding(crate::specs::Reading::passed_one))]
     fn pass(&mut self) -> Result<u32, Corrupt>
         requires some { 0 < self.old.left }
