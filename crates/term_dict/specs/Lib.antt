@@ -7,3 +7,4 @@ pub mod Reading
 pub mod Chosen
 pub mod Bounds
 pub mod Lent
+pub mod Builders
