@@ -1,16 +1,15 @@
 -- The blocks that an index gives, and what they have.
-use Rattle.std.proofs.Common.{◌≡◌, ◌≢◌, ℕ, zero, suc, ◌+◌, ◌-◌, ◌*◌, ◌<◌, ◌≤◌, Bool, true, false, not, ◌&&◌, List, [], ◌∷◌, ◌++◌, length, take, drop, Option, Some, None, Result, Ok, Err, refl, sym, ◌∙◌, ap, subst, arith, inl, inr, append_assoc, length-drop, length-take}
+use Rattle.std.proofs.Common.{◌≡◌, ◌≢◌, ℕ, zero, suc, ◌+◌, ◌-◌, ◌*◌, ◌<◌, ◌≤◌, Bool, true, false, not, ◌&&◌, List, [], ◌∷◌, ◌++◌, length, take, drop, Some, None, refl, sym, ◌∙◌, ap, subst, arith, inl, inr, append_assoc, length-drop, length-take}
 use Rattle.std.specs.Prelude.{◌||◌, slice_get, filter, nat_eq}
 use Rattle.std.specs.List.{AllByRecursion, starts_with}
 use Rattle.std.proofs.lemmas.Bool.{cases_lt, ne_eqb}
 use Rattle.std.proofs.lemmas.List.{append-nil, take-append-drop, take-take, drop-drop, drop-take, drop_all}
 use Rattle.std.proofs.lemmas.List.Elements.{filter-append}
-use Rattle.byte_fields.specs.declared.corrupt.Corrupt.{Corrupt}
 use Rattle.term_dict.specs.Keys.{is_below}
-use Rattle.term_dict.specs.Terms.{AreTerms, IsDict, IsRising, area, lookup}
+use Rattle.term_dict.specs.Terms.{IsDict, IsRising, area, lookup}
 use Rattle.term_dict.specs.Blocks.{IsAround}
 use Rattle.term_dict.specs.Chosen.{AreUpTo, last_block}
-use Rattle.term_dict.specs.Bounds.{AreInFront, last_number, lookup_in, block_terms, joined, IsBlockAt, place_in}
+use Rattle.term_dict.specs.Bounds.{AreInFront, last_number, block_terms, joined, IsBlockAt, place_in}
 use Rattle.term_dict.specs.declared.term.Term.{Term}
 use Rattle.term_dict.specs.declared.index.BlockStart.{BlockStart}
 use Rattle.term_dict.proofs.Orders.{below_then}

@@ -53,7 +53,13 @@ impl DictBuilder {
         ensures { (terms : List Term) → HasTaken self.old terms → IsRising (terms ++ term_with key.now info.now ∷ [])
             → OnOk result (HasTaken self.new (terms ++ term_with key.now info.now ∷ [])) }
     {
-        start_block(alloc, &mut self.index, self.count, key, self.area.len() as u64)?;
+        start_block(
+            alloc,
+            &mut self.index,
+            self.count,
+            key,
+            self.area.len() as u64,
+        )?;
         put_term(&mut self.area, key, info)?;
         self.count = self.count.saturating_add(1);
         Ok(())

@@ -1,8 +1,6 @@
-use Rattle.std.proofs.Common.{◌≡◌, ◌+◌, ◌^◌, ◌<◌, ◌++◌, ◌∷◌, [], ◌∙◌, List, ℕ, ap, sym, length, arith, rules, length-append}
-use Rattle.term_dict.specs.Terms.{area, term_bytes}
+use Rattle.std.proofs.Common.{◌≡◌, ◌^◌, ◌<◌, ◌++◌, ◌∷◌, [], ◌∙◌, List, ℕ, ap, length, arith, rules, length-append}
 use Rattle.term_dict.specs.Blocks.{with_block}
 use Rattle.term_dict.specs.Builders.{term_with}
-use Rattle.term_dict.specs.declared.term.Term.{Term}
 use Rattle.term_dict.proofs.Builds.{one_taken, count_within}
 use Rattle.term_dict.proofs.build.DictBuilder.append.Goals as goal
 
@@ -12,7 +10,7 @@ returns c terms h rising =
     let t = term_with c.args.key.now c.args.info.now in
     let start : c.len.result ≡ length me.area.items = omega arith in
     let blocks = c.in_ok-start_block.ensures ∙ ap (λ (n : ℕ). with_block me.index n c.args.key.now c.len.result) h.count
-        ∙ ap (λ (s : ℕ). with_block me.index (length terms) c.args.key.now s) start in
+    ∙ ap (λ (s : ℕ). with_block me.index (length terms) c.args.key.now s) start in
     let dict = one_taken me.area.items c.put_term.new.out.items me.index c.start_block.new.index terms t h.dict rising blocks c.in_ok-put_term.ensures.ok c.in_ok-put_term.ensures.fits in
     let small : length c.put_term.new.out.items < 2 ^ 64 = search rules in
     record {

@@ -1,6 +1,6 @@
-use Rattle.std.proofs.Common.{◌≡◌, ◌∙◌, ◌+◌, arith, refl, sym}
+use Rattle.std.proofs.Common.{◌∙◌, arith, refl, sym}
 use Rattle.term_dict.proofs.Starts.{around, above_block}
-use Rattle.term_dict.proofs.BoundsLemmas.{around_block, count_of_none, count_of_some, last_is}
+use Rattle.term_dict.proofs.BoundsLemmas.{around_block, count_of_none, count_of_some}
 use Rattle.term_dict.proofs.dict.Dict.block_of.Goals as goal
 
 pub returns-in_default-clause-only : goal.returns-in_default-clause-only

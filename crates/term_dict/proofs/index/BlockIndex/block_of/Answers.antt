@@ -1,4 +1,4 @@
-use Rattle.std.proofs.Common.{◌≡◌, ◌+◌, ◌-◌, arith}
+use Rattle.std.proofs.Common.{◌-◌, arith}
 use Rattle.term_dict.proofs.BoundsLemmas.{in_no_block, in_block}
 use Rattle.term_dict.proofs.index.BlockIndex.block_of.Goals as goal
 

@@ -1,4 +1,4 @@
-use Rattle.std.proofs.Common.{◌≡◌, ◌+◌, ◌*◌, ◌<◌, ◌≤◌, arith, length, take, List, ℕ, ap}
+use Rattle.std.proofs.Common.{◌+◌, ◌*◌, arith, length, List, ℕ, ap}
 use Rattle.term_dict.proofs.Starts.{block_at, blocks_rise, starts_within}
 use Rattle.term_dict.proofs.BoundsLemmas.{stands_at}
 use Rattle.term_dict.proofs.index.BlockIndex.place_of.Goals as goal
