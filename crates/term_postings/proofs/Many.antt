@@ -1,12 +1,12 @@
 -- The documents of a block, given at once.
-use Rattle.std.proofs.Common.{◌≡◌, ℕ, zero, suc, ◌+◌, ◌-◌, ◌<◌, ◌≤◌, Bool, List, [], ◌∷◌, ◌++◌, length, take, drop, Some, Result, Ok, Err, refl, sym, ◌∙◌, ap, subst, suc-add, arith, append_assoc, length-append, length-drop, length-take}
+use Rattle.std.proofs.Common.{◌≡◌, ℕ, zero, suc, ◌+◌, ◌<◌, Bool, List, [], ◌∷◌, ◌++◌, length, take, drop, Option, Some, Result, Ok, Err, refl, sym, ◌∙◌, ap, subst, suc-add, arith, append_assoc, length-append, length-drop, length-take}
 use Rattle.std.specs.Prelude.{IsOkAnd}
-use Rattle.std.proofs.lemmas.List.{drop-drop, map-append, take_at, take_all}
+use Rattle.std.proofs.lemmas.List.{drop-drop, map-append, take_at}
 use Rattle.byte_fields.specs.declared.corrupt.Corrupt.{Corrupt}
 use Rattle.term_postings.specs.Postings.{documents}
 use Rattle.term_postings.specs.Cursors.{StandsBefore, first_document, first_positions, last_positions, PassesMany, GivesMany}
 use Rattle.byte_fields.specs.Steps.{◌>>=◌}
-use Rattle.term_postings.specs.Reading.{Walk, passed_one, passed_many}
+use Rattle.term_postings.specs.Reading.{Walk, passed_one, passed_many, last_of}
 use Rattle.term_postings.specs.declared.list.Posting.{Posting}
 use Rattle.term_postings.specs.declared.cursor.Cursor.{Cursor}
 use Rattle.term_postings.proofs.Walks.{PassesOne, step_given}
@@ -101,3 +101,7 @@ pass_refused told c d r fault after left given m some pass is =
     let k = length given in
     let step = step_given told c d r (drop k after) (last_positions (take k after) left) (last_positions (take k after) left) m.stands some pass in
     subst (λ (x : Result ℕ Corrupt). IsOkAnd x (λ n. first_document (drop k after) ≡ Some n)) is step.0
+
+pub last_one : (found : List ℕ) (document : ℕ) (before : Option ℕ) → last_of (found ++ document ∷ []) before ≡ Some document
+last_one [] document before = refl
+last_one (x ∷ xs) document before = last_one xs document (Some x)

@@ -115,6 +115,11 @@ abbrev pub last_given : Option ℕ → Option ℕ → Option ℕ
 last_given (Some found) before = Some found
 last_given None before = before
 
+-- the last of these documents, or else the one given before them
+abbrev pub last_of : List ℕ → Option ℕ → Option ℕ
+last_of [] before = before
+last_of (found ∷ more) before = last_of more (Some found)
+
 -- ---- the next document
 
 -- the document that is passed next in the block, and the walk behind it

@@ -74,7 +74,7 @@ fn read_count(postings: &[u8], at: usize, counted: bool) -> Result<(u64, usize),
 
 impl<'a> Cursor<'a> {
     ghost use Rattle.term_postings.specs.Cursors.{StandsBefore, StandsAt, StandsFrom, IsHeadOf, first_positions, first_document, from_document, first_number, PassesMany, GivesMany};
-    ghost use Rattle.term_postings.specs.Reading.{walk, answered, reached, starting, over_of, passed_one, left_by, in_block, step_of, next_of, LeavesBlocks, IsSought, IsPast, last_given, next_position_of, passed_many, passed_all, next_block_of, PutsInFront};
+    ghost use Rattle.term_postings.specs.Reading.{walk, answered, reached, starting, over_of, passed_one, left_by, in_block, step_of, next_of, LeavesBlocks, IsSought, IsPast, last_given, next_position_of, passed_many, passed_all, last_of, next_block_of, PutsInFront};
 
     /// Before the first of `docs` documents. Both slices begin where the term's bytes start.
     pub fn over(
@@ -88,6 +88,7 @@ impl<'a> Cursor<'a> {
             → StandsBefore told result list [] }
         // Over any bytes, and which fault it has.
         ensures exact { walk result ≡ over_of postings.now positions.now docs with_positions }
+        ensures given { result.given ≡ None }
     {
         let later = docs.saturating_sub(1) / BLOCK;
         match behind_heads(postings, later) {
@@ -166,6 +167,8 @@ impl<'a> Cursor<'a> {
             → IsOkAnd result (λ count. GivesMany told self.new after left (take count found.new)) }
         // Over any bytes, and which fault it is.
         ensures exact { PutsInFront found.old found.new result (walk self.new) (next_block_of (walk self.old)) }
+        // The last of them, or where there is none, the one from before.
+        ensures given { IfOk result (λ count. self.new.given ≡ last_of (take count found.new) self.old.given) }
     {
         if let Some(corrupt) = self.fault {
             return Err(corrupt);
@@ -186,6 +189,7 @@ impl<'a> Cursor<'a> {
         ensures only { (told : Bool) (after : List Posting) (left : List ℕ) → StandsBefore told self.old after left
             → IsOk result × PassesMany told self.new after left found.new }
         ensures exact { passed_all result found.new (walk self.new) ≡ passed_many (length found.old) (walk self.old) }
+        ensures given { OnOk result (self.new.given ≡ last_of found.new self.old.given) }
     {
         for number in 0..found.len() {
             found[number] = self.pass()?;
@@ -245,6 +249,7 @@ impl<'a> Cursor<'a> {
             → (result ≡ Ok (first_number left)) × StandsBefore true self.new after (drop 1 left) }
         // Over any bytes, and which fault it is.
         ensures exact { answered result (walk self.new) ≡ next_position_of (walk self.old) }
+        ensures given { self.new.given ≡ self.old.given }
     {
         if let Some(corrupt) = self.fault {
             return Err(corrupt);
@@ -301,6 +306,7 @@ impl<'a> Cursor<'a> {
         ensures only { (told : Bool) (after : List Posting) (left : List ℕ) → StandsBefore told self.old after left
             → IsOk result × ((now : List ℕ) × StandsBefore told self.new after now) }
         ensures exact { reached result (walk self.new) ≡ in_block (walk self.old) }
+        ensures given { self.new.given ≡ self.old.given }
     {
         if self.passed < BLOCK {
             return Ok(());
@@ -320,6 +326,7 @@ impl<'a> Cursor<'a> {
         ensures only { (told : Bool) (passed after : List Posting) (left rest : List ℕ) → StandsAt told self.old passed after left
             → IsHeadOf self.old passed after head rest → IsOk result × StandsAt told self.new [] (drop 128 (passed ++ after)) [] }
         ensures exact { reached result (walk self.new) ≡ left_by head (walk self.old) }
+        ensures given { self.new.given ≡ self.old.given }
     {
         let last = head.last(self.block_before);
         let Some(positions_block) = self.positions_block.checked_add(head.positions_len) else {

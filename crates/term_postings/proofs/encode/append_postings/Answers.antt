@@ -1,4 +1,4 @@
-use Rattle.std.proofs.Common.{◌≡◌, ◌+◌, ◌-◌, ◌<◌, ◌≤◌, ◌++◌, ◌∙◌, List, ℕ, ap, sym, subst, take, drop, length, refl, arith, length-drop, rules}
+use Rattle.std.proofs.Common.{◌≡◌, ◌-◌, ◌<◌, ◌≤◌, ◌++◌, ◌∙◌, List, ℕ, ap, sym, subst, take, drop, length, refl, arith, length-drop, rules}
 use Rattle.std.specs.List.{AllByRecursion}
 use Rattle.std.proofs.lemmas.List.{drop-drop}
 use Rattle.term_postings.specs.Postings.{AreRising, Fits, documents, document_bytes, position_bytes, last_document}
@@ -37,9 +37,9 @@ loop-from-preserved c =
     let places_len : c.len-in-loop-from.result - c.len-places_start.result ≡ length c.put_documents.new.places.items - length c.loop-from.places.items = omega arith in (
       omega arith,
       subst (λ (l : List Posting). PutsBlocks c.args.positions c.args.postings.now.items c.args.places.now.items c.put_head.new.heads.items c.put_documents.new.blocks.items c.put_documents.new.places.items c.in_ok-last.last l (lent c.args.rows.now))
-      (drop-drop 128 from (lent c.args.rows.now))
-      (one_block c.args.positions c.args.postings.now.items c.args.places.now.items c.loop-from.postings.items c.loop-from.blocks.items c.loop-from.places.items c.put_head.new.heads.items c.put_documents.new.blocks.items
-      c.put_documents.new.places.items c.loop-from.before c.in_ok-last.last _ _ _ rest (lent c.args.rows.now) more c.loop-from.invariant.1 last refl blocks places fits len places_len c.in_ok-put_head.ensures),
+          (drop-drop 128 from (lent c.args.rows.now))
+          (one_block c.args.positions c.args.postings.now.items c.args.places.now.items c.loop-from.postings.items c.loop-from.blocks.items c.loop-from.places.items c.put_head.new.heads.items c.put_documents.new.blocks.items
+          c.put_documents.new.places.items c.loop-from.before c.in_ok-last.last _ _ _ rest (lent c.args.rows.now) more c.loop-from.invariant.1 last refl blocks places fits len places_len c.in_ok-put_head.ensures),
     )
 
 pub put_documents-requires-2-clause-rising : goal.put_documents-requires-2-clause-rising
@@ -57,7 +57,7 @@ returns c =
     let few : length (drop c.loop-from.from (lent c.args.rows.now)) ≤ 128 = omega (arith, lent-length c.args.rows.now, length-drop c.loop-from.from (lent c.args.rows.now)) in
     let joined : c.extend_from_slice.new.self.items ≡ c.loop-from.postings.items ++ c.loop-from.blocks.items = c.in_ok-extend_from_slice.ensures.items ∙ ap (λ (l : List ℕ). c.loop-from.postings.items ++ l) c.deref.ensures.value in
     let now = c.in_ok-put_documents.ensures.blocks ∙ ap (λ (l : List ℕ). l ++ document_bytes c.args.positions c.loop-from.before (lent (take (length c.args.rows.now - c.loop-from.from) (drop c.loop-from.from c.args.rows.now)))) joined
-        ∙ ap (λ (l : List Posting). (c.loop-from.postings.items ++ c.loop-from.blocks.items) ++ document_bytes c.args.positions c.loop-from.before l) rest in
+    ∙ ap (λ (l : List Posting). (c.loop-from.postings.items ++ c.loop-from.blocks.items) ++ document_bytes c.args.positions c.loop-from.before l) rest in
     let places = c.in_ok-put_documents.ensures.places ∙ ap (λ (l : List Posting). c.loop-from.places.items ++ position_bytes l) rest in
     let fits = subst (λ (l : List Posting). AllByRecursion (Fits c.args.positions) l) rest c.in_ok-put_documents.ensures.fits in
     last_block c.args.positions c.args.postings.now.items c.args.places.now.items c.loop-from.postings.items c.loop-from.blocks.items c.loop-from.places.items c.put_documents-2.new.blocks.items c.put_documents-2.new.places.items

@@ -1,5 +1,5 @@
-use Rattle.std.proofs.Common.{◌<◌, List, arith, length}
-use Rattle.term_postings.specs.Rows.{lent_one, lent}
+use Rattle.std.proofs.Common.{◌<◌, arith, length}
+use Rattle.term_postings.specs.Rows.{lent}
 use Rattle.term_postings.proofs.Puts.{one_document, first_document_of, row_front}
 use Rattle.term_postings.proofs.encode.put_documents.Goals as goal
 
