@@ -8,3 +8,5 @@ pub mod Packs
 pub mod Readings
 pub mod Looked
 pub mod Areas
+pub mod Numbers
+pub mod Packing

@@ -1,10 +1,10 @@
 ghost use Rattle.std.specs.Prelude.{◌≡◌, ◌≤◌, ◌<◌, ◌+◌, ◌*◌, ◌/◌, ◌%◌, ◌^◌, ◌++◌, List, ℕ, Bool, length, drop, slice_get, slice_index, Some, IfOk, IsOkAnd, IsSome, IsTrue, Ok, IsUtf8, ◌↔◌, ◌-◌, false, [], ◌∷◌};
 ghost use Rattle.std.specs.List.{flat_map, AllByRecursion};
 ghost use Rattle.byte_fields.specs.Spelling.{byte_string};
-ghost use Rattle.fast_fields.specs.Packed.{bit};
 ghost use Rattle.fast_fields.specs.Columns.{has_texts, texts_bytes};
 ghost use Rattle.fast_fields.specs.Reading.{Area, Gives, area_at, behind_texts, piece_at, width_at};
 
+use crate::packed::bits_from;
 use byte_fields::{Corrupt, take_bytes, take_eight, take_four, take_text, take_varint};
 use doc_value::{Field, Kind};
 
@@ -170,13 +170,7 @@ impl<'a> Column<'a> {
         ensures exact { result ≡ bits_at self.now.width self.now.packed.now (self.now.width * place) }
     {
         let start = u64::from(self.width) * u64::from(place);
-        let mut value = 0u64;
-        for step in 0..self.width {
-            let low = self.width - 1 - step;
-            let next = bit_at(self.packed, (start + u64::from(low)) as usize);
-            value = value.wrapping_mul(2).wrapping_add(next);
-        }
-        value
+        bits_from(self.packed, start as usize, self.width)
     }
 
     // The document of a place.
@@ -304,12 +298,4 @@ fn take_width(bytes: &[u8], at: usize) -> Result<(u8, usize), Corrupt>
         return Err(Corrupt { at });
     }
     Ok((width, at + 1))
-}
-
-// A bit of some bytes, the low bits of each first.
-fn bit_at(bytes: &[u8], number: usize) -> u64
-    requires { number < 8 * length bytes.now }
-    ensures { result ≡ bit (slice_index bytes.now (number / 8)) (number % 8) }
-{
-    u64::from(bytes[number / 8]) / (1 << (number % 8)) % 2
 }

@@ -1,12 +1,13 @@
 ghost use Rattle.std.specs.Prelude.{◌≡◌, ◌≤◌, ◌<◌, ◌+◌, ◌-◌, ◌*◌, ◌^◌, ◌++◌, List, ℕ, IfOk, OnOk, length, map};
 ghost use Rattle.std.specs.List.{AllByRecursion};
 ghost use Rattle.fast_fields.specs.Columns.{AreRows, Fits, IsColumn, IsSpelled, numbers, least_of, greatest_of, texts_bytes, documents_bytes};
-ghost use Rattle.fast_fields.specs.Packed.{IsWidth, IsPacked, bit, packed_bit};
+ghost use Rattle.fast_fields.specs.Packed.{AreNarrow, IsWidth, IsPacked};
 ghost use Rattle.fast_fields.specs.Texts.{texts_in};
 
 use crate::ColumnList;
 use crate::column::has_texts;
 use crate::entries::{Entry, entries_of};
+use crate::packed::{Held, put_last, put_number};
 use crate::texts::texts_of;
 use byte_fields::{Bytes, put_bytes, put_eight, put_four, put_varint};
 use doc_value::Field;
@@ -104,44 +105,14 @@ fn width_of(number: u64) -> u8
 // Puts the numbers less the least one, each in so many bits.
 fn put_packed(out: &mut Vec<u8>, entries: &[Entry], least: u64, width: u8) -> Result<(), AllocError>
     requires width { width ≤ 64 }
-    requires few { length entries.now < 2 ^ 32 }
+    requires narrow { AreNarrow width (map (λ n. n - least) (numbers entries.now)) }
     ensures { OnOk result ((packed : List ℕ) × (out.new.items ≡ out.old.items ++ packed) × IsPacked width (map (λ n. n - least) (numbers entries.now)) packed) }
 {
-    let size = (usize::from(width) * entries.len() + 7) / 8;
-    for number in 0..size {
-        out.push(byte_of(entries, least, width, number))?;
+    let mut held = Held { bits: 0, count: 0 };
+    for entry in entries {
+        held = put_number(out, held, number_less(entry, least), width)?;
     }
-    Ok(())
-}
-
-// One byte of the packed numbers.
-fn byte_of(entries: &[Entry], least: u64, width: u8, number: usize) -> u8
-    requires width { width ≤ 64 }
-    requires few { length entries.now < 2 ^ 32 }
-    requires place { number < 2 ^ 40 }
-    ensures { (k : ℕ) → k < 8 → bit result k ≡ packed_bit width (map (λ n. n - least) (numbers entries.now)) (8 * number + k) }
-{
-    let mut byte = 0u8;
-    for step in 0..8u8 {
-        let next = bit_of(entries, least, width, 8 * number + usize::from(7 - step));
-        byte = byte.wrapping_mul(2).wrapping_add(next);
-    }
-    byte
-}
-
-// One bit of the packed numbers.
-fn bit_of(entries: &[Entry], least: u64, width: u8, place: usize) -> u8
-    requires width { width ≤ 64 }
-    requires few { length entries.now < 2 ^ 32 }
-    ensures value { result ≡ packed_bit width (map (λ n. n - least) (numbers entries.now)) place }
-    ensures small { result < 2 }
-{
-    let width = usize::from(width);
-    if place >= width * entries.len() {
-        return 0;
-    }
-    let number = number_less(&entries[place / width], least);
-    (number / (1 << (place % width)) % 2) as u8
+    put_last(out, held)
 }
 
 fn number_less(entry: &Entry, least: u64) -> u64

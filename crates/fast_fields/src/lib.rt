@@ -4,6 +4,7 @@
 mod column;
 mod encode;
 mod entries;
+mod packed;
 mod rows;
 mod texts;
 

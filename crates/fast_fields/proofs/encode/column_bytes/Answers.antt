@@ -3,7 +3,7 @@ use Rattle.byte_fields.specs.Spelling.{varint, eight}
 use Rattle.fast_fields.specs.Packed.{IsWidth, IsPacked}
 use Rattle.fast_fields.specs.Columns.{numbers, least_of, greatest_of, texts_bytes, documents_bytes}
 use Rattle.fast_fields.specs.Texts.{texts_in}
-use Rattle.fast_fields.proofs.Packs.{least_greatest, parts_put}
+use Rattle.fast_fields.proofs.Packs.{are_narrow, least_greatest, parts_put}
 use Rattle.fast_fields.proofs.encode.column_bytes.Goals as goal
 
 pub overflow_sub-greatest : goal.overflow_sub-greatest
@@ -25,3 +25,6 @@ returns c =
           (subst (λ (n : ℕ). IsWidth (c.greatest.result - n) c.width_of-width.result) c.least-least.ensures c.width_of-width.ensures.width);
       packed_are = subst (λ (k : ℕ). IsPacked c.width_of-width.result (map (λ (n : ℕ). n - k) (numbers c.args.entries.now)) p.0) c.least-least.ensures p.2;
     }
+
+pub put_packed-requires-clause-narrow : goal.put_packed-requires-clause-narrow
+put_packed-requires-clause-narrow c = are_narrow c.args.entries.now c.least-least.result c.greatest.result c.width_of-width.result c.width_of-width.ensures.width c.greatest.ensures
