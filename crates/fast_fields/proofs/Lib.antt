@@ -10,3 +10,4 @@ pub mod Looked
 pub mod Areas
 pub mod Numbers
 pub mod Packing
+pub mod Below

@@ -12,7 +12,7 @@ pub returns : goal.returns
 returns c =
     let rows = c.as_slice-rows.ensures in
     let loans = c.in_ok-texts.texts.items in
-    let texts = subst (λ (r : List ColumnRow). AreTexts (cells r) (texts_in c.in_ok-texts.texts.items)) rows c.in_ok-texts.ensures in
+    let texts = subst (λ (r : List ColumnRow). AreTexts (cells r) (texts_in c.in_ok-texts.texts.items)) rows c.in_ok-texts.ensures.texts in
     let entries = subst (λ (l : List (Bor (List ℕ))). AreEntries (texts_in l) (cells c.args.values.now) c.in_ok-entries.entries.items) c.deref.ensures.value
     (subst (λ (r : List ColumnRow). AreEntries (texts_in c.deref.result.now) (cells r) c.in_ok-entries.entries.items) rows c.in_ok-entries.ensures.0) in
     let count : length (texts_in c.in_ok-texts.texts.items) ≡ length c.in_ok-texts.texts.items = length-map c.in_ok-texts.texts.items (λ (b : Bor (List ℕ)). b.now) in
