@@ -6,6 +6,3 @@ pub mod dates;
 
 pub use clock::{Clock, ScriptClock};
 pub use dates::{DateError, print_rfc3339, read_rfc3339, read_unix};
-
-#[cfg(test)]
-mod tests;

@@ -2,7 +2,5 @@
 #![tactic(auto)]
 
 pub mod tasks;
-#[cfg(test)]
-mod tests;
 
 pub use tasks::{Task, TaskError, Tasks};

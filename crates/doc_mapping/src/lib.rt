@@ -11,6 +11,3 @@ mod walk;
 
 pub use accepting::{MAX_LEVELS, MAX_RECORD, accept};
 pub use reject::Reject;
-
-#[cfg(test)]
-mod tests;

@@ -11,6 +11,3 @@ mod texts;
 pub use column::Column;
 pub use encode::encode_column;
 pub use rows::{ColumnList, ColumnRow};
-
-#[cfg(test)]
-mod tests;

@@ -21,6 +21,3 @@ pub use config::{Formats, IndexConfig, Mode, Policy};
 pub use config_error::ConfigError;
 pub use lists::{FieldFormats, FieldNumbers};
 pub use reading::read_config;
-
-#[cfg(test)]
-mod tests;

@@ -25,6 +25,3 @@ pub use keys::{meta_key, split_key};
 pub use place::Place;
 pub use reading::decode_entry;
 pub use writing::encode_entry;
-
-#[cfg(test)]
-mod tests;

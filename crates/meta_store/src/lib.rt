@@ -7,8 +7,6 @@ pub mod laws;
 pub mod meta;
 pub mod refusal;
 mod spans;
-#[cfg(test)]
-mod tests;
 
 pub use config::{Config, Reading, Settings};
 pub use meta::Meta;

@@ -17,6 +17,3 @@ pub use memory::MemoryStore;
 pub use plan::Landing;
 pub use steady::SteadyStore;
 pub use store::{CreateError, GetError, ListError, ObjectStore, Piece};
-
-#[cfg(test)]
-mod tests;

@@ -4,8 +4,6 @@
 pub mod matching;
 pub mod pruning;
 pub mod query;
-#[cfg(test)]
-mod tests;
 pub mod tokens;
 pub mod values;
 

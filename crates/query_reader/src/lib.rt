@@ -12,8 +12,6 @@ mod refusal;
 mod resolve;
 mod scan;
 mod special;
-#[cfg(test)]
-mod tests;
 mod texts;
 mod tree;
 

@@ -5,8 +5,6 @@ pub mod delta;
 pub mod ledger;
 pub mod partition;
 pub mod span;
-#[cfg(test)]
-mod tests;
 
 pub use delta::{Delta, Part, StaleDelta};
 pub use ledger::{Checkpoint, Ledger};

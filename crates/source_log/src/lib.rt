@@ -10,6 +10,3 @@ pub use faulty::FaultyLog;
 pub use lists::{Partitions, RecordList, Records};
 pub use log::{ReadError, SourceLog};
 pub use memory::{MemoryLog, PartitionLog};
-
-#[cfg(test)]
-mod tests;

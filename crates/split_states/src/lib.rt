@@ -6,8 +6,6 @@ pub mod facts;
 pub mod numbers;
 pub mod refusal;
 pub mod rows;
-#[cfg(test)]
-mod tests;
 
 pub use answers::{may_mark, may_publish, may_raise, may_remove, may_replace, may_retire};
 pub use facts::{RowFacts, Times};

@@ -14,6 +14,3 @@ pub use dict::Dict;
 pub use index::{BlockIndex, BlockStart};
 pub use range::TermRange;
 pub use term::{Term, TermInfo, TermList};
-
-#[cfg(test)]
-mod tests;

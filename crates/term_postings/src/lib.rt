@@ -9,6 +9,3 @@ mod moves;
 pub use cursor::Cursor;
 pub use encode::encode_postings;
 pub use list::{Positions, Posting, PostingList};
-
-#[cfg(test)]
-mod tests;

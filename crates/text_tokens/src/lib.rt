@@ -3,8 +3,6 @@
 
 pub mod laws;
 pub mod runs;
-#[cfg(test)]
-mod tests;
 pub mod token_text;
 pub mod tokens;
 

@@ -1,0 +1,191 @@
+ghost use Rattle.std.specs.Prelude.{◌≡◌, IfOk};
+ghost use Rattle.doc_value.specs.declared.schema.Kind.TheVariants.{U64};
+
+use doc_value::{Field, Kind, Text, Tokenizer, Value, Values};
+use fast_fields::*;
+use std::alloc::{AllocError, Global};
+use std::test::Fail;
+
+fn field(alloc: Global, kind: Kind) -> Result<Field, AllocError> {
+    Ok(Field {
+        path: Text::from_str(alloc, "a")?,
+        kind,
+        fast: true,
+        indexed: false,
+        tag: false,
+        tokenizer: Tokenizer::Raw,
+        positions: false,
+    })
+}
+
+// The values 5, 7 of document 0 and 6 of document 2: two bits each, 0, 2 and 1 above the least.
+const NUMBERS: [u8; 23] = [
+    3, 0, 0, 0, 0, 0, 0, 0, 0, 2, 0, 0, 0, 5, 0, 0, 0, 0, 0, 0, 0, 2, 0x18,
+];
+
+// The texts `b` of document 1 and `a`, `b` of document 4.
+const TEXTS: [u8; 28] = [
+    3, 2, 1, 97, 1, 98, 1, 0, 0, 0, 4, 0, 0, 0, 4, 0, 0, 0, 0, 0, 0, 0, 0, 0, 0, 0, 1, 0x05,
+];
+
+#[test]
+fn numbers_of_documents(rt: HostRuntime) -> Result<(), Fail> {
+    let field = field(rt.alloc(), Kind::U64)?;
+    let (column, end) = Column::read(&field, &NUMBERS)?;
+    assert_eq!(rt; end, 23);
+    assert_eq!(rt; column.len(), 3);
+    assert_eq!(rt; column.values_of(0), (0, 2));
+    assert_eq!(rt; column.values_of(1), (2, 2));
+    assert_eq!(rt; column.value_at(0), Some(5));
+    assert_eq!(rt; column.value_at(1), None);
+    assert_eq!(rt; column.value_at(2), Some(6));
+    assert_eq!(rt; column.value_at(3), None);
+    assert_eq!(rt; column.least(), Some(5));
+    assert_eq!(rt; column.greatest(), Some(7));
+    assert_eq!(rt; column.text(0), None);
+    Ok(())
+}
+
+#[test]
+fn texts_by_their_ordinals(rt: HostRuntime) -> Result<(), Fail> {
+    let field = field(rt.alloc(), Kind::TextList)?;
+    let (column, end) = Column::read(&field, &TEXTS)?;
+    assert_eq!(rt; end, 28);
+    assert_eq!(rt; column.values_of(4), (1, 3));
+    assert_eq!(rt; column.value_at(1), Some(1));
+    assert_eq!(rt; column.value_at(4), Some(0));
+    assert_eq!(rt; column.text(0), Some("a"));
+    assert_eq!(rt; column.text(1), Some("b"));
+    assert_eq!(rt; column.text(2), None);
+    Ok(())
+}
+
+// The numbers -1 of document 0 and 1 of document 3, each above 2 ^ 63 by itself: two bits each, 0 and 2 above the least.
+const SIGNED: [u8; 19] = [
+    2, 0, 0, 0, 0, 3, 0, 0, 0, 0xff, 0xff, 0xff, 0xff, 0xff, 0xff, 0xff, 0x7f, 2, 0x08,
+];
+
+// True of the documents 1 and 2: no bits, since the least is the greatest.
+const TRUE: [u8; 18] = [2, 1, 0, 0, 0, 2, 0, 0, 0, 1, 0, 0, 0, 0, 0, 0, 0, 0];
+
+// False of document 0 and true of document 5, one bit each.
+const TRUTHS: [u8; 19] = [2, 0, 0, 0, 0, 5, 0, 0, 0, 0, 0, 0, 0, 0, 0, 0, 0, 1, 0x02];
+
+// The seconds 0 and 1 since 1970, of the documents 2 and 4.
+const SECONDS: [u8; 19] = [
+    2, 2, 0, 0, 0, 4, 0, 0, 0, 0, 0, 0, 0, 0, 0, 0, 0x80, 1, 0x02,
+];
+
+// The least and the greatest number of 64 bits, of the documents 0 and 1.
+const WIDE: [u8; 34] = [
+    2, 0, 0, 0, 0, 1, 0, 0, 0, 0, 0, 0, 0, 0, 0, 0, 0, 64, 0, 0, 0, 0, 0, 0, 0, 0, 0xff, 0xff,
+    0xff, 0xff, 0xff, 0xff, 0xff, 0xff,
+];
+
+const HALF: u64 = 1 << 63;
+
+#[test]
+fn columns_of_each_kind(rt: HostRuntime) -> Result<(), Fail> {
+    let table: [(Kind, &[u8], [Option<u64>; 6]); 5] = [
+        (
+            Kind::I64,
+            &SIGNED,
+            [Some(HALF - 1), None, None, Some(HALF + 1), None, None],
+        ),
+        (
+            Kind::Bool,
+            &TRUE,
+            [None, Some(1), Some(1), None, None, None],
+        ),
+        (
+            Kind::Bool,
+            &TRUTHS,
+            [Some(0), None, None, None, None, Some(1)],
+        ),
+        (
+            Kind::Datetime,
+            &SECONDS,
+            [None, None, Some(HALF), None, Some(HALF + 1), None],
+        ),
+        (
+            Kind::U64,
+            &WIDE,
+            [Some(0), Some(u64::MAX), None, None, None, None],
+        ),
+    ];
+    for (kind, bytes, expected) in &table {
+        let field = field(rt.alloc(), *kind)?;
+        let (column, end) = Column::read(&field, bytes)?;
+        assert_eq!(rt; end, bytes.len());
+        for (document, value) in expected.iter().enumerate() {
+            assert_eq!(rt; column.value_at(document as u32), *value);
+        }
+    }
+    Ok(())
+}
+
+#[test]
+fn cuts_are_refused(rt: HostRuntime) -> Result<(), Fail> {
+    let table: [(Kind, &[u8]); 7] = [
+        (Kind::U64, &NUMBERS),
+        (Kind::TextList, &TEXTS),
+        (Kind::I64, &SIGNED),
+        (Kind::Bool, &TRUE),
+        (Kind::Bool, &TRUTHS),
+        (Kind::Datetime, &SECONDS),
+        (Kind::U64, &WIDE),
+    ];
+    for (kind, bytes) in &table {
+        let field = field(rt.alloc(), *kind)?;
+        for cut in 0..bytes.len() {
+            assert!(rt; Column::read(&field, &bytes[..cut]).is_err());
+        }
+    }
+    Ok(())
+}
+
+#[test]
+fn a_column_without_values(rt: HostRuntime) -> Result<(), Fail> {
+    let numbers = field(rt.alloc(), Kind::U64)?;
+    let nothing = [0; 10];
+    let (column, end) = Column::read(&numbers, &nothing)?;
+    assert_eq!(rt; end, 10);
+    assert!(rt; column.is_empty());
+    assert_eq!(rt; column.least(), None);
+    assert_eq!(rt; column.greatest(), None);
+    Ok(())
+}
+
+#[test]
+fn numbers_are_encoded(rt: HostRuntime) -> Result<(), Fail> {
+    let alloc = rt.alloc();
+    let field = field_of_numbers(alloc)?;
+    let mut list = ColumnList::vacant(alloc);
+    let mut first = Values::one(alloc, Value::U64(5))?;
+    first.push(Value::U64(7))?;
+    list.push(ColumnRow {
+        document: 0,
+        values: first,
+    })?;
+    list.push(ColumnRow {
+        document: 2,
+        values: Values::one(alloc, Value::U64(6))?,
+    })?;
+    let bytes = encode_column(alloc, &field, &list)?;
+    assert_eq!(rt; bytes.as_slice(), NUMBERS.as_slice());
+    Ok(())
+}
+
+fn field_of_numbers(alloc: Global) -> Result<Field, AllocError>
+    ensures { IfOk result (λ f. f.kind ≡ U64) }
+{
+    Ok(Field {
+        path: Text::from_str(alloc, "a")?,
+        kind: Kind::U64,
+        fast: true,
+        indexed: false,
+        tag: false,
+        tokenizer: Tokenizer::Raw,
+        positions: false,
+    })
+}
