@@ -11,3 +11,5 @@ pub mod Areas
 pub mod Numbers
 pub mod Packing
 pub mod Below
+pub mod Bounds
+pub mod Walked

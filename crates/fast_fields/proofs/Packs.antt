@@ -81,8 +81,8 @@ least_greatest [] = omega arith
 least_greatest (x ∷ xs) = omega (arith, least_le (x ∷ xs) 0 x refl, greatest_ge (x ∷ xs) 0 x refl)
 
 -- the parts that were put one behind the other
-pub parts_put : (a b c d e f n t s l p : List ℕ) (w : ℕ) → a ≡ [] ++ n → b ≡ a ++ t → c ≡ b ++ s → d ≡ c ++ l → e ≡ d ++ w ∷ [] → f ≡ e ++ p → f ≡ n ++ (t ++ (s ++ (l ++ (w ∷ p))))
-parts_put a b c d e f n t s l p w a_is b_is c_is d_is e_is f_is =
+pub parts_put : (start a b c d e f n t s l p : List ℕ) (w : ℕ) → a ≡ start ++ n → b ≡ a ++ t → c ≡ b ++ s → d ≡ c ++ l → e ≡ d ++ w ∷ [] → f ≡ e ++ p → f ≡ start ++ (n ++ (t ++ (s ++ (l ++ (w ∷ p)))))
+parts_put start a b c d e f n t s l p w a_is b_is c_is d_is e_is f_is =
     f_is ∙ ap (λ (x : List ℕ). x ++ p) (e_is ∙ ap (λ (x : List ℕ). x ++ w ∷ []) (d_is ∙ ap (λ (x : List ℕ). x ++ l) (c_is ∙ ap (λ (x : List ℕ). x ++ s) (b_is ∙ ap (λ (x : List ℕ). x ++ t) a_is)))) ∙ simp append_assoc
 
 of_kind : (kind : Kind) (t : List ℕ) → has_texts kind ≡ false → IsOfKind kind (values.Text t) → ⊥

@@ -1,6 +1,6 @@
 ghost use Rattle.std.specs.Prelude.{◌≡◌, ◌≤◌, ◌<◌, ◌+◌, ◌-◌, ◌*◌, ◌^◌, ◌++◌, List, ℕ, IfOk, OnOk, length, map};
 ghost use Rattle.std.specs.List.{AllByRecursion};
-ghost use Rattle.fast_fields.specs.Columns.{AreRows, Fits, IsColumn, IsSpelled, numbers, least_of, greatest_of, texts_bytes, documents_bytes};
+ghost use Rattle.fast_fields.specs.Columns.{AreRows, Fits, IsColumn, IsSpelled, has_texts, numbers, least_of, greatest_of, texts_bytes, documents_bytes};
 ghost use Rattle.fast_fields.specs.Packed.{AreNarrow, IsWidth, IsPacked};
 ghost use Rattle.fast_fields.specs.Texts.{texts_in};
 
@@ -21,30 +21,43 @@ pub fn encode_column(alloc: Global, field: &Field, values: &ColumnList) -> Resul
     let rows = values.as_slice();
     let texts = texts_of(alloc, rows)?;
     let entries = entries_of(alloc, rows, &texts)?;
-    let bytes = column_bytes(alloc, has_texts(field.kind), &texts, &entries)?;
+    let mut bytes = Vec::new(alloc);
+    put_parts(&mut bytes, has_texts(field.kind), &texts, &entries)?;
     Ok(Bytes::from_vec(bytes))
 }
 
-// The bytes of a column of these texts and entries.
-fn column_bytes(
-    alloc: Global,
+/// Appends a column of these values to an area. For a text field they are ordinals among its distinct texts, which rise.
+pub fn put_column(
+    area: &mut Vec<u8>,
+    field: &Field,
+    texts: &[&str],
+    entries: &[Entry],
+) -> Result<(), AllocError>
+    requires { Fits entries.now }
+    ensures { OnOk result ((column : List ℕ) × (area.new.items ≡ area.old.items ++ column) × IsSpelled (has_texts field.now.kind) (texts_in texts.now) entries.now column) }
+{
+    put_parts(area, has_texts(field.kind), texts, entries)
+}
+
+// Appends the parts of a column of these texts and entries.
+fn put_parts(
+    out: &mut Vec<u8>,
     texted: bool,
     texts: &[&str],
     entries: &[Entry],
-) -> Result<Vec<u8>, AllocError>
+) -> Result<(), AllocError>
     requires { Fits entries.now }
-    ensures { IfOk result (λ v. IsSpelled texted (texts_in texts.now) entries.now v.items) }
+    ensures { OnOk result ((column : List ℕ) × (out.new.items ≡ out.old.items ++ column) × IsSpelled texted (texts_in texts.now) entries.now column) }
 {
     let least = least(entries);
     let width = width_of(greatest(entries) - least);
-    let mut bytes = Vec::new(alloc);
-    put_varint(&mut bytes, entries.len() as u64)?;
-    put_texts(&mut bytes, texted, texts)?;
-    put_documents(&mut bytes, entries)?;
-    put_eight(&mut bytes, least)?;
-    bytes.push(width)?;
-    put_packed(&mut bytes, entries, least, width)?;
-    Ok(bytes)
+    put_varint(out, entries.len() as u64)?;
+    put_texts(out, texted, texts)?;
+    put_documents(out, entries)?;
+    put_eight(out, least)?;
+    out.push(width)?;
+    put_packed(out, entries, least, width)?;
+    Ok(())
 }
 
 fn put_texts(out: &mut Vec<u8>, texted: bool, texts: &[&str]) -> Result<(), AllocError>

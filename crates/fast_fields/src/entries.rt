@@ -8,7 +8,7 @@ use crate::texts::ordinal;
 use doc_value::Value;
 use std::alloc::{AllocError, Global};
 
-/// A value of a column: its document and a number.
+/// A value of a column: its document and a number. A U64 is itself, a signed value is `turned`, a truth is 0 or 1, a text is its ordinal.
 #[derive(Clone, Copy, Debug)]
 pub struct Entry {
     pub document: u32,
@@ -81,8 +81,8 @@ fn number_of(value: &Value, texts: &[&str]) -> u64
     }
 }
 
-// A signed number with the top one of its 64 bits turned.
-fn turned(number: i64) -> u64
+/// A signed number with the top one of its 64 bits turned, so that the numbers rise as the signed ones do: what a column has of an I64 or a datetime.
+pub fn turned(number: i64) -> u64
     ensures { result ≡ turned number }
 {
     if number >= 0 {
