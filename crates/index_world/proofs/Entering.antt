@@ -162,9 +162,6 @@ staged_row h m n may = by (config_of reads h) may
 staged_no : Staged ≡ Published → ⊥
 staged_no e = cc
 
-published_staged : Published ≡ Staged → ⊥
-published_staged e = cc
-
 -- what a Publish needs is that its row is sound
 publish_sound : (kept : State) (entries : List Entry) (log : Log) (n : ℕ) (row : Row) → Legal reads (history entries) → StandsIn (rows (history entries)) n row → row.state ≡ Staged →
     row_at (rows (history entries)) n ≡ Some row → MayPublish kept entries log n → IsRowSound kept (ledger (history entries)).tasks log (published row)
