@@ -1,7 +1,6 @@
 -- Reading a column from left to right, with the first fault that is met.
-use Rattle.std.specs.Prelude.{◌≡◌, ℕ, zero, suc, ◌+◌, ◌-◌, ◌*◌, ◌/◌, ◌^◌, Bool, true, false, List, [], length, take, drop, Result, Ok, Err, nat_lt, nat_le, slice_index, if◌then◌else◌}
+use Rattle.std.specs.Prelude.{ℕ, zero, suc, ◌+◌, ◌-◌, ◌*◌, ◌/◌, Bool, true, false, List, [], length, take, drop, Result, Ok, nat_le, slice_index, if◌then◌else◌}
 use Rattle.byte_fields.specs.declared.corrupt.Corrupt.{Corrupt}
-use Rattle.byte_fields.specs.declared.field_error.FieldError.{FieldError}
 use Rattle.byte_fields.specs.Steps.{◌>>=◌, corrupt_at, count_at, field, piece_at}
 use Rattle.byte_fields.specs.Reading.{varint_at, text_at, eight_at}
 use Rattle.doc_value.specs.declared.schema.Kind.{Kind}
