@@ -2,7 +2,7 @@
 use Rattle.std.proofs.Common.{◌≡◌, subst, ℕ, zero, suc, ◌+◌, ◌-◌, ◌*◌, ◌/◌, ◌%◌, ◌^◌, ◌<◌, ◌≤◌, List, length, get_or, refl, sym, ◌∙◌, ap, arith, inl, inr}
 use Rattle.std.proofs.lemmas.Bool.{cases_lt, lt-ltb}
 use Rattle.std.proofs.lemmas.Nat.{div-mul-add, pow-add}
-use Rattle.std.proofs.Math.Nat.{div-one, div-div-eq-div-mul, mul-add-mod_self_right, mod-eq_of_lt, mul-le-mul_left, div-eq_of_lt, div-le_self, pow-le-pow_right}
+use Rattle.std.proofs.Math.Nat.{div-one, div-div-eq-div-mul, mul-add-mod_self_right, mod-eq_of_lt, mul-le-mul_left, div-eq_of_lt, pow-le-pow_right}
 use Rattle.fast_fields.specs.Packed.{bit, IsPacked, IsWidth}
 use Rattle.fast_fields.specs.Lookups.{bits_at}
 

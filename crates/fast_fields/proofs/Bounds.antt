@@ -1,5 +1,5 @@
 -- Places at which the documents pass one, over a column of some entries.
-use Rattle.std.proofs.Common.{◌≡◌, ℕ, ◌+◌, ◌-◌, ◌*◌, ◌^◌, ◌<◌, ◌≤◌, List, [], ◌∷◌, length, take, drop, Some, refl, sym, ◌∙◌, ap, subst, arith, inl, inr}
+use Rattle.std.proofs.Common.{◌≡◌, ℕ, ◌+◌, ◌-◌, ◌*◌, ◌^◌, ◌<◌, ◌≤◌, List, [], ◌∷◌, take, drop, Some, refl, ◌∙◌, ap, subst, arith, inl, inr}
 use Rattle.std.specs.Prelude.{slice_get}
 use Rattle.std.specs.Int.{w32, from_le_bytes}
 use Rattle.std.proofs.lemmas.Bool.{cases_lt}
@@ -48,9 +48,9 @@ count_more low high [] le = omega arith
 count_more low high (x ∷ xs) le = elim (cases_lt x.document low) [
   | inl lt ↦ omega (arith, count_one low x xs lt, count_one high x xs (omega arith), count_more low high xs le)
   | inr up ↦ elim (cases_lt x.document high) [
-      | inl below ↦ omega (arith, count_none low x xs up, count_one high x xs below, count_more low high xs le)
-      | inr above ↦ omega (arith, count_none low x xs up, count_none high x xs above, count_more low high xs le)
-    ]
+    | inl below ↦ omega (arith, count_none low x xs up, count_one high x xs below, count_more low high xs le)
+    | inr above ↦ omega (arith, count_none low x xs up, count_none high x xs above, count_more low high xs le)
+  ]
 ]
 
 pub next_counts : (c : Column) (texts : List (List ℕ)) (es : List Entry) (passed document from place : ℕ) → Holds c texts es → passed ≤ document → from ≡ count_below passed es → IsNext c document from place → place ≡ count_below document es

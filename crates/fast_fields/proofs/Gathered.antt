@@ -1,13 +1,10 @@
 -- Texts of cells, gathered and made distinct.
-use Rattle.std.proofs.Common.{◌≡◌, ℕ, zero, suc, ◌+◌, ◌-◌, ◌<◌, ◌≤◌, Bool, true, false, List, [], ◌∷◌, ◌++◌, length, map, get_or, eqb, eq-eqb, Some, None, refl, sym, ◌∙◌, ap, subst, arith, inl, inr}
-use Rattle.std.specs.Prelude.{slice_get, IsUtf8, All, ◌⊎◌}
+use Rattle.std.proofs.Common.{◌≡◌, ℕ, zero, suc, ◌+◌, ◌-◌, ◌<◌, true, false, List, [], ◌∷◌, ◌++◌, length, get_or, Some, refl, sym, ◌∙◌, ap, subst, arith, inl, inr}
+use Rattle.std.specs.Prelude.{slice_get, IsUtf8, ◌⊎◌}
 use Rattle.std.specs.List.{AllByRecursion}
 use Rattle.std.specs.Borrow.{Bor}
-use Rattle.std.specs.declared.cmp.Ordering.{Ordering}
-use Rattle.std.specs.declared.cmp.Ordering.TheVariants.{Less, Equal, Greater}
-use Rattle.std.specs.Ordering.{is_lt, nat_cmp}
-use Rattle.std.specs.Cmp.Lexicographic.{slice_cmp, pointwise, nat_list_cmp_total}
-use Rattle.std.proofs.lemmas.Bool.{cases_eq, ne_eqb}
+use Rattle.std.specs.Ordering.{nat_cmp}
+use Rattle.std.specs.Cmp.Lexicographic.{slice_cmp}
 use Rattle.std.proofs.lemmas.List.{map_push, length-map}
 use Rattle.doc_value.specs.declared.doc.Value.{Value}
 use Rattle.doc_value.specs.declared.doc.Value.TheVariants as values
@@ -17,7 +14,6 @@ use Rattle.fast_fields.proofs.Below.{below_then, neither_below, among_left, amon
 use Rattle.std.specs.Prelude.{Contains}
 use Rattle.std.specs.List.Sorted.{IsSorted}
 use Rattle.std.proofs.Common.{take}
-
 use Rattle.fast_fields.specs.declared.rows.ColumnRow.{ColumnRow}
 
 pub some_left : (xs ys : List Cell) (t : List ℕ) → SomeText xs t → SomeText (xs ++ ys) t
@@ -108,7 +104,7 @@ OneOfRows rows all t = SomeText (cells rows) t ⊎ Contains (texts_in all) t
 some_parts : (xs ys : List Cell) (t : List ℕ) → SomeText (xs ++ ys) t → SomeText xs t ⊎ SomeText ys t
 some_parts [] ys t h = inr h
 some_parts (x ∷ xs) ys t (inl e) = inl (inl e)
-some_parts (x ∷ xs) ys t (inr h) = elim (some_parts xs ys t h) [ | inl p ↦ inl (inr p) | inr q ↦ inr q ]
+some_parts (x ∷ xs) ys t (inr h) = elim (some_parts xs ys t h) [ inl p ↦ inl (inr p) | inr q ↦ inr q ]
 
 pub row_gathered : (rest behind : List ColumnRow) (r : ColumnRow) (vs : List Value) (all next : List (Bor (List ℕ))) (t : List ℕ) → rest ≡ r ∷ behind → vs ≡ r.values
     → (OneOf r.document vs all t → Contains (texts_in next) t) → OneOfRows rest all t → OneOfRows behind next t
@@ -116,9 +112,9 @@ row_gathered rest behind r vs all next t is same add h =
     let first : SomeText (cells_of r.document r.values ++ cells behind) t ⊎ Contains (texts_in all) t = subst (λ (l : List ColumnRow). SomeText (cells l) t ⊎ Contains (texts_in all) t) is h in
     elim first [
       | inl some ↦ elim (some_parts (cells_of r.document r.values) (cells behind) t some) [
-          | inl here ↦ inr (add (inl (subst (λ (l : List Value). SomeText (cells_of r.document l) t) (sym same) here)))
-          | inr later ↦ inl later
-        ]
+        | inl here ↦ inr (add (inl (subst (λ (l : List Value). SomeText (cells_of r.document l) t) (sym same) here)))
+        | inr later ↦ inl later
+      ]
       | inr there ↦ inr (add (inr there))
     ]
 

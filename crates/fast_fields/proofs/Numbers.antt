@@ -1,9 +1,9 @@
 -- Bytes as one number, and its bits.
-use Rattle.std.proofs.Common.{◌≡◌, ℕ, zero, suc, ◌+◌, ◌-◌, ◌*◌, ◌/◌, ◌%◌, ◌^◌, ◌<◌, ◌≤◌, List, [], ◌∷◌, ◌++◌, length, take, drop, get_or, refl, sym, ◌∙◌, ap, subst, arith, inl, inr, length-append, ltb, cond, true, false}
+use Rattle.std.proofs.Common.{◌≡◌, ℕ, zero, suc, ◌+◌, ◌-◌, ◌*◌, ◌/◌, ◌%◌, ◌^◌, ◌<◌, ◌≤◌, List, [], ◌∷◌, ◌++◌, length, take, drop, get_or, refl, sym, ◌∙◌, ap, subst, arith, inl, inr}
 use Rattle.std.specs.Int.{w64, from_le_bytes}
 use Rattle.std.proofs.Common.{bit_and, get_or-drop, length-drop, drop-cons}
-use Rattle.std.proofs.lemmas.Bool.{cases_lt, lt-ltb, le-ltb}
-use Rattle.std.proofs.lemmas.Nat.{pow-add, shr-shr, mod-pow-add, mod_low, shr_high, pow_pos, field_of, div-mul-add, mod-mul-add, and_mask}
+use Rattle.std.proofs.lemmas.Bool.{cases_lt}
+use Rattle.std.proofs.lemmas.Nat.{pow-add, shr-shr, mod-pow-add, shr_high, pow_pos, and_mask}
 use Rattle.std.proofs.lemmas.List.{take-append-drop, take_all, drop_all, length-take-le}
 use Rattle.std.proofs.Math.Nat.{div-one, div-eq_of_lt, mul-add-mod_self_right, add-mul-div_right, pow-le-pow_right}
 use Rattle.fast_fields.specs.Packed.{bit, number}
@@ -130,7 +130,7 @@ from_byte bs at s fits le =
     let size : length (take at bs) ≡ at = length-take-le at bs le in
     let low : number (take at bs) < 2 ^ (8 * at) = subst (λ (n : ℕ). number (take at bs) < 2 ^ (8 * n)) size (number_small (take at bs) (bytes_taken at bs fits)) in
     let parts : number bs ≡ number (take at bs) + 2 ^ (8 * at) * number (drop at bs) =
-        ap (λ (l : List ℕ). number l) (sym (take-append-drop at bs)) ∙ number-append (take at bs) (drop at bs) ∙ ap (λ (n : ℕ). number (take at bs) + 2 ^ (8 * n) * number (drop at bs)) size in
+    ap (λ (l : List ℕ). number l) (sym (take-append-drop at bs)) ∙ number-append (take at bs) (drop at bs) ∙ ap (λ (n : ℕ). number (take at bs) + 2 ^ (8 * n) * number (drop at bs)) size in
     let turned : number bs ≡ number (drop at bs) * 2 ^ (8 * at) + number (take at bs) = omega (arith, parts) in
     sym (shr-shr (number bs) (8 * at) s) ∙ ap (λ (n : ℕ). n / 2 ^ (8 * at) / 2 ^ s) turned ∙ ap (λ (n : ℕ). n / 2 ^ s) (shr_high (number (drop at bs)) (8 * at) (number (take at bs)) low)
 
@@ -168,7 +168,7 @@ read_in_nine bs at s w window start fits lt shift narrow start_is is =
     let low : (window + 2 ^ 64 * number (drop 8 (drop at bs))) / 2 ^ s ≡ window / 2 ^ s + 2 ^ (64 - s) * number (drop 8 (drop at bs)) = divided window (number (drop 8 (drop at bs))) 64 s (omega arith) in
     let power : 2 ^ (64 - s) * 256 ≡ 2 ^ (72 - s) = sym (ap (λ (n : ℕ). 2 ^ n) (omega arith) ∙ pow-add 2 (64 - s) 8) in
     let regrouped : window / 2 ^ s + 2 ^ (64 - s) * (get_or bs (at + 8) 0 + 256 * number (drop 9 (drop at bs)))
-        ≡ (window / 2 ^ s + get_or bs (at + 8) 0 * 2 ^ (64 - s)) + 2 ^ (72 - s) * number (drop 9 (drop at bs)) = omega (arith, ap (λ (p : ℕ). p * number (drop 9 (drop at bs))) power) in
+    ≡ (window / 2 ^ s + get_or bs (at + 8) 0 * 2 ^ (64 - s)) + 2 ^ (72 - s) * number (drop 9 (drop at bs)) = omega (arith, ap (λ (p : ℕ). p * number (drop 9 (drop at bs))) power) in
     let dropped = above_none (window / 2 ^ s + get_or bs (at + 8) 0 * 2 ^ (64 - s)) (number (drop 9 (drop at bs))) (72 - s) w (omega arith) in
     wrapped (window / 2 ^ s) (get_or bs (at + 8) 0 * 2 ^ (64 - s)) w narrow
     ∙ sym (ap (λ (n : ℕ). bits_at w bs n) start_is ∙ bits_from_byte w bs at s fits (omega arith) ∙ ap (λ (n : ℕ). n / 2 ^ s % 2 ^ w) parts ∙ ap (λ (n : ℕ). n % 2 ^ w) low

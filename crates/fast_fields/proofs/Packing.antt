@@ -1,7 +1,6 @@
 -- Numbers that are packed one behind the other.
 use Rattle.std.proofs.Common.{◌≡◌, ℕ, zero, suc, ◌+◌, ◌-◌, ◌*◌, ◌/◌, ◌%◌, ◌^◌, ◌<◌, ◌≤◌, List, [], ◌∷◌, ◌++◌, length, take, drop, get_or, refl, sym, ◌∙◌, ap, subst, arith, inl, inr, length-append, append_assoc}
 use Rattle.std.specs.Int.{w64, to_le_bytes, byte_at}
-use Rattle.std.specs.List.{AllByRecursion}
 use Rattle.std.proofs.lemmas.Bool.{cases_lt, lt-ltb, le-ltb}
 use Rattle.std.proofs.lemmas.Nat.{pow-add, pow_pos, field_of, mul-le, shr_below, mod_low, from_le_bytes-to_le_bytes_8}
 use Rattle.std.proofs.lemmas.List.{append-nil, take-append-drop, take_more, take_all, length-take-le}
@@ -119,7 +118,7 @@ one_number start out w ns i held bits n h lt is narrow =
     let more : take (i + 1) ns ≡ take i ns ++ n ∷ [] = take_more ns i 0 lt ∙ ap (λ (k : ℕ). take i ns ++ k ∷ []) (sym is) in
     let size : length (take i ns) ≡ i = length-take-le i ns (omega arith) in
     let pushed : packed_number w (take (i + 1) ns) ≡ packed_number w (take i ns) + 2 ^ (w * i) * n =
-        ap (λ (l : List ℕ). packed_number w l) more ∙ packed_number-push w (take i ns) n ∙ ap (λ (k : ℕ). packed_number w (take i ns) + 2 ^ (w * k) * n) size in
+    ap (λ (l : List ℕ). packed_number w l) more ∙ packed_number-push w (take i ns) n ∙ ap (λ (k : ℕ). packed_number w (take i ns) + 2 ^ (w * k) * n) size in
     let power : 2 ^ (w * i) ≡ 2 ^ (8 * length h.packed) * 2 ^ bits = ap (λ (k : ℕ). 2 ^ k) (sym h.bits_are) ∙ pow-add 2 (8 * length h.packed) bits in
     let product : 2 ^ (w * i) * n ≡ 2 ^ (8 * length h.packed) * 2 ^ bits * n = ap (λ (p : ℕ). p * n) power in
     let up : (n + 1) * 2 ^ bits ≤ 2 ^ w * 2 ^ bits = mul-le (n + 1) (2 ^ bits) (2 ^ w) (2 ^ bits) (omega arith) (omega arith) in
@@ -160,10 +159,10 @@ eight_put start out next w ns i held bits h full next_is =
     let bytes = to_le_bytes w64 (held % 2 ^ 64) in
     let value : number (to_le_bytes w64 (held % 2 ^ 64)) ≡ held % 2 ^ 64 = eight_is (held % 2 ^ 64) (omega arith) in
     let parts : number (h.packed ++ to_le_bytes w64 (held % 2 ^ 64)) ≡ number h.packed + 2 ^ (8 * length h.packed) * (held % 2 ^ 64) =
-        number-append h.packed (to_le_bytes w64 (held % 2 ^ 64)) ∙ ap (λ (n : ℕ). number h.packed + 2 ^ (8 * length h.packed) * n) value in
+    number-append h.packed (to_le_bytes w64 (held % 2 ^ 64)) ∙ ap (λ (n : ℕ). number h.packed + 2 ^ (8 * length h.packed) * n) value in
     let size : length (h.packed ++ to_le_bytes w64 (held % 2 ^ 64)) ≡ length h.packed + 8 = length-append h.packed (to_le_bytes w64 (held % 2 ^ 64)) in
     let power : 2 ^ (8 * length (h.packed ++ to_le_bytes w64 (held % 2 ^ 64))) ≡ 2 ^ (8 * length h.packed) * 2 ^ 64 =
-        ap (λ (n : ℕ). 2 ^ (8 * n)) size ∙ ap (λ (n : ℕ). 2 ^ n) (let spread : 8 * (length h.packed + 8) ≡ 8 * length h.packed + 64 = omega arith in spread) ∙ pow-add 2 (8 * length h.packed) 64 in
+    ap (λ (n : ℕ). 2 ^ (8 * n)) size ∙ ap (λ (n : ℕ). 2 ^ n) (let spread : 8 * (length h.packed + 8) ≡ 8 * length h.packed + 64 = omega arith in spread) ∙ pow-add 2 (8 * length h.packed) 64 in
     let product : 2 ^ (8 * length (h.packed ++ to_le_bytes w64 (held % 2 ^ 64))) * (held / 2 ^ 64) ≡ 2 ^ (8 * length h.packed) * 2 ^ 64 * (held / 2 ^ 64) = ap (λ (p : ℕ). p * (held / 2 ^ 64)) power in
     let joined : 2 ^ (8 * length h.packed) * (held % 2 ^ 64 + 2 ^ 64 * (held / 2 ^ 64)) ≡ 2 ^ (8 * length h.packed) * held = ap (λ (n : ℕ). 2 ^ (8 * length h.packed) * n) (mod-add-div held (2 ^ 64)) in
     let room : held < 2 ^ (bits - 64 + 64) = subst (λ (n : ℕ). held < 2 ^ n) (let back : bits ≡ bits - 64 + 64 = omega arith in back) h.small in
@@ -181,8 +180,8 @@ front_is n k few small narrow =
     let bytes = to_le_bytes w64 n in
     let size : length (take k (to_le_bytes w64 n)) ≡ k = length-take-le k (to_le_bytes w64 n) few in
     let parts : number (take k (to_le_bytes w64 n)) + 2 ^ (8 * k) * number (drop k (to_le_bytes w64 n)) ≡ n =
-        ap (λ (m : ℕ). number (take k (to_le_bytes w64 n)) + 2 ^ (8 * m) * number (drop k (to_le_bytes w64 n))) (sym size) ∙ sym (number-append (take k (to_le_bytes w64 n)) (drop k (to_le_bytes w64 n)))
-        ∙ ap (λ (l : List ℕ). number l) (take-append-drop k (to_le_bytes w64 n)) ∙ eight_is n small in
+    ap (λ (m : ℕ). number (take k (to_le_bytes w64 n)) + 2 ^ (8 * m) * number (drop k (to_le_bytes w64 n))) (sym size) ∙ sym (number-append (take k (to_le_bytes w64 n)) (drop k (to_le_bytes w64 n)))
+    ∙ ap (λ (l : List ℕ). number l) (take-append-drop k (to_le_bytes w64 n)) ∙ eight_is n small in
     let front : number (take k (to_le_bytes w64 n)) < 2 ^ (8 * k) = subst (λ (m : ℕ). number (take k (to_le_bytes w64 n)) < 2 ^ (8 * m)) size (number_small (take k (to_le_bytes w64 n)) (bytes_taken k (to_le_bytes w64 n) (eight_fit n))) in
     let turned : number (drop k (to_le_bytes w64 n)) * 2 ^ (8 * k) + number (take k (to_le_bytes w64 n)) ≡ n = omega (arith, parts) in
     sym (mod_low (number (drop k (to_le_bytes w64 n))) (8 * k) (number (take k (to_le_bytes w64 n))) front) ∙ ap (λ (m : ℕ). m % 2 ^ (8 * k)) turned ∙ mod-eq_of_lt narrow
@@ -201,14 +200,15 @@ last_put start out next w ns i held bits h all within few narrow next_is =
     let value : number (take ((bits + 7) / 8) (to_le_bytes w64 held)) ≡ held = front_is held ((bits + 7) / 8) least (omega (arith, h.small, most)) (omega (arith, h.small, wide)) in
     let size : length (take ((bits + 7) / 8) (to_le_bytes w64 held)) ≡ (bits + 7) / 8 = length-take-le ((bits + 7) / 8) (to_le_bytes w64 held) least in
     let whole : number (h.packed ++ take ((bits + 7) / 8) (to_le_bytes w64 held)) ≡ packed_number w ns =
-        number-append h.packed (take ((bits + 7) / 8) (to_le_bytes w64 held)) ∙ ap (λ (n : ℕ). number h.packed + 2 ^ (8 * length h.packed) * n) value ∙ h.whole
-        ∙ ap (λ (l : List ℕ). packed_number w l) (take_all i ns all) in
+    number-append h.packed (take ((bits + 7) / 8) (to_le_bytes w64 held)) ∙ ap (λ (n : ℕ). number h.packed + 2 ^ (8 * length h.packed) * n) value ∙ h.whole
+    ∙ ap (λ (l : List ℕ). packed_number w l) (take_all i ns all) in
     let fit = bytes_joined h.packed (take ((bits + 7) / 8) (to_le_bytes w64 held)) h.fits (bytes_taken ((bits + 7) / 8) (to_le_bytes w64 held) (eight_fit held)) in
     let count : i ≡ length ns = omega arith in
-    let total : 8 * length h.packed + bits ≡ w * length ns = h.bits_are ∙ ap (λ (n : ℕ). w * n) count in
-    (h.packed ++ take ((bits + 7) / 8) (to_le_bytes w64 held),
-     next_is ∙ ap (λ (l : List ℕ). l ++ take ((bits + 7) / 8) (to_le_bytes w64 held)) h.out_is ∙ append_assoc start h.packed (take ((bits + 7) / 8) (to_le_bytes w64 held)),
-     record {
-       size = omega (arith, length-append h.packed (take ((bits + 7) / 8) (to_le_bytes w64 held)), size, total);
-       bits = λ j lt. bit_number (h.packed ++ take ((bits + 7) / 8) (to_le_bytes w64 held)) j fit ∙ ap (λ (n : ℕ). bit n j) whole ∙ sym (bit_packed w ns j narrow);
-     })
+    let total : 8 * length h.packed + bits ≡ w * length ns = h.bits_are ∙ ap (λ (n : ℕ). w * n) count in (
+      h.packed ++ take ((bits + 7) / 8) (to_le_bytes w64 held),
+      next_is ∙ ap (λ (l : List ℕ). l ++ take ((bits + 7) / 8) (to_le_bytes w64 held)) h.out_is ∙ append_assoc start h.packed (take ((bits + 7) / 8) (to_le_bytes w64 held)),
+      record {
+        size = omega (arith, length-append h.packed (take ((bits + 7) / 8) (to_le_bytes w64 held)), size, total);
+        bits = λ j lt. bit_number (h.packed ++ take ((bits + 7) / 8) (to_le_bytes w64 held)) j fit ∙ ap (λ (n : ℕ). bit n j) whole ∙ sym (bit_packed w ns j narrow);
+      },
+    )

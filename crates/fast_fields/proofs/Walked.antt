@@ -1,7 +1,7 @@
 -- A walk over the texts of a column.
-use Rattle.std.proofs.Common.{◌≡◌, ℕ, zero, suc, ◌+◌, ◌-◌, List, Result, Ok, Err, refl, sym, ap, ◌∙◌, arith}
+use Rattle.std.proofs.Common.{◌≡◌, ℕ, zero, suc, ◌+◌, List, Result, Ok, refl, ap, ◌∙◌, arith}
 use Rattle.byte_fields.specs.declared.field_error.FieldError.{FieldError}
-use Rattle.byte_fields.specs.Reading.{bytes_at, text_at, ◌>>=◌}
+use Rattle.byte_fields.specs.Reading.{bytes_at, text_at}
 use Rattle.byte_fields.proofs.Taken as taken
 use Rattle.fast_fields.specs.Lookups.{place_behind, text_behind}
 

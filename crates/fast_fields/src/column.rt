@@ -2,10 +2,11 @@ ghost use Rattle.std.specs.Prelude.{◌≡◌, ◌≤◌, ◌<◌, ◌+◌, ◌*
 ghost use Rattle.std.specs.List.{flat_map, AllByRecursion};
 ghost use Rattle.byte_fields.specs.Spelling.{byte_string};
 ghost use Rattle.fast_fields.specs.Columns.{has_texts, texts_bytes};
-ghost use Rattle.fast_fields.specs.Reading.{Area, Gives, area_at, behind_texts, piece_at, width_at};
+ghost use Rattle.byte_fields.specs.Steps.{Gives};
+ghost use Rattle.fast_fields.specs.Reading.{Area, area_at, behind_texts, width_at};
 
 use crate::packed::bits_from;
-use byte_fields::{Corrupt, take_bytes, take_eight, take_text, take_varint};
+use byte_fields::{Corrupt, take_bytes, take_eight, take_piece, take_text, take_varint};
 use doc_value::{Field, Kind};
 
 /// The values of one field of many documents, over the bytes of the column.
@@ -33,7 +34,7 @@ impl<'a> Column<'a> {
     ghost use Rattle.fast_fields.specs.declared.rows.ColumnRow.{ColumnRow};
 
     /// The column at the front of the bytes, and the place behind it.
-    #[tactic(auto, unfolding(crate::specs::Reading::column_at, crate::specs::Reading::count_at))]
+    #[tactic(auto, unfolding(crate::specs::Reading::column_at, byte_fields::specs::Steps::count_at))]
     pub fn read(field: &Field, bytes: &'a [u8]) -> Result<(Column<'a>, usize), Corrupt>
         // What is spelled at the front of the bytes is read.
         ensures only { (column rest : List ℕ) (rows : List ColumnRow) → IsColumn field.now.kind column rows → bytes.now ≡ column ++ rest
@@ -285,21 +286,6 @@ fn behind_texts(bytes: &[u8], from: usize, count: u64) -> Result<usize, Corrupt>
         at = take_text(bytes, at)?.1;
     }
     Ok(at)
-}
-
-// So many bytes at a place, and the place behind them.
-#[tactic(auto, unfolding(crate::specs::Reading::piece_at))]
-fn take_piece(bytes: &[u8], at: usize, len: usize) -> Result<(&[u8], usize), Corrupt>
-    requires { at ≤ length bytes.now }
-    ensures within { IfOk result (λ x. (x.1 ≤ length bytes.now) × (length x.0.now ≡ len)) }
-    ensures only { (piece rest : List ℕ) → length piece ≡ len → drop at bytes.now ≡ piece ++ rest
-        → IsOkAnd result (λ x. (x.0.now ≡ piece) × (drop x.1 bytes.now ≡ rest)) }
-    ensures exact { Gives {Y = List ℕ × ℕ} (λ x. (x.0.now, x.1)) result (piece_at len bytes.now at) }
-{
-    if bytes.len() - at < len {
-        return Err(Corrupt { at: bytes.len() });
-    }
-    Ok((&bytes[at..at + len], at + len))
 }
 
 // A width of at most 64 bits at a place, and the place behind it.

@@ -1,7 +1,7 @@
-use Rattle.std.proofs.Common.{◌≡◌, ◌≤◌, ◌-◌, ◌++◌, ◌∷◌, [], ◌∙◌, ℕ, List, ap, sym, subst, length, map, arith}
+use Rattle.std.proofs.Common.{◌-◌, ◌++◌, ◌∷◌, ℕ, ap, subst, length, map}
 use Rattle.byte_fields.specs.Spelling.{varint, eight}
 use Rattle.fast_fields.specs.Packed.{IsWidth, IsPacked}
-use Rattle.fast_fields.specs.Columns.{numbers, least_of, greatest_of, texts_bytes, documents_bytes}
+use Rattle.fast_fields.specs.Columns.{numbers, least_of, texts_bytes, documents_bytes}
 use Rattle.fast_fields.specs.Texts.{texts_in}
 use Rattle.fast_fields.proofs.Packs.{are_narrow, least_greatest, parts_put}
 use Rattle.fast_fields.proofs.encode.put_parts.Goals as goal

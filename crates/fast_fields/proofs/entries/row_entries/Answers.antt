@@ -1,4 +1,4 @@
-use Rattle.std.proofs.Common.{◌≡◌, ◌∷◌, List, ℕ, inl, inr, subst}
+use Rattle.std.proofs.Common.{List, inl, inr, subst}
 use Rattle.std.proofs.lemmas.List.{nil_from_length}
 use Rattle.doc_value.specs.declared.doc.Value.{Value}
 use Rattle.fast_fields.specs.Columns.{cells_of}

@@ -1,4 +1,4 @@
-use Rattle.std.proofs.Common.{◌+◌, ◌-◌, ◌*◌, ◌/◌, ◌%◌, ◌^◌, ◌∙◌, ℕ, bit_and, get_or, ap, arith}
+use Rattle.std.proofs.Common.{◌+◌, ◌-◌, ◌*◌, ◌/◌, ◌%◌, ◌^◌, ◌∙◌, ℕ, bit_and, ap, arith}
 use Rattle.std.proofs.lemmas.Nat.{and_mask}
 use Rattle.fast_fields.proofs.Numbers.{read_in_eight, read_in_nine}
 use Rattle.fast_fields.proofs.packed.bits_from.Goals as goal

@@ -1,4 +1,4 @@
-use Rattle.std.proofs.Common.{◌≡◌, ℕ, List, length}
+use Rattle.std.proofs.Common.{ℕ, List, length}
 use Rattle.std.specs.Prelude.{All}
 use Rattle.fast_fields.specs.Columns.{Cell, cells_of, SomeText}
 use Rattle.fast_fields.specs.Texts.{IsCellText}

@@ -1,4 +1,4 @@
-use Rattle.std.proofs.Common.{◌≡◌, ◌∷◌, List, ℕ, sym, subst}
+use Rattle.std.proofs.Common.{◌∷◌, List, ℕ, subst}
 use Rattle.doc_value.specs.declared.doc.Value.{Value}
 use Rattle.fast_fields.specs.declared.rows.ColumnRow.{ColumnRow}
 use Rattle.fast_fields.specs.Columns.{Cell, cells, cells_of, SomeText}

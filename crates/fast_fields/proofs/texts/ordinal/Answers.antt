@@ -1,4 +1,4 @@
-use Rattle.std.proofs.Common.{◌≡◌, ◌+◌, ◌-◌, ◌/◌, ◌∙◌, ℕ, ap, sym, arith, Some}
+use Rattle.std.proofs.Common.{◌≡◌, ◌+◌, ◌-◌, ◌/◌, ◌∙◌, ℕ, ap, sym, arith}
 use Rattle.std.specs.Prelude.{slice_get}
 use Rattle.fast_fields.specs.Texts.{texts_in}
 use Rattle.fast_fields.proofs.Below.{among_at, stands_above, stands_not_above}

@@ -1,4 +1,4 @@
-use Rattle.std.proofs.Common.{◌≡◌, List, ℕ, Vec, Global, sym, subst}
+use Rattle.std.proofs.Common.{List, ℕ, Vec, Global, sym, subst}
 use Rattle.std.specs.Prelude.{All, Contains, IfOk, Result, Ok, Err}
 use Rattle.std.specs.Borrow.{Bor}
 use Rattle.std.proofs.lemmas.List.Sorted.{All-permutation, Contains-permutation, IsPermutation-map}
@@ -19,6 +19,6 @@ each_ok cs (Err e) h = tt
 pub returns-clause-each : goal.returns-clause-each
 returns-clause-each c =
     each_ok (cells c.args.rows.now) c.distinct.result (λ t some.
-        (let moved = IsPermutation-map (λ (b : Bor (List ℕ)). b.now) c.in_ok-all.all.items c.sort.new.self.items c.in_ok-sort.ensures.permutation in
-        let there : Contains (texts_in c.sort.new.self.items) t = Contains-permutation (texts_in c.in_ok-all.all.items) (texts_in c.sort.new.self.items) t moved (c.in_ok-all.ensures.each t some) in
-        c.distinct.ensures.each t (subst (λ (l : List (Bor (List ℕ))). Contains (texts_in l) t) (sym c.deref.ensures.value) there)))
+    (let moved = IsPermutation-map (λ (b : Bor (List ℕ)). b.now) c.in_ok-all.all.items c.sort.new.self.items c.in_ok-sort.ensures.permutation in
+    let there : Contains (texts_in c.sort.new.self.items) t = Contains-permutation (texts_in c.in_ok-all.all.items) (texts_in c.sort.new.self.items) t moved (c.in_ok-all.ensures.each t some) in
+    c.distinct.ensures.each t (subst (λ (l : List (Bor (List ℕ))). Contains (texts_in l) t) (sym c.deref.ensures.value) there)))

@@ -1,4 +1,4 @@
-use Rattle.std.proofs.Common.{◌≡◌, ◌*◌, ◌+◌, ◌-◌, ◌∙◌, ℕ, List, ap, sym, drop, take, refl, ◌<◌, ◌^◌, arith}
+use Rattle.std.proofs.Common.{◌≡◌, ◌*◌, ◌+◌, ◌-◌, ◌∙◌, ℕ, List, ap, drop, take, refl, ◌<◌, ◌^◌, arith}
 use Rattle.std.specs.Int.{w32, from_le_bytes}
 use Rattle.std.proofs.lemmas.Nat.{from_le_bytes-to_le_bytes_4}
 use Rattle.std.proofs.lemmas.List.{take_at}
@@ -15,7 +15,7 @@ returns-clause-only c texts es e h is =
     let small = all_at (λ (f : Entry). f.document < 2 ^ 32) es c.args.place e h.fits.small_documents is in
     let size : 4 * c.args.place + 4 - 4 * c.args.place ≡ 4 = omega arith in
     let front : take 4 (drop (4 * c.args.place) c.args.self.now.documents.now) ≡ four e.document =
-        ap (λ (l : List ℕ). take 4 l) here ∙ take_at (four e.document) (documents_bytes (drop (c.args.place + 1) es)) 4 refl in
+    ap (λ (l : List ℕ). take 4 l) here ∙ take_at (four e.document) (documents_bytes (drop (c.args.place + 1) es)) 4 refl in
     c.from_le_bytes.ensures ∙ ap (λ (n : ℕ). from_le_bytes w32 (take n (drop (4 * c.args.place) c.args.self.now.documents.now))) size ∙ ap (λ (l : List ℕ). from_le_bytes w32 l) front
     ∙ from_le_bytes-to_le_bytes_4 e.document small
 

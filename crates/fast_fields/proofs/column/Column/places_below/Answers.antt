@@ -1,5 +1,5 @@
 use Rattle.std.proofs.Common.{◌+◌, ◌-◌, ◌/◌, ◌∙◌, ℕ, ap, sym, subst, ◌<◌, ◌≡◌, ◌≤◌, arith}
-use Rattle.fast_fields.proofs.Places.{get_some, count_within, count_up, count_down}
+use Rattle.fast_fields.proofs.Places.{get_some, count_up, count_down}
 use Rattle.fast_fields.specs.Lookups.{document_of}
 use Rattle.fast_fields.proofs.Bounds.{between_counts}
 use Rattle.fast_fields.proofs.column.Column.places_below.Goals as goal

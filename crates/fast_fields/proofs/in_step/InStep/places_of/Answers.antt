@@ -1,4 +1,4 @@
-use Rattle.std.proofs.Common.{◌≡◌, ◌+◌, ◌∙◌, ℕ, ap, sym, subst, arith}
+use Rattle.std.proofs.Common.{◌+◌, ℕ, subst, arith}
 use Rattle.fast_fields.specs.Lookups.{IsNext}
 use Rattle.fast_fields.proofs.Bounds.{next_counts}
 use Rattle.fast_fields.proofs.in_step.InStep.places_of.Goals as goal
