@@ -21,7 +21,7 @@ use Rattle.index_world.specs.declared.world_error.WorldError.{WorldError}
 use Rattle.index_world.specs.declared.world_error.WorldError.TheVariants as errors
 use Rattle.index_world.specs.Calls.{Trouble, Unmade, Unread, may_append, entry_of}
 use Rattle.index_world.specs.Config.{reads}
-use Rattle.index_world.specs.Core.{Core, last_count, journal_of, IsUnusedIn, HasStagedIn}
+use Rattle.index_world.specs.Core.{Core, last_count, journal_of, IsUnusedIn, HasStagedIn, clock_of}
 use Rattle.index_world.specs.Gate.{IsTrouble, IsUnmade, Says}
 use Rattle.index_world.specs.Index.{has_staged}
 use Rattle.index_world.specs.Loading.{LoadsAs, IsUnread}
@@ -192,7 +192,7 @@ pub record Appending (old : State) (core : Core) (log : Log) (own : Own) (result
 pub record SameBut (core after : Core) : Type 0 where
   pub history : after.history ≡ core.history
   pub moment : after.moment ≡ core.moment
-  pub clock : after.clock ≡ core.clock
+  pub clock : clock_of after ≡ clock_of core
   pub unsure : after.unsure ≡ core.unsure
 
 -- the index was opened
@@ -200,7 +200,7 @@ pub record OpensLife (new : State) (core : Core) (log : Log) (count : ℕ) (life
   pub after : Core
   pub loads : LoadsAs core after (Ok tt)
   pub stands : StandsBy new after log count life
-  pub clock : after.clock ≡ core.clock
+  pub clock : clock_of after ≡ clock_of core
 
 -- it was not; but for what landed the core of a world is as it was
 pub record OpensNone (new : State) (core : Core) (log : Log) (count : ℕ) (error : WorldError) : Type 0 where

@@ -68,7 +68,7 @@ pub fn empty_store_is_an_index()
 pub fn every_index_has_a_core()
     ensures { (kept : State) (entries : List Entry) (log : Log) (count clock : ℕ) → IsIndexOf kept entries log →
         (core : Core) × IsWorld kept core log × (core.history ≡ entries) × (core.standing ≡ None) × (core.store_faults ≡ count)
-        × (core.clock ≡ clock) × (core.moment ≡ moment_of (told entries)) × (core.unsure ≡ false) }
+        × (core.clock ≡ clock) × (core.moment ≡ moment_of (told entries)) × (core.unsure ≡ false) × (core.frozen ≡ false) }
 {}
 
 /// What lands in the store lands in its core, by the same places.

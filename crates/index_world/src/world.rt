@@ -6,7 +6,7 @@ ghost use Rattle.index_world.specs.contracts.world.World.{the_row};
 ghost use Rattle.meta_journal.specs.Spelling.{CanSpellFacts};
 ghost use Rattle.object_store.specs.Store.{State};
 ghost use Rattle.source_log.specs.Log.{Log};
-ghost use Rattle.index_world.specs.Calls.{asked, looked, asked_and_looked, fetched, upload_made};
+ghost use Rattle.index_world.specs.Calls.{asked, asked_moment, looked, asked_and_looked, fetched, upload_made};
 ghost use Rattle.index_world.specs.Core.{Core, IsUnusedIn, IsUploadedIn};
 ghost use Rattle.index_world.specs.Gate.{Does, NoneBetween, IsTrouble, IsUnmade, AreMarks, IsMoment, stage_call, WasStaged, WasUploaded, publish_call, IsPublishable, IsRevision, IsPlan, IsPieceGiven};
 ghost use Rattle.index_world.specs.Loading.{LoadsWorld, LoadsNone, LoadsAnew};
@@ -142,7 +142,7 @@ impl<S: ObjectStore, C: SteadyClock> World<S, C> {
     }
 
     fn ask(&mut self)
-        ensures { (clock : ℕ) → self.old.clock ≡ Some clock → self.old.frozen ≡ false → self.new ≡ record self.old { moment = max self.old.moment clock } }
+        ensures { (clock : ℕ) → self.old.clock ≡ Some clock → self.new ≡ record self.old { moment = asked_moment self.old.frozen self.old.moment clock } }
     {
         if !self.frozen {
             self.life.moment = self.life.moment.max(self.clock.ask());

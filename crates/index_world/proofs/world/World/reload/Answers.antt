@@ -12,4 +12,4 @@ returns-in_err-self-inside g c core log s =
 pub returns : goal.returns
 returns g c core log s =
     let t = subst (λ (k : Keeping). WorldStands k core log) (sym c.self.view_is) s in
-    loads_anew_ok core log c.in_ok-self-inside.field-0 _ _ _ _ (opening_at core log _ _ _ _ c.in_ok-self-inside.was (c.open.ensures.step t.kept core log t.told t.store_faults t.world t.timely.clock)) t.clock t.awake
+    loads_anew_ok core log c.in_ok-self-inside.field-0 _ _ _ _ (opening_at core log _ _ _ _ c.in_ok-self-inside.was (c.open.ensures.step t.kept core log t.told t.store_faults t.world t.timely.clock)) t.clock t.frozen
