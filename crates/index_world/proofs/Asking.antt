@@ -1,5 +1,5 @@
 -- Which entries may enter: the fence of settling, and an entry of one's own.
-use Rattle.std.proofs.Common.{◌≡◌, ℕ, ◌-◌, ◌<◌, ◌≤◌, List, refl, sym, ap, ◌∙◌, subst, true, length, arith}
+use Rattle.std.proofs.Common.{◌≡◌, ℕ, ◌-◌, ◌^◌, ◌<◌, ◌≤◌, List, refl, sym, ap, ◌∙◌, subst, Bool, true, false, length, arith}
 use Rattle.std.specs.List.{AllByRecursion}
 use Rattle.std.specs.Prelude.{Option, Some, None, max, IsSome}
 use Rattle.meta_journal.specs.Spelling.{CanSpell}
@@ -15,7 +15,7 @@ use Rattle.object_store.specs.Store.{State}
 use Rattle.source_checkpoint.specs.declared.delta.Part.{Part}
 use Rattle.source_log.specs.Log.{Log, records_of}
 use Rattle.split_states.specs.declared.facts.RowFacts.{RowFacts}
-use Rattle.index_world.specs.Calls.{fence_of, taken_in, asked_clock}
+use Rattle.index_world.specs.Calls.{fence_of, taken_in, asked_clock, asked_moment}
 use Rattle.index_world.specs.Config.{reads}
 use Rattle.index_world.specs.Core.{Core}
 use Rattle.index_world.specs.Index.{MayEnter, MayPublish, HasStaged, IsMade, IsUploaded, facts_of}

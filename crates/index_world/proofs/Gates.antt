@@ -51,7 +51,7 @@ use Rattle.index_world.proofs.Asking.{timely_asked}
 use Rattle.index_world.proofs.Lives.{Told, told_of, want_trouble, knows_of}
 use Rattle.index_world.proofs.Numbers.{history-snoc, revision_is, staged_le}
 use Rattle.index_world.proofs.WholeCalls.{Whole, Looks, looks_sure, looks_settled, looks_unsettled, whole_appended, whole_asked, whole_looked, whole_asked_and_looked, world_asked, copied}
-use Rattle.index_world.proofs.Worlds.{world-same}
+use Rattle.index_world.proofs.Worlds.{world-same, world-frozen}
 
 -- ---- what a world keeps
 
@@ -94,6 +94,28 @@ world_asks w w' core log s e =
       frozen = s.frozen;
       opened = s.opened;
     })
+
+-- the world is frozen
+pub world_freezes : (w w' : Keeping) (core : Core) (log : Log) → w' ≡ record w { frozen = true } → WorldStands w core log → WorldStands w' (record core { frozen = true }) log
+world_freezes w w' core log e s =
+    subst (λ (k : Keeping). WorldStands k (record core { frozen = true }) log) (sym e)
+    (record {
+      kept = s.kept;
+      told = s.told;
+      world = world-frozen s.kept core log s.world;
+      timely = record { greatest = s.timely.greatest; moment = s.timely.moment; clock = s.timely.clock; room = s.timely.room };
+      store_faults = s.store_faults;
+      clock = s.clock;
+      moment = s.moment;
+      meta = s.meta;
+      next = s.next;
+      unsure = s.unsure;
+      frozen = refl;
+      opened = s.opened;
+    })
+
+pub frozen_asks : (core : Core) → core.frozen ≡ true → asked_clock core ≡ core
+frozen_asks core e = ap (λ (f : Bool). record core { moment = asked_moment f core.moment core.clock }) e
 
 -- ---- from a whole call
 

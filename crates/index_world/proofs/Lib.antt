@@ -14,6 +14,7 @@ pub mod StoreChanges
 pub mod InHand
 pub mod Entering
 pub mod Indexing
+pub mod WholeIndex
 pub mod StoreCalls
 pub mod Landing
 pub mod Worlds
@@ -35,3 +36,4 @@ pub mod Appending
 pub mod Gates
 pub mod Fronts
 pub mod Reading
+pub mod OpenedLemmas

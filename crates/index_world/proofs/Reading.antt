@@ -76,7 +76,7 @@ module _ (old : State) (core : Core) (log : Log) (n now : ℕ) (told told' : Opt
           none_by t.new (λ after. not_read (store_failed core.store_faults after)) (errors.StoreFault before high) t.is u
           (ap (λ (m : ℕ). not_read (faulted (store_fault core.store_faults m))) (u.faults ∙ sym fault.1) ∙ ap (λ (m : ℕ). not_read (faulted (store_fault m high))) (sym (start ∙ at)))
       by (journal.Foreign key) fault t = absurd (load_no_foreign old t.new core log now key w counted t.says.0 t.says.1)
-      by (journal.Corrupt key) fault t = absurd (load_no_corrupt old t.new core log now t.says.1 key w counted t.says.0 t.says.2)
+      by (journal.Corrupt key) fault t = absurd (load_no_corrupt old t.says.mid core log now (length t.says.first.0) key w counted t.says.counted.landed t.says.first.2)
       by (journal.Missing key) fault t = absurd t.says
       by (journal.Adopted f) fault t = absurd t.says
       by journal.Full fault t = absurd t.says

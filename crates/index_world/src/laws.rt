@@ -1,6 +1,6 @@
 //! What holds of every store that is a sound index. Each law is the contract of a function that does nothing.
 
-ghost use Rattle.std.specs.Prelude.{ℕ, List, length, Result, ◌≡◌, []};
+ghost use Rattle.std.specs.Prelude.{ℕ, List, length, Result, ◌≡◌, ◌↔◌, []};
 ghost use Rattle.std.specs.FinMap.{empty};
 ghost use Rattle.meta_journal.specs.declared.entry.Entry.{Entry};
 ghost use Rattle.meta_journal.specs.Places.{meta_key, split_key, IsJournal};
@@ -8,7 +8,7 @@ ghost use Rattle.meta_journal.specs.Spelling.{Spells};
 ghost use Rattle.object_store.specs.Store.{State, landed, with_object, with_late, HasLanded, LandsThen, Creates};
 ghost use Rattle.object_store.specs.declared.store.CreateError.{CreateError};
 ghost use Rattle.source_log.specs.Log.{Log};
-ghost use Rattle.index_world.specs.Index.{IsIndexOf, MayEnter, IsUnused};
+ghost use Rattle.index_world.specs.Index.{IsIndexOf, IsWholeIndexOf, MayEnter, IsUnused};
 ghost use Rattle.std.specs.Prelude.{None, Bool, true, false, ◌<◌};
 ghost use Rattle.meta_store.specs.History.{moment_of, history as told};
 ghost use Rattle.meta_store.specs.State.{Legal};
@@ -59,6 +59,11 @@ pub fn load_keeps()
         HasLanded old mid → HasLanded mid new → IsJournal mid read → Loads mid new log read }
 {}
 
+/// Each late create of the journal may enter behind its end exactly where the index holds again with it there.
+pub fn index_is_whole()
+    ensures { (kept : State) (entries : List Entry) (log : Log) → (IsIndexOf kept entries log ↔ IsWholeIndexOf kept entries log) }
+{}
+
 /// A store without objects is an index of no entry, over each log.
 pub fn empty_store_is_an_index()
     ensures { (log : Log) → IsIndexOf (record { objects = empty; late = [] }) [] log }
@@ -74,6 +79,11 @@ pub fn every_index_has_a_core()
 /// What lands in the store lands in its core, by the same places.
 pub fn landings_are_the_cores()
     ensures { (old : State) (core : Core) (log : Log) (places : List ℕ) → IsWorld old core log → Landing old (landed places old) core (all_landed places core) log }
+{}
+
+/// A frozen core is not changed by the asking of its clock.
+pub fn frozen_asks_nothing()
+    ensures { (core : Core) → core.frozen ≡ true → asked_clock core ≡ core }
 {}
 
 /// A fence may always close a number that is unsure.

@@ -1,15 +1,25 @@
 use Rattle.std.proofs.Common.{sym, subst}
 use Rattle.index_world.specs.World.{Keeping, WorldStands}
 use Rattle.index_world.proofs.Reading.{loads_anew_ok, loads_anew_err, opening_at}
+use Rattle.object_store.proofs.Told.{told_map}
+use Rattle.index_world.proofs.OpenedLemmas.{opens_anew, opens_no_more, opens_at}
 use Rattle.index_world.proofs.world.World.reload.Goals as goal
 
-pub returns-in_err-self-inside : goal.returns-in_err-self-inside
-returns-in_err-self-inside g c core log s =
+pub returns-in_err-self-inside-clause-opened : goal.returns-in_err-self-inside-clause-opened
+returns-in_err-self-inside-clause-opened g c =
+    told_map _ _ (opens_no_more _ _ _ c.self.inside.life _ _ c.in_err-self-inside.field-0.0 c.from_residual.result _ c.from_residual.ensures.1 (λ error is. is))
+    (opens_at _ _ _ _ _ _ c.in_err-self-inside.was c.open.ensures.opened)
+
+pub returns-clause-opened : goal.returns-clause-opened
+returns-clause-opened g c = told_map _ _ (opens_anew _ _ _ c.in_ok-self-inside.field-0 _ _ _) (opens_at _ _ _ _ _ _ c.in_ok-self-inside.was c.open.ensures.opened)
+
+pub returns-in_err-self-inside-clause-step : goal.returns-in_err-self-inside-clause-step
+returns-in_err-self-inside-clause-step g c core log s =
     let t = subst (λ (k : Keeping). WorldStands k core log) (sym c.self.view_is) s in
     loads_anew_err core log c.self.inside.life _ _ _ _ _ _ c.in_err-self-inside.field-0.0 t
     (opening_at core log _ _ _ _ c.in_err-self-inside.was (c.open.ensures.step t.kept core log t.told t.store_faults t.world t.timely.clock)) c.from_residual.result _ c.from_residual.ensures.1 (λ error is. is)
 
-pub returns : goal.returns
-returns g c core log s =
+pub returns-clause-step : goal.returns-clause-step
+returns-clause-step g c core log s =
     let t = subst (λ (k : Keeping). WorldStands k core log) (sym c.self.view_is) s in
     loads_anew_ok core log c.in_ok-self-inside.field-0 _ _ _ _ (opening_at core log _ _ _ _ c.in_ok-self-inside.was (c.open.ensures.step t.kept core log t.told t.store_faults t.world t.timely.clock)) t.clock t.frozen

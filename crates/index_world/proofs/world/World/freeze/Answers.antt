@@ -1,0 +1,5 @@
+use Rattle.index_world.proofs.Gates.{world_freezes}
+use Rattle.index_world.proofs.world.World.freeze.Goals as goal
+
+pub returns-clause-stands : goal.returns-clause-stands
+returns-clause-stands g c core log s = world_freezes _ _ core log c.self.view_is s
