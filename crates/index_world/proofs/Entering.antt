@@ -162,9 +162,6 @@ staged_row h m n may = by (config_of reads h) may
 staged_no : Staged ≡ Published → ⊥
 staged_no e = cc
 
-published_staged : Published ≡ Staged → ⊥
-published_staged e = cc
-
 -- a staged row is that of its delta
 fresh_spans : (entries : List Entry) (n : ℕ) (row : Row) → Legal reads (history entries) → StandsIn (rows (history entries)) n row → row.state ≡ Staged →
     row.spans ≡ spans_of (stamp_of (history entries) n) (delta_of (history entries) n)

@@ -153,10 +153,6 @@ does_by call one is holds r core start log new answer more doubt now told clock 
       stands = world_by new start u.after log more doubt now told clock life frozen call one core answer u t c f k;
     }
 
--- a life behind the call, by the core that the call gave
-pub life_behind : (life : Life) (entries : List Entry) (time : ℕ) (doubt : Bool) (after : Core) → LifeIs life entries time doubt → after.history ≡ entries → after.moment ≡ time → after.unsure ≡ doubt → LifeIs life after.history after.moment after.unsure
-life_behind life entries time doubt after k h m u = knows_of life entries after.history time after.moment doubt after.unsure (sym h) (sym m) (sym u) k
-
 -- ---- a transaction
 
 pub says_on : {A B E : Type 0} (is : WorldError → E → Type 0) (P : A → Core → Type 0) (Q : B → Core → Type 0) (answer : Result ⊤ E) (after : Core) (a : A) (b : B) → Says is P (Ok a) answer after → (P a after → Q b after) → Says is Q (Ok b) answer after

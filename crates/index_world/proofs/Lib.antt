@@ -5,8 +5,6 @@ pub mod SplitFacts
 pub mod SplitReads
 pub mod SplitParts
 pub mod Placing
-pub mod ShortTexts
-pub mod Light
 pub mod StoreKeys
 pub mod Journals
 pub mod Numbers

@@ -78,9 +78,6 @@ same-lands (late_file key bytes) place core = by (is_some (file_at core.files ke
     by true = record { history = refl; store_faults = refl; moment = refl; clock = refl; unsure = refl }
     by false = record { history = refl; store_faults = refl; moment = refl; clock = refl; unsure = refl }
 
-some_none : {X : Type 0} (x : X) → ◌≡◌ {A = Option X} (Some x) None → ⊥
-some_none x e = cc
-
 was-lands : (late : Late) (place : ℕ) (core : Core) → (without_late place (late_lands late core)).standing ≡ None → core.standing ≡ None
 was-lands (late_entry n e b) place core h = by core.standing (n == length core.history) refl h
   where
