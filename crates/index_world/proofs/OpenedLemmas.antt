@@ -1,5 +1,5 @@
 -- What the objects of a journal are, by what a load of it read.
-use Rattle.std.proofs.Common.{◌≡◌, ℕ, zero, suc, ◌+◌, ◌<◌, ◌≤◌, List, [], ◌∷◌, refl, sym, ap, ◌∙◌, subst, length, arith, add-zero, Bool, true, false}
+use Rattle.std.proofs.Common.{◌≡◌, ℕ, zero, suc, ◌+◌, ◌<◌, ◌≤◌, List, [], ◌∷◌, refl, sym, ap, ◌∙◌, subst, length, arith, add-zero, zero-add, Bool, true, false}
 use Rattle.std.specs.Result.{IsErrAnd}
 use Rattle.std.specs.Prelude.{Option, Some, None, IsSome, is_some, Result, Ok, Err, ⊤}
 use Rattle.byte_fields.specs.Causes.{Rose}
@@ -17,10 +17,11 @@ use Rattle.meta_store.specs.State.{state_of}
 use Rattle.object_store.proofs.Landings.{HasLanded-trans}
 use Rattle.object_store.specs.Store.{State, WhereTold}
 use Rattle.index_world.specs.Config.{reads}
-use Rattle.index_world.specs.Opened.{Found, none_found, all_found, bad_at, before_rest, entries_from, first_refused, found_by, found_of, ObjectsFrom, Finds, OpensIndex, OpensNone, OpensAnew}
+use Rattle.index_world.specs.Opened.{Found, none_found, all_found, bad_at, before_rest, entries_from, first_refused, found_by, found_of, ObjectsFrom, Finds, OpensIndex, OpensNot, OpensAnew}
 use Rattle.index_world.specs.Life.{LifeIs, FindsLife, OpensTo}
 use Rattle.index_world.specs.Taking.{IsWant, IsRefusedAt, of_journal}
 use Rattle.index_world.specs.Unsure.{is_unsure}
+use Rattle.index_world.specs.World.{Keeping}
 use Rattle.index_world.specs.declared.life.Life.{Life}
 use Rattle.index_world.specs.declared.world_error.WorldError.{WorldError}
 use Rattle.index_world.specs.declared.world_error.WorldError.TheVariants as errors
@@ -97,7 +98,7 @@ finds_loaded es old new l =
 
 finds_spoilt : (key : List ℕ) (old new : State) → IsSpoilt key old new → (n : ℕ) × (key ≡ meta_key n) × Finds (bad_at n) old new
 finds_spoilt key old new p =
-    let o = objects_upto p.mid 0 p.count (λ m low high. p.counted.stand m (omega (arith, high))) p.counted.ends in
+    let o = objects_upto p.mid 0 p.count (λ m low high. p.counted.stand m (omega (arith, high))) (subst (λ (i : ℕ). numbered p.mid i ≡ None) (sym (zero-add p.count)) p.counted.ends) in
     (
       length p.first.0,
       p.first.2.key_is,
@@ -123,9 +124,9 @@ found_bad (e ∷ es) n old new some f = f
 -- ---- what opening answers
 
 pub opens_failed : (number before n now : ℕ) (x : JournalError) (error : WorldError) → error ≡ of_journal number before x → before ≡ n → FaultIs n now x → (old new : State) → LoadsEntries (Err x) old new → OpensTo n now (Err error) old new
-opens_failed number before n now x error is start fault old new l = subst (λ (y : WorldError). OpensNone n now y old new) (sym is) (by x fault l)
+opens_failed number before n now x error is start fault old new l = subst (λ (y : WorldError). OpensNot n now y old new) (sym is) (by x fault l)
   where
-    by : (x : JournalError) → FaultIs n now x → LoadsEntries (Err x) old new → OpensNone n now (of_journal number before x) old new
+    by : (x : JournalError) → FaultIs n now x → LoadsEntries (Err x) old new → OpensNot n now (of_journal number before x) old new
     by (journal.Memory a) fault l = l
     by (journal.StoreFault low high) fault l = (l, start, fault.1, fault.2)
     by (journal.Foreign key) fault l = l
@@ -137,7 +138,7 @@ opens_failed number before n now x error is start fault old new l = subst (λ (y
 pub opens_empty : (es : List Entry) (n now : ℕ) → es ≡ [] → (old new : State) → LoadsEntries (Ok es) old new → OpensTo n now (Err errors.NoIndex) old new
 opens_empty es n now none old new l = finds_loaded [] old new (subst (λ (xs : List Entry). IsLoaded xs old new) none l)
 
-refused_error : (es : List Entry) (n now : ℕ) (error : WorldError) → 0 < length es → IsRefusedAt (first_refused Start es) error → (old new : State) → IsLoaded es old new → OpensNone n now error old new
+refused_error : (es : List Entry) (n now : ℕ) (error : WorldError) → 0 < length es → IsRefusedAt (first_refused Start es) error → (old new : State) → IsLoaded es old new → OpensNot n now error old new
 refused_error es n now (errors.Memory a) some r old new l = HasLanded-trans old l.mid new l.before l.behind
 refused_error es n now (errors.Corrupt key) some r old new l =
     (r.0, r.2, found_bad es r.0 old new some (subst (λ (o : Option ℕ). Finds (found_by es o) old new) r.1 (finds_loaded es old new l)))
@@ -169,17 +170,18 @@ opens_life es n now life some none j m time old new l =
 
 -- ---- of a world
 
-pub opens_world : (told : Option State) (now : ℕ) (clock : Option ℕ) (life : Life) (frozen : Bool) (n m : ℕ) (old new : State) → OpensTo n m (Ok life) old new → OpensIndex (kept_by told now clock life frozen) old new
-opens_world told now clock life frozen n m old new f =
+pub opens_world : (told : Option State) (now : ℕ) (clock : Option ℕ) (life : Life) (frozen : Bool) (old new : State) → FindsLife life old new → OpensIndex (kept_by told now clock life frozen) old new
+opens_world told now clock life frozen old new f =
     record { entries = f.entries; finds = f.finds; next = f.knows.next; meta = f.knows.meta; moment = f.knows.moment; unsure = f.knows.unsure }
 
-pub opens_anew : (told : Option State) (now : ℕ) (clock : Option ℕ) (life : Life) (frozen : Bool) (n m : ℕ) (old new : State) → OpensTo n m (Ok life) old new → OpensAnew n (Ok tt) (kept_by told now clock life frozen) old new
-opens_anew told now clock life frozen n m old new f = opens_world told now clock life frozen n m old new f
+-- the world from which it was opened
+pub told_from : (w w' : Keeping) (new : Option State) (Says : ℕ → State → State → Type 0) → w ≡ w' → WhereTold w.told new (Says w.store_faults) → WhereTold w'.told new (Says w'.store_faults)
+told_from w w' new Says e h = subst (λ (k : Keeping). WhereTold k.told new (Says k.store_faults)) e h
 
 pub opens_no_more : (told : Option State) (now : ℕ) (clock : Option ℕ) (life : Life) (frozen : Bool) (n : ℕ) (x : WorldError) (r : Result ⊤ WorldError) (Is : WorldError → Type 0) → IsErrAnd r Is → ((error : WorldError) → Is error → error ≡ x) →
     (old new : State) → OpensTo n now (Err x) old new → OpensAnew n r (kept_by told now clock life frozen) old new
 opens_no_more told now clock life frozen n x (Ok done) Is h same old new o = absurd h
-opens_no_more told now clock life frozen n x (Err error) Is h same old new o = subst (λ (y : WorldError). OpensNone n now y old new) (sym (same error h)) o
+opens_no_more told now clock life frozen n x (Err error) Is h same old new o = subst (λ (y : WorldError). OpensNot n now y old new) (sym (same error h)) o
 
 pub opens_at : (told told' : Option State) (n now : ℕ) (r r' : Result Life WorldError) → r ≡ r' → WhereTold told told' (OpensTo n now r) → WhereTold told told' (OpensTo n now r')
 opens_at told told' n now r r' e w = subst (λ (x : Result Life WorldError). WhereTold told told' (OpensTo n now x)) e w

@@ -23,15 +23,16 @@ use Rattle.meta_store.specs.declared.config.Config.{Config}
 use Rattle.object_store.specs.Store.{State, with_object}
 use Rattle.source_checkpoint.specs.Deltas.{Partition, Names, IsDelta, moved, range_of}
 use Rattle.source_checkpoint.specs.declared.delta.Part.{Part}
-use Rattle.source_log.specs.Log.{Log, records_of}
+use Rattle.source_log.specs.Log.{Log, IsLog, records_of}
 use Rattle.split_states.specs.Rows.{row_at, row_spans, published}
 use Rattle.split_states.specs.declared.rows.Row.{Row}
 use Rattle.split_states.specs.declared.rows.RowState.TheVariants.{Staged}
 use Rattle.index_world.specs.Config.{reads}
-use Rattle.index_world.specs.Index.{Stands, facts_of, ranges_of, IsRowSound, IsRowKept, IsLateKey, IsLateEntry, IsBelowEnd, IsBelowOrAgain, IsBuilt, MayPublish, MayLand, HasFile, HoldsAgain, IsIndexOf, IsWholeIndexOf, is_split, has_staged, was_published, max_entries}
+use Rattle.index_world.specs.Index.{Stands, facts_of, ranges_of, IsRowSound, IsRowKept, IsSplitKept, IsLateKey, IsLateEntry, IsBelowEnd, IsBelowOrAgain, IsBuilt, MayPublish, MayLand, HasFile, HoldsAgain, IsIndexOf, IsWholeIndexOf, is_split, has_staged, was_published, max_entries}
 use Rattle.index_world.specs.Seen.{contents, accepted_in, record_count}
 use Rattle.index_world.specs.SplitFile.{split_file, weight, max_documents, max_weight}
 use Rattle.index_world.proofs.StoreKeys.{true_is_false, split_begins, meta_is_no_split, split_key-injective, get-other}
+use Rattle.index_world.proofs.Placing.{contents-placed}
 use Rattle.index_world.proofs.Journals.{stand-of}
 use Rattle.index_world.proofs.Numbers.{history-snoc, staged_le, published_le}
 use Rattle.index_world.proofs.StoreChanges.{All-each, last_or}
@@ -103,13 +104,13 @@ published_last entries moment n =
 -- ---- what holds again may enter
 
 module _ (kept : State) (entries : List Entry) (log : Log) (moment n : ℕ) (bytes : List ℕ) (s : Stands kept entries log) where
-  h : History
+  abbrev h : History
   h = history entries
 
-  new : State
+  abbrev new : State
   new = with_object kept (meta_key (length entries)) bytes
 
-  whole : List Entry
+  abbrev whole : List Entry
   whole = entries ++ record { moment = moment; act = Publish n } ∷ []
 
   snoc : history whole ≡ h ▸ record { moment = moment; act = Publish n }
@@ -205,3 +206,10 @@ whole_index kept entries log i =
 
 pub one_index : (kept : State) (entries : List Entry) (log : Log) → IsIndexOf kept entries log ↔ IsWholeIndexOf kept entries log
 one_index kept entries log = (index_whole kept entries log, whole_index kept entries log)
+
+-- ---- the files of published rows
+
+pub published_splits : (kept : State) (entries : List Entry) (log : Log) → IsLog log → IsIndexOf kept entries log → AllByRecursion (IsSplitKept kept (ledger (history entries)).tasks log) (rows (history entries))
+published_splits kept entries log is i =
+    All-each (IsRowKept kept (ledger (history entries)).tasks log) (IsSplitKept kept (ledger (history entries)).tasks log) (rows (history entries))
+    (λ row k e. let s = k e in (split_file (contents (ledger (history entries)).tasks row log), s.file, record { placed = contents-placed (ledger (history entries)).tasks row log is; spelled = refl })) i.stands.rows

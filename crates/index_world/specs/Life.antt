@@ -25,7 +25,7 @@ use Rattle.index_world.specs.Core.{Core, last_count, journal_of, IsUnusedIn, Has
 use Rattle.index_world.specs.Gate.{IsTrouble, IsUnmade, Says}
 use Rattle.index_world.specs.Index.{has_staged}
 use Rattle.index_world.specs.Loading.{LoadsAs, IsUnread}
-use Rattle.index_world.specs.Opened.{Finds, all_found, OpensNone}
+use Rattle.index_world.specs.Opened.{Finds, all_found, OpensNot}
 use Rattle.index_world.specs.Owning.{own_act}
 use Rattle.index_world.specs.Steps.{Counted, MadeLaw, AdoptedLaw, FailedLaw, ExistsLaw, Settled, Unsettled, Transacted}
 use Rattle.index_world.specs.Taking.{IsWant}
@@ -230,4 +230,4 @@ pub record FindsLife (life : Life) (old new : State) : Type 0 where
 
 abbrev pub OpensTo : (before now : ℕ) → Result Life WorldError → State → State → Type 0
 OpensTo before now (Ok life) old new = FindsLife life old new
-OpensTo before now (Err error) old new = OpensNone before now error old new
+OpensTo before now (Err error) old new = OpensNot before now error old new

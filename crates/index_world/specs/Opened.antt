@@ -91,17 +91,17 @@ pub record OpensIndex (world : Keeping) (old new : State) : Type 0 where
 
 -- None was, by the error: with these counts of faults at the start and now. A fault comes only where the count rose or stands
 -- at its end, and no key is missing.
-abbrev pub OpensNone : (before now : ℕ) → WorldError → State → State → Type 0
-OpensNone before now errors.NoIndex old new = Finds none_found old new
-OpensNone before now (errors.Corrupt key) old new = (n : ℕ) × (key ≡ meta_key n) × Finds (bad_at n) old new
-OpensNone before now (errors.Foreign key) old new = HasLanded old new × IsForeign new key
-OpensNone before now (errors.StoreFault low high) old new = HasLanded old new × (low ≡ before) × (high ≡ now) × Rose before now
-OpensNone before now (errors.Memory e) old new = HasLanded old new
-OpensNone before now (errors.Missing key) old new = ⊥
-OpensNone before now (errors.Refused refusal) old new = ⊥
-OpensNone before now errors.Full old new = ⊥
+abbrev pub OpensNot : (before now : ℕ) → WorldError → State → State → Type 0
+OpensNot before now errors.NoIndex old new = Finds none_found old new
+OpensNot before now (errors.Corrupt key) old new = (n : ℕ) × (key ≡ meta_key n) × Finds (bad_at n) old new
+OpensNot before now (errors.Foreign key) old new = HasLanded old new × IsForeign new key
+OpensNot before now (errors.StoreFault low high) old new = HasLanded old new × (low ≡ before) × (high ≡ now) × Rose before now
+OpensNot before now (errors.Memory e) old new = HasLanded old new
+OpensNot before now (errors.Missing key) old new = ⊥
+OpensNot before now (errors.Refused refusal) old new = ⊥
+OpensNot before now errors.Full old new = ⊥
 
 -- the same of a world that was opened anew
 abbrev pub OpensAnew : (before : ℕ) → Result ⊤ WorldError → Keeping → State → State → Type 0
 OpensAnew before (Ok done) world old new = OpensIndex world old new
-OpensAnew before (Err error) world old new = OpensNone before world.store_faults error old new
+OpensAnew before (Err error) world old new = OpensNot before world.store_faults error old new

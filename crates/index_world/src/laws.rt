@@ -2,15 +2,18 @@
 
 ghost use Rattle.std.specs.Prelude.{ℕ, List, length, Result, ◌≡◌, ◌↔◌, []};
 ghost use Rattle.std.specs.FinMap.{empty};
+ghost use Rattle.std.specs.List.{AllByRecursion};
 ghost use Rattle.meta_journal.specs.declared.entry.Entry.{Entry};
 ghost use Rattle.meta_journal.specs.Places.{meta_key, split_key, IsJournal};
 ghost use Rattle.meta_journal.specs.Spelling.{Spells};
 ghost use Rattle.object_store.specs.Store.{State, landed, with_object, with_late, HasLanded, LandsThen, Creates};
 ghost use Rattle.object_store.specs.declared.store.CreateError.{CreateError};
-ghost use Rattle.source_log.specs.Log.{Log};
-ghost use Rattle.index_world.specs.Index.{IsIndexOf, IsWholeIndexOf, MayEnter, IsUnused};
+ghost use Rattle.source_log.specs.Log.{Log, IsLog};
+ghost use Rattle.index_world.specs.Index.{IsIndexOf, IsSplitKept, IsWholeIndexOf, MayEnter, IsUnused};
 ghost use Rattle.std.specs.Prelude.{None, Bool, true, false, ◌<◌};
 ghost use Rattle.meta_store.specs.History.{moment_of, history as told};
+ghost use Rattle.meta_store.specs.Ledgers.{ledger};
+ghost use Rattle.meta_store.specs.Rows.{rows};
 ghost use Rattle.meta_store.specs.State.{Legal};
 ghost use Rattle.source_checkpoint.specs.declared.delta.Part.{Part};
 ghost use Rattle.split_states.specs.declared.facts.RowFacts.{RowFacts};
@@ -62,6 +65,12 @@ pub fn load_keeps()
 /// Each late create of the journal may enter behind its end exactly where the index holds again with it there.
 pub fn index_is_whole()
     ensures { (kept : State) (entries : List Entry) (log : Log) → (IsIndexOf kept entries log ↔ IsWholeIndexOf kept entries log) }
+{}
+
+/// Over an index of a log each published row's file is a split of the row's contents.
+pub fn published_files_are_splits()
+    ensures { (kept : State) (entries : List Entry) (log : Log) → IsLog log → IsIndexOf kept entries log →
+        AllByRecursion (IsSplitKept kept (ledger (told entries)).tasks log) (rows (told entries)) }
 {}
 
 /// A store without objects is an index of no entry, over each log.

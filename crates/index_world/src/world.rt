@@ -10,7 +10,7 @@ ghost use Rattle.index_world.specs.Calls.{asked, asked_moment, looked, asked_and
 ghost use Rattle.index_world.specs.Core.{Core, IsUnusedIn, IsUploadedIn};
 ghost use Rattle.index_world.specs.Gate.{Does, NoneBetween, IsTrouble, IsUnmade, AreMarks, IsMoment, stage_call, WasStaged, WasUploaded, publish_call, IsPublishable, IsRevision, IsPlan, IsPieceGiven};
 ghost use Rattle.index_world.specs.Loading.{LoadsWorld, LoadsNone, LoadsAnew};
-ghost use Rattle.index_world.specs.Opened.{OpensIndex, OpensNone, OpensAnew};
+ghost use Rattle.index_world.specs.Opened.{OpensIndex, OpensNot, OpensAnew};
 ghost use Rattle.index_world.specs.World.{IsWorld, WorldStands};
 ghost use Rattle.index_world.specs.declared.planning.PlanRow.{PlanRow};
 
@@ -87,7 +87,7 @@ impl<S: ObjectStore, C: SteadyClock> World<S, C> {
     pub fn load(alloc: Global, store: S, clock: C) -> Result<World<S, C>, Unopened<S>>
         // What any store that tells is found to be.
         ensures opened { MatchResult result (λ world. WhereTold (S.told store) world.told (OpensIndex world))
-            (λ unopened. WhereTold (S.told store) (S.told unopened.store) (OpensNone (S.fault_count store) (S.fault_count unopened.store) unopened.error)) }
+            (λ unopened. WhereTold (S.told store) (S.told unopened.store) (OpensNot (S.fault_count store) (S.fault_count unopened.store) unopened.error)) }
         ensures step { (kept : State) (core : Core) (log : Log) → S.told store ≡ Some kept → S.fault_count store ≡ core.store_faults →
             C.told clock ≡ Some core.clock → core.clock < 2 ^ 62 → core.frozen ≡ false → IsWorld kept core log →
             MatchResult result (LoadsWorld core log) (λ unopened. LoadsNone core log unopened.error (S.told unopened.store) (S.fault_count unopened.store)) }

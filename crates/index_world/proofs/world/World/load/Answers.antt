@@ -4,7 +4,7 @@ use Rattle.index_world.proofs.OpenedLemmas.{opens_world, opens_at}
 use Rattle.index_world.proofs.world.World.load.Goals as goal
 
 pub returns-in-Ok-clause-opened : goal.returns-in-Ok-clause-opened
-returns-in-Ok-clause-opened g c = told_map _ _ (opens_world _ _ _ c.in-Ok.life _ _ _) (opens_at _ _ _ _ _ _ c.in-Ok.is c.open.ensures.opened)
+returns-in-Ok-clause-opened g c = told_map _ _ (opens_world _ _ _ c.in-Ok.life _) (opens_at _ _ _ _ _ _ c.in-Ok.is c.open.ensures.opened)
 
 pub returns-in-Err-clause-opened : goal.returns-in-Err-clause-opened
 returns-in-Err-clause-opened g c = opens_at _ _ _ _ _ _ c.in-Err.is c.open.ensures.opened

@@ -1,17 +1,21 @@
-use Rattle.std.proofs.Common.{sym, subst}
+use Rattle.std.proofs.Common.{Ok, sym, subst}
+use Rattle.index_world.specs.Opened.{OpensAnew}
 use Rattle.index_world.specs.World.{Keeping, WorldStands}
 use Rattle.index_world.proofs.Reading.{loads_anew_ok, loads_anew_err, opening_at}
 use Rattle.object_store.proofs.Told.{told_map}
-use Rattle.index_world.proofs.OpenedLemmas.{opens_anew, opens_no_more, opens_at}
+use Rattle.index_world.proofs.OpenedLemmas.{opens_world, opens_no_more, opens_at, told_from}
 use Rattle.index_world.proofs.world.World.reload.Goals as goal
 
 pub returns-in_err-self-inside-clause-opened : goal.returns-in_err-self-inside-clause-opened
 returns-in_err-self-inside-clause-opened g c =
-    told_map _ _ (opens_no_more _ _ _ c.self.inside.life _ _ c.in_err-self-inside.field-0.0 c.from_residual.result _ c.from_residual.ensures.1 (λ error is. is))
-    (opens_at _ _ _ _ _ _ c.in_err-self-inside.was c.open.ensures.opened)
+    told_from _ _ _ (λ n. OpensAnew n c.from_residual.result _) c.self.view_is
+    (told_map _ _ (opens_no_more _ _ _ c.self.inside.life _ _ c.in_err-self-inside.field-0.0 c.from_residual.result _ c.from_residual.ensures.1 (λ error is. is))
+    (opens_at _ _ _ _ _ _ c.in_err-self-inside.was c.open.ensures.opened))
 
 pub returns-clause-opened : goal.returns-clause-opened
-returns-clause-opened g c = told_map _ _ (opens_anew _ _ _ c.in_ok-self-inside.field-0 _ _ _) (opens_at _ _ _ _ _ _ c.in_ok-self-inside.was c.open.ensures.opened)
+returns-clause-opened g c =
+    told_from _ _ _ (λ n. OpensAnew n (Ok tt) _) c.self.view_is
+    (told_map _ _ (opens_world _ _ _ c.in_ok-self-inside.field-0 _) (opens_at _ _ _ _ _ _ c.in_ok-self-inside.was c.open.ensures.opened))
 
 pub returns-in_err-self-inside-clause-step : goal.returns-in_err-self-inside-clause-step
 returns-in_err-self-inside-clause-step g c core log s =
