@@ -12,6 +12,7 @@ pub mod StoreChanges
 pub mod InHand
 pub mod Entering
 pub mod Indexing
+pub mod WholeIndex
 pub mod StoreCalls
 pub mod Landing
 pub mod Worlds
@@ -33,3 +34,4 @@ pub mod Appending
 pub mod Gates
 pub mod Fronts
 pub mod Reading
+pub mod OpenedLemmas

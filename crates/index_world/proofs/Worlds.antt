@@ -155,6 +155,14 @@ world-lands once old core log places w = landings-from once old old core core lo
 
 -- ---- what is not in the store
 
+-- a world whose clock is asked no more
+pub world-frozen : (kept : State) (core : Core) (log : Log) → IsWorld kept core log → IsWorld kept (record core { frozen = true }) log
+world-frozen kept core log w =
+    record {
+      stands_for = record { journal = w.stands_for.journal; files = w.stands_for.files; late = w.stands_for.late; called = w.stands_for.called };
+      index = w.index;
+    }
+
 -- the same journal, files and late creates
 pub world-same : (kept : State) (core : Core) (log : Log) (faults moment clock : ℕ) (unsure : Bool) → IsWorld kept core log →
     IsWorld kept (record core { store_faults = faults; moment = moment; clock = clock; unsure = unsure }) log
