@@ -158,7 +158,7 @@ taken_apart zero xs = refl
 taken_apart (suc k) [] = refl
 taken_apart (suc k) (x ∷ xs) = ap (λ z. x ∷ z) (taken_apart k xs)
 
-starts_itself : (r x : List ℕ) → starts_with nat_eq (r ++ 46 ∷ x) (r ++ 46 ∷ []) ≡ true
+pub starts_itself : (r x : List ℕ) → starts_with nat_eq (r ++ 46 ∷ x) (r ++ 46 ∷ []) ≡ true
 starts_itself r x =
     let whole : (r ++ 46 ∷ []) ++ x ≡ r ++ 46 ∷ x = append_assoc r (46 ∷ []) x in
     (bytes_eq-Decides (r ++ 46 ∷ []) (take (length (r ++ 46 ∷ [])) (r ++ 46 ∷ x))).1

@@ -1,5 +1,6 @@
 pub mod Choices
 pub mod Splitting
+pub mod Marking
 pub mod Answering
 pub mod Rising
 pub mod Fitting

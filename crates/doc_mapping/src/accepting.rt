@@ -1,11 +1,13 @@
-ghost use Rattle.std.specs.Prelude.{◌≡◌, Ok, Err, Some, MatchResult};
+ghost use Rattle.std.specs.Prelude.{◌≡◌, Ok, Err, Some, MatchResult, IsTrue};
 ghost use Rattle.serde_json.specs.View.{view};
+ghost use Rattle.doc_value.specs.Documents.{PathsRise};
 ghost use Rattle.doc_mapping.specs.Answer.{answer, read_answer, lacks_timestamp, IsMemory};
 ghost use Rattle.doc_mapping.specs.Documents.{has_number};
 
 use crate::documents::doc_of;
 use crate::faults::paths_rise;
 use crate::levels::is_within;
+use crate::marks::marks_of;
 use crate::reject::Reject;
 use crate::walk::members_fault;
 use doc_value::{Doc, Text};
@@ -27,6 +29,21 @@ pub fn accept(alloc: Global, config: &IndexConfig, bytes: &[u8]) -> Result<Doc, 
         (λ doc. answer config.now bytes.now ≡ Ok doc)
         (λ refusal. ¬ IsMemory refusal → answer config.now bytes.now ≡ Err refusal) }
 {
+    accept_by(alloc, config, paths_rise(&config.schema.fields), bytes)
+}
+
+/// The same, told whether the paths of the fields rise.
+pub fn accept_by(
+    alloc: Global,
+    config: &IndexConfig,
+    rise: bool,
+    bytes: &[u8],
+) -> Result<Doc, Reject>
+    requires rising { IsTrue rise → PathsRise config.now.schema.fields }
+    ensures { MatchResult result
+        (λ doc. answer config.now bytes.now ≡ Ok doc)
+        (λ refusal. ¬ IsMemory refusal → answer config.now bytes.now ≡ Err refusal) }
+{
     if bytes.len() > MAX_RECORD {
         return Err(Reject::TooLong { size: bytes.len() });
     }
@@ -34,7 +51,7 @@ pub fn accept(alloc: Global, config: &IndexConfig, bytes: &[u8]) -> Result<Doc, 
         return Err(Reject::NotJson);
     };
     match Value::from_str(alloc, text) {
-        Ok(value) => accept_value(alloc, config, &value),
+        Ok(value) => accept_value(alloc, config, rise, &value),
         Err(error) => {
             if error.is_memory() {
                 Err(Reject::Memory(AllocError))
@@ -45,7 +62,13 @@ pub fn accept(alloc: Global, config: &IndexConfig, bytes: &[u8]) -> Result<Doc, 
     }
 }
 
-fn accept_value(alloc: Global, config: &IndexConfig, value: &Value) -> Result<Doc, Reject>
+fn accept_value(
+    alloc: Global,
+    config: &IndexConfig,
+    rise: bool,
+    value: &Value,
+) -> Result<Doc, Reject>
+    requires rising { IsTrue rise → PathsRise config.now.schema.fields }
     ensures { MatchResult result
         (λ doc. read_answer config.now (Some (view value.now)) ≡ Ok doc)
         (λ refusal. ¬ IsMemory refusal → read_answer config.now (Some (view value.now)) ≡ Err refusal) }
@@ -56,12 +79,12 @@ fn accept_value(alloc: Global, config: &IndexConfig, value: &Value) -> Result<Do
     if !is_within(value, MAX_LEVELS) {
         return Err(Reject::TooDeep);
     }
-    let rise = paths_rise(&config.schema.fields);
     let root = Text::vacant(alloc);
     if let Some(refusal) = members_fault(alloc, config, rise, &root, map, MAX_LEVELS)? {
         return Err(refusal);
     }
-    let doc = doc_of(alloc, &config.schema.fields, value)?;
+    let marks = marks_of(alloc, &config.schema, rise, map)?;
+    let doc = doc_of(alloc, &config.schema.fields, &marks, value)?;
     if is_timestamp_missing(config.timestamp_field, &doc) {
         return Err(Reject::MissingTimestamp);
     }

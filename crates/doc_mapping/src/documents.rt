@@ -1,25 +1,53 @@
-ghost use Rattle.std.specs.Prelude.{◌≡◌, ◌++◌, IfOk, OnOk, option_map};
+ghost use Rattle.std.specs.Prelude.{◌≡◌, ◌++◌, false, None, IfOk, OnOk, option_map};
 ghost use Rattle.serde_json.specs.Find.{as_str, as_array};
 ghost use Rattle.serde_json.specs.View.{view, items_view};
 ghost use Rattle.doc_value.specs.Printed.{names_of};
 ghost use Rattle.doc_mapping.specs.Faults.{i64_of};
 ghost use Rattle.clock_time.specs.Datetimes.{rfc3339_seconds, unix_seconds};
 ghost use Rattle.doc_mapping.specs.Documents as spec;
+ghost use Rattle.doc_mapping.specs.Marks.{AreAbsent};
 
+use crate::marks::{Marks, may_stand};
 use clock_time::{read_rfc3339, read_unix};
 use doc_value::{Doc, DocField, Field, Fields, Kind, Text, Value as DocValue, Values};
 use serde_json::Value;
 use std::alloc::{AllocError, Global};
 
-/// The values that stand at the paths of these fields.
-pub fn doc_of(alloc: Global, fields: &Fields, root: &Value) -> Result<Doc, AllocError>
+/// The values that stand at the paths of these fields; those whose mark is false are not looked for.
+pub fn doc_of(
+    alloc: Global,
+    fields: &Fields,
+    marks: &Marks,
+    root: &Value,
+) -> Result<Doc, AllocError>
+    requires { AreAbsent fields.now (view root.now) marks.now }
     ensures { IfOk result (λ doc. doc ≡ spec.doc_from 0 fields.now (view root.now)) }
 {
     let mut doc = Doc::vacant(alloc);
     for (number, field) in fields.as_slice().iter().enumerate() {
-        push_part(alloc, &mut doc, number, field, root)?;
+        let mark = may_stand(marks, number);
+        push_marked(alloc, &mut doc, mark, number, field, root)?;
     }
     Ok(doc)
+}
+
+/// The values of a field, looked for where its mark is true.
+fn push_marked(
+    alloc: Global,
+    doc: &mut Doc,
+    mark: bool,
+    number: usize,
+    field: &Field,
+    root: &Value,
+) -> Result<(), AllocError>
+    requires { mark ≡ false → spec.value_at (names_of field.now.path) (view root.now) ≡ None }
+    ensures { OnOk result (doc.new ≡ doc.old
+        ++ spec.part_of number (spec.found_values field.now.kind (spec.value_at (names_of field.now.path) (view root.now)))) }
+{
+    if mark {
+        return push_part(alloc, doc, number, field, root);
+    }
+    Ok(())
 }
 
 /// The values of a field, if it has any.

@@ -6,8 +6,11 @@ mod documents;
 mod faults;
 pub mod laws;
 mod levels;
+mod mapping;
+mod marks;
 pub mod reject;
 mod walk;
 
 pub use accepting::{MAX_LEVELS, MAX_RECORD, accept};
+pub use mapping::Mapping;
 pub use reject::Reject;

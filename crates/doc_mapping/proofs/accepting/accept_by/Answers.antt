@@ -1,6 +1,6 @@
 use Rattle.std.proofs.Common.{arith}
 use Rattle.doc_mapping.proofs.Answering.{answer-no_text, answer-text, answered}
-use Rattle.doc_mapping.proofs.accepting.accept.Goals as goal
+use Rattle.doc_mapping.proofs.accepting.accept_by.Goals as goal
 
 pub returns-in_default : goal.returns-in_default
 returns-in_default c = λ _. answer-no_text c.args.config.now c.args.bytes.now (omega arith) c.in_default.ensures.cases.0

@@ -1,0 +1,53 @@
+ghost use Rattle.std.specs.Prelude.{◌≡◌, Ok, Err, MatchResult};
+ghost use Rattle.doc_mapping.specs.Answer.{answer, IsMemory};
+
+use crate::accepting::accept_by;
+use crate::faults::paths_rise;
+use crate::reject::Reject;
+use doc_value::Doc;
+use index_config::IndexConfig;
+use std::alloc::Global;
+use std::marker::Model;
+
+/// A configuration whose paths were looked at once, for many records.
+#[derive(Debug, Drop)]
+pub struct Mapping {
+    config: IndexConfig,
+    rise: bool,
+}
+
+impl Model for Mapping {
+    ghost use Rattle.std.specs.Prelude.{IsTrue};
+    ghost use Rattle.doc_value.specs.Documents.{PathsRise};
+    ghost use Rattle.index_config.specs.declared.config.IndexConfig.{IndexConfig};
+
+    ghost Value = { IndexConfig };
+
+    ghost view = { λ m. m.config };
+
+    ghost invariant = { λ m. IsTrue m.rise → PathsRise m.config.schema.fields };
+}
+
+impl Mapping {
+    pub fn new(config: IndexConfig) -> Mapping
+        ensures { result ≡ config }
+    {
+        let rise = paths_rise(&config.schema.fields);
+        Mapping { config, rise }
+    }
+
+    pub fn config(&self) -> &IndexConfig
+        ensures { result.now ≡ self.now }
+    {
+        &self.config
+    }
+
+    /// The document of a record, or the first refusal, as `accept` gives them.
+    pub fn accept(&self, alloc: Global, bytes: &[u8]) -> Result<Doc, Reject>
+        ensures { MatchResult result
+            (λ doc. answer self.now bytes.now ≡ Ok doc)
+            (λ refusal. ¬ IsMemory refusal → answer self.now bytes.now ≡ Err refusal) }
+    {
+        accept_by(alloc, &self.config, self.rise, bytes)
+    }
+}
