@@ -1,6 +1,7 @@
 pub mod Choices
 pub mod Splitting
 pub mod Marking
+pub mod Fits
 pub mod Answering
 pub mod Rising
 pub mod Fitting

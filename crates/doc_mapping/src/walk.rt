@@ -1,4 +1,5 @@
-ghost use Rattle.std.specs.Prelude.{◌≡◌, ◌<◌, ◌≤◌, ◌++◌, ◌∷◌, [], slice_get, IfOk, IsTrue};
+ghost use Rattle.std.specs.Prelude.{◌≡◌, ◌<◌, ◌≤◌, ◌++◌, ◌∷◌, [], slice_get, IfOk, IsTrue, Option, None};
+ghost use Rattle.doc_mapping.specs.declared.reject.Reject.{Reject};
 ghost use Rattle.doc_value.specs.Documents.{PathsRise};
 ghost use Rattle.serde_json.specs.Data.{depth, members_depth};
 ghost use Rattle.serde_json.specs.View.{view, members_view};
@@ -51,6 +52,9 @@ fn key_fault(
         spec.key_fault config.now (spec.under prefix.now key.now) key.now (view value.now)
         (spec.inner_fault config.now (spec.under prefix.now key.now) (view value.now))) }
 {
+    if fits_field(alloc, config, rise, prefix, key, value) {
+        return Ok(None);
+    }
     let path = under(alloc, prefix, key)?;
     if has_dot(key) {
         return Ok(unmapped(config.mode, path));
@@ -64,6 +68,31 @@ fn key_fault(
     match value.as_object() {
         Some(inner) => members_fault(alloc, config, rise, &path, inner, levels - 1),
         None => Ok(unless(value.is_null(), Reject::WrongType { path })),
+    }
+}
+
+/// Whether a key of the record itself names a field that its value fits, told without the key's path.
+fn fits_field(
+    alloc: Global,
+    config: &IndexConfig,
+    rise: bool,
+    prefix: &Text,
+    key: &str,
+    value: &Value,
+) -> bool
+    requires rising { IsTrue rise → PathsRise config.now.schema.fields }
+    ensures { IsTrue result → (inner : Option Reject) →
+        spec.key_fault config.now (spec.under prefix.now key.now) key.now (view value.now) inner ≡ None }
+{
+    if prefix.len() > 0 || has_dot(key) {
+        return false;
+    }
+    match number_of(&config.schema, rise, key.as_bytes()) {
+        Some(number) => {
+            let fault = field_fault(config, number, Text::vacant(alloc), value);
+            fault.is_none()
+        }
+        None => false,
     }
 }
 
