@@ -2,6 +2,7 @@ pub mod Ordering
 pub mod Nesting
 pub mod Answering
 pub mod Distinct
+pub mod Doubles
 pub mod Rising
 pub mod Serving
 pub mod Accepted

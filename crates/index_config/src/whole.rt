@@ -12,19 +12,8 @@ use crate::raw::{Faults, Purpose, RawField};
 use crate::tables::items_of;
 use doc_value::{Kind, Replica, Text, Tokenizer};
 use std::alloc::{AllocError, Global};
+use std::collections::BTreeSet;
 use toml::Value;
-
-/// Whether some field or object has this path.
-fn has_path(path: &[u8], raws: &[RawField]) -> bool
-    ensures { result ≡ spec.has_path path.now raws.now }
-{
-    for raw in raws {
-        if is_same(raw.path.as_slice(), path) {
-            return true;
-        }
-    }
-    false
-}
 
 fn doubled(
     alloc: Global,
@@ -46,9 +35,11 @@ fn doubled(
 fn check_duplicates(alloc: Global, faults: &mut Faults, raws: &[RawField]) -> Result<(), AllocError>
     ensures { OnOk result (faults.new ≡ faults.old ++ spec.duplicate_faults [] raws.now) }
 {
-    for (number, raw) in raws.iter().enumerate() {
-        let stood = has_path(raw.path.as_slice(), &raws[..number]);
-        doubled(alloc, faults, stood, raw)?;
+    let mut seen = BTreeSet::new(alloc);
+    for raw in raws {
+        let path = raw.path.as_str();
+        let added = seen.insert(path)?;
+        doubled(alloc, faults, !added, raw)?;
     }
     Ok(())
 }
