@@ -1,35 +1,28 @@
 -- What stands at the paths of a record whose keys have no fault.
-use Rattle.std.proofs.Common.{◌≡◌, ℕ, zero, suc, ◌==◌, ◌+◌, ◌<◌, nat_eq, Bool, true, false, ◌&&◌, ◌||◌, List, [], ◌∷◌, ◌++◌, length, take, drop, append_assoc, append-nil, slice_get, Option, Some, None, refl, ap, sym, ◌∙◌, subst, arith, ◌⊎◌, inl, inr, if◌then◌else◌}
+use Rattle.std.proofs.Common.{◌≡◌, ℕ, zero, suc, ◌==◌, ◌+◌, nat_eq, Bool, true, false, ◌&&◌, ◌||◌, List, [], ◌∷◌, ◌++◌, length, take, drop, append_assoc, append-nil, slice_get, Option, Some, None, refl, ap, sym, ◌∙◌, subst, arith, inl, inr, if◌then◌else◌}
 use Rattle.std.specs.Prelude.{ℤ, is_some, option_and_then}
 use Rattle.std.specs.List.{starts_with}
 use Rattle.std.specs.Ordering.{nat_cmp, is_eq}
 use Rattle.std.specs.Cmp.Lexicographic.{slice_cmp}
 use Rattle.std.specs.Str.{bytes_eq}
 use Rattle.std.specs.Cmp.{unsigned_Decides}
-use Rattle.std.specs.declared.cmp.Ordering.{Ordering}
-use Rattle.std.specs.declared.cmp.Ordering.TheVariants.{Less, Equal, Greater}
+use Rattle.std.specs.declared.cmp.Ordering.TheVariants.{Equal}
 use Rattle.std.proofs.lemmas.Slice.Eq.{bytes_eq-Decides}
 use Rattle.std.proofs.lemmas.Map.Text.{is_eq-slice_cmp}
-use Rattle.serde_json.specs.Data.{Num, Data, null, boolean, number, string, array, object, Items, no_items, item, Members, no_members, member}
-use Rattle.serde_json.specs.Find.{get, get_member, as_str, as_array, as_i64, as_u64}
+use Rattle.serde_json.specs.Data.{Num, Data, null, boolean, number, string, array, object, Items, no_items, item, Members}
+use Rattle.serde_json.specs.Find.{as_i64, as_u64}
 use Rattle.clock_time.specs.Datetimes.{rfc3339_seconds, unix_seconds}
 use Rattle.doc_value.specs.declared.schema.Field.{Field}
 use Rattle.doc_value.specs.declared.schema.Kind.{Kind}
 use Rattle.doc_value.specs.declared.schema.Kind.TheVariants as kinds
-use Rattle.doc_value.specs.declared.doc.Value.{Value}
-use Rattle.doc_value.specs.declared.doc.Value.TheVariants as values
-use Rattle.doc_value.specs.declared.doc.DocField.{DocField}
-use Rattle.doc_value.specs.Documents.{number_from, number_of}
+use Rattle.doc_value.specs.Documents.{number_from}
 use Rattle.doc_value.specs.Printed.{names_of, onto_first}
-use Rattle.index_config.specs.declared.config.Mode.{Mode}
-use Rattle.index_config.specs.declared.config.Mode.TheVariants.{Strict}
 use Rattle.index_config.specs.declared.config.Formats.{Formats}
-use Rattle.index_config.specs.declared.config.IndexConfig.{IndexConfig}
 use Rattle.doc_mapping.specs.declared.reject.Reject.{Reject}
 use Rattle.doc_mapping.specs.declared.reject.Reject.TheVariants.{WrongType}
-use Rattle.doc_mapping.specs.Faults.{unless, first_of, under, all_texts, texts_only, number_fault, date_fault, kind_fault, value_fault, formats_at, unmapped, is_object, has_dot, field_fault, path_fault, key_fault, members_fault, inner_fault}
-use Rattle.doc_mapping.specs.Documents.{value_at, values_of, texts_in}
-use Rattle.doc_mapping.specs.Held.{AreTexts, IsSecond, IsJust, Holds, HoldsObject, path_from, ArePlain}
+use Rattle.doc_mapping.specs.Faults.{unless, first_of, all_texts, number_fault, date_fault, kind_fault, value_fault, is_object}
+use Rattle.doc_mapping.specs.Documents.{values_of, texts_in}
+use Rattle.doc_mapping.specs.Held.{AreTexts, IsJust, Holds, path_from, ArePlain}
 use Rattle.index_config.specs.Accepted.{BeginsPlain}
 
 pub some_none : {A : Type 0} {B : Type 0} (x : A) → Some x ≡ None → B

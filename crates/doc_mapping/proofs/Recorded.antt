@@ -1,6 +1,5 @@
 -- What a record that is accepted holds.
 use Rattle.std.proofs.Common.{◌≡◌, ℕ, zero, suc, ◌==◌, ◌+◌, ◌<◌, nat_le, nat_lt, Bool, true, false, List, [], ◌∷◌, ◌++◌, append-nil, length, slice_get, Option, Some, None, Result, Ok, refl, ap, sym, ◌∙◌, subst, arith, ◌⊎◌, inl, inr, if◌then◌else◌}
-use Rattle.std.specs.Prelude.{option_and_then}
 use Rattle.std.specs.Cmp.{unsigned_Decides}
 use Rattle.std.specs.Ordering.{nat_cmp, is_eq}
 use Rattle.std.specs.Cmp.Lexicographic.{slice_cmp}
@@ -22,7 +21,7 @@ use Rattle.index_config.specs.declared.config.Mode.TheVariants.{Strict}
 use Rattle.index_config.specs.declared.config.IndexConfig.{IndexConfig}
 use Rattle.doc_mapping.specs.declared.reject.Reject.{Reject}
 use Rattle.doc_mapping.specs.Answer.{answer, read_answer, object_answer, fitting_answer, timed_answer, lacks_timestamp, value_of, max_record, max_levels}
-use Rattle.doc_mapping.specs.Faults.{under, value_fault, formats_at, unmapped, is_object, has_dot, path_fault, key_fault, members_fault, inner_fault}
+use Rattle.doc_mapping.specs.Faults.{formats_at, unmapped, is_object, has_dot, path_fault, members_fault, inner_fault}
 use Rattle.doc_mapping.specs.Documents.{value_at, found_values, part_of, doc_from}
 use Rattle.doc_mapping.specs.Held.{values_at, Holds, HoldsObject, IsObjectAt, path_from, ArePlain, IsMapped, IsHeldBy}
 use Rattle.index_config.specs.Accepted.{BeginsPlain, BeginPlain}

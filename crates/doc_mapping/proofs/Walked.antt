@@ -1,17 +1,17 @@
 -- What is reached by names in a record whose keys have no fault.
-use Rattle.std.proofs.Common.{◌≡◌, ℕ, suc, ◌==◌, ◌+◌, Bool, true, false, List, [], ◌∷◌, ◌++◌, append_assoc, slice_get, Option, Some, None, refl, ap, sym, ◌∙◌, subst, arith, ◌⊎◌, inl, inr, if◌then◌else◌}
+use Rattle.std.proofs.Common.{◌≡◌, ℕ, Bool, true, false, List, [], ◌∷◌, ◌++◌, append_assoc, slice_get, Option, Some, None, refl, ap, sym, ◌∙◌, subst, arith, ◌⊎◌, inl, inr, if◌then◌else◌}
 use Rattle.std.specs.Prelude.{option_and_then}
 use Rattle.std.specs.Ordering.{nat_cmp}
 use Rattle.std.specs.Cmp.Lexicographic.{slice_cmp}
 use Rattle.std.specs.declared.cmp.Ordering.{Ordering}
 use Rattle.std.specs.declared.cmp.Ordering.TheVariants.{Less, Equal, Greater}
 use Rattle.serde_json.specs.Data.{Data, null, boolean, number, string, array, object, Members, no_members, member}
-use Rattle.serde_json.specs.Find.{get, get_member}
+use Rattle.serde_json.specs.Find.{get_member}
 use Rattle.doc_value.specs.declared.schema.Field.{Field}
 use Rattle.doc_value.specs.Documents.{number_of}
 use Rattle.index_config.specs.declared.config.Mode.TheVariants.{Strict}
 use Rattle.index_config.specs.declared.config.IndexConfig.{IndexConfig}
-use Rattle.doc_mapping.specs.Faults.{first_of, under, value_fault, formats_at, unmapped, is_object, has_dot, path_fault, key_fault, members_fault, inner_fault}
+use Rattle.doc_mapping.specs.Faults.{under, formats_at, unmapped, is_object, has_dot, path_fault, key_fault, members_fault, inner_fault}
 use Rattle.doc_mapping.specs.Documents.{value_at}
 use Rattle.doc_mapping.specs.Held.{path_from, ArePlain}
 use Rattle.doc_mapping.proofs.Holding.{some_none, none_some, first_none, same_key, no_object, number_stands, grows, object_by}

@@ -1,7 +1,7 @@
 -- The numbers of an accepted configuration lie within their ranges.
-use Rattle.std.proofs.Common.{◌≡◌, ℕ, max, ◌≤◌, nat_le, Bool, true, false, ◌&&◌, List, [], ◌∷◌, ◌++◌, Option, Some, None, Ok, is_some, refl, subst, arith, inl, inr}
+use Rattle.std.proofs.Common.{◌≡◌, ℕ, max, ◌≤◌, nat_le, Bool, true, false, ◌&&◌, List, [], ◌++◌, Option, Some, None, Ok, is_some, refl, subst, arith}
 use Rattle.std.specs.Prelude.{ℤ, pos, negsuc, codes, unwrap_or}
-use Rattle.std.proofs.lemmas.Bool.{cases_Bool, and_parts, leb-true}
+use Rattle.std.proofs.lemmas.Bool.{and_parts, leb-true}
 use Rattle.toml.specs.Data.{Data, get, as_str, as_integer, as_table}
 use Rattle.index_config.specs.declared.config.IndexConfig.{IndexConfig}
 use Rattle.index_config.specs.declared.config_error.ConfigError.{ConfigError}
@@ -10,9 +10,9 @@ use Rattle.index_config.specs.declared.rule.PolicyType.TheVariants as policies
 use Rattle.index_config.specs.declared.rule.Rule.TheVariants as rules
 use Rattle.index_config.specs.declared.rule.Place.TheVariants as places
 use Rattle.index_config.specs.Accepted.{IsBetween, HasPolicyRanges, HasRanges}
-use Rattle.index_config.specs.Rules.{under, is_in, range_faults, whole_faults, seconds_faults, duration_faults, duration_of, max_seconds, wrong_unless}
-use Rattle.index_config.specs.Tables.{asked, asked_value, optional, whole, number_in, number_at, merge_factor, policy_type, policy_faults, policy_path, indexing_key_faults, indexing_faults, indexing_path, search_faults, search_path, upkeep_faults, upkeep_path, unknown_faults, members_in, table_by, optional_table, where_table, mapping_faults, mapping_path, top_faults, table_faults, text_in, text_at}
-use Rattle.index_config.specs.Fields.{number_or, in_table, in_option, seconds_in, seconds_at, greatest_factor, stable_log, limit_merge, policy_by_type, policy_in, config_of}
+use Rattle.index_config.specs.Rules.{under, range_faults, whole_faults, seconds_faults, duration_faults, duration_of, max_seconds, wrong_unless}
+use Rattle.index_config.specs.Tables.{asked, asked_value, optional, whole, number_in, number_at, merge_factor, policy_type, policy_faults, policy_path, indexing_key_faults, indexing_faults, indexing_path, search_faults, search_path, upkeep_faults, upkeep_path, unknown_faults, members_in, table_by, optional_table, where_table, mapping_faults, mapping_path, top_faults, table_faults, text_in}
+use Rattle.index_config.specs.Fields.{number_or, in_option, seconds_in, seconds_at, greatest_factor, stable_log, policy_by_type, policy_in, config_of}
 use Rattle.index_config.proofs.Distinct.{both-empty}
 use Rattle.index_config.specs.Answer.{config_answer}
 use Rattle.index_config.proofs.Accepted.{accepted-root}
