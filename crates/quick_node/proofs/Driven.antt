@@ -12,7 +12,6 @@ use Rattle.index_world.specs.Core.{with_unread, journal_of, last_count}
 use Rattle.index_world.specs.World.{IsWorld}
 use Rattle.index_world.proofs.Opening.{index_opens}
 use Rattle.node_run.specs.Calm.{log_counts}
-use Rattle.node_run.specs.Lines.{printed}
 use Rattle.node_run.specs.Node.{Node, Line, Outcome}
 use Rattle.node_run.specs.Standing.{LetGo, fresh_node}
 use Rattle.node_run.specs.Turns.{opened_node}
@@ -24,7 +23,7 @@ use Rattle.quick_node.proofs.Exact.{exact_status}
 use Rattle.quick_node.proofs.Living.{opens_moves, lives_follow}
 use Rattle.quick_node.proofs.LongerLog.{index_longer}
 use Rattle.quick_node.proofs.Onces.{holds_once}
-use Rattle.quick_node.proofs.UpToLast.{Met, front_on}
+use Rattle.quick_node.proofs.UpToLast.{Met, most_on}
 
 -- ---- a fresh node, and what opening makes of it
 
@@ -105,7 +104,7 @@ module _ (history : List Entry) (before : Before) (after : After) (fresh last : 
   shown = record { store_count = store_count; log_count = log_count; stands = world.stands_for }
 
   drives_with : (status : ℕ) (end : End) (lines : List Line) (outcomes : List Outcome) (text : List ℕ) → status ≡ status_of end → HasEnd before after lines end →
-      after.written ≡ before.written ++ text → Wrote before.write_faults after.write_faults end (printed outcomes) text → Lives before end fresh lines outcomes last →
+      after.written ≡ before.written ++ text → Wrote before.write_faults after.write_faults end outcomes text → Lives before end fresh lines outcomes last →
       Drives history before after status
   drives_with status end lines outcomes text status_is ends written wrote lives = record {
     end = end;
@@ -142,19 +141,19 @@ module _ (history : List Entry) (before : Before) (after : After) (fresh last : 
       (m.wrote before.write_faults after.write_faults piece (earlier before.write_faults write after.write_faults (last_line e) piece low w.1)) m.lives
   drives_of e read write status text piece m ra low wa written (inr w) =
       drives_with status out_of_memory m.lines m.outcomes (text ++ piece) w.0 m.reads (written ∙ append_assoc before.written text piece)
-      (front_on text piece (printed m.outcomes) m.front w.1) m.short
+      (most_on m.outcomes text piece m.front w.1) m.short
 
 -- the objects behind the call tell it
-module _ {S L R W : Type 0} (told : S → Option State) (log_count : L → ℕ) (since : L → L → Type 0) (read_count : R → ℕ) (taken : W → Option (List ℕ)) (write_count : W → ℕ) where
+module _ {S L R W : Type 0} (told : S → Option State) (count : S → ℕ) (log_count : L → ℕ) (since : L → L → Type 0) (read_count : R → ℕ) (taken : W → Option (List ℕ)) (write_count : W → ℕ) where
   pub returned : (history : List Entry) (before : Before) (fresh last : Node) → IsFresh before history fresh → IsLog before.log → (e : Ended) (read write : ℕ) (text : List ℕ) →
       Met before fresh e read write text last → (store : S) (store_faults log_faults status : ℕ) (firsts : List L) (input : R) (output : W) (kept : State) →
-      told store ≡ Some kept → IsWorld kept last.core before.log → last.core.store_faults ≡ store_faults → LetGo log_count since firsts (log_counts last.indexers) log_faults →
+      told store ≡ Some kept → count store ≡ store_faults → IsWorld kept last.core before.log → last.core.store_faults ≡ store_faults → LetGo log_count since firsts (log_counts last.indexers) log_faults →
       read ≤ read_count input → before.write_faults ≤ write → write ≤ write_count output →
       EndsSo e (before.written ++ text) (taken output) write (write_count output) status →
-      (after : After) × ShowsAfter told log_count since read_count taken write_count store store_faults log_faults firsts input output after × Drives history before after status
-  returned history before fresh last is is_log e read write text met store store_faults log_faults status firsts input output kept tells world counts let_go ra low wa line = (
+      (after : After) × ShowsAfter told count log_count since read_count taken write_count store store_faults log_faults firsts input output after × Drives history before after status
+  returned history before fresh last is is_log e read write text met store store_faults log_faults status firsts input output kept tells counted world counts let_go ra low wa line = (
     after,
-    record { kept = tells; store_count = refl; let_go = let_go; read_faults = refl; written = line.written; write_faults = refl },
+    record { kept = tells; store_count = counted; reported = refl; let_go = let_go; read_faults = refl; written = line.written; write_faults = refl },
     drives_of history before after fresh last is is_log counts refl world e read write status text line.text met ra low wa refl line.wrote,
   )
     where

@@ -151,7 +151,7 @@ module _ (Stands : Node → Type 0) (readers : ℕ) (input : List ℕ) (begun : 
         stands = stands;
         text = printed going.outcomes;
         written = same ∙ going.written;
-        wrote = ([], sym (append-nil (printed going.outcomes)));
+        wrote = inl refl;
       }
 
   pub ends_by_fault : (counts : Counts) → Rose counts.read_before counts.read_after → Runs Stands readers input begun held content counts ended.ReadFault
@@ -279,10 +279,7 @@ module _ (Stands : Node → Type 0) (readers : ℕ) (input : List ℕ) (begun : 
             stands = d.stands;
             text = printed going.outcomes ++ w.0;
             written = w.2 ∙ ap Some (append_assoc held (printed going.outcomes) w.0);
-            wrote = (
-              w.1,
-              printed_on going.outcomes outcome ∙ ap (λ l. printed going.outcomes ++ l) w.3 ∙ sym (append_assoc (printed going.outcomes) w.0 w.1),
-            );
+            wrote = record { whole = going.outcomes; last = outcome; are = refl; front = w.0; rest = w.1; line = w.3; is = refl };
           }
 
       -- it ended the run
@@ -317,7 +314,7 @@ module _ (Stands : Node → Type 0) (readers : ℕ) (input : List ℕ) (begun : 
             stands = d.stands;
             text = printed going.outcomes;
             written = written;
-            wrote = ([], sym (append-nil (printed going.outcomes)));
+            wrote = inl refl;
           }
       short_by (Some outcome) d written =
           record {
@@ -331,7 +328,7 @@ module _ (Stands : Node → Type 0) (readers : ℕ) (input : List ℕ) (begun : 
             stands = d.stands;
             text = printed going.outcomes;
             written = written;
-            wrote = (printed (outcome ∷ []), printed_on going.outcomes outcome);
+            wrote = inr (record { whole = going.outcomes; last = outcome; are = refl; front = []; rest = printed (outcome ∷ []); line = refl; is = sym (append-nil (printed going.outcomes)) });
           }
 
       -- there was no memory for it

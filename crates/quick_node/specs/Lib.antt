@@ -5,3 +5,4 @@ pub mod Pieces
 pub mod Held
 pub mod Ending
 pub mod Running
+pub mod Causes

@@ -13,7 +13,7 @@ use Rattle.node_run.specs.Turns.{Turn, Turns}
 use Rattle.quick_node.specs.declared.error_line.End.{End as Ended}
 use Rattle.quick_node.specs.declared.error_line.End.TheVariants as ended
 use Rattle.quick_node.specs.Reading.{raw_lines, fits, fit_of, names_in, last_moment, max_clients, Within, Ending, all_read, bad_line, clients_over, line_over, input_over, stopped, Reads}
-use Rattle.quick_node.specs.Serve.{End, by_reading, no_index, opening_failed, read_failed, write_failed, out_of_memory}
+use Rattle.quick_node.specs.Serve.{CutShort, WroteMost, End, by_reading, no_index, opening_failed, read_failed, write_failed, out_of_memory}
 
 -- ---- one line
 
@@ -106,14 +106,15 @@ HasRun readers input read_failed node lines outcomes last = Turns node lines out
 HasRun readers input write_failed node lines outcomes last = Turns node lines outcomes last
 HasRun readers input out_of_memory node lines outcomes last = Turns node lines outcomes last ⊎ StopsShort readers input node lines outcomes last
 
--- a line was written for each outcome; where writing failed or memory ran out a front of these lines
+-- A line was written for each outcome. Where writing failed the last outcome is that of the line whose writing failed; where
+-- memory ran out the last one's line may not be written.
 abbrev pub HasWritten : End → List ℕ → List Outcome → Type 0
 HasWritten (by_reading ending) text outcomes = text ≡ printed outcomes
 HasWritten no_index text outcomes = ⊥
 HasWritten (opening_failed low high) text outcomes = ⊥
 HasWritten read_failed text outcomes = text ≡ printed outcomes
-HasWritten write_failed text outcomes = (rest : List ℕ) × (printed outcomes ≡ text ++ rest)
-HasWritten out_of_memory text outcomes = (rest : List ℕ) × (printed outcomes ≡ text ++ rest)
+HasWritten write_failed text outcomes = CutShort outcomes text
+HasWritten out_of_memory text outcomes = WroteMost outcomes text
 
 -- A run over the lines of an input, with so many readers, from this node.
 pub record Runs (Stands : Node → Type 0) (readers : ℕ) (input : List ℕ) (node : Node) (held : List ℕ) (content : Option (List ℕ)) (counts : Counts) (e : Ended) : Type 0 where

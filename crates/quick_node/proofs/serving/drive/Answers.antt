@@ -36,12 +36,12 @@ returns-in-Err g c history before shows enters =
     c.in-Err.ensures before.kept fresh.core before.log shows.kept (shows.store_faults ∙ sym count) (ap Some (c.at.ensures ∙ sym clock)) (omega (arith, clock)) b.world in
     let last : Node = record fresh { core = l.after } in
     let opens : Opens fresh (Err l.unread) last = record { fate = l.loads.fate; core = l.after; did = l.loads.did; is = refl } in
-    returned g.S.ObjectStore.told g.L.SourceLog.fault_count g.L.SourceLog.since g.R.Source.fault_count g.W.Sink.content g.W.Sink.fault_count
+    returned g.S.ObjectStore.told g.S.ObjectStore.fault_count g.L.SourceLog.fault_count g.L.SourceLog.since g.R.Source.fault_count g.W.Sink.content g.W.Sink.fault_count
     history before fresh last b.is enters.is_log (ended.NotOpened c.in-Err.field-0.error) (g.R.Source.fault_count c.args.input.now) (g.W.Sink.fault_count c.args.output.now) []
     (met_unopened before fresh last (new_moment history before fresh b.is) (new_sure history before fresh b.is) (g.R.Source.fault_count c.args.input.now) (g.W.Sink.fault_count c.args.output.now)
     c.in-Err.field-0.error l.unread l.says opens)
     c.ended.result.store c.ended.result.store_faults c.ended.result.log_faults c.ended.result.status c.args.logs.items c.args.input.now c.ended.new.output
-    l.kept (ap g.S.ObjectStore.told c.ended.ensures.store ∙ l.tells) l.world (sym (c.ended.ensures.store_faults ∙ l.counts))
+    l.kept (ap g.S.ObjectStore.told c.ended.ensures.store ∙ l.tells) (ap g.S.ObjectStore.fault_count c.ended.ensures.store ∙ sym c.ended.ensures.store_faults) l.world (sym (c.ended.ensures.store_faults ∙ l.counts))
     (kept_logs g.L.SourceLog.fault_count g.L.SourceLog.since g.met.L.SourceLog.since_itself c.args.logs.items (log_counts last.indexers) c.ended.result.log_faults
     (shows.logs_show.log_faults ∙ sym (opened_counts history before fresh b.is (Err l.unread) last opens))
     (c.ended.ensures.log_faults ∙ c.sum_of_faults-log_faults.ensures

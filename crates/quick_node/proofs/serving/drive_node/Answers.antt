@@ -24,11 +24,11 @@ returns g c history before firsts fresh opened is opens stands streams =
     let given = c.finish-store.ensures.store firsts r.last r.stands in
     let is_log : IsLog before.log = subst IsLog (opened_log history before fresh is (Ok tt) opened opens) stands.is_log in
     let log = run_log (length before.log_faults) before.input r.end opened r.last r.lines r.outcomes r.did ∙ opened_log history before fresh is (Ok tt) opened opens in
-    returned g.S.ObjectStore.told g.L.SourceLog.fault_count g.L.SourceLog.since g.R.Source.fault_count g.W.Sink.content g.W.Sink.fault_count
+    returned g.S.ObjectStore.told g.S.ObjectStore.fault_count g.L.SourceLog.fault_count g.L.SourceLog.since g.R.Source.fault_count g.W.Sink.content g.W.Sink.fault_count
     history before fresh r.last is is_log c.run-end.result (g.R.Source.fault_count c.run-end.new.input) (g.W.Sink.fault_count c.run-end.new.output) r.text
     (met_run before fresh opened opens Stands content counts c.run-end.result streams.read_faults streams.write_faults r)
     c.ended.result.store c.ended.result.store_faults c.ended.result.log_faults c.ended.result.status firsts c.run-end.new.input c.ended.new.output
-    given.kept (ap g.S.ObjectStore.told c.ended.ensures.store ∙ given.tells) (subst (λ l. IsWorld given.kept r.last.core l) log given.world)
+    given.kept (ap g.S.ObjectStore.told c.ended.ensures.store ∙ given.tells) (ap g.S.ObjectStore.fault_count c.ended.ensures.store ∙ sym c.ended.ensures.store_faults) (subst (λ l. IsWorld given.kept r.last.core l) log given.world)
     (sym (c.ended.ensures.store_faults ∙ given.faults))
     (subst (λ n. LetGo g.L.SourceLog.fault_count g.L.SourceLog.since firsts (log_counts r.last.indexers) n) (sym c.ended.ensures.log_faults) (c.finish-store.ensures.faults firsts r.last r.stands))
     (omega arith) (omega (arith, c.run-end.ensures.written, streams.write_faults)) c.ended.ensures.counted

@@ -22,11 +22,11 @@ pub returns-in-Err : goal.returns-in-Err
 returns-in-Err g c history before fresh opened is opens world is_log logs streams =
     let same = c.in-Err.ensures.err in
     let counts : log_counts opened.indexers ≡ before.log_faults = opened_counts history before fresh is (Ok tt) opened opens in
-    returned g.S.ObjectStore.told g.L.SourceLog.fault_count g.L.SourceLog.since g.R.Source.fault_count g.W.Sink.content g.W.Sink.fault_count
+    returned g.S.ObjectStore.told g.S.ObjectStore.fault_count g.L.SourceLog.fault_count g.L.SourceLog.since g.R.Source.fault_count g.W.Sink.content g.W.Sink.fault_count
     history before fresh opened is is_log ended.Memory (g.R.Source.fault_count c.args.input.now) (g.W.Sink.fault_count c.args.output.now) []
     (met_unstarted before fresh opened opens (g.R.Source.fault_count c.args.input.now) (g.W.Sink.fault_count c.args.output.now))
     c.ended.result.store c.ended.result.store_faults c.ended.result.log_faults c.ended.result.status c.args.logs.items c.args.input.now c.ended.new.output
-    world.kept (ap g.S.ObjectStore.told c.ended.ensures.store ∙ c.unload-store.ensures.told ∙ ap (λ w. w.told) same.0 ∙ world.told) world.world
+    world.kept (ap g.S.ObjectStore.told c.ended.ensures.store ∙ c.unload-store.ensures.told ∙ ap (λ w. w.told) same.0 ∙ world.told) (ap g.S.ObjectStore.fault_count c.ended.ensures.store ∙ sym c.ended.ensures.store_faults) world.world
     (sym (c.ended.ensures.store_faults ∙ c.unload-store.ensures.faults ∙ ap (λ w. w.store_faults) same.0 ∙ world.store_faults))
     (kept_logs g.L.SourceLog.fault_count g.L.SourceLog.since g.met.L.SourceLog.since_itself c.args.logs.items (log_counts opened.indexers) c.ended.result.log_faults
     (logs.log_faults ∙ sym counts)
