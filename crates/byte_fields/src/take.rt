@@ -9,6 +9,7 @@ use crate::FieldError;
 const HIGH_END: u64 = 1 << 57;
 
 /// The number at a place, and the place behind it.
+#[inline]
 pub fn take_varint(bytes: &[u8], at: usize) -> Result<(u64, usize), FieldError>
     requires { at ≤ length bytes.now }
     // What is read is spelled there.
@@ -21,11 +22,19 @@ pub fn take_varint(bytes: &[u8], at: usize) -> Result<(u64, usize), FieldError>
     varint_whole(bytes, at)
 }
 
-#[tactic(auto, unfolding(crate::specs::Reading::varint_at))]
+// A number of one byte, which most are, is read before anything is called.
+#[inline]
+#[tactic(auto, using(crate::proofs::Taken::parts), unfolding(crate::specs::Reading::varint_at))]
 fn varint_whole(bytes: &[u8], at: usize) -> Result<(u64, usize), FieldError>
     requires { at ≤ length bytes.now }
     ensures { result ≡ varint_at bytes.now at }
 {
+    if at < bytes.len() {
+        let byte = bytes[at];
+        if byte < 128 {
+            return Ok((u64::from(byte), at + 1));
+        }
+    }
     varint_from(bytes, at, at, 10)
 }
 
@@ -117,6 +126,7 @@ fn unzigzag(number: u64) -> i64
 }
 
 /// The signed number at a place, and the place behind it.
+#[inline]
 pub fn take_signed(bytes: &[u8], at: usize) -> Result<(i64, usize), FieldError>
     requires { at ≤ length bytes.now }
     // What is read is spelled there.

@@ -1,5 +1,6 @@
 ghost use Rattle.std.specs.Prelude.{◌≡◌, ◌<◌, ◌++◌, ◌∷◌, [], ◌↔◌, length, slice_index, IfOk, OnOk, OnErr, IsTrue};
 
+use crate::List;
 use std::alloc::{AllocError, Global};
 use std::marker::Model;
 
@@ -90,3 +91,6 @@ impl Text {
         self.held.extend_from_slice(piece)
     }
 }
+
+/// A list of texts.
+pub type Texts = List<Text>;

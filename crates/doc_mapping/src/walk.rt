@@ -6,7 +6,7 @@ ghost use Rattle.doc_mapping.specs.Faults as spec;
 
 use crate::faults::{formats_at, is_object, number_of, unless, unmapped, value_fault};
 use crate::reject::Reject;
-use doc_value::Text;
+use doc_value::{Replica, Text};
 use index_config::IndexConfig;
 use serde_json::{Map, Value};
 use std::alloc::{AllocError, Global};

@@ -3,7 +3,7 @@ use Rattle.std.proofs.Common.{◌≡◌, ℕ, Bool, true, false, List, [], ◌�
 use Rattle.std.proofs.Math.Seq.{take-length}
 use Rattle.std.specs.Str.{bytes_eq}
 use Rattle.doc_value.specs.declared.rows.Row.{Row}
-use Rattle.doc_value.specs.Printed.{quoted, comma, Members, none, value, object, inside, behind, with_path, members_of, members_text}
+use Rattle.doc_value.specs.Printed.{quoted, comma, Members, none, object, inside, behind, with_path, members_of, members_text}
 use Rattle.doc_value.specs.Writing.{front, closings, begun, row_text, remaining}
 
 remaining-none : (os : List (List ℕ)) → remaining false os none ≡ closings os

@@ -1,3 +1,5 @@
 pub mod Documents
+pub mod Lent
 pub mod Printed
+pub mod Terms
 pub mod Writing

@@ -1,5 +1,6 @@
 ghost use Rattle.std.specs.Prelude.{◌≡◌, ◌<◌, ◌∷◌, [], ◌++◌, length, slice_index, IfOk, OnOk, OnErr, IsTrue, ◌↔◌};
 
+use crate::Replica;
 use std::alloc::{AllocError, Global};
 use std::marker::Model;
 
@@ -82,15 +83,15 @@ impl Bytes {
         Ok(())
     }
 
-    pub fn copy(&self, alloc: Global) -> Result<Bytes, AllocError>
-        ensures { IfOk result (λ b. b ≡ self.now) }
-    {
-        Bytes::from_slice(alloc, &self.held)
-    }
-
     pub fn is_same(&self, other: &Bytes) -> bool
         ensures { IsTrue result ↔ (self.now ≡ other.now) }
     {
         self.as_slice() == other.as_slice()
+    }
+}
+
+impl Replica for Bytes {
+    fn copy(&self, alloc: Global) -> Result<Bytes, AllocError> {
+        Bytes::from_slice(alloc, &self.held)
     }
 }

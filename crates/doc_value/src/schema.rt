@@ -1,9 +1,9 @@
-ghost use Rattle.std.specs.Prelude.{◌≡◌, ◌<◌, ◌∷◌, [], ◌++◌, length, slice_get, Some, IfOk, OnOk, OnErr};
+ghost use Rattle.std.specs.Prelude.{◌≡◌};
 
 use crate::text::Text;
+use crate::{List, Replica};
 use std::alloc::{AllocError, Global};
 use std::cmp::Ordering;
-use std::marker::Model;
 
 /// What the values of a field are. A text field is one of kind Text or TextList.
 #[derive(Clone, Copy, Debug, PartialEq, Eq)]
@@ -36,10 +36,8 @@ pub struct Field {
     pub positions: bool,
 }
 
-impl Field {
-    pub fn copy(&self, alloc: Global) -> Result<Field, AllocError>
-        ensures { IfOk result (λ f. f ≡ self.now) }
-    {
+impl Replica for Field {
+    fn copy(&self, alloc: Global) -> Result<Field, AllocError> {
         Ok(Field {
             path: self.path.copy(alloc)?,
             kind: self.kind,
@@ -53,72 +51,7 @@ impl Field {
 }
 
 /// Fields, which are named by their places from 0 on.
-#[derive(Debug, Drop)]
-pub struct Fields {
-    list: Vec<Field>,
-}
-
-impl Model for Fields {
-    ghost use Rattle.std.specs.Prelude.{List};
-    ghost use Rattle.doc_value.specs.declared.schema.Field.{Field};
-
-    ghost Value = { List Field };
-
-    ghost view = { λ f. f.list.items };
-}
-
-impl Fields {
-    pub fn vacant(alloc: Global) -> Fields
-        ensures { result ≡ [] }
-    {
-        Fields {
-            list: Vec::new(alloc),
-        }
-    }
-
-    pub fn from_vec(list: Vec<Field>) -> Fields
-        ensures { result ≡ list.items }
-    {
-        Fields { list }
-    }
-
-    pub fn as_slice(&self) -> &[Field]
-        ensures { result.now ≡ self.now }
-    {
-        self.list.as_slice()
-    }
-
-    pub fn len(&self) -> usize
-        ensures { result ≡ length self.now }
-    {
-        self.list.len()
-    }
-
-    pub fn at(&self, index: usize) -> &Field
-        requires { index < length self.now }
-        ensures { slice_get self.now index ≡ Some result.now }
-    {
-        &self.as_slice()[index]
-    }
-
-    pub fn push(&mut self, field: Field) -> Result<(), AllocError>
-        ensures ok { OnOk result (self.new ≡ self.old ++ field ∷ []) }
-        ensures err { OnErr result (self.new ≡ self.old) }
-    {
-        self.list.push(field)?;
-        Ok(())
-    }
-
-    pub fn copy(&self, alloc: Global) -> Result<Fields, AllocError>
-        ensures { IfOk result (λ f. f ≡ self.now) }
-    {
-        let mut list = Vec::new(alloc);
-        for field in self.as_slice() {
-            list.push(field.copy(alloc)?)?;
-        }
-        Ok(Fields { list })
-    }
-}
+pub type Fields = List<Field>;
 
 /// The fields of an index in byte order of their paths, at most 256, and the number of the timestamp field, if any.
 #[derive(Debug, Drop)]
@@ -129,15 +62,6 @@ pub struct Schema {
 
 impl Schema {
     ghost use Rattle.doc_value.specs.Documents.{PathsRise, number_of};
-
-    pub fn copy(&self, alloc: Global) -> Result<Schema, AllocError>
-        ensures { IfOk result (λ s. s ≡ self.now) }
-    {
-        Ok(Schema {
-            fields: self.fields.copy(alloc)?,
-            timestamp: self.timestamp,
-        })
-    }
 
     /// The number of the field with this path, found in logarithmic time.
     pub fn number_of(&self, path: &[u8]) -> Option<usize>
@@ -155,5 +79,14 @@ impl Schema {
             }
         }
         None
+    }
+}
+
+impl Replica for Schema {
+    fn copy(&self, alloc: Global) -> Result<Schema, AllocError> {
+        Ok(Schema {
+            fields: self.fields.copy(alloc)?,
+            timestamp: self.timestamp,
+        })
     }
 }

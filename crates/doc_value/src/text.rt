@@ -1,5 +1,6 @@
 ghost use Rattle.std.specs.Prelude.{◌≡◌, ◌<◌, ◌∷◌, [], ◌++◌, length, slice_index, string_bytes, IfOk, OnOk, OnErr, IsTrue, ◌↔◌, IsUtf8, encode_utf8};
 
+use crate::Replica;
 use std::alloc::{AllocError, Global};
 use std::marker::Model;
 
@@ -88,15 +89,15 @@ impl Text {
         Ok(())
     }
 
-    pub fn copy(&self, alloc: Global) -> Result<Text, AllocError>
-        ensures { IfOk result (λ t. t ≡ self.now) }
-    {
-        Text::from_str(alloc, self.held.as_str())
-    }
-
     pub fn is_same(&self, other: &Text) -> bool
         ensures { IsTrue result ↔ (self.now ≡ other.now) }
     {
         self.as_slice() == other.as_slice()
+    }
+}
+
+impl Replica for Text {
+    fn copy(&self, alloc: Global) -> Result<Text, AllocError> {
+        Text::from_str(alloc, self.held.as_str())
     }
 }

@@ -1,7 +1,7 @@
 ghost use Rattle.std.specs.Prelude.{◌≡◌, IfOk};
 
 use crate::lists::{FieldFormats, FieldNumbers};
-use doc_value::Schema;
+use doc_value::{Replica, Schema};
 use std::alloc::{AllocError, Global};
 
 /// What becomes of keys that the schema doesn't have.

@@ -7,7 +7,7 @@ ghost use Rattle.index_config.specs.Fields as fields;
 
 use crate::config::Mode;
 use crate::rule::{FieldType, PolicyType};
-use doc_value::{Text, Tokenizer};
+use doc_value::{Replica, Text, Tokenizer};
 use std::alloc::{AllocError, Global};
 use std::string::ToString;
 

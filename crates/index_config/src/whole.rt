@@ -10,7 +10,7 @@ use crate::config_error::ConfigError;
 use crate::names::{is_same, member_path, mode_named};
 use crate::raw::{Faults, Purpose, RawField};
 use crate::tables::items_of;
-use doc_value::{Kind, Text, Tokenizer};
+use doc_value::{Kind, Replica, Text, Tokenizer};
 use std::alloc::{AllocError, Global};
 use toml::Value;
 

@@ -3,7 +3,7 @@ use Rattle.std.specs.Prelude.{ℕ, ◌≡◌, ◌==◌, ◌&&◌, Bool, true, no
 use Rattle.std.specs.List.{list_any}
 use Rattle.source_checkpoint.specs.declared.span.Span.{Span}
 use Rattle.source_checkpoint.specs.Deltas.{Partition, range_of}
-use Rattle.doc_value.specs.declared.doc.Doc.{Doc}
+use Rattle.doc_value.specs.declared.doc.DocField.{DocField}
 use Rattle.split_states.specs.declared.rows.Row.{Row}
 use Rattle.source_checkpoint.specs.declared.delta.Part.{Part}
 use Rattle.split_states.specs.Answers.{IsOld}
@@ -48,7 +48,7 @@ published_contents meaning h records = flat_map (contents meaning (ledger h).tas
 pub record Placed : Type 0 where
   pub partition : Partition
   pub offset : ℕ
-  pub doc : Doc
+  pub doc : List DocField
 
 -- ---- what a Retire takes out
 

@@ -2,7 +2,7 @@
 
 ghost use Rattle.std.specs.Prelude.{◌≡◌, IfOk};
 
-use doc_value::TagFacts;
+use doc_value::{Replica, TagFacts};
 use std::alloc::{AllocError, Global};
 
 /// The least and the greatest second of some documents.
