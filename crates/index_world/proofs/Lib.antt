@@ -35,3 +35,4 @@ pub mod Appending
 pub mod Gates
 pub mod Fronts
 pub mod Reading
+pub mod Faulted

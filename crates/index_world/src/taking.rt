@@ -15,7 +15,7 @@ ghost use Rattle.source_log.specs.Log.{Log};
 ghost use Rattle.index_world.specs.Config.{reads};
 ghost use Rattle.index_world.specs.Core.{Core};
 ghost use Rattle.index_world.specs.Life.{Opening};
-ghost use Rattle.index_world.specs.Taking.{IsWant, IsUnprepared, of_create, of_get, of_journal};
+ghost use Rattle.index_world.specs.Taking.{IsFaultBetween, IsNoFault, IsWant, IsUnprepared, of_create, of_get, of_journal};
 ghost use Rattle.index_world.specs.World.{IsWorld};
 
 use crate::config::reading_of;
@@ -81,6 +81,7 @@ pub fn admit(
     ensures allowed { OnOk result (IsOk (answer_to reading meta.new.state entry.now)) }
     ensures room { OnOk result (HasRoom entry.now.act meta.new) }
     ensures want { IfErr result (λ error. IsOk (answer_to reading meta.old.state entry.now) → IsWant error) }
+    ensures no_fault { IfErr result IsNoFault }
 {
     match meta.check(entry, reading) {
         Ok(()) => {}
@@ -129,6 +130,7 @@ fn state_of(alloc: Global, entries: Vec<Entry>) -> Result<(Meta, u64), WorldErro
     ensures state { IfOk result (λ x. x.0.state ≡ spec.state_of reads (history entries.items)) }
     ensures greatest { AllByRecursion (λ e. e.moment < 2 ^ 62) entries.items → IfOk result (λ x. x.1 ≡ told.moment_of (history entries.items)) }
     ensures want { Legal reads (history entries.items) → IfErr result IsWant }
+    ensures no_fault { IfErr result IsNoFault }
 {
     let mut left = entries;
     left.reverse();
@@ -147,6 +149,7 @@ fn state_of(alloc: Global, entries: Vec<Entry>) -> Result<(Meta, u64), WorldErro
 /// Opens the index of a store.
 pub fn open<S: ObjectStore>(alloc: Global, store: &mut S) -> Result<Life, WorldError>
     ensures sure { IfOk result (λ life. life.journal.place ≡ Sure) }
+    ensures faults { IfErr result (IsFaultBetween (S.fault_count store.old) (S.fault_count store.new)) }
     ensures step { (old : State) (core : Core) (log : Log) → S.told store.old ≡ Some old → S.fault_count store.old ≡ core.store_faults →
         IsWorld old core log → core.clock < 2 ^ 62 → Opening core log result (S.told store.new) (S.fault_count store.new) }
 {

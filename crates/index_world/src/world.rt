@@ -1,6 +1,6 @@
 //! One life of a world: its store, journal, state and clock. Each call is one event.
 
-ghost use Rattle.std.specs.Prelude.{◌≡◌, ◌<◌, ◌^◌, ℕ, List, IfOk, MatchResult, None, Some, length, slice_get, max, true, false};
+ghost use Rattle.std.specs.Prelude.{◌≡◌, ◌<◌, ◌^◌, ℕ, List, IfOk, IfErr, MatchResult, None, Some, length, slice_get, max, true, false};
 ghost use Rattle.std.specs.Borrow.{Lends, sem};
 ghost use Rattle.index_world.specs.contracts.world.World.{the_row};
 ghost use Rattle.meta_journal.specs.Spelling.{CanSpellFacts};
@@ -10,6 +10,7 @@ ghost use Rattle.index_world.specs.Calls.{asked, looked, asked_and_looked, fetch
 ghost use Rattle.index_world.specs.Core.{Core, IsUnusedIn, IsUploadedIn};
 ghost use Rattle.index_world.specs.Gate.{Does, NoneBetween, IsTrouble, IsUnmade, AreMarks, IsMoment, stage_call, WasStaged, WasUploaded, publish_call, IsPublishable, IsRevision, IsPlan, IsPieceGiven};
 ghost use Rattle.index_world.specs.Loading.{LoadsWorld, LoadsNone, LoadsAnew};
+ghost use Rattle.index_world.specs.Taking.{IsFaultBetween};
 ghost use Rattle.index_world.specs.World.{IsWorld, WorldStands};
 ghost use Rattle.index_world.specs.declared.planning.PlanRow.{PlanRow};
 
@@ -83,7 +84,8 @@ fn copied_checkpoints(
 impl<S: ObjectStore, C: SteadyClock> World<S, C> {
     /// Opens the index of a store. NoIndex where its journal has no entry.
     pub fn load(alloc: Global, store: S, clock: C) -> Result<World<S, C>, Unopened<S>>
-        ensures { (kept : State) (core : Core) (log : Log) → S.told store ≡ Some kept → S.fault_count store ≡ core.store_faults →
+        ensures faults { IfErr result (λ unopened. IsFaultBetween (S.fault_count store) (S.fault_count unopened.store) unopened.error) }
+        ensures step { (kept : State) (core : Core) (log : Log) → S.told store ≡ Some kept → S.fault_count store ≡ core.store_faults →
             C.told clock ≡ Some core.clock → core.clock < 2 ^ 62 → IsWorld kept core log →
             MatchResult result (LoadsWorld core log) (λ unopened. LoadsNone core log unopened.error (S.told unopened.store) (S.fault_count unopened.store)) }
     {

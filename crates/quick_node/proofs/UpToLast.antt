@@ -1,6 +1,7 @@
 -- What a call did before its last line.
 use Rattle.std.proofs.Common.{◌≡◌, ◌⊎◌, ℕ, ◌+◌, ◌≤◌, false, List, [], ◌∷◌, ◌++◌, length, refl, sym, ap, ◌∙◌, subst, inl, inr, append-nil}
 use Rattle.std.specs.Fmt.{digits}
+use Rattle.std.specs.List.{AllByRecursion}
 use Rattle.std.specs.Prelude.{Option, Some, Ok, Err, codes}
 use Rattle.meta_store.specs.History.{history, moment_of}
 use Rattle.index_world.specs.Calls.{no_memory, store_fault, faulted, Unread, not_read}
@@ -10,11 +11,12 @@ use Rattle.index_world.specs.declared.world_error.WorldError.{WorldError}
 use Rattle.index_world.specs.declared.world_error.WorldError.TheVariants as errors
 use Rattle.node_run.specs.Lines.{printed}
 use Rattle.node_run.specs.Node.{Node, Line, Outcome}
+use Rattle.node_run.specs.Telling.{MayTell}
 use Rattle.node_run.specs.Turns.{Turns}
 use Rattle.quick_node.specs.Ending.{ended_status, last_line, EndsSo}
 use Rattle.quick_node.specs.Reading.{Ending, stopped, ReadsFrom, Reads, raw_lines}
 use Rattle.quick_node.specs.Running.{Counts, IsRunEnd, HasRunEnd, HasRun, HasWritten, Runs}
-use Rattle.quick_node.specs.Serve.{CutShort, WroteMost, WroteAll, Before, After, End, by_reading, no_index, opening_failed, read_failed, write_failed, out_of_memory, status_of, error_line, error_of, WroteLine, Wrote, HasEnd, Opens, Unopened, Lives}
+use Rattle.quick_node.specs.Serve.{CutShort, WroteMost, Before, After, End, by_reading, no_index, opening_failed, read_failed, write_failed, out_of_memory, status_of, error_line, error_of, WroteLine, Wrote, HasEnd, Opens, Unopened, Lives}
 use Rattle.quick_node.specs.declared.error_line.End.{End as Ended}
 use Rattle.quick_node.specs.declared.error_line.End.TheVariants as ended
 use Rattle.quick_node.proofs.Driving.{run_ends, run_lives}
@@ -29,6 +31,7 @@ pub record Met (before : Before) (fresh : Node) (e : Ended) (read write : ℕ) (
   pub ends : (after : After) → read ≤ after.read_faults → write ≤ after.write_faults → HasEnd before after lines end
   pub wrote : (low high : ℕ) (piece : List ℕ) → WroteLine low high (last_line e) piece → Wrote low high end outcomes (text ++ piece)
   pub lives : Lives before end fresh lines outcomes last
+  pub tell : AllByRecursion MayTell outcomes
   -- and the same where there is no memory for the last line
   pub reads : Reads (length before.log_faults) before.input lines stopped
   pub front : WroteMost outcomes text
@@ -162,6 +165,7 @@ module _ (before : Before) (fresh opened : Node) (opens : Opens fresh (Ok tt) op
     ends = λ after ra wa. run_ends before after counts r.lines r.end rb ra wb wa r.ends;
     wrote = λ low high piece l. run_wrote r.end r.outcomes r.text r.wrote low high piece (subst (λ line. WroteLine low high line piece) (run_line e r.end r.is) l);
     lives = run_lives before fresh opened opens r.end r.lines r.outcomes r.last r.did;
+    tell = r.tell;
     reads = run_stops (length before.log_faults) before.input counts r.lines r.end r.ends;
     front = run_front r.end r.outcomes r.text r.wrote;
     short = run_short r.end r.lines r.outcomes r.last r.did;
@@ -177,6 +181,7 @@ module _ (before : Before) (fresh opened : Node) (opens : Opens fresh (Ok tt) op
     ends = λ after ra wa. none;
     wrote = λ low high piece l. inl (silent low high piece l);
     lives = lives;
+    tell = tt;
     reads = none;
     front = inl refl;
     short = lives;
@@ -210,6 +215,7 @@ module _ (before : Before) (fresh last : Node) (moment : fresh.core.moment ≡ m
     ends = λ after ra wa. none_read;
     wrote = λ low high piece l. inl (silent low high piece l);
     lives = unopened_short why opens;
+    tell = tt;
     reads = none_read;
     front = inl refl;
     short = unopened_short why opens;
@@ -223,6 +229,7 @@ module _ (before : Before) (fresh last : Node) (moment : fresh.core.moment ≡ m
     ends = λ after ra wa. refl;
     wrote = λ low high piece l. record { last = piece; is = refl; wrote = subst (λ line. WroteLine low high line piece) (fault_line a b) l };
     lives = unopened (not_read (faulted (store_fault a b))) (subst (λ w. Opens fresh (Err w) last) is opens);
+    tell = tt;
     reads = none_read;
     front = inl refl;
     short = unopened_short why opens;
@@ -239,6 +246,7 @@ module _ (before : Before) (fresh last : Node) (moment : fresh.core.moment ≡ m
     ends = λ after ra wa. refl;
     wrote = λ low high piece l. record { last = piece; is = refl; wrote = subst (λ line. WroteLine low high line piece) none_line l };
     lives = unopened calls.no_index (subst (λ w. Opens fresh (Err w) last) is opens);
+    tell = tt;
     reads = none_read;
     front = inl refl;
     short = unopened_short why opens;

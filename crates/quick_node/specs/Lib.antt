@@ -6,3 +6,4 @@ pub mod Held
 pub mod Ending
 pub mod Running
 pub mod Causes
+pub mod Faults

@@ -1,6 +1,6 @@
 -- How a run over the lines of an input ends, and what one line of it does.
 use Rattle.std.specs.Prelude.{◌≡◌, ◌⊎◌, ◌≢◌, ℕ, ◌+◌, ◌≤◌, min, List, [], ◌∷◌, ◌++◌, length, Option, Some, None, Result, Ok, Err, bytes_eq}
-use Rattle.std.specs.List.{list_any}
+use Rattle.std.specs.List.{AllByRecursion, list_any}
 use Rattle.root_search.specs.Steps.{Client}
 use Rattle.std.specs.declared.alloc.AllocError.{AllocError}
 use Rattle.byte_fields.specs.Causes.{Rose}
@@ -9,6 +9,7 @@ use Rattle.node_run.specs.declared.drive.Accepts.TheVariants as accepts
 use Rattle.node_run.specs.Lines.{Spells, printed}
 use Rattle.node_run.specs.Node.{Node, Line, Outcome}
 use Rattle.node_run.specs.Standing.{accepts_of, is_known}
+use Rattle.node_run.specs.Telling.{MayTell, LineMayTell}
 use Rattle.node_run.specs.Turns.{Turn, Turns}
 use Rattle.quick_node.specs.declared.error_line.End.{End as Ended}
 use Rattle.quick_node.specs.declared.error_line.End.TheVariants as ended
@@ -24,6 +25,7 @@ pub record Does (Stands : Node → Type 0) (text : List ℕ) (node : Node) (said
   pub taken : accepts_of node line ≡ accepts.Yes
   pub last : Node
   pub turn : Turn node line said last
+  pub tells : LineMayTell said
   pub stands : Stands last
 
 -- the text is a line that the node doesn't take, for this reason
@@ -125,6 +127,7 @@ pub record Runs (Stands : Node → Type 0) (readers : ℕ) (input : List ℕ) (n
   pub ends : HasRunEnd readers input counts lines end
   pub last : Node
   pub did : HasRun readers input end node lines outcomes last
+  pub tell : AllByRecursion MayTell outcomes
   pub stands : Stands last
   pub text : List ℕ
   pub written : content ≡ Some (held ++ text)
@@ -168,6 +171,7 @@ pub record IsGoing (Stands : Node → Type 0) (readers : ℕ) (input : List ℕ)
   pub outcomes : List Outcome
   pub mid : Node
   pub turns : Turns begun lines outcomes mid
+  pub tell : AllByRecursion MayTell outcomes
   pub has : HasAnswered readers lines mid
   pub stands : Stands mid
   pub count : number ≡ length lines

@@ -1,5 +1,7 @@
 -- The clause of the top call for the command `drive`.
-use Rattle.std.specs.Prelude.{◌≡◌, ◌⊎◌, ◌≢◌, ℕ, ◌<◌, ◌≤◌, List, [], ◌∷◌, ◌++◌, length, if◌then◌else◌, decimal, codes, map, min, sum, Ok, Err, Result, ⊤, Option, Some, None, All, bytes_eq}
+use Rattle.std.specs.Prelude.{◌≡◌, ◌⊎◌, ◌≢◌, ℕ, ◌<◌, ◌≤◌, List, [], ◌∷◌, ◌++◌, length, if◌then◌else◌, decimal, codes, map, flat_map, min, sum, Ok, Err, Result, ⊤, Option, Some, None, All, bytes_eq}
+use Rattle.std.specs.List.{AllByRecursion}
+use Rattle.meta_journal.specs.declared.entry.Act.TheVariants.{Create}
 use Rattle.meta_journal.specs.declared.entry.Entry.{Entry}
 use Rattle.object_store.specs.Store.{State}
 use Rattle.source_log.specs.Log.{Log, IsLog, Extends}
@@ -18,8 +20,10 @@ use Rattle.root_search.specs.Steps.{Replied}
 use Rattle.node_run.specs.Lines.{printed}
 use Rattle.node_run.specs.Node.{Node, Line, Open, StepClient, Outcome, client_said, request_opened}
 use Rattle.node_run.specs.Standing.{LetGo}
+use Rattle.node_run.specs.Telling.{MayTell}
 use Rattle.node_run.specs.Turns.{Turn, Turns, turns, opened_node}
-use Rattle.quick_node.specs.Once.{HoldsOnce}
+use Rattle.quick_node.specs.Faults.{Interval, AreBetween, store_told}
+use Rattle.quick_node.specs.Once.{HoldsOnce, HoldsAt}
 use Rattle.quick_node.specs.Reading.{Ending, all_read, bad_line, clients_over, line_over, input_over, stopped, Reads, max_clients, max_line, max_input}
 
 abbrev pub IsPrefixOf : {X : Type 0} → List X → List X → Type 0
@@ -190,6 +194,15 @@ Lives before out_of_memory fresh lines outcomes last =
     ((lines ≡ []) × (outcomes ≡ []) × (last ≡ fresh)) ⊎ (Unopened fresh lines outcomes (not_read no_memory) last
     ⊎ (Answers fresh lines outcomes last ⊎ RanShort before fresh lines outcomes last))
 
+-- the fault of the store that the last line tells
+abbrev pub end_told : End → List Interval
+end_told (by_reading ending) = []
+end_told no_index = []
+end_told (opening_failed low high) = record { low = low; high = high } ∷ []
+end_told read_failed = []
+end_told write_failed = []
+end_told out_of_memory = []
+
 abbrev pub log_faults_of : Indexer → ℕ
 log_faults_of indexer = indexer.log_faults
 
@@ -274,8 +287,17 @@ pub record Drives (history : List Entry) (before : Before) (after : After) (stat
   pub goes_on : IsPrefixOf history exit
   -- each accepted record below the checkpoints that is not removed stands once in the published files, and nothing else does
   pub once : HoldsOnce after.kept exit before.log
+  -- so it was at each revision of the journal
+  pub always : (revision : ℕ) → HoldsAt after.kept revision exit before.log
   -- each search is answered, whatever failed
   pub searches : AnswersFrom exit before.log (length history) [] lines outcomes
+  -- each fault of the store that a line tells has its count before and behind, of which the second rose: these lie one behind
+  -- another between the counts at entry and at exit
+  pub faults : before.store_faults ≤ last_count → AreBetween before.store_faults (end_told end ++ flat_map store_told outcomes) after.store_faults
+  -- so where that count stood still none tells any, whatever was late
+  pub faultless : StoodStill before.store_faults after.store_faults → end_told end ++ flat_map store_told outcomes ≡ []
+  -- no line tells that a key is foreign, and what fails but for the entry of an indexer is the store
+  pub tell : AllByRecursion MayTell outcomes
   -- the node of the store at entry did all this, whatever failed
   pub fresh : Node
   pub is_fresh : IsFresh before history fresh
@@ -331,6 +353,10 @@ pub record EntersAs (history : List Entry) (before : Before) : Type 0 where
   pub was_log : IsLog log
   pub extends : Extends log before.log
   pub index : IsIndexOf before.kept history log
+
+-- the first entry of an index
+abbrev pub create_entry : ℕ → List ℕ → Entry
+create_entry moment config = record { moment = moment; act = Create config }
 
 -- the words of the command line are `drive` alone
 abbrev pub IsDrive : List (List ℕ) → Type 0

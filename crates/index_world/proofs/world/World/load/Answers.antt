@@ -1,8 +1,8 @@
 use Rattle.index_world.proofs.Reading.{loads_world, loads_none, opening_at}
 use Rattle.index_world.proofs.world.World.load.Goals as goal
 
-pub returns-in-Ok : goal.returns-in-Ok
-returns-in-Ok g c kept core log e at told clock w = loads_world core log c.in-Ok.life _ _ _ (opening_at core log _ _ _ _ c.in-Ok.is (c.open.ensures.step kept core log e at w clock)) told
+pub returns-in-Ok-clause-step : goal.returns-in-Ok-clause-step
+returns-in-Ok-clause-step g c kept core log e at told clock w = loads_world core log c.in-Ok.life _ _ _ (opening_at core log _ _ _ _ c.in-Ok.is (c.open.ensures.step kept core log e at w clock)) told
 
-pub returns-in-Err : goal.returns-in-Err
-returns-in-Err g c kept core log e at told clock w = loads_none core log c.in-Err.error _ _ (opening_at core log _ _ _ _ c.in-Err.is (c.open.ensures.step kept core log e at w clock))
+pub returns-in-Err-clause-step : goal.returns-in-Err-clause-step
+returns-in-Err-clause-step g c kept core log e at told clock w = loads_none core log c.in-Err.error _ _ (opening_at core log _ _ _ _ c.in-Err.is (c.open.ensures.step kept core log e at w clock))
