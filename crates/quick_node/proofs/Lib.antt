@@ -24,3 +24,4 @@ mod Caused
 mod NewIndex
 mod Faulting
 mod Telling
+mod Catching

@@ -7,3 +7,4 @@ pub mod Ending
 pub mod Running
 pub mod Causes
 pub mod Faults
+pub mod CaughtUp
