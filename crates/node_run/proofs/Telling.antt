@@ -301,14 +301,15 @@ file_at_more [] file key none apart = by (bytes_eq file.key key) apart
     by : (b : Bool) → (b ≡ true → ⊥) → (if b then Some file.bytes else None) ≡ None
     by true not = absurd (not refl)
     by false not = refl
-file_at_more (f ∷ files) file key none apart = by (bytes_eq f.key key) none
+file_at_more (f ∷ files) file key none apart = by (bytes_eq f.key key) none (λ e. file_at_more files file key e apart)
   where
-    by : (b : Bool) → (if b then Some f.bytes else file_at files key) ≡ None → (if b then Some f.bytes else file_at (files ++ file ∷ []) key) ≡ None
-    by true e = absurd (some_none f.bytes e)
-      where
-        some_none : (bytes : List ℕ) → Some bytes ≡ None → ⊥
-        some_none bytes e = cc
-    by false e = file_at_more files file key e apart
+    some_none : (bytes : List ℕ) → Some bytes ≡ None → ⊥
+    some_none bytes e = cc
+
+    by : (b : Bool) → (if b then Some f.bytes else file_at files key) ≡ None → (file_at files key ≡ None → file_at (files ++ file ∷ []) key ≡ None) →
+        (if b then Some f.bytes else file_at (files ++ file ∷ []) key) ≡ None
+    by true e more = absurd (some_none f.bytes e)
+    by false e more = more e
 
 entry_files : (standing : Option Entry) (b : Bool) (entry : Entry) (core : Core) → (entry_lands standing b entry core).files ≡ core.files
 entry_files None true entry core = refl

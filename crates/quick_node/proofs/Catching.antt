@@ -28,22 +28,26 @@ use Rattle.indexing_run.specs.Places.{Batch, Held, Place, idle, reading, staged,
 use Rattle.indexing_run.specs.Steps.{Stepped, Taken, with_record, taken_from, start_of, read_limit, batch_after, queue_after, is_empty, marks_at, fresh_batch, partitions_for, log_may_fail, log_called, checkpoints_by, take_checkpoints, idle_by, idle_unless, read_by, read_given, step_read, stage_by, step_stage, batch_facts, upload_by, publish_by, publish_refused, step_batch, step_place, step_indexer}
 use Rattle.indexing_run.specs.Steps as indexing
 use Rattle.node_run.specs.Node.{Node, Line, At, Assign, StepIndexer, RestartIndexer, RestartClient, RestartNode, Open, StepClient, Outcome, indexer_said, assigned}
-use Rattle.node_run.specs.Turns.{Luck, Turned, turned, indexer_or, indexer_at, with_indexer, made_idle, indexing_luck, said_by_indexer, indexer_stepped, assign_at, indexer_turn_by, client_turn_by, client_named, open_by, restart_by, full_turn, quiet, or_quiet, turn_by, Turn, Turns}
-use Rattle.quick_node.specs.CaughtUp.{Seen, unseen, after_said, after_line, AreEnds, SaidAtEnds, LineAtEnds, CatchesUp}
-use Rattle.quick_node.specs.Serve.{IsPrefixOf}
+use Rattle.root_search.specs.Steps.{Request, no_request, opened, planned, Client, SearchStep}
+use Rattle.node_run.proofs.Moving.{Grows, turn_later, turns_later}
+use Rattle.node_run.specs.Turns.{reader_of, said_by_client, Luck, Turned, turned, indexer_or, indexer_at, with_indexer, made_idle, indexing_luck, said_by_indexer, indexer_stepped, assign_at, indexer_turn_by, client_turn_by, client_named, open_by, restart_by, full_turn, quiet, or_quiet, turn_by, Turn, Turns}
+use Rattle.quick_node.specs.CaughtUp.{IfHere, Seen, unseen, after_said, after_line, AreEnds, SaidAtEnds, LineAtEnds, CatchesUp}
+use Rattle.quick_node.specs.Serve.{IsPrefixOf, Before, End, by_reading, no_index, opening_failed, read_failed, write_failed, out_of_memory, IsFresh, Answers, Unopened, RanShort, Lives}
+use Rattle.quick_node.proofs.Living.{opens_moves}
+use Rattle.quick_node.proofs.Searching.{prefix_on}
 
 -- ---- what a batch knows of the checkpoints that it began with
 
-abbrev AtEnd : Log → Mark → Type 0
+abbrev pub AtEnd : Log → Mark → Type 0
 AtEnd log mark = drop mark.at (records_of log mark.partition) ≡ []
 
-record Watched (log : Log) (marks : List Mark) (batch : Batch) : Type 0 where
-  none_read : batch.count ≡ 0 → (done : List Mark) × (marks ≡ done ++ batch.queue) × AllByRecursion (AtEnd log) done
-  some_read : 0 < batch.count → AllByRecursion (AtEnd log) marks → ⊥
-  open_if : batch.queue ≡ [] → batch.closed ≡ true
-  closed_if : batch.closed ≡ true → batch.count ≡ 0 → batch.queue ≡ []
+pub record Watched (log : Log) (marks : List Mark) (batch : Batch) : Type 0 where
+  pub none_read : batch.count ≡ 0 → (done : List Mark) × (marks ≡ done ++ batch.queue) × AllByRecursion (AtEnd log) done
+  pub some_read : 0 < batch.count → AllByRecursion (AtEnd log) marks → ⊥
+  pub open_if : batch.queue ≡ [] → batch.closed ≡ true
+  pub closed_if : batch.closed ≡ true → batch.count ≡ 0 → batch.queue ≡ []
 
-abbrev PlaceWatched : Log → List Mark → Place → Type 0
+abbrev pub PlaceWatched : Log → List Mark → Place → Type 0
 PlaceWatched log marks idle = Unit {0}
 PlaceWatched log marks (reading batch) = Watched log marks batch
 PlaceWatched log marks (staged held) = Unit {0}
@@ -70,17 +74,15 @@ with_more name offset (Some doc) taken = refl
 
 taken_on : (name : List ℕ) (offset : ℕ) (records : List (List ℕ)) (taken : Taken) → taken.count ≤ (taken_from name offset records taken).count
 taken_on name offset [] taken = omega arith
-taken_on name offset (bytes ∷ more) taken = by taken.heavy
+taken_on name offset (bytes ∷ more) taken = by taken.heavy (taken_on name (suc offset) more (with_record name offset (accepted bytes) taken))
   where
     one : (with_record name offset (accepted bytes) taken).count ≡ suc taken.count
     one = with_more name offset (accepted bytes) taken
 
-    rest : (with_record name offset (accepted bytes) taken).count ≤ (taken_from name (suc offset) more (with_record name offset (accepted bytes) taken)).count
-    rest = taken_on name (suc offset) more (with_record name offset (accepted bytes) taken)
-
-    by : (b : Bool) → taken.count ≤ (if b then taken else taken_from name (suc offset) more (with_record name offset (accepted bytes) taken)).count
-    by true = omega arith
-    by false = omega (arith, one, rest)
+    by : (b : Bool) → (with_record name offset (accepted bytes) taken).count ≤ (taken_from name (suc offset) more (with_record name offset (accepted bytes) taken)).count →
+        taken.count ≤ (if b then taken else taken_from name (suc offset) more (with_record name offset (accepted bytes) taken)).count
+    by true rest = omega arith
+    by false rest = omega (arith, one, rest)
 
 -- of some records one is taken at least
 taken_some : (name : List ℕ) (offset : ℕ) (bytes : List ℕ) (more : List (List ℕ)) (taken : Taken) → taken.heavy ≡ false → taken.count < (taken_from name offset (bytes ∷ more) taken).count
@@ -119,8 +121,8 @@ module _ (log : Log) (marks : List Mark) (batch : Batch) (mark : Mark) (rest : L
       closed_empty (x ∷ q) e = cc
 
       only_empty : (b : Bool) (count : ℕ) → count ≡ 0 → (b || nat_le 10000000 count || false || (nat_lt 0 count && nat_le (indexing.first_moment batch.first_read now + 60) now)) ≡ true → b ≡ true
-      only_empty true count zero e = refl
-      only_empty false count zero e = absurd (no (subst (λ n. (nat_le 10000000 n || false || (nat_lt 0 n && nat_le (indexing.first_moment batch.first_read now + 60) now)) ≡ true) zero e))
+      only_empty true count none e = refl
+      only_empty false count none e = absurd (no (subst (λ n. (nat_le 10000000 n || false || (nat_lt 0 n && nat_le (indexing.first_moment batch.first_read now + 60) now)) ≡ true) none e))
         where
           no : false ≡ true → ⊥
           no f = cc
@@ -264,7 +266,9 @@ module _ (exit : List Entry) (log : Log) (seen : Seen) where
         (nat_le (length (drop mark.at (records_of log mark.partition))) (read_limit batch.count)) now)
     read_watched batch mark rest now queue_is w (inl none) =
         read_by_records log (marks_of seen) batch mark rest queue_is w now (drop mark.at (records_of log mark.partition)) (read_limit batch.count) refl none (limit_some batch.count none)
-    read_watched batch mark rest now queue_is w (inr more) = read_more log (marks_of seen) batch mark rest queue_is w now _ _ more
+    read_watched batch mark rest now queue_is w (inr more) = read_more log (marks_of seen) batch mark rest queue_is w now
+        (taken_from mark.partition mark.at (take (read_limit batch.count) (drop mark.at (records_of log mark.partition))) (start_of batch))
+        (nat_le (length (drop mark.at (records_of log mark.partition))) (read_limit batch.count)) more
 
     read_step : (b : Bool) (batch : Batch) (mark : Mark) (rest : List Mark) (indexer : Indexer) (c : Core) → batch.queue ≡ mark ∷ rest →
         Watched log (marks_of seen) batch → indexer.assignment ≡ seen.assignment → Steps (read_by b luck log batch mark rest indexer c)
@@ -283,11 +287,11 @@ module _ (exit : List Entry) (log : Log) (seen : Seen) where
     -- an open batch has a partition to read
     open_step : (batch : Batch) (queue : List Mark) (indexer : Indexer) → batch.queue ≡ queue → batch.closed ≡ false → Watched log (marks_of seen) batch →
         indexer.assignment ≡ seen.assignment → Steps (step_read luck log batch queue indexer core)
-    open_step batch [] indexer queue_is open w same = absurd (not_both batch.closed open (w.open_if queue_is))
+    open_step batch [] indexer queue_is unclosed w same = absurd (not_both batch.closed unclosed (w.open_if queue_is))
       where
         not_both : (b : Bool) → b ≡ false → b ≡ true → ⊥
         not_both b f t = cc
-    open_step batch (mark ∷ rest) indexer queue_is open w same =
+    open_step batch (mark ∷ rest) indexer queue_is unclosed w same =
         given_step (asked luck.world core).answer batch mark rest indexer (asked luck.world core).core queue_is w same
 
     stage_steps : (r : Result ⊤ Unmade) (batch : Batch) (indexer : Indexer) (c : Core) → (AreEnds exit log seen → ⊥) → indexer.assignment ≡ seen.assignment →
@@ -359,7 +363,7 @@ module _ (exit : List Entry) (log : Log) (seen : Seen) where
 
     short_step : (b : Bool) (step : Stepped) → Steps step → Steps (indexing.or_short b step)
     short_step true step s o e p = absurd (none_some o e)
-    short_step false step s = s
+    short_step false step s o e p = s o e p
 
     indexer_step : (indexer : Indexer) → PlaceWatched log (marks_of seen) indexer.place → indexer.assignment ≡ seen.assignment → Steps (step_indexer luck log indexer core)
     indexer_step indexer w same = short_step luck.short (step_place indexer.place luck log indexer core) (place_step indexer.place indexer w same)
@@ -367,10 +371,10 @@ module _ (exit : List Entry) (log : Log) (seen : Seen) where
 -- ---- a line
 
 -- what is known of the indexer with this number agrees with the node
-record Watches (exit : List Entry) (log : Log) (i : ℕ) (seen : Seen) (indexers : List Indexer) : Type 0 where
-  within : i < length indexers
-  assignment_is : (indexer_at indexers i).assignment ≡ seen.assignment
-  place_is : PlaceWatched log (marks_at (checkpoints_of (history (take seen.revision exit))) seen.names) (indexer_at indexers i).place
+pub record Watches (exit : List Entry) (log : Log) (i : ℕ) (seen : Seen) (indexers : List Indexer) : Type 0 where
+  pub within : i < length indexers
+  pub assignment_is : (indexer_at indexers i).assignment ≡ seen.assignment
+  pub place_is : PlaceWatched log (marks_at (checkpoints_of (history (take seen.revision exit))) seen.names) (indexer_at indexers i).place
 
 at_other : (xs : List Indexer) (j i : ℕ) (x : Indexer) → (j == i) ≡ false → indexer_at (slice_set xs j x) i ≡ indexer_at xs i
 at_other [] j i x e = refl
@@ -440,3 +444,214 @@ module _ (exit : List Entry) (log : Log) (i : ℕ) (seen : Seen) where
 
   abbrev TurnDid : Line → Turned → Type 0
   TurnDid line turn = (o : Outcome) → turn.said ≡ Some o → IsPrefixOf turn.node.core.history exit → Line_did line o turn.node
+
+  module _ (node : Node) (log_is : node.log ≡ log) (w : Watches exit log i seen node.indexers) where
+    said_did : (line : Line) (o : Outcome) (new : Node) → (IsPrefixOf new.core.history exit → Line_did line o new) → TurnDid line (turned o new)
+    said_did line o new d o' e p = subst (λ x. Line_did line x new) (some_same o o' e) (d p)
+
+    unsaid_did : (line : Line) (new : Node) → TurnDid line (record { said = None; node = new })
+    unsaid_did line new o e p = absurd (none_some o e)
+
+    step_did : (j : ℕ) (step : Stepped) → ((j == i) ≡ true → Steps exit log seen step) → (o : IndexerOutcome) → step.outcome ≡ Some o → IsPrefixOf step.core.history exit → (b : Bool) → (j == i) ≡ b →
+        Line_did (StepIndexer j) (indexer_said j o) (record (with_indexer j step.indexer node) { core = step.core })
+    step_did j step steps o e p true is =
+        let d = steps is o e p in
+        let new : Seen = after_said log (length step.core.history) seen o in
+        record {
+          says = subst (λ b. IfHere b (SaidAtEnds exit log seen o)) (sym is) d.says;
+          log_is = log_is;
+          watches = subst (λ b. Watches exit log i (if b then new else seen) (slice_set node.indexers j step.indexer)) (sym is)
+              (subst (λ k. Watches exit log i new (slice_set node.indexers k step.indexer)) (sym (eqb-true j i is))
+              (this_watches node.indexers step.indexer new w.within (d.assignment_is ∙ sym (same_assignment o)) d.place_is));
+        }
+      where
+        same_assignment : (o : IndexerOutcome) → (after_said log (length step.core.history) seen o).assignment ≡ seen.assignment
+        same_assignment Checkpoint = refl
+        same_assignment (Read count) = refl
+        same_assignment (Staged number) = refl
+        same_assignment (Uploaded number) = refl
+        same_assignment (Published number) = refl
+        same_assignment CaughtUp = refl
+        same_assignment (Stale partition current from) = refl
+        same_assignment (Lost number refusal) = refl
+        same_assignment (Refused refusal) = refl
+        same_assignment (SourceFault before after) = refl
+        same_assignment (Faulted fault) = refl
+    step_did j step steps o e p false is =
+        record {
+          says = subst (λ b. IfHere b (SaidAtEnds exit log seen o)) (sym is) tt;
+          log_is = log_is;
+          watches = subst (λ b. Watches exit log i (if b then after_said log (length step.core.history) seen o else seen) (slice_set node.indexers j step.indexer)) (sym is)
+              (other_watches node.indexers j step.indexer is w);
+        }
+
+    stepped_did : (j : ℕ) (step : Stepped) (said : Option IndexerOutcome) → step.outcome ≡ said → ((j == i) ≡ true → Steps exit log seen step) →
+        TurnDid (StepIndexer j) (record { said = said_by_indexer j said; node = record (with_indexer j step.indexer node) { core = step.core } })
+    stepped_did j step None e steps = unsaid_did (StepIndexer j) _
+    stepped_did j step (Some o) e steps = said_did (StepIndexer j) (indexer_said j o) _ (λ p. step_did j step steps o e p (j == i) refl)
+
+    indexer_did : (down : Bool) (luck : Luck) (j : ℕ) → TurnDid (StepIndexer j) (indexer_turn_by down luck j node)
+    indexer_did true luck j = said_did (StepIndexer j) _ node (λ p. record { says = tt; log_is = log_is; watches = w })
+    indexer_did false luck j =
+        let step = step_indexer (indexing_luck luck) node.log (indexer_at node.indexers j) node.core in
+        stepped_did j step step.outcome refl
+        (λ is. subst (λ l. Steps exit log seen (step_indexer (indexing_luck luck) l (indexer_at node.indexers j) node.core)) (sym log_is)
+        (indexer_step exit log seen (indexing_luck luck) node.core (indexer_at node.indexers j)
+        (subst (λ k. PlaceWatched log (marks_of exit log seen seen) (indexer_at node.indexers k).place) (sym (eqb-true j i is)) w.place_is)
+        (subst (λ k. (indexer_at node.indexers k).assignment ≡ seen.assignment) (sym (eqb-true j i is)) w.assignment_is)))
+
+    assigned_did : (j : ℕ) (names : List (List ℕ)) (b : Bool) → (j == i) ≡ b →
+        Line_did (Assign j names) (assigned j (length names)) (with_indexer j (record (indexer_at node.indexers j) { assignment = Some names }) node)
+    assigned_did j names true is =
+        let x : Indexer = record (indexer_at node.indexers j) { assignment = Some names } in
+        let new : Seen = record seen { assignment = Some names } in
+        record {
+          says = tt;
+          log_is = log_is;
+          watches = subst (λ b. Watches exit log i (if b then new else seen) (slice_set node.indexers j x)) (sym is)
+              (subst (λ k. Watches exit log i new (slice_set node.indexers k x)) (sym (eqb-true j i is))
+              (this_watches node.indexers x new w.within refl (subst (λ k. PlaceWatched log (marks_of exit log seen seen) (indexer_at node.indexers k).place) (sym (eqb-true j i is)) w.place_is)));
+        }
+    assigned_did j names false is =
+        let x : Indexer = record (indexer_at node.indexers j) { assignment = Some names } in
+        record {
+          says = tt;
+          log_is = log_is;
+          watches = subst (λ b. Watches exit log i (if b then record seen { assignment = Some names } else seen) (slice_set node.indexers j x)) (sym is) (other_watches node.indexers j x is w);
+        }
+
+    assign_did : (place : Place) (j : ℕ) (names : List (List ℕ)) → TurnDid (Assign j names) (assign_at place j names (indexer_at node.indexers j) node)
+    assign_did idle j names = said_did (Assign j names) _ _ (λ p. assigned_did j names (j == i) refl)
+    assign_did (reading batch) j names = said_did (Assign j names) _ node (λ p. record { says = tt; log_is = log_is; watches = w })
+    assign_did (staged held) j names = said_did (Assign j names) _ node (λ p. record { says = tt; log_is = log_is; watches = w })
+    assign_did (uploaded held) j names = said_did (Assign j names) _ node (λ p. record { says = tt; log_is = log_is; watches = w })
+
+    -- an indexer that is made idle keeps its assignment
+    idled_watches : (j : ℕ) (b : Bool) → (j == i) ≡ b → Watches exit log i seen (slice_set node.indexers j (made_idle (indexer_at node.indexers j)))
+    idled_watches j true is =
+        subst (λ k. Watches exit log i seen (slice_set node.indexers k (made_idle (indexer_at node.indexers j)))) (sym (eqb-true j i is))
+        (this_watches node.indexers (made_idle (indexer_at node.indexers j)) seen w.within
+        (subst (λ k. (indexer_at node.indexers k).assignment ≡ seen.assignment) (sym (eqb-true j i is)) w.assignment_is) tt)
+    idled_watches j false is = other_watches node.indexers j (made_idle (indexer_at node.indexers j)) is w
+
+    open_did : (request : Request) (name text : List ℕ) (client : Client) → TurnDid (Open name text) (open_by request name text client node)
+    open_did no_request name text client = said_did (Open name text) _ _ (λ p. record { says = tt; log_is = log_is; watches = w })
+    open_did (opened other) name text client = said_did (Open name text) _ node (λ p. record { says = tt; log_is = log_is; watches = w })
+    open_did (planned plan) name text client = said_did (Open name text) _ node (λ p. record { says = tt; log_is = log_is; watches = w })
+
+    searched_did : (name : List ℕ) (said : Option SearchStep) (new : Node) → new.log ≡ log → Watches exit log i seen new.indexers →
+        TurnDid (StepClient name) (record { said = said_by_client name said; node = new })
+    searched_did name None new l v = unsaid_did (StepClient name) new
+    searched_did name (Some s) new l v = said_did (StepClient name) _ new (λ p. record { says = tt; log_is = l; watches = v })
+
+    client_did : (down : Bool) (luck : Luck) (name : List ℕ) → TurnDid (StepClient name) (client_turn_by down luck name node)
+    client_did true luck name = said_did (StepClient name) _ _ (λ p. record { says = tt; log_is = log_is; watches = w })
+    client_did false luck name = searched_did name _ _ log_is w
+
+    restart_did : (r : Result ⊤ Unread) (core : Core) → TurnDid RestartNode (restart_by r core node)
+    restart_did (Ok done) core = said_did RestartNode _ _ (λ p. record { says = tt; log_is = log_is; watches = idle_watches node.indexers w })
+    restart_did (Err (not_read (faulted fault))) core = said_did RestartNode _ _ (λ p. record { says = tt; log_is = log_is; watches = idle_watches node.indexers w })
+    restart_did (Err (not_read no_memory)) core = unsaid_did RestartNode _
+    restart_did (Err calls.no_index) core = said_did RestartNode _ _ (λ p. record { says = tt; log_is = log_is; watches = idle_watches node.indexers w })
+
+    full_did : (luck : Luck) (line : Line) → TurnDid line (full_turn luck node line)
+    full_did luck (At moment) = said_did (At moment) _ _ (λ p. record { says = tt; log_is = log_is; watches = w })
+    full_did luck (Assign j names) = assign_did (indexer_at node.indexers j).place j names
+    full_did luck (StepIndexer j) = indexer_did node.down luck j
+    full_did luck (RestartIndexer j) = said_did (RestartIndexer j) _ _ (λ p. record { says = tt; log_is = log_is; watches = idled_watches j (j == i) refl })
+    full_did luck (RestartClient name) = said_did (RestartClient name) _ _ (λ p. record { says = tt; log_is = log_is; watches = w })
+    full_did luck RestartNode = let given = calls.loaded luck.world node.core in restart_did given.answer given.core
+    full_did luck (Open name text) = open_did (client_named name node.clients).request name text (client_named name node.clients)
+    full_did luck (StepClient name) = client_did node.down luck name
+
+    quiet_did : (b : Bool) (line : Line) (turn : Turned) → TurnDid line turn → TurnDid line (or_quiet b line turn)
+    quiet_did true line turn d = unsaid_did line (quiet line turn.node)
+    quiet_did false line turn d = d
+
+    by_did : (b : Bool) (luck : Luck) (line : Line) → TurnDid line (turn_by b luck node line)
+    by_did true luck line = unsaid_did line (quiet line node)
+    by_did false luck line = quiet_did luck.short line (full_turn luck node line) (full_did luck line)
+
+    turn_did : (line : Line) (o : Outcome) (new : Node) → Turn node line (Some o) new → IsPrefixOf new.core.history exit → Line_did line o new
+    turn_did line o new turn p = subst (λ t. TurnDid line t) turn.is (by_did turn.luck.early turn.luck line) o refl p
+
+-- ---- all lines
+
+longer : (a b : Node) → Grows a.core b.core → length a.core.history ≤ length b.core.history
+longer a b g = let e : length b.core.history ≡ length a.core.history + length g.0 = ap length g.1 ∙ length-append a.core.history g.0 in omega (arith, e)
+
+within_exit : (h exit : List Entry) → IsPrefixOf h exit → length h ≤ length exit
+within_exit h exit p = let e : length exit ≡ length h + length p.0 = ap length p.1 ∙ length-append h p.0 in omega (arith, e)
+
+pub catches_up : (exit : List Entry) (log : Log) (i least : ℕ) (seen : Seen) (node last : Node) (lines : List Line) (outcomes : List Outcome) → node.log ≡ log →
+    Watches exit log i seen node.indexers → least ≤ length node.core.history → IsPrefixOf last.core.history exit → Turns node lines outcomes last →
+    CatchesUp exit log i least seen lines outcomes
+catches_up exit log i least seen node last [] [] log_is w le p run = tt
+catches_up exit log i least seen node last [] (o ∷ os) log_is w le p run = absurd run
+catches_up exit log i least seen node last (line ∷ lines) [] log_is w le p run = absurd run
+catches_up exit log i least seen node last (line ∷ lines) (o ∷ os) log_is w le p run =
+    let mid = run.0 in
+    let before = prefix_on mid.core.history last.core.history exit (turns_later mid last lines os run.2).grows p in
+    let d = turn_did exit log i seen node log_is w line o mid run.1 before in
+    let up = longer node mid (turn_later node line (Some o) mid run.1).grows in (
+      d.says,
+      (
+        length mid.core.history,
+        omega (arith, le, up),
+        within_exit mid.core.history exit before,
+        catches_up exit log i (length mid.core.history) (after_line log i (length mid.core.history) seen line o) mid last lines os d.log_is d.watches (omega arith) p run.2,
+      ),
+    )
+
+-- ---- a call
+
+reader_at : (counts : List ℕ) (i : ℕ) → ((indexer_at (map reader_of counts) i).assignment ≡ None) × ((indexer_at (map reader_of counts) i).place ≡ idle)
+reader_at [] i = (refl, refl)
+reader_at (count ∷ counts) zero = (refl, refl)
+reader_at (count ∷ counts) (suc i) = reader_at counts i
+
+readers_long : (counts : List ℕ) → length (map reader_of counts) ≡ length counts
+readers_long [] = refl
+readers_long (count ∷ counts) = ap suc (readers_long counts)
+
+fresh_watches : (exit : List Entry) (log : Log) (i : ℕ) (counts : List ℕ) → i < length counts → Watches exit log i unseen (map reader_of counts)
+fresh_watches exit log i counts within =
+    let r = reader_at counts i in
+    record {
+      within = subst (λ n. i < n) (sym (readers_long counts)) within;
+      assignment_is = r.0;
+      place_is = subst (λ place. PlaceWatched log (marks_at (checkpoints_of (history (take 0 exit))) []) place) (sym r.1) tt;
+    }
+
+module _ (entry exit : List Entry) (before : Before) (fresh : Node) (is : IsFresh before entry fresh) (i : ℕ) (within : i < length before.log_faults) where
+  abbrev Catches : List Line → List Outcome → Type 0
+  Catches lines outcomes = CatchesUp exit before.log i (length entry) unseen lines outcomes
+
+  answers_catch : (lines : List Line) (outcomes : List Outcome) (last : Node) → Answers fresh lines outcomes last → IsPrefixOf last.core.history exit → Catches lines outcomes
+  answers_catch lines outcomes last a p =
+      catches_up exit before.log i (length entry) unseen a.opened last lines outcomes (ap (λ n. n.log) a.opens.is ∙ ap (λ n. n.log) is.is)
+      (subst (λ indexers. Watches exit before.log i unseen indexers) (sym (ap (λ n. n.indexers) a.opens.is ∙ ap (λ n. n.indexers) is.is)) (fresh_watches exit before.log i before.log_faults within))
+      (subst (λ h. length h ≤ length a.opened.core.history) (ap (λ n. n.core.history) is.is) (longer fresh a.opened (opens_moves fresh _ a.opened a.opens).later.grows)) p a.turns
+
+  none_catch : (lines : List Line) (outcomes : List Outcome) → lines ≡ [] → outcomes ≡ [] → Catches lines outcomes
+  none_catch lines outcomes no_lines no_outcomes =
+      subst (λ ls. Catches ls outcomes) (sym no_lines) (subst (λ os. Catches [] os) (sym no_outcomes) tt)
+
+  unopened_catch : (lines : List Line) (outcomes : List Outcome) (why : Unread) (last : Node) → Unopened fresh lines outcomes why last → Catches lines outcomes
+  unopened_catch lines outcomes why last u = none_catch lines outcomes u.no_lines u.no_outcomes
+
+  short_catch : (lines : List Line) (outcomes : List Outcome) (last : Node) → RanShort before fresh lines outcomes last → IsPrefixOf last.core.history exit → Catches lines outcomes
+  short_catch lines outcomes last s p =
+      answers_catch lines outcomes s.mid s.answers (prefix_on s.mid.core.history last.core.history exit (turn_later s.mid s.line None last s.turn).grows p)
+
+  pub lives_catch : (end : End) (lines : List Line) (outcomes : List Outcome) (last : Node) → Lives before end fresh lines outcomes last → IsPrefixOf last.core.history exit →
+      Catches lines outcomes
+  lives_catch (by_reading ending) lines outcomes last l p = answers_catch lines outcomes last l p
+  lives_catch no_index lines outcomes last l p = unopened_catch lines outcomes _ last l
+  lives_catch (opening_failed low high) lines outcomes last l p = unopened_catch lines outcomes _ last l
+  lives_catch read_failed lines outcomes last l p = answers_catch lines outcomes last l p
+  lives_catch write_failed lines outcomes last l p = answers_catch lines outcomes last l p
+  lives_catch out_of_memory lines outcomes last (inl none) p = none_catch lines outcomes none.0 none.1
+  lives_catch out_of_memory lines outcomes last (inr (inl u)) p = unopened_catch lines outcomes _ last u
+  lives_catch out_of_memory lines outcomes last (inr (inr (inl a))) p = answers_catch lines outcomes last a p
+  lives_catch out_of_memory lines outcomes last (inr (inr (inr s))) p = short_catch lines outcomes last s p

@@ -20,6 +20,7 @@ use Rattle.quick_node.specs.Faults.{AreBetween, store_told}
 use Rattle.quick_node.specs.Ending.{EndsSo, ended_status, last_line}
 use Rattle.quick_node.specs.Serve.{IsPrefixOf, Before, After, End, out_of_memory, end_told, status_of, reading_status, WroteLine, Wrote, HasEnd, IsFresh, Opens, Lives, IsShown, AnswersFrom, EntersAs, Drives, ShowsAfter}
 use Rattle.quick_node.specs.declared.error_line.End.{End as Ended}
+use Rattle.quick_node.proofs.Catching.{lives_catch}
 use Rattle.quick_node.proofs.Calmed.{reader_counts, lives_calm}
 use Rattle.quick_node.proofs.Exact.{exact_status}
 use Rattle.quick_node.proofs.Living.{opens_moves, lives_follow}
@@ -128,6 +129,7 @@ module _ (history : List Entry) (before : Before) (after : After) (fresh last : 
     faults = told;
     faultless = λ still. none_told after.store_faults (end_told end ++ flat_map store_told outcomes) still.1
         (subst (λ n. AreBetween n (end_told end ++ flat_map store_told outcomes) after.store_faults) still.0 (told (omega (arith, still.0, still.1))));
+    catch_up = λ i within. lives_catch history (journal_of last.core) before fresh is i within end lines outcomes last lives (unread_front last.core.history last.core.standing);
     tell = tell;
     fresh = fresh;
     is_fresh = is;

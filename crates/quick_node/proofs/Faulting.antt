@@ -1,6 +1,6 @@
 -- Each fault of the store that a line tells has the counts before the line and behind it, of which the second rose.
 use Rattle.std.proofs.Common.{◌≡◌, ℕ, ◌≤◌, ◌<◌, ◌+◌, Bool, true, false, List, [], ◌∷◌, ◌++◌, flat_map, refl, sym, ap, ◌∙◌, subst, inl, inr, arith}
-use Rattle.std.specs.Prelude.{Option, Some, None, Result, Ok, Err, ⊤, if◌then◌else◌, ◌==◌, ◌||◌, is_some}
+use Rattle.std.specs.Prelude.{Option, Some, None, Result, Ok, Err, ⊤, if◌then◌else◌, ◌==◌, ◌||◌, is_some, min}
 use Rattle.byte_fields.specs.Causes.{Rose}
 use Rattle.meta_journal.specs.Places.{split_key}
 use Rattle.meta_journal.specs.declared.entry.Act.{Act}
@@ -643,11 +643,11 @@ turn_on node line said last bound turn = (turn_said node line said last bound tu
 -- where the count stood still, no fault was told
 pub none_told : (count : ℕ) (faults : List Interval) → count < last_count → AreBetween count faults count → faults ≡ []
 none_told count [] below p = refl
-none_told count (fault ∷ faults) below p = absurd (rises_past fault.high faults)
+none_told count (fault ∷ faults) below p = absurd (rises_past fault.high faults p.2 p.0 p.1)
   where
-    reach : (low high : ℕ) (faults : List Interval) → AreBetween low faults high → low ≤ high
-    reach low high [] p = p
+    reach : (low high : ℕ) (faults : List Interval) → AreBetween low faults high → min low last_count ≤ high
+    reach low high [] p = omega (arith, p)
     reach low high (fault ∷ faults) p = let r = reach fault.high high faults p.2 in let q = p.1 in omega (arith, p.0, q, r)
 
-    rises_past : (high : ℕ) (faults : List Interval) → ⊥
-    rises_past high faults = let r = reach fault.high count faults p.2 in let q = p.1 in omega (arith, p.0, q, r, below)
+    rises_past : (high : ℕ) (faults : List Interval) → AreBetween high faults count → count ≤ fault.low → Rose fault.low high → ⊥
+    rises_past high faults q low rose = let r = reach high count faults q in omega (arith, low, rose, r, below)

@@ -14,22 +14,22 @@ module _ (before : Before) (fresh : Node) (bound : fresh.core.store_faults ≤ l
   record Opened (answer : Result ⊤ Unread) (node : Node) : Type 0 where
     says : AreBetween fresh.core.store_faults (opening_told answer) node.core.store_faults
     on : fresh.core.store_faults ≤ node.core.store_faults
-    bound : node.core.store_faults ≤ last_count
+    within : node.core.store_faults ≤ last_count
 
   opened : (answer : Result ⊤ Unread) (node : Node) → Opens fresh answer node → Opened answer node
   opened answer node o =
       let s = opening_says o.fate fresh.core o.core answer bound o.did in
-      subst (λ n. Opened answer n) (sym o.is) (record { says = s.0; on = s.1; bound = s.2 })
+      subst (λ n. Opened answer n) (sym o.is) (record { says = s.0; on = s.1; within = s.2 })
 
   answers_told : (lines : List Line) (outcomes : List Outcome) (last : Node) → Answers fresh lines outcomes last →
       AreBetween fresh.core.store_faults (flat_map store_told outcomes) last.core.store_faults
   answers_told lines outcomes last a =
       let o = opened (Ok tt) a.opened a.opens in
       between_more fresh.core.store_faults a.opened.core.store_faults last.core.store_faults [] (flat_map store_told outcomes) o.on
-      (turns_told a.opened last lines outcomes o.bound a.turns)
+      (turns_told a.opened last lines outcomes o.within a.turns)
 
   answers_bound : (lines : List Line) (outcomes : List Outcome) (last : Node) → Answers fresh lines outcomes last → last.core.store_faults ≤ last_count
-  answers_bound lines outcomes last a = turns_bound a.opened last lines outcomes (opened (Ok tt) a.opened a.opens).bound a.turns
+  answers_bound lines outcomes last a = turns_bound a.opened last lines outcomes (opened (Ok tt) a.opened a.opens).within a.turns
 
   none_told : (outcomes : List Outcome) (high : ℕ) → outcomes ≡ [] → fresh.core.store_faults ≤ high → AreBetween fresh.core.store_faults (flat_map store_told outcomes) high
   none_told outcomes high none on = subst (λ os. AreBetween fresh.core.store_faults (flat_map store_told os) high) (sym none) on

@@ -1,5 +1,5 @@
 -- When an indexer says that it has caught up, by the lines and their outcomes alone.
-use Rattle.std.specs.Prelude.{◌≡◌, ℕ, ◌≤◌, ◌==◌, List, [], ◌∷◌, length, take, drop, if◌then◌else◌, Option, Some, None}
+use Rattle.std.specs.Prelude.{◌≡◌, ℕ, ◌≤◌, ◌==◌, Bool, true, false, List, [], ◌∷◌, length, take, drop, if◌then◌else◌, Option, Some, None}
 use Rattle.std.specs.List.{AllByRecursion}
 use Rattle.meta_journal.specs.declared.entry.Entry.{Entry}
 use Rattle.meta_store.specs.History.{history}
@@ -58,8 +58,12 @@ SaidAtEnds exit log seen (Refused refusal) = AreEnds exit log seen → ⊥
 SaidAtEnds exit log seen (SourceFault before after) = Unit {0}
 SaidAtEnds exit log seen (Faulted fault) = Unit {0}
 
+abbrev pub IfHere : Bool → Type 0 → Type 0
+IfHere true fact = fact
+IfHere false fact = Unit {0}
+
 abbrev pub LineAtEnds : List Entry → Log → ℕ → Seen → Line → Outcome → Type 0
-LineAtEnds exit log i seen (StepIndexer j) (indexer_said k outcome) = if j == i then SaidAtEnds exit log seen outcome else Unit {0}
+LineAtEnds exit log i seen (StepIndexer j) (indexer_said k outcome) = IfHere (j == i) (SaidAtEnds exit log seen outcome)
 LineAtEnds exit log i seen line outcome = Unit {0}
 
 -- So does the indexer with this number line by line. What it sees is of revisions that don't fall and that the journal reaches.

@@ -22,6 +22,7 @@ use Rattle.node_run.specs.Node.{Node, Line, Open, StepClient, Outcome, client_sa
 use Rattle.node_run.specs.Standing.{LetGo}
 use Rattle.node_run.specs.Telling.{MayTell}
 use Rattle.node_run.specs.Turns.{Turn, Turns, turns, opened_node}
+use Rattle.quick_node.specs.CaughtUp.{unseen, CatchesUp}
 use Rattle.quick_node.specs.Faults.{Interval, AreBetween, store_told}
 use Rattle.quick_node.specs.Once.{HoldsOnce, HoldsAt}
 use Rattle.quick_node.specs.Reading.{Ending, all_read, bad_line, clients_over, line_over, input_over, stopped, Reads, max_clients, max_line, max_input}
@@ -296,6 +297,8 @@ pub record Drives (history : List Entry) (before : Before) (after : After) (stat
   pub faults : before.store_faults ≤ last_count → AreBetween before.store_faults (end_told end ++ flat_map store_told outcomes) after.store_faults
   -- so where that count stood still none tells any, whatever was late
   pub faultless : StoodStill before.store_faults after.store_faults → end_told end ++ flat_map store_told outcomes ≡ []
+  -- each indexer says that it caught up exactly where the checkpoints that it saw are the ends of its partitions
+  pub catch_up : (i : ℕ) → i < length before.log_faults → CatchesUp exit before.log i (length history) unseen lines outcomes
   -- no line tells that a key is foreign, and what fails but for the entry of an indexer is the store
   pub tell : AllByRecursion MayTell outcomes
   -- the node of the store at entry did all this, whatever failed
