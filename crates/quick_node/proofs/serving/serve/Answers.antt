@@ -1,4 +1,4 @@
-use Rattle.std.proofs.Common.{refl, sym, ap, ◌∙◌}
+use Rattle.std.proofs.Common.{refl, sym, ap, ◌∙◌, arith}
 use Rattle.quick_node.proofs.Words.{not_both}
 use Rattle.quick_node.specs.Causes.{faults_of}
 use Rattle.quick_node.proofs.Caused.{other_causes}
