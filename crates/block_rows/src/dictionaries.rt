@@ -161,3 +161,51 @@ fn cuts_of_a_long_one(rt: HostRuntime) -> Result<(), Fail> {
     }
     Ok(())
 }
+
+// How many terms with a prefix the blocks lend that the index gives for it, each read alone.
+fn lent_by_blocks(area: &[u8], index: &BlockIndex, prefix: &[u8]) -> Result<u16, Corrupt> {
+    let mut terms = 0u16;
+    for number in index.blocks_with(prefix) {
+        let (start, end) = index.place_of(number, area.len() as u64)?;
+        let Some(bytes) = area.get(start as usize..end as usize) else {
+            return Err(Corrupt { at: 0 });
+        };
+        let range = Block::read(bytes)?.prefix_range(prefix)?;
+        terms = terms.saturating_add(lent(range)?);
+    }
+    Ok(terms)
+}
+
+#[test]
+fn blocks_are_read_alone(rt: HostRuntime) -> Result<(), Fail> {
+    let alloc = rt.alloc();
+    let list = terms(alloc, 1000)?;
+    assert!(rt; list.is_rising());
+    let (area, index) = build_dict(alloc, &list)?;
+    let whole = area.as_slice();
+    assert_eq!(rt; lent_by_blocks(whole, &index, b"\x01")?, 256);
+    assert_eq!(rt; lent_by_blocks(whole, &index, b"\x03")?, 232);
+    assert_eq!(rt; lent_by_blocks(whole, &index, b"")?, 1000);
+    assert_eq!(rt; index.block_of(b""), None);
+    assert_eq!(rt; index.block_of(key(63).as_slice()), Some(0));
+    assert_eq!(rt; index.block_of(key(64).as_slice()), Some(1));
+    let blocks = index.blocks_between(key(63).as_slice(), key(128).as_slice());
+    assert_eq!(rt; (blocks.start, blocks.end), (0, 2));
+    Ok(())
+}
+
+#[test]
+fn terms_are_taken_one_after_another(rt: HostRuntime) -> Result<(), Fail> {
+    let alloc = rt.alloc();
+    let list = terms(alloc, 130)?;
+    assert!(rt; list.is_rising());
+    let (area, index) = build_dict(alloc, &list)?;
+    let mut builder = DictBuilder::vacant(alloc);
+    for number in 0..130 {
+        builder.append(alloc, key(number).as_slice(), &info(number))?;
+    }
+    let (bytes, blocks) = builder.finish();
+    assert_eq!(rt; bytes.as_slice(), area.as_slice());
+    assert_eq!(rt; blocks.len(), index.len());
+    Ok(())
+}

@@ -113,3 +113,44 @@ fn cuts_are_read_safely(rt: HostRuntime) -> Result<(), Fail> {
     }
     Ok(())
 }
+
+#[test]
+fn blocks_are_given(rt: HostRuntime) -> Result<(), Fail> {
+    let alloc = rt.alloc();
+    let list = listed(alloc, 300, 2, &[5])?;
+    let (bytes, positions) = encode_postings(alloc, &list, true)?;
+    let mut cursor = Cursor::over(bytes.as_slice(), positions.as_slice(), 300, true);
+    let mut found = [0; 128];
+    assert_eq!(rt; cursor.next()?, Some(0));
+    assert_eq!(rt; cursor.next_block(&mut found)?, 127);
+    assert_eq!(rt; (found[0], found[126], found[127]), (2, 254, 0));
+    assert_eq!(rt; cursor.seek(254)?, Some(254));
+    assert_eq!(rt; cursor.next_position()?, Some(5));
+    assert_eq!(rt; cursor.next_position()?, None);
+    assert_eq!(rt; cursor.next_block(&mut found)?, 128);
+    assert_eq!(rt; (found[0], found[127]), (256, 510));
+    assert_eq!(rt; cursor.next_block(&mut found)?, 44);
+    assert_eq!(rt; cursor.next_block(&mut found)?, 0);
+    Ok(())
+}
+
+#[test]
+fn rows_are_appended(rt: HostRuntime) -> Result<(), Fail> {
+    let alloc = rt.alloc();
+    let rows = [
+        Row {
+            document: 0,
+            positions: &[1, 300],
+        },
+        Row {
+            document: 1,
+            positions: &[1, 300],
+        },
+    ];
+    let mut postings = vec![in alloc; 9]?;
+    let mut places = Vec::new(alloc);
+    append_postings(alloc, &rows, true, &mut postings, &mut places)?;
+    assert_eq!(rt; postings.as_slice(), [9, 0, 2, 1, 2].as_slice());
+    assert_eq!(rt; places.as_slice(), [1, 0xab, 2, 1, 0xab, 2].as_slice());
+    Ok(())
+}

@@ -1,5 +1,5 @@
 -- Why a call of the outside may fail.
-use Rattle.std.specs.Prelude.{ℕ, ◌+◌, ◌-◌, ◌^◌, ◌≤◌, ◌<◌, ◌≡◌, ◌⊎◌, min}
+use Rattle.std.specs.Prelude.{ℕ, ◌+◌, ◌-◌, ◌^◌, ◌≤◌, min}
 
 -- the greatest count
 abbrev pub last_count : ℕ
@@ -12,10 +12,6 @@ following n = min (n + 1) last_count
 -- a count of faults rose, or stands at its end
 abbrev pub Rose : ℕ → ℕ → Type 0
 Rose before now = following before ≤ now
-
--- the same by cases
-abbrev pub MayFail : ℕ → ℕ → Type 0
-MayFail before now = (before < now) ⊎ (before ≡ last_count)
 
 -- the count never falls, and a call failed only where it rose in that call, or stands at its end
 pub record HasCause (before now : ℕ) (Failed : Type 0) : Type 0 where

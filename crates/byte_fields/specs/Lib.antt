@@ -2,6 +2,7 @@ pub mod Causes
 pub mod Spelling
 pub mod Reading
 pub mod Steps
+pub mod Long
 pub mod ClientName
 pub mod ClientFields
 pub mod Places

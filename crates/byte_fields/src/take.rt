@@ -1,6 +1,7 @@
-ghost use Rattle.std.specs.Prelude.{◌≡◌, ◌≤◌, ◌<◌, ◌+◌, ◌^◌, ◌++◌, ◌-◌, List, ℕ, ℤ, Bool, length, take, drop, IfOk, Ok};
+ghost use Rattle.std.specs.Prelude.{◌≡◌, ◌≤◌, ◌<◌, ◌+◌, ◌^◌, ◌++◌, ◌-◌, List, ℕ, ℤ, Bool, length, take, drop, IfOk, IfErr, Ok, Err};
 ghost use Rattle.std.specs.Str.{IsUtf8};
 ghost use Rattle.byte_fields.specs.Spelling.{varint, zigzag, signed, byte_string, flag, four, eight, SpelledAt};
+ghost use Rattle.byte_fields.specs.Long.{EndsAt};
 ghost use Rattle.byte_fields.specs.Reading.{varint_part, varint_at, unzigzag, signed_at, bytes_at, text_at, flag_at, four_at, eight_at, Gives};
 
 use crate::FieldError;
@@ -35,33 +36,47 @@ fn varint_whole(bytes: &[u8], at: usize) -> Result<(u64, usize), FieldError>
             return Ok((u64::from(byte), at + 1));
         }
     }
-    varint_from(bytes, at, at, 10)
+    varint_long(bytes, at)
 }
 
-// The number of at most `left` bytes at a place of a field that began at `start`.
-#[tactic(auto, using(crate::proofs::Taken::parts))]
-fn varint_from(bytes: &[u8], at: usize, start: usize, left: u8) -> Result<(u64, usize), FieldError>
-    requires { at ≤ length bytes.now }
-    ensures { result ≡ varint_part left bytes.now at start }
+// Where the number's last byte stands.
+fn last_of(bytes: &[u8], start: usize) -> Result<usize, FieldError>
+    requires { start ≤ length bytes.now }
+    ensures ok { IfOk result (λ last. EndsAt bytes.now start last) }
+    ensures err { IfErr result (λ fault. varint_part 10 bytes.now start start ≡ Err fault) }
 {
-    if left == 0 {
-        return Err(FieldError::TooLarge { at: start });
+    let mut last = start;
+    while last < bytes.len() {
+        if bytes[last] < 128 {
+            return Ok(last);
+        }
+        if last - start == 9 {
+            return Err(FieldError::TooLarge { at: start });
+        }
+        last += 1;
     }
-    if at == bytes.len() {
-        return Err(FieldError::Short { at });
-    }
-    let byte = bytes[at];
-    if byte < 128 {
-        return Ok((u64::from(byte), at + 1));
-    }
-    let (high, next) = varint_from(bytes, at + 1, start, left - 1)?;
-    if high == 0 {
+    Err(FieldError::Short { at: last })
+}
+
+// The number at a place, from its last byte to its first.
+fn varint_long(bytes: &[u8], start: usize) -> Result<(u64, usize), FieldError>
+    requires { start ≤ length bytes.now }
+    ensures { result ≡ varint_part 10 bytes.now start start }
+{
+    let last = last_of(bytes, start)?;
+    let mut value = u64::from(bytes[last]);
+    if value == 0 && start < last {
         return Err(FieldError::NotMinimal { at: start });
     }
-    if high >= HIGH_END {
-        return Err(FieldError::TooLarge { at: start });
+    let mut at = last;
+    while start < at {
+        if value >= HIGH_END {
+            return Err(FieldError::TooLarge { at: start });
+        }
+        at -= 1;
+        value = u64::from(bytes[at] - 128) + 128 * value;
     }
-    Ok((u64::from(byte - 128) + 128 * high, next))
+    Ok((value, last + 1))
 }
 
 /// A length at a place, and that many bytes, and the place behind them.

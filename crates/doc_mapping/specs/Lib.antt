@@ -1,3 +1,4 @@
-pub mod Faults
-pub mod Documents
 pub mod Answer
+pub mod Documents
+pub mod Faults
+pub mod Held

@@ -1,11 +1,14 @@
 // Laws of the documents of records, over the definitions alone.
 
-ghost use Rattle.std.specs.Prelude.{◌≡◌, ℕ, List, Ok, IfSome, IsTrue};
-ghost use Rattle.doc_value.specs.Documents.{IsOfSchema};
+ghost use Rattle.std.specs.Prelude.{◌≡◌, ℕ, List, Some, Ok, IfSome, IsTrue};
+ghost use Rattle.serde_json.specs.Data.{Data};
+ghost use Rattle.doc_value.specs.Documents.{IsOfSchema, PathsRise};
 ghost use Rattle.doc_value.specs.declared.doc.DocField.{DocField};
 ghost use Rattle.index_config.specs.declared.config.IndexConfig.{IndexConfig};
-ghost use Rattle.doc_mapping.specs.Answer.{answer};
+ghost use Rattle.doc_mapping.specs.Answer.{answer, value_of};
 ghost use Rattle.doc_mapping.specs.Documents.{has_number};
+ghost use Rattle.doc_mapping.specs.Held.{IsHeldBy};
+ghost use Rattle.index_config.specs.Accepted.{BeginPlain};
 
 /// What holds of each document that a record has, whatever the configuration is.
 pub fn document_laws()
@@ -14,4 +17,12 @@ pub fn document_laws()
     // Where the configuration has a timestamp field, the document has values of it.
     ensures stamped { (config : IndexConfig) (bytes : List ℕ) (doc : List DocField) → answer config bytes ≡ Ok doc →
         IfSome config.timestamp_field (λ n. IsTrue (has_number doc n)) }
+{}
+
+/// What a record that is accepted holds, where the paths of the fields rise and none begins with a dot.
+pub fn record_laws()
+    // At each field's path stands nothing, null, or just the document's values, an empty array being no value of a list;
+    // at each object's path nothing, null or an object; and in strict mode nothing else stands.
+    ensures held { (config : IndexConfig) (bytes : List ℕ) (doc : List DocField) → PathsRise config.schema.fields → BeginPlain config.schema.fields →
+        answer config bytes ≡ Ok doc → (d : Data) × ((value_of bytes ≡ Some d) × IsHeldBy config d doc) }
 {}

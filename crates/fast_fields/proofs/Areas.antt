@@ -11,7 +11,8 @@ use Rattle.byte_fields.specs.Reading.{bytes_at, text_at}
 use Rattle.byte_fields.proofs.Taken.{IsBytes, bytes_takes, SpelledAt-then}
 use Rattle.byte_fields.proofs.Taken as taken
 use Rattle.byte_fields.proofs.Others.{text_takes, text_again}
-use Rattle.fast_fields.specs.Reading.{◌>>=◌, field, behind_texts}
+use Rattle.byte_fields.specs.Steps.{◌>>=◌, field}
+use Rattle.fast_fields.specs.Reading.{behind_texts}
 use Rattle.fast_fields.proofs.Pieces.{drop_behind, between}
 
 bind_ok : {A B : Type 0} (r : Result A Corrupt) (f : A → Result B Corrupt) (y : B) → (r >>= f) ≡ Ok y → (x : A) × (r ≡ Ok x) × (f x ≡ Ok y)

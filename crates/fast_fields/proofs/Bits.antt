@@ -1,8 +1,8 @@
 -- Bits of numbers that are packed.
-use Rattle.std.proofs.Common.{◌≡◌, ℕ, zero, suc, ◌+◌, ◌-◌, ◌*◌, ◌/◌, ◌%◌, ◌^◌, ◌<◌, ◌≤◌, List, length, get_or, refl, sym, ◌∙◌, ap, arith, inl, inr}
+use Rattle.std.proofs.Common.{◌≡◌, subst, ℕ, zero, suc, ◌+◌, ◌-◌, ◌*◌, ◌/◌, ◌%◌, ◌^◌, ◌<◌, ◌≤◌, List, length, get_or, refl, sym, ◌∙◌, ap, arith, inl, inr}
 use Rattle.std.proofs.lemmas.Bool.{cases_lt, lt-ltb}
 use Rattle.std.proofs.lemmas.Nat.{div-mul-add, pow-add}
-use Rattle.std.proofs.Math.Nat.{div-div-eq-div-mul, mul-add-mod_self_right, mod-eq_of_lt, mul-le-mul_left, div-eq_of_lt, div-le_self, pow-le-pow_right, pow-suc}
+use Rattle.std.proofs.Math.Nat.{div-one, div-div-eq-div-mul, mul-add-mod_self_right, mod-eq_of_lt, mul-le-mul_left, div-eq_of_lt, pow-le-pow_right}
 use Rattle.fast_fields.specs.Packed.{bit, IsPacked, IsWidth}
 use Rattle.fast_fields.specs.Lookups.{bits_at}
 
@@ -30,13 +30,6 @@ packed_read width ns bytes place low p lt small =
 pub above_all : (x width : ℕ) → x < 2 ^ width → x / 2 ^ width ≡ 0
 above_all x width lt = div-eq_of_lt lt
 
--- a bit more, where numbers have 64 of them
-pub next_value : (x value low next : ℕ) → x < 2 ^ 64 → value ≡ x / 2 ^ (low + 1) → next ≡ bit x low → (value * 2 % 2 ^ 64 + next) % 2 ^ 64 ≡ x / 2 ^ low
-next_value x value low next small value_is next_is =
-    let step = bit_step x low in
-    let most = div-le_self x (2 ^ low) in
-    omega (arith, step, most, value_is, next_is)
-
 -- a number below 2 ^ 64 has at most 64 bits
 pub width_within : (n width : ℕ) → IsWidth n width → n < 2 ^ 64 → width ≤ 64
 width_within n width h small = elim (cases_lt 64 width) [
@@ -50,31 +43,25 @@ width_within n width h small = elim (cases_lt 64 width) [
 
 -- ---- numbers in a row of bits
 
-pub bits_small : (count : ℕ) (bytes : List ℕ) (start : ℕ) → bits_at count bytes start < 2 ^ count
+-- the high bits of a number that is packed
+high_bits : (w : ℕ) (ns bytes : List ℕ) (place k from : ℕ) → IsPacked w ns bytes → place < length ns → get_or ns place 0 < 2 ^ w → k + from ≡ w → bits_at k bytes (w * place + from) ≡ get_or ns place 0 / 2 ^ from
 unfolding bits_at
-bits_small zero bytes start = omega arith
-bits_small (suc more) bytes start =
-    let rest = bits_small more bytes (start + 1) in
-    let twice : 2 ^ suc more ≡ 2 ^ more * 2 = pow-suc 2 more in
-    omega (arith, rest, twice)
+high_bits w ns bytes place zero from p lt small all =
+    sym (above_all (get_or ns place 0) from (subst (λ (n : ℕ). get_or ns place 0 < 2 ^ n) (let same : w ≡ from = omega arith in same) small))
+high_bits w ns bytes place (suc k) from p lt small all =
+    let this = packed_read w ns bytes place from p lt (omega arith) in
+    let next : w * place + from + 1 ≡ w * place + (from + 1) = omega arith in
+    let rest : bits_at k bytes (w * place + from + 1) ≡ get_or ns place 0 / 2 ^ (from + 1) = ap (λ (n : ℕ). bits_at k bytes n) next ∙ high_bits w ns bytes place k (from + 1) p lt small (omega arith) in
+    omega (arith, this, rest, bit_step (get_or ns place 0) from)
 
--- a bit below the others
-pub bits_more : (count : ℕ) (bytes : List ℕ) (start value next : ℕ) → count < 64 → value ≡ bits_at count bytes (start + 1) → next ≡ bit (get_or bytes (start / 8) 0) (start % 8)
-    → (value * 2 % 2 ^ 64 + next) % 2 ^ 64 ≡ bits_at (suc count) bytes start
-unfolding bits_at
-bits_more count bytes start value next few value_is next_is =
-    let small = bits_small (suc count) bytes start in
-    let some : 0 < 2 = omega arith in
-    let most : 2 ^ suc count ≤ 2 ^ 64 = pow-le-pow_right {n = 2} some {i = suc count} {j = 64} (omega arith) in
-    omega (arith, small, most, value_is, next_is)
+-- a packed number is read from its first bit on
+pub number_there : (w : ℕ) (ns bytes : List ℕ) (place : ℕ) → IsPacked w ns bytes → place < length ns → get_or ns place 0 < 2 ^ w → bits_at w bytes (w * place) ≡ get_or ns place 0
+number_there w ns bytes place p lt small =
+    let start : w * place ≡ w * place + 0 = omega arith in
+    ap (λ (n : ℕ). bits_at w bytes n) start ∙ high_bits w ns bytes place w 0 p lt small (omega arith) ∙ div-one (get_or ns place 0)
 
-pub bits_none : (count : ℕ) (bytes : List ℕ) (start : ℕ) → count ≡ 0 → 0 ≡ bits_at count bytes start
-unfolding bits_at
-bits_none zero bytes start none = refl
-bits_none (suc more) bytes start none = absurd (omega arith)
-
-pub bits_next : (count more : ℕ) (bytes : List ℕ) (start above value next : ℕ) → more ≡ count + 1 → above ≡ start + 1 → count < 64 → value ≡ bits_at count bytes above → next ≡ bit (get_or bytes (start / 8) 0) (start % 8)
-    → (value * 2 % 2 ^ 64 + next) % 2 ^ 64 ≡ bits_at more bytes start
-bits_next count more bytes start above value next more_is above_is few value_is next_is =
-    let one : suc count ≡ more = omega arith in
-    bits_more count bytes start value next few (value_is ∙ ap (λ (s : ℕ). bits_at count bytes s) above_is) next_is ∙ ap (λ (n : ℕ). bits_at n bytes start) one
+-- a number's bits stand among those of all
+pub bits_within : (w place count size : ℕ) → place < count → size ≡ (w * count + 7) / 8 → w * place + w ≤ 8 * size
+bits_within w place count size lt is =
+    let more : w * (place + 1) ≤ w * count = mul-le-mul_left w (omega arith) in
+    omega (arith, is)

@@ -8,3 +8,8 @@ pub mod Packs
 pub mod Readings
 pub mod Looked
 pub mod Areas
+pub mod Numbers
+pub mod Packing
+pub mod Below
+pub mod Bounds
+pub mod Walked

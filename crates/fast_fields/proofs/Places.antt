@@ -71,10 +71,10 @@ greatest_end (x ∷ xs) (suc i) greatest whole le h = greatest_end xs i greatest
 
 -- ---- documents
 
-count_one : (d : ℕ) (x : Entry) (xs : List Entry) → x.document < d → count_below d (x ∷ xs) ≡ 1 + count_below d xs
+pub count_one : (d : ℕ) (x : Entry) (xs : List Entry) → x.document < d → count_below d (x ∷ xs) ≡ 1 + count_below d xs
 count_one d x xs lt = rw (lt-ltb x.document d lt) refl
 
-count_none : (d : ℕ) (x : Entry) (xs : List Entry) → d ≤ x.document → count_below d (x ∷ xs) ≡ 0 + count_below d xs
+pub count_none : (d : ℕ) (x : Entry) (xs : List Entry) → d ≤ x.document → count_below d (x ∷ xs) ≡ 0 + count_below d xs
 count_none d x xs le = rw (le-ltb x.document d le) refl
 
 pub count_within : (d : ℕ) (es : List Entry) → count_below d es ≤ length es

@@ -1,5 +1,6 @@
 -- Numbers of a fixed width, packed bit by bit.
-use Rattle.std.specs.Prelude.{◌≡◌, ℕ, ◌+◌, ◌-◌, ◌*◌, ◌/◌, ◌%◌, ◌^◌, ◌<◌, ◌≤◌, List, length, slice_index, nat_lt, if◌then◌else◌}
+use Rattle.std.specs.Prelude.{◌≡◌, ℕ, ◌+◌, ◌-◌, ◌*◌, ◌/◌, ◌%◌, ◌^◌, ◌<◌, ◌≤◌, List, [], ◌∷◌, length, slice_index, nat_lt, if◌then◌else◌}
+use Rattle.std.specs.List.{AllByRecursion}
 
 -- a bit of a number
 abbrev pub bit : ℕ → ℕ → ℕ
@@ -18,3 +19,12 @@ pub record IsPacked (width : ℕ) (numbers bytes : List ℕ) : Type 0 where
 pub record IsWidth (n width : ℕ) : Type 0 where
   pub within : n < 2 ^ width
   pub fewest : 0 < width → 2 ^ (width - 1) ≤ n
+
+-- each of the numbers has at most so many bits
+abbrev pub AreNarrow : ℕ → List ℕ → Type 0
+AreNarrow width numbers = AllByRecursion (λ n. n < 2 ^ width) numbers
+
+-- the number whose bytes these are, the low one first
+unfoldable pub number : List ℕ → ℕ
+number [] = 0
+number (b ∷ bs) = b + 256 * number bs

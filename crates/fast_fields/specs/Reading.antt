@@ -1,34 +1,10 @@
 -- Reading a column from left to right, with the first fault that is met.
-use Rattle.std.specs.Prelude.{◌≡◌, ℕ, zero, suc, ◌+◌, ◌-◌, ◌*◌, ◌/◌, ◌^◌, Bool, true, false, List, [], length, take, drop, Result, Ok, Err, nat_lt, nat_le, slice_index, if◌then◌else◌}
+use Rattle.std.specs.Prelude.{ℕ, zero, suc, ◌+◌, ◌-◌, ◌*◌, ◌/◌, Bool, true, false, List, [], length, take, drop, Result, Ok, nat_le, slice_index, if◌then◌else◌}
 use Rattle.byte_fields.specs.declared.corrupt.Corrupt.{Corrupt}
-use Rattle.byte_fields.specs.declared.field_error.FieldError.{FieldError}
-use Rattle.byte_fields.specs.Places.{place_of}
+use Rattle.byte_fields.specs.Steps.{◌>>=◌, corrupt_at, count_at, field, piece_at}
 use Rattle.byte_fields.specs.Reading.{varint_at, text_at, eight_at}
 use Rattle.doc_value.specs.declared.schema.Kind.{Kind}
 use Rattle.fast_fields.specs.Columns.{has_texts}
-
-infixl 10 ◌>>=◌
-abbrev pub ◌>>=◌ : {A B : Type 0} → Result A Corrupt → (A → Result B Corrupt) → Result B Corrupt
-(Ok x) >>= f = f x
-(Err e) >>= f = Err e
-
--- what a function returned, seen by view, is what reading gives
-abbrev pub Gives : {X Y : Type 0} → (X → Y) → Result X Corrupt → Result Y Corrupt → Type 0
-Gives view (Ok x) read = read ≡ Ok (view x)
-Gives view (Err e) read = read ≡ Err e
-
--- the bytes from this place on are not of the form
-abbrev pub corrupt_at : {A : Type 0} → ℕ → Result A Corrupt
-corrupt_at at = Err (record { at = at })
-
--- a field of a column
-abbrev pub field : {A : Type 0} → Result A FieldError → Result A Corrupt
-field (Ok x) = Ok x
-field (Err e) = corrupt_at (place_of e)
-
--- so many bytes
-unfoldable pub piece_at : ℕ → List ℕ → ℕ → Result (List ℕ × ℕ) Corrupt
-piece_at len bytes at = if nat_lt (length bytes - at) len then corrupt_at (length bytes) else Ok (take len (drop at bytes), at + len)
 
 -- the place behind so many texts
 unfoldable pub behind_texts : ℕ → List ℕ → ℕ → Result ℕ Corrupt
@@ -47,12 +23,6 @@ area_at true bytes at = do
   count ← field (varint_at bytes at)
   behind ← behind_texts count.0 bytes count.1
   Ok (record { count = count.0; bytes = take (behind - count.1) (drop count.1 bytes) }, behind)
-
--- the count of the values, which is below 2 ^ 32
-unfoldable pub count_at : List ℕ → ℕ → Result (ℕ × ℕ) Corrupt
-count_at bytes at = do
-  count ← field (varint_at bytes at)
-  if nat_lt count.0 (2 ^ 32) then Ok count else corrupt_at at
 
 -- a byte that is a width, of at most 64 bits
 unfoldable pub width_at : List ℕ → ℕ → Result (ℕ × ℕ) Corrupt

@@ -1,5 +1,5 @@
 -- Texts that are lent.
-use Rattle.std.specs.Prelude.{ℕ, Bool, true, List, [], ◌∷◌, map, IsUtf8}
+use Rattle.std.specs.Prelude.{ℕ, Bool, true, List, [], ◌∷◌, map, IsUtf8, Contains}
 use Rattle.std.specs.Borrow.{Bor}
 use Rattle.fast_fields.specs.Columns.{Cell, SomeText, is_below}
 
@@ -17,3 +17,7 @@ abbrev pub is_behind : List (List ℕ) → List ℕ → Bool
 is_behind [] t = true
 is_behind (u ∷ []) t = is_below u t
 is_behind (u ∷ v ∷ vs) t = is_behind (v ∷ vs) t
+
+-- each text of the cells is one of these
+abbrev pub EachIsAmong : List Cell → List (List ℕ) → Type 0
+EachIsAmong cs texts = (t : List ℕ) → SomeText cs t → Contains texts t

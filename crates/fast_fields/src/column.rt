@@ -1,11 +1,12 @@
 ghost use Rattle.std.specs.Prelude.{◌≡◌, ◌≤◌, ◌<◌, ◌+◌, ◌*◌, ◌/◌, ◌%◌, ◌^◌, ◌++◌, List, ℕ, Bool, length, drop, slice_get, slice_index, Some, IfOk, IsOkAnd, IsSome, IsTrue, Ok, IsUtf8, ◌↔◌, ◌-◌, false, [], ◌∷◌};
 ghost use Rattle.std.specs.List.{flat_map, AllByRecursion};
 ghost use Rattle.byte_fields.specs.Spelling.{byte_string};
-ghost use Rattle.fast_fields.specs.Packed.{bit};
 ghost use Rattle.fast_fields.specs.Columns.{has_texts, texts_bytes};
-ghost use Rattle.fast_fields.specs.Reading.{Area, Gives, area_at, behind_texts, piece_at, width_at};
+ghost use Rattle.byte_fields.specs.Steps.{Gives};
+ghost use Rattle.fast_fields.specs.Reading.{Area, area_at, behind_texts, width_at};
 
-use byte_fields::{Corrupt, take_bytes, take_eight, take_four, take_text, take_varint};
+use crate::packed::bits_from;
+use byte_fields::{Corrupt, take_bytes, take_eight, take_piece, take_text, take_varint};
 use doc_value::{Field, Kind};
 
 /// The values of one field of many documents, over the bytes of the column.
@@ -29,11 +30,11 @@ impl<'a> Column<'a> {
     ghost use Rattle.fast_fields.specs.declared.entries.Entry.{Entry};
     ghost use Rattle.fast_fields.specs.Reading.{Parts, column_at};
     ghost use Rattle.fast_fields.specs.Readers.{Holds, IsOf, LendsText, count_below, first_number, of_some, parts};
-    ghost use Rattle.fast_fields.specs.Lookups.{IsBound, bits_at, document_of, greatest_before, if_any, text_of, value_of, value_there};
+    ghost use Rattle.fast_fields.specs.Lookups.{IsBetween, IsBound, bits_at, document_of, greatest_before, if_any, text_of, value_of, value_there};
     ghost use Rattle.fast_fields.specs.declared.rows.ColumnRow.{ColumnRow};
 
     /// The column at the front of the bytes, and the place behind it.
-    #[tactic(auto, unfolding(crate::specs::Reading::column_at, crate::specs::Reading::count_at))]
+    #[tactic(auto, unfolding(crate::specs::Reading::column_at, byte_fields::specs::Steps::count_at))]
     pub fn read(field: &Field, bytes: &'a [u8]) -> Result<(Column<'a>, usize), Corrupt>
         // What is spelled at the front of the bytes is read.
         ensures only { (column rest : List ℕ) (rows : List ColumnRow) → IsColumn field.now.kind column rows → bytes.now ≡ column ++ rest
@@ -113,6 +114,26 @@ impl<'a> Column<'a> {
         self.least.wrapping_add(self.packed_at(place))
     }
 
+    /// The document of the value at a place.
+    pub fn document_of(&self, place: u32) -> u32
+        requires { place < self.now.count }
+        ensures only { (texts : List (List ℕ)) (entries : List Entry) (entry : Entry) → Holds self.now texts entries → slice_get entries place ≡ Some entry
+            → result ≡ entry.document }
+        ensures exact { result ≡ document_of self.now place }
+    {
+        let at = 4 * place as usize;
+        let piece = &self.documents[at..at + 4];
+        u32::from_le_bytes([piece[0], piece[1], piece[2], piece[3]])
+    }
+
+    /// How many distinct texts there are.
+    pub fn text_count(&self) -> u64
+        ensures only { (texts : List (List ℕ)) (entries : List Entry) → Holds self.now texts entries → result ≡ length texts }
+        ensures exact { result ≡ self.now.text_count }
+    {
+        self.text_count
+    }
+
     /// The text with an ordinal, if there is one.
     pub fn text(&self, ordinal: u64) -> Option<&'a str>
         ensures only { (texts : List (List ℕ)) (entries : List Entry) → Holds self.now texts entries → LendsText result (slice_get texts ordinal) }
@@ -147,7 +168,7 @@ impl<'a> Column<'a> {
         Some(self.least)
     }
 
-    /// The greatest of the values, if there are any.
+    /// The greatest of the values, if there are any. The bytes have the least one and a number of bits alone, so each value is read.
     pub fn greatest(&self) -> Option<u64>
         ensures only { (texts : List (List ℕ)) (entries : List Entry) → Holds self.now texts entries → result ≡ of_some entries (greatest_of (numbers entries)) }
         ensures exact { result ≡ if_any self.now (greatest_before self.now self.now.count) }
@@ -170,26 +191,21 @@ impl<'a> Column<'a> {
         ensures exact { result ≡ bits_at self.now.width self.now.packed.now (self.now.width * place) }
     {
         let start = u64::from(self.width) * u64::from(place);
-        let mut value = 0u64;
-        for step in 0..self.width {
-            let low = self.width - 1 - step;
-            let next = bit_at(self.packed, (start + u64::from(low)) as usize);
-            value = value.wrapping_mul(2).wrapping_add(next);
-        }
-        value
+        bits_from(self.packed, start as usize, self.width)
     }
 
-    // The document of a place.
-    fn document_of(&self, place: u32) -> u32
-        requires { place < self.now.count }
-        ensures only { (texts : List (List ℕ)) (entries : List Entry) (entry : Entry) → Holds self.now texts entries → slice_get entries place ≡ Some entry
-            → result ≡ entry.document }
-        ensures exact { result ≡ document_of self.now place }
+    // Places between which the documents pass this one. Where each document has one value, its place is its number.
+    fn near(&self, document: u64) -> (u32, u32)
+        ensures { IsBetween self.now document result.0 result.1 }
     {
-        match take_four(self.documents, 4 * place as usize) {
-            Ok((document, _behind)) => document,
-            Err(_) => 0,
+        let guess = document.min(u64::from(self.count)) as u32;
+        if guess < self.count && u64::from(self.document_of(guess)) < document {
+            return (guess + 1, self.count);
         }
+        if guess > 0 && u64::from(self.document_of(guess - 1)) < document {
+            return (guess, guess);
+        }
+        (0, guess)
     }
 
     // How many places have a document below one.
@@ -197,8 +213,7 @@ impl<'a> Column<'a> {
         ensures only { (texts : List (List ℕ)) (entries : List Entry) → Holds self.now texts entries → result ≡ count_below document entries }
         ensures exact { IsBound self.now document result }
     {
-        let mut low = 0;
-        let mut high = self.count;
+        let (mut low, mut high) = self.near(document);
         while low < high {
             let middle = low + (high - low) / 2;
             if u64::from(self.document_of(middle)) < document {
@@ -273,21 +288,6 @@ fn behind_texts(bytes: &[u8], from: usize, count: u64) -> Result<usize, Corrupt>
     Ok(at)
 }
 
-// So many bytes at a place, and the place behind them.
-#[tactic(auto, unfolding(crate::specs::Reading::piece_at))]
-fn take_piece(bytes: &[u8], at: usize, len: usize) -> Result<(&[u8], usize), Corrupt>
-    requires { at ≤ length bytes.now }
-    ensures within { IfOk result (λ x. (x.1 ≤ length bytes.now) × (length x.0.now ≡ len)) }
-    ensures only { (piece rest : List ℕ) → length piece ≡ len → drop at bytes.now ≡ piece ++ rest
-        → IsOkAnd result (λ x. (x.0.now ≡ piece) × (drop x.1 bytes.now ≡ rest)) }
-    ensures exact { Gives {Y = List ℕ × ℕ} (λ x. (x.0.now, x.1)) result (piece_at len bytes.now at) }
-{
-    if bytes.len() - at < len {
-        return Err(Corrupt { at: bytes.len() });
-    }
-    Ok((&bytes[at..at + len], at + len))
-}
-
 // A width of at most 64 bits at a place, and the place behind it.
 #[tactic(auto, unfolding(crate::specs::Reading::width_at))]
 fn take_width(bytes: &[u8], at: usize) -> Result<(u8, usize), Corrupt>
@@ -304,12 +304,4 @@ fn take_width(bytes: &[u8], at: usize) -> Result<(u8, usize), Corrupt>
         return Err(Corrupt { at });
     }
     Ok((width, at + 1))
-}
-
-// A bit of some bytes, the low bits of each first.
-fn bit_at(bytes: &[u8], number: usize) -> u64
-    requires { number < 8 * length bytes.now }
-    ensures { result ≡ bit (slice_index bytes.now (number / 8)) (number % 8) }
-{
-    u64::from(bytes[number / 8]) / (1 << (number % 8)) % 2
 }

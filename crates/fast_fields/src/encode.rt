@@ -1,12 +1,13 @@
 ghost use Rattle.std.specs.Prelude.{◌≡◌, ◌≤◌, ◌<◌, ◌+◌, ◌-◌, ◌*◌, ◌^◌, ◌++◌, List, ℕ, IfOk, OnOk, length, map};
 ghost use Rattle.std.specs.List.{AllByRecursion};
-ghost use Rattle.fast_fields.specs.Columns.{AreRows, Fits, IsColumn, IsSpelled, numbers, least_of, greatest_of, texts_bytes, documents_bytes};
-ghost use Rattle.fast_fields.specs.Packed.{IsWidth, IsPacked, bit, packed_bit};
+ghost use Rattle.fast_fields.specs.Columns.{AreRows, Fits, IsColumn, IsSpelled, has_texts, numbers, least_of, greatest_of, texts_bytes, documents_bytes};
+ghost use Rattle.fast_fields.specs.Packed.{AreNarrow, IsWidth, IsPacked};
 ghost use Rattle.fast_fields.specs.Texts.{texts_in};
 
 use crate::ColumnList;
 use crate::column::has_texts;
 use crate::entries::{Entry, entries_of};
+use crate::packed::{Held, put_last, put_number};
 use crate::texts::texts_of;
 use byte_fields::{Bytes, put_bytes, put_eight, put_four, put_varint};
 use doc_value::Field;
@@ -20,30 +21,43 @@ pub fn encode_column(alloc: Global, field: &Field, values: &ColumnList) -> Resul
     let rows = values.as_slice();
     let texts = texts_of(alloc, rows)?;
     let entries = entries_of(alloc, rows, &texts)?;
-    let bytes = column_bytes(alloc, has_texts(field.kind), &texts, &entries)?;
+    let mut bytes = Vec::new(alloc);
+    put_parts(&mut bytes, has_texts(field.kind), &texts, &entries)?;
     Ok(Bytes::from_vec(bytes))
 }
 
-// The bytes of a column of these texts and entries.
-fn column_bytes(
-    alloc: Global,
+/// Appends a column of these values to an area. For a text field they are ordinals among its distinct texts, which rise.
+pub fn put_column(
+    area: &mut Vec<u8>,
+    field: &Field,
+    texts: &[&str],
+    entries: &[Entry],
+) -> Result<(), AllocError>
+    requires { Fits entries.now }
+    ensures { OnOk result ((column : List ℕ) × (area.new.items ≡ area.old.items ++ column) × IsSpelled (has_texts field.now.kind) (texts_in texts.now) entries.now column) }
+{
+    put_parts(area, has_texts(field.kind), texts, entries)
+}
+
+// Appends the parts of a column of these texts and entries.
+fn put_parts(
+    out: &mut Vec<u8>,
     texted: bool,
     texts: &[&str],
     entries: &[Entry],
-) -> Result<Vec<u8>, AllocError>
+) -> Result<(), AllocError>
     requires { Fits entries.now }
-    ensures { IfOk result (λ v. IsSpelled texted (texts_in texts.now) entries.now v.items) }
+    ensures { OnOk result ((column : List ℕ) × (out.new.items ≡ out.old.items ++ column) × IsSpelled texted (texts_in texts.now) entries.now column) }
 {
     let least = least(entries);
     let width = width_of(greatest(entries) - least);
-    let mut bytes = Vec::new(alloc);
-    put_varint(&mut bytes, entries.len() as u64)?;
-    put_texts(&mut bytes, texted, texts)?;
-    put_documents(&mut bytes, entries)?;
-    put_eight(&mut bytes, least)?;
-    bytes.push(width)?;
-    put_packed(&mut bytes, entries, least, width)?;
-    Ok(bytes)
+    put_varint(out, entries.len() as u64)?;
+    put_texts(out, texted, texts)?;
+    put_documents(out, entries)?;
+    put_eight(out, least)?;
+    out.push(width)?;
+    put_packed(out, entries, least, width)?;
+    Ok(())
 }
 
 fn put_texts(out: &mut Vec<u8>, texted: bool, texts: &[&str]) -> Result<(), AllocError>
@@ -104,44 +118,14 @@ fn width_of(number: u64) -> u8
 // Puts the numbers less the least one, each in so many bits.
 fn put_packed(out: &mut Vec<u8>, entries: &[Entry], least: u64, width: u8) -> Result<(), AllocError>
     requires width { width ≤ 64 }
-    requires few { length entries.now < 2 ^ 32 }
+    requires narrow { AreNarrow width (map (λ n. n - least) (numbers entries.now)) }
     ensures { OnOk result ((packed : List ℕ) × (out.new.items ≡ out.old.items ++ packed) × IsPacked width (map (λ n. n - least) (numbers entries.now)) packed) }
 {
-    let size = (usize::from(width) * entries.len() + 7) / 8;
-    for number in 0..size {
-        out.push(byte_of(entries, least, width, number))?;
+    let mut held = Held { bits: 0, count: 0 };
+    for entry in entries {
+        held = put_number(out, held, number_less(entry, least), width)?;
     }
-    Ok(())
-}
-
-// One byte of the packed numbers.
-fn byte_of(entries: &[Entry], least: u64, width: u8, number: usize) -> u8
-    requires width { width ≤ 64 }
-    requires few { length entries.now < 2 ^ 32 }
-    requires place { number < 2 ^ 40 }
-    ensures { (k : ℕ) → k < 8 → bit result k ≡ packed_bit width (map (λ n. n - least) (numbers entries.now)) (8 * number + k) }
-{
-    let mut byte = 0u8;
-    for step in 0..8u8 {
-        let next = bit_of(entries, least, width, 8 * number + usize::from(7 - step));
-        byte = byte.wrapping_mul(2).wrapping_add(next);
-    }
-    byte
-}
-
-// One bit of the packed numbers.
-fn bit_of(entries: &[Entry], least: u64, width: u8, place: usize) -> u8
-    requires width { width ≤ 64 }
-    requires few { length entries.now < 2 ^ 32 }
-    ensures value { result ≡ packed_bit width (map (λ n. n - least) (numbers entries.now)) place }
-    ensures small { result < 2 }
-{
-    let width = usize::from(width);
-    if place >= width * entries.len() {
-        return 0;
-    }
-    let number = number_less(&entries[place / width], least);
-    (number / (1 << (place % width)) % 2) as u8
+    put_last(out, held)
 }
 
 fn number_less(entry: &Entry, least: u64) -> u64

@@ -1,14 +1,14 @@
-ghost use Rattle.std.specs.Prelude.{◌≡◌, ◌<◌, ◌≤◌, ◌^◌, List, ℕ, length, slice_get, Some, IfOk, OnOk, ◌++◌, [], ◌∷◌};
+ghost use Rattle.std.specs.Prelude.{◌≡◌, ◌<◌, ◌≤◌, ◌^◌, List, ℕ, length, slice_get, Some, IfOk, OnOk, ◌++◌, [], ◌∷◌, Contains};
 ghost use Rattle.std.specs.List.{AllByRecursion};
-ghost use Rattle.fast_fields.specs.Columns.{AreEntries, IsNumber, RowsRise, DocumentsRise, Fits, Cell, cells, cells_of, AreGrown, turned};
-ghost use Rattle.fast_fields.specs.Texts.{texts_in};
+ghost use Rattle.fast_fields.specs.Columns.{AreEntries, IsNumber, RowsRise, DocumentsRise, TextsRise, Fits, Cell, cells, cells_of, AreGrown, turned};
+ghost use Rattle.fast_fields.specs.Texts.{EachIsAmong, texts_in};
 
 use crate::ColumnRow;
 use crate::texts::ordinal;
 use doc_value::Value;
 use std::alloc::{AllocError, Global};
 
-/// A value of a column: its document and a number.
+/// A value of a column: its document and a number. A U64 is itself, a signed value is `turned`, a truth is 0 or 1, a text is its ordinal.
 #[derive(Clone, Copy, Debug)]
 pub struct Entry {
     pub document: u32,
@@ -23,6 +23,8 @@ pub(crate) fn entries_of(
 ) -> Result<Vec<Entry>, AllocError>
     requires rise { RowsRise rows.now }
     requires few { length (cells rows.now) < 2 ^ 32 }
+    requires texts_rise { TextsRise (texts_in texts.now) }
+    requires among { EachIsAmong (cells rows.now) (texts_in texts.now) }
     ensures { IfOk result (λ v. AreEntries (texts_in texts.now) (cells rows.now) v.items × Fits v.items) }
 {
     let mut entries = Vec::new(alloc);
@@ -41,12 +43,14 @@ fn row_entries(
     values: &[Value],
     texts: &[&str],
 ) -> Result<(), AllocError>
+    requires texts_rise { TextsRise (texts_in texts.now) }
+    requires among { EachIsAmong (cells_of document values.now) (texts_in texts.now) }
     ensures { (done : List Cell) → AreGrown (texts_in texts.now) document done entries.old.items
         → OnOk result (AreGrown (texts_in texts.now) document (done ++ cells_of document values.now) entries.new.items) }
 {
     let mut rest = values;
     while let Some((value, behind)) = rest.split_first() {
-        let number = number_of(value, texts)?;
+        let number = number_of(value, texts);
         add_entry(entries, document, number)?;
         rest = behind;
     }
@@ -63,20 +67,22 @@ fn add_entry(entries: &mut Vec<Entry>, document: u32, number: u64) -> Result<(),
 }
 
 // The number that a value stands for.
-fn number_of(value: &Value, texts: &[&str]) -> Result<u64, AllocError>
-    ensures { IfOk result (λ n. IsNumber (texts_in texts.now) value.now n) }
+fn number_of(value: &Value, texts: &[&str]) -> u64
+    requires texts_rise { TextsRise (texts_in texts.now) }
+    requires among { (t : List ℕ) → value.now ≡ Value.Text t → Contains (texts_in texts.now) t }
+    ensures { IsNumber (texts_in texts.now) value.now result }
 {
     match value {
         Value::Text(text) => ordinal(texts, text.as_str()),
-        Value::I64(number) => Ok(turned(*number)),
-        Value::U64(number) => Ok(*number),
-        Value::Bool(truth) => Ok(u64::from(*truth)),
-        Value::Datetime(seconds) => Ok(turned(*seconds)),
+        Value::I64(number) => turned(*number),
+        Value::U64(number) => *number,
+        Value::Bool(truth) => u64::from(*truth),
+        Value::Datetime(seconds) => turned(*seconds),
     }
 }
 
-// A signed number with the top one of its 64 bits turned.
-fn turned(number: i64) -> u64
+/// A signed number with the top one of its 64 bits turned, so that the numbers rise as the signed ones do: what a column has of an I64 or a datetime.
+pub fn turned(number: i64) -> u64
     ensures { result ≡ turned number }
 {
     if number >= 0 {

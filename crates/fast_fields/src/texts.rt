@@ -1,6 +1,9 @@
-ghost use Rattle.std.specs.Prelude.{◌≡◌, ◌<◌, List, ℕ, length, slice_get, Some, IfOk, OnOk, All};
-ghost use Rattle.fast_fields.specs.Columns.{AreTexts, Cell, SomeText, cells, cells_of, is_below};
-ghost use Rattle.fast_fields.specs.Texts.{IsCellText, texts_in, is_behind};
+ghost use Rattle.std.specs.Prelude.{◌≡◌, List, ℕ, slice_get, Some, IfOk, OnOk, All, Contains, ◌⊎◌};
+ghost use Rattle.std.specs.List.Sorted.{IsSorted};
+ghost use Rattle.std.specs.Ordering.{nat_cmp};
+ghost use Rattle.std.specs.Cmp.Lexicographic.{slice_cmp};
+ghost use Rattle.fast_fields.specs.Columns.{AreTexts, Cell, SomeText, TextsRise, cells, cells_of, is_below};
+ghost use Rattle.fast_fields.specs.Texts.{EachIsAmong, IsCellText, texts_in, is_behind};
 
 use crate::ColumnRow;
 use doc_value::Value;
@@ -9,7 +12,8 @@ use std::cmp::Ordering;
 
 // The distinct texts of these rows, rising.
 pub(crate) fn texts_of(alloc: Global, rows: &[ColumnRow]) -> Result<Vec<&str>, AllocError>
-    ensures { IfOk result (λ v. AreTexts (cells rows.now) (texts_in v.items)) }
+    ensures texts { IfOk result (λ v. AreTexts (cells rows.now) (texts_in v.items)) }
+    ensures each { IfOk result (λ v. EachIsAmong (cells rows.now) (texts_in v.items)) }
 {
     let mut all = gathered(alloc, rows)?;
     all.sort()?;
@@ -18,7 +22,8 @@ pub(crate) fn texts_of(alloc: Global, rows: &[ColumnRow]) -> Result<Vec<&str>, A
 
 // The texts of these rows, in their order.
 fn gathered(alloc: Global, rows: &[ColumnRow]) -> Result<Vec<&str>, AllocError>
-    ensures { IfOk result (λ v. All (IsCellText (cells rows.now)) v.items) }
+    ensures texts { IfOk result (λ v. All (IsCellText (cells rows.now)) v.items) }
+    ensures each { IfOk result (λ v. EachIsAmong (cells rows.now) (texts_in v.items)) }
 {
     let mut all = Vec::new(alloc);
     let mut rest = rows;
@@ -31,8 +36,9 @@ fn gathered(alloc: Global, rows: &[ColumnRow]) -> Result<Vec<&str>, AllocError>
 
 // Adds the texts of one document.
 fn gather_row<'a>(all: &mut Vec<&'a str>, values: &'a [Value]) -> Result<(), AllocError>
-    ensures { (cs : List Cell) (document : ℕ) → All (IsCellText cs) all.old.items
+    ensures texts { (cs : List Cell) (document : ℕ) → All (IsCellText cs) all.old.items
         → ((t : List ℕ) → SomeText (cells_of document values.now) t → SomeText cs t) → OnOk result (All (IsCellText cs) all.new.items) }
+    ensures each { (document : ℕ) (t : List ℕ) → SomeText (cells_of document values.now) t ⊎ Contains (texts_in all.old.items) t → OnOk result (Contains (texts_in all.new.items) t) }
 {
     let mut rest = values;
     while let Some((value, behind)) = rest.split_first() {
@@ -46,7 +52,9 @@ fn gather_row<'a>(all: &mut Vec<&'a str>, values: &'a [Value]) -> Result<(), All
 
 // Those of the texts that stand behind the one taken last.
 fn distinct<'a>(alloc: Global, sorted: &[&'a str]) -> Result<Vec<&'a str>, AllocError>
-    ensures { (cs : List Cell) → All (IsCellText cs) sorted.now → IfOk result (λ v. AreTexts cs (texts_in v.items)) }
+    requires { IsSorted (λ x y. slice_cmp nat_cmp x.now y.now) sorted.now }
+    ensures texts { (cs : List Cell) → All (IsCellText cs) sorted.now → IfOk result (λ v. AreTexts cs (texts_in v.items)) }
+    ensures each { (t : List ℕ) → Contains (texts_in sorted.now) t → IfOk result (λ v. Contains (texts_in v.items) t) }
 {
     let mut texts = Vec::new(alloc);
     for text in sorted {
@@ -73,9 +81,11 @@ fn is_below(text: &str, other: &str) -> bool
     text.as_bytes().cmp(other.as_bytes()) == Ordering::Less
 }
 
-// The place of a text among rising ones. It stands there: an answer that it does not is one of want of memory.
-pub(crate) fn ordinal(texts: &[&str], text: &str) -> Result<u64, AllocError>
-    ensures { IfOk result (λ n. slice_get (texts_in texts.now) n ≡ Some text.now) }
+// The place of a text among rising ones, of which it is one.
+pub(crate) fn ordinal(texts: &[&str], text: &str) -> u64
+    requires rise { TextsRise (texts_in texts.now) }
+    requires among { Contains (texts_in texts.now) text.now }
+    ensures { slice_get (texts_in texts.now) result ≡ Some text.now }
 {
     let mut low = 0;
     let mut high = texts.len();
@@ -87,8 +97,5 @@ pub(crate) fn ordinal(texts: &[&str], text: &str) -> Result<u64, AllocError>
             high = middle;
         }
     }
-    if low < texts.len() && texts[low] == text {
-        return Ok(low as u64);
-    }
-    Err(AllocError)
+    low as u64
 }

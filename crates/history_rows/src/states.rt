@@ -1,6 +1,8 @@
 //! What no clause says: each call with ample memory, and answers with their kept values.
 
-use doc_value::TagFacts;
+ghost use Rattle.std.specs.Prelude.{◌≡◌};
+
+use doc_value::{Replica, TagFacts};
 use source_checkpoint::{Part, Partition, Span, Spans};
 use split_states::{
     Numbers, Row, RowFacts, RowState, Rows, StateRefusal, Times, may_mark, may_publish, may_remove,
@@ -24,7 +26,9 @@ fn facts(alloc: Global, greatest: i64) -> RowFacts {
     }
 }
 
-fn row(alloc: Global, number: u64, state: RowState, spans: Spans) -> Row {
+fn row(alloc: Global, number: u64, state: RowState, spans: Spans) -> Row
+    ensures { result.number ≡ number }
+{
     Row {
         number,
         state,
@@ -54,8 +58,10 @@ fn one_span(alloc: Global) -> Result<Spans, Fail> {
 fn graces(rt: HostRuntime) -> Result<(), Fail> {
     let alloc = rt.alloc();
     let mut rows = Rows::vacant(alloc);
-    rows.push(row(alloc, 1, RowState::Staged, one_span(alloc)?))?;
-    rows.push(row(alloc, 2, RowState::Marked, one_span(alloc)?))?;
+    rows.reserve()?;
+    rows.stage(row(alloc, 1, RowState::Staged, one_span(alloc)?));
+    rows.reserve()?;
+    rows.stage(row(alloc, 2, RowState::Marked, one_span(alloc)?));
     assert!(rt;
         matches!(
             may_mark(&rows, 1, 1199, 200),
@@ -97,8 +103,10 @@ fn graces(rt: HostRuntime) -> Result<(), Fail> {
 fn old_rows(rt: HostRuntime) -> Result<(), Fail> {
     let alloc = rt.alloc();
     let mut rows = Rows::vacant(alloc);
-    rows.push(row(alloc, 1, RowState::Published, one_span(alloc)?))?;
-    rows.push(row(alloc, 3, RowState::Staged, Spans::vacant(alloc)))?;
+    rows.reserve()?;
+    rows.stage(row(alloc, 1, RowState::Published, one_span(alloc)?));
+    rows.reserve()?;
+    rows.stage(row(alloc, 3, RowState::Staged, Spans::vacant(alloc)));
     let mut old = Numbers::vacant(alloc);
     assert!(rt; matches!(may_replace(&rows, 3, &old), Err(StateRefusal::NoOldRow)));
     old.push(1)?;
@@ -119,7 +127,8 @@ fn old_rows(rt: HostRuntime) -> Result<(), Fail> {
 fn ages(rt: HostRuntime) -> Result<(), Fail> {
     let alloc = rt.alloc();
     let mut rows = Rows::vacant(alloc);
-    rows.push(row(alloc, 1, RowState::Published, one_span(alloc)?))?;
+    rows.reserve()?;
+    rows.stage(row(alloc, 1, RowState::Published, one_span(alloc)?));
     assert!(rt;
         matches!(
             may_retire(&rows, 1, 10, None),

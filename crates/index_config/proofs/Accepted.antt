@@ -7,14 +7,14 @@ use Rattle.index_config.specs.declared.config.IndexConfig.{IndexConfig}
 use Rattle.index_config.specs.declared.config_error.ConfigError.{ConfigError}
 use Rattle.index_config.specs.declared.raw.RawField.{RawField}
 use Rattle.index_config.specs.declared.raw.Purpose.TheVariants as purposes
-use Rattle.index_config.specs.Accepted.{AreNumbers, AreNamed}
+use Rattle.index_config.specs.Accepted.{AreNumbers, AreNamed, BeginPlain, AreTags, AreTextFields}
 use Rattle.index_config.specs.Answer.{config_answer, root_of, read_answer, config_faults, first_answer}
 use Rattle.index_config.specs.Tables.{table_faults, items_in}
 use Rattle.index_config.specs.Fields.{all_raws, whole_faults, config_of, duplicate_faults, field_count, count_faults, timestamp_faults, timestamp_path, reference_faults, tags_path, defaults_path, search_list, mode_faults, mode_of, in_mapping, in_order, schema_of}
 use Rattle.index_config.proofs.Distinct.{AreDistinct, both-empty, distinct}
 use Rattle.index_config.proofs.Rising.{ordered-rises, fields-rise, fields-few, formats-length}
-use Rattle.index_config.proofs.Named.{fields-named}
-use Rattle.index_config.proofs.Serving.{timestamp-fits, numbers-fit}
+use Rattle.index_config.proofs.Named.{fields-named, fields-plain}
+use Rattle.index_config.proofs.Serving.{timestamp-fits, numbers-fit, texts-fit, tags-fit}
 
 -- a table without faults, and the configuration that it gives
 abbrev pub IsRootOf : Data → IndexConfig → Type 0
@@ -50,10 +50,12 @@ abbrev named_faults : Data → List RawField → List ConfigError
 named_faults root raws =
     tagged_faults root raws ++ reference_faults purposes.Default raws defaults_path 0 (items_in (search_list root))
 
--- each of the first three is empty where the whole is
+-- each of the five is empty where the whole is
 abbrev NothingWrong : Data → List RawField → Type 0
 NothingWrong root raws =
     (duplicate_faults [] raws ≡ []) × (count_faults (field_count raws) ≡ []) × (timestamp_faults (timestamp_path root) raws ≡ [])
+    × (reference_faults purposes.Tag raws tags_path 0 (items_in (in_mapping (codes "tag_fields") root)) ≡ [])
+    × (reference_faults purposes.Default raws defaults_path 0 (items_in (search_list root)) ≡ [])
 
 nothing-wrong : (root : Data) (raws : List RawField) → whole_faults root raws ≡ [] → NothingWrong root raws
 nothing-wrong root raws e =
@@ -63,7 +65,7 @@ nothing-wrong root raws e =
     both-empty (timed_faults root raws) (reference_faults purposes.Tag raws tags_path 0 (items_in (in_mapping (codes "tag_fields") root))) tagged.0 in
     let counted = both-empty (counted_faults root raws) (timestamp_faults (timestamp_path root) raws) timed.0 in
     let first = both-empty (duplicate_faults [] raws) (count_faults (field_count raws)) counted.0 in
-    (first.0, first.1, counted.1)
+    (first.0, first.1, counted.1, timed.1, tagged.1)
 
 -- the schema of a table's configuration
 abbrev tags_of : Data → Items
@@ -106,3 +108,23 @@ pub accepted-named : (text : List ℕ) (config : IndexConfig) → config_answer 
 accepted-named text config e =
     let found = accepted-root text config e in
     subst (λ (c : IndexConfig). AreNamed c.schema.fields) found.1.2 (fields-named (tags_of found.0) found.0 found.1.0)
+
+pub accepted-plain : (text : List ℕ) (config : IndexConfig) → config_answer text ≡ Ok config → BeginPlain config.schema.fields
+accepted-plain text config e =
+    let found = accepted-root text config e in
+    subst (λ (c : IndexConfig). BeginPlain c.schema.fields) found.1.2 (fields-plain (tags_of found.0) found.0 found.1.0)
+
+pub accepted-tags : (text : List ℕ) (config : IndexConfig) → config_answer text ≡ Ok config → AreTags config.schema.fields
+accepted-tags text config e =
+    let found = accepted-root text config e in
+    let raws : List RawField = all_raws found.0 in
+    let none = nothing-wrong found.0 raws found.1.1 in
+    subst (λ (c : IndexConfig). AreTags c.schema.fields) found.1.2 (tags-fit raws (tags_of found.0) tags_path (distinct [] raws none.0).0 none.3)
+
+pub accepted-texts : (text : List ℕ) (config : IndexConfig) → config_answer text ≡ Ok config → AreTextFields config.schema.fields config.default_fields
+accepted-texts text config e =
+    let found = accepted-root text config e in
+    let raws : List RawField = all_raws found.0 in
+    let none = nothing-wrong found.0 raws found.1.1 in
+    subst (λ (c : IndexConfig). AreTextFields c.schema.fields c.default_fields) found.1.2
+    (texts-fit raws (distinct [] raws none.0).0 (tags_of found.0) defaults_path 0 (items_in (search_list found.0)) none.4)

@@ -6,3 +6,4 @@ pub mod Rising
 pub mod Serving
 pub mod Accepted
 pub mod Named
+pub mod Ranges

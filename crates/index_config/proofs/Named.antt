@@ -1,5 +1,5 @@
 -- Each path of an accepted configuration is a text with at least one byte.
-use Rattle.std.proofs.Common.{◌≡◌, ◌≢◌, ℕ, zero, suc, ◌<◌, nat_le, Bool, true, false, not, ◌&&◌, List, [], ◌∷◌, ◌++◌, length, Option, Some, None, is_some, refl, subst, arith, inl, inr}
+use Rattle.std.proofs.Common.{◌≡◌, ◌≢◌, ℕ, zero, suc, ◌<◌, ◌==◌, slice_get, nat_le, Bool, true, false, not, ◌&&◌, List, [], ◌∷◌, ◌++◌, length, Option, Some, None, is_some, refl, subst, arith, inl, inr}
 use Rattle.std.specs.Prelude.{codes, unwrap_or}
 use Rattle.std.specs.List.{list_all}
 use Rattle.std.specs.Str.{IsUtf8, IsAscii}
@@ -16,14 +16,18 @@ use Rattle.index_config.specs.declared.rule.FieldType.{FieldType}
 use Rattle.index_config.specs.declared.rule.Rule.TheVariants as rules
 use Rattle.index_config.specs.declared.rule.Place.TheVariants as places
 use Rattle.index_config.specs.declared.config_error.ConfigError.{ConfigError}
-use Rattle.index_config.specs.Rules.{under, member_path, is_name_byte, begins_as_name, is_field_name, wrong_unless, text_faults, scalar_faults, items_faults, list_faults}
+use Rattle.index_config.specs.Rules.{under, member_path, is_name_byte, is_name_start, begins_as_name, is_field_name, wrong_unless, text_faults, scalar_faults, items_faults, list_faults}
 use Rattle.index_config.specs.Tables.{unknown_faults, members_in, asked, asked_value, required, optional, list_of, mappings_ask, text_in, items_in, type_of, is_object, field_faults, field_value_faults, field_note_faults, each_fault, inner_fields, member_at, fields_faults, where_table, optional_table, top_faults, mapping_faults, mapping_path, indexing_faults, indexing_path, search_faults, search_path, upkeep_faults, upkeep_path, table_faults}
 use Rattle.index_config.specs.Fields.{name_of, each_raw, inner_raws, raws_with, raw_member, raw_fields, in_option, all_raws, placed, sorted_by, in_order, field_of, fields_of}
-use Rattle.index_config.specs.Accepted.{AreNamed}
+use Rattle.index_config.specs.Accepted.{AreNamed, BeginsPlain, BeginPlain}
 use Rattle.index_config.proofs.Distinct.{both-empty}
 
 abbrev IsNamed : List ℕ → Type 0
-IsNamed path = IsUtf8 path × (path ≢ [])
+IsNamed path = IsUtf8 path × (path ≢ []) × BeginsPlain path
+
+-- the path of an object, or none
+abbrev IsStart : List ℕ → Type 0
+IsStart path = IsUtf8 path × BeginsPlain path
 
 abbrev AreNamedRaws : List RawField → Type 0
 AreNamedRaws [] = Unit {0}
@@ -42,21 +46,24 @@ name-bytes [] e i = omega arith
 name-bytes (c ∷ cs) e zero = name-byte c (and_parts (is_name_byte c) (list_all is_name_byte cs) e).0
 name-bytes (c ∷ cs) e (suc i) = name-bytes cs (and_parts (is_name_byte c) (list_all is_name_byte cs) e).1 i
 
+start-plain : (c : ℕ) → is_name_start c ≡ true → (c == 46) ≡ false
+start-plain c e = grind (arith, nat_tests)
+
 named-text : (text : List ℕ) → is_field_name text ≡ true → IsNamed text
 named-text [] e = absurd (cc)
 named-text (c ∷ cs) e =
     let few = and_parts (begins_as_name (c ∷ cs) && list_all is_name_byte (c ∷ cs)) (nat_le (length (c ∷ cs)) 255) e in
     let all = and_parts (begins_as_name (c ∷ cs)) (list_all is_name_byte (c ∷ cs)) few.0 in
-    (IsUtf8-from_ascii (c ∷ cs) (name-bytes (c ∷ cs) all.1), λ empty. cc)
+    (IsUtf8-from_ascii (c ∷ cs) (name-bytes (c ∷ cs) all.1), λ empty. cc, start-plain c all.0)
 
 dot : IsAscii (46 ∷ [])
 dot zero = omega arith
 dot (suc i) = omega arith
 
-under-named : (path name : List ℕ) → IsUtf8 path → IsNamed name → IsNamed (under path name)
+under-named : (path name : List ℕ) → IsStart path → IsNamed name → IsNamed (under path name)
 under-named [] name u h = h
 under-named (c ∷ cs) name u h =
-    (IsUtf8-append (c ∷ cs) (46 ∷ name) u (IsUtf8-append (46 ∷ []) name (IsUtf8-from_ascii (46 ∷ []) dot) h.0), λ empty. cc)
+    (IsUtf8-append (c ∷ cs) (46 ∷ name) u.0 (IsUtf8-append (46 ∷ []) name (IsUtf8-from_ascii (46 ∷ []) dot) h.0), λ empty. cc, u.1)
 
 passed : (b : Bool) (path : List ℕ) → wrong_unless b path ≡ [] → b ≡ true
 passed true path e = refl
@@ -133,23 +140,23 @@ field-parts deepest place d t e =
 
 -- fields within an object, where those of the inner list are named
 abbrev AreNamedBy : (List ℕ → Items → List ConfigError) → (List ℕ → List ℕ → Items → List RawField) → Type 0
-AreNamedBy f g = (place path : List ℕ) (items : Items) → IsUtf8 path → AreTables items → f place items ≡ [] → AreNamedRaws (g place path items)
+AreNamedBy f g = (place path : List ℕ) (items : Items) → IsStart path → AreTables items → f place items ≡ [] → AreNamedRaws (g place path items)
 
 inner-named : (b : Bool) (f : List ℕ → Items → List ConfigError) (g : List ℕ → List ℕ → Items → List RawField) (place path : List ℕ) (d : Data)
-    → AreNamedBy f g → IsUtf8 (under path (name_of d)) → AreTables (items_in (get (codes "field_mappings") d))
+    → AreNamedBy f g → IsStart (under path (name_of d)) → AreTables (items_in (get (codes "field_mappings") d))
     → inner_fields b f place d ≡ [] → AreNamedRaws (inner_raws b g place path d)
 inner-named false f g place path d by u t e = tt
 inner-named true f g place path d by u t e =
     by (under place (codes "field_mappings")) (under path (name_of d)) (items_in (get (codes "field_mappings") d)) u t e
 
 member-named : (deepest : Bool) (f : List ℕ → Items → List ConfigError) (g : List ℕ → List ℕ → Items → List RawField) (place path : List ℕ) (d : Data)
-    → AreNamedBy f g → IsUtf8 path → field_faults deepest place d (type_of d) ++ inner_fields (is_object (type_of d)) f place d ≡ []
+    → AreNamedBy f g → IsStart path → field_faults deepest place d (type_of d) ++ inner_fields (is_object (type_of d)) f place d ≡ []
     → AreNamedRaws (raws_with g place path d)
 member-named deepest f g place path d by u e =
     let parts = both-empty (field_faults deepest place d (type_of d)) (inner_fields (is_object (type_of d)) f place d) e in
     let own = field-parts deepest place d (type_of d) parts.0 in
     let named = under-named path (name_of d) u own.0 in
-    (named, inner-named (is_object (type_of d)) f g place path d by named.0 own.1 parts.1)
+    (named, inner-named (is_object (type_of d)) f g place path d by (named.0, named.2) own.1 parts.1)
 
 each-named : (f : ℕ → Data → List ConfigError) (g : ℕ → Data → List RawField)
     → ((n : ℕ) (d : Data) → is_some (as_table d) ≡ true → f n d ≡ [] → AreNamedRaws (g n d))
@@ -159,7 +166,7 @@ each-named f g by n (item d ds) t e =
     let parts = both-empty (f n d) (each_fault f (suc n) ds) e in
     named-append (g n d) (each_raw g (suc n) ds) (by n d t.0 parts.0) (each-named f g by (suc n) ds t.1 parts.1)
 
-member-at : (levels : ℕ) (list_place path : List ℕ) (n : ℕ) (d : Data) → IsUtf8 path → is_some (as_table d) ≡ true
+member-at : (levels : ℕ) (list_place path : List ℕ) (n : ℕ) (d : Data) → IsStart path → is_some (as_table d) ≡ true
     → member_at levels list_place n d ≡ [] → AreNamedRaws (raw_member levels (member_path list_place n) path d)
 member-at zero list_place path n d u tab e =
     member-named true (λ p i. []) (λ p q i. []) (member_path list_place n) path d (λ p q i v t f. tt) u (rw tab at e)
@@ -191,7 +198,7 @@ mapping-named d e =
     (asked (optional rules.Truth) mapping_path (codes "index_field_presence") d)
     (fields_faults 16 list_path (items_in (get (codes "field_mappings") d))) e in
     each-named (member_at 16 list_path) (λ n x. raw_member 16 (member_path list_path n) [] x)
-    (λ n x there f. member-at 16 list_path [] n x IsUtf8-nil there f) 0 (items_in (get (codes "field_mappings") d))
+    (λ n x there f. member-at 16 list_path [] n x (IsUtf8-nil, tt) there f) 0 (items_in (get (codes "field_mappings") d))
     (tables-asked false mapping_path d parts.0) parts.1
 
 where-named : (o : Option Data) → where_table (mapping_faults mapping_path) o ≡ []
@@ -231,12 +238,19 @@ ordered-named : (raws : List RawField) → AreNamedRaws raws → AreNamedRaws (i
 ordered-named [] h = tt
 ordered-named (raw ∷ raws) h = sorted-named raw.kind raw (in_order raws) h.0 (ordered-named raws h.1)
 
-named-at : (tags : Items) (rs : List RawField) → AreNamedRaws rs → AreNamed (fields_of tags rs)
+named-at : (tags : Items) (rs : List RawField) → AreNamedRaws rs → (n : ℕ) (f : Field) → slice_get (fields_of tags rs) n ≡ Some f → IsNamed f.path
 named-at tags [] h n f e = absurd (cc)
 named-at tags (r ∷ rs) h zero f e =
     let here : field_of tags r ≡ f = cc in
     subst (λ (x : Field). IsNamed x.path) here h.0
 named-at tags (r ∷ rs) h (suc n) f e = named-at tags rs h.1 n f e
 
+field-named : (tags : Items) (root : Data) → table_faults root ≡ [] → (n : ℕ) (f : Field) → slice_get (fields_of tags (in_order (all_raws root))) n ≡ Some f
+    → IsNamed f.path
+field-named tags root e = named-at tags (in_order (all_raws root)) (ordered-named (all_raws root) (all-named root e))
+
 pub fields-named : (tags : Items) (root : Data) → table_faults root ≡ [] → AreNamed (fields_of tags (in_order (all_raws root)))
-fields-named tags root e = named-at tags (in_order (all_raws root)) (ordered-named (all_raws root) (all-named root e))
+fields-named tags root e = λ n f a. let h = field-named tags root e n f a in (h.0, h.1)
+
+pub fields-plain : (tags : Items) (root : Data) → table_faults root ≡ [] → BeginPlain (fields_of tags (in_order (all_raws root)))
+fields-plain tags root e = λ n f a. (field-named tags root e n f a).2

@@ -2,7 +2,7 @@
 
 ghost use Rattle.std.specs.Prelude.{◌≡◌, ℕ, List, Ok, length};
 ghost use Rattle.doc_value.specs.Documents.{IsSchema};
-ghost use Rattle.index_config.specs.Accepted.{AreNamed, AreNumbers};
+ghost use Rattle.index_config.specs.Accepted.{AreNamed, AreNumbers, AreTags, AreTextFields, BeginPlain, HasRanges};
 ghost use Rattle.index_config.specs.Answer.{config_answer};
 ghost use Rattle.index_config.specs.declared.config.IndexConfig.{IndexConfig};
 
@@ -18,4 +18,12 @@ pub fn accepted_laws()
     ensures defaults { (text : List ℕ) (config : IndexConfig) → config_answer text ≡ Ok config → AreNumbers config.schema.fields config.default_fields }
     // Each path is a text with at least one byte.
     ensures named { (text : List ℕ) (config : IndexConfig) → config_answer text ≡ Ok config → AreNamed config.schema.fields }
+    // No path begins with a dot.
+    ensures plain { (text : List ℕ) (config : IndexConfig) → config_answer text ≡ Ok config → BeginPlain config.schema.fields }
+    // Each of its numbers lies within its range.
+    ensures ranges { (text : List ℕ) (config : IndexConfig) → config_answer text ≡ Ok config → HasRanges config }
+    // Each tag field is a text that is one token, a number or a truth value.
+    ensures tags { (text : List ℕ) (config : IndexConfig) → config_answer text ≡ Ok config → AreTags config.schema.fields }
+    // Each default search field is a field of texts.
+    ensures texts { (text : List ℕ) (config : IndexConfig) → config_answer text ≡ Ok config → AreTextFields config.schema.fields config.default_fields }
 {}

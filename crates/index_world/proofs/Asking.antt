@@ -1,5 +1,5 @@
 -- Which entries may enter: the fence of settling, and an entry of one's own.
-use Rattle.std.proofs.Common.{◌≡◌, ℕ, ◌-◌, ◌<◌, ◌≤◌, List, refl, sym, ap, ◌∙◌, subst, true, length, arith}
+use Rattle.std.proofs.Common.{◌≡◌, ℕ, ◌-◌, ◌^◌, ◌<◌, ◌≤◌, List, refl, sym, ap, ◌∙◌, subst, Bool, true, false, length, arith}
 use Rattle.std.specs.List.{AllByRecursion}
 use Rattle.std.specs.Prelude.{Option, Some, None, max, IsSome}
 use Rattle.meta_journal.specs.Spelling.{CanSpell}
@@ -15,7 +15,7 @@ use Rattle.object_store.specs.Store.{State}
 use Rattle.source_checkpoint.specs.declared.delta.Part.{Part}
 use Rattle.source_log.specs.Log.{Log, records_of}
 use Rattle.split_states.specs.declared.facts.RowFacts.{RowFacts}
-use Rattle.index_world.specs.Calls.{fence_of, taken_in, asked_clock}
+use Rattle.index_world.specs.Calls.{fence_of, taken_in, asked_clock, asked_moment}
 use Rattle.index_world.specs.Config.{reads}
 use Rattle.index_world.specs.Core.{Core}
 use Rattle.index_world.specs.Index.{MayEnter, MayPublish, HasStaged, IsMade, IsUploaded, facts_of}
@@ -100,10 +100,18 @@ made_is_publishable kept entries log n delta facts bytes s m u =
 
 -- ---- moments
 
+pub asked_least : (frozen : Bool) (moment clock : ℕ) → moment ≤ asked_moment frozen moment clock
+asked_least true moment clock = omega arith
+asked_least false moment clock = omega arith
+
+asked_below : (frozen : Bool) (moment clock limit : ℕ) → moment < limit → clock < limit → asked_moment frozen moment clock < limit
+asked_below true moment clock limit m c = m
+asked_below false moment clock limit m c = omega (arith, m, c)
+
 pub timely_asked : (core : Core) → IsTimely core → IsTimely (asked_clock core)
 timely_asked core t =
-    let a = t.greatest in let b = t.moment in let c = t.clock in
-    record { greatest = omega (arith, a); moment = omega (arith, b, c); clock = c; room = t.room }
+    let a = t.greatest in let b = asked_least core.frozen core.moment core.clock in
+    record { greatest = omega (arith, a, b); moment = asked_below core.frozen core.moment core.clock (2 ^ 62) t.moment t.clock; clock = t.clock; room = t.room }
 
 pub timely_taken : (core : Core) (entry : Entry) → IsTimely core → CanSpell entry → IsTimely (taken_in entry core)
 timely_taken core entry t can =

@@ -162,8 +162,23 @@ staged_row h m n may = by (config_of reads h) may
 staged_no : Staged ≡ Published → ⊥
 staged_no e = cc
 
-published_staged : Published ≡ Staged → ⊥
-published_staged e = cc
+-- a staged row is that of its delta
+fresh_spans : (entries : List Entry) (n : ℕ) (row : Row) → Legal reads (history entries) → StandsIn (rows (history entries)) n row → row.state ≡ Staged →
+    row.spans ≡ spans_of (stamp_of (history entries) n) (delta_of (history entries) n)
+fresh_spans entries n row legal at staged =
+    let h = history entries in
+    subst (λ k. row.spans ≡ spans_of (stamp_of h k) (delta_of h k)) at.number ((held (IsTraced (reach h) (delta_of h) (stamp_of h)) (last_number h) (rows h) n row at (sound reads h legal).held).fresh staged)
+
+pub fresh_contents : (entries : List Entry) (log : Log) (n : ℕ) (row : Row) → Legal reads (history entries) → StandsIn (rows (history entries)) n row → row.state ≡ Staged →
+    contents (ledger (history entries)).tasks row log ≡ accepted_in log (delta_of (history entries) n)
+fresh_contents entries log n row legal at staged =
+    let h = history entries in
+    ap (λ (ss : List Span). flat_map (λ s. filter (is_kept meaning (ledger h).tasks s) (accepted_records log)) ss) (fresh_spans entries n row legal at staged)
+    ∙ spans_contents (accepted_records log) (ledger h).tasks (stamp_of h n) (delta_of h n)
+
+pub fresh_ranges : (entries : List Entry) (n : ℕ) (row : Row) → Legal reads (history entries) → StandsIn (rows (history entries)) n row → row.state ≡ Staged → ranges_of row ≡ delta_of (history entries) n
+fresh_ranges entries n row legal at staged =
+    ap (map range_of) (fresh_spans entries n row legal at staged) ∙ ranges_spans (stamp_of (history entries) n) (delta_of (history entries) n)
 
 -- what a Publish needs is that its row is sound
 publish_sound : (kept : State) (entries : List Entry) (log : Log) (n : ℕ) (row : Row) → Legal reads (history entries) → StandsIn (rows (history entries)) n row → row.state ≡ Staged →
@@ -179,14 +194,11 @@ publish_sound kept entries log n row legal at staged found m =
     h : History
     h = history entries
 
-    spans : row.spans ≡ spans_of (stamp_of h n) (delta_of h n)
-    spans = subst (λ k. row.spans ≡ spans_of (stamp_of h k) (delta_of h k)) at.number ((held (IsTraced (reach h) (delta_of h) (stamp_of h)) (last_number h) (rows h) n row at (sound reads h legal).held).fresh staged)
-
     same : contents (ledger h).tasks row log ≡ accepted_in log (delta_of h n)
-    same = ap (λ (ss : List Span). flat_map (λ s. filter (is_kept meaning (ledger h).tasks s) (accepted_records log)) ss) spans ∙ spans_contents (accepted_records log) (ledger h).tasks (stamp_of h n) (delta_of h n)
+    same = fresh_contents entries log n row legal at staged
 
     ranges : ranges_of row ≡ delta_of h n
-    ranges = ap (map range_of) spans ∙ ranges_spans (stamp_of h n) (delta_of h n)
+    ranges = fresh_ranges entries n row legal at staged
 
 rows_act : (kept : State) (entries : List Entry) (log : Log) (moment : ℕ) (act : Act) → Legal reads (history entries) → Comes (history entries) moment act →
     HasFile kept entries log act → AllByRecursion (IsRowKept kept (ledger (history entries)).tasks log) (rows (history entries)) →

@@ -12,7 +12,7 @@ use Rattle.object_store.specs.declared.store.CreateError.TheVariants as creates
 use Rattle.source_log.specs.Log.{Log}
 use Rattle.index_world.specs.Calls.{Call, Fate, calm_call, Gives, gives, Trouble, no_memory, Unread, not_read, no_index, store_failed, begun, file_by, file_made, upload_made, got_file, file_got, or_short, with_file, taken_in, with_standing, reborn, read_journal, unless_empty, load_by, loaded, may_fail, risen}
 use Rattle.index_world.specs.Calls as calls
-use Rattle.index_world.specs.Core.{Core, late_file, file_at, last_count, with_unread, journal_of}
+use Rattle.index_world.specs.Core.{Core, late_file, file_at, last_count, with_unread, journal_of, clock_of}
 use Rattle.index_world.specs.Index.{OneEntry, IsUnused, IsUploaded}
 use Rattle.index_world.specs.Standing.{StandsFor}
 use Rattle.index_world.specs.World.{IsWorld}
@@ -42,7 +42,7 @@ pub record UploadLaw (old new : State) (core : Core) (log : Log) (n : ℕ) (byte
   pub history : after.history ≡ core.history
   pub faults : after.store_faults ≡ now
   pub moment : after.moment ≡ core.moment
-  pub clock : after.clock ≡ core.clock
+  pub clock : clock_of after ≡ clock_of core
   pub unsure : after.unsure ≡ core.unsure
 
 filed-on : (old mid new : State) (core between after : Core) (log : Log) (n : ℕ) → Onward old mid core between log → Filed mid new between after log n → Filed old new core after log n
@@ -186,7 +186,7 @@ got_short_law once old new core log now w c t =
 -- ---- a load
 
 standing_taken : (kept : State) (core : Core) (log : Log) (standing : Option Entry) → IsWorld kept core log → core.standing ≡ standing →
-    Onward kept kept core (with_standing standing core) log × ((with_standing standing core).history ≡ journal_of core) × ((with_standing standing core).standing ≡ None) × ((with_standing standing core).clock ≡ core.clock)
+    Onward kept kept core (with_standing standing core) log × ((with_standing standing core).history ≡ journal_of core) × ((with_standing standing core).standing ≡ None) × (clock_of (with_standing standing core) ≡ clock_of core)
     × ((with_standing standing core).store_faults ≡ core.store_faults)
 standing_taken kept core log None w e = (record { world = w; held = held-refl kept (journal_of core) }, ap (with_unread core.history) (sym e), e, refl, refl)
 standing_taken kept core log (Some entry) w e = (world-taken kept core log entry w e, ap (with_unread core.history) (sym e), refl, refl, refl)
@@ -206,7 +206,7 @@ pub record LoadLaw (old new : State) (core : Core) (log : Log) (read : List Entr
   pub history : after.history ≡ read
   pub faults : after.store_faults ≡ now
   pub moment : after.moment ≡ moment_of (told read)
-  pub clock : after.clock ≡ core.clock
+  pub clock : clock_of after ≡ clock_of core
   pub unsure : after.unsure ≡ false
 
 abbrev pub load_answer : List Entry → Result ⊤ Unread
@@ -247,7 +247,7 @@ load_law once old mid new core log read now w c t j u =
     b : Begun old mid core start log now
     b = world-begins once old mid core log now first w c refl t.1
 
-    s : Onward mid mid start (with_standing start.standing start) log × ((with_standing start.standing start).history ≡ journal_of start) × ((with_standing start.standing start).standing ≡ None) × ((with_standing start.standing start).clock ≡ start.clock)
+    s : Onward mid mid start (with_standing start.standing start) log × ((with_standing start.standing start).history ≡ journal_of start) × ((with_standing start.standing start).standing ≡ None) × (clock_of (with_standing start.standing start) ≡ clock_of start)
         × ((with_standing start.standing start).store_faults ≡ start.store_faults)
     s = standing_taken mid start log start.standing b.onward.world refl
 
@@ -282,7 +282,7 @@ pub record UnreadLaw (old new : State) (core : Core) (log : Log) (answer : Core 
   pub history : after.history ≡ core.history
   pub faults : after.store_faults ≡ now
   pub moment : after.moment ≡ core.moment
-  pub clock : after.clock ≡ core.clock
+  pub clock : clock_of after ≡ clock_of core
   pub unsure : after.unsure ≡ core.unsure
 
 -- the first call failed, or one behind it: what landed is all that was done

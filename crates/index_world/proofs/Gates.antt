@@ -37,7 +37,7 @@ use Rattle.index_world.specs.declared.life.Life.{Life}
 use Rattle.index_world.specs.declared.own.Own.{Own}
 use Rattle.index_world.specs.declared.own.Own.TheVariants as owns
 use Rattle.index_world.specs.declared.world_error.WorldError.{WorldError}
-use Rattle.index_world.specs.Calls.{Fate, Gives, Trouble, no_memory, appended, looked, asked, asked_and_looked, asked_clock, entry_of, fetched, upload_made, faulted, store_fault, store_failed}
+use Rattle.index_world.specs.Calls.{Fate, Gives, Trouble, no_memory, appended, looked, asked, asked_and_looked, asked_clock, asked_moment, entry_of, fetched, upload_made, faulted, store_fault, store_failed}
 use Rattle.index_world.specs.Config.{reads}
 use Rattle.index_world.specs.Core.{Core, last_count, journal_of, HasStagedIn, IsUnusedIn, IsUploadedIn}
 use Rattle.index_world.specs.Gate.{Does, Says, NoneBetween, IsTrouble, IsUnmade, WasStaged, IsStagedIn, WasUploaded, IsMoment, IsPieceGiven, rows_for}
@@ -51,7 +51,7 @@ use Rattle.index_world.proofs.Asking.{timely_asked}
 use Rattle.index_world.proofs.Lives.{Told, told_of, want_trouble, knows_of}
 use Rattle.index_world.proofs.Numbers.{history-snoc, revision_is, staged_le}
 use Rattle.index_world.proofs.WholeCalls.{Whole, Looks, looks_sure, looks_settled, looks_unsettled, whole_appended, whole_asked, whole_looked, whole_asked_and_looked, world_asked, copied}
-use Rattle.index_world.proofs.Worlds.{world-same}
+use Rattle.index_world.proofs.Worlds.{world-same, world-frozen}
 
 -- ---- what a world keeps
 
@@ -72,8 +72,12 @@ pub stands_of : (told : Option State) (count : ℕ) (clock : Option ℕ) (life :
 stands_of told count clock life frozen core log within s =
     record { world = s.world; timely = s.timely; faults = s.store_faults; within = within; knows = record { next = s.next; unsure = s.unsure; moment = s.moment; meta = s.meta }; opened = s.opened }
 
+-- the world asks its clock where its core does
+asked_alike : (w : Keeping) (core : Core) (log : Log) → WorldStands w core log → asked_moment w.frozen w.moment core.clock ≡ (asked_clock core).moment
+asked_alike w core log s = ap (λ (f : Bool). asked_moment f w.moment core.clock) s.frozen ∙ ap (λ (m : ℕ). asked_moment core.frozen m core.clock) s.moment
+
 -- the clock was asked
-pub world_asks : (w w' : Keeping) (core : Core) (log : Log) → WorldStands w core log → w' ≡ record w { moment = max w.moment core.clock } → WorldStands w' (asked_clock core) log
+pub world_asks : (w w' : Keeping) (core : Core) (log : Log) → WorldStands w core log → w' ≡ record w { moment = asked_moment w.frozen w.moment core.clock } → WorldStands w' (asked_clock core) log
 world_asks w w' core log s e =
     subst (λ (k : Keeping). WorldStands k (asked_clock core) log) (sym e)
     (record {
@@ -83,18 +87,40 @@ world_asks w w' core log s e =
       timely = timely_asked core s.timely;
       store_faults = s.store_faults;
       clock = s.clock;
-      moment = ap (λ (m : ℕ). max m core.clock) s.moment;
+      moment = asked_alike w core log s;
       meta = s.meta;
       next = s.next;
       unsure = s.unsure;
-      awake = s.awake;
+      frozen = s.frozen;
       opened = s.opened;
     })
+
+-- the world is frozen
+pub world_freezes : (w w' : Keeping) (core : Core) (log : Log) → w' ≡ record w { frozen = true } → WorldStands w core log → WorldStands w' (record core { frozen = true }) log
+world_freezes w w' core log e s =
+    subst (λ (k : Keeping). WorldStands k (record core { frozen = true }) log) (sym e)
+    (record {
+      kept = s.kept;
+      told = s.told;
+      world = world-frozen s.kept core log s.world;
+      timely = record { greatest = s.timely.greatest; moment = s.timely.moment; clock = s.timely.clock; room = s.timely.room };
+      store_faults = s.store_faults;
+      clock = s.clock;
+      moment = s.moment;
+      meta = s.meta;
+      next = s.next;
+      unsure = s.unsure;
+      frozen = refl;
+      opened = s.opened;
+    })
+
+pub frozen_asks : (core : Core) → core.frozen ≡ true → asked_clock core ≡ core
+frozen_asks core e = ap (λ (f : Bool). record core { moment = asked_moment f core.moment core.clock }) e
 
 -- ---- from a whole call
 
 pub world_by : (new : State) (start after : Core) (log : Log) (more : List Entry) (doubt : Bool) (now : ℕ) (told : Option State) (clock : Option ℕ) (life : Life) (frozen : Bool) {E : Type 0} (call : Fate → Core → Gives E ⊤) (one : Option ℕ) (core : Core) (answer : Core → Result ⊤ E) →
-    (u : Whole call one new core start log answer more doubt now) → told ≡ Some new → clock ≡ Some start.clock → frozen ≡ false → LifeIs life (start.history ++ more) (greatest start.moment more) doubt → WorldStands (kept_by told now clock life frozen) u.after log
+    (u : Whole call one new core start log answer more doubt now) → told ≡ Some new → clock ≡ Some start.clock → frozen ≡ start.frozen → LifeIs life (start.history ++ more) (greatest start.moment more) doubt → WorldStands (kept_by told now clock life frozen) u.after log
 world_by new start after log more doubt now told clock life frozen call one core answer u t c f k =
     record {
       kept = new;
@@ -102,17 +128,17 @@ world_by new start after log more doubt now told clock life frozen call one core
       world = let same : ◌≡◌ {A = Option State} (Some new) (Some u.stands.kept) = u.stands.told in let is : u.stands.kept ≡ new = cc same in subst (λ (s : State). IsWorld s u.after log) is u.stands.world;
       timely = u.stands.timely;
       store_faults = sym u.ends.faults;
-      clock = c ∙ ap Some (sym u.ends.clock);
+      clock = c ∙ ap (λ (k : ℕ × Bool). Some k.0) (sym u.ends.clock);
       moment = k.moment ∙ sym u.ends.moment;
       meta = k.meta ∙ ap (λ (es : List Entry). state_of reads (history es)) (sym u.ends.history);
       next = k.next ∙ ap length (sym u.ends.history);
       unsure = k.unsure ∙ sym u.ends.unsure;
-      awake = f;
+      frozen = f ∙ ap (λ (k : ℕ × Bool). k.1) (sym u.ends.clock);
       opened = u.stands.opened;
     }
 
 pub does_by : {E A : Type 0} (call : Fate → Core → Gives E ⊤) (one : Option ℕ) (is : WorldError → E → Type 0) (holds : A → Core → Type 0) (r : Result A WorldError) (core start : Core) (log : Log) (new : State) (answer : Core → Result ⊤ E) (more : List Entry) (doubt : Bool) (now : ℕ)
-    (told : Option State) (clock : Option ℕ) (life : Life) (frozen : Bool) → (u : Whole call one new core start log answer more doubt now) → told ≡ Some new → clock ≡ Some start.clock → frozen ≡ false → LifeIs life (start.history ++ more) (greatest start.moment more) doubt →
+    (told : Option State) (clock : Option ℕ) (life : Life) (frozen : Bool) → (u : Whole call one new core start log answer more doubt now) → told ≡ Some new → clock ≡ Some start.clock → frozen ≡ start.frozen → LifeIs life (start.history ++ more) (greatest start.moment more) doubt →
     Says is holds r (answer u.after) u.after → Does WorldStands NoneBetween one call is holds r core log (kept_by told now clock life frozen)
 does_by call one is holds r core start log new answer more doubt now told clock life frozen u t c f k says =
     record {
@@ -126,10 +152,6 @@ does_by call one is holds r core start log new answer more doubt now told clock 
       goes_on = u.goes_on;
       stands = world_by new start u.after log more doubt now told clock life frozen call one core answer u t c f k;
     }
-
--- a life behind the call, by the core that the call gave
-pub life_behind : (life : Life) (entries : List Entry) (time : ℕ) (doubt : Bool) (after : Core) → LifeIs life entries time doubt → after.history ≡ entries → after.moment ≡ time → after.unsure ≡ doubt → LifeIs life after.history after.moment after.unsure
-life_behind life entries time doubt after k h m u = knows_of life entries after.history time after.moment doubt after.unsure (sym h) (sym m) (sym u) k
 
 -- ---- a transaction
 
@@ -152,20 +174,20 @@ module _ (told told' : Option State) (n now : ℕ) (clock : Option ℕ) (life li
       Does WorldStands NoneBetween None (λ fate c. appended fate (own_act own) c) IsUnmade Q (Ok a) core log (kept_by told' now clock life' frozen)
   appends_ok Q a x holds =
       does_by (λ fate c. appended fate (own_act own) c) None IsUnmade Q (Ok a) core (asked_clock core) log x.new x.answer x.more x.doubt now told' clock life' frozen
-      (whole_appended s.kept x.new core log (own_act own) x.answer x.more x.doubt now w s.opened (record { later = x.counted.later; within = x.counted.within }) x.did) x.tells s.clock s.awake
+      (whole_appended s.kept x.new core log (own_act own) x.answer x.more x.doubt now w s.opened (record { later = x.counted.later; within = x.counted.within }) x.did) x.tells s.clock s.frozen
       (life_behind' x)
       (says_on IsUnmade (OwnMade own (asked_clock core)) Q (x.answer x.did.after) x.did.after tt a x.says (holds x.did.after x.stands.knows))
     where
-      life_behind' : (x : Appending s.kept (asked_clock core) log own (Ok tt) told' now life') → LifeIs life' (core.history ++ x.more) (greatest (max core.moment core.clock) x.more) x.doubt
+      life_behind' : (x : Appending s.kept (asked_clock core) log own (Ok tt) told' now life') → LifeIs life' (core.history ++ x.more) (greatest (asked_clock core).moment x.more) x.doubt
       life_behind' x =
-          knows_of life' x.did.after.history (core.history ++ x.more) x.did.after.moment (greatest (max core.moment core.clock) x.more) x.did.after.unsure x.doubt x.did.ends.history x.did.ends.moment x.did.ends.unsure x.stands.knows
+          knows_of life' x.did.after.history (core.history ++ x.more) x.did.after.moment (greatest (asked_clock core).moment x.more) x.did.after.unsure x.doubt x.did.ends.history x.did.ends.moment x.did.ends.unsure x.stands.knows
 
   pub appends_err : {A : Type 0} (Q : A → Core → Type 0) (e : WorldError) (r : Result A WorldError) (Is : WorldError → Type 0) → (x : Appending s.kept (asked_clock core) log own (Err e) told' now life') → IsErrAnd r Is → ((error : WorldError) → Is error → error ≡ e) →
       Does WorldStands NoneBetween None (λ fate c. appended fate (own_act own) c) IsUnmade Q r core log (kept_by told' now clock life' frozen)
   appends_err Q e r Is x h same =
       does_by (λ fate c. appended fate (own_act own) c) None IsUnmade Q r core (asked_clock core) log x.new x.answer x.more x.doubt now told' clock life' frozen
-      (whole_appended s.kept x.new core log (own_act own) x.answer x.more x.doubt now w s.opened (record { later = x.counted.later; within = x.counted.within }) x.did) x.tells s.clock s.awake
-      (knows_of life' x.did.after.history (core.history ++ x.more) x.did.after.moment (greatest (max core.moment core.clock) x.more) x.did.after.unsure x.doubt x.did.ends.history x.did.ends.moment x.did.ends.unsure x.stands.knows)
+      (whole_appended s.kept x.new core log (own_act own) x.answer x.more x.doubt now w s.opened (record { later = x.counted.later; within = x.counted.within }) x.did) x.tells s.clock s.frozen
+      (knows_of life' x.did.after.history (core.history ++ x.more) x.did.after.moment (greatest (asked_clock core).moment x.more) x.did.after.unsure x.doubt x.did.ends.history x.did.ends.moment x.did.ends.unsure x.stands.knows)
       (says_err IsUnmade (OwnMade own (asked_clock core)) Q (x.answer x.did.after) x.did.after e r Is x.says h same)
 
 -- the number of entries that a life took in
@@ -264,7 +286,7 @@ module _ (call : Fate → Core → Gives Trouble ⊤) (told told' : Option State
       let d = x.did in
       let l = looks_unsettled s.kept x.new start log d.trouble now s.timely d.doubt d.step in
       let u = wholes x.new (λ after. Err (d.trouble after)) [] true now x.counted l in
-      does_by call None IsTrouble Q (Err error) core start log x.new (λ after. Err (d.trouble after)) [] true now told' clock life' frozen u.0 x.tells s.clock s.awake
+      does_by call None IsTrouble Q (Err error) core start log x.new (λ after. Err (d.trouble after)) [] true now told' clock life' frozen u.0 x.tells s.clock s.frozen
       (knows_of life' d.step.after.history (start.history ++ []) d.step.after.moment start.moment d.step.after.unsure true (d.step.history ∙ sym (append-nil start.history)) d.step.moment d.step.unsure d.stands.knows)
       (subst (λ (y : WorldError). IsTrouble y (d.trouble u.0.after)) (sym (same error h)) (subst (λ (a : Core). IsTrouble e (d.trouble a)) (sym u.1) d.is))
 
@@ -273,7 +295,7 @@ module _ (call : Fate → Core → Gives Trouble ⊤) (told told' : Option State
   looks_ok Q a x holds =
       let l = looked_of s.kept start log false told' now life' n life (stands_of told n clock life frozen start log within s) x in
       let u = (wholes l.new (behind_short false) l.more l.doubt now l.counted l.looks).0 in
-      does_by call None IsTrouble Q (Ok a) core start log l.new (behind_short false) l.more l.doubt now told' clock life' frozen u l.tells s.clock s.awake l.knows
+      does_by call None IsTrouble Q (Ok a) core start log l.new (behind_short false) l.more l.doubt now told' clock life' frozen u l.tells s.clock s.frozen l.knows
       (holds u.after (knows_of life' (start.history ++ l.more) u.after.history (greatest start.moment l.more) u.after.moment l.doubt u.after.unsure (sym u.ends.history) (sym u.ends.moment) (sym u.ends.unsure) l.knows))
 
   pub looks_wants : {A : Type 0} (Q : A → Core → Type 0) (r : Result A WorldError) (Is : WorldError → Type 0) → Settling s.kept start log (Ok tt) told' now life' → IsErrAnd r Is → ((error : WorldError) → Is error → IsWant error) →
@@ -282,7 +304,7 @@ module _ (call : Fate → Core → Gives Trouble ⊤) (told told' : Option State
   looks_wants Q (Err error) Is x h want =
       let l = looked_of s.kept start log true told' now life' n life (stands_of told n clock life frozen start log within s) x in
       let u = (wholes l.new (behind_short true) l.more l.doubt now l.counted l.looks).0 in
-      does_by call None IsTrouble Q (Err error) core start log l.new (behind_short true) l.more l.doubt now told' clock life' frozen u l.tells s.clock s.awake l.knows
+      does_by call None IsTrouble Q (Err error) core start log l.new (behind_short true) l.more l.doubt now told' clock life' frozen u l.tells s.clock s.frozen l.knows
       (want_trouble error (want error h))
 
 -- ---- the two calls that settle
@@ -300,7 +322,7 @@ rows_are choices.Look h = refl
 
 -- ---- the clock alone
 
-pub asks_alone : (w w' : Keeping) (core : Core) (log : Log) → WorldStands w core log → w' ≡ record w { moment = max w.moment core.clock } → (m : ℕ) → m ≡ w'.moment → Does WorldStands NoneBetween None asked IsTrouble IsMoment (Ok m) core log w'
+pub asks_alone : (w w' : Keeping) (core : Core) (log : Log) → WorldStands w core log → w' ≡ record w { moment = asked_moment w.frozen w.moment core.clock } → (m : ℕ) → m ≡ w'.moment → Does WorldStands NoneBetween None asked IsTrouble IsMoment (Ok m) core log w'
 asks_alone w w' core log s e m same =
     let u = whole_asked s.kept core log s.world s.opened s.timely in
     record {
@@ -310,7 +332,7 @@ asks_alone w w' core log s e m same =
       answer = Ok tt;
       after = asked_clock core;
       did = refl;
-      says = same ∙ ap (λ (k : Keeping). k.moment) e ∙ ap (λ (x : ℕ). max x core.clock) s.moment;
+      says = same ∙ ap (λ (k : Keeping). k.moment) e ∙ asked_alike w core log s;
       goes_on = u.goes_on;
       stands = world_asks w w' core log s e;
     }
@@ -346,7 +368,7 @@ uploads told told' n now clock life frozen core log s number key bytes before af
         Does WorldStands NoneBetween (Some number) (λ fate c. upload_made fate number bytes c) IsTrouble (WasUploaded number bytes) r core log (kept_by told' now clock life frozen)
     ends_by r new a tells l says =
         does_by (λ fate c. upload_made fate number bytes c) (Some number) IsTrouble (WasUploaded number bytes) r core core log new a [] core.unsure now told' clock life frozen
-        (whole_upload s.kept new core log number bytes a now s.world s.opened s.timely counted l) tells s.clock s.awake (same_life life core knows) says
+        (whole_upload s.kept new core log number bytes a now s.world s.opened s.timely counted l) tells s.clock s.frozen (same_life life core knows) says
 
     failed_by : (new : State) → told' ≡ Some new → (e : CreateError) → LandsThen (Creates key bytes (Err e)) s.kept new → (e ≡ creates.Failed → Rose n now) →
         Does WorldStands NoneBetween (Some number) (λ fate c. upload_made fate number bytes c) IsTrouble (WasUploaded number bytes) (Err (of_create key before after e)) core log (kept_by told' now clock life frozen)
@@ -383,14 +405,14 @@ fetches told told' n now clock life frozen core log s low number key bytes from 
     counted : Counted (asked_clock core) now
     counted = record { later = let a = cause.later in let f = s.store_faults in omega (arith, a, f); within = within }
 
-    knows : LifeIs life core.history (max core.moment core.clock) core.unsure
+    knows : LifeIs life core.history (asked_clock core).moment core.unsure
     knows = record { next = s.next; unsure = s.unsure; moment = s.moment; meta = s.meta }
 
     ends_by : (r : Result Piece WorldError) (new : State) (a : Core → Result ⊤ Trouble) → told' ≡ Some new → (f : Fetches s.kept new core log a now) → Says IsTrouble (IsPieceGiven bytes from len) r (a f.after) f.after →
         Does WorldStands NoneBetween None fetched IsTrouble (IsPieceGiven bytes from len) r core log (kept_by told' now clock life frozen)
     ends_by r new a tells f says =
         does_by fetched None IsTrouble (IsPieceGiven bytes from len) r core (asked_clock core) log new a [] core.unsure now told' clock life frozen
-        (whole_fetched s.kept new core log a now w s.opened low (record { later = counted.later; within = within }) f) tells s.clock s.awake (same_life life (asked_clock core) knows) says
+        (whole_fetched s.kept new core log a now w s.opened low (record { later = counted.later; within = within }) f) tells s.clock s.frozen (same_life life (asked_clock core) knows) says
 
     -- the file stands with its bytes, whatever landed
     stands : (new : State) → HasLanded s.kept new → get new.objects key ≡ Some bytes

@@ -11,7 +11,7 @@ use Rattle.object_store.specs.Store.{State, landed, with_object, with_late, HasL
 use Rattle.object_store.specs.declared.store.CreateError.TheVariants as creates
 use Rattle.source_log.specs.Log.{Log}
 use Rattle.index_world.specs.Calls.{Call, exists, failed, Making, made_behind, made_at, create_at_end, tried, begun, risen, may_fail, taken_in, got_at, get_at_end, gives, store_failed}
-use Rattle.index_world.specs.Core.{Core, late_entry, last_count, journal_of}
+use Rattle.index_world.specs.Core.{Core, late_entry, last_count, journal_of, clock_of}
 use Rattle.index_world.specs.Index.{OneEntry, MayEnter, IsUnused, HasStaged}
 use Rattle.index_world.specs.World.{IsWorld}
 use Rattle.index_world.specs.Onward.{Onward, Landing}
@@ -45,7 +45,7 @@ pub record Begun (old mid : State) (core after : Core) (log : Log) (now : ℕ) :
   pub history : after.history ≡ core.history
   pub faults : after.store_faults ≡ now
   pub moment : after.moment ≡ core.moment
-  pub clock : after.clock ≡ core.clock
+  pub clock : clock_of after ≡ clock_of core
   pub unsure : after.unsure ≡ core.unsure
   pub enters : after.standing ≡ None → (entry : Entry) → (core.standing ≡ None → MayEnter old core.history log entry) → MayEnter mid core.history log entry
 
@@ -313,7 +313,7 @@ pub record GetFailedLaw (old new : State) (core : Core) (log : Log) (entry : Ent
   pub history : after.history ≡ core.history
   pub faults : after.store_faults ≡ now
   pub moment : after.moment ≡ core.moment
-  pub clock : after.clock ≡ core.clock
+  pub clock : clock_of after ≡ clock_of core
   pub unsure : after.unsure ≡ true
 
 pub get_failed_law : OneEntry → (old new : State) (core : Core) (log : Log) (entry : Entry) (before now : ℕ) → IsWorld old core log → Counted core now → Rose core.store_faults now →

@@ -5,8 +5,6 @@ pub mod SplitFacts
 pub mod SplitReads
 pub mod SplitParts
 pub mod Placing
-pub mod ShortTexts
-pub mod Light
 pub mod StoreKeys
 pub mod Journals
 pub mod Numbers
@@ -14,6 +12,7 @@ pub mod StoreChanges
 pub mod InHand
 pub mod Entering
 pub mod Indexing
+pub mod WholeIndex
 pub mod StoreCalls
 pub mod Landing
 pub mod Worlds
@@ -36,3 +35,4 @@ pub mod Gates
 pub mod Fronts
 pub mod Reading
 pub mod Faulted
+pub mod OpenedLemmas

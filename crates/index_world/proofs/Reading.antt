@@ -76,7 +76,7 @@ module _ (old : State) (core : Core) (log : Log) (n now : ℕ) (told told' : Opt
           none_by t.new (λ after. not_read (store_failed core.store_faults after)) (errors.StoreFault before high) t.is u
           (ap (λ (m : ℕ). not_read (faulted (store_fault core.store_faults m))) (u.faults ∙ sym fault.1) ∙ ap (λ (m : ℕ). not_read (faulted (store_fault m high))) (sym (start ∙ at)))
       by (journal.Foreign key) fault t = absurd (load_no_foreign old t.new core log now key w counted t.says.0 t.says.1)
-      by (journal.Corrupt key) fault t = absurd (load_no_corrupt old t.new core log now t.says.1 key w counted t.says.0 t.says.2)
+      by (journal.Corrupt key) fault t = absurd (load_no_corrupt old t.says.mid core log now (length t.says.first.0) key w counted t.says.counted.landed t.says.first.2)
       by (journal.Missing key) fault t = absurd t.says
       by (journal.Adopted f) fault t = absurd t.says
       by journal.Full fault t = absurd t.says
@@ -160,10 +160,10 @@ opening_at core log r r' told now e o = subst (λ (x : Result Life WorldError). 
 
 -- ---- of a world
 
-pub loads_world : (core : Core) (log : Log) (life : Life) (told : Option State) (now : ℕ) (clock : Option ℕ) → Opening core log (Ok life) told now → clock ≡ Some core.clock → LoadsWorld core log (kept_by told now clock life false)
-loads_world core log life told now clock o c = record { after = o.did.after; loads = o.did.loads; stands = world_stands o.new o.did.after log told now clock life false o.tells o.did.stands (c ∙ ap Some (sym o.did.clock)) refl }
+pub loads_world : (core : Core) (log : Log) (life : Life) (told : Option State) (now : ℕ) (clock : Option ℕ) → Opening core log (Ok life) told now → clock ≡ Some core.clock → core.frozen ≡ false → LoadsWorld core log (kept_by told now clock life false)
+loads_world core log life told now clock o c awake = record { after = o.did.after; loads = o.did.loads; stands = world_stands o.new o.did.after log told now clock life false o.tells o.did.stands (c ∙ ap (λ (k : ℕ × Bool). Some k.0) (sym o.did.clock)) (sym awake ∙ ap (λ (k : ℕ × Bool). k.1) (sym o.did.clock)) }
   where
-    world_stands : (new : State) (after : Core) (log : Log) (told : Option State) (now : ℕ) (clock : Option ℕ) (life : Life) (frozen : Bool) → told ≡ Some new → StandsBy new after log now life → clock ≡ Some after.clock → frozen ≡ false → WorldStands (kept_by told now clock life frozen) after log
+    world_stands : (new : State) (after : Core) (log : Log) (told : Option State) (now : ℕ) (clock : Option ℕ) (life : Life) (frozen : Bool) → told ≡ Some new → StandsBy new after log now life → clock ≡ Some after.clock → frozen ≡ after.frozen → WorldStands (kept_by told now clock life frozen) after log
     world_stands new after log told now clock life frozen t s c f =
         record {
           kept = new;
@@ -176,14 +176,14 @@ loads_world core log life told now clock o c = record { after = o.did.after; loa
           meta = s.knows.meta;
           next = s.knows.next;
           unsure = s.knows.unsure;
-          awake = f;
+          frozen = f;
           opened = s.opened;
         }
 
 pub loads_none : (core : Core) (log : Log) (error : WorldError) (told : Option State) (now : ℕ) → Opening core log (Err error) told now → LoadsNone core log error told now
 loads_none core log error told now o = record { unread = o.did.unread; after = o.did.after; loads = o.did.loads; says = o.did.says; kept = o.new; tells = o.tells; world = o.did.world; counts = o.did.faults }
 
-pub loads_anew_ok : (core : Core) (log : Log) (life : Life) (told : Option State) (now : ℕ) (clock : Option ℕ) (frozen : Bool) → Opening core log (Ok life) told now → clock ≡ Some core.clock → frozen ≡ false →
+pub loads_anew_ok : (core : Core) (log : Log) (life : Life) (told : Option State) (now : ℕ) (clock : Option ℕ) (frozen : Bool) → Opening core log (Ok life) told now → clock ≡ Some core.clock → frozen ≡ core.frozen →
     LoadsAnew core log (Ok tt) (kept_by told now clock life frozen)
 loads_anew_ok core log life told now clock frozen o c f =
     let s = o.did.stands in
@@ -198,12 +198,12 @@ loads_anew_ok core log life told now clock frozen o c f =
         world = s.world;
         timely = s.timely;
         store_faults = s.faults;
-        clock = c ∙ ap Some (sym o.did.clock);
+        clock = c ∙ ap (λ (k : ℕ × Bool). Some k.0) (sym o.did.clock);
         moment = s.knows.moment;
         meta = s.knows.meta;
         next = s.knows.next;
         unsure = s.knows.unsure;
-        awake = f;
+        frozen = f ∙ ap (λ (k : ℕ × Bool). k.1) (sym o.did.clock);
         opened = s.opened;
       };
     }
@@ -226,12 +226,12 @@ loads_anew_err core log life told told' n now clock frozen x s o (Err error) Is 
         world = d.world;
         timely = timely_same core d.after core.unsure now s.timely ends s.timely.room;
         store_faults = d.faults;
-        clock = s.clock ∙ ap Some (sym k.clock);
+        clock = s.clock ∙ ap (λ (x : ℕ × Bool). Some x.0) (sym k.clock);
         moment = s.moment ∙ sym k.moment;
         meta = s.meta ∙ ap (λ (es : List Entry). state_of reads (history es)) (sym k.history);
         next = s.next ∙ ap length (sym k.history);
         unsure = s.unsure ∙ sym k.unsure;
-        awake = s.awake;
+        frozen = s.frozen ∙ ap (λ (x : ℕ × Bool). x.1) (sym k.clock);
         opened = let l = ap length k.history in let some = s.opened in omega (arith, l, some);
       };
     }

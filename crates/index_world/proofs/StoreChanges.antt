@@ -113,7 +113,7 @@ pub staged_more : (entries : List Entry) (entry : Entry) (n : ℕ) → has_stage
 staged_more entries entry n e =
     ap (λ h. list_any (λ k. k == n) (staged_numbers h)) (history-snoc entries entry) ∙ staged_on (history entries) entry.moment entry.act n e
 
-last_or : (a b : Bool) → b ≡ true → (a || (b || false)) ≡ true
+pub last_or : (a b : Bool) → b ≡ true → (a || (b || false)) ≡ true
 last_or true b e = refl
 last_or false true e = refl
 last_or false false e = absurd (true_is_false (sym e))

@@ -89,10 +89,6 @@ outside_apart key n outside same = true_is_false (sym (meta_begins n) ∙ ap is_
 pub none_some : {X : Type 0} (x : X) → ◌≡◌ {A = Option X} None (Some x) → ⊥
 none_some x e = cc
 
-pub is_absent : {X : Type 0} (o : Option X) → is_some o ≡ false → o ≡ None
-is_absent None e = refl
-is_absent (Some x) e = absurd (true_is_false e)
-
 tied_itself : (key : List ℕ) → eq_by_cmp (slice_cmp nat_cmp) key key ≡ true
 tied_itself key = by (eq_by_cmp (slice_cmp nat_cmp) key key) refl
   where

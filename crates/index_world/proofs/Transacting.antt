@@ -16,7 +16,7 @@ use Rattle.object_store.specs.Store.{State, HasLanded}
 use Rattle.source_log.specs.Log.{Log}
 use Rattle.index_world.specs.Calls.{Call, gives, Trouble, faulted, no_memory, Unmade, refused, troubled, is_foreign, store_failed, last_create, begun, taken_in, may_append, or_full, full_answer, answer_behind, entry_of, adopted_making}
 use Rattle.index_world.specs.Config.{reads}
-use Rattle.index_world.specs.Core.{Core, journal_of}
+use Rattle.index_world.specs.Core.{Core, journal_of, clock_of}
 use Rattle.index_world.specs.Index.{MayEnter, HasFile, max_entries}
 use Rattle.index_world.specs.World.{IsWorld, IsTimely}
 use Rattle.index_world.specs.Onward.{Onward}
@@ -82,7 +82,7 @@ Ends-trans a b c more rest u v n m x y =
     }
 
 -- no entry more
-pub ends_same : (core after : Core) (unsure : Bool) (now : ℕ) → after.history ≡ core.history → after.store_faults ≡ now → after.moment ≡ core.moment → after.clock ≡ core.clock → after.unsure ≡ unsure → Ends core after [] unsure now
+pub ends_same : (core after : Core) (unsure : Bool) (now : ℕ) → after.history ≡ core.history → after.store_faults ≡ now → after.moment ≡ core.moment → clock_of after ≡ clock_of core → after.unsure ≡ unsure → Ends core after [] unsure now
 ends_same core after unsure now h f m c u = record { history = h ∙ sym (append-nil core.history); faults = f; moment = m; clock = c; unsure = u }
 
 -- ---- moments
@@ -93,12 +93,12 @@ timely_same core after unsure now t e room =
     record {
       greatest = subst (λ h. moment_of (history h) ≤ after.moment) (sym same) (let a = t.greatest in let b = e.moment in omega (arith, a, b));
       moment = let a = t.moment in let b = e.moment in omega (arith, a, b);
-      clock = let a = t.clock in let b = e.clock in omega (arith, a, b);
+      clock = let a = t.clock in let b = ap (λ (c : ℕ × Bool). c.0) e.clock in omega (arith, a, b);
       room = λ u. subst (λ h. length h < max_entries) (sym same) (room (sym e.unsure ∙ u));
     }
 
 -- an entry more
-pub ends_taken : (core after : Core) (entry : Entry) (now : ℕ) → after.history ≡ core.history ++ entry ∷ [] → after.store_faults ≡ now → after.moment ≡ max core.moment entry.moment → after.clock ≡ core.clock → after.unsure ≡ false →
+pub ends_taken : (core after : Core) (entry : Entry) (now : ℕ) → after.history ≡ core.history ++ entry ∷ [] → after.store_faults ≡ now → after.moment ≡ max core.moment entry.moment → clock_of after ≡ clock_of core → after.unsure ≡ false →
     Ends core after (entry ∷ []) false now
 ends_taken core after entry now h f m c u = record { history = h; faults = f; moment = m; clock = c; unsure = u }
 
@@ -108,7 +108,7 @@ timely_more core after entry now t can e =
     record {
       greatest = subst (λ h. moment_of (history h) ≤ after.moment) (sym e.history) (let a = taken.greatest in let b = e.moment in omega (arith, a, b));
       moment = let a = taken.moment in let b = e.moment in omega (arith, a, b);
-      clock = let a = t.clock in let b = e.clock in omega (arith, a, b);
+      clock = let a = t.clock in let b = ap (λ (c : ℕ × Bool). c.0) e.clock in omega (arith, a, b);
       room = λ u. absurd (true_is_false (sym (sym e.unsure ∙ u)));
     }
 

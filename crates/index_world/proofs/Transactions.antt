@@ -115,14 +115,6 @@ first_adopted old new core log act entry third now sure may a =
     ∙ ap (adopted_making calm_get third core.store_faults act (entry_of (act core) core)) a.did
     ∙ ap (λ (g : Gives Trouble ⊤). and_then (as_unmade g) (λ c. last_create third core.store_faults (act c) c)) a.got
 
-pub first_get_failed : (old new : State) (core : Core) (log : Log) (act : Core → Act) (third : Call) (now : ℕ) → core.unsure ≡ false → may_append (act core) core ≡ Ok tt →
-    (g : GetFailedLaw old new core log (entry_of (act core) core) core.store_faults now) →
-    transact core.unsure (quiet g.places (core.store_faults - core.store_faults) false) (failing [] (now - core.store_faults) false) third act core ≡ gives (Err (troubled (store_failed core.store_faults g.after))) g.after
-first_get_failed old new core log act third now sure may g =
-    first_by act core (quiet g.places (core.store_faults - core.store_faults) false) (failing [] (now - core.store_faults) false) third sure refl may
-    ∙ ap (adopted_making (failing [] (now - core.store_faults) false) third core.store_faults act (entry_of (act core) core)) g.did
-    ∙ ap (λ (x : Gives Trouble ⊤). and_then (as_unmade x) (λ c. last_create third core.store_faults (act c) c)) g.got
-
 pub first_short : (core : Core) (act : Core → Act) (second third : Call) (places : List ℕ) (rises : ℕ) → core.unsure ≡ false →
     transact core.unsure (quiet places rises true) second third act core ≡ gives (Err (troubled no_memory)) (begun (quiet places rises true) core)
 first_short core act second third places rises sure = ap (λ u. transact u (quiet places rises true) second third act core) sure

@@ -13,7 +13,7 @@ use Rattle.index_world.specs.Config.{reads}
 use Rattle.index_world.specs.Core.{Core, KeepsBut, journal_of}
 use Rattle.index_world.specs.World.{IsWorld, IsTimely, Keeping, WorldStands, GoesOn}
 use Rattle.index_world.specs.Onward.{Onward}
-use Rattle.index_world.proofs.Asking.{timely_asked}
+use Rattle.index_world.proofs.Asking.{timely_asked, asked_least}
 use Rattle.index_world.proofs.Worlds.{held-refl, world-same}
 use Rattle.index_world.proofs.InCore.{goes-on, KeepsBut-trans}
 use Rattle.index_world.proofs.JournalCalls.{Counted, quiet, calm_get}
@@ -33,7 +33,7 @@ keeping_of kept core =
       meta = state_of reads (history core.history);
       next = length core.history;
       unsure = core.unsure;
-      frozen = false;
+      frozen = core.frozen;
     }
 
 -- A whole call did this: it is the core's call with some fate, its answer is this one, and the world stands behind it.
@@ -64,14 +64,14 @@ stands_behind new start after log more doubt now some w t e =
       meta = refl;
       next = refl;
       unsure = refl;
-      awake = refl;
+      frozen = refl;
       opened = let l = ap length e.history in let a = length-append start.history more in omega (arith, some, l, a);
     }
 
 -- ---- the clock is asked
 
 pub world_asked : (kept : State) (core : Core) (log : Log) → IsWorld kept core log → IsWorld kept (asked_clock core) log
-world_asked kept core log w = world-same kept core log core.store_faults (max core.moment core.clock) core.clock core.unsure w
+world_asked kept core log w = world-same kept core log core.store_faults (asked_clock core).moment core.clock core.unsure w
 
 pub counted_asked : (core : Core) (now : ℕ) → Counted core now → Counted (asked_clock core) now
 counted_asked core now c = record { later = c.later; within = c.within }
@@ -95,7 +95,7 @@ went_on_asked old new core after log more doubt now w c o e =
     record {
       grown = g.grown;
       faults = g.faults;
-      moment = let a = g.moment in omega (arith, a);
+      moment = let a = g.moment in let b = asked_least core.frozen core.moment core.clock in omega (arith, a, b);
       keeps = KeepsBut-trans None core (asked_clock core) after (keeps_asked core) g.keeps;
     }
 
@@ -124,7 +124,7 @@ whole_asked kept core log w some t =
       goes_on = record {
         grown = ([], (same_history core).history);
         faults = omega arith;
-        moment = omega arith;
+        moment = asked_least core.frozen core.moment core.clock;
         keeps = keeps_asked core;
       };
       ends = same_history (asked_clock core);

@@ -131,7 +131,7 @@ whole_loaded old mid new core log read now w clock some l j =
         timely = record {
           greatest = let m = l.moment in let h = ap (λ es. moment_of (history es)) l.history in omega (arith, m, h);
           moment = let m = l.moment in let low = journal_moments mid read j in omega (arith, m, low);
-          clock = let e = l.clock in omega (arith, e, clock);
+          clock = let e = ap (λ (c : ℕ × Bool). c.0) l.clock in omega (arith, e, clock);
           room = λ u. absurd (true_is_false (sym (sym l.unsure ∙ u)));
         };
         store_faults = refl;
@@ -140,7 +140,7 @@ whole_loaded old mid new core log read now w clock some l j =
         meta = refl;
         next = refl;
         unsure = refl;
-        awake = refl;
+        frozen = refl;
         opened = let e = ap length l.history in omega (arith, e, some);
       };
     }

@@ -78,9 +78,6 @@ same-lands (late_file key bytes) place core = by (is_some (file_at core.files ke
     by true = record { history = refl; store_faults = refl; moment = refl; clock = refl; unsure = refl }
     by false = record { history = refl; store_faults = refl; moment = refl; clock = refl; unsure = refl }
 
-some_none : {X : Type 0} (x : X) → ◌≡◌ {A = Option X} (Some x) None → ⊥
-some_none x e = cc
-
 was-lands : (late : Late) (place : ℕ) (core : Core) → (without_late place (late_lands late core)).standing ≡ None → core.standing ≡ None
 was-lands (late_entry n e b) place core h = by core.standing (n == length core.history) refl h
   where
@@ -157,6 +154,14 @@ pub world-lands : OneEntry → (old : State) (core : Core) (log : Log) (places :
 world-lands once old core log places w = landings-from once old old core core log places (Landing-refl old core log w)
 
 -- ---- what is not in the store
+
+-- a world whose clock is asked no more
+pub world-frozen : (kept : State) (core : Core) (log : Log) → IsWorld kept core log → IsWorld kept (record core { frozen = true }) log
+world-frozen kept core log w =
+    record {
+      stands_for = record { journal = w.stands_for.journal; files = w.stands_for.files; late = w.stands_for.late; called = w.stands_for.called };
+      index = w.index;
+    }
 
 -- the same journal, files and late creates
 pub world-same : (kept : State) (core : Core) (log : Log) (faults moment clock : ℕ) (unsure : Bool) → IsWorld kept core log →

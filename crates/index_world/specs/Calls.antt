@@ -153,8 +153,13 @@ abbrev pub unless_short : Bool → Core → Gives Trouble ⊤
 unless_short true core = gives (Err no_memory) core
 unless_short false core = gives (Ok tt) core
 
+-- the moment behind asking the clock: a frozen world doesn't ask it
+abbrev pub asked_moment : Bool → ℕ → ℕ → ℕ
+asked_moment true moment clock = moment
+asked_moment false moment clock = max moment clock
+
 abbrev pub asked_clock : Core → Core
-asked_clock core = record core { moment = max core.moment core.clock }
+asked_clock core = record core { moment = asked_moment core.frozen core.moment core.clock }
 
 -- a call that asks the clock does so first, if it has the memory
 abbrev pub asking : {E A : Type 0} → Bool → E → Core → (Core → Gives E A) → Gives E A

@@ -38,6 +38,7 @@ pub record Core : Type 0 where
   pub store_faults : ℕ
   pub moment : ℕ  -- the greatest of this life
   pub clock : ℕ  -- what the clock tells
+  pub frozen : Bool  -- whether it is asked no more
   pub files : List File  -- what stands outside the journal
   pub unsure : Bool  -- whether the number behind the history is unsure
   pub standing : Option Entry  -- the entry that stands there unread
@@ -46,6 +47,10 @@ pub record Core : Type 0 where
 -- a count stands still at its type's end
 abbrev pub last_count : ℕ
 last_count = 2 ^ 64 - 1
+
+-- what a life knows of its clock
+abbrev pub clock_of : Core → ℕ × Bool
+clock_of core = (core.clock, core.frozen)
 
 -- these entries, and the one that stands unread behind them
 abbrev pub with_unread : List Entry → Option Entry → List Entry

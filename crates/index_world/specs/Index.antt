@@ -24,7 +24,7 @@ use Rattle.split_states.specs.declared.rows.RowState.TheVariants.{Published}
 use Rattle.sha2.specs.Sha256.{sha256}
 use Rattle.index_world.specs.Config.{reads}
 use Rattle.index_world.specs.Seen.{contents, accepted_in, record_count}
-use Rattle.index_world.specs.SplitFile.{split_file, weight, max_documents, max_weight}
+use Rattle.index_world.specs.SplitFile.{split_file, IsSplit, weight, max_documents, max_weight}
 
 abbrev pub max_entries : ℕ
 max_entries = 10000000
@@ -69,6 +69,11 @@ pub record IsRowSound (kept : State) (tasks : List KeptTask) (log : Log) (row : 
 -- where the row is published, it is sound
 abbrev pub IsRowKept : State → List KeptTask → Log → Row → Type 0
 IsRowKept kept tasks log row = row.state ≡ Published → IsRowSound kept tasks log row
+
+-- where the row is published, its file is a split of its contents
+abbrev pub IsSplitKept : State → List KeptTask → Log → Row → Type 0
+IsSplitKept kept tasks log row =
+    row.state ≡ Published → (bytes : List ℕ) × (get kept.objects (split_key row.number) ≡ Some bytes) × IsSplit bytes (contents tasks row log)
 
 -- ---- what the entries say of numbers
 

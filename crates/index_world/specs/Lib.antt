@@ -13,6 +13,7 @@ pub mod Standing
 pub mod World
 pub mod Gate
 pub mod Loading
+pub mod Opened
 pub mod Taking
 pub mod Steps
 pub mod Unsure

@@ -7,7 +7,7 @@ use Rattle.meta_journal.specs.declared.entry.Act.TheVariants as acts
 use Rattle.meta_journal.specs.declared.entry.Entry.{Entry}
 use Rattle.meta_journal.specs.declared.place.Place.TheVariants.{Sure, Given}
 use Rattle.meta_store.specs.Answers.{answer_to}
-use Rattle.meta_store.specs.History.{history}
+use Rattle.meta_store.specs.History.{history, moment_of}
 use Rattle.meta_store.specs.State.{state_of, reading_of, after}
 use Rattle.meta_store.specs.State as meta
 use Rattle.meta_store.specs.declared.config.Reading.{Reading}
@@ -21,10 +21,11 @@ use Rattle.index_world.specs.declared.world_error.WorldError.{WorldError}
 use Rattle.index_world.specs.declared.world_error.WorldError.TheVariants as errors
 use Rattle.index_world.specs.Calls.{Trouble, Unmade, Unread, may_append, entry_of}
 use Rattle.index_world.specs.Config.{reads}
-use Rattle.index_world.specs.Core.{Core, last_count, journal_of, IsUnusedIn, HasStagedIn}
+use Rattle.index_world.specs.Core.{Core, last_count, journal_of, IsUnusedIn, HasStagedIn, clock_of}
 use Rattle.index_world.specs.Gate.{IsTrouble, IsUnmade, Says}
 use Rattle.index_world.specs.Index.{has_staged}
 use Rattle.index_world.specs.Loading.{LoadsAs, IsUnread}
+use Rattle.index_world.specs.Opened.{Finds, all_found, OpensNot}
 use Rattle.index_world.specs.Owning.{own_act}
 use Rattle.index_world.specs.Steps.{Counted, MadeLaw, AdoptedLaw, FailedLaw, ExistsLaw, Settled, Unsettled, Transacted}
 use Rattle.index_world.specs.Taking.{IsWant}
@@ -192,7 +193,7 @@ pub record Appending (old : State) (core : Core) (log : Log) (own : Own) (result
 pub record SameBut (core after : Core) : Type 0 where
   pub history : after.history ≡ core.history
   pub moment : after.moment ≡ core.moment
-  pub clock : after.clock ≡ core.clock
+  pub clock : clock_of after ≡ clock_of core
   pub unsure : after.unsure ≡ core.unsure
 
 -- the index was opened
@@ -200,7 +201,7 @@ pub record OpensLife (new : State) (core : Core) (log : Log) (count : ℕ) (life
   pub after : Core
   pub loads : LoadsAs core after (Ok tt)
   pub stands : StandsBy new after log count life
-  pub clock : after.clock ≡ core.clock
+  pub clock : clock_of after ≡ clock_of core
 
 -- it was not; but for what landed the core of a world is as it was
 pub record OpensNone (new : State) (core : Core) (log : Log) (count : ℕ) (error : WorldError) : Type 0 where
@@ -220,3 +221,13 @@ pub record Opening (core : Core) (log : Log) (result : Result Life WorldError) (
   pub new : State
   pub tells : told ≡ Some new
   pub did : OpensBy new core log count result
+
+-- the index was opened of a store that tells, whatever it is
+pub record FindsLife (life : Life) (old new : State) : Type 0 where
+  pub entries : List Entry
+  pub finds : Finds (all_found entries) old new
+  pub knows : LifeIs life entries (moment_of (history entries)) false
+
+abbrev pub OpensTo : (before now : ℕ) → Result Life WorldError → State → State → Type 0
+OpensTo before now (Ok life) old new = FindsLife life old new
+OpensTo before now (Err error) old new = OpensNot before now error old new

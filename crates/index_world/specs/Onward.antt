@@ -3,7 +3,7 @@ use Rattle.std.specs.Prelude.{◌≡◌, None}
 use Rattle.meta_journal.specs.declared.entry.Entry.{Entry}
 use Rattle.object_store.specs.Store.{State}
 use Rattle.source_log.specs.Log.{Log}
-use Rattle.index_world.specs.Core.{Core, journal_of}
+use Rattle.index_world.specs.Core.{Core, journal_of, clock_of}
 use Rattle.index_world.specs.Index.{MayEnter}
 use Rattle.index_world.specs.World.{IsWorld}
 use Rattle.index_world.specs.Held.{KeepsHeld}
@@ -18,7 +18,7 @@ pub record SameLife (core after : Core) : Type 0 where
   pub history : after.history ≡ core.history
   pub store_faults : after.store_faults ≡ core.store_faults
   pub moment : after.moment ≡ core.moment
-  pub clock : after.clock ≡ core.clock
+  pub clock : clock_of after ≡ clock_of core
   pub unsure : after.unsure ≡ core.unsure
 
 -- late creates came to stand in the store, and so in the core; what might enter still may where nothing stands unread

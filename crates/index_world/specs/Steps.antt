@@ -8,7 +8,7 @@ use Rattle.source_checkpoint.specs.declared.delta.Part.{Part}
 use Rattle.source_log.specs.Log.{Log}
 use Rattle.split_states.specs.declared.facts.RowFacts.{RowFacts}
 use Rattle.index_world.specs.Calls.{Call, made, exists, failed, create_at_end, get_at_end, begun, taken_in, gives, Trouble, Unmade, settled, transact}
-use Rattle.index_world.specs.Core.{Core, last_count}
+use Rattle.index_world.specs.Core.{Core, last_count, clock_of}
 use Rattle.index_world.specs.Index.{IsUnused, HasStaged}
 use Rattle.index_world.specs.Onward.{Onward}
 use Rattle.index_world.specs.World.{IsTimely}
@@ -33,7 +33,7 @@ pub record MadeLaw (old new : State) (core : Core) (log : Log) (entry : Entry) (
   pub history : after.history ≡ core.history
   pub faults : after.store_faults ≡ now
   pub moment : after.moment ≡ core.moment
-  pub clock : after.clock ≡ core.clock
+  pub clock : clock_of after ≡ clock_of core
   pub fresh : (number : ℕ) (delta : List Part) (facts : RowFacts) → entry.act ≡ Stage number delta facts →
       IsUnused new (core.history ++ entry ∷ []) number × HasStaged (core.history ++ entry ∷ []) number delta facts
 
@@ -49,13 +49,13 @@ pub record AdoptedLaw (old new : State) (core : Core) (log : Log) (tried_entry e
   pub mid_history : mid.history ≡ core.history
   pub mid_faults : mid.store_faults ≡ now
   pub mid_moment : mid.moment ≡ core.moment
-  pub mid_clock : mid.clock ≡ core.clock
+  pub mid_clock : clock_of mid ≡ clock_of core
   -- without memory behind the get it stands there unread
   pub unread : (known : Bool) → Onward old new core (record (begun (quiet [] 0 true) mid) { unsure = mid.unsure || known }) log
   pub history : after.history ≡ core.history ++ entry ∷ []
   pub faults : after.store_faults ≡ now
   pub moment : after.moment ≡ max core.moment entry.moment
-  pub clock : after.clock ≡ core.clock
+  pub clock : clock_of after ≡ clock_of core
 
 -- the create failed
 pub record FailedLaw (old new : State) (core : Core) (log : Log) (entry : Entry) (now : ℕ) : Type 0 where
@@ -67,7 +67,7 @@ pub record FailedLaw (old new : State) (core : Core) (log : Log) (entry : Entry)
   pub history : after.history ≡ core.history
   pub faults : after.store_faults ≡ now
   pub moment : after.moment ≡ core.moment
-  pub clock : after.clock ≡ core.clock
+  pub clock : clock_of after ≡ clock_of core
   pub unsure : after.unsure ≡ true
 
 -- something stood there, and was not read
@@ -81,7 +81,7 @@ pub record ExistsLaw (old new : State) (core : Core) (log : Log) (entry : Entry)
   pub history : after.history ≡ core.history
   pub faults : after.store_faults ≡ now
   pub moment : after.moment ≡ core.moment
-  pub clock : after.clock ≡ core.clock
+  pub clock : clock_of after ≡ clock_of core
   pub unsure : after.unsure ≡ core.unsure
 
 -- settling took an entry in
@@ -94,7 +94,7 @@ pub record Settled (old new : State) (core : Core) (log : Log) (entry : Entry) (
   pub history : after.history ≡ core.history ++ entry ∷ []
   pub faults : after.store_faults ≡ now
   pub moment : after.moment ≡ max core.moment entry.moment
-  pub clock : after.clock ≡ core.clock
+  pub clock : clock_of after ≡ clock_of core
   pub unsure : after.unsure ≡ false
 
 -- settling took none in
@@ -107,7 +107,7 @@ pub record Unsettled (old new : State) (core : Core) (log : Log) (trouble : Core
   pub history : after.history ≡ core.history
   pub faults : after.store_faults ≡ now
   pub moment : after.moment ≡ core.moment
-  pub clock : after.clock ≡ core.clock
+  pub clock : clock_of after ≡ clock_of core
   pub unsure : after.unsure ≡ true
 
 -- the greatest moment, behind these entries
@@ -120,7 +120,7 @@ pub record Ends (core after : Core) (more : List Entry) (doubt : Bool) (now : �
   pub history : after.history ≡ core.history ++ more
   pub faults : after.store_faults ≡ now
   pub moment : after.moment ≡ greatest core.moment more
-  pub clock : after.clock ≡ core.clock
+  pub clock : clock_of after ≡ clock_of core
   pub unsure : after.unsure ≡ doubt
 
 -- a transaction did this

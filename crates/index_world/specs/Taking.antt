@@ -1,5 +1,5 @@
 -- What the taking in of an entry answers.
-use Rattle.std.specs.Prelude.{◌≡◌, ◌⊎◌, ◌≤◌, ℕ, List, Ok, Err, ⊤}
+use Rattle.std.specs.Prelude.{◌≡◌, ◌⊎◌, ◌≤◌, ℕ, List, Option, Some, Ok, Err, IsOk, IsErr, ⊤}
 use Rattle.byte_fields.specs.Causes.{Rose}
 use Rattle.meta_journal.specs.Places.{meta_key}
 use Rattle.meta_journal.specs.declared.journal_error.JournalError.{JournalError}
@@ -28,6 +28,28 @@ IsWant errors.NoIndex = ⊥
 abbrev pub IsUnprepared : Answer → ℕ → WorldError → Type 0
 IsUnprepared (Ok done) revision error = IsWant error ⊎ ((error ≡ errors.Full) × (max_entries ≤ revision))
 IsUnprepared (Err refusal) revision error = error ≡ errors.Refused refusal
+
+-- An entry of the journal with this number is refused as its answer says, whatever memory there is; else memory wants.
+abbrev pub IsUnfit : Answer → ℕ → WorldError → Type 0
+IsUnfit answer number (errors.Memory e) = IsOk answer
+IsUnfit answer number (errors.Corrupt key) = IsErr answer × (key ≡ meta_key number)
+IsUnfit answer number (errors.Refused refusal) = ⊥
+IsUnfit answer number (errors.StoreFault before after) = ⊥
+IsUnfit answer number (errors.Missing key) = ⊥
+IsUnfit answer number (errors.Foreign key) = ⊥
+IsUnfit answer number errors.Full = ⊥
+IsUnfit answer number errors.NoIndex = ⊥
+
+-- the first refused entry has this number, or memory wants
+abbrev pub IsRefusedAt : Option ℕ → WorldError → Type 0
+IsRefusedAt first (errors.Memory e) = ⊤
+IsRefusedAt first (errors.Corrupt key) = (n : ℕ) × (first ≡ Some n) × (key ≡ meta_key n)
+IsRefusedAt first (errors.Refused refusal) = ⊥
+IsRefusedAt first (errors.StoreFault before after) = ⊥
+IsRefusedAt first (errors.Missing key) = ⊥
+IsRefusedAt first (errors.Foreign key) = ⊥
+IsRefusedAt first errors.Full = ⊥
+IsRefusedAt first errors.NoIndex = ⊥
 
 -- what an error of the journal is to the world, whose call began at this count
 abbrev pub of_journal : (number before : ℕ) → JournalError → WorldError

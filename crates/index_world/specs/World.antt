@@ -35,7 +35,7 @@ pub record Keeping : Type 0 where
   pub unsure : Bool
   pub frozen : Bool
 
--- a world that keeps this stands for the core, over the log; a frozen one stands for none
+-- a world that keeps this stands for the core, over the log
 pub record WorldStands (keeping : Keeping) (core : Core) (log : Log) : Type 0 where
   pub kept : State
   pub told : keeping.told ≡ Some kept
@@ -47,7 +47,7 @@ pub record WorldStands (keeping : Keeping) (core : Core) (log : Log) : Type 0 wh
   pub meta : keeping.meta ≡ meta.state_of reads (history core.history)
   pub next : keeping.next ≡ length core.history
   pub unsure : keeping.unsure ≡ core.unsure
-  pub awake : keeping.frozen ≡ false
+  pub frozen : keeping.frozen ≡ core.frozen
   -- an index that was opened has an entry
   pub opened : 0 < length core.history
 

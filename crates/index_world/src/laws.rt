@@ -1,16 +1,19 @@
 //! What holds of every store that is a sound index. Each law is the contract of a function that does nothing.
 
-ghost use Rattle.std.specs.Prelude.{ℕ, List, length, Result, ◌≡◌, []};
+ghost use Rattle.std.specs.Prelude.{ℕ, List, length, Result, ◌≡◌, ◌↔◌, []};
 ghost use Rattle.std.specs.FinMap.{empty};
+ghost use Rattle.std.specs.List.{AllByRecursion};
 ghost use Rattle.meta_journal.specs.declared.entry.Entry.{Entry};
 ghost use Rattle.meta_journal.specs.Places.{meta_key, split_key, IsJournal};
 ghost use Rattle.meta_journal.specs.Spelling.{Spells};
 ghost use Rattle.object_store.specs.Store.{State, landed, with_object, with_late, HasLanded, LandsThen, Creates};
 ghost use Rattle.object_store.specs.declared.store.CreateError.{CreateError};
-ghost use Rattle.source_log.specs.Log.{Log};
-ghost use Rattle.index_world.specs.Index.{IsIndexOf, MayEnter, IsUnused};
+ghost use Rattle.source_log.specs.Log.{Log, IsLog};
+ghost use Rattle.index_world.specs.Index.{IsIndexOf, IsSplitKept, IsWholeIndexOf, MayEnter, IsUnused};
 ghost use Rattle.std.specs.Prelude.{None, Bool, true, false, ◌<◌};
 ghost use Rattle.meta_store.specs.History.{moment_of, history as told};
+ghost use Rattle.meta_store.specs.Ledgers.{ledger};
+ghost use Rattle.meta_store.specs.Rows.{rows};
 ghost use Rattle.meta_store.specs.State.{Legal};
 ghost use Rattle.source_checkpoint.specs.declared.delta.Part.{Part};
 ghost use Rattle.split_states.specs.declared.facts.RowFacts.{RowFacts};
@@ -59,6 +62,17 @@ pub fn load_keeps()
         HasLanded old mid → HasLanded mid new → IsJournal mid read → Loads mid new log read }
 {}
 
+/// Each late create of the journal may enter behind its end exactly where the index holds again with it there.
+pub fn index_is_whole()
+    ensures { (kept : State) (entries : List Entry) (log : Log) → (IsIndexOf kept entries log ↔ IsWholeIndexOf kept entries log) }
+{}
+
+/// Over an index of a log each published row's file is a split of the row's contents.
+pub fn published_files_are_splits()
+    ensures { (kept : State) (entries : List Entry) (log : Log) → IsLog log → IsIndexOf kept entries log →
+        AllByRecursion (IsSplitKept kept (ledger (told entries)).tasks log) (rows (told entries)) }
+{}
+
 /// A store without objects is an index of no entry, over each log.
 pub fn empty_store_is_an_index()
     ensures { (log : Log) → IsIndexOf (record { objects = empty; late = [] }) [] log }
@@ -68,12 +82,17 @@ pub fn empty_store_is_an_index()
 pub fn every_index_has_a_core()
     ensures { (kept : State) (entries : List Entry) (log : Log) (count clock : ℕ) → IsIndexOf kept entries log →
         (core : Core) × IsWorld kept core log × (core.history ≡ entries) × (core.standing ≡ None) × (core.store_faults ≡ count)
-        × (core.clock ≡ clock) × (core.moment ≡ moment_of (told entries)) × (core.unsure ≡ false) }
+        × (core.clock ≡ clock) × (core.moment ≡ moment_of (told entries)) × (core.unsure ≡ false) × (core.frozen ≡ false) }
 {}
 
 /// What lands in the store lands in its core, by the same places.
 pub fn landings_are_the_cores()
     ensures { (old : State) (core : Core) (log : Log) (places : List ℕ) → IsWorld old core log → Landing old (landed places old) core (all_landed places core) log }
+{}
+
+/// A frozen core is not changed by the asking of its clock.
+pub fn frozen_asks_nothing()
+    ensures { (core : Core) → core.frozen ≡ true → asked_clock core ≡ core }
 {}
 
 /// A fence may always close a number that is unsure.

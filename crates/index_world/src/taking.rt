@@ -1,21 +1,23 @@
 //! Taking entries in.
 
-ghost use Rattle.std.specs.Prelude.{◌≡◌, ◌<◌, ◌≤◌, ◌^◌, OnOk, IfOk, IfErr, IsOk, Some, vec_len};
+ghost use Rattle.std.specs.Prelude.{◌≡◌, ◌<◌, ◌≤◌, ◌^◌, OnOk, IfOk, IfErr, IsOk, None, Some, vec_len};
 ghost use Rattle.std.specs.List.{AllByRecursion};
 ghost use Rattle.index_world.specs.Index.{max_entries};
 ghost use Rattle.meta_journal.specs.declared.place.Place.TheVariants.{Sure};
 ghost use Rattle.meta_store.specs.Answers.{answer_to};
 ghost use Rattle.meta_store.specs.History.{history};
 ghost use Rattle.meta_store.specs.History as told;
+ghost use Rattle.meta_store.specs.History.History.{Start};
 ghost use Rattle.meta_store.specs.Room.{HasRoom};
 ghost use Rattle.meta_store.specs.State.{Legal};
 ghost use Rattle.meta_store.specs.State as spec;
-ghost use Rattle.object_store.specs.Store.{State};
+ghost use Rattle.object_store.specs.Store.{State, WhereTold};
 ghost use Rattle.source_log.specs.Log.{Log};
 ghost use Rattle.index_world.specs.Config.{reads};
 ghost use Rattle.index_world.specs.Core.{Core};
-ghost use Rattle.index_world.specs.Life.{Opening};
-ghost use Rattle.index_world.specs.Taking.{IsFaultBetween, IsNoFault, IsWant, IsUnprepared, of_create, of_get, of_journal};
+ghost use Rattle.index_world.specs.Life.{Opening, OpensTo};
+ghost use Rattle.index_world.specs.Opened.{first_refused};
+ghost use Rattle.index_world.specs.Taking.{IsFaultBetween, IsNoFault, IsRefusedAt, IsUnfit, IsUnprepared, IsWant, of_create, of_get, of_journal};
 ghost use Rattle.index_world.specs.World.{IsWorld};
 
 use crate::config::reading_of;
@@ -82,6 +84,7 @@ pub fn admit(
     ensures room { OnOk result (HasRoom entry.now.act meta.new) }
     ensures want { IfErr result (λ error. IsOk (answer_to reading meta.old.state entry.now) → IsWant error) }
     ensures no_fault { IfErr result IsNoFault }
+    ensures unfit { IfErr result (IsUnfit (answer_to reading meta.old.state entry.now) number) }
 {
     match meta.check(entry, reading) {
         Ok(()) => {}
@@ -131,6 +134,8 @@ fn state_of(alloc: Global, entries: Vec<Entry>) -> Result<(Meta, u64), WorldErro
     ensures greatest { AllByRecursion (λ e. e.moment < 2 ^ 62) entries.items → IfOk result (λ x. x.1 ≡ told.moment_of (history entries.items)) }
     ensures want { Legal reads (history entries.items) → IfErr result IsWant }
     ensures no_fault { IfErr result IsNoFault }
+    ensures fit { OnOk result (first_refused Start entries.items ≡ None) }
+    ensures refused { IfErr result (IsRefusedAt (first_refused Start entries.items)) }
 {
     let mut left = entries;
     left.reverse();
@@ -150,6 +155,8 @@ fn state_of(alloc: Global, entries: Vec<Entry>) -> Result<(Meta, u64), WorldErro
 pub fn open<S: ObjectStore>(alloc: Global, store: &mut S) -> Result<Life, WorldError>
     ensures sure { IfOk result (λ life. life.journal.place ≡ Sure) }
     ensures faults { IfErr result (IsFaultBetween (S.fault_count store.old) (S.fault_count store.new)) }
+    // What any store that tells is found to be.
+    ensures opened { WhereTold (S.told store.old) (S.told store.new) (OpensTo (S.fault_count store.old) (S.fault_count store.new) result) }
     ensures step { (old : State) (core : Core) (log : Log) → S.told store.old ≡ Some old → S.fault_count store.old ≡ core.store_faults →
         IsWorld old core log → core.clock < 2 ^ 62 → Opening core log result (S.told store.new) (S.fault_count store.new) }
 {

@@ -4,13 +4,14 @@ ghost use Rattle.std.specs.Prelude.{◌≡◌, ◌<◌, ◌^◌, ℕ, List, IfOk
 ghost use Rattle.std.specs.Borrow.{Lends, sem};
 ghost use Rattle.index_world.specs.contracts.world.World.{the_row};
 ghost use Rattle.meta_journal.specs.Spelling.{CanSpellFacts};
-ghost use Rattle.object_store.specs.Store.{State};
+ghost use Rattle.object_store.specs.Store.{State, WhereTold};
 ghost use Rattle.source_log.specs.Log.{Log};
-ghost use Rattle.index_world.specs.Calls.{asked, looked, asked_and_looked, fetched, upload_made};
+ghost use Rattle.index_world.specs.Calls.{asked, asked_moment, looked, asked_and_looked, fetched, upload_made};
 ghost use Rattle.index_world.specs.Core.{Core, IsUnusedIn, IsUploadedIn};
 ghost use Rattle.index_world.specs.Gate.{Does, NoneBetween, IsTrouble, IsUnmade, AreMarks, IsMoment, stage_call, WasStaged, WasUploaded, publish_call, IsPublishable, IsRevision, IsPlan, IsPieceGiven};
 ghost use Rattle.index_world.specs.Loading.{LoadsWorld, LoadsNone, LoadsAnew};
 ghost use Rattle.index_world.specs.Taking.{IsFaultBetween};
+ghost use Rattle.index_world.specs.Opened.{OpensIndex, OpensNot, OpensAnew};
 ghost use Rattle.index_world.specs.World.{IsWorld, WorldStands};
 ghost use Rattle.index_world.specs.declared.planning.PlanRow.{PlanRow};
 
@@ -82,11 +83,16 @@ fn copied_checkpoints(
 }
 
 impl<S: ObjectStore, C: SteadyClock> World<S, C> {
-    /// Opens the index of a store. NoIndex where its journal has no entry.
+    /// Opens the index of a store: NoIndex where its journal has no entry, Corrupt with the key of the first object that does
+    /// not decode or, where all decode, of the first whose entry may not come.
     pub fn load(alloc: Global, store: S, clock: C) -> Result<World<S, C>, Unopened<S>>
+        // A fault of the store has its counts before and behind, of which the second rose, over all stores.
         ensures faults { IfErr result (λ unopened. IsFaultBetween (S.fault_count store) (S.fault_count unopened.store) unopened.error) }
+        // What any store that tells is found to be.
+        ensures opened { MatchResult result (λ world. WhereTold (S.told store) world.told (OpensIndex world))
+            (λ unopened. WhereTold (S.told store) (S.told unopened.store) (OpensNot (S.fault_count store) (S.fault_count unopened.store) unopened.error)) }
         ensures step { (kept : State) (core : Core) (log : Log) → S.told store ≡ Some kept → S.fault_count store ≡ core.store_faults →
-            C.told clock ≡ Some core.clock → core.clock < 2 ^ 62 → IsWorld kept core log →
+            C.told clock ≡ Some core.clock → core.clock < 2 ^ 62 → core.frozen ≡ false → IsWorld kept core log →
             MatchResult result (LoadsWorld core log) (λ unopened. LoadsNone core log unopened.error (S.told unopened.store) (S.fault_count unopened.store)) }
     {
         let mut store = store;
@@ -103,7 +109,8 @@ impl<S: ObjectStore, C: SteadyClock> World<S, C> {
 
     /// Ends this life, and opens the index of its store anew. Where that fails the world is as it was.
     pub fn reload(&mut self, alloc: Global) -> Result<(), WorldError>
-        ensures { (core : Core) (log : Log) → WorldStands self.old core log → LoadsAnew core log result self.new }
+        ensures opened { WhereTold self.old.told self.new.told (OpensAnew self.old.store_faults result self.new) }
+        ensures step { (core : Core) (log : Log) → WorldStands self.old core log → LoadsAnew core log result self.new }
     {
         self.life = open(alloc, &mut self.store)?;
         Ok(())
@@ -136,15 +143,16 @@ impl<S: ObjectStore, C: SteadyClock> World<S, C> {
         &self.life.meta
     }
 
-    /// From here on no call asks the clock.
+    /// From here on no call asks the clock, and the moment changes only by an entry that is taken in.
     pub fn freeze(&mut self)
-        ensures { self.new ≡ record self.old { frozen = true } }
+        ensures same { self.new ≡ record self.old { frozen = true } }
+        ensures stands { (core : Core) (log : Log) → WorldStands self.old core log → WorldStands self.new (record core { frozen = true }) log }
     {
         self.frozen = true;
     }
 
     fn ask(&mut self)
-        ensures { (clock : ℕ) → self.old.clock ≡ Some clock → self.old.frozen ≡ false → self.new ≡ record self.old { moment = max self.old.moment clock } }
+        ensures { (clock : ℕ) → self.old.clock ≡ Some clock → self.new ≡ record self.old { moment = asked_moment self.old.frozen self.old.moment clock } }
     {
         if !self.frozen {
             self.life.moment = self.life.moment.max(self.clock.ask());

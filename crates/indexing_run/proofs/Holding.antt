@@ -51,10 +51,6 @@ pub uploaded_stays : (log : Log) (core after : Core) (held : Held) (one : Option
 uploaded_stays log core after held one k u =
     record { uploaded = k.uploaded held.number (split_file held.documents) u.uploaded; staged = k.staged held.number held.delta (held_facts held) u.staged; made = u.made }
 
--- the number behind the greatest is none that was staged before
-pub next_is_apart : (entries : List Entry) (n : ℕ) → has_staged entries n ≡ true → n ≡ last_number (history entries) + 1 → ⊥
-next_is_apart entries n known e = let low = staged_le (history entries) n known in absurd (omega (arith, low, e))
-
 place_stays : (log : Log) (core after : Core) (kept : HeldPlace) (place : Place) (one : Option ℕ) → KeepsBut one core after → ((n : ℕ) → number_held place ≡ Some n → IsOther one n) →
     PlaceStands log core kept place → PlaceStands log after kept place
 place_stays log core after places.Idle place one k other s = s

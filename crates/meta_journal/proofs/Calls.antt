@@ -38,7 +38,7 @@ finds_absent (Some bytes) h = h
 
 says_read : (n : ℕ) (key : List ℕ) (bytes : List ℕ) (r : Result Entry JournalError) (s : State) → key ≡ meta_key n → numbered s n ≡ Some bytes → DecodesTo bytes key r → ReadSays n r s
 says_read n key bytes (Ok e) s is stands h = record { can = h.0; bytes = bytes; stands = stands; spells = h.1 }
-says_read n key bytes (Err (Corrupt k)) s is stands h = record { key_is = h.0 ∙ is; bytes = bytes; stands = stands; is_none = h.1 }
+says_read n key bytes (Err (Corrupt k)) s is stands h = record { key_is = h.0 ∙ is; bytes = bytes; stands = stands; is_none = h.1; fault = h.2 }
 says_read n key bytes (Err (Memory a)) s is stands h = tt
 says_read n key bytes (Err (Missing k)) s is stands h = absurd h
 says_read n key bytes (Err (StoreFault b a)) s is stands h = absurd h

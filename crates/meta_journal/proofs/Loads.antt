@@ -37,6 +37,15 @@ entry_before o s n e h (Some bytes) is some entry =
     let same : bytes ≡ entry.bytes = cc in
     record { can = entry.can; bytes = entry.bytes; stands = is ∙ ap (λ (b : List ℕ). Some b) same; spells = entry.spells }
 
+corrupt_before : (o s : State) (n : ℕ) (key : List ℕ) → HasLanded o s → (x : Option (List ℕ)) → numbered o n ≡ x → IsSome x → IsCorrupt s n key → IsCorrupt o n key
+corrupt_before o s n key h None is some corrupt = absurd cc
+corrupt_before o s n key h (Some bytes) is some corrupt =
+    let later : numbered s n ≡ Some bytes = (Lands-from o s h).kept (meta_key n) bytes is in
+    let there = corrupt.stands in
+    let both : Some bytes ≡ Some corrupt.bytes = sym later ∙ there in
+    let same : bytes ≡ corrupt.bytes = cc in
+    record { key_is = corrupt.key_is; bytes = corrupt.bytes; stands = is ∙ ap (λ (b : List ℕ). Some b) same; is_none = corrupt.is_none; fault = corrupt.fault }
+
 module _ (count : ℕ) (es : List Entry) (n : ℕ) (n_is : length es ≡ n) (lt : n < count) (o m s : State) (so_far : ReadsSome count es o m) where
   pub one_read : (e : Entry) → ReadsEntry n (Ok e) m s → ReadsSome count (es ++ e ∷ []) o s
   one_read e r =
@@ -47,7 +56,9 @@ module _ (count : ℕ) (es : List Entry) (n : ℕ) (n_is : length es ≡ n) (lt 
   read_landed e r = HasLanded-trans o m s so_far.0 r.0
 
   pub read_refused : (x : JournalError) → ReadsEntry n (Err x) m s → ReadsAll count (Err x) o s
-  read_refused (Corrupt key) r = (HasLanded-trans o m s so_far.0 r.0, n, r.1)
+  read_refused (Corrupt key) r =
+      let landed : HasLanded o s = HasLanded-trans o m s so_far.0 r.0 in
+      (landed, λ stand. (es, so_far.1 stand, subst (λ (k : ℕ). IsCorrupt o k key) (sym n_is) (corrupt_before o s n key landed (numbered o n) refl (stand n lt) r.1)))
   read_refused (Missing key) r = (
     HasLanded-trans o m s so_far.0 r.0,
     λ stand.
@@ -77,7 +88,7 @@ all_loaded count es len o m s c r = record {
 }
 
 pub reads_refused : (count : ℕ) (x : JournalError) (o m s : State) → IsCounted count o m → ReadsAll count (Err x) m s → LoadsEntries (Err x) o s
-reads_refused count (Corrupt key) o m s c r = (HasLanded-trans o m s c.landed r.0, r.1, r.2)
+reads_refused count (Corrupt key) o m s c r = record { mid = m; count = count; counted = c; behind = r.0; first = r.1 c.stand }
 reads_refused count (Missing key) o m s c r = r.1 c.stand
 reads_refused count (StoreFault b a) o m s c r = HasLanded-trans o m s c.landed r
 reads_refused count (Memory a) o m s c r = HasLanded-trans o m s c.landed r

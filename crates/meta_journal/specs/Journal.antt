@@ -12,6 +12,8 @@ use Rattle.meta_journal.specs.declared.place.Place.{Place}
 use Rattle.meta_journal.specs.declared.place.Place.TheVariants.{Sure, Unsure, Given}
 use Rattle.meta_journal.specs.Spelling.{spelling, Spells, CanSpell}
 use Rattle.meta_journal.specs.Places.{meta_key, numbered, HasEntry}
+use Rattle.meta_journal.specs.Reading.{entry_of}
+use Rattle.meta_journal.specs.declared.entry_error.EntryError.{EntryError}
 
 -- a journal: how many entries were taken in, which is the next number, what is known of the place there,
 -- and whether a place was settled since `settle` was last called
@@ -31,12 +33,17 @@ fence moment = record { moment = moment; act = acts.Fence }
 abbrev pub IsNoEntry : List ℕ → Type 0
 IsNoEntry bytes = (e : Entry) → CanSpell e → Spells bytes e → ⊥
 
+-- reading them meets a fault
+abbrev pub HasFault : List ℕ → Type 0
+HasFault bytes = (fault : EntryError) × (entry_of bytes ≡ Err fault)
+
 -- the object with a number stands, and is no entry
 pub record IsCorrupt (s : State) (n : ℕ) (key : List ℕ) : Type 0 where
   pub key_is : key ≡ meta_key n
   pub bytes : List ℕ
   pub stands : numbered s n ≡ Some bytes
   pub is_none : IsNoEntry bytes
+  pub fault : HasFault bytes
 
 pub record IsMissing (s : State) (n : ℕ) (key : List ℕ) : Type 0 where
   pub key_is : key ≡ meta_key n
@@ -45,7 +52,7 @@ pub record IsMissing (s : State) (n : ℕ) (key : List ℕ) : Type 0 where
 -- what the bytes of an object are read as
 abbrev pub DecodesTo : List ℕ → List ℕ → Result Entry JournalError → Type 0
 DecodesTo bytes key (Ok e) = CanSpell e × Spells bytes e
-DecodesTo bytes key (Err (Corrupt k)) = (k ≡ key) × IsNoEntry bytes
+DecodesTo bytes key (Err (Corrupt k)) = (k ≡ key) × IsNoEntry bytes × HasFault bytes
 DecodesTo bytes key (Err (Memory a)) = ⊤
 DecodesTo bytes key (Err (Missing k)) = ⊥
 DecodesTo bytes key (Err (StoreFault before after)) = ⊥

@@ -94,10 +94,14 @@ Counts (Err (Missing key)) old new = ⊥
 Counts (Err (Adopted e)) old new = ⊥
 Counts (Err Full) old new = ⊥
 
+-- the first object that is no entry: those with lower numbers are entries
+abbrev pub FirstCorrupt : State → List ℕ → Type 0
+FirstCorrupt s key = (es : List Entry) × Stand s 0 es × IsCorrupt s (length es) key
+
 -- the entries that stood with so many numbers
 abbrev pub ReadsAll : ℕ → Result (List Entry) JournalError → State → State → Type 0
 ReadsAll count (Ok es) old new = HasLanded old new × (((n : ℕ) → n < count → IsSome (numbered old n)) → Stand old 0 es)
-ReadsAll count (Err (Corrupt key)) old new = HasLanded old new × (n : ℕ) × IsCorrupt new n key
+ReadsAll count (Err (Corrupt key)) old new = HasLanded old new × (((n : ℕ) → n < count → IsSome (numbered old n)) → FirstCorrupt old key)
 ReadsAll count (Err (Missing key)) old new = HasLanded old new × (((n : ℕ) → n < count → IsSome (numbered old n)) → ⊥)
 ReadsAll count (Err (StoreFault before after)) old new = HasLanded old new
 ReadsAll count (Err (Memory a)) old new = HasLanded old new
@@ -107,11 +111,20 @@ ReadsAll count (Err Full) old new = ⊥
 
 -- ---- the whole
 
+-- So many objects stood when the store was listed, no other key stood under `meta/` at the start, and this is the key of the
+-- first of them that is no entry.
+pub record IsSpoilt (key : List ℕ) (old new : State) : Type 0 where
+  pub mid : State
+  pub count : ℕ
+  pub counted : IsCounted count old mid
+  pub behind : HasLanded mid new
+  pub first : FirstCorrupt mid key
+
 -- what a load leaves, by its answer: late creates may have landed, and nothing else changed
 abbrev pub LoadsEntries : Result (List Entry) JournalError → State → State → Type 0
 LoadsEntries (Ok es) old new = IsLoaded es old new
 LoadsEntries (Err (Foreign key)) old new = HasLanded old new × IsForeign new key
-LoadsEntries (Err (Corrupt key)) old new = HasLanded old new × (n : ℕ) × IsCorrupt new n key
+LoadsEntries (Err (Corrupt key)) old new = IsSpoilt key old new
 LoadsEntries (Err (StoreFault before after)) old new = HasLanded old new
 LoadsEntries (Err (Memory a)) old new = HasLanded old new
 LoadsEntries (Err (Missing key)) old new = ⊥

@@ -50,8 +50,5 @@ StandFrom s n (e ∷ es) behind = HasEntry s n e × StandFrom s (n + 1) es behin
 abbrev pub IsJournal : State → List Entry → Type 0
 IsJournal s es = StandFrom s 0 es None
 
-abbrev pub IsFrontOf : List Entry → List Entry → Type 0
-IsFrontOf es fs = (more : List Entry) × (fs ≡ es ++ more)
-
 abbrev pub BeginsWith : List ℕ → List ℕ → Type 0
 BeginsWith prefix key = IsTrue (starts_with nat_eq key prefix)

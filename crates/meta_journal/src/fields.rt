@@ -1,18 +1,60 @@
 //! Reading what an entry is made of.
 
-ghost use Rattle.std.specs.Prelude.{◌≡◌, ◌≤◌, [], length, nat_lt, IfOk};
+ghost use Rattle.std.specs.Prelude.{◌≡◌, ◌≤◌, [], List, ℕ, length, nat_lt, IfOk};
 ghost use Rattle.std.specs.Ordering.{nat_cmp, is_lt};
 ghost use Rattle.std.specs.Cmp.Lexicographic.{slice_cmp};
-ghost use Rattle.meta_journal.specs.Reading.{Reads, members, counted_at, optional_at, number_at, string_at, utf8_at, time_at, partition_at, part_at, times_at, term_at, tags_at, field_number_at, field_tags_at, digest_at, facts_at, range_at, rising_at, row_numbers_at, is_last, last_of};
+ghost use Rattle.meta_journal.specs.Reading.{Reader, Reads, members, counted_at, optional_at, number_at, string_at, utf8_at, time_at, partition_at, part_at, times_at, term_at, tags_at, field_number_at, field_tags_at, digest_at, facts_at, range_at, rising_at, row_numbers_at, is_last, last_of};
 
 use crate::EntryError;
 use byte_fields::{
-    FieldError, Text, Texts, take_bytes, take_flag, take_signed, take_text, take_varint,
+    FieldError, List, Text, Texts, take_bytes, take_flag, take_signed, take_text, take_varint,
 };
 use doc_value::{Bytes, FieldTags, TagFacts, Tags, Terms, TimeRange};
 use source_checkpoint::{Delta, Part, Partition};
 use split_states::{Numbers, RowFacts, Times};
 use std::alloc::Global;
+
+/// Members of a list, each read at a place of the bytes, behind those before it.
+trait Member {
+    type Item: Drop;
+
+    ghost step: { List ℕ → List Self.Item → Reader Self.Item };
+
+    fn take(
+        alloc: Global,
+        bytes: &[u8],
+        at: usize,
+        before: &[Self::Item],
+    ) -> Result<(Self::Item, usize), EntryError>
+        requires { at ≤ length bytes.now }
+        ensures exact { Reads result (step bytes.now before.now at) }
+        ensures within { IfOk result (λ x. x.1 ≤ length bytes.now) };
+}
+
+// So many members.
+fn members_from<M: Member>(
+    alloc: Global,
+    bytes: &[u8],
+    start: usize,
+    count: u64,
+) -> Result<(List<M::Item>, usize), EntryError>
+    requires { start ≤ length bytes.now }
+    ensures exact { Reads result (members (M.step bytes.now) count [] start) }
+    ensures within { IfOk result (λ x. x.1 ≤ length bytes.now) }
+{
+    let mut list = List::vacant(alloc);
+    let mut next = start;
+    for taken in 0..count {
+        match M::take(alloc, bytes, next, list.as_slice()) {
+            Ok((member, behind)) => {
+                list.push(member)?;
+                next = behind;
+            }
+            Err(fault) => return Err(fault),
+        }
+    }
+    Ok((list, next))
+}
 
 #[tactic(auto, unfolding(crate::specs::Reading::partition_at))]
 fn take_partition(bytes: &[u8], at: usize) -> Result<(Partition, usize), EntryError>
@@ -46,30 +88,6 @@ fn take_part(bytes: &[u8], at: usize) -> Result<(Part, usize), EntryError>
     ))
 }
 
-fn parts_from(
-    alloc: Global,
-    bytes: &[u8],
-    start: usize,
-    count: u64,
-) -> Result<(Delta, usize), EntryError>
-    requires { start ≤ length bytes.now }
-    ensures exact { Reads result (members (λ before. part_at bytes.now) count [] start) }
-    ensures within { IfOk result (λ x. x.1 ≤ length bytes.now) }
-{
-    let mut list = Delta::vacant(alloc);
-    let mut next = start;
-    for taken in 0..count {
-        match take_part(bytes, next) {
-            Ok((part, behind)) => {
-                list.push(part)?;
-                next = behind;
-            }
-            Err(fault) => return Err(fault),
-        }
-    }
-    Ok((list, next))
-}
-
 /// A count of parts, and they.
 pub fn take_delta(alloc: Global, bytes: &[u8], at: usize) -> Result<(Delta, usize), EntryError>
     requires { at ≤ length bytes.now }
@@ -77,7 +95,8 @@ pub fn take_delta(alloc: Global, bytes: &[u8], at: usize) -> Result<(Delta, usiz
     ensures within { IfOk result (λ x. x.1 ≤ length bytes.now) }
 {
     let (count, next) = take_varint(bytes, at)?;
-    parts_from(alloc, bytes, next, count)
+    let (parts, next) = members_from::<AnyPart>(alloc, bytes, next, count)?;
+    Ok((Delta::from_vec(parts.into_vec()), next))
 }
 
 fn take_number(bytes: &[u8], at: usize) -> Result<(u64, usize), EntryError>
@@ -89,30 +108,6 @@ fn take_number(bytes: &[u8], at: usize) -> Result<(u64, usize), EntryError>
     Ok((number, next))
 }
 
-fn numbers_from(
-    alloc: Global,
-    bytes: &[u8],
-    start: usize,
-    count: u64,
-) -> Result<(Numbers, usize), EntryError>
-    requires { start ≤ length bytes.now }
-    ensures exact { Reads result (members (λ before. number_at bytes.now) count [] start) }
-    ensures within { IfOk result (λ x. x.1 ≤ length bytes.now) }
-{
-    let mut list = Numbers::vacant(alloc);
-    let mut next = start;
-    for taken in 0..count {
-        match take_number(bytes, next) {
-            Ok((number, behind)) => {
-                list.push(number)?;
-                next = behind;
-            }
-            Err(fault) => return Err(fault),
-        }
-    }
-    Ok((list, next))
-}
-
 /// A count of numbers, and they.
 pub fn take_numbers(alloc: Global, bytes: &[u8], at: usize) -> Result<(Numbers, usize), EntryError>
     requires { at ≤ length bytes.now }
@@ -120,7 +115,8 @@ pub fn take_numbers(alloc: Global, bytes: &[u8], at: usize) -> Result<(Numbers, 
     ensures within { IfOk result (λ x. x.1 ≤ length bytes.now) }
 {
     let (count, next) = take_varint(bytes, at)?;
-    numbers_from(alloc, bytes, next, count)
+    let (numbers, next) = members_from::<AnyNumber>(alloc, bytes, next, count)?;
+    Ok((Numbers::from_vec(numbers.into_vec()), next))
 }
 
 /// A text in UTF-8.
@@ -134,30 +130,6 @@ pub fn take_utf8(alloc: Global, bytes: &[u8], at: usize) -> Result<(Text, usize)
     Ok((held, next))
 }
 
-fn texts_from(
-    alloc: Global,
-    bytes: &[u8],
-    start: usize,
-    count: u64,
-) -> Result<(Texts, usize), EntryError>
-    requires { start ≤ length bytes.now }
-    ensures exact { Reads result (members (λ before. utf8_at bytes.now) count [] start) }
-    ensures within { IfOk result (λ x. x.1 ≤ length bytes.now) }
-{
-    let mut list = Texts::vacant(alloc);
-    let mut next = start;
-    for taken in 0..count {
-        match take_utf8(alloc, bytes, next) {
-            Ok((text, behind)) => {
-                list.push(text)?;
-                next = behind;
-            }
-            Err(fault) => return Err(fault),
-        }
-    }
-    Ok((list, next))
-}
-
 /// A count of texts, and they.
 pub fn take_texts(alloc: Global, bytes: &[u8], at: usize) -> Result<(Texts, usize), EntryError>
     requires { at ≤ length bytes.now }
@@ -165,7 +137,7 @@ pub fn take_texts(alloc: Global, bytes: &[u8], at: usize) -> Result<(Texts, usiz
     ensures within { IfOk result (λ x. x.1 ≤ length bytes.now) }
 {
     let (count, next) = take_varint(bytes, at)?;
-    texts_from(alloc, bytes, next, count)
+    members_from::<AnyText>(alloc, bytes, next, count)
 }
 
 // Whether a term may stand behind these.
@@ -198,30 +170,6 @@ fn take_term(
     Ok((term, next))
 }
 
-fn terms_from(
-    alloc: Global,
-    bytes: &[u8],
-    start: usize,
-    count: u64,
-) -> Result<(Terms, usize), EntryError>
-    requires { start ≤ length bytes.now }
-    ensures exact { Reads result (members (term_at bytes.now) count [] start) }
-    ensures within { IfOk result (λ x. x.1 ≤ length bytes.now) }
-{
-    let mut list = Terms::vacant(alloc);
-    let mut next = start;
-    for taken in 0..count {
-        match take_term(alloc, bytes, next, list.as_slice()) {
-            Ok((term, behind)) => {
-                list.push(term)?;
-                next = behind;
-            }
-            Err(fault) => return Err(fault),
-        }
-    }
-    Ok((list, next))
-}
-
 /// A count of rising terms, and they.
 fn take_terms(alloc: Global, bytes: &[u8], at: usize) -> Result<(Terms, usize), EntryError>
     requires { at ≤ length bytes.now }
@@ -229,7 +177,8 @@ fn take_terms(alloc: Global, bytes: &[u8], at: usize) -> Result<(Terms, usize), 
     ensures within { IfOk result (λ x. x.1 ≤ length bytes.now) }
 {
     let (count, next) = take_varint(bytes, at)?;
-    terms_from(alloc, bytes, next, count)
+    let (terms, next) = members_from::<RisingTerm>(alloc, bytes, next, count)?;
+    Ok((Terms::from_vec(terms.into_vec()), next))
 }
 
 // A flag, and where it is 0 the terms.
@@ -292,30 +241,6 @@ fn take_field_tags(
     Ok((FieldTags { number, tags }, next))
 }
 
-fn field_tags_from(
-    alloc: Global,
-    bytes: &[u8],
-    start: usize,
-    count: u64,
-) -> Result<(TagFacts, usize), EntryError>
-    requires { start ≤ length bytes.now }
-    ensures exact { Reads result (members (field_tags_at bytes.now) count [] start) }
-    ensures within { IfOk result (λ x. x.1 ≤ length bytes.now) }
-{
-    let mut list = Vec::new(alloc);
-    let mut next = start;
-    for taken in 0..count {
-        match take_field_tags(alloc, bytes, next, &list) {
-            Ok((field, behind)) => {
-                list.push(field)?;
-                next = behind;
-            }
-            Err(fault) => return Err(fault),
-        }
-    }
-    Ok((TagFacts::from_vec(list), next))
-}
-
 /// A count of tag fields, and they.
 fn take_tag_facts(alloc: Global, bytes: &[u8], at: usize) -> Result<(TagFacts, usize), EntryError>
     requires { at ≤ length bytes.now }
@@ -323,7 +248,8 @@ fn take_tag_facts(alloc: Global, bytes: &[u8], at: usize) -> Result<(TagFacts, u
     ensures within { IfOk result (λ x. x.1 ≤ length bytes.now) }
 {
     let (count, next) = take_varint(bytes, at)?;
-    field_tags_from(alloc, bytes, next, count)
+    let (fields, next) = members_from::<RisingField>(alloc, bytes, next, count)?;
+    Ok((TagFacts::from_vec(fields.into_vec()), next))
 }
 
 #[tactic(auto, unfolding(crate::specs::Reading::times_at))]
@@ -439,30 +365,6 @@ fn take_rising(bytes: &[u8], at: usize, before: &[u64]) -> Result<(u64, usize), 
     Ok((number, next))
 }
 
-fn rising_from(
-    alloc: Global,
-    bytes: &[u8],
-    start: usize,
-    count: u64,
-) -> Result<(Numbers, usize), EntryError>
-    requires { start ≤ length bytes.now }
-    ensures exact { Reads result (members (rising_at bytes.now) count [] start) }
-    ensures within { IfOk result (λ x. x.1 ≤ length bytes.now) }
-{
-    let mut list = Numbers::vacant(alloc);
-    let mut next = start;
-    for taken in 0..count {
-        match take_rising(bytes, next, list.as_slice()) {
-            Ok((number, behind)) => {
-                list.push(number)?;
-                next = behind;
-            }
-            Err(fault) => return Err(fault),
-        }
-    }
-    Ok((list, next))
-}
-
 /// A count that is not 0, and so many rising numbers.
 #[tactic(auto, unfolding(crate::specs::Reading::row_numbers_at))]
 pub fn take_row_numbers(
@@ -478,5 +380,126 @@ pub fn take_row_numbers(
     if count == 0 {
         return Err(EntryError::Field(FieldError::BadOrder { at }));
     }
-    rising_from(alloc, bytes, next, count)
+    let (numbers, next) = members_from::<RisingNumber>(alloc, bytes, next, count)?;
+    Ok((Numbers::from_vec(numbers.into_vec()), next))
+}
+
+/// Parts in any order.
+struct AnyPart;
+
+impl Member for AnyPart {
+    ghost use Rattle.meta_journal.specs.Reading.{part_at};
+
+    type Item = Part;
+
+    ghost step = { λ bytes before. part_at bytes };
+
+    fn take(
+        _alloc: Global,
+        bytes: &[u8],
+        at: usize,
+        _before: &[Part],
+    ) -> Result<(Part, usize), EntryError> {
+        take_part(bytes, at)
+    }
+}
+
+/// Numbers in any order.
+struct AnyNumber;
+
+impl Member for AnyNumber {
+    ghost use Rattle.meta_journal.specs.Reading.{number_at};
+
+    type Item = u64;
+
+    ghost step = { λ bytes before. number_at bytes };
+
+    fn take(
+        _alloc: Global,
+        bytes: &[u8],
+        at: usize,
+        _before: &[u64],
+    ) -> Result<(u64, usize), EntryError> {
+        take_number(bytes, at)
+    }
+}
+
+/// Texts in any order.
+struct AnyText;
+
+impl Member for AnyText {
+    ghost use Rattle.meta_journal.specs.Reading.{utf8_at};
+
+    type Item = Text;
+
+    ghost step = { λ bytes before. utf8_at bytes };
+
+    fn take(
+        alloc: Global,
+        bytes: &[u8],
+        at: usize,
+        _before: &[Text],
+    ) -> Result<(Text, usize), EntryError> {
+        take_utf8(alloc, bytes, at)
+    }
+}
+
+/// Terms that rise.
+struct RisingTerm;
+
+impl Member for RisingTerm {
+    ghost use Rattle.meta_journal.specs.Reading.{term_at};
+
+    type Item = Bytes;
+
+    ghost step = { λ bytes before. term_at bytes before };
+
+    fn take(
+        alloc: Global,
+        bytes: &[u8],
+        at: usize,
+        before: &[Bytes],
+    ) -> Result<(Bytes, usize), EntryError> {
+        take_term(alloc, bytes, at, before)
+    }
+}
+
+/// Tag fields whose numbers rise.
+struct RisingField;
+
+impl Member for RisingField {
+    ghost use Rattle.meta_journal.specs.Reading.{field_tags_at};
+
+    type Item = FieldTags;
+
+    ghost step = { λ bytes before. field_tags_at bytes before };
+
+    fn take(
+        alloc: Global,
+        bytes: &[u8],
+        at: usize,
+        before: &[FieldTags],
+    ) -> Result<(FieldTags, usize), EntryError> {
+        take_field_tags(alloc, bytes, at, before)
+    }
+}
+
+/// Numbers that rise.
+struct RisingNumber;
+
+impl Member for RisingNumber {
+    ghost use Rattle.meta_journal.specs.Reading.{rising_at};
+
+    type Item = u64;
+
+    ghost step = { λ bytes before. rising_at bytes before };
+
+    fn take(
+        _alloc: Global,
+        bytes: &[u8],
+        at: usize,
+        before: &[u64],
+    ) -> Result<(u64, usize), EntryError> {
+        take_rising(bytes, at, before)
+    }
 }

@@ -1,10 +1,10 @@
--- How often rows were merged, after each change of rows.
-use Rattle.std.proofs.Common.{◌≡◌, ℕ, ◌+◌, ◌≤◌, ◌==◌, Bool, true, false, cond, List, [], ◌∷◌, ◌++◌, length, max, fold, Option, Some, None, refl, arith}
+-- How often rows were merged and the bound of their numbers, after each change of rows.
+use Rattle.std.proofs.Common.{◌≡◌, ℕ, ◌+◌, ◌<◌, ◌≤◌, ◌==◌, Bool, true, false, cond, List, [], ◌∷◌, ◌++◌, length, max, fold, Option, Some, None, refl, arith}
 use Rattle.std.proofs.lemmas.List.Elements.{All-from_recursion, recursion_from_All}
 use Rattle.std.specs.Prelude.{All}
 use Rattle.source_checkpoint.specs.declared.span.Span.{Span}
 use Rattle.split_states.specs.declared.rows.Row.{Row}
-use Rattle.split_states.specs.Rows.{row_at, change, change_each, without_each, marked, replacing, ops_of, merged_ops}
+use Rattle.split_states.specs.Rows.{row_at, change, change_each, without_each, marked, replacing, ops_of, merged_ops, IsAbove}
 use Rattle.meta_store.specs.Room.{MergedUpTo}
 use Rattle.meta_store.proofs.RowLists.{AllOf, AllOf-append}
 use Rattle.meta_store.proofs.Current.{AllOf-change, AllOf-change_each, AllOf-without_each}
@@ -66,3 +66,25 @@ merged_replace bound m new old spans ops rows le h =
     from_recursion (bound + 1) (change new (replacing spans ops) (change_each old (marked m) rows))
     (AllOf-change (IsLow (bound + 1)) (change_each old (marked m) rows) new (replacing spans ops) (λ row low. le)
     (by_recursion (bound + 1) (change_each old (marked m) rows) (merged_each bound old (marked m) rows (λ row. refl) h)))
+
+-- ---- all numbers lie below a bound
+
+abbrev IsUnder : ℕ → Row → Type 0
+IsUnder bound row = row.number < bound
+
+under : (bound : ℕ) (rows : List Row) → IsAbove rows bound → AllOf (IsUnder bound) rows
+under bound rows h = recursion_from_All (IsUnder bound) rows h
+
+above : (bound : ℕ) (rows : List Row) → AllOf (IsUnder bound) rows → IsAbove rows bound
+above bound rows h = All-from_recursion (IsUnder bound) rows h
+
+pub above_change : (bound n : ℕ) (f : Row → Row) (rows : List Row) → ((row : Row) → (f row).number ≡ row.number) → IsAbove rows bound → IsAbove (change n f rows) bound
+above_change bound n f rows keeps h =
+    above bound (change n f rows) (AllOf-change (IsUnder bound) rows n f (λ row low. let same = keeps row in omega arith) (under bound rows h))
+
+pub above_each : (bound : ℕ) (numbers : List ℕ) (f : Row → Row) (rows : List Row) → ((row : Row) → (f row).number ≡ row.number) → IsAbove rows bound → IsAbove (change_each numbers f rows) bound
+above_each bound numbers f rows keeps h =
+    above bound (change_each numbers f rows) (AllOf-change_each (IsUnder bound) numbers rows f (λ row low. let same = keeps row in omega arith) (under bound rows h))
+
+pub above_without : (bound : ℕ) (numbers : List ℕ) (rows : List Row) → IsAbove rows bound → IsAbove (without_each numbers rows) bound
+above_without bound numbers rows h = above bound (without_each numbers rows) (AllOf-without_each (IsUnder bound) numbers rows (under bound rows h))

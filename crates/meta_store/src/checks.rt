@@ -6,11 +6,10 @@ ghost use Rattle.meta_store.specs.Answers.{in_delta, in_state, answer_to_moment,
 
 use crate::config::{Reading, Settings};
 use crate::refusal::Refusal;
+use delete_tasks::tasks::MOST_TASKS;
 use meta_journal::Act;
 use source_checkpoint::StaleDelta;
 use split_states::{Rows, StateRefusal, may_mark, may_remove, may_retire};
-
-const MOST_TASKS: usize = 10_000;
 
 const MOST_ROWS: usize = 100_000;
 

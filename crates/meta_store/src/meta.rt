@@ -50,6 +50,7 @@ pub struct Meta {
 impl Model for Meta {
     ghost use Rattle.std.specs.Prelude.{◌-◌, ◌+◌, ◌≤◌, ◌<◌, ◌^◌, vec_len, vec_capacity};
     ghost use Rattle.delete_tasks.specs.Ledger.{last_of};
+    ghost use Rattle.split_states.specs.Rows.{IsAbove};
     ghost use Rattle.meta_store.specs.Room.{Kept, MergedUpTo};
 
     ghost Value = { Kept };
@@ -76,7 +77,7 @@ impl Model for Meta {
 
     ghost invariant = { λ m.
         (m.revision + 1 < 2 ^ 64) × (m.last_number ≤ m.revision) × (last_of m.tasks.list ≤ m.revision)
-        × (m.span_count ≤ 1000000) × MergedUpTo m.revision m.rows.list };
+        × (m.span_count ≤ 1000000) × MergedUpTo m.revision m.rows.list × IsAbove m.rows.list (m.last_number + 1) };
 }
 
 impl Meta {

@@ -65,16 +65,6 @@ assign_only rest RestartNode s = absurd (differ 0 _ _ refl s.is)
 assign_only rest (Open name text) s = absurd (differ 0 _ _ refl s.is)
 assign_only rest (StepClient name) s = absurd (differ 0 _ _ refl s.is)
 
-pub indexer_only : (rest : List ℕ) (line : Line) → Spells (codes "indexer " ++ rest) line → IsNumber rest
-indexer_only rest (At moment) s = absurd (differ 0 _ _ refl s.is)
-indexer_only rest (Assign i names) s = absurd (differ 0 _ _ refl s.is)
-indexer_only rest (StepIndexer i) s = record { number = i; digits = ap (drop 8) s.is; below = s.formed }
-indexer_only rest (RestartIndexer i) s = absurd (differ 0 _ _ refl s.is)
-indexer_only rest (RestartClient name) s = absurd (differ 0 _ _ refl s.is)
-indexer_only rest RestartNode s = absurd (differ 0 _ _ refl s.is)
-indexer_only rest (Open name text) s = absurd (differ 0 _ _ refl s.is)
-indexer_only rest (StepClient name) s = absurd (differ 0 _ _ refl s.is)
-
 pub client_only : (rest : List ℕ) (line : Line) → Spells (codes "client " ++ rest) line → IsOfClient rest
 client_only rest (At moment) s = absurd (differ 0 _ _ refl s.is)
 client_only rest (Assign i names) s = absurd (differ 0 _ _ refl s.is)
@@ -84,26 +74,3 @@ client_only rest (RestartClient name) s = absurd (differ 0 _ _ refl s.is)
 client_only rest RestartNode s = absurd (differ 0 _ _ refl s.is)
 client_only rest (Open name text) s = opens name text (ap (drop 7) s.is) s.formed
 client_only rest (StepClient name) s = steps name (ap (drop 7) s.is) s.formed
-
-pub restart_only : (rest : List ℕ) (line : Line) → Spells (codes "restart " ++ rest) line → IsRestart rest
-restart_only rest (At moment) s = absurd (differ 0 _ _ refl s.is)
-restart_only rest (Assign i names) s = absurd (differ 0 _ _ refl s.is)
-restart_only rest (StepIndexer i) s = absurd (differ 0 _ _ refl s.is)
-restart_only rest (RestartIndexer i) s = of_indexer i (ap (drop 8) s.is) s.formed
-restart_only rest (RestartClient name) s = of_client name (ap (drop 8) s.is) s.formed
-restart_only rest RestartNode s = of_node (ap (drop 8) s.is)
-restart_only rest (Open name text) s = absurd (differ 0 _ _ refl s.is)
-restart_only rest (StepClient name) s = absurd (differ 0 _ _ refl s.is)
-
--- each line begins with one of five fronts
-pub no_front : (text : List ℕ) → ((rest : List ℕ) → text ≢ codes "at " ++ rest) → ((rest : List ℕ) → text ≢ codes "assign " ++ rest) →
-    ((rest : List ℕ) → text ≢ codes "indexer " ++ rest) → ((rest : List ℕ) → text ≢ codes "restart " ++ rest) →
-    ((rest : List ℕ) → text ≢ codes "client " ++ rest) → (line : Line) → Spells text line → ⊥
-no_front text a b d e f (At moment) s = a (decimal moment) s.is
-no_front text a b d e f (Assign i names) s = b (words (decimal i ∷ names)) s.is
-no_front text a b d e f (StepIndexer i) s = d (decimal i) s.is
-no_front text a b d e f (RestartIndexer i) s = e (codes "indexer " ++ decimal i) s.is
-no_front text a b d e f (RestartClient name) s = e (codes "client " ++ name) s.is
-no_front text a b d e f RestartNode s = e (codes "node") s.is
-no_front text a b d e f (Open name rest) s = f (name ++ 32 ∷ rest) s.is
-no_front text a b d e f (StepClient name) s = f name s.is

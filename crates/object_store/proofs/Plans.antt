@@ -1,10 +1,10 @@
 -- Looking through the calls that are to fail, an entry at a time.
-use Rattle.std.proofs.Common.{◌≡◌, ◌≢◌, ℕ, ◌+◌, ◌≤◌, ◌<◌, Bool, true, false, cond, List, [], ◌∷◌, ◌++◌, length, get_or, take, drop, Some, refl, sym, ap, ◌∙◌, append_assoc, add-one}
+use Rattle.std.proofs.Common.{◌≡◌, ◌≢◌, ℕ, ◌+◌, ◌<◌, Bool, true, false, cond, List, [], ◌∷◌, ◌++◌, length, get_or, take, drop, Some, sym, ap, ◌∙◌, append_assoc, add-one}
 use Rattle.std.specs.Ordering.{nat_cmp, eq_by_cmp, is_eq}
 use Rattle.std.specs.Cmp.Lexicographic.{slice_cmp}
-use Rattle.std.proofs.lemmas.List.{get_or_default, at_drop_more, at_drop_all, take_more, take_all, append-nil}
+use Rattle.std.proofs.lemmas.List.{get_or_default, at_drop_more, take_more}
 use Rattle.object_store.specs.declared.plan.Landing.{Landing}
-use Rattle.object_store.specs.Plan.{landing_of_key, without_key, IsFirstOf, IsNowhere}
+use Rattle.object_store.specs.Plan.{landing_of_key, without_key, IsFirstOf}
 use Rattle.object_store.proofs.Entries.{ties_itself, not_tied}
 
 abbrev KeyEntry : Type 0
@@ -14,9 +14,6 @@ KeyEntry = List ℕ × Landing
 pub record IsPassed (key : List ℕ) (keys : List (List ℕ × Landing)) (i : ℕ) : Type 0 where
   pub landing : landing_of_key key (drop i keys) ≡ landing_of_key key keys
   pub rest : take i keys ++ without_key key (drop i keys) ≡ without_key key keys
-
-pub passed_none : (key : List ℕ) (keys : List (List ℕ × Landing)) → IsPassed key keys 0
-passed_none key keys = record { landing = refl; rest = refl }
 
 landing_at : (key : List ℕ) (keys : List (List ℕ × Landing)) (i : ℕ) (e : List ℕ × Landing) (b : Bool) → i < length keys → e ≡ get_or keys i e → eq_by_cmp (slice_cmp nat_cmp) e.0 key ≡ b
     → landing_of_key key (drop i keys) ≡ cond b (Some e.1) (landing_of_key key (drop (i + 1) keys))
@@ -50,9 +47,3 @@ key_passed key keys i e p lt is other =
       rest = ap (λ (l : List KeyEntry). l ++ without_key key (drop (i + 1) keys)) front ∙ append_assoc (take i keys) (e ∷ []) (without_key key (drop (i + 1) keys))
           ∙ ap (λ (l : List KeyEntry). take i keys ++ l) (sym (without_at key keys i e false lt is tie)) ∙ p.rest;
     }
-
-pub key_nowhere : (key : List ℕ) (keys : List (List ℕ × Landing)) (i : ℕ) → IsPassed key keys i → length keys ≤ i → IsNowhere key keys
-key_nowhere key keys i p le = record {
-  absent = sym p.landing ∙ at_drop_all (λ (l : List KeyEntry). landing_of_key key l) keys i le;
-  rest_is = sym p.rest ∙ ap (λ (l : List KeyEntry). take i keys ++ l) (at_drop_all (λ (l : List KeyEntry). without_key key l) keys i le) ∙ append-nil (take i keys) ∙ take_all i keys le;
-}

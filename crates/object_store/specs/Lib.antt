@@ -4,6 +4,7 @@ pub mod Store
 pub mod Entries
 pub mod Shelved
 pub mod Kept
+pub mod Late
 pub mod Plan
 pub mod MemoryStore
 pub mod SteadyStore

@@ -60,20 +60,6 @@ LandsThen Work old new = (mid : State) × HasLanded old mid × Work mid new
 abbrev pub AfterLanding : Option State → Option State → (State → State → Type 0) → Type 0
 AfterLanding old new Work = WhereTold old new (LandsThen Work)
 
--- From old to new, calls without a delete: what stood stands, and a new object was late or is of those that were tried.
-pub record Adds (Tried : List ℕ → List ℕ → Type 0) (old new : State) : Type 0 where
-  pub kept : (key content : List ℕ) → map.get old.objects key ≡ Some content → map.get new.objects key ≡ Some content
-  pub come : (key content : List ℕ) → map.get new.objects key ≡ Some content → map.get old.objects key ≡ Some content ⊎ (Contains old.late (key, content) ⊎ Tried key content)
-  pub late : (key content : List ℕ) → Contains new.late (key, content) → Contains old.late (key, content) ⊎ Tried key content
-
--- nothing was tried
-abbrev pub Nothing : List ℕ → List ℕ → Type 0
-Nothing key content = ⊥
-
--- this object alone was tried
-abbrev pub Only : List ℕ → List ℕ → List ℕ → List ℕ → Type 0
-Only key content k c = (k ≡ key) × (c ≡ content)
-
 -- the state with one more object
 abbrev pub with_object : State → List ℕ → List ℕ → State
 with_object s key content = record { objects = map.insert s.objects key content; late = s.late }

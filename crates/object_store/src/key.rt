@@ -3,6 +3,7 @@ ghost use Rattle.std.specs.Ordering.{nat_cmp};
 ghost use Rattle.std.specs.Cmp.Lexicographic.{slice_cmp};
 ghost use Rattle.object_store.specs.Key.{IsKey, IsBadKey, is_key_byte};
 
+use byte_fields::List;
 use std::alloc::AllocError;
 use std::cmp::Ordering;
 use std::marker::Model;
@@ -16,6 +17,9 @@ pub struct Key {
     bytes: [u8; 128],
     len: usize,
 }
+
+/// Keys that contracts see as a list.
+pub type Keys = List<Key>;
 
 /// Why a text is no key.
 #[derive(Clone, Copy, Debug, PartialEq, Eq, Error)]

@@ -3,7 +3,6 @@
 
 mod kept;
 mod key;
-mod keys;
 mod memory;
 mod objects;
 mod plan;
@@ -11,8 +10,7 @@ mod shelf;
 mod steady;
 mod store;
 
-pub use key::{Key, KeyError};
-pub use keys::Keys;
+pub use key::{Key, KeyError, Keys};
 pub use memory::MemoryStore;
 pub use plan::Landing;
 pub use steady::SteadyStore;

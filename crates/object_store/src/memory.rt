@@ -1,4 +1,4 @@
-ghost use Rattle.std.specs.Prelude.{◌≡◌, ◌≤◌, ◌+◌, ◌∷◌, ◌++◌, [], ℕ, Option, None, Some, IfOk, OnOk, OnErr, IsErr, IsErrOf, IsSome, ◌↔◌, length};
+ghost use Rattle.std.specs.Prelude.{◌≡◌, ◌≤◌, ◌+◌, ◌∷◌, ◌++◌, ◌⊎◌, [], ℕ, Option, None, Some, IfOk, OnOk, OnErr, IsErr, IsErrOf, IsSome, ◌↔◌, length};
 ghost use Rattle.std.specs.Option.{option_copied};
 ghost use Rattle.std.specs.FinMap as finmap;
 ghost use Rattle.byte_fields.specs.Causes.{HasCause, following};
@@ -19,7 +19,7 @@ pub struct MemoryStore {
 }
 
 impl MemoryStore {
-    ghost use Rattle.object_store.specs.MemoryStore.{state};
+    ghost use Rattle.object_store.specs.MemoryStore.{state, held};
 
     /// No objects, nothing late, and no call that is to fail.
     pub fn vacant(alloc: Global) -> MemoryStore
@@ -43,7 +43,7 @@ impl MemoryStore {
         ensures calls { self.new.plan.calls.items ≡ self.old.plan.calls.items }
         ensures made { self.new.plan.made ≡ self.old.plan.made }
         ensures faults { self.new.plan.faults ≡ self.old.plan.faults }
-        ensures state { state self.new ≡ state self.old }
+        ensures held { held self.new ≡ held self.old }
     {
         self.plan.keys.push((key, landing))?;
         Ok(())
@@ -56,7 +56,7 @@ impl MemoryStore {
         ensures keys { self.new.plan.keys.items ≡ self.old.plan.keys.items }
         ensures made { self.new.plan.made ≡ self.old.plan.made }
         ensures faults { self.new.plan.faults ≡ self.old.plan.faults }
-        ensures state { state self.new ≡ state self.old }
+        ensures held { held self.new ≡ held self.old }
     {
         self.plan.calls.push((number, landing))?;
         Ok(())
@@ -65,13 +65,15 @@ impl MemoryStore {
 
 // How a call of a store in memory goes.
 impl MemoryStore {
-    ghost use Rattle.object_store.specs.Store.{HasLanded};
+    ghost use Rattle.object_store.specs.Store.{HasLanded, without_object};
     ghost use Rattle.object_store.specs.Plan.{FailsWhere, keys_left};
-    ghost use Rattle.object_store.specs.MemoryStore.{state};
+    ghost use Rattle.object_store.specs.MemoryStore.{state, held};
+    ghost use Rattle.object_store.specs.Late.{begun, fallen, created, deleted};
 
     // A call begins: what is due lands. Says whether it fails by its number, and when it lands then.
     fn begin(&mut self) -> Option<Landing>
         ensures lands { HasLanded (state self.old) (state self.new) }
+        ensures due { held self.new ≡ begun (following self.old.plan.made) (held self.old) }
         ensures answer { result ≡ landing_of_call (following self.old.plan.made) self.old.plan.calls.items }
         ensures plan { self.new.plan ≡ record self.old.plan { made = following self.old.plan.made } }
     {
@@ -90,6 +92,8 @@ impl MemoryStore {
     ) -> Result<(), AllocError>
         ensures ok { OnOk result (Creates key.now content.now (Err CreateError.Failed) (state self.old) (state self.new)) }
         ensures err { OnErr result (state self.new ≡ state self.old) }
+        ensures held { OnOk result (held self.new ≡ fallen landing (record { key = key.now; content = content.now }) self.old.plan.made (held self.old)) }
+        ensures same { OnErr result (held self.new ≡ held self.old) }
         ensures plan { self.new.plan ≡ self.old.plan }
     {
         match landing {
@@ -99,6 +103,18 @@ impl MemoryStore {
                 self.kept.put_late(alloc, key, content, Some(call))
             }
             Landing::Never => self.kept.put_late(alloc, key, content, None),
+        }
+    }
+
+    // The change of a delete that fails.
+    fn fall_delete(&mut self, key: &Key, landing: Landing)
+        ensures step { (state self.new ≡ without_object (state self.old) key.now) ⊎ (state self.new ≡ state self.old) }
+        ensures held { held self.new ≡ deleted (Some landing) key.now (held self.old) }
+        ensures plan { self.new.plan ≡ self.old.plan }
+    {
+        match landing {
+            Landing::AtOnce => self.kept.take_out(key),
+            Landing::AfterCalls(_) | Landing::Never => {}
         }
     }
 
@@ -112,6 +128,7 @@ impl MemoryStore {
     ) -> Result<(), CreateError>
         ensures step { Creates key.now content.now result (state self.old) (state self.new) }
         ensures cause { HasCause self.old.plan.faults self.new.plan.faults (IsErrOf result CreateError.Failed) }
+        ensures held { held self.new ≡ created (Some landing) (record { key = key.now; content = content.now }) self.old.plan.made result (held self.old) }
         ensures fails { FailsWhere (Some landing) result }
         ensures keys { self.new.plan.keys.items ≡ self.old.plan.keys.items }
         ensures calls { self.new.plan.calls.items ≡ self.old.plan.calls.items }
@@ -126,6 +143,7 @@ impl MemoryStore {
     fn create_by_key(&mut self, alloc: Global, key: &Key, content: &[u8]) -> Result<(), CreateError>
         ensures step { Creates key.now content.now result (state self.old) (state self.new) }
         ensures cause { HasCause self.old.plan.faults self.new.plan.faults (IsErrOf result CreateError.Failed) }
+        ensures held { held self.new ≡ created (landing_of_key key.now self.old.plan.keys.items) (record { key = key.now; content = content.now }) self.old.plan.made result (held self.old) }
         ensures fails { FailsWhere (landing_of_key key.now self.old.plan.keys.items) result }
         ensures keys { self.new.plan.keys.items ≡ keys_left None key.now result self.old.plan.keys.items }
         ensures calls { self.new.plan.calls.items ≡ self.old.plan.calls.items }
@@ -144,7 +162,8 @@ impl MemoryStore {
 }
 
 impl ObjectStore for MemoryStore {
-    ghost use Rattle.object_store.specs.MemoryStore.{state};
+    ghost use Rattle.object_store.specs.MemoryStore.{state, held};
+    ghost use Rattle.object_store.specs.Late.{begun, created, deleted};
     ghost use Rattle.object_store.specs.Plan.{FailsWhere, keys_left, landing_of_create};
 
     ghost told = { λ s. Some (state s) };
@@ -154,6 +173,9 @@ impl ObjectStore for MemoryStore {
     fn create(&mut self, alloc: Global, key: &Key, content: &[u8]) -> Result<(), CreateError>
         ensures step { AfterLanding (Some (state self.old)) (Some (state self.new)) (Creates key.now content.now result) }
         ensures cause { HasCause self.old.plan.faults self.new.plan.faults (IsErrOf result CreateError.Failed) }
+        // What is due lands as it begins, and nothing else. Where it fails, it lands when its plan says.
+        ensures held { held self.new ≡ created (landing_of_create (following self.old.plan.made) key.now self.old.plan.calls.items self.old.plan.keys.items)
+            (record { key = key.now; content = content.now }) (following self.old.plan.made) result (begun (following self.old.plan.made) (held self.old)) }
         // It fails exactly where its number or else its key is to fail, but for want of memory.
         ensures fails { FailsWhere (landing_of_create (following self.old.plan.made) key.now self.old.plan.calls.items self.old.plan.keys.items) result }
         ensures keys { self.new.plan.keys.items ≡ keys_left (landing_of_call (following self.old.plan.made) self.old.plan.calls.items) key.now result self.old.plan.keys.items }
@@ -170,6 +192,8 @@ impl ObjectStore for MemoryStore {
         ensures step { AfterLanding (Some (state self.old)) (Some (state self.new)) (Gets key.now from len result) }
         ensures bound { IfOk result (λ piece. length piece.bytes ≤ len) }
         ensures cause { HasCause self.old.plan.faults self.new.plan.faults (IsErrOf result GetError.Failed) }
+        // What is due lands as it begins, and nothing else.
+        ensures held { held self.new ≡ begun (following self.old.plan.made) (held self.old) }
         // It fails exactly where its number is to fail.
         ensures fails { IsErrOf result GetError.Failed ↔ IsSome (landing_of_call (following self.old.plan.made) self.old.plan.calls.items) }
         ensures keys { self.new.plan.keys.items ≡ self.old.plan.keys.items }
@@ -188,6 +212,8 @@ impl ObjectStore for MemoryStore {
     fn delete(&mut self, key: &Key) -> Result<(), Failed>
         ensures step { AfterLanding (Some (state self.old)) (Some (state self.new)) (Deletes key.now result) }
         ensures cause { HasCause self.old.plan.faults self.new.plan.faults (IsErr result) }
+        // What is due lands as it begins, and nothing else. Where it fails, it takes effect if its plan says at once.
+        ensures held { held self.new ≡ deleted (landing_of_call (following self.old.plan.made) self.old.plan.calls.items) key.now (begun (following self.old.plan.made) (held self.old)) }
         // It fails exactly where its number is to fail.
         ensures fails { IsErr result ↔ IsSome (landing_of_call (following self.old.plan.made) self.old.plan.calls.items) }
         ensures keys { self.new.plan.keys.items ≡ self.old.plan.keys.items }
@@ -199,12 +225,8 @@ impl ObjectStore for MemoryStore {
                 self.kept.take_out(key);
                 Ok(())
             }
-            Some(Landing::AtOnce) => {
-                self.kept.take_out(key);
-                self.plan.count_fault();
-                Err(Failed)
-            }
-            Some(_) => {
+            Some(landing) => {
+                self.fall_delete(key, landing);
                 self.plan.count_fault();
                 Err(Failed)
             }
@@ -222,6 +244,8 @@ impl ObjectStore for MemoryStore {
         ensures step { AfterLanding (Some (state self.old)) (Some (state self.new)) (Lists prefix.now (option_copied after.entry) max result) }
         ensures bound { IfOk result (λ keys. length keys ≤ max) }
         ensures cause { HasCause self.old.plan.faults self.new.plan.faults (IsErrOf result ListError.Failed) }
+        // What is due lands as it begins, and nothing else.
+        ensures held { held self.new ≡ begun (following self.old.plan.made) (held self.old) }
         // It fails exactly where its number is to fail.
         ensures fails { IsErrOf result ListError.Failed ↔ IsSome (landing_of_call (following self.old.plan.made) self.old.plan.calls.items) }
         ensures keys { self.new.plan.keys.items ≡ self.old.plan.keys.items }

@@ -1,2 +1,3 @@
-pub mod RuledOut
+mod Copied
 pub mod Numbers
+pub mod RuledOut

@@ -1,7 +1,7 @@
 -- Numbers that are too large stay too large.
-use Rattle.std.proofs.Common.{◌≡◌, ℕ, ◌+◌, ◌-◌, ◌*◌, ◌^◌, ◌<◌, ◌≤◌, Bool, true, false, List, [], ◌∷◌, Option, Some, None, refl, ap, ◌∙◌, arith, le-ltb, if◌then◌else◌, suc, sym, length, get_or, drop}
+use Rattle.std.proofs.Common.{◌≡◌, ℕ, ◌+◌, ◌-◌, ◌*◌, ◌^◌, ◌<◌, ◌≤◌, Bool, true, false, List, [], ◌∷◌, None, refl, ap, ◌∙◌, arith, le-ltb, if◌then◌else◌, suc, sym, length, get_or, drop}
 use Rattle.std.proofs.Math.Seq.{drop-cons}
-use Rattle.std.specs.Prelude.{option_and_then, nat_lt}
+use Rattle.std.specs.Prelude.{option_and_then}
 use Rattle.std.specs.Char.{is_ascii_digit}
 use Rattle.query_ast.specs.Spelled.{number_from, below}
 

@@ -1,6 +1,11 @@
 -- Where the tag facts rule a query out, no document with those facts meets it.
-use Rattle.std.proofs.Common.{◌≡◌, ℕ, ◌==◌, Bool, true, false, not, ◌&&◌, ◌||◌, List, [], ◌∷◌, Option, Some, None, refl, ap, sym, ◌∙◌, subst, length, if◌then◌else◌}
-use Rattle.std.specs.Prelude.{slice_get, nat_le}
+use Rattle.std.proofs.Common.{◌≡◌, ℕ, suc, ℤ, Bool, true, false, not, ◌&&◌, ◌||◌, List, [], ◌∷◌, Option, Some, None, refl, ap, sym, ◌∙◌, subst, length, arith, if◌then◌else◌}
+use Rattle.std.specs.Prelude.{slice_get, nat_le, int_le, option_map}
+use Rattle.std.specs.List.{All}
+use Rattle.std.specs.Cmp.{unsigned_Decides}
+use Rattle.std.proofs.lemmas.Slice.Eq.{bytes_eq-Decides}
+use Rattle.std.proofs.lemmas.Bool.{leb-true}
+use Rattle.std.proofs.lemmas.Int.{ints}
 use Rattle.std.specs.Str.{bytes_eq}
 use Rattle.std.specs.Option.{option_map_or}
 use Rattle.doc_value.specs.declared.schema.Field.{Field}
@@ -18,8 +23,10 @@ use Rattle.query_ast.specs.FieldTokens.{field_tokens, tokens_by}
 use Rattle.query_ast.specs.Sought.{Sought, Soughts, no_more, more}
 use Rattle.query_ast.specs.Sought as sought
 use Rattle.query_ast.specs.declared.query.Item.{Item}
-use Rattle.query_ast.specs.Meaning.{values_in, same_value, equals_some, has_token, tokens_in, is_text, some_has_token, phrase_holds, each_holds, quoted_holds, word_holds, item_holds, some_item_holds, asks, meaning, all_hold, some_hold}
-use Rattle.query_ast.specs.Pruning.{allowed, can_equal, some_can_equal, can_be_among, can_match, all_can, some_can, TagsAreRaw, AreFactsOf}
+use Rattle.query_ast.specs.Meaning.{values_in, same_value, equals_some, has_token, tokens_in, is_text, some_has_token, phrase_holds, each_holds, quoted_holds, word_holds, item_holds, some_item_holds, meaning, all_hold, some_hold}
+use Rattle.query_ast.specs.Spelled.{spelled, signed_of, unsigned_of, truth_of, datetime_of}
+use Rattle.query_ast.specs.Pruning.{allowed, term_of, is_raw, is_looked_up, HasTerm, can_equal, some_can_equal, can_match, all_can, some_can, AreFactsOf}
+use Rattle.doc_value.specs.Terms.{term_bytes}
 
 and_left : (a b : Bool) → (a && b) ≡ true → a ≡ true
 and_left true b h = refl
@@ -50,21 +57,93 @@ or_none : (a : Bool) → (a || false) ≡ true → a ≡ true
 or_none true h = refl
 or_none false h = h
 
--- the one raw token of a value is the value
-raw_has : (t w : List ℕ) (b : Bool) → nat_le (length t) max_token ≡ b → has_token w (raw_tokens t) ≡ true → bytes_eq t w ≡ true
-raw_has t w true e h = or_none (bytes_eq t w) (rw e at h)
-raw_has t w false e h = absurd (let x : false ≡ true = rw e at h in cc)
+-- a value is no text
+abbrev IsNoText : Value → Type 0
+IsNoText (values.Text t) = ⊥
+IsNoText _ = Unit {0}
 
-value_has : (f : Field) (w : List ℕ) (v : Value) → f.tokenizer ≡ tokenizers.Raw → has_token w (tokens_in f v) ≡ true → same_value v (values.Text w) ≡ true
-value_has f w (values.Text t) e h = raw_has t w (nat_le (length t) max_token) refl (subst (λ k. has_token w (tokens_by k t) ≡ true) e h)
-value_has f w (values.I64 n) e h = h
-value_has f w (values.U64 n) e h = h
-value_has f w (values.Bool b) e h = absurd (let x : false ≡ true = h in cc)
-value_has f w (values.Datetime n) e h = h
+mapped : {A : Type 0} (o : Option A) (f : A → Value) (w : Value) → ((a : A) → IsNoText (f a)) → option_map f o ≡ Some w → IsNoText w
+mapped None f w h e = absurd (let x : None ≡ Some w = e in cc)
+mapped (Some a) f w h e = subst IsNoText (let x : Some (f a) ≡ Some w = e in cc) (h a)
 
-some_equal : (f : Field) (w : List ℕ) (vs : List Value) → f.tokenizer ≡ tokenizers.Raw → some_has_token f w vs ≡ true → equals_some (Some (values.Text w)) vs ≡ true
-some_equal f w [] e h = h
-some_equal f w (v ∷ vs) e h = or_each (has_token w (tokens_in f v)) (some_has_token f w vs) (same_value v (values.Text w)) (equals_some (Some (values.Text w)) vs) (value_has f w v e) (some_equal f w vs e) h
+-- what is spelled of a kind that is no text is no text
+spelled_no_text : (k : Kind) (text : List ℕ) (w : Value) → is_text k ≡ false → spelled k text ≡ Some w → IsNoText w
+spelled_no_text kinds.Text text w n e = absurd (let x : true ≡ false = n in cc)
+spelled_no_text kinds.TextList text w n e = absurd (let x : true ≡ false = n in cc)
+spelled_no_text kinds.I64 text w n e = mapped (signed_of text) values.I64 w (λ a. tt) e
+spelled_no_text kinds.U64 text w n e = mapped (unsigned_of text) values.U64 w (λ a. tt) e
+spelled_no_text kinds.Bool text w n e = mapped (truth_of text) values.Bool w (λ a. tt) e
+spelled_no_text kinds.Datetime text w n e = mapped (datetime_of text) values.Datetime w (λ a. tt) e
+
+int_same : (a b : ℤ) → (int_le a b && int_le b a) ≡ true → a ≡ b
+int_same a b h = grind (arith, ints)
+
+same_truth : (a b : Bool) → same_value (values.Bool a) (values.Bool b) ≡ true → a ≡ b
+same_truth false false h = refl
+same_truth false true h = absurd (let x : false ≡ true = h in cc)
+same_truth true true h = refl
+same_truth true false h = absurd (let x : false ≡ true = h in cc)
+
+-- a value that equals one that is no text has a term, and it is the same
+same_term : (v w : Value) → IsNoText w → same_value v w ≡ true → HasTerm v × (term_bytes v ≡ term_bytes w)
+same_term (values.I64 a) (values.I64 b) n h = (tt, ap (λ z. term_bytes (values.I64 z)) (int_same a b h))
+same_term (values.U64 a) (values.U64 b) n h = (tt, ap (λ z. term_bytes (values.U64 z)) ((unsigned_Decides a b).0 h))
+same_term (values.Bool a) (values.Bool b) n h = (tt, ap (λ z. term_bytes (values.Bool z)) (same_truth a b h))
+same_term (values.Datetime a) (values.Datetime b) n h = (tt, ap (λ z. term_bytes (values.Datetime z)) (int_same a b h))
+same_term v (values.Text t) n h = absurd n
+same_term (values.Bool false) (values.I64 x) n h = absurd (let x : false ≡ true = h in cc)
+same_term (values.Bool false) (values.U64 x) n h = absurd (let x : false ≡ true = h in cc)
+same_term (values.Bool false) (values.Datetime x) n h = absurd (let x : false ≡ true = h in cc)
+same_term (values.Bool true) (values.I64 x) n h = absurd (let x : false ≡ true = h in cc)
+same_term (values.Bool true) (values.U64 x) n h = absurd (let x : false ≡ true = h in cc)
+same_term (values.Bool true) (values.Datetime x) n h = absurd (let x : false ≡ true = h in cc)
+same_term _ _ n h = absurd (let x : false ≡ true = h in cc)
+
+module _ (facts : List FieldTags) (n : ℕ) where
+  -- the facts allow the term of each value
+  abbrev AllowsEach : List Value → Type 0
+  AllowsEach vs = All (λ v. HasTerm v → allowed facts n (Some (term_bytes v)) ≡ true) vs
+
+  later : (v : Value) (vs : List Value) → AllowsEach (v ∷ vs) → AllowsEach vs
+  later v vs h = λ k d l. h (suc k) d (omega (arith, l))
+
+  equal_allowed : (w : Value) (vs : List Value) → IsNoText w → AllowsEach vs → equals_some (Some w) vs ≡ true → allowed facts n (Some (term_bytes w)) ≡ true
+  equal_allowed w [] t all h = absurd (let x : false ≡ true = h in cc)
+  equal_allowed w (v ∷ vs) t all h = by (equal_allowed w vs t (later v vs all)) (same_value v w) refl
+    where
+      by : (equals_some (Some w) vs ≡ true → allowed facts n (Some (term_bytes w)) ≡ true) → (b : Bool) → same_value v w ≡ b → allowed facts n (Some (term_bytes w)) ≡ true
+      by later_on true e = let s = same_term v w t e in subst (λ x. allowed facts n (Some x) ≡ true) s.1 (all 0 v (omega arith) s.0)
+      by later_on false e = later_on (rw e at h)
+
+  -- of a value that a text spells
+  spelled_allowed : (k : Kind) (text : List ℕ) (vs : List Value) → is_text k ≡ false → AllowsEach vs → equals_some (spelled k text) vs ≡ true → allowed facts n (term_of k text) ≡ true
+  spelled_allowed k text vs t all h = by (spelled k text) refl
+    where
+      by : (o : Option Value) → spelled k text ≡ o → allowed facts n (option_map term_bytes o) ≡ true
+      by None e = absurd (let x : false ≡ true = rw e at h in cc)
+      by (Some w) e = equal_allowed w vs (spelled_no_text k text w t e) all (rw e at h)
+
+  -- of a token of a raw text
+  token_allowed : (f : Field) (w : List ℕ) (vs : List Value) → f.tokenizer ≡ tokenizers.Raw → AllowsEach vs → some_has_token f w vs ≡ true → allowed facts n (Some w) ≡ true
+  token_allowed f w [] r all h = absurd (let x : false ≡ true = h in cc)
+  token_allowed f w (v ∷ vs) r all h = by (token_allowed f w vs r (later v vs all)) (has_token w (tokens_in f v)) refl
+    where
+      short : (t : List ℕ) (b : Bool) → nat_le (length t) max_token ≡ b → v ≡ values.Text t → has_token w (raw_tokens t) ≡ true → allowed facts n (Some w) ≡ true
+      short t true e is g = let same : t ≡ w = (bytes_eq-Decides t w).0 (or_none (bytes_eq t w) (rw e at g)) in
+          subst (λ x. allowed facts n (Some x) ≡ true) same
+          (subst (λ x. HasTerm x → allowed facts n (Some (term_bytes x)) ≡ true) is (all 0 v (omega arith)) (leb-true (length t) max_token e))
+      short t false e is g = absurd (let x : false ≡ true = rw e at g in cc)
+
+      one : (x : Value) → v ≡ x → has_token w (tokens_in f x) ≡ true → allowed facts n (Some w) ≡ true
+      one (values.Text t) is g = short t (nat_le (length t) max_token) refl is (subst (λ k. has_token w (tokens_by k t) ≡ true) r g)
+      one (values.I64 z) is g = absurd (let x : false ≡ true = g in cc)
+      one (values.U64 z) is g = absurd (let x : false ≡ true = g in cc)
+      one (values.Bool z) is g = absurd (let x : false ≡ true = g in cc)
+      one (values.Datetime z) is g = absurd (let x : false ≡ true = g in cc)
+
+      by : (some_has_token f w vs ≡ true → allowed facts n (Some w) ≡ true) → (b : Bool) → has_token w (tokens_in f v) ≡ b → allowed facts n (Some w) ≡ true
+      by later_on true e = one v refl e
+      by later_on false e = later_on (rw e at h)
 
 -- a raw text is looked for as one token
 raw_phrase : (f : Field) (w : List ℕ) (vs : List Value) (b : Bool) → nat_le (length w) max_token ≡ b → phrase_holds f (raw_tokens w) vs ≡ true → some_has_token f w vs ≡ true
@@ -75,38 +154,64 @@ raw_each : (f : Field) (w : List ℕ) (vs : List Value) (b : Bool) → nat_le (l
 raw_each f w vs true e h = and_left (some_has_token f w vs) true (rw e at h)
 raw_each f w vs false e h = absurd (let x : false ≡ true = rw e at h in cc)
 
-no_test : (a x y : Bool) → (if a && false then x else y) ≡ y
-no_test true x y = refl
-no_test false x y = refl
+text_term : (k : Kind) (w : List ℕ) → is_text k ≡ true → term_of k w ≡ Some w
+text_term kinds.Text w e = refl
+text_term kinds.TextList w e = refl
+text_term kinds.I64 w e = absurd (let x : false ≡ true = e in cc)
+text_term kinds.U64 w e = absurd (let x : false ≡ true = e in cc)
+text_term kinds.Bool w e = absurd (let x : false ≡ true = e in cc)
+text_term kinds.Datetime w e = absurd (let x : false ≡ true = e in cc)
 
-module _ (f : Field) (text : f.kind ≡ kinds.Text) (raw : f.tokenizer ≡ tokenizers.Raw) (w : List ℕ) (vs : List Value) where
-  quoted_equal : quoted_holds f w vs ≡ true → equals_some (Some (values.Text w)) vs ≡ true
-  quoted_equal h = some_equal f w vs raw (raw_phrase f w vs (nat_le (length w) max_token) refl (subst (λ k. phrase_holds f (tokens_by k w) vs ≡ true) raw (rw text at h)))
+raw_is : (t : Tokenizer) → is_raw t ≡ true → t ≡ tokenizers.Raw
+raw_is tokenizers.Raw e = refl
+raw_is tokenizers.Whitespace e = absurd (let x : false ≡ true = e in cc)
+raw_is tokenizers.Default e = absurd (let x : false ≡ true = e in cc)
 
-  word_equal_of : (p : Bool) → f.positions ≡ p → word_holds f w vs ≡ true → equals_some (Some (values.Text w)) vs ≡ true
-  word_equal_of true e h = quoted_equal (sym (no_test (is_text f.kind) (each_holds f (field_tokens f w) vs) (quoted_holds f w vs)) ∙ (rw e at h))
-  word_equal_of false e h = some_equal f w vs raw (raw_each f w vs (nat_le (length w) max_token) refl (subst (λ k. each_holds f (tokens_by k w) vs ≡ true) raw (rw (text, e) at h)))
+-- of a field that is looked up: texts are raw
+looked_raw : (f : Field) → is_looked_up f ≡ true → is_text f.kind ≡ true → f.tokenizer ≡ tokenizers.Raw
+looked_raw f l t = raw_is f.tokenizer (or_none (is_raw f.tokenizer) (subst (λ b. (is_raw f.tokenizer || not b) ≡ true) t (and_right f.tag (is_raw f.tokenizer || not (is_text f.kind)) l)))
 
-  word_equal : word_holds f w vs ≡ true → equals_some (Some (values.Text w)) vs ≡ true
-  word_equal h = word_equal_of f.positions refl h
+module _ (facts : List FieldTags) (n : ℕ) (f : Field) (looked : is_looked_up f ≡ true) (w : List ℕ) (vs : List Value) (all : AllowsEach facts n vs) where
+  quoted_of : (b : Bool) → is_text f.kind ≡ b → quoted_holds f w vs ≡ true → allowed facts n (term_of f.kind w) ≡ true
+  quoted_of true t h =
+      let raw = looked_raw f looked t in
+      subst (λ o. allowed facts n o ≡ true) (sym (text_term f.kind w t))
+      (token_allowed facts n f w vs raw all (raw_phrase f w vs (nat_le (length w) max_token) refl (subst (λ k. phrase_holds f (tokens_by k w) vs ≡ true) raw (rw t at h))))
+  quoted_of false t h = spelled_allowed facts n f.kind w vs t all (rw t at h)
 
-module _ (s : Schema) (facts : List FieldTags) (doc : List DocField) (raw : TagsAreRaw s) (hold : AreFactsOf facts doc) where
+  quoted_allowed : quoted_holds f w vs ≡ true → allowed facts n (term_of f.kind w) ≡ true
+  quoted_allowed h = quoted_of (is_text f.kind) refl h
+
+  word_of : (b p : Bool) → is_text f.kind ≡ b → f.positions ≡ p → word_holds f w vs ≡ true → allowed facts n (term_of f.kind w) ≡ true
+  word_of true false t e h =
+      let raw = looked_raw f looked t in
+      subst (λ o. allowed facts n o ≡ true) (sym (text_term f.kind w t))
+      (token_allowed facts n f w vs raw all (raw_each f w vs (nat_le (length w) max_token) refl (subst (λ k. each_holds f (tokens_by k w) vs ≡ true) raw (rw (t, e) at h))))
+  word_of true true t e h =
+      let g = subst (λ b. (if b && not f.positions then each_holds f (field_tokens f w) vs else quoted_holds f w vs) ≡ true) t h in
+      quoted_allowed (subst (λ p. (if true && not p then each_holds f (field_tokens f w) vs else quoted_holds f w vs) ≡ true) e g)
+  word_of false p t e h = quoted_allowed (subst (λ b. (if b && not f.positions then each_holds f (field_tokens f w) vs else quoted_holds f w vs) ≡ true) t h)
+
+  word_allowed : word_holds f w vs ≡ true → allowed facts n (term_of f.kind w) ≡ true
+  word_allowed h = word_of (is_text f.kind) f.positions refl refl h
+
+module _ (s : Schema) (facts : List FieldTags) (doc : List DocField) (hold : AreFactsOf facts doc) where
   asked_word : (n : ℕ) (w : List ℕ) (o : Option Field) → slice_get s.fields n ≡ o → option_map_or (λ f. word_holds f w (values_in doc n)) o false ≡ true
-      → option_map_or (λ f. if f.tag then allowed facts n w else true) o true ≡ true
+      → option_map_or (λ f. if is_looked_up f then allowed facts n (term_of f.kind w) else true) o true ≡ true
   asked_word n w None e h = refl
-  asked_word n w (Some f) e h = of f.tag refl
+  asked_word n w (Some f) e h = of (is_looked_up f) refl
     where
-      of : (b : Bool) → f.tag ≡ b → (if b then allowed facts n w else true) ≡ true
-      of true t = let r = raw n f e t in hold n w (word_equal f r.0 r.1 w (values_in doc n) h)
+      of : (b : Bool) → is_looked_up f ≡ b → (if b then allowed facts n (term_of f.kind w) else true) ≡ true
+      of true t = word_allowed facts n f t w (values_in doc n) (hold n) h
       of false t = refl
 
   asked_quoted : (n : ℕ) (w : List ℕ) (o : Option Field) → slice_get s.fields n ≡ o → option_map_or (λ f. quoted_holds f w (values_in doc n)) o false ≡ true
-      → option_map_or (λ f. if f.tag then allowed facts n w else true) o true ≡ true
+      → option_map_or (λ f. if is_looked_up f then allowed facts n (term_of f.kind w) else true) o true ≡ true
   asked_quoted n w None e h = refl
-  asked_quoted n w (Some f) e h = of f.tag refl
+  asked_quoted n w (Some f) e h = of (is_looked_up f) refl
     where
-      of : (b : Bool) → f.tag ≡ b → (if b then allowed facts n w else true) ≡ true
-      of true t = let r = raw n f e t in hold n w (quoted_equal f r.0 r.1 w (values_in doc n) h)
+      of : (b : Bool) → is_looked_up f ≡ b → (if b then allowed facts n (term_of f.kind w) else true) ≡ true
+      of true t = quoted_allowed facts n f t w (values_in doc n) (hold n) h
       of false t = refl
 
   one_item : (n : ℕ) (f : Field) (item : Item) (b : Bool) → item.quoted ≡ b → slice_get s.fields n ≡ Some f → item_holds f (values_in doc n) item ≡ true → can_equal s facts n item.text ≡ true
@@ -120,11 +225,11 @@ module _ (s : Schema) (facts : List FieldTags) (doc : List DocField) (raw : Tags
       (one_item n f i i.quoted refl e) (some_item n f is e) h
 
   asked_set : (n : ℕ) (items : List Item) (o : Option Field) → slice_get s.fields n ≡ o → option_map_or (λ f. some_item_holds f (values_in doc n) items) o false ≡ true
-      → option_map_or (λ f. if f.tag then some_can_equal s facts n items else true) o true ≡ true
+      → option_map_or (λ f. if is_looked_up f then some_can_equal s facts n items else true) o true ≡ true
   asked_set n items None e h = refl
-  asked_set n items (Some f) e h = of f.tag refl
+  asked_set n items (Some f) e h = of (is_looked_up f) refl
     where
-      of : (b : Bool) → f.tag ≡ b → (if b then some_can_equal s facts n items else true) ≡ true
+      of : (b : Bool) → is_looked_up f ≡ b → (if b then some_can_equal s facts n items else true) ≡ true
       of true t = some_item n f items e h
       of false t = refl
 

@@ -1,5 +1,6 @@
-pub mod Sought
 pub mod FieldTokens
-pub mod Spelled
 pub mod Meaning
 pub mod Pruning
+pub mod Queries
+pub mod Sought
+pub mod Spelled

@@ -24,7 +24,7 @@ fn digits(text: &[u8]) -> Option<u64>
     Some(number as u64)
 }
 
-fn unsigned(text: &[u8]) -> Option<u64>
+pub(crate) fn unsigned(text: &[u8]) -> Option<u64>
     ensures { result ≡ unsigned_of text.now }
 {
     match text {
@@ -47,7 +47,7 @@ fn negated(size: u64) -> Option<i64>
 }
 
 /// The number that decimal digits spell, maybe behind a `-`, if it fits.
-fn signed(text: &[u8]) -> Option<i64>
+pub(crate) fn signed(text: &[u8]) -> Option<i64>
     ensures { result ≡ signed_of text.now }
 {
     match text {
@@ -79,7 +79,7 @@ fn is_digits(text: &[u8]) -> bool
     true
 }
 
-fn truth(text: &[u8]) -> Option<bool>
+pub(crate) fn truth(text: &[u8]) -> Option<bool>
     ensures { result ≡ truth_of text.now }
 {
     if text == b"true".as_slice() {
@@ -92,7 +92,7 @@ fn truth(text: &[u8]) -> Option<bool>
 }
 
 /// The second of a datetime: of digits by their size, of any other text as RFC 3339 has it.
-fn datetime(text: &str) -> Option<i64>
+pub(crate) fn datetime(text: &str) -> Option<i64>
     ensures { result ≡ datetime_of text.now }
 {
     if is_digits(text.as_bytes()) {

@@ -48,9 +48,6 @@ low_in_word c h = low_unless c (λ l. let y : false ≡ true = rw (high_plain c 
 pub low_in_quote : (c : ℕ) → hides_in_quote c ≡ true → c < 128
 low_in_quote c h = low_unless c (λ l. let y : false ≡ true = rw (high_plain c l) at h in absurd cc)
 
-low_unplain : (c : ℕ) → not (is_plain_kind (kind_of c)) ≡ true → c < 128
-low_unplain c h = low_unless c (λ l. let y : false ≡ true = rw (high_plain c l) at h in absurd cc)
-
 one_ascii : (c : ℕ) → c < 128 → IsUtf8 (c ∷ [])
 one_ascii c l = IsUtf8-from_ascii (c ∷ []) (λ i. one c l i)
   where
@@ -89,14 +86,6 @@ hiding_utf8 hides low pre (c ∷ cs) u = go (λ pre u. hiding_utf8 hides low pre
         rw e (IsUtf8-append pre (92 ∷ c ∷ hiding hides cs) (before_ascii pre cs c (low c e) u)
         (IsUtf8-append (92 ∷ []) (c ∷ hiding hides cs) (one_ascii 92 (omega arith)) (again (c ∷ []) (from_ascii pre cs c (low c e) u))))
     go again false e = rw e (subst IsUtf8 (append_assoc pre (c ∷ []) (hiding hides cs)) (again (pre ++ c ∷ []) (subst IsUtf8 (sym (append_assoc pre (c ∷ []) cs)) u)))
-
-keyword_low : (c : ℕ) (cs : List ℕ) → is_keyword (c ∷ cs) ≡ true → c < 128
-keyword_low c cs h = low_unless c (λ l.
-    let y : false ≡ true = rw (ne_eqb c 65 (λ e. omega (arith, e, l)), ne_eqb c 79 (λ e. omega (arith, e, l)), ne_eqb c 78 (λ e. omega (arith, e, l)), ne_eqb c 73 (λ e. omega (arith, e, l))) at h in absurd cc)
-
-or_low : (a b : Bool) (c : ℕ) → (a ≡ true → c < 128) → (b ≡ true → c < 128) → a || b ≡ true → c < 128
-or_low true b c f g e = f refl
-or_low false b c f g e = g e
 
 pub word_utf8 : (w : List ℕ) → IsUtf8 w → IsUtf8 (word_text w)
 word_utf8 [] u = u

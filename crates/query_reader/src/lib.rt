@@ -4,7 +4,6 @@
 mod asked;
 mod fault;
 mod kind;
-mod laws;
 mod numbers;
 mod printer;
 mod reader;
@@ -16,7 +15,6 @@ mod texts;
 mod tree;
 
 pub use fault::{Fault, ReadError};
-pub use laws::{printing_laws, reading_laws};
 pub use numbers::FieldNumbers;
 pub use printer::print_query;
 pub use refusal::QueryError;

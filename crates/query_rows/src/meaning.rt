@@ -1,8 +1,10 @@
 use doc_value::{
     Bytes, Doc, DocField, Field, FieldTags, Fields, Kind, Schema, TagFacts, Tags, Terms, Text,
-    TimeRange, Tokenizer, Value, Values,
+    TimeRange, Tokenizer, Value, Values, term_bytes,
 };
-use query_ast::{Query, folded_prefix, lies_in, matches, possible, tokens_of, value_of};
+use query_ast::{
+    Query, copy_query, folded_prefix, lies_in, matches, possible, tokens_of, value_of,
+};
 use std::alloc::{AllocError, Global};
 use std::test::Fail;
 
@@ -109,6 +111,34 @@ fn pruning(rt: HostRuntime) -> Result<(), Fail> {
     assert!(rt; possible(&schema, &word(rt.alloc(), 1, "warn")?, &facts));
     assert!(rt; !possible(&schema, &word(rt.alloc(), 1, "info")?, &facts));
     assert!(rt; possible(&schema, &word(rt.alloc(), 0, "info")?, &facts));
+    Ok(())
+}
+
+// A tag field of numbers lists terms of eight bytes: `007` is 7, whose term is 80 00 00 00 00 00 00 07, and a copy of the
+// query is that query.
+#[test]
+fn pruning_by_numbers(rt: HostRuntime) -> Result<(), Fail> {
+    let alloc = rt.alloc();
+    let mut fields = Fields::vacant(alloc);
+    fields.push(field(alloc, "size", Kind::I64, true, Tokenizer::Default)?)?;
+    let schema = Schema {
+        fields,
+        timestamp: None,
+    };
+    let seven = Bytes::from_slice(alloc, [128u8, 0, 0, 0, 0, 0, 0, 7].as_slice())?;
+    assert!(rt; term_bytes(alloc, &Value::I64(7))?.is_same(&seven));
+    let facts = TagFacts::one(
+        alloc,
+        FieldTags {
+            number: 0,
+            tags: Tags::Listed(Terms::one(alloc, seven)?),
+        },
+    )?;
+    let query = copy_query(alloc, &word(alloc, 0, "007")?)?;
+    assert!(rt; possible(&schema, &query, &facts));
+    assert!(rt; !possible(&schema, &word(alloc, 0, "8")?, &facts));
+    assert!(rt; !possible(&schema, &word(alloc, 0, "-7")?, &facts));
+    assert!(rt; !possible(&schema, &word(alloc, 0, "seven")?, &facts));
     Ok(())
 }
 

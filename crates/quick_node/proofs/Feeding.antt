@@ -67,9 +67,6 @@ pub record IsUnderWay (at : ℕ) (text line : List ℕ) (taken : ℕ) (rest : Li
   pub place : taken ≡ at + length line
   pub short : length line ≤ max_line
 
-pub no_line_yet : (at : ℕ) (text rest : List ℕ) → text ≡ rest → IsUnderWay at text [] at rest
-no_line_yet at text rest e = record { is = e; unbroken = All-nil IsByte; place = omega arith; short = omega arith }
-
 -- the next chunk was read
 pub filled : (at : ℕ) (text line line' : List ℕ) (taken taken' : ℕ) (rest rest' : List ℕ) → line' ≡ line → taken' ≡ taken → rest ≡ rest' →
     IsUnderWay at text line taken rest → IsUnderWay at text line' taken' rest'

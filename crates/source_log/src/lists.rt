@@ -1,6 +1,6 @@
 ghost use Rattle.std.specs.Prelude.{◌≡◌, ◌<◌, ◌^◌, ◌++◌, ◌∷◌, [], ◌↔◌, length, slice_index_or, OnOk, OnErr, IfOk, IsTrue};
 
-use byte_fields::Bytes;
+use byte_fields::{Bytes, List};
 use source_checkpoint::Partition;
 use std::alloc::{AllocError, Global};
 use std::marker::Model;
@@ -73,60 +73,4 @@ pub struct Records {
 }
 
 /// The names of partitions in their order.
-#[derive(Drop)]
-pub struct Partitions {
-    held: Vec<Partition>,
-}
-
-impl Model for Partitions {
-    ghost use Rattle.std.specs.Prelude.{List, ℕ};
-
-    ghost Value = { List (List ℕ) };
-
-    ghost view = { λ p. p.held.items };
-}
-
-impl Partitions {
-    /// No names yet.
-    pub fn vacant(alloc: Global) -> Partitions
-        ensures { result ≡ [] }
-    {
-        Partitions {
-            held: Vec::new(alloc),
-        }
-    }
-
-    pub fn as_slice(&self) -> &[Partition]
-        ensures { result.now ≡ self.now }
-    {
-        &self.held
-    }
-
-    pub fn len(&self) -> usize
-        ensures { result ≡ length self.now }
-    {
-        self.held.len()
-    }
-
-    pub fn is_empty(&self) -> bool
-        ensures { IsTrue result ↔ (self.now ≡ []) }
-    {
-        self.held.as_slice().is_empty()
-    }
-
-    pub fn at(&self, index: usize) -> &Partition
-        requires { index < length self.now }
-        ensures { result.now ≡ slice_index_or self.now index result.now }
-    {
-        &self.held[index]
-    }
-
-    /// Appends a name. An `Err` changes nothing.
-    pub fn push(&mut self, name: Partition) -> Result<(), AllocError>
-        ensures ok { OnOk result (self.new ≡ self.old ++ name ∷ []) }
-        ensures err { OnErr result (self.new ≡ self.old) }
-    {
-        self.held.push(name)?;
-        Ok(())
-    }
-}
+pub type Partitions = List<Partition>;

@@ -1,5 +1,5 @@
 -- Which change a row allows: the conditions, and the answers with their order of refusals.
-use Rattle.std.specs.Prelude.{ℕ, ℤ, pos, ◌≡◌, ◌≢◌, ◌+◌, ◌+ℤ◌, ◌-ℤ◌, ◌≤ℤ◌, ◌≤◌, ◌==◌, ◌⊎◌, Bool, true, false, List, [], ◌∷◌, ◌++◌, if◌then◌else◌, ⊤, Option, Some, None, IsSomeAnd, MatchOption, Result, Ok, Err, nat_lt}
+use Rattle.std.specs.Prelude.{ℕ, ℤ, pos, ◌≡◌, ◌≢◌, ◌+◌, ◌+ℤ◌, ◌-ℤ◌, ◌≤ℤ◌, ◌≤◌, ◌==◌, ◌⊎◌, Bool, false, List, [], ◌∷◌, ◌++◌, if◌then◌else◌, ⊤, Option, Some, None, IsSomeAnd, MatchOption, Result, Ok, Err, nat_lt}
 use Rattle.std.specs.List.{list_any, AllByRecursion}
 use Rattle.std.specs.Ordering.{is_gt, int_cmp}
 use Rattle.source_checkpoint.specs.declared.span.Span.{Span}

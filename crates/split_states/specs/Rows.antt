@@ -1,5 +1,5 @@
 -- The rows: which split files there are, how each stands, and what an entry changes in them.
-use Rattle.std.specs.Prelude.{ℕ, ◌≡◌, ◌+◌, ◌<◌, ◌==◌, Bool, true, false, not, List, [], ◌∷◌, ◌++◌, map, filter, find, flat_map, max, fold, length, if◌then◌else◌, Option, Some, None, slice_get, slice_set, slice_index_or}
+use Rattle.std.specs.Prelude.{ℕ, ◌≡◌, ◌+◌, ◌<◌, ◌==◌, ◌&&◌, Bool, true, false, not, List, [], ◌∷◌, map, filter, find, flat_map, max, fold, length, if◌then◌else◌, Option, Some, None, slice_get, slice_set, slice_index_or, nat_le, IsTrue, All}
 use Rattle.source_checkpoint.specs.declared.delta.Part.{Part}
 use Rattle.source_checkpoint.specs.declared.span.Span.{Span}
 use Rattle.source_checkpoint.specs.Deltas.{range_of, raised}
@@ -76,8 +76,32 @@ merged_ops rows [] = 0
 merged_ops rows (n ∷ []) = ops_of (row_at rows n)
 merged_ops rows (n ∷ m ∷ numbers) = fold (λ most k. max most (ops_of (row_at rows k))) 0 (n ∷ m ∷ numbers) + 1
 
+-- the first is this at least, and each is above the one before it
+abbrev pub rising_from : (least : ℕ) → List ℕ → Bool
+rising_from least [] = true
+rising_from least (n ∷ numbers) = nat_le least n && rising_from (n + 1) numbers
+
+abbrev pub rising : List ℕ → Bool
+rising numbers = rising_from 0 numbers
+
+abbrev pub row_numbers : List Row → List ℕ
+row_numbers rows = map (λ row. row.number) rows
+
+-- the numbers of the rows rise
+abbrev pub RowsRise : List Row → Type 0
+RowsRise rows = IsTrue (rising (row_numbers rows))
+
+-- the number is above those of the rows
+abbrev pub IsAbove : List Row → ℕ → Type 0
+IsAbove rows n = All (λ row. row.number < n) rows
+
 -- the place of a number's row
 pub record IsPlace (rows : List Row) (n i : ℕ) : Type 0 where
   pub within : i < length rows
   pub found : row_at rows n ≡ slice_get rows i
   pub changed : (f : Row → Row) (d : Row) → change n f rows ≡ slice_set rows i (f (slice_index_or rows i d))
+
+-- no row has the number
+pub record IsAbsent (rows : List Row) (n : ℕ) : Type 0 where
+  pub found : row_at rows n ≡ None
+  pub changed : (f : Row → Row) → change n f rows ≡ rows

@@ -1,10 +1,10 @@
 //! Which change a row allows. No call here takes memory.
 
 ghost use Rattle.std.specs.Prelude.{◌≡◌, [], option_copied};
-ghost use Rattle.split_states.specs.Answers.{answer_to_publish, answer_to_new, answer_to_raise, answer_to_old, answer_to_each_old, answer_to_replace, answer_to_mark, answer_to_remove, answer_to_retire, answer_to_grace, answer_to_age, Repeats};
+ghost use Rattle.split_states.specs.Answers.{answer_to_publish, answer_to_new, answer_to_raise, answer_to_each_old, answer_to_replace, answer_to_mark, answer_to_remove, answer_to_retire, answer_to_grace, answer_to_age};
 
 use crate::facts::RowFacts;
-use crate::numbers::Numbers;
+use crate::numbers::{Numbers, is_repeated, rise};
 use crate::refusal::StateRefusal;
 use crate::rows::{Row, RowState, Rows};
 
@@ -36,21 +36,16 @@ fn may_aim(rows: &Rows, number: u64) -> Result<(), StateRefusal>
     }
 }
 
-/// Whether a row may be replaced, behind those that are named before it.
-fn may_be_old(rows: &Rows, before: &[u64], number: u64) -> Result<(), StateRefusal>
-    ensures { result ≡ answer_to_old rows.now.list before.now number }
-{
-    if before.contains(&number) {
-        return Err(StateRefusal::DoubledRow { number });
-    }
-    may_raise(rows, number)
-}
-
+/// Whether each of these rows may be replaced.
 fn may_be_each_old(rows: &Rows, old: &[u64]) -> Result<(), StateRefusal>
     ensures { result ≡ answer_to_each_old rows.now.list [] old.now }
 {
+    let in_order = rise(old);
     for (i, number) in old.iter().enumerate() {
-        may_be_old(rows, &old[..i], *number)?;
+        if is_repeated(old, in_order, i) {
+            return Err(StateRefusal::DoubledRow { number: *number });
+        }
+        may_raise(rows, *number)?;
     }
     Ok(())
 }

@@ -2,10 +2,10 @@
 
 ghost use Rattle.std.specs.Prelude.{◌≡◌, ◌+◌, ◌<◌, ◌≤◌, ◌^◌, ◌++◌, ◌∷◌, [], length, max, fold, map, option_copied, slice_get, Some, OnOk, OnErr, IfOk, IfNone, IfSome, vec_len, vec_capacity};
 ghost use Rattle.source_checkpoint.specs.Deltas.{raised};
-ghost use Rattle.split_states.specs.Rows.{row_at, row_spans, row_ranges, change, change_each, without, without_each, joined_spans, published, marked, raised_row, replacing, ops_of, merged_ops, Row, IsPlace};
+ghost use Rattle.split_states.specs.Rows.{row_at, row_spans, row_ranges, change, change_each, without_each, joined_spans, published, marked, raised_row, replacing, ops_of, merged_ops, Row, RowsRise, IsAbove, IsPlace, IsAbsent};
 
 use crate::facts::RowFacts;
-use crate::numbers::Numbers;
+use crate::numbers::{Numbers, is_among, rise};
 use source_checkpoint::{Span, Spans};
 use std::alloc::{AllocError, Global};
 use std::marker::Model;
@@ -31,7 +31,7 @@ pub struct Row {
     pub merge_ops: u64,
 }
 
-/// The rows, in the order in which they were staged.
+/// The rows, in the order in which they were staged: their numbers rise.
 #[derive(Debug, Drop)]
 pub struct Rows {
     list: Vec<Row>,
@@ -39,35 +39,42 @@ pub struct Rows {
 
 impl Model for Rows {
     ghost use Rattle.std.specs.Prelude.{◌-◌, vec_len, vec_capacity};
-    ghost use Rattle.split_states.specs.Rows.{RowList};
+    ghost use Rattle.split_states.specs.Rows.{RowList, RowsRise};
 
     ghost Value = { RowList };
 
     ghost view = { λ r. record { list = r.list.items; spare = vec_capacity r.list - vec_len r.list } };
-}
 
-/// The row of a number.
-fn find_row(rows: &[Row], number: u64) -> Option<&Row>
-    ensures { option_copied result ≡ row_at rows.now number }
-{
-    rows.iter().find(|row| row.number == number)
+    ghost invariant = { λ r. RowsRise r.list.items };
 }
 
 /// The place of a number's row.
 fn place_of(rows: &[Row], number: u64) -> Option<usize>
-    ensures none { IfNone result ((f : Row → Row) → change number f rows.now ≡ rows.now) }
+    requires { RowsRise rows.now }
+    ensures none { IfNone result (IsAbsent rows.now number) }
     ensures some { IfSome result (IsPlace rows.now number) }
 {
-    for (i, row) in rows.iter().enumerate() {
-        if row.number == number {
-            return Some(i);
-        }
+    match rows.binary_search_by(|row| row.number.cmp(&number)) {
+        Ok(i) => Some(i),
+        Err(_) => None,
     }
-    None
+}
+
+/// The row of a number.
+fn find_row(rows: &[Row], number: u64) -> Option<&Row>
+    requires { RowsRise rows.now }
+    ensures { option_copied result ≡ row_at rows.now number }
+{
+    match place_of(rows, number) {
+        None => None,
+        Some(i) => Some(&rows[i]),
+    }
 }
 
 fn publish_row(rows: &mut [Row], number: u64)
-    ensures { rows.new ≡ change number published rows.old }
+    requires { RowsRise rows.old }
+    ensures rows { rows.new ≡ change number published rows.old }
+    ensures order { RowsRise rows.new }
 {
     if let Some(i) = place_of(rows, number) {
         rows[i].state = RowState::Published;
@@ -75,7 +82,9 @@ fn publish_row(rows: &mut [Row], number: u64)
 }
 
 fn mark_row(rows: &mut [Row], number: u64, moment: u64)
-    ensures { rows.new ≡ change number (marked moment) rows.old }
+    requires { RowsRise rows.old }
+    ensures rows { rows.new ≡ change number (marked moment) rows.old }
+    ensures order { RowsRise rows.new }
 {
     if let Some(i) = place_of(rows, number) {
         let row = &mut rows[i];
@@ -85,7 +94,9 @@ fn mark_row(rows: &mut [Row], number: u64, moment: u64)
 }
 
 fn mark_rows(rows: &mut [Row], numbers: &[u64], moment: u64)
-    ensures { rows.new ≡ change_each numbers.now (marked moment) rows.old }
+    requires { RowsRise rows.old }
+    ensures rows { rows.new ≡ change_each numbers.now (marked moment) rows.old }
+    ensures order { RowsRise rows.new }
 {
     for number in numbers {
         mark_row(rows, *number, moment);
@@ -93,7 +104,9 @@ fn mark_rows(rows: &mut [Row], numbers: &[u64], moment: u64)
 }
 
 fn raise_row(rows: &mut [Row], number: u64, upto: u64)
-    ensures { rows.new ≡ change number (raised_row upto) rows.old }
+    requires { RowsRise rows.old }
+    ensures rows { rows.new ≡ change number (raised_row upto) rows.old }
+    ensures order { RowsRise rows.new }
 {
     if let Some(i) = place_of(rows, number) {
         rows[i].spans.raise(upto);
@@ -101,7 +114,9 @@ fn raise_row(rows: &mut [Row], number: u64, upto: u64)
 }
 
 fn replace_row(rows: &mut [Row], number: u64, spans: Spans, merge_ops: u64)
-    ensures { rows.new ≡ change number (replacing spans merge_ops) rows.old }
+    requires { RowsRise rows.old }
+    ensures rows { rows.new ≡ change number (replacing spans merge_ops) rows.old }
+    ensures order { RowsRise rows.new }
 {
     if let Some(i) = place_of(rows, number) {
         let row = &mut rows[i];
@@ -121,6 +136,7 @@ fn ops(row: Option<&Row>) -> u64
 }
 
 fn greatest_ops(rows: &[Row], numbers: &[u64]) -> u64
+    requires { RowsRise rows.now }
     ensures { result ≡ fold (λ most k. max most (ops_of (row_at rows.now k))) 0 numbers.now }
 {
     let mut most = 0;
@@ -131,7 +147,8 @@ fn greatest_ops(rows: &[Row], numbers: &[u64]) -> u64
 }
 
 fn merged(rows: &[Row], numbers: &[u64]) -> u64
-    requires { merged_ops rows.now numbers.now < 2 ^ 64 }
+    requires order { RowsRise rows.now }
+    requires fits { merged_ops rows.now numbers.now < 2 ^ 64 }
     ensures { result ≡ merged_ops rows.now numbers.now }
 {
     match numbers {
@@ -141,18 +158,14 @@ fn merged(rows: &[Row], numbers: &[u64]) -> u64
     }
 }
 
-fn drop_row(rows: &mut Vec<Row>, number: u64)
-    ensures { rows.new.items ≡ without number rows.old.items }
-{
-    rows.retain(|row| row.number != number);
-}
-
+/// In one pass over the rows.
 fn drop_rows(rows: &mut Vec<Row>, numbers: &[u64])
-    ensures { rows.new.items ≡ without_each numbers.now rows.old.items }
+    requires { RowsRise rows.old.items }
+    ensures rows { rows.new.items ≡ without_each numbers.now rows.old.items }
+    ensures order { RowsRise rows.new.items }
 {
-    for number in numbers {
-        drop_row(rows, *number);
-    }
+    let in_order = rise(numbers);
+    rows.retain(|row| !is_among(numbers, in_order, row.number));
 }
 
 /// Copies of these spans at the end.
@@ -166,6 +179,7 @@ fn copy_spans(into: &mut Vec<Span>, spans: &[Span]) -> Result<(), AllocError>
 }
 
 fn joined(alloc: Global, rows: &[Row], numbers: &[u64]) -> Result<Vec<Span>, AllocError>
+    requires { RowsRise rows.now }
     ensures { IfOk result (λ spans. spans.items ≡ joined_spans rows.now numbers.now) }
 {
     let mut spans = Vec::new(alloc);
@@ -222,19 +236,11 @@ impl Rows {
 
     /// A row more at the end, for which there is room.
     pub fn stage(&mut self, row: Row)
-        requires { 0 < self.old.spare }
+        requires room { 0 < self.old.spare }
+        requires above { IsAbove self.old.list row.number }
         ensures { self.new.list ≡ self.old.list ++ row ∷ [] }
     {
         self.list.push_reserved(row);
-    }
-
-    /// A row more at the end.
-    pub fn push(&mut self, row: Row) -> Result<(), AllocError>
-        ensures ok { OnOk result (self.new.list ≡ self.old.list ++ row ∷ []) }
-        ensures err { OnErr result (self.new.list ≡ self.old.list) }
-    {
-        self.list.push(row)?;
-        Ok(())
     }
 
     /// The row of this number is Published.

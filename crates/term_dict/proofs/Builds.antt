@@ -3,12 +3,13 @@ use Rattle.std.proofs.Common.{◌≡◌, ◌≢◌, ℕ, zero, suc, ◌+◌, ◌
 use Rattle.std.specs.Prelude.{slice_get}
 use Rattle.std.specs.List.{AllByRecursion}
 use Rattle.std.proofs.lemmas.Bool.{cases_lt, eqb-true, eqb-false}
-use Rattle.std.proofs.lemmas.List.{append-nil, take_more, take_all}
+use Rattle.std.proofs.lemmas.List.{append-nil, take_at, take-append-le, take_more, take_all}
 use Rattle.std.proofs.lemmas.Option.{get_or_from_slice_get, slice_get_within}
 use Rattle.term_dict.specs.Terms.{Fits, IsRising, IsDict, area, term_bytes}
 use Rattle.term_dict.specs.Blocks.{with_block}
 use Rattle.term_dict.specs.declared.term.Term.{Term}
 use Rattle.term_dict.specs.declared.index.BlockStart.{BlockStart}
+use Rattle.term_dict.proofs.Areas.{term_some}
 use Rattle.term_dict.proofs.Starts.{area-append}
 
 abbrev pub Indexes : List BlockStart → List Term → ℕ → Type 0
@@ -25,12 +26,12 @@ pub record IsBuilt (bytes : List ℕ) (index : List BlockStart) (terms : List Te
 pub none_built : (terms : List Term) → IsBuilt [] [] terms 0
 none_built terms = record { bytes_are = refl; count = refl; each = λ b t lt e. absurd (omega arith); fits = tt }
 
-get_front : (index : List BlockStart) (y : BlockStart) (b : ℕ) → b < length index → slice_get (index ++ y ∷ []) b ≡ slice_get index b
+get_front : {X : Type 0} (index : List X) (y : X) (b : ℕ) → b < length index → slice_get (index ++ y ∷ []) b ≡ slice_get index b
 get_front [] y b lt = absurd (omega arith)
 get_front (x ∷ xs) y zero lt = refl
 get_front (x ∷ xs) y (suc b) lt = get_front xs y b (omega arith)
 
-get_last : (index : List BlockStart) (y : BlockStart) (b : ℕ) → b ≡ length index → slice_get (index ++ y ∷ []) b ≡ Some y
+get_last : {X : Type 0} (index : List X) (y : X) (b : ℕ) → b ≡ length index → slice_get (index ++ y ∷ []) b ≡ Some y
 get_last [] y b e = rw e refl
 get_last (x ∷ xs) y zero e = absurd (omega arith)
 get_last (x ∷ xs) y (suc b) e = get_last xs y b (omega arith)
@@ -98,3 +99,30 @@ all_built bytes index terms n built le ge rising =
         each = λ b t get. built.each b t (omega (arith, slice_get_within terms (64 * b) t get)) get;
       };
     }
+
+-- ---- a term behind a dictionary
+
+built_of : (bytes : List ℕ) (index : List BlockStart) (terms : List Term) (t : Term) → IsDict bytes index terms → IsBuilt bytes index (terms ++ t ∷ []) (length terms)
+built_of bytes index terms t d =
+    let front : take (length terms) (terms ++ t ∷ []) ≡ terms = take_at terms (t ∷ []) (length terms) refl in
+    record {
+      bytes_are = d.area_is ∙ ap (λ (l : List Term). area l) (sym front);
+      count = d.index_is.count;
+      each = λ b u lt get.
+          d.index_is.each b u (sym (get_front terms t (64 * b) lt) ∙ get)
+          ∙ ap (λ (l : List Term). Some (block u.key (length (area l)))) (sym (take-append-le (64 * b) terms (t ∷ []) (omega arith)));
+      fits = rw front d.are_terms.fits;
+    }
+
+pub one_taken : (bytes next : List ℕ) (index blocks : List BlockStart) (terms : List Term) (t : Term) → IsDict bytes index terms → IsRising (terms ++ t ∷ [])
+    → blocks ≡ with_block index (length terms) t.key (length bytes) → next ≡ bytes ++ term_bytes t → Fits t → IsDict next blocks (terms ++ t ∷ [])
+one_taken bytes next index blocks terms t d rising blocks_are next_is fits =
+    let size = length-append terms (t ∷ []) in
+    all_built next blocks (terms ++ t ∷ []) (length terms + 1)
+    (one_built bytes next index blocks (terms ++ t ∷ []) (length terms) t (built_of bytes index terms t d) (omega (arith, size)) (get_last terms t (length terms) refl) blocks_are next_is fits)
+    (omega (arith, size)) (omega (arith, size)) rising
+
+-- a term takes a byte at least
+pub count_within : (terms : List Term) → length terms ≤ length (area terms)
+count_within [] = omega arith
+count_within (t ∷ ts) = omega (arith, count_within ts, term_some t, length-append (term_bytes t) (area ts))

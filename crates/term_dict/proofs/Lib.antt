@@ -9,3 +9,4 @@ pub mod Lending
 pub mod Builds
 pub mod Rises
 pub mod Walking
+pub mod BoundsLemmas

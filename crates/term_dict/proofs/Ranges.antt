@@ -9,7 +9,7 @@ use Rattle.term_dict.specs.declared.term.Term.{Term}
 use Rattle.term_dict.proofs.Orders.{below_then, at_most_below, below_not}
 
 -- what a test refuses of all keys is not there
-none_wanted : (wanted : List ℕ → Bool) (ts : List Term) → AllByRecursion (λ t. wanted t.key ≡ false) ts → filter (λ t. wanted t.key) ts ≡ []
+pub none_wanted : (wanted : List ℕ → Bool) (ts : List Term) → AllByRecursion (λ t. wanted t.key ≡ false) ts → filter (λ t. wanted t.key) ts ≡ []
 none_wanted wanted [] h = refl
 none_wanted wanted (t ∷ ts) h = rw h.0 (none_wanted wanted ts h.1)
 
@@ -102,7 +102,7 @@ before_prefix (y ∷ ys) (x ∷ xs) e = elim (cases_eq y x) [
 ]
 
 -- behind a key that does not begin with the prefix, and is not before it, no key does
-behind_prefix : (prefix k m : List ℕ) → is_below k prefix ≡ false → starts_with nat_eq k prefix ≡ false → is_below k m ≡ true → starts_with nat_eq m prefix ≡ false
+pub behind_prefix : (prefix k m : List ℕ) → is_below k prefix ≡ false → starts_with nat_eq k prefix ≡ false → is_below k m ≡ true → starts_with nat_eq m prefix ≡ false
 behind_prefix [] k m from other lt = absurd cc
 behind_prefix (y ∷ ys) [] m from other lt = absurd cc
 behind_prefix (y ∷ ys) (x ∷ xs) [] from other lt = absurd cc

@@ -9,7 +9,8 @@ use Rattle.byte_fields.specs.Reading.{varint_part, varint_at, bytes_at}
 use Rattle.term_dict.specs.Keys.{order, is_below}
 use Rattle.term_dict.specs.declared.term.Term.{Term}
 use Rattle.term_dict.specs.declared.term.TermInfo.{TermInfo}
-use Rattle.term_dict.specs.Reading.{◌>>=◌, corrupt, term_at, said_at, Stand, Passes, is_term_below, Walks, place_there, info_there}
+use Rattle.byte_fields.specs.Steps.{◌>>=◌, corrupt}
+use Rattle.term_dict.specs.Reading.{term_at, said_at, Stand, Passes, is_term_below, Walks, place_there, info_there}
 
 abbrev pub placed : ℕ → Result ℕ Corrupt
 placed at = Ok at

@@ -3,7 +3,8 @@ use Rattle.std.specs.Prelude.{◌≡◌, ℕ, ◌+◌, ◌-◌, ◌≤◌, min, 
 use Rattle.byte_fields.specs.declared.corrupt.Corrupt.{Corrupt}
 use Rattle.term_dict.specs.Keys.{is_below}
 use Rattle.term_dict.specs.Readers.{is_before_end}
-use Rattle.term_dict.specs.Reading.{corrupt, Walks, place_there}
+use Rattle.byte_fields.specs.Steps.{corrupt}
+use Rattle.term_dict.specs.Reading.{Walks, place_there}
 use Rattle.term_dict.specs.declared.index.BlockStart.{BlockStart}
 use Rattle.term_dict.specs.declared.dict.Dict.{Dict}
 use Rattle.term_dict.specs.declared.range.TermRange.{TermRange}
@@ -25,17 +26,18 @@ abbrev pub start_or : ℕ → Option BlockStart → ℕ
 start_or end (Some block) = block.start
 start_or end None = end
 
--- where the index has the block with a number start; behind the last block the area ends
-abbrev pub start_at : List ℕ → List BlockStart → ℕ → ℕ
-start_at bytes index number = start_or (length bytes) (slice_get index number)
+-- where the index has the block with a number start; behind the last block the area ends, which has so many bytes
+abbrev pub start_at : ℕ → List BlockStart → ℕ → ℕ
+start_at size index number = start_or size (slice_get index number)
 
--- a block has bytes, and they are within the area
-abbrev pub block_between : List ℕ → ℕ → ℕ → Result (ℕ × ℕ) Corrupt
-block_between bytes start end = if nat_lt start end && nat_le end (length bytes) then Ok (start, end) else Err (corrupt (min start (length bytes)))
+-- a block has bytes, and they are within the area of so many bytes
+abbrev pub block_between : ℕ → ℕ → ℕ → Result (ℕ × ℕ) Corrupt
+block_between size start end = if nat_lt start end && nat_le end size then Ok (start, end) else Err (corrupt (min start size))
 
 -- from where to where the last of so many blocks stands; where there is none, no bytes
 abbrev pub last_block : List ℕ → List BlockStart → ℕ → Result (ℕ × ℕ) Corrupt
-last_block bytes index count = if count == 0 then Ok (0, 0) else block_between bytes (start_at bytes index (count - 1)) (start_at bytes index count)
+last_block bytes index count =
+    if count == 0 then Ok (0, 0) else block_between (length bytes) (start_at (length bytes) index (count - 1)) (start_at (length bytes) index count)
 
 -- the block that the index gives for a key
 pub record IsChosen (bytes : List ℕ) (index : List BlockStart) (key : List ℕ) (block : Result (ℕ × ℕ) Corrupt) : Type 0 where
@@ -59,12 +61,17 @@ abbrev pub place_of_range : Result TermRange Corrupt → Result ℕ Corrupt
 place_of_range (Ok r) = Ok r.at
 place_of_range (Err c) = Err c
 
--- a range over the whole area, up to the first key that fails a test
-pub record IsRangeOver (d : Dict) (before_end : List ℕ → Bool) (r : TermRange) : Type 0 where
-  pub area : r.area.now ≡ d.area.now
+-- a range over these bytes, up to the first key that fails a test
+pub record IsRangeOver (bytes : List ℕ) (before_end : List ℕ → Bool) (r : TermRange) : Type 0 where
+  pub area : r.area.now ≡ bytes
   pub end : (key : List ℕ) → is_before_end r.end key ≡ before_end key
 
 -- a range from the end of a walk on
 pub record StartsRange (d : Dict) (low : List ℕ) (before_end : List ℕ → Bool) (result : Result TermRange Corrupt) : Type 0 where
   pub place : WalksDict d low place_there (place_of_range result)
-  pub range : IfOk result (IsRangeOver d before_end)
+  pub range : IfOk result (IsRangeOver d.area.now before_end)
+
+-- the same in a block
+pub record StartsInBlock (bytes low : List ℕ) (before_end : List ℕ → Bool) (result : Result TermRange Corrupt) : Type 0 where
+  pub place : Walks bytes 0 low place_there (place_of_range result)
+  pub range : IfOk result (IsRangeOver bytes before_end)

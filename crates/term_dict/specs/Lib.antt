@@ -5,4 +5,6 @@ pub mod Blocks
 pub mod Readers
 pub mod Reading
 pub mod Chosen
+pub mod Bounds
 pub mod Lent
+pub mod Builders

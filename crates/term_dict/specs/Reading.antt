@@ -2,31 +2,12 @@
 use Rattle.std.specs.Prelude.{◌≡◌, ℕ, ◌^◌, Bool, true, false, List, [], ◌∷◌, length, Option, Some, None, Result, Ok, Err, nat_lt, ◌==◌, if◌then◌else◌}
 use Rattle.std.specs.List.{AllByRecursion}
 use Rattle.std.specs.Ordering.{is_eq}
-use Rattle.byte_fields.specs.declared.field_error.FieldError.{FieldError}
 use Rattle.byte_fields.specs.declared.corrupt.Corrupt.{Corrupt}
-use Rattle.byte_fields.specs.Places.{place_of}
+use Rattle.byte_fields.specs.Steps.{◌>>=◌, corrupt, field}
 use Rattle.byte_fields.specs.Reading.{varint_at, bytes_at}
 use Rattle.term_dict.specs.Keys.{order, is_below}
 use Rattle.term_dict.specs.declared.term.Term.{Term}
 use Rattle.term_dict.specs.declared.term.TermInfo.{TermInfo}
-
-infixl 10 ◌>>=◌
-abbrev pub ◌>>=◌ : {A B : Type 0} → Result A Corrupt → (A → Result B Corrupt) → Result B Corrupt
-(Ok x) >>= f = f x
-(Err c) >>= f = Err c
-
-abbrev pub corrupt : ℕ → Corrupt
-corrupt place = record { at = place }
-
--- a field of a term
-abbrev pub field : {A : Type 0} → Result A FieldError → Result A Corrupt
-field (Ok x) = Ok x
-field (Err e) = Err (corrupt (place_of e))
-
--- what a function returned, seen by view, is what reading gives
-abbrev pub Gives : {X Y : Type 0} → (X → Y) → Result X Corrupt → Result Y Corrupt → Type 0
-Gives view (Ok x) read = read ≡ Ok (view x)
-Gives view (Err c) read = read ≡ Err c
 
 -- ---- a term
 

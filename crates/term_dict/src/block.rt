@@ -1,11 +1,16 @@
-ghost use Rattle.std.specs.Prelude.{◌≡◌, ◌≢◌, ◌≤◌, ◌<◌, ◌++◌, [], List, ℕ, length, drop, IfOk, IsOkAnd, Ok};
-ghost use Rattle.term_dict.specs.Reading.{Gives, Walks, block_of, info_at, term_at, place_there, info_there};
+ghost use Rattle.std.specs.Prelude.{◌≡◌, ◌≢◌, ◌≤◌, ◌<◌, ◌++◌, ◌&&◌, [], List, ℕ, length, drop, filter, not, nat_eq, IfOk, IsOkAnd, Ok};
+ghost use Rattle.std.specs.List.{starts_with};
+ghost use Rattle.term_dict.specs.Keys.{is_below};
+ghost use Rattle.term_dict.specs.Chosen.{StartsInBlock};
+ghost use Rattle.byte_fields.specs.Steps.{Gives};
+ghost use Rattle.term_dict.specs.Reading.{Walks, block_of, info_at, term_at, place_there, info_there};
 ghost use Rattle.term_dict.specs.Terms.{AreTerms, Fits, area, term_bytes, info_bytes, lookup, from_key};
-ghost use Rattle.term_dict.specs.Readers.{IsReadTerm, term_of};
+ghost use Rattle.term_dict.specs.Readers.{IsReadTerm, Lends, term_of};
 ghost use Rattle.term_dict.specs.declared.term.Term.{Term};
 
-use crate::TermInfo;
 use crate::index::{is_below, is_same};
+use crate::range::End;
+use crate::{TermInfo, TermRange};
 use byte_fields::{Corrupt, take_bytes, take_varint};
 
 /// The terms of one block, in bytes.
@@ -36,6 +41,36 @@ impl<'a> Block<'a> {
         ensures exact { Walks self.now.bytes.now 0 key.now (info_there key.now) result }
     {
         find_from(self.bytes, 0, key)
+    }
+
+    /// The terms of the block whose keys begin with a prefix.
+    pub fn prefix_range(self, prefix: &'a [u8]) -> Result<TermRange<'a>, Corrupt>
+        ensures only { (terms : List Term) → IsBlock self.entry terms
+            → IsOkAnd result (λ r. Lends r (filter (λ t. starts_with nat_eq t.key prefix.now) terms)) }
+        // Over any bytes: the range begins where the walk to the prefix ends, unless a fault stands there.
+        ensures exact { StartsInBlock self.entry.bytes.now prefix.now (λ k. starts_with nat_eq k prefix.now) result }
+    {
+        let at = scan(self.bytes, 0, prefix)?;
+        Ok(TermRange {
+            area: self.bytes,
+            at,
+            end: End::Prefix(prefix),
+        })
+    }
+
+    /// The terms of the block from the key `low` up to and without the key `high`.
+    pub fn key_range(self, low: &[u8], high: &'a [u8]) -> Result<TermRange<'a>, Corrupt>
+        ensures only { (terms : List Term) → IsBlock self.entry terms
+            → IsOkAnd result (λ r. Lends r (filter (λ t. not (is_below t.key low.now) && is_below t.key high.now) terms)) }
+        // Over any bytes: the range begins where the walk to the low key ends, unless a fault stands there.
+        ensures exact { StartsInBlock self.entry.bytes.now low.now (λ k. is_below k high.now) result }
+    {
+        let at = scan(self.bytes, 0, low)?;
+        Ok(TermRange {
+            area: self.bytes,
+            at,
+            end: End::Below(high),
+        })
     }
 }
 

@@ -4,7 +4,8 @@ ghost use Rattle.term_dict.specs.Keys.{is_below};
 ghost use Rattle.term_dict.specs.Terms.{IsDict, area, lookup, from_key};
 ghost use Rattle.term_dict.specs.Blocks.{IsAround};
 ghost use Rattle.term_dict.specs.Readers.{Lends};
-ghost use Rattle.term_dict.specs.Reading.{Gives, place_there, info_there};
+ghost use Rattle.byte_fields.specs.Steps.{Gives};
+ghost use Rattle.term_dict.specs.Reading.{place_there, info_there};
 ghost use Rattle.term_dict.specs.Chosen.{dict_of, start_at, IsChosen, WalksDict, StartsRange};
 ghost use Rattle.term_dict.specs.declared.index.BlockStart.{BlockStart};
 ghost use Rattle.term_dict.specs.declared.term.Term.{Term};
@@ -50,7 +51,7 @@ impl<'a> Dict<'a> {
     }
 
     /// The terms whose keys begin with a prefix.
-    pub fn prefix_range<'b>(&'b self, prefix: &'b [u8]) -> Result<TermRange<'b>, Corrupt>
+    pub fn prefix_range(&self, prefix: &'a [u8]) -> Result<TermRange<'a>, Corrupt>
         ensures only { (terms : List Term) → IsOver self.now terms
             → IsOkAnd result (λ r. Lends r (filter (λ t. starts_with nat_eq t.key prefix.now) terms)) }
         // Over any bytes: the range begins where the walk to the prefix ends, unless a fault stands there.
@@ -65,7 +66,7 @@ impl<'a> Dict<'a> {
     }
 
     /// The terms from the key `low` up to and without the key `high`.
-    pub fn key_range<'b>(&'b self, low: &[u8], high: &'b [u8]) -> Result<TermRange<'b>, Corrupt>
+    pub fn key_range(&self, low: &[u8], high: &'a [u8]) -> Result<TermRange<'a>, Corrupt>
         ensures only { (terms : List Term) → IsOver self.now terms
             → IsOkAnd result (λ r. Lends r (filter (λ t. not (is_below t.key low.now) && is_below t.key high.now) terms)) }
         // Over any bytes: the range begins where the walk to the low key ends, unless a fault stands there.
@@ -96,29 +97,10 @@ impl<'a> Dict<'a> {
         ensures only { (terms : List Term) → IsOver self.now terms → IsOkAnd result (λ x. IsAround self.now.area.now terms key.now x.0 x.1) }
         ensures exact { IsChosen self.now.area.now self.now.index.now key.now result }
     {
-        let count = self.index.count_up_to(key);
-        if count == 0 {
+        let Some(number) = self.index.block_of(key) else {
             return Ok((0, 0));
-        }
-        let start = self.start_of(count - 1);
-        let end = self.start_of(count);
-        if start >= end || end > self.area.len() {
-            return Err(Corrupt {
-                at: start.min(self.area.len()),
-            });
-        }
-        Ok((start, end))
-    }
-
-    // Where a block starts, or the end behind the last one.
-    fn start_of(&self, number: usize) -> usize
-        requires { number ≤ length self.now.index.now }
-        ensures only { (terms : List Term) → IsOver self.now terms → result ≡ length (area (take (64 * number) terms)) }
-        ensures exact { result ≡ start_at self.now.area.now self.now.index.now number }
-    {
-        if number == self.index.len() {
-            return self.area.len();
-        }
-        self.index.at(number).start as usize
+        };
+        let (start, end) = self.index.place_of(number, self.area.len() as u64)?;
+        Ok((start as usize, end as usize))
     }
 }

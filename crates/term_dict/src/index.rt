@@ -1,5 +1,6 @@
 ghost use Rattle.std.specs.Prelude.{◌≡◌, ◌≤◌, ◌<◌, ◌+◌, ◌++◌, [], ◌∷◌, length, OnOk, OnErr, Some, slice_get, IsTrue, ◌↔◌, ℕ, true, false};
 ghost use Rattle.term_dict.specs.Keys.{order, is_below};
+ghost use Rattle.term_dict.specs.Bounds.{is_in_front, AreInFront};
 ghost use Rattle.std.specs.Ordering.{is_eq};
 
 use byte_fields::Bytes;
@@ -76,25 +77,55 @@ impl BlockIndex {
             → is_below key.now block.first ≡ false }
         ensures behind { (block : BlockStart) → slice_get self.now result ≡ Some block → is_below key.now block.first ≡ true }
     {
+        self.count_before(Edge::UpTo(key))
+    }
+
+    // How many blocks stand in front of an edge, found by halves.
+    pub(crate) fn count_before(&self, edge: Edge) -> usize
+        ensures { AreInFront self.now (is_in_front edge.entry) result }
+    {
         let mut low = 0;
         let mut high = self.len();
         while low < high {
             let middle = low + (high - low) / 2;
-            if self.is_before(key, middle) {
-                high = middle;
-            } else {
+            if self.is_before(&edge, middle) {
                 low = middle + 1;
+            } else {
+                high = middle;
             }
         }
         low
     }
 
-    // Whether a key stands before the first key of a block.
-    fn is_before(&self, key: &[u8], number: usize) -> bool
+    // Whether a block stands in front of an edge.
+    fn is_before(&self, edge: &Edge, number: usize) -> bool
         requires { number < length self.now }
-        ensures { (block : BlockStart) → slice_get self.now number ≡ Some block → result ≡ is_below key.now block.first }
+        ensures { (block : BlockStart) → slice_get self.now number ≡ Some block → result ≡ is_in_front edge.now block.first }
     {
-        is_below(key, self.at(number).first.as_slice())
+        edge.has_before(self.at(number).first.as_slice())
+    }
+}
+
+/// Which blocks stand in front, by their first keys.
+#[derive(Clone, Copy, Debug)]
+pub(crate) enum Edge<'a> {
+    /// Those that begin up to a key.
+    UpTo(&'a [u8]),
+    /// Those that begin below a key.
+    Below(&'a [u8]),
+    /// Those that begin below the last key with a prefix.
+    Prefix(&'a [u8]),
+}
+
+impl Edge<'_> {
+    fn has_before(&self, first: &[u8]) -> bool
+        ensures { result ≡ is_in_front self.now first.now }
+    {
+        match self {
+            Edge::UpTo(key) => !is_below(key, first),
+            Edge::Below(high) => is_below(first, high),
+            Edge::Prefix(prefix) => is_below(first, prefix) || first.starts_with(prefix),
+        }
     }
 }
 

@@ -2,6 +2,7 @@
 #![tactic(auto)]
 
 mod block;
+mod bounds;
 mod build;
 mod dict;
 mod index;
@@ -9,7 +10,7 @@ mod range;
 mod term;
 
 pub use block::Block;
-pub use build::build_dict;
+pub use build::{DictBuilder, build_dict};
 pub use dict::Dict;
 pub use index::{BlockIndex, BlockStart};
 pub use range::TermRange;

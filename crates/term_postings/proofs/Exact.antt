@@ -5,7 +5,8 @@ use Rattle.std.proofs.lemmas.Bool.{lt-leb, le-leb}
 use Rattle.std.proofs.lemmas.Bool.Decides.{nat_tests}
 use Rattle.byte_fields.specs.declared.corrupt.Corrupt.{Corrupt}
 use Rattle.term_postings.specs.declared.moves.Head.{Head}
-use Rattle.term_postings.specs.Reading.{◌>>=◌, number_at, numbers_behind, head_at, heads_behind, Walk, left_by, step_of, next_of, unless, block_below, LeavesBlocks, Passes, Sought, kept}
+use Rattle.byte_fields.specs.Steps.{◌>>=◌, number_at}
+use Rattle.term_postings.specs.Reading.{numbers_behind, head_at, heads_behind, Walk, left_by, step_of, next_of, unless, block_below, LeavesBlocks, Passes, Sought, kept}
 
 -- so many numbers
 module _ (bytes : List ℕ) (count taken at : ℕ) (whole : Result ℕ Corrupt) (so_far : numbers_behind (count - taken) bytes at ≡ whole) where
@@ -83,9 +84,9 @@ is_sound None h = refl
 is_sound (Some x) h = absurd (h x refl)
 
 pub sought : (document : ℕ) (w start : Walk) (end : Result (Option ℕ × Walk) Corrupt) → w.source.fault ≡ None → LeavesBlocks document w (Ok start) → Passes document start end
-    → Sought document w.source.fault w (kept w.place end)
+    → Sought document w.source.fault w (kept w end)
 sought document w start end sound blocks seen = by_soundness w.source.fault sound
   where
-    by_soundness : (fault : Option Corrupt) → fault ≡ None → Sought document fault w (kept w.place end)
+    by_soundness : (fault : Option Corrupt) → fault ≡ None → Sought document fault w (kept w end)
     by_soundness None e = (Ok start, blocks, (end, seen, refl))
     by_soundness (Some x) e = absurd cc

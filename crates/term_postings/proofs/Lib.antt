@@ -5,3 +5,4 @@ pub mod Passes
 pub mod Walks
 pub mod Puts
 pub mod Exact
+pub mod Many

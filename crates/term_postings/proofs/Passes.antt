@@ -35,9 +35,9 @@ has_front c passed after p s =
     }
 
 -- a cursor of which some numbers were changed
-abbrev pub moved : (c : Cursor) (left passed head block at block_before before positions_block : ℕ) (place : Place)
+abbrev pub moved : (c : Cursor) (left passed head block at block_before before : ℕ) (given : Option ℕ) (positions_block : ℕ) (place : Place)
     → head ≤ length c.postings.now → block ≤ length c.postings.now → at ≤ length c.postings.now → passed ≤ 128 → Cursor
-moved c left passed head block at block_before before positions_block place h i j k = record {
+moved c left passed head block at block_before before given positions_block place h i j k = record {
   postings = c.postings;
   positions = c.positions;
   counted = c.counted;
@@ -49,6 +49,7 @@ moved c left passed head block at block_before before positions_block place h i 
   at = at;
   block_before = block_before;
   before = before;
+  given = given;
   positions_block = positions_block;
   place = place;
   head_within = h;
@@ -59,11 +60,11 @@ moved c left passed head block at block_before before positions_block place h i 
 
 -- ---- a document is passed
 
-pub pass_stands : (c : Cursor) (left passed at before : ℕ) (place : Place) (h : c.head ≤ length c.postings.now) (i : c.block ≤ length c.postings.now) (j : at ≤ length c.postings.now) (k : passed ≤ 128)
+pub pass_stands : (c : Cursor) (left passed at before : ℕ) (given : Option ℕ) (place : Place) (h : c.head ≤ length c.postings.now) (i : c.block ≤ length c.postings.now) (j : at ≤ length c.postings.now) (k : passed ≤ 128)
     (gone after : List Posting) (p : Posting) (s : StandsIn c gone (p ∷ after)) → left + 1 ≡ c.left → passed ≡ c.passed + 1 → before ≡ p.document
     → place.skipped ≡ c.place.skipped + c.place.count → place.count ≡ length p.positions → drop at c.postings.now ≡ document_bytes c.counted p.document after ++ s.behind_block
-    → StandsIn (moved c left passed c.head c.block at c.block_before before c.positions_block place h i j k) (gone ++ p ∷ []) after
-pass_stands c left passed at before place h i j k gone after p s left_is passed_is before_is skipped_is count_is here =
+    → StandsIn (moved c left passed c.head c.block at c.block_before before given c.positions_block place h i j k) (gone ++ p ∷ []) after
+pass_stands c left passed at before given place h i j k gone after p s left_is passed_is before_is skipped_is count_is here =
     let same : gone ++ (p ∷ after) ≡ (gone ++ p ∷ []) ++ after = sym (append_assoc gone (p ∷ []) after) in
     let count : position_count (p ∷ after) ≡ length p.positions + position_count after = length-append p.positions (flat_map (λ (q : Posting). q.positions) after) in
     record {
@@ -163,7 +164,7 @@ leaves c passed after h rest s head =
 pub leave_stands : (c : Cursor) (left block last positions_block : ℕ) (head : Head) (place : Place) (h : head.next ≤ length c.postings.now) (i : block ≤ length c.postings.now) (j : block ≤ length c.postings.now) (k : 0 ≤ 128)
     (passed after : List Posting) (rest : List ℕ) (s : StandsIn c passed after) (w : IsHeadOf c passed after head rest) → left + 128 ≡ c.left + c.passed → block ≡ c.block + head.len
     → last ≡ last_document c.block_before (take 128 (passed ++ after)) → positions_block ≡ c.positions_block + head.positions_len → place.skipped ≡ 0 → place.count ≡ 0
-    → StandsIn (moved c left 0 head.next block block last last positions_block place h i j k) [] (drop 128 (passed ++ after))
+    → StandsIn (moved c left 0 head.next block block last last c.given positions_block place h i j k) [] (drop 128 (passed ++ after))
 leave_stands c left block last positions_block head place h i j k passed after rest s w left_is block_is last_is positions_is skipped_is count_is =
     let ps = passed ++ after in
     let behind = rest_behind c.counted c.block_before (passed ++ after) s.are_behind in

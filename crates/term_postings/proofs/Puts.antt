@@ -1,9 +1,11 @@
 -- Documents and positions put one behind the other.
-use Rattle.std.proofs.Common.{◌≡◌, ℕ, ◌-◌, ◌^◌, ◌<◌, ◌≤◌, Bool, List, [], ◌∷◌, ◌++◌, length, take, drop, refl, sym, ◌∙◌, ap, subst, arith, append_assoc, length-append}
+use Rattle.std.proofs.Common.{◌≡◌, ℕ, ◌-◌, ◌^◌, ◌<◌, ◌≤◌, Bool, List, [], ◌∷◌, ◌++◌, zero, suc, ◌+◌, length, take, drop, get_or, refl, sym, ◌∙◌, ap, subst, arith, append_assoc, length-append, length-drop, suc-add}
 use Rattle.std.specs.List.{AllByRecursion}
-use Rattle.std.proofs.lemmas.List.{append-nil, take-append-drop}
+use Rattle.std.proofs.lemmas.List.{append-nil, take-append-drop, take_all, take-map, drop-map, length-map}
 use Rattle.byte_fields.specs.Spelling.{varint}
-use Rattle.term_postings.specs.Postings.{gaps, varints, count_bytes, document_bytes, position_bytes, last_document, head_bytes, head_list, later_blocks, AreRising, documents, Fits, MayHave, IsList}
+use Rattle.term_postings.specs.Postings.{gaps, varints, count_bytes, document_bytes, position_bytes, last_document, head_bytes, head_list, later_blocks, AreRising, documents, Fits, MayHave, list_bytes}
+use Rattle.term_postings.specs.Rows.{lent_one, lent, AppendsList}
+use Rattle.term_postings.specs.declared.list.Row.{Row}
 use Rattle.term_postings.specs.declared.list.Posting.{Posting}
 use Rattle.term_postings.proofs.Lists.{document-append, position-append, head_step, all_left, all_right, all_both, rising_left, rising_right, behind_last, above_documents}
 
@@ -102,10 +104,10 @@ pub all_documents : (counted : Bool) (start places_start out places : List ℕ) 
 all_documents counted start places_start out places before last rest all is h = subst (λ (l : List Posting). PutsDocuments counted start places_start out places before last l all) is h
 
 -- some of the blocks were put, and the rest completes them
-pub record PutsBlocks (counted : Bool) (heads blocks places : List ℕ) (before : ℕ) (rest all : List Posting) : Type 0 where
-  pub heads_are : heads ++ head_list (later_blocks rest) counted before rest ≡ head_list (later_blocks all) counted 0 all
+pub record PutsBlocks (counted : Bool) (start places_start heads blocks places : List ℕ) (before : ℕ) (rest all : List Posting) : Type 0 where
+  pub heads_are : heads ++ head_list (later_blocks rest) counted before rest ≡ start ++ head_list (later_blocks all) counted 0 all
   pub blocks_are : blocks ++ document_bytes counted before rest ≡ document_bytes counted 0 all
-  pub places_are : places ++ position_bytes rest ≡ position_bytes all
+  pub places_are : places ++ position_bytes rest ≡ places_start ++ position_bytes all
   pub rising : AreRising (documents rest)
   pub above : AllByRecursion (λ p. before ≤ p.document) rest
   pub wants : AllByRecursion (Wants counted) rest
@@ -115,8 +117,9 @@ zero_below : (ps : List Posting) → AllByRecursion (λ p. 0 ≤ p.document) ps
 zero_below [] = tt
 zero_below (p ∷ ps) = (omega arith, zero_below ps)
 
-pub no_blocks : (counted : Bool) (all : List Posting) → AreRising (documents all) → AllByRecursion (Wants counted) all → PutsBlocks counted [] [] [] 0 all all
-no_blocks counted all rising wants = record { heads_are = refl; blocks_are = refl; places_are = refl; rising = rising; above = zero_below all; wants = wants; fits = λ f. f }
+pub no_blocks : (counted : Bool) (start places_start : List ℕ) (all : List Posting) → AreRising (documents all) → AllByRecursion (Wants counted) all
+    → PutsBlocks counted start places_start start [] places_start 0 all all
+no_blocks counted start places_start all rising wants = record { heads_are = refl; blocks_are = refl; places_are = refl; rising = rising; above = zero_below all; wants = wants; fits = λ f. f }
 
 -- what is asked of the first block
 pub record IsBlock (counted : Bool) (before : ℕ) (block : List Posting) : Type 0 where
@@ -124,8 +127,8 @@ pub record IsBlock (counted : Bool) (before : ℕ) (block : List Posting) : Type
   pub above : AllByRecursion (λ p. before ≤ p.document) block
   pub wants : AllByRecursion (Wants counted) block
 
-pub first_block : (counted : Bool) (heads blocks places : List ℕ) (before : ℕ) (rest all : List Posting) → PutsBlocks counted heads blocks places before rest all → IsBlock counted before (take 128 rest)
-first_block counted heads blocks places before rest all h =
+pub first_block : (counted : Bool) (start places_start heads blocks places : List ℕ) (before : ℕ) (rest all : List Posting) → PutsBlocks counted start places_start heads blocks places before rest all → IsBlock counted before (take 128 rest)
+first_block counted start places_start heads blocks places before rest all h =
     let whole = take-append-drop 128 rest in
     record {
       rising = rising_left (take 128 rest) (drop 128 rest) (subst (λ (l : List Posting). AreRising (documents l)) (sym whole) h.rising);
@@ -133,12 +136,12 @@ first_block counted heads blocks places before rest all h =
       wants = all_left (Wants counted) (take 128 rest) (drop 128 rest) (subst (λ (l : List Posting). AllByRecursion (Wants counted) l) (sym whole) h.wants);
     }
 
-pub one_block : (counted : Bool) (heads blocks places next_heads next_blocks next_places : List ℕ) (before last gap len places_len : ℕ) (rest all : List Posting) → 128 < length rest
-    → PutsBlocks counted heads blocks places before rest all → last ≡ last_document before (take 128 rest) → gap ≡ last - before
+pub one_block : (counted : Bool) (start places_start heads blocks places next_heads next_blocks next_places : List ℕ) (before last gap len places_len : ℕ) (rest all : List Posting) → 128 < length rest
+    → PutsBlocks counted start places_start heads blocks places before rest all → last ≡ last_document before (take 128 rest) → gap ≡ last - before
     → next_blocks ≡ blocks ++ document_bytes counted before (take 128 rest) → next_places ≡ places ++ position_bytes (take 128 rest) → AllByRecursion (Fits counted) (take 128 rest)
     → len ≡ length next_blocks - length blocks → places_len ≡ length next_places - length places → next_heads ≡ heads ++ (varint gap ++ (varint len ++ varint places_len))
-    → PutsBlocks counted next_heads next_blocks next_places last (drop 128 rest) all
-one_block counted heads blocks places next_heads next_blocks next_places before last gap len places_len rest all more h last_is gap_is blocks_is places_is fits len_is places_len_is heads_is =
+    → PutsBlocks counted start places_start next_heads next_blocks next_places last (drop 128 rest) all
+one_block counted start places_start heads blocks places next_heads next_blocks next_places before last gap len places_len rest all more h last_is gap_is blocks_is places_is fits len_is places_len_is heads_is =
     let whole = take-append-drop 128 rest in
     let len_of : len ≡ length (document_bytes counted before (take 128 rest)) =
     omega (arith, len_is, ap (λ (l : List ℕ). length l) blocks_is, length-append blocks (document_bytes counted before (take 128 rest))) in
@@ -173,21 +176,55 @@ one_block counted heads blocks places next_heads next_blocks next_places before 
     }
 
 -- the last block
-pub last_block : (counted : Bool) (heads blocks places next_blocks next_places bytes : List ℕ) (before : ℕ) (rest all : List Posting) → length rest ≤ 128 → PutsBlocks counted heads blocks places before rest all
-    → AreRising (documents all) → next_blocks ≡ blocks ++ document_bytes counted before rest → next_places ≡ places ++ position_bytes rest → AllByRecursion (Fits counted) rest → bytes ≡ heads ++ next_blocks
-    → length next_blocks < 2 ^ 64 → length next_places < 2 ^ 64 → IsList bytes next_places counted all
-last_block counted heads blocks places next_blocks next_places bytes before rest all few h rising blocks_is places_is fits bytes_is size places_size =
+pub last_block : (counted : Bool) (start places_start heads blocks places now places_now : List ℕ) (before : ℕ) (rest all : List Posting) → length rest ≤ 128
+    → PutsBlocks counted start places_start heads blocks places before rest all → AreRising (documents all) → now ≡ (heads ++ blocks) ++ document_bytes counted before rest
+    → places_now ≡ places ++ position_bytes rest → AllByRecursion (Fits counted) rest → length now < 2 ^ 64 → length places_now < 2 ^ 64 → AppendsList counted all start places_start now places_now
+last_block counted start places_start heads blocks places now places_now before rest all few h rising now_is places_is fits size places_size =
     let none : later_blocks rest ≡ 0 = omega arith in
-    let blocks_are = blocks_is ∙ h.blocks_are in
+    let heads_are : heads ≡ start ++ head_list (later_blocks all) counted 0 all = sym (append-nil heads) ∙ ap (λ (n : ℕ). heads ++ head_list n counted before rest) (sym none) ∙ h.heads_are in
+    let now_are : now ≡ start ++ list_bytes counted all =
+    now_is ∙ append_assoc heads blocks (document_bytes counted before rest) ∙ ap (λ (l : List ℕ). heads ++ l) h.blocks_are
+    ∙ ap (λ (l : List ℕ). l ++ document_bytes counted 0 all) heads_are ∙ append_assoc start (head_list (later_blocks all) counted 0 all) (document_bytes counted 0 all) in
     let places_are = places_is ∙ h.places_are in
-    let heads_are : heads ≡ head_list (later_blocks all) counted 0 all = sym (append-nil heads) ∙ ap (λ (n : ℕ). heads ++ head_list n counted before rest) (sym none) ∙ h.heads_are in
     record {
       are_documents = record {
         rising = rising;
         fits = h.fits fits;
-        size = omega (arith, size, ap (λ (l : List ℕ). length l) blocks_are);
-        positions_size = omega (arith, places_size, ap (λ (l : List ℕ). length l) places_are);
+        size = omega (
+          arith,
+          size,
+          ap (λ (l : List ℕ). length l) now_are,
+          length-append start (list_bytes counted all),
+          length-append (head_list (later_blocks all) counted 0 all) (document_bytes counted 0 all),
+        );
+        positions_size = omega (arith, places_size, ap (λ (l : List ℕ). length l) places_are, length-append places_start (position_bytes all));
       };
-      postings_are = bytes_is ∙ ap (λ (l : List ℕ). l ++ next_blocks) heads_are ∙ ap (λ (l : List ℕ). head_list (later_blocks all) counted 0 all ++ l) blocks_are;
+      postings_are = now_are;
       positions_are = places_are;
     }
+
+-- ---- rows
+
+pub lent-length : (rows : List Row) → length (lent rows) ≡ length rows
+lent-length rows = length-map rows lent_one
+
+pub lent-take : (n : ℕ) (rows : List Row) → lent (take n rows) ≡ take n (lent rows)
+lent-take n rows = sym (take-map lent_one n rows)
+
+pub lent-drop : (n : ℕ) (rows : List Row) → lent (drop n rows) ≡ drop n (lent rows)
+lent-drop n rows = sym (drop-map lent_one n rows)
+
+pub row_front : (rows : List Row) (i : ℕ) (d : Row) → i < length rows → drop i (lent rows) ≡ lent_one (get_or rows i d) ∷ drop (i + 1) (lent rows)
+row_front [] i d lt = absurd (omega arith)
+row_front (r ∷ rs) zero d lt = refl
+row_front (r ∷ rs) (suc i) d lt = rw suc-add (row_front rs i d (omega arith))
+
+pub block_front : (rows : List Row) (from : ℕ) → lent (take (from + 128 - from) (drop from rows)) ≡ take 128 (drop from (lent rows))
+block_front rows from =
+    let size : from + 128 - from ≡ 128 = omega arith in
+    ap (λ (n : ℕ). lent (take n (drop from rows))) size ∙ lent-take 128 (drop from rows) ∙ ap (λ (l : List Posting). take 128 l) (lent-drop from rows)
+
+pub rest_front : (rows : List Row) (from : ℕ) → lent (take (length rows - from) (drop from rows)) ≡ drop from (lent rows)
+rest_front rows from =
+    let whole : length (drop from rows) ≤ length rows - from = omega (arith, length-drop from rows) in
+    ap (λ (l : List Row). lent l) (take_all (length rows - from) (drop from rows) whole) ∙ lent-drop from rows

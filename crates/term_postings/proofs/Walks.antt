@@ -197,7 +197,7 @@ given_position c passed after (n ∷ ns) s ne = (n, ns, refl, (s.positions refl)
 -- a cursor whose place alone has changed
 pub new_place : (c : Cursor) (place : Place) (h : c.head ≤ length c.postings.now) (i : c.block ≤ length c.postings.now) (j : c.at ≤ length c.postings.now) (k : c.passed ≤ 128)
     (passed after : List Posting) (left now : List ℕ) → StandsAt true c passed after left → place.skipped + place.count ≤ c.place.skipped + c.place.count → PositionsAt c.positions.now place now after
-    → StandsAt true (moved c c.left c.passed c.head c.block c.at c.block_before c.before c.positions_block place h i j k) passed after now
+    → StandsAt true (moved c c.left c.passed c.head c.block c.at c.block_before c.before c.given c.positions_block place h i j k) passed after now
 new_place c place h i j k passed after left now s less at = record {
   stands = record {
     sound = s.stands.sound;
@@ -221,10 +221,10 @@ new_place c place h i j k passed after left now s less at = record {
 -- at the end, with the place from before
 pub back_at_end : (told : Bool) (c d : Cursor) (h : d.head ≤ length d.postings.now) (i : d.block ≤ length d.postings.now) (j : d.at ≤ length d.postings.now) (k : d.passed ≤ 128)
     (passed gone after : List Posting) (left now : List ℕ) → StandsAt told c passed after left → StandsAt told d gone [] now → d.positions.now ≡ c.positions.now
-    → StandsAt told (moved d d.left d.passed d.head d.block d.at d.block_before d.before d.positions_block c.place h i j k) gone [] left
+    → StandsAt told (moved d d.left d.passed d.head d.block d.at d.block_before d.before c.given d.positions_block c.place h i j k) gone [] left
 back_at_end told c d h i j k passed gone after left now old new same =
     let counts = old.stands.counts in
-    back_to_place told c d (moved d d.left d.passed d.head d.block d.at d.block_before d.before d.positions_block c.place h i j k) passed gone after left now old new same
+    back_to_place told c d (moved d d.left d.passed d.head d.block d.at d.block_before d.before c.given d.positions_block c.place h i j k) passed gone after left now old new same
     (record {
       sound = new.stands.sound;
       are_behind = new.stands.are_behind;

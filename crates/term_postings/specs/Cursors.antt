@@ -66,6 +66,22 @@ abbrev pub first_positions : List Posting → List ℕ → List ℕ
 first_positions [] left = left
 first_positions (p ∷ ps) left = p.positions
 
+-- the positions of the last of these documents, or else those that were left
+abbrev pub last_positions : List Posting → List ℕ → List ℕ
+last_positions [] left = left
+last_positions (p ∷ ps) left = last_positions ps p.positions
+
+-- of the documents that were to come these were given, and the cursor stands before the others
+pub record PassesMany (told : Bool) (now : Cursor) (after : List Posting) (left given : List ℕ) : Type 0 where
+  pub within : length given ≤ length after
+  pub given_are : given ≡ documents (take (length given) after)
+  pub stands : StandsBefore told now (drop (length given) after) (last_positions (take (length given) after) left)
+
+-- the same, and of some documents at least one
+pub record GivesMany (told : Bool) (now : Cursor) (after : List Posting) (left given : List ℕ) : Type 0 where
+  pub passes : PassesMany told now after left given
+  pub some : length given ≡ 0 → after ≡ []
+
 -- the first of these documents, or none
 abbrev pub first_document : List Posting → Option ℕ
 first_document [] = None

@@ -1,3 +1,4 @@
 pub mod Postings
+pub mod Rows
 pub mod Cursors
 pub mod Reading

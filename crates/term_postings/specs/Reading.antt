@@ -1,30 +1,10 @@
 -- What is read of any bytes, one step behind the other, up to the first fault that is met.
-use Rattle.std.specs.Prelude.{◌≡◌, ℕ, zero, suc, ◌+◌, ◌-◌, ◌/◌, ◌^◌, ◌<◌, ◌≤◌, Bool, true, false, ◌&&◌, List, length, Option, Some, None, Result, Ok, Err, nat_lt, nat_le, ◌==◌, if◌then◌else◌}
-use Rattle.byte_fields.specs.Reading.{varint_at}
-use Rattle.byte_fields.specs.Places.{place_of}
-use Rattle.byte_fields.specs.declared.field_error.FieldError.{FieldError}
+use Rattle.std.specs.Prelude.{◌≡◌, ℕ, zero, suc, ◌+◌, ◌-◌, ◌/◌, ◌^◌, ◌<◌, ◌≤◌, Bool, true, false, ◌&&◌, List, [], ◌∷◌, length, take, drop, min, Option, Some, None, Result, Ok, Err, nat_lt, nat_le, ◌==◌, if◌then◌else◌}
+use Rattle.byte_fields.specs.Steps.{◌>>=◌, corrupt_at, number_at}
 use Rattle.byte_fields.specs.declared.corrupt.Corrupt.{Corrupt}
 use Rattle.term_postings.specs.declared.cursor.Cursor.{Cursor}
 use Rattle.term_postings.specs.declared.cursor.Place.{Place}
 use Rattle.term_postings.specs.declared.moves.Head.{Head}
-
-infixl 10 ◌>>=◌
-abbrev pub ◌>>=◌ : {A B : Type 0} → Result A Corrupt → (A → Result B Corrupt) → Result B Corrupt
-(Ok x) >>= f = f x
-(Err e) >>= f = Err e
-
--- a fault at a place
-abbrev pub corrupt_at : {A : Type 0} → ℕ → Result A Corrupt
-corrupt_at at = Err (record { at = at })
-
--- a field, whose fault is at its own place
-abbrev pub field : {A : Type 0} → Result A FieldError → Result A Corrupt
-field (Ok x) = Ok x
-field (Err e) = corrupt_at (place_of e)
-
--- the number at a place, and the place behind it
-abbrev pub number_at : List ℕ → ℕ → Result (ℕ × ℕ) Corrupt
-number_at bytes at = field (varint_at bytes at)
 
 -- the place behind so many numbers
 unfoldable pub numbers_behind : ℕ → List ℕ → ℕ → Result ℕ Corrupt
@@ -72,6 +52,7 @@ pub record Walk : Type 0 where
   pub at : ℕ
   pub block_before : ℕ
   pub before : ℕ
+  pub given : Option ℕ
   pub positions_block : ℕ
   pub place : Place
 
@@ -85,6 +66,7 @@ walk c = record {
   at = c.at;
   block_before = c.block_before;
   before = c.before;
+  given = c.given;
   positions_block = c.positions_block;
   place = c.place;
 }
@@ -115,6 +97,7 @@ starting postings positions docs counted block fault = record {
   at = block;
   block_before = 0;
   before = 0;
+  given = None;
   positions_block = 0;
   place = record { at = 0; skipped = 0; count = 0; last = 0 };
 }
@@ -126,6 +109,16 @@ begun postings positions docs counted (Err fault) = starting postings positions 
 -- over so many documents: the blocks begin behind the heads of all of them but the last
 abbrev pub over_of : List ℕ → List ℕ → ℕ → Bool → Walk
 over_of postings positions docs counted = begun postings positions docs counted (heads_behind ((docs - 1) / 128) postings 0)
+
+-- the document given last, after a call that gave one or none
+abbrev pub last_given : Option ℕ → Option ℕ → Option ℕ
+last_given (Some found) before = Some found
+last_given None before = before
+
+-- the last of these documents, or else the one given before them
+abbrev pub last_of : List ℕ → Option ℕ → Option ℕ
+last_of [] before = before
+last_of (found ∷ more) before = last_of more (Some found)
 
 -- ---- the next document
 
@@ -143,6 +136,7 @@ passed_one w = document_at w.source.counted w.source.postings w.at >>= λ d.
         at = d.1.1;
         block_before = w.block_before;
         before = w.before + d.0;
+        given = Some (w.before + d.0);
         positions_block = w.positions_block;
         place = record { at = w.place.at; skipped = w.place.skipped + w.place.count; count = d.1.0; last = 0 };
       },
@@ -161,6 +155,7 @@ left_by head w =
       at = w.block + head.len;
       block_before = w.block_before + head.gap;
       before = w.block_before + head.gap;
+      given = w.given;
       positions_block = w.positions_block + head.positions_len;
       place = record { at = w.positions_block + head.positions_len; skipped = 0; count = 0; last = 0 };
     }
@@ -180,6 +175,31 @@ step_of w = in_block w >>= passed_one
 -- the next document, if there is one
 abbrev pub next_of : Walk → Result (Option ℕ × Walk) Corrupt
 next_of w = unless w.source.fault (if w.left == 0 then Ok (None, w) else (step_of w >>= λ d. Ok (Some d.0, d.1)))
+
+-- ---- the documents of a block
+
+-- so many documents of a block, one behind the other
+abbrev pub passed_many : ℕ → Walk → Result (List ℕ × Walk) Corrupt
+passed_many zero w = Ok ([], w)
+passed_many (suc n) w = passed_one w >>= λ d. (passed_many n d.1 >>= λ more. Ok (d.0 ∷ more.0, more.1))
+
+-- what was given, with where the cursor stands then
+abbrev pub passed_all : {A : Type 0} → Result A Corrupt → List ℕ → Walk → Result (List ℕ × Walk) Corrupt
+passed_all (Ok u) given now = Ok (given, now)
+passed_all (Err fault) given now = Err fault
+
+-- how many documents are to come of the block where a walk stands
+abbrev pub left_in_block : Walk → ℕ
+left_in_block w = min w.left (128 - w.passed)
+
+-- the documents to come of the block of the next one, if there is one
+abbrev pub next_block_of : Walk → Result (List ℕ × Walk) Corrupt
+next_block_of w = unless w.source.fault (if w.left == 0 then Ok ([], w) else (in_block w >>= λ v. passed_many (left_in_block v) v))
+
+-- what was put in front of a list that is as it was behind
+abbrev pub PutsInFront : List ℕ → List ℕ → Result ℕ Corrupt → Walk → Result (List ℕ × Walk) Corrupt → Type 0
+PutsInFront old new (Ok count) now read = (read ≡ Ok (take count new, now)) × (drop count new ≡ drop count old) × (length new ≡ length old) × (count ≤ length new)
+PutsInFront old new (Err fault) now read = read ≡ Err fault
 
 -- ---- a document that is sought
 
@@ -203,9 +223,9 @@ pub data Passes (document : ℕ) : Walk → Result (Option ℕ × Walk) Corrupt 
   finds : (w next : Walk) (found : ℕ) → next_of w ≡ Ok (Some found, next) → document ≤ found → Passes document w (Ok (Some found, next))
   passes : (w next : Walk) (found : ℕ) (end : Result (Option ℕ × Walk) Corrupt) → next_of w ≡ Ok (Some found, next) → found < document → Passes document next end → Passes document w end
 
--- the walk at a place in the positions
-abbrev pub at_place : Walk → Place → Walk
-at_place w place = record {
+-- the walk with a document given last and a place in its positions
+abbrev pub standing : Walk → Option ℕ → Place → Walk
+standing w given place = record {
   source = w.source;
   left = w.left;
   passed = w.passed;
@@ -214,27 +234,33 @@ at_place w place = record {
   at = w.at;
   block_before = w.block_before;
   before = w.before;
+  given = given;
   positions_block = w.positions_block;
   place = place;
 }
 
--- where no document was found, the positions of the one given last are still to come
-abbrev pub kept : Place → Result (Option ℕ × Walk) Corrupt → Result (Option ℕ × Walk) Corrupt
-kept place (Ok (None, w)) = Ok (None, at_place w place)
-kept place (Ok (Some found, w)) = Ok (Some found, w)
-kept place (Err fault) = Err fault
+-- where no document was found, the one given last stays, and its positions are still to come
+abbrev pub kept : Walk → Result (Option ℕ × Walk) Corrupt → Result (Option ℕ × Walk) Corrupt
+kept start (Ok (None, w)) = Ok (None, standing w start.given start.place)
+kept start (Ok (Some found, w)) = Ok (Some found, w)
+kept start (Err fault) = Err fault
 
-abbrev pub PassesFrom : ℕ → Place → Result Walk Corrupt → Result (Option ℕ × Walk) Corrupt → Type 0
-PassesFrom document place (Err fault) answer = answer ≡ Err fault
-PassesFrom document place (Ok w) answer = (end : Result (Option ℕ × Walk) Corrupt) × Passes document w end × (answer ≡ kept place end)
+abbrev pub PassesFrom : ℕ → Walk → Result Walk Corrupt → Result (Option ℕ × Walk) Corrupt → Type 0
+PassesFrom document start (Err fault) answer = answer ≡ Err fault
+PassesFrom document start (Ok w) answer = (end : Result (Option ℕ × Walk) Corrupt) × Passes document w end × (answer ≡ kept start end)
 
 abbrev pub Sought : ℕ → Option Corrupt → Walk → Result (Option ℕ × Walk) Corrupt → Type 0
 Sought document (Some fault) w answer = answer ≡ Err fault
-Sought document None w answer = (blocks : Result Walk Corrupt) × LeavesBlocks document w blocks × PassesFrom document w.place blocks answer
+Sought document None w answer = (blocks : Result Walk Corrupt) × LeavesBlocks document w blocks × PassesFrom document w blocks answer
 
--- what is answered where a document is sought, and where the cursor stands then
+-- what is answered where a document is sought among those to come, and where the cursor stands then
 abbrev pub IsSought : ℕ → Walk → Result (Option ℕ × Walk) Corrupt → Type 0
 IsSought document w answer = Sought document w.source.fault w answer
+
+-- whether the document given last, if there is one, is below a document
+abbrev pub IsPast : ℕ → Option ℕ → Type 0
+IsPast document None = Unit {0}
+IsPast document (Some given) = given < document
 
 -- ---- the next position
 
@@ -251,4 +277,4 @@ position_at positions place = do
 
 -- the next position of the document given last, if there is one
 abbrev pub next_position_of : Walk → Result (Option ℕ × Walk) Corrupt
-next_position_of w = unless w.source.fault (if w.place.count == 0 then Ok (None, w) else (position_at w.source.positions w.place >>= λ p. Ok (Some p.0, at_place w p.1)))
+next_position_of w = unless w.source.fault (if w.place.count == 0 then Ok (None, w) else (position_at w.source.positions w.place >>= λ p. Ok (Some p.0, standing w w.given p.1)))

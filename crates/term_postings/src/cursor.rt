@@ -20,6 +20,8 @@ pub struct Cursor<'a> {
     // The document before the block, and the one passed last.
     pub(crate) block_before: u32,
     pub(crate) before: u32,
+    // The document given last, if one was given.
+    pub(crate) given: Option<u32>,
     // Where the positions of the block start.
     pub(crate) positions_block: u64,
     pub(crate) place: Place,

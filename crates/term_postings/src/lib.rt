@@ -7,5 +7,5 @@ mod list;
 mod moves;
 
 pub use cursor::Cursor;
-pub use encode::encode_postings;
-pub use list::{Positions, Posting, PostingList};
+pub use encode::{append_postings, encode_postings};
+pub use list::{Positions, Posting, PostingList, Row};

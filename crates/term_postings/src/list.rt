@@ -69,6 +69,13 @@ pub struct Posting {
     pub positions: Positions,
 }
 
+/// A document and the positions of the term in it, lent.
+#[derive(Clone, Copy, Debug)]
+pub struct Row<'a> {
+    pub document: u32,
+    pub positions: &'a [u64],
+}
+
 /// The documents of a term, which contracts see as a list.
 #[derive(Debug, Drop)]
 pub struct PostingList {

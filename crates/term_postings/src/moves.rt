@@ -58,6 +58,7 @@ fn behind_heads(postings: &[u8], count: u32) -> Result<usize, Corrupt>
 }
 
 // The count of a document's positions at a place, where the field has positions.
+#[inline(always)]
 fn read_count(postings: &[u8], at: usize, counted: bool) -> Result<(u64, usize), Corrupt>
     requires { at ≤ length postings.now }
     ensures within { IfOk result (λ x. x.1 ≤ length postings.now) }
@@ -72,8 +73,8 @@ fn read_count(postings: &[u8], at: usize, counted: bool) -> Result<(u64, usize),
 }
 
 impl<'a> Cursor<'a> {
-    ghost use Rattle.term_postings.specs.Cursors.{StandsBefore, StandsAt, StandsFrom, IsHeadOf, first_positions, first_document, from_document, first_number};
-    ghost use Rattle.term_postings.specs.Reading.{walk, answered, reached, starting, over_of, passed_one, left_by, in_block, step_of, next_of, LeavesBlocks, IsSought, next_position_of};
+    ghost use Rattle.term_postings.specs.Cursors.{StandsBefore, StandsAt, StandsFrom, IsHeadOf, first_positions, first_document, from_document, first_number, PassesMany, GivesMany};
+    ghost use Rattle.term_postings.specs.Reading.{walk, answered, reached, starting, over_of, passed_one, left_by, in_block, step_of, next_of, LeavesBlocks, IsSought, IsPast, last_given, next_position_of, passed_many, passed_all, last_of, next_block_of, PutsInFront};
 
     /// Before the first of `docs` documents. Both slices begin where the term's bytes start.
     pub fn over(
@@ -87,6 +88,7 @@ impl<'a> Cursor<'a> {
             → StandsBefore told result list [] }
         // Over any bytes, and which fault it has.
         ensures exact { walk result ≡ over_of postings.now positions.now docs with_positions }
+        ensures given { result.given ≡ None }
     {
         let later = docs.saturating_sub(1) / BLOCK;
         match behind_heads(postings, later) {
@@ -126,6 +128,7 @@ impl<'a> Cursor<'a> {
             at: block,
             block_before: 0,
             before: 0,
+            given: None,
             positions_block: 0,
             place: Place {
                 at: 0,
@@ -137,11 +140,14 @@ impl<'a> Cursor<'a> {
     }
 
     /// The next document, if there is one. After an `Err` nothing is said of what the cursor gives.
+    #[inline]
     pub fn next(&mut self) -> Result<Option<u32>, Corrupt>
         ensures only { (told : Bool) (after : List Posting) (left : List ℕ) → StandsBefore told self.old after left
             → (result ≡ Ok (first_document after)) × StandsBefore told self.new (drop 1 after) (first_positions after left) }
         // Over any bytes, and which fault it is.
         ensures exact { answered result (walk self.new) ≡ next_of (walk self.old) }
+        // The document that was given, or where none was, the one from before.
+        ensures given { IfOk result (λ found. self.new.given ≡ last_given found self.old.given) }
     {
         if let Some(corrupt) = self.fault {
             return Err(corrupt);
@@ -153,18 +159,75 @@ impl<'a> Cursor<'a> {
         Ok(Some(document))
     }
 
-    /// The first document to come that is not below `document`, if there is one. Whole blocks before it are passed
-    /// over by their heads. After an `Err` nothing is said of what the cursor gives.
-    pub fn seek(&mut self, document: u32) -> Result<Option<u32>, Corrupt>
+    /// The documents to come of the block of the next one, in front of `found`, and how many they are: at most 128, and 0
+    /// where none are to come. The positions to come are then those of the last of them. After an `Err` nothing is said
+    /// of what the cursor gives, nor of `found`.
+    pub fn next_block(&mut self, found: &mut [u32; 128]) -> Result<usize, Corrupt>
         ensures only { (told : Bool) (after : List Posting) (left : List ℕ) → StandsBefore told self.old after left
-            → (result ≡ Ok (first_document (from_document document after)))
-            × StandsBefore told self.new (drop 1 (from_document document after)) (first_positions (from_document document after) left) }
+            → IsOkAnd result (λ count. GivesMany told self.new after left (take count found.new)) }
         // Over any bytes, and which fault it is.
-        ensures exact { IsSought document (walk self.old) (answered result (walk self.new)) }
+        ensures exact { PutsInFront found.old found.new result (walk self.new) (next_block_of (walk self.old)) }
+        // The last of them, or where there is none, the one from before.
+        ensures given { IfOk result (λ count. self.new.given ≡ last_of (take count found.new) self.old.given) }
     {
         if let Some(corrupt) = self.fault {
             return Err(corrupt);
         }
+        if self.left == 0 {
+            return Ok(0);
+        }
+        self.begin_block()?;
+        let count = self.left.min(BLOCK - self.passed) as usize;
+        self.pass_all(&mut found[..count])?;
+        Ok(count)
+    }
+
+    // Passes as many documents of the block as there are places for.
+    fn pass_all(&mut self, found: &mut [u32]) -> Result<(), Corrupt>
+        requires some { length found.old ≤ self.old.left }
+        requires room { length found.old + self.old.passed ≤ 128 }
+        ensures only { (told : Bool) (after : List Posting) (left : List ℕ) → StandsBefore told self.old after left
+            → IsOk result × PassesMany told self.new after left found.new }
+        ensures exact { passed_all result found.new (walk self.new) ≡ passed_many (length found.old) (walk self.old) }
+        ensures given { OnOk result (self.new.given ≡ last_of found.new self.old.given) }
+    {
+        for number in 0..found.len() {
+            found[number] = self.pass()?;
+        }
+        Ok(())
+    }
+
+    /// The document given last, if it is not below `document`, or else the first one to come that is not, if there is
+    /// one. Whole blocks before it are passed over by their heads. After an `Err` nothing is said of what the cursor
+    /// gives.
+    pub fn seek(&mut self, document: u32) -> Result<Option<u32>, Corrupt>
+        // Where the document given last serves, the cursor stays.
+        ensures stays { (given : ℕ) → self.old.given ≡ Some given → document ≤ given → (result ≡ Ok (Some given)) × (self.new ≡ self.old) }
+        ensures only { (told : Bool) (after : List Posting) (left : List ℕ) → IsPast document self.old.given → StandsBefore told self.old after left
+            → (result ≡ Ok (first_document (from_document document after)))
+            × StandsBefore told self.new (drop 1 (from_document document after)) (first_positions (from_document document after) left) }
+        // Over any bytes, and which fault it is.
+        ensures exact { IsPast document self.old.given → IsSought document (walk self.old) (answered result (walk self.new)) }
+        ensures given { IfOk result (λ found. self.new.given ≡ last_given found self.old.given) }
+    {
+        match self.given {
+            Some(given) if given >= document => Ok(Some(given)),
+            _ => self.seek_on(document),
+        }
+    }
+
+    // The first document to come that is not below a document.
+    fn seek_on(&mut self, document: u32) -> Result<Option<u32>, Corrupt>
+        ensures only { (told : Bool) (after : List Posting) (left : List ℕ) → StandsBefore told self.old after left
+            → (result ≡ Ok (first_document (from_document document after)))
+            × StandsBefore told self.new (drop 1 (from_document document after)) (first_positions (from_document document after) left) }
+        ensures exact { IsSought document (walk self.old) (answered result (walk self.new)) }
+        ensures given { IfOk result (λ found. self.new.given ≡ last_given found self.old.given) }
+    {
+        if let Some(corrupt) = self.fault {
+            return Err(corrupt);
+        }
+        let given = self.given;
         let place = self.place;
         self.skip_blocks(document)?;
         while self.left > 0 {
@@ -174,6 +237,7 @@ impl<'a> Cursor<'a> {
             }
         }
         // The positions of the document given last are still to come.
+        self.given = given;
         self.place = place;
         Ok(None)
     }
@@ -185,6 +249,7 @@ impl<'a> Cursor<'a> {
             → (result ≡ Ok (first_number left)) × StandsBefore true self.new after (drop 1 left) }
         // Over any bytes, and which fault it is.
         ensures exact { answered result (walk self.new) ≡ next_position_of (walk self.old) }
+        ensures given { self.new.given ≡ self.old.given }
     {
         if let Some(corrupt) = self.fault {
             return Err(corrupt);
@@ -216,6 +281,7 @@ impl<'a> Cursor<'a> {
     }
 
     // The next document, of those that are to come.
+    #[inline(always)]
     fn step(&mut self) -> Result<u32, Corrupt>
         requires { 0 < self.old.left }
         ensures moves { OnOk result (self.new.left + 1 ≡ self.old.left) }
@@ -224,12 +290,14 @@ impl<'a> Cursor<'a> {
         ensures only { (told : Bool) (after : List Posting) (left : List ℕ) → StandsBefore told self.old after left
             → IsOkAnd result (λ document. first_document after ≡ Some document) × StandsBefore told self.new (drop 1 after) (first_positions after left) }
         ensures exact { answered result (walk self.new) ≡ step_of (walk self.old) }
+        ensures given { IfOk result (λ document. self.new.given ≡ Some document) }
     {
         self.begin_block()?;
         self.pass()
     }
 
     // Goes on to the block of the next document.
+    #[inline(always)]
     fn begin_block(&mut self) -> Result<(), Corrupt>
         requires { 0 < self.old.left }
         ensures moves { OnOk result ((self.new.left ≡ self.old.left) × (self.new.passed < 128)) }
@@ -238,6 +306,7 @@ impl<'a> Cursor<'a> {
         ensures only { (told : Bool) (after : List Posting) (left : List ℕ) → StandsBefore told self.old after left
             → IsOk result × ((now : List ℕ) × StandsBefore told self.new after now) }
         ensures exact { reached result (walk self.new) ≡ in_block (walk self.old) }
+        ensures given { self.new.given ≡ self.old.given }
     {
         if self.passed < BLOCK {
             return Ok(());
@@ -257,6 +326,7 @@ impl<'a> Cursor<'a> {
         ensures only { (told : Bool) (passed after : List Posting) (left rest : List ℕ) → StandsAt told self.old passed after left
             → IsHeadOf self.old passed after head rest → IsOk result × StandsAt told self.new [] (drop 128 (passed ++ after)) [] }
         ensures exact { reached result (walk self.new) ≡ left_by head (walk self.old) }
+        ensures given { self.new.given ≡ self.old.given }
     {
         let last = head.last(self.block_before);
         let Some(positions_block) = self.positions_block.checked_add(head.positions_len) else {
@@ -283,16 +353,18 @@ impl<'a> Cursor<'a> {
     }
 
     // Passes the next document of the block. An `Err` changes nothing.
+    #[inline(always)]
     #[tactic(auto, unfolding(crate::specs::Reading::passed_one))]
     fn pass(&mut self) -> Result<u32, Corrupt>
         requires some { 0 < self.old.left }
         requires room { self.old.passed < 128 }
         ensures same { self.new.positions.now ≡ self.old.positions.now }
         ensures fault { self.new.fault ≡ self.old.fault }
-        ensures moves { OnOk result (self.new.left + 1 ≡ self.old.left) }
+        ensures moves { OnOk result ((self.new.left + 1 ≡ self.old.left) × (self.new.passed ≡ self.old.passed + 1)) }
         ensures only { (told : Bool) (passed after : List Posting) (p : Posting) (left : List ℕ) → StandsAt told self.old passed (p ∷ after) left
             → (result ≡ Ok p.document) × StandsAt told self.new (passed ++ p ∷ []) after p.positions }
         ensures exact { answered result (walk self.new) ≡ passed_one (walk self.old) }
+        ensures given { IfOk result (λ document. self.new.given ≡ Some document) }
     {
         let (gap, behind_gap) = take_varint(self.postings, self.at)?;
         let (count, next) = read_count(self.postings, behind_gap, self.counted)?;
@@ -304,6 +376,7 @@ impl<'a> Cursor<'a> {
         };
         self.at = next;
         self.before += gap as u32;
+        self.given = Some(self.before);
         self.left -= 1;
         self.passed += 1;
         self.place = Place {

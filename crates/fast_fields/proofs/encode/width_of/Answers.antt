@@ -1,4 +1,4 @@
-use Rattle.std.proofs.Common.{◌≡◌, ◌<◌, ◌≤◌, ◌+◌, ◌-◌, ◌*◌, ◌^◌, ◌∙◌, ℕ, ap, sym, subst, arith}
+use Rattle.std.proofs.Common.{◌≡◌, ◌<◌, ◌≤◌, ◌+◌, ◌-◌, ◌*◌, ◌^◌, ◌∙◌, ℕ, ap, subst, arith}
 use Rattle.std.proofs.lemmas.Nat.{leading_length, pow-add}
 use Rattle.fast_fields.specs.Packed.{IsWidth}
 use Rattle.fast_fields.proofs.encode.width_of.Goals as goal

@@ -1,11 +1,12 @@
 use Rattle.std.proofs.Common.{List, length}
-use Rattle.fast_fields.specs.Columns.{Cell, AreGrown}
-use Rattle.fast_fields.specs.Texts.{texts_in}
+use Rattle.fast_fields.specs.Columns.{Cell, AreGrown, cells_of}
+use Rattle.fast_fields.specs.Texts.{texts_in, EachIsAmong}
 use Rattle.fast_fields.proofs.Grown.{AddsValues}
 use Rattle.fast_fields.proofs.entries.row_entries.Given as goal
 
 abbrev pub invariant-loop-value : goal.invariant-loop-value
-invariant-loop-value l = (done : List Cell) → AreGrown (texts_in l.texts) l.document done l.fn.entries.items → AddsValues (texts_in l.texts) l.document done l.rest l.values l.entries.items
+invariant-loop-value l = ((done : List Cell) → AreGrown (texts_in l.texts) l.document done l.fn.entries.items → AddsValues (texts_in l.texts) l.document done l.rest l.values l.entries.items)
+    × EachIsAmong (cells_of l.document l.rest) (texts_in l.texts)
 
 abbrev pub decreases-loop-value : goal.decreases-loop-value
 decreases-loop-value l = length l.rest

@@ -1,4 +1,4 @@
-use Rattle.std.proofs.Common.{◌≡◌, ◌∙◌, sym}
+use Rattle.std.proofs.Common.{◌∙◌, sym}
 use Rattle.fast_fields.proofs.Gathered.{last_behind}
 use Rattle.fast_fields.proofs.texts.stands_behind.Goals as goal
 

@@ -1,4 +1,5 @@
-use Rattle.index_config.proofs.Accepted.{accepted-schema, accepted-timestamp, accepted-formats, accepted-defaults, accepted-named}
+use Rattle.index_config.proofs.Accepted.{accepted-schema, accepted-timestamp, accepted-formats, accepted-defaults, accepted-named, accepted-plain, accepted-tags, accepted-texts}
+use Rattle.index_config.proofs.Ranges.{accepted-ranges}
 use Rattle.index_config.proofs.laws.accepted_laws.Goals as goal
 
 pub returns : goal.returns
@@ -8,4 +9,8 @@ returns c = record {
   formats = accepted-formats;
   defaults = accepted-defaults;
   named = accepted-named;
+  plain = accepted-plain;
+  ranges = accepted-ranges;
+  tags = accepted-tags;
+  texts = accepted-texts;
 }

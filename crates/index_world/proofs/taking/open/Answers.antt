@@ -1,5 +1,5 @@
 use Rattle.std.proofs.Common.{◌≡◌, ◌<◌, ap, arith, sym, subst, ◌∙◌, List}
-use Rattle.std.specs.Prelude.{Result, Ok, Err, IfOk, IfErr, length}
+use Rattle.std.specs.Prelude.{Result, Ok, Err, None, IfOk, IfErr, length}
 use Rattle.meta_journal.specs.Journal.{Numbered, FaultIs}
 use Rattle.meta_journal.specs.Loading.{loaded}
 use Rattle.meta_journal.specs.declared.entry.Entry.{Entry}
@@ -11,7 +11,42 @@ use Rattle.index_world.specs.Taking.{IsFaultBetween, IsNoFault, IsWant}
 use Rattle.index_world.proofs.Fronts.{AreTimely, err_so, some_entry}
 use Rattle.index_world.proofs.Faulted.{no_fault_between, fault_between}
 use Rattle.index_world.proofs.Reading.{opening_failed, opening_empty, opening_short_by, opening_ok, read_legal, read_timely, loads_ok_at, loads_err_at}
+use Rattle.object_store.proofs.Told.{told_map}
+use Rattle.meta_store.specs.History.History.{Start}
+use Rattle.index_world.specs.Opened.{first_refused}
+use Rattle.index_world.specs.Taking.{IsRefusedAt}
+use Rattle.index_world.proofs.OpenedLemmas.{opens_failed, opens_empty, opens_refused_by, opens_life}
 use Rattle.index_world.proofs.taking.open.Goals as goal
+
+pub returns-then-is_empty-clause-opened : goal.returns-then-is_empty-clause-opened
+returns-then-is_empty-clause-opened g c =
+    let said : c.load-answer.result ≡ Ok (c.in-Ok.journal, c.in-Ok.entries) = cc in
+    told_map _ _ (opens_empty c.in-Ok.entries (g.S.ObjectStore.fault_count c.args.store.now) (g.S.ObjectStore.fault_count c.load-answer.new.store) (c.is_empty.ensures.0 c.if-is_empty.true)) (loads_ok_at _ _ _ _ _ said c.load-answer.ensures.answer)
+
+pub returns-in_err-meta-in-Ok-clause-opened : goal.returns-in_err-meta-in-Ok-clause-opened
+returns-in_err-meta-in-Ok-clause-opened g c =
+    let said : c.load-answer.result ≡ Ok (c.in-Ok.journal, c.in-Ok.entries) = cc in
+    let some : 0 < length c.in-Ok.entries = some_entry c.in-Ok.entries (λ none. let h = c.is_empty.ensures.1 none in let f = c.if-is_empty.false in cc) in
+    told_map _ _ (opens_refused_by c.in-Ok.entries (g.S.ObjectStore.fault_count c.args.store.now) (g.S.ObjectStore.fault_count c.load-answer.new.store) c.from_residual.result _ some c.from_residual.ensures.1
+    (λ error is. subst (λ (es : List Entry). IsRefusedAt (first_refused Start es) error) c.into_vec.ensures (subst (IsRefusedAt (first_refused Start c.into_vec.result.items)) (sym is) c.in_err-meta-in-Ok.ensures.refused)))
+    (loads_ok_at _ _ _ _ _ said c.load-answer.ensures.answer)
+
+pub returns-in_ok-meta-in-Ok-clause-opened : goal.returns-in_ok-meta-in-Ok-clause-opened
+returns-in_ok-meta-in-Ok-clause-opened g c =
+    let said : c.load-answer.result ≡ Ok (c.in-Ok.journal, c.in-Ok.entries) = cc in
+    let j : c.in-Ok.journal ≡ loaded (length c.in-Ok.entries) = subst (λ (r : Result (Numbered × List Entry) JournalError). IfOk r (λ x. x.0 ≡ loaded (length x.1))) said c.load-answer.ensures.journal in
+    let some : 0 < length c.in-Ok.entries = some_entry c.in-Ok.entries (λ none. let h = c.is_empty.ensures.1 none in let f = c.if-is_empty.false in cc) in
+    told_map _ _ (opens_life c.in-Ok.entries (g.S.ObjectStore.fault_count c.args.store.now) (g.S.ObjectStore.fault_count c.load-answer.new.store) _ some (subst (λ (es : List Entry). first_refused Start es ≡ None) c.into_vec.ensures c.in_ok-meta-in-Ok.ensures.fit) j
+    (c.in_ok-meta-in-Ok.ensures.state ∙ ap (λ (es : List Entry). state_of reads (history es)) c.into_vec.ensures)
+    (λ timely. c.in_ok-meta-in-Ok.ensures.greatest (subst AreTimely (sym c.into_vec.ensures) timely) ∙ ap (λ (es : List Entry). moment_of (history es)) c.into_vec.ensures))
+    (loads_ok_at _ _ _ _ _ said c.load-answer.ensures.answer)
+
+pub returns-in-Err-clause-opened : goal.returns-in-Err-clause-opened
+returns-in-Err-clause-opened g c =
+    let said : c.load-answer.result ≡ Err c.in-Err.error = cc in
+    told_map _ _ (opens_failed _ _ _ _ c.in-Err.error _ c.world_error.ensures c.faults-before.ensures
+    (subst (λ (r : Result (Numbered × List Entry) JournalError). IfErr r (FaultIs (g.S.ObjectStore.fault_count c.args.store.now) (g.S.ObjectStore.fault_count c.load-answer.new.store))) said c.load-answer.ensures.faults))
+    (loads_err_at _ _ _ _ said c.load-answer.ensures.answer)
 
 pub returns-then-is_empty-clause-step : goal.returns-then-is_empty-clause-step
 returns-then-is_empty-clause-step g c old core log e at w clock =

@@ -1,8 +1,12 @@
 use Rattle.std.proofs.Common.{◌≡◌, ◌+◌, ap, arith, sym, subst, ◌∙◌}
 use Rattle.meta_store.specs.State.{State, after}
-use Rattle.index_world.specs.Taking.{IsNoFault, IsWant}
+use Rattle.std.specs.Prelude.{IsOk}
+use Rattle.meta_store.specs.Answers.{answer_to}
+use Rattle.meta_store.specs.History.History.{Start}
+use Rattle.index_world.specs.Opened.{first_refused}
+use Rattle.index_world.specs.Taking.{IsNoFault, IsWant, IsUnfit, IsRefusedAt}
 use Rattle.index_world.specs.Config.{reads}
-use Rattle.index_world.proofs.Fronts.{front_start, front_more, front_answers, front_state, front_moment, err_so, no_entry_left}
+use Rattle.index_world.proofs.Fronts.{front_start, front_more, front_answers, front_state, front_moment, front_refused, front_none, err_so, no_entry_left}
 use Rattle.index_world.proofs.taking.state_of.Goals as goal
 
 -- Nothing is taken in yet.
@@ -30,13 +34,26 @@ entries-preserved c =
       few = c.entries.invariant.few;
       early = omega (arith, m, low, early);
       front = front_more _ _ _ c.in-Some.entry c.reading_of-reading.result c.entries.meta.state _ _ _ c.moment_of.result c.entries.invariant.front c.in-Some.ensures.items
-          (c.apply.ensures ∙ ap (λ (s : State). after c.reading_of-reading.result c.in-Some.entry s) c.admit.ensures.same) c.reading_of-reading.ensures c.moment_of.ensures.same c.max-moment.ensures;
+          (c.apply.ensures ∙ ap (λ (s : State). after c.reading_of-reading.result c.in-Some.entry s) c.admit.ensures.same) c.reading_of-reading.ensures c.moment_of.ensures.same c.max-moment.ensures
+          (subst (λ (s : State). IsOk (answer_to c.reading_of-reading.result s c.in-Some.entry)) c.admit.ensures.same c.in_ok-admit.ensures.allowed);
     }
 
 pub returns-in_err-admit-clause-want : goal.returns-in_err-admit-clause-want
 returns-in_err-admit-clause-want c legal =
     err_so c.from_residual.result _ IsWant c.from_residual.ensures.1
     (λ error is. subst IsWant (sym is) (c.in_err-admit.ensures.want (front_answers _ _ _ c.in-Some.entry c.reading_of-reading.result _ _ c.entries.invariant.front c.in-Some.ensures.items c.reading_of-reading.ensures legal)))
+
+pub returns-in_err-admit-clause-refused : goal.returns-in_err-admit-clause-refused
+returns-in_err-admit-clause-refused c =
+    err_so c.from_residual.result _ (IsRefusedAt (first_refused Start c.args.entries.items)) c.from_residual.ensures.1
+    (λ error is. front_refused _ _ _ c.in-Some.entry c.reading_of-reading.result _ _ _ c.entries.invariant.front c.in-Some.ensures.items c.reading_of-reading.ensures c.revision-number.ensures error
+    (subst (IsUnfit (answer_to c.reading_of-reading.result c.entries.meta.state c.in-Some.entry) c.revision-number.result) (sym is) c.in_err-admit.ensures.unfit))
+
+pub returns-clause-fit : goal.returns-clause-fit
+returns-clause-fit c =
+    let z = c.in_default.ensures.cases.0 in
+    let ok = c.entries.left.ok.0 in
+    front_none _ _ _ _ c.entries.invariant.front (no_entry_left c.entries.left.items (omega (arith, z, ok)))
 
 pub returns-clause-state : goal.returns-clause-state
 returns-clause-state c =

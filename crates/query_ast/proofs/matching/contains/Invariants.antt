@@ -1,4 +1,4 @@
-use Rattle.std.proofs.Common.{◌≡◌, drop, Some}
+use Rattle.std.proofs.Common.{◌≡◌, drop}
 use Rattle.query_ast.specs.Meaning.{has_token}
 use Rattle.query_ast.proofs.matching.contains.Given as goal
 

@@ -1,4 +1,4 @@
-use Rattle.std.proofs.Common.{◌≡◌, drop, Some}
+use Rattle.std.proofs.Common.{◌≡◌, drop}
 use Rattle.query_ast.specs.Meaning.{each_stands}
 use Rattle.query_ast.proofs.matching.each_is_contained.Given as goal
 

@@ -1,4 +1,4 @@
-use Rattle.std.proofs.Common.{◌≡◌, drop, Some}
+use Rattle.std.proofs.Common.{◌≡◌, drop}
 use Rattle.query_ast.specs.Meaning.{some_item_holds}
 use Rattle.query_ast.proofs.matching.holds_some_item.Given as goal
 

@@ -1,4 +1,4 @@
-use Rattle.std.proofs.Common.{◌≡◌, drop, Some}
+use Rattle.std.proofs.Common.{◌≡◌, drop}
 use Rattle.query_ast.specs.Meaning.{between}
 use Rattle.query_ast.proofs.matching.some_between.Given as goal
 

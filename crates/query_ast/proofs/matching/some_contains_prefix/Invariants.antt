@@ -1,4 +1,4 @@
-use Rattle.std.proofs.Common.{◌≡◌, drop, Some}
+use Rattle.std.proofs.Common.{◌≡◌, drop}
 use Rattle.query_ast.specs.Meaning.{some_has_prefix}
 use Rattle.query_ast.proofs.matching.some_contains_prefix.Given as goal
 

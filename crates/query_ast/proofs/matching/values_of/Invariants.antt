@@ -1,4 +1,4 @@
-use Rattle.std.proofs.Common.{◌≡◌, drop, Some}
+use Rattle.std.proofs.Common.{◌≡◌, drop}
 use Rattle.query_ast.specs.Meaning.{values_in}
 use Rattle.query_ast.proofs.matching.values_of.Given as goal
 

@@ -1,4 +1,4 @@
-use Rattle.std.proofs.Common.{◌≡◌, ◌∙◌, sym, refl, arith}
+use Rattle.std.proofs.Common.{◌∙◌, sym, refl, arith}
 use Rattle.query_ast.proofs.Numbers.{grown}
 use Rattle.query_ast.proofs.values.digits.Goals as goal
 

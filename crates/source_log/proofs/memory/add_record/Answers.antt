@@ -1,6 +1,4 @@
-use Rattle.std.proofs.Common.{◌≡◌, ◌+◌, ◌<◌, ◌≤◌, ◌^◌, ◌∷◌, [], ◌∙◌, List, ℕ, length, ap, sym, subst, arith, lit<, vec_len}
-use Rattle.source_log.specs.declared.memory.PartitionLog.{PartitionLog}
-use Rattle.source_log.specs.Log.{Log, records_of}
+use Rattle.std.proofs.Common.{◌+◌, ◌<◌, ◌^◌, [], ◌∙◌, List, ℕ, length, ap, sym, subst, arith, lit<}
 use Rattle.source_log.specs.Memory.{place_of, part_of}
 use Rattle.std.specs.List.{insert}
 use Rattle.source_log.proofs.Places.{stands_at, would_stand_at, absent}

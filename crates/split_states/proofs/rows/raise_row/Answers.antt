@@ -1,6 +1,11 @@
-use Rattle.std.proofs.Common.{sym}
-use Rattle.split_states.specs.Rows.{raised_row}
+use Rattle.std.proofs.Common.{refl, sym, subst}
+use Rattle.split_states.specs.Rows.{raised_row, RowsRise}
+use Rattle.split_states.proofs.Rising.{rise_change}
 use Rattle.split_states.proofs.rows.raise_row.Goals as goal
 
-pub returns-in-Some : goal.returns-in-Some
-returns-in-Some c = rw c.raise.ensures (sym (c.in-Some.ensures.some.changed (raised_row c.args.upto) c.index-rows-i.result))
+pub returns-in-Some-clause-rows : goal.returns-in-Some-clause-rows
+returns-in-Some-clause-rows c = rw c.raise.ensures (sym (c.in-Some.ensures.some.changed (raised_row c.args.upto) c.index-rows-i.result))
+
+pub returns-in-Some-clause-order : goal.returns-in-Some-clause-order
+returns-in-Some-clause-order c =
+    rw c.raise.ensures (subst RowsRise (c.in-Some.ensures.some.changed (raised_row c.args.upto) c.index-rows-i.result) (rise_change c.args.number (raised_row c.args.upto) c.args.rows.now (λ row. refl) c.requires))

@@ -1,13 +1,21 @@
-use Rattle.std.proofs.Common.{◌++◌, ◌∙◌, List, ℕ, ap, subst, ◌<◌, ◌^◌}
-use Rattle.term_postings.specs.Postings.{varints, gaps}
-use Rattle.std.specs.List.{AllByRecursion}
-use Rattle.term_postings.proofs.Puts.{one_document}
+use Rattle.std.proofs.Common.{◌<◌, arith, length}
+use Rattle.term_postings.specs.Rows.{lent}
+use Rattle.term_postings.proofs.Puts.{one_document, first_document_of, row_front}
 use Rattle.term_postings.proofs.encode.put_documents.Goals as goal
 
-pub loop-posting-preserved : goal.loop-posting-preserved
-loop-posting-preserved c =
-    let p = c.in-Some.posting.now in
-    one_document c.args.counted c.args.blocks.now.items c.args.places.now.items c.loop-posting.blocks.items c.loop-posting.places.items c.put_document.new.blocks.items c.put_positions.new.places.items
-    c.args.before c.loop-posting.last p c.loop-posting.rest.now c.in-Some.behind.now c.args.postings.now c.in-Some.ensures.cases.0 c.loop-posting.invariant c.in_ok-put_document.ensures.bytes
-    (c.in_ok-put_positions.ensures.bytes ∙ ap (λ (l : List ℕ). c.loop-posting.places.items ++ varints (gaps 0 l)) c.as_slice.ensures) c.in_ok-put_document.ensures.fits
-    (subst (λ (l : List ℕ). AllByRecursion (λ n. n < 2 ^ 64) l) c.as_slice.ensures c.in_ok-put_positions.ensures.fits)
+pub put_document-requires : goal.put_document-requires
+put_document-requires c =
+    let lt : c.loop-row.row-index < length c.args.rows.now = omega arith in
+    (first_document_of _ _ _ _ _ _ c.loop-row.last _ _ _ (lent c.args.rows.now) (row_front c.args.rows.now c.loop-row.row-index _ lt) c.loop-row.invariant).above.0
+
+pub put_positions-requires : goal.put_positions-requires
+put_positions-requires c =
+    let lt : c.loop-row.row-index < length c.args.rows.now = omega arith in
+    (first_document_of _ _ _ _ _ _ c.loop-row.last _ _ _ (lent c.args.rows.now) (row_front c.args.rows.now c.loop-row.row-index _ lt) c.loop-row.invariant).wants.0.0
+
+pub loop-row-preserved : goal.loop-row-preserved
+loop-row-preserved c =
+    let lt : c.loop-row.row-index < length c.args.rows.now = omega arith in
+    one_document c.args.counted c.args.blocks.now.items c.args.places.now.items c.loop-row.blocks.items c.loop-row.places.items c.put_document.new.blocks.items c.put_positions.new.places.items
+    c.args.before c.loop-row.last _ _ _ (lent c.args.rows.now) (row_front c.args.rows.now c.loop-row.row-index _ lt) c.loop-row.invariant
+    c.in_ok-put_document.ensures.bytes c.in_ok-put_positions.ensures.bytes c.in_ok-put_document.ensures.fits c.in_ok-put_positions.ensures.fits

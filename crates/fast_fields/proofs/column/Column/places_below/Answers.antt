@@ -1,10 +1,13 @@
 use Rattle.std.proofs.Common.{◌+◌, ◌-◌, ◌/◌, ◌∙◌, ℕ, ap, sym, subst, ◌<◌, ◌≡◌, ◌≤◌, arith}
-use Rattle.fast_fields.proofs.Places.{get_some, count_within, count_up, count_down}
+use Rattle.fast_fields.proofs.Places.{get_some, count_up, count_down}
 use Rattle.fast_fields.specs.Lookups.{document_of}
+use Rattle.fast_fields.proofs.Bounds.{between_counts}
 use Rattle.fast_fields.proofs.column.Column.places_below.Goals as goal
 
 pub loop-low-init : goal.loop-low-init
-loop-low-init c = (omega arith, omega arith, λ texts es h. (omega arith, omega (arith, h.count_is, count_within c.args.document es)), λ some. absurd (omega arith), λ some. absurd (omega arith))
+loop-low-init c =
+    let b = c.near-low.ensures in
+    (b.order, b.within, λ texts es h. between_counts c.args.self.now texts es c.args.document c.near-low.result.0 c.near-low.result.1 h c.near-low.ensures, b.before, b.behind)
 
 pub loop-low-preserved-then-from-document : goal.loop-low-preserved-then-from-document
 loop-low-preserved-then-from-document c = (

@@ -10,7 +10,7 @@ use Rattle.index_world.proofs.world.World.fetch.Goals.{in-Ok, in-Err}
 
 pub returns : goal.returns
 returns g c core log row bytes s found u =
-    let asks = c.ask.ensures core.clock s.clock s.awake in
+    let asks = c.ask.ensures core.clock s.clock in
     let t = subst (λ (k : Keeping). WorldStands k (asked_clock core) log) (sym c.self-2.view_is) (world_asks _ _ core log s asks) in
     let counts = ap (λ (k : Keeping). k.store_faults) c.self.view_is in
     let count = c.faults-after.ensures in

@@ -1,9 +1,8 @@
-use Rattle.std.proofs.Common.{◌≡◌, ◌+◌, ◌≤◌, length, map, refl, ap, sym, subst, ◌∙◌, arith}
+use Rattle.std.proofs.Common.{◌≡◌, ℕ, List, ◌+◌, ◌≤◌, length, map, refl, ap, sym, subst, ◌∙◌, arith}
 use Rattle.meta_store.specs.Room.{Kept, MergedUpTo}
-use Rattle.std.specs.Prelude.{ℕ, List}
 use Rattle.split_states.specs.declared.rows.Row.{Row}
-use Rattle.split_states.specs.Rows.{marked, merged_ops, replacing, change}
-use Rattle.meta_store.proofs.Fitting.{merged_low, merged_replace}
+use Rattle.split_states.specs.Rows.{marked, merged_ops, replacing, change, change_each, IsAbove}
+use Rattle.meta_store.proofs.Fitting.{merged_low, merged_replace, above_change, above_each}
 use Rattle.meta_store.proofs.meta.Meta.take_replace.Goals as goal
 
 pub merged-merge_ops-requires : goal.merged-merge_ops-requires
@@ -20,4 +19,5 @@ invariant_of-self c =
           let ops : c.merged-merge_ops.result ≤ c.self.inside.revision + 1 = omega (arith, low, c.merged-merge_ops.ensures) in
           subst (MergedUpTo (c.self.inside.revision + 1)) (sym (c.replace-2.ensures ∙ ap (λ (rows : List Row). change c.args.new (replacing c.raise.new.self c.merged-merge_ops.result) rows) c.mark.ensures))
           (merged_replace c.self.inside.revision c.args.moment c.args.new c.args.old.now c.raise.new.self c.merged-merge_ops.result c.self.inside.rows.list ops c.self.invariant.4)),
+      subst (λ (l : List Row). IsAbove l (c.self.inside.last_number + 1)) (sym (c.replace-2.ensures ∙ ap (λ (rows : List Row). change c.args.new (replacing c.raise.new.self c.merged-merge_ops.result) rows) c.mark.ensures)) (above_change (c.self.inside.last_number + 1) c.args.new (replacing c.raise.new.self c.merged-merge_ops.result) (change_each c.args.old.now (marked c.args.moment) c.self.inside.rows.list) (λ row. refl) (above_each (c.self.inside.last_number + 1) c.args.old.now (marked c.args.moment) c.self.inside.rows.list (λ row. refl) c.self.invariant.5)),
     )

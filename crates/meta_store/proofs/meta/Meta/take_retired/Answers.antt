@@ -1,7 +1,8 @@
-use Rattle.std.proofs.Common.{◌≡◌, ◌+◌, ◌≤◌, length, map, refl, ap, sym, subst, ◌∙◌, arith}
+use Rattle.std.proofs.Common.{◌≡◌, ℕ, List, ◌+◌, ◌≤◌, length, map, refl, ap, sym, subst, ◌∙◌, arith}
 use Rattle.meta_store.specs.Room.{Kept, MergedUpTo}
-use Rattle.split_states.specs.Rows.{marked}
-use Rattle.meta_store.proofs.Fitting.{merged_each}
+use Rattle.split_states.specs.declared.rows.Row.{Row}
+use Rattle.split_states.specs.Rows.{marked, IsAbove}
+use Rattle.meta_store.proofs.Fitting.{merged_each, above_each}
 use Rattle.meta_store.proofs.meta.Meta.take_retired.Goals as goal
 
 pub invariant_of-self : goal.invariant_of-self
@@ -12,4 +13,5 @@ invariant_of-self c =
       omega (arith, c.self.invariant.2),
       omega (arith, c.count_left-self-inside.ensures, c.self.invariant.3),
       subst (MergedUpTo (c.self.inside.revision + 1)) (sym c.mark.ensures) (merged_each c.self.inside.revision c.args.numbers.now (marked c.args.moment) c.self.inside.rows.list (λ row. refl) c.self.invariant.4),
+      subst (λ (l : List Row). IsAbove l (c.self.inside.last_number + 1)) (sym (c.mark.ensures)) (above_each (c.self.inside.last_number + 1) c.args.numbers.now (marked c.args.moment) c.self.inside.rows.list (λ row. refl) c.self.invariant.5),
     )

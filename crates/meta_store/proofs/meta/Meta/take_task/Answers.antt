@@ -1,7 +1,9 @@
-use Rattle.std.proofs.Common.{◌≡◌, ◌+◌, ◌≤◌, length, map, refl, ap, sym, subst, ◌∙◌, arith}
+use Rattle.std.proofs.Common.{◌≡◌, ℕ, List, ◌+◌, ◌≤◌, length, map, refl, ap, sym, subst, ◌∙◌, arith}
 use Rattle.meta_store.specs.Room.{Kept, MergedUpTo}
 use Rattle.delete_tasks.specs.Ledger.{last_of}
 use Rattle.delete_tasks.proofs.Last.{last_push}
+use Rattle.split_states.specs.declared.rows.Row.{Row}
+use Rattle.split_states.specs.Rows.{IsAbove}
 use Rattle.meta_store.proofs.Fitting.{merged_more}
 use Rattle.meta_store.proofs.meta.Meta.take_task.Goals as goal
 
@@ -15,4 +17,5 @@ invariant_of-self c =
           omega (arith, pushed, was, c.requires.next, c.self.invariant.2)),
       c.self.invariant.3,
       merged_more c.self.inside.revision c.self.inside.rows.list c.self.invariant.4,
+      c.self.invariant.5,
     )

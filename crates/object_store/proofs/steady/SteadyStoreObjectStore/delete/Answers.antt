@@ -3,4 +3,4 @@ use Rattle.object_store.proofs.Landings.{HasLanded-refl}
 use Rattle.object_store.proofs.steady.SteadyStoreObjectStore.delete.Goals as goal
 
 pub returns-clause-step : goal.returns-clause-step
-returns-clause-step c = (steady_state c.args.self.now, HasLanded-refl (steady_state c.args.self.now), c.take_out.ensures)
+returns-clause-step c = (steady_state c.args.self.now, HasLanded-refl (steady_state c.args.self.now), c.take_out.ensures.state)

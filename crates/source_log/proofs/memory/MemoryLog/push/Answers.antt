@@ -1,7 +1,3 @@
-use Rattle.std.proofs.Common.{◌≡◌, ◌∷◌, [], ◌++◌, List, ℕ, sym, ap, subst, ◌∙◌, OnOk, OnErr}
-use Rattle.std.specs.declared.alloc.AllocError.{AllocError}
-use Rattle.source_log.specs.Log.{Log, IsLog, records_of}
-use Rattle.source_log.specs.Memory.{with_record}
 use Rattle.source_log.proofs.Pushed.{pushed_log, pushed_this, pushed_others}
 use Rattle.source_log.proofs.memory.MemoryLog.push.Goals as goal
 

@@ -1,5 +1,5 @@
-use Rattle.std.proofs.Common.{◌≡◌, [], List, ℕ, sym, ap, subst, ◌∙◌, arith}
-use Rattle.source_log.specs.Log.{Log, records_of}
+use Rattle.std.proofs.Common.{◌≡◌, [], sym, ap, ◌∙◌, arith}
+use Rattle.source_log.specs.Log.{records_of}
 use Rattle.source_log.specs.Memory.{place_of}
 use Rattle.source_log.proofs.Places.{stands_at, absent}
 use Rattle.source_log.proofs.Pushed.{slice_at}

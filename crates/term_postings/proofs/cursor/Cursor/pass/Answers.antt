@@ -42,7 +42,7 @@ returns-clause-only c told passed after p left s =
     let skipped : c.in-Some.skipped ≡ me.place.skipped + me.place.count = c.in-Some.ensures.1 in (
       ap given document,
       record {
-        stands = pass_stands me _ _ _ _ _ _ _ _ _ passed after p s.stands (omega arith) refl document skipped b.0 b.1;
+        stands = pass_stands me _ _ _ _ _ _ _ _ _ _ passed after p s.stands (omega arith) refl document skipped b.0 b.1;
         positions = λ t.
             let h = s.positions t in
             record {

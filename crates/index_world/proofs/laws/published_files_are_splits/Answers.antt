@@ -1,0 +1,5 @@
+use Rattle.index_world.proofs.WholeIndex.{published_splits}
+use Rattle.index_world.proofs.laws.published_files_are_splits.Goals as goal
+
+pub returns : goal.returns
+returns c = published_splits

@@ -1,0 +1,11 @@
+pub mod Live
+pub mod Complete
+pub mod Reached
+pub mod Sound
+pub mod Words
+pub mod Edges
+pub mod Digits
+pub mod Readable
+pub mod Spelling
+pub mod Back
+pub mod Deep
