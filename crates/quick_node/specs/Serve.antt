@@ -290,7 +290,7 @@ pub record Drives (history : List Entry) (before : Before) (after : After) (stat
   pub once : HoldsOnce after.kept exit before.log
   -- so it was at each revision of the journal
   pub always : (revision : ℕ) → HoldsAt after.kept revision exit before.log
-  -- each search is answered, whatever failed
+  -- each reply with hits is right, whatever failed
   pub searches : AnswersFrom exit before.log (length history) [] lines outcomes
   -- each fault of the store that a line tells has its count before and behind, of which the second rose: these lie one behind
   -- another between the counts at entry and at exit

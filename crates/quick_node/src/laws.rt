@@ -33,9 +33,9 @@ pub fn a_new_index_enters()
         before.kept ≡ with_object (record { objects = empty; late = [] }) (meta_key 0) bytes → IsLog before.log → EntersAs (create_entry moment config ∷ []) before }
 {}
 
-/// Whatever lands and fails, the journal at entry is a prefix of each history that the last node's is a prefix of, and
-/// each search is answered.
-pub fn searches_are_answered()
+/// Whatever lands and fails, the journal at entry is a prefix of each history that the last node's is a prefix of, and each
+/// reply with hits is the answer to what its client asked last, over one revision of that history.
+pub fn replies_with_hits_are_right()
     ensures { (history exit : List Entry) (before : Before) (fresh : Node) → IsFresh before history fresh →
         (end : End) (lines : List Line) (outcomes : List Outcome) (last : Node) → Lives before end fresh lines outcomes last →
         IsPrefixOf last.core.history exit →

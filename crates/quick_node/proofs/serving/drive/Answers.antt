@@ -23,7 +23,7 @@ returns-in-Ok-clause-drives g c history before shows enters =
     let count : fresh.core.store_faults ≡ before.store_faults = ap (λ n. n.core.store_faults) b.is.is in
     let clock : fresh.core.clock ≡ 0 = ap (λ n. n.core.clock) b.is.is in
     let l : LoadsWorld fresh.core before.log c.in-Ok.world =
-    c.in-Ok.ensures.step before.kept fresh.core before.log shows.kept (shows.store_faults ∙ sym count) (ap Some (c.at.ensures ∙ sym clock)) (omega (arith, clock)) b.world in
+    c.in-Ok.ensures.step before.kept fresh.core before.log shows.kept (shows.store_faults ∙ sym count) (ap Some (c.at.ensures ∙ sym clock)) (omega (arith, clock)) (ap (λ n. n.core.frozen) b.is.is) b.world in
     let opened : Node = record fresh { core = l.after } in
     let opens : Opens fresh (Ok tt) opened = record { fate = l.loads.fate; core = l.after; did = l.loads.did; is = refl } in
     c.drive_world.ensures.drives history before fresh opened b.is opens l.stands enters.is_log shows.logs_show shows.streams_show
@@ -36,7 +36,7 @@ returns-in-Err-clause-drives g c history before shows enters =
     let count : fresh.core.store_faults ≡ before.store_faults = ap (λ n. n.core.store_faults) b.is.is in
     let clock : fresh.core.clock ≡ 0 = ap (λ n. n.core.clock) b.is.is in
     let l : LoadsNone fresh.core before.log c.in-Err.field-0.error (g.S.ObjectStore.told c.in-Err.field-0.store) (g.S.ObjectStore.fault_count c.in-Err.field-0.store) =
-    c.in-Err.ensures.step before.kept fresh.core before.log shows.kept (shows.store_faults ∙ sym count) (ap Some (c.at.ensures ∙ sym clock)) (omega (arith, clock)) b.world in
+    c.in-Err.ensures.step before.kept fresh.core before.log shows.kept (shows.store_faults ∙ sym count) (ap Some (c.at.ensures ∙ sym clock)) (omega (arith, clock)) (ap (λ n. n.core.frozen) b.is.is) b.world in
     let last : Node = record fresh { core = l.after } in
     let opens : Opens fresh (Err l.unread) last = record { fate = l.loads.fate; core = l.after; did = l.loads.did; is = refl } in
     returned g.S.ObjectStore.told g.S.ObjectStore.fault_count g.L.SourceLog.fault_count g.L.SourceLog.since g.R.Source.fault_count g.W.Sink.content g.W.Sink.fault_count
