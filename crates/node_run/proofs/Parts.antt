@@ -458,7 +458,7 @@ clocked world core log given moment w low e =
       meta = w.meta;
       next = w.next;
       unsure = w.unsure;
-      awake = w.awake;
+      frozen = w.frozen;
       opened = w.opened;
       world = record {
         stands_for = record { journal = w.world.stands_for.journal; files = w.world.stands_for.files; late = w.world.stands_for.late; called = w.world.stands_for.called };
