@@ -1,5 +1,5 @@
 -- Entries that are added document by document.
-use Rattle.std.proofs.Common.{◌≡◌, ℕ, ◌<◌, ◌≤◌, ◌^◌, List, [], ◌∷◌, ◌++◌, length, refl, sym, ◌∙◌, ap, subst, arith, append_assoc}
+use Rattle.std.proofs.Common.{◌≡◌, ℕ, ◌<◌, ◌≤◌, ◌^◌, List, [], ◌∷◌, ◌++◌, length, refl, sym, ◌∙◌, ◌+◌, ap, subst, arith, append_assoc, length-append}
 use Rattle.std.specs.List.{AllByRecursion}
 use Rattle.std.proofs.lemmas.List.{append-nil}
 use Rattle.doc_value.specs.declared.doc.Value.{Value}
@@ -53,6 +53,19 @@ pub all_values : (texts : List (List ℕ)) (document : ℕ) (done : List Cell) (
 all_values texts document done rest all es is h =
     let whole : h.front ≡ cells_of document all = sym (append-nil h.front) ∙ ap (λ (l : List Value). h.front ++ cells_of document l) (sym is) ∙ h.whole in
     subst (λ (l : List Cell). AreGrown texts document (done ++ l) es) whole h.grown
+
+cells_count : (document : ℕ) (vs : List Value) → length (cells_of document vs) ≡ length vs
+cells_count document [] = refl
+cells_count document (v ∷ vs) = omega (arith, cells_count document vs)
+
+-- how many cells a row and those behind it have
+pub row_count : (r : ColumnRow) (rest rs : List ColumnRow) → rest ≡ r ∷ rs → length (cells rest) ≡ length r.values + length (cells rs)
+row_count r rest rs is =
+    ap (λ (l : List ColumnRow). length (cells l)) is ∙ length-append (cells_of r.document r.values) (cells rs) ∙ ap (λ (n : ℕ). n + length (cells rs)) (cells_count r.document r.values)
+
+pub no_cells : (rest : List ColumnRow) → length rest ≡ 0 → length (cells rest) ≡ 0
+no_cells [] none = refl
+no_cells (r ∷ rs) none = absurd (omega arith)
 
 -- some of the rows were added, and the rest completes them
 pub record AddsRows (texts : List (List ℕ)) (rest all : List ColumnRow) (es : List Entry) : Type 0 where

@@ -1,4 +1,4 @@
-ghost use Rattle.std.specs.Prelude.{◌≡◌, ◌<◌, ◌≤◌, ◌^◌, List, ℕ, length, slice_get, Some, IfOk, OnOk, ◌++◌, [], ◌∷◌, Contains};
+ghost use Rattle.std.specs.Prelude.{◌≡◌, ◌<◌, ◌≤◌, ◌^◌, ◌+◌, List, ℕ, length, slice_get, Some, IfOk, ◌++◌, [], ◌∷◌, Contains, vec_len, vec_capacity};
 ghost use Rattle.std.specs.List.{AllByRecursion};
 ghost use Rattle.fast_fields.specs.Columns.{AreEntries, IsNumber, RowsRise, DocumentsRise, TextsRise, Fits, Cell, cells, cells_of, AreGrown, turned};
 ghost use Rattle.fast_fields.specs.Texts.{EachIsAmong, texts_in};
@@ -15,7 +15,7 @@ pub struct Entry {
     pub number: u64,
 }
 
-// The entries of these rows, whose texts these are.
+// The entries of these rows, whose texts these are. What takes memory is given their count alone.
 pub(crate) fn entries_of(
     alloc: Global,
     rows: &[ColumnRow],
@@ -27,43 +27,70 @@ pub(crate) fn entries_of(
     requires among { EachIsAmong (cells rows.now) (texts_in texts.now) }
     ensures { IfOk result (λ v. AreEntries (texts_in texts.now) (cells rows.now) v.items × Fits v.items) }
 {
-    let mut entries = Vec::new(alloc);
-    let mut rest = rows;
-    while let Some((row, behind)) = rest.split_first() {
-        row_entries(&mut entries, row.document, row.values.as_slice(), texts)?;
-        rest = behind;
-    }
+    let mut entries = Vec::with_capacity(alloc, cell_count(rows))?;
+    add_rows(&mut entries, rows, texts);
     Ok(entries)
 }
 
-// Adds the entries of one document.
-fn row_entries(
-    entries: &mut Vec<Entry>,
-    document: u32,
-    values: &[Value],
-    texts: &[&str],
-) -> Result<(), AllocError>
+// How many values these rows have.
+fn cell_count(rows: &[ColumnRow]) -> usize
+    requires { length (cells rows.now) < 2 ^ 32 }
+    ensures { result ≡ length (cells rows.now) }
+{
+    let mut count = 0;
+    let mut rest = rows;
+    while let Some((row, behind)) = rest.split_first() {
+        count += row.values.len();
+        rest = behind;
+    }
+    count
+}
+
+// Adds the entries of these rows to none, where there is room for all.
+fn add_rows(entries: &mut Vec<Entry>, rows: &[ColumnRow], texts: &[&str])
+    requires none { entries.old.items ≡ [] }
+    requires room { vec_len entries.old + length (cells rows.now) ≤ vec_capacity entries.old }
+    requires rise { RowsRise rows.now }
+    requires few { length (cells rows.now) < 2 ^ 32 }
+    requires texts_rise { TextsRise (texts_in texts.now) }
+    requires among { EachIsAmong (cells rows.now) (texts_in texts.now) }
+    ensures { AreEntries (texts_in texts.now) (cells rows.now) entries.new.items × Fits entries.new.items }
+{
+    let mut rest = rows;
+    while let Some((row, behind)) = rest.split_first() {
+        add_row(entries, row.document, row.values.as_slice(), texts);
+        rest = behind;
+    }
+}
+
+// Adds the entries of one document, for which there is room.
+fn add_row(entries: &mut Vec<Entry>, document: u32, values: &[Value], texts: &[&str])
+    requires room { vec_len entries.old + length values.now ≤ vec_capacity entries.old }
     requires texts_rise { TextsRise (texts_in texts.now) }
     requires among { EachIsAmong (cells_of document values.now) (texts_in texts.now) }
-    ensures { (done : List Cell) → AreGrown (texts_in texts.now) document done entries.old.items
-        → OnOk result (AreGrown (texts_in texts.now) document (done ++ cells_of document values.now) entries.new.items) }
+    ensures grown { (done : List Cell) → AreGrown (texts_in texts.now) document done entries.old.items
+        → AreGrown (texts_in texts.now) document (done ++ cells_of document values.now) entries.new.items }
+    ensures len { vec_len entries.new ≡ vec_len entries.old + length values.now }
+    ensures capacity { vec_capacity entries.new ≡ vec_capacity entries.old }
 {
     let mut rest = values;
     while let Some((value, behind)) = rest.split_first() {
         let number = number_of(value, texts);
-        add_entry(entries, document, number)?;
+        add_entry(entries, document, number);
         rest = behind;
     }
-    Ok(())
 }
 
-fn add_entry(entries: &mut Vec<Entry>, document: u32, number: u64) -> Result<(), AllocError>
-    ensures ok { OnOk result (entries.new.items ≡ entries.old.items ++ record { document = document; number = number } ∷ []) }
+// Adds an entry, for which there is room.
+fn add_entry(entries: &mut Vec<Entry>, document: u32, number: u64)
+    requires { vec_len entries.old < vec_capacity entries.old }
+    ensures added { entries.new.items ≡ entries.old.items ++ record { document = document; number = number } ∷ [] }
+    ensures len { vec_len entries.new ≡ vec_len entries.old + 1 }
+    ensures capacity { vec_capacity entries.new ≡ vec_capacity entries.old }
     ensures document { document < 2 ^ 32 }
     ensures number { number < 2 ^ 64 }
 {
-    entries.push(Entry { document, number })?;
-    Ok(())
+    entries.push_reserved(Entry { document, number });
 }
 
 // The number that a value stands for.

@@ -34,4 +34,5 @@ pub mod Appending
 pub mod Gates
 pub mod Fronts
 pub mod Reading
+pub mod Faulted
 pub mod OpenedLemmas

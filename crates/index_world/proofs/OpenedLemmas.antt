@@ -98,8 +98,7 @@ finds_loaded es old new l =
 
 finds_spoilt : (key : List ℕ) (old new : State) → IsSpoilt key old new → (n : ℕ) × (key ≡ meta_key n) × Finds (bad_at n) old new
 finds_spoilt key old new p =
-    let o = objects_upto p.mid 0 p.count (λ m low high. p.counted.stand m (omega (arith, high))) (subst (λ (i : ℕ). numbered p.mid i ≡ None) (sym (zero-add p.count)) p.counted.ends) in
-    (
+    let o = objects_upto p.mid 0 p.count (λ m low high. p.counted.stand m (omega (arith, high))) (subst (λ (i : ℕ). numbered p.mid i ≡ None) (sym (zero-add p.count)) p.counted.ends) in (
       length p.first.0,
       p.first.2.key_is,
       record {

@@ -67,11 +67,10 @@ not_named (part ∷ delta) checkpoints name h = by (bytes_eq part.partition name
 delta_ends : (limit checkpoints : Partition → ℕ) (delta : List Part) → ((name : Partition) → checkpoints name ≤ limit name) → IsDelta delta →
     ((name : Partition) → moved delta checkpoints name ≤ limit name) → AllByRecursion (λ part. part.to ≤ limit part.partition) delta
 delta_ends limit checkpoints [] low d h = tt
-delta_ends limit checkpoints (part ∷ delta) low d h =
-    (
-      subst (λ (b : Bool). (if b then part.to else moved delta checkpoints part.partition) ≤ limit part.partition) ((bytes_decides part.partition part.partition).1 refl) (h part.partition),
-      delta_ends limit checkpoints delta low d.2 (λ name. rest name (bytes_eq part.partition name) refl (h name)),
-    )
+delta_ends limit checkpoints (part ∷ delta) low d h = (
+  subst (λ (b : Bool). (if b then part.to else moved delta checkpoints part.partition) ≤ limit part.partition) ((bytes_decides part.partition part.partition).1 refl) (h part.partition),
+  delta_ends limit checkpoints delta low d.2 (λ name. rest name (bytes_eq part.partition name) refl (h name)),
+)
   where
     rest : (name : Partition) (b : Bool) → bytes_eq part.partition name ≡ b → moved (part ∷ delta) checkpoints name ≤ limit name → moved delta checkpoints name ≤ limit name
     rest name true e more =

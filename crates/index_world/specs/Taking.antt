@@ -1,5 +1,6 @@
 -- What the taking in of an entry answers.
 use Rattle.std.specs.Prelude.{◌≡◌, ◌⊎◌, ◌≤◌, ℕ, List, Option, Some, Ok, Err, IsOk, IsErr, ⊤}
+use Rattle.byte_fields.specs.Causes.{Rose}
 use Rattle.meta_journal.specs.Places.{meta_key}
 use Rattle.meta_journal.specs.declared.journal_error.JournalError.{JournalError}
 use Rattle.meta_journal.specs.declared.journal_error.JournalError.TheVariants as journal
@@ -70,3 +71,25 @@ abbrev pub of_get : (key : List ℕ) (before after : ℕ) → GetError → World
 of_get key before after gets.Absent = errors.Missing key
 of_get key before after gets.Failed = errors.StoreFault before after
 of_get key before after (gets.Memory e) = errors.Memory e
+
+-- a fault of the store tells both counts, and comes only where the count rose or stands at its end; all other errors come freely
+abbrev pub IsFaultBetween : (before now : ℕ) → WorldError → Type 0
+IsFaultBetween before now (errors.Memory e) = ⊤
+IsFaultBetween before now (errors.Refused refusal) = ⊤
+IsFaultBetween before now (errors.StoreFault low high) = (low ≡ before) × (high ≡ now) × Rose before now
+IsFaultBetween before now (errors.Missing key) = ⊤
+IsFaultBetween before now (errors.Corrupt key) = ⊤
+IsFaultBetween before now (errors.Foreign key) = ⊤
+IsFaultBetween before now errors.Full = ⊤
+IsFaultBetween before now errors.NoIndex = ⊤
+
+-- an error that is no fault of the store
+abbrev pub IsNoFault : WorldError → Type 0
+IsNoFault (errors.Memory e) = ⊤
+IsNoFault (errors.Refused refusal) = ⊤
+IsNoFault (errors.StoreFault low high) = ⊥
+IsNoFault (errors.Missing key) = ⊤
+IsNoFault (errors.Corrupt key) = ⊤
+IsNoFault (errors.Foreign key) = ⊤
+IsNoFault errors.Full = ⊤
+IsNoFault errors.NoIndex = ⊤

@@ -17,7 +17,7 @@ ghost use Rattle.index_world.specs.Config.{reads};
 ghost use Rattle.index_world.specs.Core.{Core};
 ghost use Rattle.index_world.specs.Life.{Opening, OpensTo};
 ghost use Rattle.index_world.specs.Opened.{first_refused};
-ghost use Rattle.index_world.specs.Taking.{IsRefusedAt, IsUnfit, IsUnprepared, IsWant, of_create, of_get, of_journal};
+ghost use Rattle.index_world.specs.Taking.{IsFaultBetween, IsNoFault, IsRefusedAt, IsUnfit, IsUnprepared, IsWant, of_create, of_get, of_journal};
 ghost use Rattle.index_world.specs.World.{IsWorld};
 
 use crate::config::reading_of;
@@ -83,6 +83,7 @@ pub fn admit(
     ensures allowed { OnOk result (IsOk (answer_to reading meta.new.state entry.now)) }
     ensures room { OnOk result (HasRoom entry.now.act meta.new) }
     ensures want { IfErr result (λ error. IsOk (answer_to reading meta.old.state entry.now) → IsWant error) }
+    ensures no_fault { IfErr result IsNoFault }
     ensures unfit { IfErr result (IsUnfit (answer_to reading meta.old.state entry.now) number) }
 {
     match meta.check(entry, reading) {
@@ -132,6 +133,7 @@ fn state_of(alloc: Global, entries: Vec<Entry>) -> Result<(Meta, u64), WorldErro
     ensures state { IfOk result (λ x. x.0.state ≡ spec.state_of reads (history entries.items)) }
     ensures greatest { AllByRecursion (λ e. e.moment < 2 ^ 62) entries.items → IfOk result (λ x. x.1 ≡ told.moment_of (history entries.items)) }
     ensures want { Legal reads (history entries.items) → IfErr result IsWant }
+    ensures no_fault { IfErr result IsNoFault }
     ensures fit { OnOk result (first_refused Start entries.items ≡ None) }
     ensures refused { IfErr result (IsRefusedAt (first_refused Start entries.items)) }
 {
@@ -152,6 +154,7 @@ fn state_of(alloc: Global, entries: Vec<Entry>) -> Result<(Meta, u64), WorldErro
 /// Opens the index of a store.
 pub fn open<S: ObjectStore>(alloc: Global, store: &mut S) -> Result<Life, WorldError>
     ensures sure { IfOk result (λ life. life.journal.place ≡ Sure) }
+    ensures faults { IfErr result (IsFaultBetween (S.fault_count store.old) (S.fault_count store.new)) }
     // What any store that tells is found to be.
     ensures opened { WhereTold (S.told store.old) (S.told store.new) (OpensTo (S.fault_count store.old) (S.fault_count store.new) result) }
     ensures step { (old : State) (core : Core) (log : Log) → S.told store.old ≡ Some old → S.fault_count store.old ≡ core.store_faults →

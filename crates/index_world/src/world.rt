@@ -1,6 +1,6 @@
 //! One life of a world: its store, journal, state and clock. Each call is one event.
 
-ghost use Rattle.std.specs.Prelude.{◌≡◌, ◌<◌, ◌^◌, ℕ, List, IfOk, MatchResult, None, Some, length, slice_get, max, true, false};
+ghost use Rattle.std.specs.Prelude.{◌≡◌, ◌<◌, ◌^◌, ℕ, List, IfOk, IfErr, MatchResult, None, Some, length, slice_get, max, true, false};
 ghost use Rattle.std.specs.Borrow.{Lends, sem};
 ghost use Rattle.index_world.specs.contracts.world.World.{the_row};
 ghost use Rattle.meta_journal.specs.Spelling.{CanSpellFacts};
@@ -10,6 +10,7 @@ ghost use Rattle.index_world.specs.Calls.{asked, asked_moment, looked, asked_and
 ghost use Rattle.index_world.specs.Core.{Core, IsUnusedIn, IsUploadedIn};
 ghost use Rattle.index_world.specs.Gate.{Does, NoneBetween, IsTrouble, IsUnmade, AreMarks, IsMoment, stage_call, WasStaged, WasUploaded, publish_call, IsPublishable, IsRevision, IsPlan, IsPieceGiven};
 ghost use Rattle.index_world.specs.Loading.{LoadsWorld, LoadsNone, LoadsAnew};
+ghost use Rattle.index_world.specs.Taking.{IsFaultBetween};
 ghost use Rattle.index_world.specs.Opened.{OpensIndex, OpensNot, OpensAnew};
 ghost use Rattle.index_world.specs.World.{IsWorld, WorldStands};
 ghost use Rattle.index_world.specs.declared.planning.PlanRow.{PlanRow};
@@ -85,6 +86,8 @@ impl<S: ObjectStore, C: SteadyClock> World<S, C> {
     /// Opens the index of a store: NoIndex where its journal has no entry, Corrupt with the key of the first object that does
     /// not decode or, where all decode, of the first whose entry may not come.
     pub fn load(alloc: Global, store: S, clock: C) -> Result<World<S, C>, Unopened<S>>
+        // A fault of the store has its counts before and behind, of which the second rose, over all stores.
+        ensures faults { IfErr result (λ unopened. IsFaultBetween (S.fault_count store) (S.fault_count unopened.store) unopened.error) }
         // What any store that tells is found to be.
         ensures opened { MatchResult result (λ world. WhereTold (S.told store) world.told (OpensIndex world))
             (λ unopened. WhereTold (S.told store) (S.told unopened.store) (OpensNot (S.fault_count store) (S.fault_count unopened.store) unopened.error)) }

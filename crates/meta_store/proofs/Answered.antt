@@ -1,6 +1,6 @@
 -- The answer to an entry is Ok exactly where its condition holds.
-use Rattle.std.proofs.Common.{◌≡◌, ◌≢◌, ℕ, ◌+◌, ◌<◌, ◌≤◌, ◌==◌, ◌||◌, ◌↔◌, Bool, true, false, cond, List, [], ◌∷◌, ◌++◌, length, map, Option, Some, None, Result, Ok, Err, IsOk, IsSomeAnd, refl, ap, sym, subst, ◌∙◌, inl, inr, arith, eqb-true, eq-eqb, nat_lt, nat_le, Ordering}
-use Rattle.std.specs.Prelude.{⊤, ℤ, pos, ◌+ℤ◌, ◌-ℤ◌, ◌≤ℤ◌, ◌<ℤ◌, ◌⊎◌, MatchOption, IsSome}
+use Rattle.std.proofs.Common.{◌≡◌, ◌≢◌, ℕ, ◌+◌, ◌≤◌, ◌==◌, ◌||◌, ◌↔◌, Bool, true, false, List, [], ◌∷◌, ◌++◌, length, map, Option, Some, None, Result, Ok, Err, IsOk, IsSomeAnd, refl, ap, sym, subst, ◌∙◌, inl, inr, arith, eqb-true, eq-eqb, nat_lt, nat_le, Ordering}
+use Rattle.std.specs.Prelude.{⊤, ℤ, pos, ◌+ℤ◌, ◌-ℤ◌, ◌≤ℤ◌, ◌<ℤ◌, MatchOption, IsSome}
 use Rattle.std.specs.List.{AllByRecursion}
 use Rattle.std.specs.Ordering.{int_cmp, is_gt, MatchOrdering}
 use Rattle.std.specs.Cmp.{int_ranks}
@@ -16,10 +16,9 @@ use Rattle.split_states.specs.declared.rows.Row.{Row}
 use Rattle.split_states.specs.declared.rows.RowState.{RowState}
 use Rattle.split_states.specs.declared.rows.RowState.TheVariants.{Staged, Published, Marked}
 use Rattle.split_states.specs.declared.refusal.StateRefusal.{StateRefusal}
-use Rattle.source_checkpoint.specs.declared.delta.Part.{Part}
 use Rattle.source_checkpoint.specs.declared.delta.StaleDelta.{StaleDelta}
 use Rattle.source_checkpoint.specs.declared.span.Span.{Span}
-use Rattle.source_checkpoint.specs.Deltas.{range_of, IsDelta, MayAdmit, then_answer, answer_to_delta, answer_to_admit}
+use Rattle.source_checkpoint.specs.Deltas.{range_of, MayAdmit, answer_to_delta, answer_to_admit}
 use Rattle.source_checkpoint.specs.Checkpoints.{checkpoint_at}
 use Rattle.split_states.specs.Rows.{row_at, row_spans, row_ranges}
 use Rattle.split_states.specs.Answers.{IsRow, IsIn, Repeats, AreApart, MayPublish, MayReplace, MayRaise, MayMark, MayRemove, MayRetire, IsOld, where_staged, where_published, where_marked, where_found, answer_to_spans as answer_to_some_spans, answer_to_no_spans, answer_to_grace, answer_to_publish, answer_to_new, answer_to_raise, answer_to_some, answer_to_old, answer_to_each_old, answer_to_replace, answer_to_mark, answer_to_remove, answer_to_times, answer_to_age, answer_to_retire}
@@ -30,9 +29,8 @@ use Rattle.meta_journal.specs.declared.entry.Act.TheVariants.{Fence, Create, Sta
 use Rattle.meta_store.specs.declared.config.Reading.{Reading}
 use Rattle.meta_store.specs.declared.config.Settings.{Settings}
 use Rattle.meta_store.specs.declared.config.Config.{Config}
-use Rattle.meta_store.specs.declared.refusal.Refusal.{Refusal}
-use Rattle.meta_store.specs.State.{State, Begins, Follows, MayCome, MayFollow, Rises}
-use Rattle.meta_store.specs.Answers.{Answer, in_delta, in_state, answer_to_moment, answer_to_next, answer_to_upto, answer_to_task, answer_to_config, answer_to_tasks, answer_to_rows, answer_to_spans, answer_to_each, answer_to_found, answer_at_start, answer_behind, answer_by, answer_to, HasNumbers}
+use Rattle.meta_store.specs.State.{State, Begins, Follows, MayCome, MayFollow}
+use Rattle.meta_store.specs.Answers.{in_delta, in_state, answer_to_moment, answer_to_next, answer_to_upto, answer_to_task, answer_to_config, answer_to_tasks, answer_to_rows, answer_to_spans, answer_to_each, answer_to_found, answer_at_start, answer_behind, answer_by, answer_to, HasNumbers}
 
 abbrev StateAnswer : Type 0
 StateAnswer = Result (Unit {0}) StateRefusal

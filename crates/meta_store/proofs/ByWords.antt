@@ -1,29 +1,25 @@
 -- The conditions over the state are those over ledger and rows, and only the first entry has no configuration before it.
-use Rattle.std.proofs.Common.{◌≡◌, ◌≢◌, ℕ, ◌+◌, ◌<◌, ◌≤◌, ◌↔◌, Bool, true, false, List, [], length, Option, Some, None, IsSomeAnd, refl, ap, sym, subst, ◌∙◌, arith}
-use Rattle.std.specs.Prelude.{⊤, IsSome, is_some}
+use Rattle.std.proofs.Common.{◌≡◌, ◌≢◌, ℕ, ◌↔◌, List, [], length, Option, Some, None, refl, ap, sym, subst, ◌∙◌, arith}
+use Rattle.std.specs.Prelude.{IsSome, is_some}
 use Rattle.std.proofs.lemmas.Bool.{false≢true}
 use Rattle.meta_store.proofs.RowLists.{the_row}
 use Rattle.meta_store.proofs.Current.{tasks_agree}
 use Rattle.meta_store.proofs.Sound.{IsSound, sound, staged_ranges, AllOf-ranges}
 use Rattle.meta_store.proofs.Tallied.{IsTallied, tallied}
 use Rattle.meta_store.specs.Words.{IsFirst, FollowsLedger}
-use Rattle.delete_tasks.specs.Ledger.{last_of}
 use Rattle.meta_journal.specs.declared.entry.Act.{Act}
 use Rattle.meta_journal.specs.declared.entry.Act.TheVariants.{Fence, Create, Stage, Publish, Replace, Raise, MarkStaged, Remove, Retire, Task as AddTask}
-use Rattle.meta_journal.specs.declared.entry.Entry.{Entry}
-use Rattle.meta_store.specs.History.{History, at, tasks_of, delta_of}
+use Rattle.meta_store.specs.History.{History, at, delta_of}
 use Rattle.meta_store.specs.History.History.{Start, ◌▸◌}
 use Rattle.meta_store.specs.Ledgers.{ledger}
 use Rattle.meta_store.specs.Rows.{rows}
-use Rattle.meta_store.specs.State.{configured, Reads, config_of, reading_of, state_of, Begins, Follows, MayCome, Legal, checkpoints_of, span_count_of}
+use Rattle.meta_store.specs.State.{configured, Reads, config_of, reading_of, state_of, Follows, MayCome, Legal, checkpoints_of}
 use Rattle.meta_store.specs.declared.config.Config.{Config}
 use Rattle.meta_store.specs.declared.config.Reading.{Reading}
 use Rattle.meta_store.specs.declared.config.Settings.{Settings}
 use Rattle.source_checkpoint.specs.Checkpoints.{checkpoint_at}
 use Rattle.source_checkpoint.specs.Deltas.{MayAdmit}
-use Rattle.source_checkpoint.specs.declared.delta.Part.{Part}
 use Rattle.split_states.specs.Rows.{row_at, row_ranges}
-use Rattle.split_states.specs.declared.rows.Row.{Row}
 use Rattle.split_states.specs.declared.rows.RowState.TheVariants.{Staged}
 
 may_admit : (h : History) (number : ℕ) → IsSound h → row_ranges (rows h) number ≡ delta_of h number → MayAdmit (row_ranges (rows h) number) (checkpoint_at (checkpoints_of h)) → MayAdmit (delta_of h number) (ledger h).checkpoints

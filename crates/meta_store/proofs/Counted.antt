@@ -1,15 +1,13 @@
 -- The state's counters are those of the ledger, and each number is given once.
-use Rattle.std.proofs.Common.{◌≡◌, ℕ, ◌+◌, ◌≤◌, ◌<◌, cond, Bool, true, false, max, List, [], ◌∷◌, length, flat_map, fold, take, nat_lt, refl, ap, sym, ◌∙◌, arith}
+use Rattle.std.proofs.Common.{◌≡◌, ◌+◌, ◌≤◌, Bool, true, false, List, [], ◌∷◌, length, flat_map, fold, nat_lt, sym, ◌∙◌, arith}
 use Rattle.std.specs.List.{AllByRecursion}
 use Rattle.std.proofs.lemmas.List.Sorted.{sum_by-IsPermutation}
-use Rattle.source_checkpoint.specs.Deltas.{Partition}
 use Rattle.meta_journal.specs.declared.entry.Entry.{Entry}
-use Rattle.delete_tasks.specs.Ledger.{last_of}
-use Rattle.meta_store.specs.History.{History, history, revision_of, moment_of, tasks_of, delta_of, published_numbers}
+use Rattle.meta_store.specs.History.{History, history, revision_of, moment_of, delta_of, published_numbers}
 use Rattle.meta_store.specs.History.History.{Start, ◌▸◌}
 use Rattle.meta_store.specs.Ledgers.{ledger}
 use Rattle.meta_store.specs.State.{Reads, Legal}
-use Rattle.meta_store.specs.Laws.{IsCounted, IsNumbered, NumberedFrom, holds_place, times_at, all_ranges}
+use Rattle.meta_store.specs.Laws.{IsCounted, IsNumbered, holds_place, all_ranges}
 use Rattle.meta_store.proofs.Kept.{kept}
 use Rattle.meta_store.proofs.Covering.{one_if, once_at}
 use Rattle.meta_store.proofs.Current.{tasks_agree}

@@ -5,17 +5,16 @@ use Rattle.std.proofs.lemmas.Bool.{lt-leb}
 use Rattle.delete_tasks.proofs.Last.{last_push}
 use Rattle.meta_store.proofs.RowLists.{AllOf, AllOf-append, AllOf-weaker, AllOf-without}
 use Rattle.delete_tasks.specs.Ledger.{last_of, MayAdd}
-use Rattle.delete_tasks.specs.Removed.{lies_in, erased_by, covered}
+use Rattle.delete_tasks.specs.Removed.{lies_in, erased_by}
 use Rattle.delete_tasks.specs.declared.tasks.Task.{Task}
 use Rattle.meta_journal.specs.declared.entry.Act.{Act}
 use Rattle.meta_journal.specs.declared.entry.Act.TheVariants.{Fence, Create, Stage, Publish, Replace, Raise, MarkStaged, Remove, Retire, Task as AddTask}
-use Rattle.meta_journal.specs.declared.entry.Entry.{Entry}
 use Rattle.meta_store.specs.Contents.{Meaning, is_kept, contents}
-use Rattle.meta_store.specs.History.{task_of, History, tasks_of, at, tasks_after}
+use Rattle.meta_store.specs.History.{task_of, History, tasks_of, at}
 use Rattle.meta_store.specs.History.History.{Start, ◌▸◌}
 use Rattle.meta_store.specs.Ledgers.{ledger}
 use Rattle.meta_store.specs.Rows.{rows}
-use Rattle.meta_store.specs.State.{config_of, Follows, Begins, MayCome, Legal, Reads, State, state_of, reading_of}
+use Rattle.meta_store.specs.State.{config_of, Follows, Begins, MayCome, Legal, Reads, state_of, reading_of}
 use Rattle.meta_store.specs.declared.config.Config.{Config}
 use Rattle.meta_store.specs.declared.config.Reading.{Reading}
 use Rattle.meta_store.specs.declared.config.Settings.{Settings}

@@ -1,7 +1,6 @@
 -- How often rows were merged and the bound of their numbers, after each change of rows.
-use Rattle.std.proofs.Common.{◌≡◌, ℕ, ◌+◌, ◌<◌, ◌≤◌, ◌==◌, Bool, true, false, cond, List, [], ◌∷◌, ◌++◌, length, max, fold, Option, Some, None, refl, arith}
+use Rattle.std.proofs.Common.{◌≡◌, ℕ, ◌+◌, ◌<◌, ◌≤◌, ◌==◌, true, false, cond, List, [], ◌∷◌, ◌++◌, max, fold, Some, refl, arith}
 use Rattle.std.proofs.lemmas.List.Elements.{All-from_recursion, recursion_from_All}
-use Rattle.std.specs.Prelude.{All}
 use Rattle.source_checkpoint.specs.declared.span.Span.{Span}
 use Rattle.split_states.specs.declared.rows.Row.{Row}
 use Rattle.split_states.specs.Rows.{row_at, change, change_each, without_each, marked, replacing, ops_of, merged_ops, IsAbove}

@@ -1,10 +1,8 @@
 -- Rows rise by number, and each span has its form, in every legal history.
-use Rattle.std.proofs.Common.{◌≡◌, ◌≢◌, ℕ, ◌+◌, ◌<◌, ◌≤◌, ◌==◌, max, Bool, true, false, cond, not, List, [], ◌∷◌, ◌++◌, map, filter, flat_map, Option, Some, None, IsPermutation, refl, ap, sym, subst, ◌∙◌, arith, inl, inr}
-use Rattle.std.specs.Prelude.{⊤, All}
+use Rattle.std.proofs.Common.{◌≡◌, ℕ, ◌+◌, ◌<◌, ◌≤◌, ◌==◌, true, false, cond, List, [], ◌∷◌, ◌++◌, map, Option, Some, None, refl, arith, inl, inr}
 use Rattle.std.proofs.lemmas.Bool.{cases_Bool}
 use Rattle.std.proofs.lemmas.List.Elements.{All-from_recursion, recursion_from_All}
 use Rattle.std.proofs.lemmas.List.Sorted.{All-permutation}
-use Rattle.doc_value.specs.declared.facts.TimeRange.{TimeRange}
 use Rattle.delete_tasks.proofs.Last.{last_push}
 use Rattle.meta_store.proofs.RowLists.{AllOf, AllOf-append, AllOf-weaker, AllOf-without}
 use Rattle.meta_store.proofs.Current.{AllOf-change, AllOf-change_each, AllOf-without_each, tasks_agree}
@@ -12,7 +10,6 @@ use Rattle.meta_store.proofs.Sound.{IsSound, sound}
 use Rattle.delete_tasks.specs.Ledger.{last_of}
 use Rattle.meta_journal.specs.declared.entry.Act.{Act}
 use Rattle.meta_journal.specs.declared.entry.Act.TheVariants.{Fence, Create, Stage, Publish, Replace, Raise, MarkStaged, Remove, Retire, Task as AddTask}
-use Rattle.meta_journal.specs.declared.entry.Entry.{Entry}
 use Rattle.meta_store.specs.History.{History, at, task_of, tasks_of, last_number}
 use Rattle.meta_store.specs.History.History.{Start, ◌▸◌}
 use Rattle.meta_store.specs.Laws.{shown, published_spans, RowsRise, IsFormed}
@@ -22,11 +19,10 @@ use Rattle.meta_store.specs.State.{Reads, state_of, reading_of, config_of, Follo
 use Rattle.meta_store.specs.declared.config.Config.{Config}
 use Rattle.meta_store.specs.declared.config.Reading.{Reading}
 use Rattle.meta_store.specs.declared.config.Settings.{Settings}
-use Rattle.source_checkpoint.specs.Deltas.{raised, spans_of, span_of, range_of, IsDelta, IsSpan, Names}
+use Rattle.source_checkpoint.specs.Deltas.{raised, spans_of, IsDelta, IsSpan}
 use Rattle.source_checkpoint.specs.declared.delta.Part.{Part}
 use Rattle.source_checkpoint.specs.declared.span.Span.{Span}
 use Rattle.split_states.specs.Rows.{row_at, row_spans, joined_spans, change, change_each, without, without_each, marked, published, staged, replacing, raised_row, merged_ops, is_published}
-use Rattle.split_states.specs.declared.facts.RowFacts.{RowFacts}
 use Rattle.split_states.specs.declared.rows.Row.{Row}
 
 abbrev IsBehind : ℕ → Row → Type 0

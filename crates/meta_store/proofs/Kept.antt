@@ -1,10 +1,9 @@
 -- The retired ranges that the state keeps hold the places of those of the ledger, in order and joined, in every legal history.
-use Rattle.std.proofs.Common.{◌≡◌, ℕ, ◌+◌, ◌≤◌, Bool, true, false, List, [], ◌∷◌, ◌++◌, map, filter, Option, Some, None, IsPermutation, refl, ap, sym, ◌∙◌, arith, nat_lt}
-use Rattle.std.specs.Prelude.{⊤}
+use Rattle.std.proofs.Common.{◌≡◌, ℕ, ◌+◌, ◌≤◌, Bool, true, false, List, [], ◌∷◌, ◌++◌, map, filter, Option, Some, None, IsPermutation, refl, sym, arith, nat_lt}
 use Rattle.std.specs.List.{AllByRecursion}
 use Rattle.std.proofs.lemmas.List.Sums.{sum_by-append}
 use Rattle.std.proofs.lemmas.List.Sorted.{sum_by-IsPermutation, IsPermutation-trans, IsPermutation-map}
-use Rattle.delete_tasks.specs.Ledger.{Ledger, is_among, last_of}
+use Rattle.delete_tasks.specs.Ledger.{is_among, last_of}
 use Rattle.meta_journal.specs.declared.entry.Act.{Act}
 use Rattle.meta_journal.specs.declared.entry.Act.TheVariants.{Fence, Create, Stage, Publish, Replace, Raise, MarkStaged, Remove, Retire, Task as AddTask}
 use Rattle.meta_store.proofs.Covering.{one_if, once_at}
@@ -14,7 +13,7 @@ use Rattle.meta_store.proofs.Joined.{IsForward, times_all, joined_all, joined_fo
 use Rattle.meta_store.proofs.Moves.{spans_taken}
 use Rattle.meta_store.proofs.RowLists.{AllOf, AllOf-weaker}
 use Rattle.meta_store.proofs.Sound.{IsSound, sound, joined_reach, published_of, apart_rising}
-use Rattle.meta_store.specs.History.{History, at, tasks_of, reach}
+use Rattle.meta_store.specs.History.{History, at, tasks_of}
 use Rattle.meta_store.specs.History.History.{Start, ◌▸◌}
 use Rattle.meta_store.specs.Laws.{all_ranges, published_spans, holds_place, times_at}
 use Rattle.meta_store.specs.Ledgers.{ledger}

@@ -1,5 +1,5 @@
 -- What the Published rows show of the log is what the ledger says.
-use Rattle.std.proofs.Common.{◌≡◌, ℕ, ◌+◌, ◌≤◌, ◌&&◌, ◌||◌, Bool, true, false, not, List, [], ◌∷◌, ◌++◌, filter, find, flat_map, map, sum_by, nat_lt, IsPermutation, refl, ap, sym, ◌∙◌, inl, inr, arith}
+use Rattle.std.proofs.Common.{◌≡◌, ℕ, ◌+◌, ◌≤◌, ◌&&◌, ◌||◌, Bool, true, false, not, List, [], ◌∷◌, ◌++◌, filter, flat_map, map, sum_by, nat_lt, IsPermutation, refl, ap, sym, ◌∙◌, inl, inr, arith}
 use Rattle.std.specs.List.{list_any}
 use Rattle.std.proofs.lemmas.Bool.{cases_Bool, or_parts}
 use Rattle.std.proofs.lemmas.Grind.{flat_map-append}
@@ -8,7 +8,7 @@ use Rattle.std.proofs.lemmas.List.Sorted.{IsPermutation-trans}
 use Rattle.meta_store.proofs.Covering.{one_if, once_at}
 use Rattle.meta_store.proofs.Lists.{IsPermutation-flat_map, IsPermutation-same, alone_if, filter_is, flat_map-same, filters_joined}
 use Rattle.delete_tasks.specs.Ledger.{Ledger}
-use Rattle.delete_tasks.specs.Removed.{lies_in, Place, erased_by, erased, removed}
+use Rattle.delete_tasks.specs.Removed.{lies_in, Place, erased_by, erased}
 use Rattle.delete_tasks.specs.declared.tasks.Task.{Task}
 use Rattle.meta_store.specs.Contents.{Meaning, is_visible, visible, is_kept, contents, published_rows, published_contents}
 use Rattle.meta_store.specs.History.{History}

@@ -14,21 +14,20 @@ use Rattle.delete_tasks.specs.Ledger.{Ledger, admit, retire, is_among, raised_am
 use Rattle.meta_journal.specs.declared.entry.Act.{Act}
 use Rattle.meta_journal.specs.declared.entry.Act.TheVariants.{Fence, Create, Stage, Publish, Replace, Raise, MarkStaged, Remove, Retire, Task as AddTask}
 use Rattle.meta_journal.specs.declared.entry.Entry.{Entry}
-use Rattle.meta_store.specs.Contents.{Meaning, visible, published_contents}
 use Rattle.meta_store.specs.History.{History, history, tasks_of, delta_of, stamp_of, reach, last_number, at}
 use Rattle.meta_store.specs.History.History.{Start, ◌▸◌}
 use Rattle.meta_store.specs.Laws.{Once, shown, all_ranges}
 use Rattle.meta_store.specs.Ledgers.{ledger}
 use Rattle.meta_store.specs.Rows.{rows}
-use Rattle.meta_store.specs.State.{config_of, Follows, Begins, MayCome, Legal, Reads, State, state_of, reading_of, checkpoints_of, Rises}
+use Rattle.meta_store.specs.State.{config_of, Follows, Begins, MayCome, Legal, Reads, state_of, reading_of, checkpoints_of, Rises}
 use Rattle.meta_store.specs.declared.config.Config.{Config}
 use Rattle.meta_store.specs.declared.config.Reading.{Reading}
 use Rattle.meta_store.specs.declared.config.Settings.{Settings}
 use Rattle.source_checkpoint.specs.Checkpoints.{checkpoint_at, move_all}
-use Rattle.source_checkpoint.specs.Deltas.{range_of, spans_of, raised, MayAdmit, moved, IsDelta, Partition}
+use Rattle.source_checkpoint.specs.Deltas.{range_of, spans_of, raised, MayAdmit, Partition}
 use Rattle.source_checkpoint.specs.declared.delta.Part.{Part}
 use Rattle.source_checkpoint.specs.declared.span.Span.{Span}
-use Rattle.split_states.specs.Answers.{IsRow, IsIn, AreApart, MayMark, MayRemove, MayRetire, Repeats}
+use Rattle.split_states.specs.Answers.{IsIn, AreApart, MayMark, MayRemove, MayRetire, Repeats}
 use Rattle.split_states.specs.Rows.{row_at, staged, published, marked, raised_row, replacing, joined_spans, merged_ops, change_each, row_ranges, row_spans}
 use Rattle.split_states.specs.declared.facts.RowFacts.{RowFacts}
 use Rattle.split_states.specs.declared.rows.Row.{Row}

@@ -1,11 +1,10 @@
 -- What a Retire takes out is old, in every legal history.
-use Rattle.std.proofs.Common.{◌≡◌, ◌≢◌, ℕ, ◌==◌, ◌&&◌, ◌||◌, Bool, true, false, eqb-true, eq-eqb, List, [], ◌∷◌, ◌++◌, map, filter, flat_map, Option, Some, None, IsPermutation, refl, ap, sym, subst, ◌∙◌, inl, inr}
-use Rattle.std.specs.Prelude.{⊤}
+use Rattle.std.proofs.Common.{◌≡◌, ◌≢◌, ℕ, ◌==◌, ◌&&◌, ◌||◌, Bool, true, false, eqb-true, eq-eqb, List, [], ◌∷◌, map, filter, flat_map, Option, Some, None, IsPermutation, refl, ap, sym, subst, ◌∙◌, inl, inr}
 use Rattle.std.specs.List.{AllByRecursion, list_any}
-use Rattle.std.proofs.lemmas.Bool.{cases_Bool, and_parts, or_cases}
+use Rattle.std.proofs.lemmas.Bool.{and_parts, or_cases}
 use Rattle.std.proofs.lemmas.List.Folds.{list_any-append}
 use Rattle.std.proofs.lemmas.List.Sorted.{list_any-IsPermutation, IsPermutation-trans}
-use Rattle.delete_tasks.specs.Ledger.{Ledger, is_among}
+use Rattle.delete_tasks.specs.Ledger.{is_among}
 use Rattle.meta_journal.specs.declared.entry.Entry.{Entry}
 use Rattle.meta_store.proofs.Distinct.{AtMostOnce, covering_apart, IsPermutation-taken}
 use Rattle.meta_store.proofs.Moves.{spans_taken}
@@ -19,7 +18,6 @@ use Rattle.meta_store.specs.Rows.{rows}
 use Rattle.meta_store.specs.State.{Reads, Rises, Legal}
 use Rattle.meta_store.specs.declared.config.Settings.{Settings}
 use Rattle.source_checkpoint.specs.Deltas.{range_of}
-use Rattle.source_checkpoint.specs.declared.delta.Part.{Part}
 use Rattle.source_checkpoint.specs.declared.span.Span.{Span}
 use Rattle.split_states.specs.Answers.{AreApart, IsIn, IsOld, MayRetire}
 use Rattle.split_states.specs.Rows.{row_at, row_spans, joined_spans, change_each, marked}

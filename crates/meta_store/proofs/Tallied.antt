@@ -1,39 +1,35 @@
 -- The counters of the state, and the numbers that are given, of every legal history.
-use Rattle.std.proofs.Common.{◌≡◌, ◌≢◌, ℕ, ◌+◌, ◌-◌, ◌<◌, ◌≤◌, ◌==◌, ◌||◌, Bool, true, false, cond, not, max, List, [], ◌∷◌, ◌++◌, length, map, filter, flat_map, fold, Option, Some, None, IsPermutation, refl, ap, sym, subst, ◌∙◌, arith, eqb-true, eq-eqb, ne_eqb, append-nil, inl, inr}
-use Rattle.std.specs.Prelude.{⊤}
-use Rattle.std.proofs.lemmas.Bool.{cases_Bool, or_parts}
+use Rattle.std.proofs.Common.{◌≡◌, ◌≢◌, ℕ, ◌+◌, ◌<◌, ◌≤◌, ◌==◌, true, false, cond, not, max, List, [], ◌∷◌, ◌++◌, length, map, filter, flat_map, Option, Some, None, IsPermutation, refl, ap, sym, ◌∙◌, arith, eq-eqb, ne_eqb, append-nil}
+use Rattle.std.proofs.lemmas.Bool.{or_parts}
 use Rattle.std.proofs.lemmas.List.{length-map, length-append}
 use Rattle.std.proofs.lemmas.Grind.{flat_map-append}
-use Rattle.std.proofs.lemmas.List.Sorted.{length_permutation, IsPermutation-refl, IsPermutation-sym, IsPermutation-trans, IsPermutation-append, IsPermutation-append_left, IsPermutation-map}
+use Rattle.std.proofs.lemmas.List.Sorted.{length_permutation, IsPermutation-refl, IsPermutation-trans, IsPermutation-append_left}
 use Rattle.doc_value.specs.declared.facts.TimeRange.{TimeRange}
 use Rattle.delete_tasks.proofs.Last.{last_push}
-use Rattle.meta_store.proofs.Lists.{IsPermutation-same}
-use Rattle.meta_store.proofs.RowLists.{AllOf, AllOf-append, AllOf-weaker, the_row, row_stands, HoldRows, held, HoldRows-change, HoldRows-weaker, HoldRows-push, HoldRows-to, HoldRows-change_each, HoldRows-without_each}
+use Rattle.meta_store.proofs.RowLists.{AllOf, AllOf-append, AllOf-weaker, the_row, row_stands, HoldRows, held, HoldRows-push, HoldRows-to, HoldRows-change_each, HoldRows-without_each}
 use Rattle.meta_store.proofs.Moves.{spans_retired, spans_taken}
 use Rattle.meta_store.proofs.Distinct.{AtMostOnce, covering_apart, IsPermutation-taken}
-use Rattle.meta_store.proofs.Sound.{IsSound, Traced, sound, staged_ranges, joined_reach, published_of, apart_rising, ranges_admitted, ranges_kept, ranges_retired}
-use Rattle.delete_tasks.specs.Ledger.{Ledger, last_of, is_among, raised_among}
+use Rattle.meta_store.proofs.Sound.{IsSound, sound, staged_ranges, joined_reach, published_of, apart_rising, ranges_admitted, ranges_kept, ranges_retired}
+use Rattle.delete_tasks.specs.Ledger.{last_of, is_among, raised_among}
 use Rattle.delete_tasks.specs.declared.tasks.Task.{Task}
 use Rattle.meta_journal.specs.declared.entry.Act.{Act}
 use Rattle.meta_journal.specs.declared.entry.Act.TheVariants.{Fence, Create, Stage, Publish, Replace, Raise, MarkStaged, Remove, Retire, Task as AddTask}
-use Rattle.meta_journal.specs.declared.entry.Entry.{Entry}
-use Rattle.meta_store.specs.History.{stamp_of, History, history, at, task_of, tasks_of, last_number, delta_of, reach, staged_numbers, published_numbers}
+use Rattle.meta_store.specs.History.{stamp_of, History, at, task_of, tasks_of, last_number, delta_of, reach, staged_numbers, published_numbers}
 use Rattle.meta_store.specs.History.History.{Start, ◌▸◌}
-use Rattle.meta_store.specs.Laws.{NumberedFrom, all_ranges, published_spans, shown}
+use Rattle.meta_store.specs.Laws.{NumberedFrom, all_ranges, published_spans}
 use Rattle.meta_store.specs.Ledgers.{ledger}
 use Rattle.meta_store.specs.Rows.{rows}
-use Rattle.meta_store.specs.State.{Reads, State, state_of, reading_of, config_of, Follows, Begins, MayCome, Legal, span_count_of, retired_of}
+use Rattle.meta_store.specs.State.{Reads, state_of, reading_of, config_of, Follows, Begins, MayCome, Legal, span_count_of}
 use Rattle.meta_store.specs.declared.config.Config.{Config}
 use Rattle.meta_store.specs.declared.config.Reading.{Reading}
 use Rattle.meta_store.specs.declared.config.Settings.{Settings}
 use Rattle.source_checkpoint.specs.Deltas.{span_of, raised, spans_of, range_of}
 use Rattle.source_checkpoint.specs.declared.delta.Part.{Part}
 use Rattle.source_checkpoint.specs.declared.span.Span.{Span}
-use Rattle.split_states.specs.Answers.{AreApart, Repeats, IsIn, IsOld, MayRetire}
-use Rattle.split_states.specs.Rows.{row_at, joined_spans, row_ranges, marked, published, staged, replacing, raised_row, merged_ops, change_each}
+use Rattle.split_states.specs.Answers.{AreApart, Repeats, IsIn, MayRetire}
+use Rattle.split_states.specs.Rows.{row_at, joined_spans, marked, published, staged, replacing, raised_row, merged_ops, change_each}
 use Rattle.split_states.specs.declared.facts.RowFacts.{RowFacts}
 use Rattle.split_states.specs.declared.rows.Row.{Row}
-use Rattle.split_states.specs.declared.rows.RowState.{RowState}
 use Rattle.split_states.specs.declared.rows.RowState.TheVariants.{Staged, Published, Marked}
 
 -- the counters, and what the Publishes took in

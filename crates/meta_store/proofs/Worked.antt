@@ -1,5 +1,5 @@
 -- A history with every kind of entry, which is legal. It shows that the conditions can be met.
-use Rattle.std.proofs.Common.{◌≡◌, ℕ, true, List, [], ◌∷◌, Some, None, refl, inl, arith, map}
+use Rattle.std.proofs.Common.{ℕ, true, List, [], ◌∷◌, Some, None, refl, inl, arith}
 use Rattle.source_checkpoint.specs.declared.delta.Part.{Part}
 use Rattle.split_states.specs.declared.facts.RowFacts.{RowFacts}
 use Rattle.meta_journal.specs.declared.entry.Entry.{Entry}

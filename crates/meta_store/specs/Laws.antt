@@ -1,12 +1,11 @@
 -- What holds of every legal history.
-use Rattle.std.specs.Prelude.{ℕ, ◌≡◌, ◌+◌, ◌<◌, ◌≤◌, ◌==◌, ◌&&◌, Bool, true, List, [], ◌∷◌, ◌++◌, length, map, filter, flat_map, sum_by, if◌then◌else◌, ⊤, IsPermutation, bytes_eq, nat_le, nat_lt}
+use Rattle.std.specs.Prelude.{ℕ, ◌≡◌, ◌+◌, ◌<◌, ◌≤◌, ◌&&◌, Bool, List, [], ◌∷◌, ◌++◌, length, map, filter, flat_map, sum_by, if◌then◌else◌, ⊤, IsPermutation, bytes_eq, nat_le, nat_lt}
 use Rattle.std.specs.List.{AllByRecursion}
 use Rattle.source_checkpoint.specs.declared.delta.Part.{Part}
 use Rattle.source_checkpoint.specs.declared.span.Span.{Span}
 use Rattle.source_checkpoint.specs.Deltas.{Partition, range_of, IsSpan}
 use Rattle.source_checkpoint.specs.Checkpoints.{checkpoint_at}
 use Rattle.split_states.specs.declared.rows.Row.{Row}
-use Rattle.split_states.specs.declared.rows.RowState.TheVariants.{Staged}
 use Rattle.split_states.specs.Rows.{is_published}
 use Rattle.split_states.specs.Answers.{AreApart}
 use Rattle.meta_journal.specs.declared.entry.Entry.{Entry}
@@ -16,7 +15,7 @@ use Rattle.meta_store.specs.History.{History, history, delta_of, staged_numbers,
 use Rattle.meta_store.specs.Ledgers.{ledger}
 use Rattle.meta_store.specs.Retired.{AreJoined}
 use Rattle.meta_store.specs.Rows.{rows}
-use Rattle.meta_store.specs.State.{Reads, State, state_of}
+use Rattle.meta_store.specs.State.{Reads, state_of}
 
 -- the spans of all Published rows, put together
 abbrev pub shown : Row → List Span

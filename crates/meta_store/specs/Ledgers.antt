@@ -1,5 +1,5 @@
 -- The ledger of a history: what was taken in and removed, told by ranges of records. It never looks at a row.
-use Rattle.std.specs.Prelude.{ℕ, List, flat_map}
+use Rattle.std.specs.Prelude.{flat_map}
 use Rattle.meta_journal.specs.declared.entry.Act.{Act}
 use Rattle.meta_journal.specs.declared.entry.Act.TheVariants.{Fence, Create, Stage, Publish, Replace, Raise, MarkStaged, Remove, Retire}
 use Rattle.meta_journal.specs.declared.entry.Act.TheVariants.{Task as AddTask}

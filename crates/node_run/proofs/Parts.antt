@@ -47,6 +47,7 @@ use Rattle.node_run.specs.Named.{NamedAt}
 use Rattle.node_run.specs.Node.{Node, Line, At, Assign, StepIndexer, RestartIndexer, RestartClient, RestartNode, Open, StepClient, Outcome, indexer_said, client_said, request_busy, assigned, indexer_busy, node_failed, world_fault, no_index}
 use Rattle.node_run.specs.Standing.{PartsStand, NodeStands, DoesMost, DoesLine, IsSaid, HoldApart, AllApart}
 use Rattle.node_run.specs.Turns.{restart_by, Luck, calm, Turn, Turned, turned, full_turn, turn_with, quiet, assign_at, with_indexer, indexer_at, made_idle, client_named, with_client, keep_client, stopped, restarted, indexer_stepped, client_stepped, indexing_luck, searching_luck, indexer_turn_by, client_turn_by, said_by_indexer, said_by_client, open_by}
+use Rattle.node_run.proofs.Telling.{stands_own}
 use Rattle.node_run.proofs.Names.{named_name, named_with, with_with, named_stands, named_set}
 use Rattle.node_run.proofs.Moving.{indexer_moves, client_moves, loaded_moves}
 use Rattle.node_run.proofs.Zips.{zip_length, zip_weaker, zip_set, zip_at, zip_right, map_set, map_at, others_apart, zip_step, new_apart, idle_apart, idle_all_apart, same_apart, other_of}
@@ -359,16 +360,20 @@ full_same luck early short node (StepClient name) = by node.down where
   by false = refl
 
 module _ {S L : Type 0} (told : L → Option Log) (count : L → ℕ) (since : L → L → Type 0) (firsts : List L) (node : Node) (line : Line) where
-  pub does_ok : (out : OutLine) (new : DriveNode S L) → DoesMost told count since firsts node line (Ok out) new →
+  pub does_ok : (out : OutLine) (old new : DriveNode S L) → NodeStands told count since firsts old node → DoesMost told count since firsts node line (Ok out) new →
       DoesLine told count since firsts node line (Ok out) new
-  does_ok out new d =
+  does_ok out old new p d =
       record {
         outcome = Some d.1;
         last = d.2;
-        turn = record { luck = record (d.0) { early = false; short = false }; is = full_same d.0 false false node line ∙ d.3 };
+        turn = turn;
         says = d.4;
+        tells = stands_own told count node old.indexers.items p.world_stands.world.stands_for.called p.indexers line (Some d.1) d.2 turn;
         stands = d.5;
       }
+    where
+      turn : Turn node line (Some d.1) d.2
+      turn = record { luck = record (d.0) { early = false; short = false }; is = full_same d.0 false false node line ∙ d.3 }
 
   pub does_err : (refused : AllocError) (mid new : DriveNode S L) → DoesMost told count since firsts node line (Err refused) mid →
       ((n : Node) → NodeStands told count since firsts mid n → NodeStands told count since firsts new (quiet line n)) →
@@ -379,6 +384,7 @@ module _ {S L : Type 0} (told : L → Option Log) (count : L → ℕ) (since : L
         last = quiet line node;
         turn = record { luck = record calm { early = true }; is = refl };
         says = tt;
+        tells = tt;
         stands = quieted node stands;
       }
   does_err refused mid new (inr d) quieted =
@@ -390,6 +396,7 @@ module _ {S L : Type 0} (told : L → Option Log) (count : L → ℕ) (since : L
           is = ap (λ turn. record { said = None; node = quiet line turn.node }) (full_same d.0 false true node line ∙ d.2);
         };
         says = tt;
+        tells = tt;
         stands = quieted d.1.node d.3;
       }
 
@@ -451,7 +458,7 @@ clocked world core log given moment w low e =
       meta = w.meta;
       next = w.next;
       unsure = w.unsure;
-      awake = w.awake;
+      frozen = w.frozen;
       opened = w.opened;
       world = record {
         stands_for = record { journal = w.world.stands_for.journal; files = w.world.stands_for.files; late = w.world.stands_for.late; called = w.world.stands_for.called };

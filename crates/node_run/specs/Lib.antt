@@ -9,3 +9,4 @@ pub mod Standing
 pub mod Named
 pub mod Each
 pub mod Restarting
+pub mod Telling

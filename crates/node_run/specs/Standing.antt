@@ -18,6 +18,7 @@ use Rattle.node_run.specs.declared.drive.DriveNode.{DriveNode}
 use Rattle.node_run.specs.declared.out_line.OutLine.{OutLine}
 use Rattle.node_run.specs.Lines.{outcome_text}
 use Rattle.node_run.specs.Node.{Node, Line, At, Assign, StepIndexer, RestartIndexer, RestartClient, RestartNode, Open, StepClient, Outcome}
+use Rattle.node_run.specs.Telling.{LineMayTell}
 use Rattle.node_run.specs.Turns.{Luck, Turn, Turned, turned, full_turn, reader_of}
 
 -- no two of them hold one number
@@ -99,6 +100,8 @@ pub record DoesLine {S L : Type 0} (told : L → Option Log) (count : L → ℕ)
   pub last : Node
   pub turn : Turn node line outcome last
   pub says : IsSaid result outcome
+  -- no key is foreign, and what fails but for an indexer's entry is the store
+  pub tells : LineMayTell outcome
   pub stands : NodeStands told count since firsts new last
 
 -- A line was done in full, or, without memory, not at all or as far as it went. What it holds then is dropped later.

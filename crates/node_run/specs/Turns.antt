@@ -262,6 +262,7 @@ opened_core o =
       store_faults = o.store_faults;
       moment = moment_of (history o.history);
       clock = 0;
+      frozen = false;
       files = o.files;
       unsure = false;
       standing = None;

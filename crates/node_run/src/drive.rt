@@ -255,6 +255,8 @@ impl<S: ObjectStore, L: SourceLog> DriveNode<S, L> {
             GivesStore S.told S.fault_count result.0 node.core node.log }
         ensures faults { (firsts : List L) (node : Node) → NodeStands L.told L.fault_count L.since firsts self node →
             LetGo L.fault_count L.since firsts (log_counts node.indexers) result.1 }
+        // Over all logs: of those that the node has as it ends.
+        ensures sum { result.1 ≡ min (sum (map (λ reader. L.fault_count reader.log) self.indexers.items)) last_count }
     {
         let DriveNode {
             world,

@@ -1,7 +1,7 @@
 -- What a call did before its last line, and that line, are what the top call's clause says.
-use Rattle.std.proofs.Common.{◌≡◌, ◌⊎◌, ℕ, ◌≤◌, false, List, [], ◌∷◌, ◌++◌, length, map, sum, refl, sym, ap, ◌∙◌, subst, inl, inr, append-nil, append_assoc, arith}
+use Rattle.std.proofs.Common.{◌≡◌, ◌⊎◌, ℕ, ◌≤◌, false, List, [], ◌∷◌, ◌++◌, length, map, flat_map, sum, refl, sym, ap, ◌∙◌, subst, inl, inr, append-nil, append_assoc, arith}
 use Rattle.std.proofs.lemmas.List.{length-map}
-use Rattle.std.specs.List.{AllZip}
+use Rattle.std.specs.List.{AllByRecursion, AllZip}
 use Rattle.std.specs.Prelude.{Option, Some, None, Result, ⊤, min}
 use Rattle.meta_journal.specs.declared.entry.Entry.{Entry}
 use Rattle.meta_store.specs.History.{moment_of, history as told_by}
@@ -12,19 +12,23 @@ use Rattle.index_world.specs.Core.{with_unread, journal_of, last_count}
 use Rattle.index_world.specs.World.{IsWorld}
 use Rattle.index_world.proofs.Opening.{index_opens}
 use Rattle.node_run.specs.Calm.{log_counts}
-use Rattle.node_run.specs.Lines.{printed}
 use Rattle.node_run.specs.Node.{Node, Line, Outcome}
 use Rattle.node_run.specs.Standing.{LetGo, fresh_node}
+use Rattle.node_run.specs.Telling.{MayTell}
 use Rattle.node_run.specs.Turns.{opened_node}
+use Rattle.quick_node.specs.Faults.{AreBetween, store_told}
 use Rattle.quick_node.specs.Ending.{EndsSo, ended_status, last_line}
-use Rattle.quick_node.specs.Serve.{IsPrefixOf, Before, After, End, out_of_memory, status_of, reading_status, WroteLine, Wrote, HasEnd, IsFresh, Opens, Lives, IsShown, AnswersFrom, EntersAs, Drives, ShowsAfter}
+use Rattle.quick_node.specs.Serve.{IsPrefixOf, Before, After, End, out_of_memory, end_told, status_of, reading_status, WroteLine, Wrote, HasEnd, IsFresh, Opens, Lives, IsShown, AnswersFrom, EntersAs, Drives, ShowsAfter}
 use Rattle.quick_node.specs.declared.error_line.End.{End as Ended}
+use Rattle.quick_node.proofs.Catching.{lives_catch}
 use Rattle.quick_node.proofs.Calmed.{reader_counts, lives_calm}
 use Rattle.quick_node.proofs.Exact.{exact_status}
 use Rattle.quick_node.proofs.Living.{opens_moves, lives_follow}
 use Rattle.quick_node.proofs.LongerLog.{index_longer}
-use Rattle.quick_node.proofs.Onces.{holds_once}
-use Rattle.quick_node.proofs.UpToLast.{Met, front_on}
+use Rattle.quick_node.proofs.Onces.{holds_once, holds_at}
+use Rattle.quick_node.proofs.Faulting.{none_told}
+use Rattle.quick_node.proofs.Telling.{lives_told}
+use Rattle.quick_node.proofs.UpToLast.{Met, most_on}
 
 -- ---- a fresh node, and what opening makes of it
 
@@ -105,9 +109,9 @@ module _ (history : List Entry) (before : Before) (after : After) (fresh last : 
   shown = record { store_count = store_count; log_count = log_count; stands = world.stands_for }
 
   drives_with : (status : ℕ) (end : End) (lines : List Line) (outcomes : List Outcome) (text : List ℕ) → status ≡ status_of end → HasEnd before after lines end →
-      after.written ≡ before.written ++ text → Wrote before.write_faults after.write_faults end (printed outcomes) text → Lives before end fresh lines outcomes last →
-      Drives history before after status
-  drives_with status end lines outcomes text status_is ends written wrote lives = record {
+      after.written ≡ before.written ++ text → Wrote before.write_faults after.write_faults end outcomes text → Lives before end fresh lines outcomes last →
+      AllByRecursion MayTell outcomes → Drives history before after status
+  drives_with status end lines outcomes text status_is ends written wrote lives tell = record {
     end = end;
     status_is = status_is;
     lines = lines;
@@ -120,7 +124,13 @@ module _ (history : List Entry) (before : Before) (after : After) (fresh last : 
     index = world.index;
     goes_on = follows.0;
     once = holds_once after.kept (journal_of last.core) before.log is_log world.index;
+    always = λ revision. holds_at after.kept revision (journal_of last.core) before.log is_log world.index;
     searches = follows.1;
+    faults = told;
+    faultless = λ still. none_told after.store_faults (end_told end ++ flat_map store_told outcomes) still.1
+        (subst (λ n. AreBetween n (end_told end ++ flat_map store_told outcomes) after.store_faults) still.0 (told (omega (arith, still.0, still.1))));
+    catch_up = λ i within. lives_catch history (journal_of last.core) before fresh is i within end lines outcomes last lives (unread_front last.core.history last.core.standing);
+    tell = tell;
     fresh = fresh;
     is_fresh = is;
     last = last;
@@ -131,6 +141,13 @@ module _ (history : List Entry) (before : Before) (after : After) (fresh last : 
         subst (λ s. (s ≡ reading_status ending) ⊎ (s ≡ 11)) (sym status_is) (exact_status history before after fresh last is shown calm end lines outcomes ends lives some read ending live reads);
   }
     where
+      told : before.store_faults ≤ last_count → AreBetween before.store_faults (end_told end ++ flat_map store_told outcomes) after.store_faults
+      told bound =
+          let same : fresh.core.store_faults ≡ before.store_faults = ap (λ n. n.core.store_faults) is.is in
+          subst (λ n. AreBetween before.store_faults (end_told end ++ flat_map store_told outcomes) n) store_count
+          (subst (λ n. AreBetween n (end_told end ++ flat_map store_told outcomes) last.core.store_faults) same
+          (lives_told before fresh (omega (arith, same, bound)) end lines outcomes last lives))
+
       follows : IsPrefixOf history (journal_of last.core) × AnswersFrom (journal_of last.core) before.log (length history) [] lines outcomes
       follows = lives_follow history (journal_of last.core) before fresh is end lines outcomes last lives (unread_front last.core.history last.core.standing)
 
@@ -139,22 +156,22 @@ module _ (history : List Entry) (before : Before) (after : After) (fresh last : 
       ((status ≡ ended_status e) × WroteLine write after.write_faults (last_line e) piece) ⊎ ((status ≡ 11) × (piece ≡ [])) → Drives history before after status
   drives_of e read write status text piece m ra low wa written (inl w) =
       drives_with status m.end m.lines m.outcomes (text ++ piece) (w.0 ∙ m.status_is) (m.ends after ra wa) (written ∙ append_assoc before.written text piece)
-      (m.wrote before.write_faults after.write_faults piece (earlier before.write_faults write after.write_faults (last_line e) piece low w.1)) m.lives
+      (m.wrote before.write_faults after.write_faults piece (earlier before.write_faults write after.write_faults (last_line e) piece low w.1)) m.lives m.tell
   drives_of e read write status text piece m ra low wa written (inr w) =
       drives_with status out_of_memory m.lines m.outcomes (text ++ piece) w.0 m.reads (written ∙ append_assoc before.written text piece)
-      (front_on text piece (printed m.outcomes) m.front w.1) m.short
+      (most_on m.outcomes text piece m.front w.1) m.short m.tell
 
 -- the objects behind the call tell it
-module _ {S L R W : Type 0} (told : S → Option State) (log_count : L → ℕ) (since : L → L → Type 0) (read_count : R → ℕ) (taken : W → Option (List ℕ)) (write_count : W → ℕ) where
+module _ {S L R W : Type 0} (told : S → Option State) (count : S → ℕ) (log_count : L → ℕ) (since : L → L → Type 0) (read_count : R → ℕ) (taken : W → Option (List ℕ)) (write_count : W → ℕ) where
   pub returned : (history : List Entry) (before : Before) (fresh last : Node) → IsFresh before history fresh → IsLog before.log → (e : Ended) (read write : ℕ) (text : List ℕ) →
       Met before fresh e read write text last → (store : S) (store_faults log_faults status : ℕ) (firsts : List L) (input : R) (output : W) (kept : State) →
-      told store ≡ Some kept → IsWorld kept last.core before.log → last.core.store_faults ≡ store_faults → LetGo log_count since firsts (log_counts last.indexers) log_faults →
+      told store ≡ Some kept → count store ≡ store_faults → IsWorld kept last.core before.log → last.core.store_faults ≡ store_faults → LetGo log_count since firsts (log_counts last.indexers) log_faults →
       read ≤ read_count input → before.write_faults ≤ write → write ≤ write_count output →
       EndsSo e (before.written ++ text) (taken output) write (write_count output) status →
-      (after : After) × ShowsAfter told log_count since read_count taken write_count store store_faults log_faults firsts input output after × Drives history before after status
-  returned history before fresh last is is_log e read write text met store store_faults log_faults status firsts input output kept tells world counts let_go ra low wa line = (
+      (after : After) × ShowsAfter told count log_count since read_count taken write_count store store_faults log_faults firsts input output after × Drives history before after status
+  returned history before fresh last is is_log e read write text met store store_faults log_faults status firsts input output kept tells counted world counts let_go ra low wa line = (
     after,
-    record { kept = tells; store_count = refl; let_go = let_go; read_faults = refl; written = line.written; write_faults = refl },
+    record { kept = tells; store_count = counted; reported = refl; let_go = let_go; read_faults = refl; written = line.written; write_faults = refl },
     drives_of history before after fresh last is is_log counts refl world e read write status text line.text met ra low wa refl line.wrote,
   )
     where

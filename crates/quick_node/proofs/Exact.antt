@@ -43,7 +43,7 @@ landed_count [] core = refl
 landed_count (place ∷ places) core =
     landed_count places (land_at (slice_get core.late place) place core) ∙ land_count (slice_get core.late place) place core
 
-begun_count : (call : Call) (core : Core) → (begun call core).store_faults ≡ risen core.store_faults call.rises
+pub begun_count : (call : Call) (core : Core) → (begun call core).store_faults ≡ risen core.store_faults call.rises
 begun_count call core = landed_count call.lands (record core { store_faults = risen core.store_faults call.rises })
 
 and_right : (a b : Bool) → (a && b) ≡ true → b ≡ true
@@ -51,7 +51,7 @@ and_right true b e = e
 and_right false b e = cc
 
 -- a call failed only where it raised the count, or the count stands at its end
-failed_rose : (call : Call) (count : ℕ) → may_fail call count ≡ true → (count < risen count call.rises) ⊎ (count ≡ last_count)
+pub failed_rose : (call : Call) (count : ℕ) → may_fail call count ≡ true → (count < risen count call.rises) ⊎ (count ≡ last_count)
 failed_rose call count e = by (or_cases (nat_lt count (risen count call.rises)) (count == last_count) (and_right call.fails _ e))
   where
     by : (nat_lt count (risen count call.rises) ≡ true) ⊎ ((count == last_count) ≡ true) → (count < risen count call.rises) ⊎ (count ≡ last_count)

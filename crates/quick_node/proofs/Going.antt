@@ -12,7 +12,9 @@ use Rattle.node_run.specs.Calm.{log_counts}
 use Rattle.node_run.specs.Lines.{Spells, outcome_text, printed}
 use Rattle.node_run.specs.Node.{Node, Line, At, Assign, StepIndexer, RestartIndexer, RestartClient, RestartNode, Open, StepClient, Outcome}
 use Rattle.node_run.specs.Standing.{accepts_of}
+use Rattle.node_run.specs.Telling.{MayTell}
 use Rattle.node_run.specs.Turns.{Turn, Turns}
+use Rattle.index_world.proofs.StoreChanges.{All-snoc}
 use Rattle.node_run.proofs.Moving.{turns_go_on}
 use Rattle.node_run.proofs.LogCounts.{NotBelow, NoneFell, turn_counted}
 use Rattle.quick_node.specs.declared.error_line.End.{End as Ended}
@@ -105,6 +107,7 @@ begins Stands input begun held content left clock clients stands told written =
       outcomes = [];
       mid = begun;
       turns = refl;
+      tell = tt;
       has = none_answered begun clock clients;
       stands = stands;
       count = refl;
@@ -131,6 +134,7 @@ module _ (Stands : Node → Type 0) (readers : ℕ) (input : List ℕ) (begun : 
         ends = (live, reads);
         last = going.mid;
         did = going.turns;
+        tell = going.tell;
         stands = stands;
         text = printed going.outcomes;
         written = same ∙ going.written;
@@ -148,10 +152,11 @@ module _ (Stands : Node → Type 0) (readers : ℕ) (input : List ℕ) (begun : 
         ends = reads_stopped readers input going.lines taken rest going.read;
         last = going.mid;
         did = inl going.turns;
+        tell = going.tell;
         stands = stands;
         text = printed going.outcomes;
         written = same ∙ going.written;
-        wrote = ([], sym (append-nil (printed going.outcomes)));
+        wrote = inl refl;
       }
 
   pub ends_by_fault : (counts : Counts) → Rose counts.read_before counts.read_after → Runs Stands readers input begun held content counts ended.ReadFault
@@ -164,6 +169,7 @@ module _ (Stands : Node → Type 0) (readers : ℕ) (input : List ℕ) (begun : 
         ends = (reads_stopped readers input going.lines taken rest going.read, rose);
         last = going.mid;
         did = going.turns;
+        tell = going.tell;
         stands = going.stands;
         text = printed going.outcomes;
         written = going.written;
@@ -228,6 +234,7 @@ module _ (Stands : Node → Type 0) (readers : ℕ) (input : List ℕ) (begun : 
           outcomes = going.outcomes ++ t.0 ∷ [];
           mid = d.last;
           turns = turns_go_on begun going.mid d.last going.lines d.line going.outcomes t.0 going.turns d.turn;
+          tell = All-snoc MayTell going.outcomes t.0 going.tell d.tells;
           has = answered_more readers going.lines going.mid d.line t.0 d.last going.has (line_is_fit Stands' d.line d.spells d.taken) d.turn;
           stands = d.stands;
           count = omega (arith, next_number, going.count, length-append going.lines (d.line ∷ []));
@@ -276,13 +283,11 @@ module _ (Stands : Node → Type 0) (readers : ℕ) (input : List ℕ) (begun : 
             );
             last = d.last;
             did = turns_go_on begun going.mid d.last going.lines d.line going.outcomes outcome going.turns d.turn;
+            tell = All-snoc MayTell going.outcomes outcome going.tell d.tells;
             stands = d.stands;
             text = printed going.outcomes ++ w.0;
             written = w.2 ∙ ap Some (append_assoc held (printed going.outcomes) w.0);
-            wrote = (
-              w.1,
-              printed_on going.outcomes outcome ∙ ap (λ l. printed going.outcomes ++ l) w.3 ∙ sym (append_assoc (printed going.outcomes) w.0 w.1),
-            );
+            wrote = record { whole = going.outcomes; last = outcome; are = refl; front = w.0; rest = w.1; line = w.3; is = refl };
           }
 
       -- it ended the run
@@ -314,10 +319,11 @@ module _ (Stands : Node → Type 0) (readers : ℕ) (input : List ℕ) (begun : 
               read = reads_stopped readers input (going.lines ++ d.line ∷ []) taken' (hand' ++ behind') (read_more Stands' d.line d.spells d.taken);
               turn = d.turn;
             });
+            tell = going.tell;
             stands = d.stands;
             text = printed going.outcomes;
             written = written;
-            wrote = ([], sym (append-nil (printed going.outcomes)));
+            wrote = inl refl;
           }
       short_by (Some outcome) d written =
           record {
@@ -328,10 +334,11 @@ module _ (Stands : Node → Type 0) (readers : ℕ) (input : List ℕ) (begun : 
             ends = reads_stopped readers input (going.lines ++ d.line ∷ []) taken' (hand' ++ behind') (read_more Stands' d.line d.spells d.taken);
             last = d.last;
             did = inl (turns_go_on begun going.mid d.last going.lines d.line going.outcomes outcome going.turns d.turn);
+            tell = All-snoc MayTell going.outcomes outcome going.tell d.tells;
             stands = d.stands;
             text = printed going.outcomes;
             written = written;
-            wrote = (printed (outcome ∷ []), printed_on going.outcomes outcome);
+            wrote = inr (record { whole = going.outcomes; last = outcome; are = refl; front = []; rest = printed (outcome ∷ []); line = refl; is = sym (append-nil (printed going.outcomes)) });
           }
 
       -- there was no memory for it

@@ -20,3 +20,8 @@ pub mod UpToLast
 pub mod Onces
 pub mod Driven
 pub mod Bytes
+mod Caused
+mod NewIndex
+mod Faulting
+mod Telling
+mod Catching

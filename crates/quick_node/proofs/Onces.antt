@@ -1,5 +1,7 @@
 -- The published files of a sound index hold each visible record once.
-use Rattle.std.proofs.Common.{◌≡◌, Bool, List, [], ◌∷◌, cond, take, length, refl, sym, subst, IsPermutation}
+use Rattle.std.proofs.Common.{◌≡◌, ℕ, suc, Bool, List, [], ◌∷◌, ◌++◌, cond, take, drop, length, fold, refl, sym, ap, ◌∙◌, subst, IsPermutation}
+use Rattle.std.proofs.lemmas.List.{take-append-drop}
+use Rattle.std.proofs.lemmas.List.Sums.{fold-append}
 use Rattle.std.proofs.Math.Seq.{take-length}
 use Rattle.std.specs.Prelude.{Some, flat_map}
 use Rattle.std.specs.List.{AllByRecursion}
@@ -9,10 +11,12 @@ use Rattle.meta_journal.specs.Places.{split_key}
 use Rattle.meta_journal.specs.declared.entry.Entry.{Entry}
 use Rattle.meta_store.specs.Contents.{published_rows}
 use Rattle.meta_store.specs.History.{History, history}
+use Rattle.meta_store.specs.History.History.{Start, ◌▸◌}
 use Rattle.meta_store.specs.Ledgers.{ledger}
 use Rattle.meta_store.specs.Rows.{rows}
 use Rattle.meta_store.proofs.Seen.{published_is_visible}
-use Rattle.meta_store.proofs.Sound.{sound}
+use Rattle.meta_store.proofs.Sound.{sound, legal_take}
+use Rattle.meta_store.specs.State.{Legal}
 use Rattle.object_store.specs.Store.{State}
 use Rattle.source_log.specs.Log.{Log, IsLog}
 use Rattle.split_states.specs.Rows.{is_published}
@@ -20,11 +24,12 @@ use Rattle.split_states.specs.declared.rows.Row.{Row}
 use Rattle.split_states.specs.declared.rows.RowState.{RowState}
 use Rattle.split_states.specs.declared.rows.RowState.TheVariants.{Staged, Published, Marked}
 use Rattle.index_world.specs.Config.{reads}
-use Rattle.index_world.specs.Index.{IsIndexOf, IsRowKept}
+use Rattle.index_world.specs.Index.{IsBuilt, IsIndexOf, IsRowKept}
 use Rattle.index_world.specs.Seen.{contents, meaning, accepted_records, visible}
 use Rattle.index_world.specs.SplitFile.{split_file}
 use Rattle.root_search.proofs.Records.{visible_in_order}
-use Rattle.quick_node.specs.Once.{HoldsOnce}
+use Rattle.root_search.proofs.Rows.{kept_before}
+use Rattle.quick_node.specs.Once.{HoldsOnce, HoldsAt}
 
 module _ (kept : State) (tasks : List Task) (log : Log) where
   abbrev HasFile : Row → Type 0
@@ -52,3 +57,40 @@ holds_once kept entries log is index =
   where
     h : History
     h = history entries
+
+-- ---- at a revision
+
+abbrev AreKept : State → Log → History → Type 0
+AreKept kept log h = AllByRecursion (IsRowKept kept (ledger h).tasks log) (rows h)
+
+abbrev AreBuilt : List Entry → Type 0
+AreBuilt es = AllByRecursion (λ e. IsBuilt e.act) es
+
+kept_in_front : (kept : State) (log : Log) (h : History) (es : List Entry) → AreBuilt es → AreKept kept log (fold ◌▸◌ h es) → AreKept kept log h
+kept_in_front kept log h [] built all = all
+kept_in_front kept log h (e ∷ es) built all = kept_before kept log h e.moment e.act built.0 (kept_in_front kept log (h ▸ e) es built.1 all)
+
+built_behind : (xs ys : List Entry) → AreBuilt (xs ++ ys) → AreBuilt ys
+built_behind [] ys built = built
+built_behind (x ∷ xs) ys built = built_behind xs ys built.1
+
+kept_at : (kept : State) (log : Log) (revision : ℕ) (entries : List Entry) → AreBuilt entries → AreKept kept log (history entries) → AreKept kept log (history (take revision entries))
+kept_at kept log revision entries built all =
+    kept_in_front kept log (history (take revision entries)) (drop revision entries)
+    (built_behind (take revision entries) (drop revision entries) (subst AreBuilt (sym (take-append-drop revision entries)) built))
+    (subst (AreKept kept log) (ap history (sym (take-append-drop revision entries)) ∙ fold-append ◌▸◌ Start (take revision entries) (drop revision entries)) all)
+
+pub holds_at : (kept : State) (revision : ℕ) (entries : List Entry) (log : Log) → IsLog log → IsIndexOf kept entries log → HoldsAt kept revision entries log
+holds_at kept revision entries log is index =
+    record {
+      held = λ row. contents (ledger h).tasks row log;
+      files = published_have kept (ledger h).tasks log (rows h) (kept_at kept log revision entries index.stands.built index.stands.rows);
+      once = published_is_visible meaning h (accepted_records log) (sound reads h legal).once;
+      apart = visible_in_order (ledger h) log is;
+    }
+  where
+    h : History
+    h = history (take revision entries)
+
+    legal : Legal reads h
+    legal = legal_take reads Start entries revision index.stands.legal

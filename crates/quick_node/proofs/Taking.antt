@@ -29,7 +29,7 @@ module _ {S L : Type 0} (told : L → Option Log) (count : L → ℕ) (since : L
   Behind n = NodeStands told count since firsts new n
 
   pub did_line : (result : Result OutLine AllocError) → (d : DoesLine told count since firsts node line result new) → Does Behind text node d.outcome
-  did_line result d = record { line = line; spells = spells; taken = taken; last = d.last; turn = d.turn; stands = d.stands }
+  did_line result d = record { line = line; spells = spells; taken = taken; last = d.last; turn = d.turn; tells = d.tells; stands = d.stands }
 
   -- what was said, with its line feed
   said_by : (out : OutLine) (outcome : Option Outcome) → IsSaid (Ok out) outcome → (o : Outcome) × (outcome ≡ Some o) × (out.bytes ≡ outcome_text o)

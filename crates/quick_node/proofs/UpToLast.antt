@@ -1,6 +1,7 @@
 -- What a call did before its last line.
 use Rattle.std.proofs.Common.{◌≡◌, ◌⊎◌, ℕ, ◌+◌, ◌≤◌, false, List, [], ◌∷◌, ◌++◌, length, refl, sym, ap, ◌∙◌, subst, inl, inr, append-nil}
 use Rattle.std.specs.Fmt.{digits}
+use Rattle.std.specs.List.{AllByRecursion}
 use Rattle.std.specs.Prelude.{Option, Some, Ok, Err, codes}
 use Rattle.meta_store.specs.History.{history, moment_of}
 use Rattle.index_world.specs.Calls.{no_memory, store_fault, faulted, Unread, not_read}
@@ -10,11 +11,12 @@ use Rattle.index_world.specs.declared.world_error.WorldError.{WorldError}
 use Rattle.index_world.specs.declared.world_error.WorldError.TheVariants as errors
 use Rattle.node_run.specs.Lines.{printed}
 use Rattle.node_run.specs.Node.{Node, Line, Outcome}
+use Rattle.node_run.specs.Telling.{MayTell}
 use Rattle.node_run.specs.Turns.{Turns}
 use Rattle.quick_node.specs.Ending.{ended_status, last_line, EndsSo}
 use Rattle.quick_node.specs.Reading.{Ending, stopped, ReadsFrom, Reads, raw_lines}
 use Rattle.quick_node.specs.Running.{Counts, IsRunEnd, HasRunEnd, HasRun, HasWritten, Runs}
-use Rattle.quick_node.specs.Serve.{IsPrefixOf, Before, After, End, by_reading, no_index, opening_failed, read_failed, write_failed, out_of_memory, status_of, error_line, error_of, WroteLine, Wrote, HasEnd, Opens, Unopened, Lives}
+use Rattle.quick_node.specs.Serve.{CutShort, WroteMost, Before, After, End, by_reading, no_index, opening_failed, read_failed, write_failed, out_of_memory, status_of, error_line, error_of, WroteLine, Wrote, HasEnd, Opens, Unopened, Lives}
 use Rattle.quick_node.specs.declared.error_line.End.{End as Ended}
 use Rattle.quick_node.specs.declared.error_line.End.TheVariants as ended
 use Rattle.quick_node.proofs.Driving.{run_ends, run_lives}
@@ -27,11 +29,12 @@ pub record Met (before : Before) (fresh : Node) (e : Ended) (read write : ℕ) (
   pub outcomes : List Outcome
   pub status_is : ended_status e ≡ status_of end
   pub ends : (after : After) → read ≤ after.read_faults → write ≤ after.write_faults → HasEnd before after lines end
-  pub wrote : (low high : ℕ) (piece : List ℕ) → WroteLine low high (last_line e) piece → Wrote low high end (printed outcomes) (text ++ piece)
+  pub wrote : (low high : ℕ) (piece : List ℕ) → WroteLine low high (last_line e) piece → Wrote low high end outcomes (text ++ piece)
   pub lives : Lives before end fresh lines outcomes last
+  pub tell : AllByRecursion MayTell outcomes
   -- and the same where there is no memory for the last line
   pub reads : Reads (length before.log_faults) before.input lines stopped
-  pub front : IsPrefixOf text (printed outcomes)
+  pub front : WroteMost outcomes text
   pub short : Lives before out_of_memory fresh lines outcomes last
 
 -- ---- readings that stopped
@@ -115,27 +118,27 @@ silent : (low high : ℕ) (piece : List ℕ) → WroteLine low high [] piece →
 silent low high piece (inl e) = e
 silent low high piece (inr w) = let rest = w.1 in front_none piece rest.0 rest.1
 
-pub front_on : (text piece all : List ℕ) → IsPrefixOf text all → piece ≡ [] → IsPrefixOf (text ++ piece) all
-front_on text piece all p none = subst (λ t. IsPrefixOf t all) (sym (ap (λ l. text ++ l) none ∙ append-nil text)) p
+nothing_more : (text piece : List ℕ) → piece ≡ [] → text ++ piece ≡ text
+nothing_more text piece none = ap (λ l. text ++ l) none ∙ append-nil text
+
+pub most_on : (outcomes : List Outcome) (text piece : List ℕ) → WroteMost outcomes text → piece ≡ [] → WroteMost outcomes (text ++ piece)
+most_on outcomes text piece w none = subst (λ t. WroteMost outcomes t) (sym (nothing_more text piece none)) w
 
 run_wrote : (end : End) (outcomes : List Outcome) (text : List ℕ) → HasWritten end text outcomes → (low high : ℕ) (piece : List ℕ) → WroteLine low high (error_of end) piece →
-    Wrote low high end (printed outcomes) (text ++ piece)
-run_wrote (by_reading ending) outcomes text w low high piece l = (piece, ap (λ t. t ++ piece) w, l)
+    Wrote low high end outcomes (text ++ piece)
+run_wrote (by_reading ending) outcomes text w low high piece l = record { last = piece; is = ap (λ t. t ++ piece) w; wrote = l }
 run_wrote no_index outcomes text w low high piece l = absurd w
 run_wrote (opening_failed a b) outcomes text w low high piece l = absurd w
-run_wrote read_failed outcomes text w low high piece l = (piece, ap (λ t. t ++ piece) w, l)
-run_wrote write_failed outcomes text w low high piece l = front_on text piece (printed outcomes) w (silent low high piece l)
-run_wrote out_of_memory outcomes text w low high piece l = front_on text piece (printed outcomes) w (silent low high piece l)
+run_wrote read_failed outcomes text w low high piece l = record { last = piece; is = ap (λ t. t ++ piece) w; wrote = l }
+run_wrote write_failed outcomes text w low high piece l = subst (λ t. CutShort outcomes t) (sym (nothing_more text piece (silent low high piece l))) w
+run_wrote out_of_memory outcomes text w low high piece l = most_on outcomes text piece w (silent low high piece l)
 
-whole_front : (text all : List ℕ) → text ≡ all → IsPrefixOf text all
-whole_front text all e = ([], sym e ∙ sym (append-nil text))
-
-run_front : (end : End) (outcomes : List Outcome) (text : List ℕ) → HasWritten end text outcomes → IsPrefixOf text (printed outcomes)
-run_front (by_reading ending) outcomes text w = whole_front text (printed outcomes) w
+run_front : (end : End) (outcomes : List Outcome) (text : List ℕ) → HasWritten end text outcomes → WroteMost outcomes text
+run_front (by_reading ending) outcomes text w = inl w
 run_front no_index outcomes text w = absurd w
 run_front (opening_failed a b) outcomes text w = absurd w
-run_front read_failed outcomes text w = whole_front text (printed outcomes) w
-run_front write_failed outcomes text w = w
+run_front read_failed outcomes text w = inl w
+run_front write_failed outcomes text w = inr w
 run_front out_of_memory outcomes text w = w
 
 module _ (before : Before) (fresh opened : Node) (opens : Opens fresh (Ok tt) opened) where
@@ -162,6 +165,7 @@ module _ (before : Before) (fresh opened : Node) (opens : Opens fresh (Ok tt) op
     ends = λ after ra wa. run_ends before after counts r.lines r.end rb ra wb wa r.ends;
     wrote = λ low high piece l. run_wrote r.end r.outcomes r.text r.wrote low high piece (subst (λ line. WroteLine low high line piece) (run_line e r.end r.is) l);
     lives = run_lives before fresh opened opens r.end r.lines r.outcomes r.last r.did;
+    tell = r.tell;
     reads = run_stops (length before.log_faults) before.input counts r.lines r.end r.ends;
     front = run_front r.end r.outcomes r.text r.wrote;
     short = run_short r.end r.lines r.outcomes r.last r.did;
@@ -175,10 +179,11 @@ module _ (before : Before) (fresh opened : Node) (opens : Opens fresh (Ok tt) op
     outcomes = [];
     status_is = refl;
     ends = λ after ra wa. none;
-    wrote = λ low high piece l. front_on [] piece [] ([], refl) (silent low high piece l);
+    wrote = λ low high piece l. inl (silent low high piece l);
     lives = lives;
+    tell = tt;
     reads = none;
-    front = ([], refl);
+    front = inl refl;
     short = lives;
   }
     where
@@ -208,10 +213,11 @@ module _ (before : Before) (fresh last : Node) (moment : fresh.core.moment ≡ m
     outcomes = [];
     status_is = refl;
     ends = λ after ra wa. none_read;
-    wrote = λ low high piece l. front_on [] piece [] ([], refl) (silent low high piece l);
+    wrote = λ low high piece l. inl (silent low high piece l);
     lives = unopened_short why opens;
+    tell = tt;
     reads = none_read;
-    front = ([], refl);
+    front = inl refl;
     short = unopened_short why opens;
   }
   met_unopened (errors.Refused refusal) why is opens = absurd is
@@ -221,10 +227,11 @@ module _ (before : Before) (fresh last : Node) (moment : fresh.core.moment ≡ m
     outcomes = [];
     status_is = refl;
     ends = λ after ra wa. refl;
-    wrote = λ low high piece l. (piece, refl, subst (λ line. WroteLine low high line piece) (fault_line a b) l);
+    wrote = λ low high piece l. record { last = piece; is = refl; wrote = subst (λ line. WroteLine low high line piece) (fault_line a b) l };
     lives = unopened (not_read (faulted (store_fault a b))) (subst (λ w. Opens fresh (Err w) last) is opens);
+    tell = tt;
     reads = none_read;
-    front = ([], refl);
+    front = inl refl;
     short = unopened_short why opens;
   }
   met_unopened (errors.Missing key) why is opens = absurd is
@@ -237,9 +244,10 @@ module _ (before : Before) (fresh last : Node) (moment : fresh.core.moment ≡ m
     outcomes = [];
     status_is = refl;
     ends = λ after ra wa. refl;
-    wrote = λ low high piece l. (piece, refl, subst (λ line. WroteLine low high line piece) none_line l);
+    wrote = λ low high piece l. record { last = piece; is = refl; wrote = subst (λ line. WroteLine low high line piece) none_line l };
     lives = unopened calls.no_index (subst (λ w. Opens fresh (Err w) last) is opens);
+    tell = tt;
     reads = none_read;
-    front = ([], refl);
+    front = inl refl;
     short = unopened_short why opens;
   }

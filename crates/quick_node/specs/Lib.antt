@@ -5,3 +5,6 @@ pub mod Pieces
 pub mod Held
 pub mod Ending
 pub mod Running
+pub mod Causes
+pub mod Faults
+pub mod CaughtUp

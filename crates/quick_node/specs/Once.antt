@@ -1,5 +1,5 @@
 -- THE PROMISE over a store: which records of the log stand in its published files.
-use Rattle.std.specs.Prelude.{◌≡◌, List, length, flat_map, Some, IsPermutation}
+use Rattle.std.specs.Prelude.{◌≡◌, ℕ, List, length, flat_map, take, Some, IsPermutation}
 use Rattle.std.specs.List.{AllByRecursion}
 use Rattle.std.specs.List.Sorted.{IsStrictlySortedBy}
 use Rattle.std.specs.FinMap.{get}
@@ -27,3 +27,11 @@ pub record HoldsOnce (kept : State) (entries : List Entry) (log : Log) : Type 0 
   pub files : AllByRecursion (λ row. get kept.objects (split_key row.number) ≡ Some (split_file (held row))) (published entries)
   pub once : IsPermutation (flat_map held (published entries)) (visible_at (length entries) entries log)
   pub apart : IsStrictlySortedBy place_order (visible_at (length entries) entries log)
+
+-- The same at a revision, behind so many entries: the rows that were published then have their files still, and these
+-- together are what was visible then.
+pub record HoldsAt (kept : State) (revision : ℕ) (entries : List Entry) (log : Log) : Type 0 where
+  pub held : Row → List Placed
+  pub files : AllByRecursion (λ row. get kept.objects (split_key row.number) ≡ Some (split_file (held row))) (published (take revision entries))
+  pub once : IsPermutation (flat_map held (published (take revision entries))) (visible_at revision entries log)
+  pub apart : IsStrictlySortedBy place_order (visible_at revision entries log)

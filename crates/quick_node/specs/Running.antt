@@ -1,6 +1,6 @@
 -- How a run over the lines of an input ends, and what one line of it does.
 use Rattle.std.specs.Prelude.{◌≡◌, ◌⊎◌, ◌≢◌, ℕ, ◌+◌, ◌≤◌, min, List, [], ◌∷◌, ◌++◌, length, Option, Some, None, Result, Ok, Err, bytes_eq}
-use Rattle.std.specs.List.{list_any}
+use Rattle.std.specs.List.{AllByRecursion, list_any}
 use Rattle.root_search.specs.Steps.{Client}
 use Rattle.std.specs.declared.alloc.AllocError.{AllocError}
 use Rattle.byte_fields.specs.Causes.{Rose}
@@ -9,11 +9,12 @@ use Rattle.node_run.specs.declared.drive.Accepts.TheVariants as accepts
 use Rattle.node_run.specs.Lines.{Spells, printed}
 use Rattle.node_run.specs.Node.{Node, Line, Outcome}
 use Rattle.node_run.specs.Standing.{accepts_of, is_known}
+use Rattle.node_run.specs.Telling.{MayTell, LineMayTell}
 use Rattle.node_run.specs.Turns.{Turn, Turns}
 use Rattle.quick_node.specs.declared.error_line.End.{End as Ended}
 use Rattle.quick_node.specs.declared.error_line.End.TheVariants as ended
 use Rattle.quick_node.specs.Reading.{raw_lines, fits, fit_of, names_in, last_moment, max_clients, Within, Ending, all_read, bad_line, clients_over, line_over, input_over, stopped, Reads}
-use Rattle.quick_node.specs.Serve.{End, by_reading, no_index, opening_failed, read_failed, write_failed, out_of_memory}
+use Rattle.quick_node.specs.Serve.{CutShort, WroteMost, End, by_reading, no_index, opening_failed, read_failed, write_failed, out_of_memory}
 
 -- ---- one line
 
@@ -24,6 +25,7 @@ pub record Does (Stands : Node → Type 0) (text : List ℕ) (node : Node) (said
   pub taken : accepts_of node line ≡ accepts.Yes
   pub last : Node
   pub turn : Turn node line said last
+  pub tells : LineMayTell said
   pub stands : Stands last
 
 -- the text is a line that the node doesn't take, for this reason
@@ -106,14 +108,15 @@ HasRun readers input read_failed node lines outcomes last = Turns node lines out
 HasRun readers input write_failed node lines outcomes last = Turns node lines outcomes last
 HasRun readers input out_of_memory node lines outcomes last = Turns node lines outcomes last ⊎ StopsShort readers input node lines outcomes last
 
--- a line was written for each outcome; where writing failed or memory ran out a front of these lines
+-- A line was written for each outcome. Where writing failed the last outcome is that of the line whose writing failed; where
+-- memory ran out the last one's line may not be written.
 abbrev pub HasWritten : End → List ℕ → List Outcome → Type 0
 HasWritten (by_reading ending) text outcomes = text ≡ printed outcomes
 HasWritten no_index text outcomes = ⊥
 HasWritten (opening_failed low high) text outcomes = ⊥
 HasWritten read_failed text outcomes = text ≡ printed outcomes
-HasWritten write_failed text outcomes = (rest : List ℕ) × (printed outcomes ≡ text ++ rest)
-HasWritten out_of_memory text outcomes = (rest : List ℕ) × (printed outcomes ≡ text ++ rest)
+HasWritten write_failed text outcomes = CutShort outcomes text
+HasWritten out_of_memory text outcomes = WroteMost outcomes text
 
 -- A run over the lines of an input, with so many readers, from this node.
 pub record Runs (Stands : Node → Type 0) (readers : ℕ) (input : List ℕ) (node : Node) (held : List ℕ) (content : Option (List ℕ)) (counts : Counts) (e : Ended) : Type 0 where
@@ -124,6 +127,7 @@ pub record Runs (Stands : Node → Type 0) (readers : ℕ) (input : List ℕ) (n
   pub ends : HasRunEnd readers input counts lines end
   pub last : Node
   pub did : HasRun readers input end node lines outcomes last
+  pub tell : AllByRecursion MayTell outcomes
   pub stands : Stands last
   pub text : List ℕ
   pub written : content ≡ Some (held ++ text)
@@ -167,6 +171,7 @@ pub record IsGoing (Stands : Node → Type 0) (readers : ℕ) (input : List ℕ)
   pub outcomes : List Outcome
   pub mid : Node
   pub turns : Turns begun lines outcomes mid
+  pub tell : AllByRecursion MayTell outcomes
   pub has : HasAnswered readers lines mid
   pub stands : Stands mid
   pub count : number ≡ length lines

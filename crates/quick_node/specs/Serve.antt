@@ -1,5 +1,7 @@
 -- The clause of the top call for the command `drive`.
-use Rattle.std.specs.Prelude.{◌≡◌, ◌⊎◌, ◌≢◌, ℕ, ◌<◌, ◌≤◌, List, [], ◌∷◌, ◌++◌, length, if◌then◌else◌, decimal, codes, map, Ok, Err, Result, ⊤, Option, Some, None, All, bytes_eq}
+use Rattle.std.specs.Prelude.{◌≡◌, ◌⊎◌, ◌≢◌, ℕ, ◌<◌, ◌≤◌, List, [], ◌∷◌, ◌++◌, length, if◌then◌else◌, decimal, codes, map, flat_map, min, sum, Ok, Err, Result, ⊤, Option, Some, None, All, bytes_eq}
+use Rattle.std.specs.List.{AllByRecursion}
+use Rattle.meta_journal.specs.declared.entry.Act.TheVariants.{Create}
 use Rattle.meta_journal.specs.declared.entry.Entry.{Entry}
 use Rattle.object_store.specs.Store.{State}
 use Rattle.source_log.specs.Log.{Log, IsLog, Extends}
@@ -18,8 +20,11 @@ use Rattle.root_search.specs.Steps.{Replied}
 use Rattle.node_run.specs.Lines.{printed}
 use Rattle.node_run.specs.Node.{Node, Line, Open, StepClient, Outcome, client_said, request_opened}
 use Rattle.node_run.specs.Standing.{LetGo}
+use Rattle.node_run.specs.Telling.{MayTell}
 use Rattle.node_run.specs.Turns.{Turn, Turns, turns, opened_node}
-use Rattle.quick_node.specs.Once.{HoldsOnce}
+use Rattle.quick_node.specs.CaughtUp.{unseen, CatchesUp}
+use Rattle.quick_node.specs.Faults.{Interval, AreBetween, store_told}
+use Rattle.quick_node.specs.Once.{HoldsOnce, HoldsAt}
 use Rattle.quick_node.specs.Reading.{Ending, all_read, bad_line, clients_over, line_over, input_over, stopped, Reads, max_clients, max_line, max_input}
 
 abbrev pub IsPrefixOf : {X : Type 0} → List X → List X → Type 0
@@ -97,14 +102,35 @@ error_of out_of_memory = []
 abbrev pub WroteLine : ℕ → ℕ → List ℕ → List ℕ → Type 0
 WroteLine before after line text = (text ≡ line) ⊎ (Rose before after × IsPrefixOf text line)
 
--- these lines and then the status's own; where writing failed or memory ran out a front of the lines
-abbrev pub Wrote : ℕ → ℕ → End → List ℕ → List ℕ → Type 0
-Wrote before after (by_reading ending) lines text = (last : List ℕ) × (text ≡ lines ++ last) × WroteLine before after (reading_error ending) last
-Wrote before after no_index lines text = (last : List ℕ) × (text ≡ lines ++ last) × WroteLine before after (error_of no_index) last
-Wrote before after (opening_failed low high) lines text = (last : List ℕ) × (text ≡ lines ++ last) × WroteLine before after (error_of (opening_failed low high)) last
-Wrote before after read_failed lines text = (last : List ℕ) × (text ≡ lines ++ last) × WroteLine before after (error_of read_failed) last
-Wrote before after write_failed lines text = IsPrefixOf text lines
-Wrote before after out_of_memory lines text = IsPrefixOf text lines
+-- The lines of all outcomes but the last were written, and a front of that one's.
+pub record CutShort (outcomes : List Outcome) (text : List ℕ) : Type 0 where
+  pub whole : List Outcome
+  pub last : Outcome
+  pub are : outcomes ≡ whole ++ last ∷ []
+  pub front : List ℕ
+  pub rest : List ℕ
+  pub line : printed (last ∷ []) ≡ front ++ rest
+  pub is : text ≡ printed whole ++ front
+
+-- The lines of all outcomes were written, but for the end of the last.
+abbrev pub WroteMost : List Outcome → List ℕ → Type 0
+WroteMost outcomes text = (text ≡ printed outcomes) ⊎ CutShort outcomes text
+
+-- these lines, and then the status's own
+pub record WroteAll (before after : ℕ) (outcomes : List Outcome) (line text : List ℕ) : Type 0 where
+  pub last : List ℕ
+  pub is : text ≡ printed outcomes ++ last
+  pub wrote : WroteLine before after line last
+
+-- A line for each outcome, and then the status's own. Where writing failed the last outcome is that of the line whose
+-- writing failed; where memory ran out the last one's line may not be written.
+abbrev pub Wrote : ℕ → ℕ → End → List Outcome → List ℕ → Type 0
+Wrote before after (by_reading ending) outcomes text = WroteAll before after outcomes (reading_error ending) text
+Wrote before after no_index outcomes text = WroteAll before after outcomes (error_of no_index) text
+Wrote before after (opening_failed low high) outcomes text = WroteAll before after outcomes (error_of (opening_failed low high)) text
+Wrote before after read_failed outcomes text = WroteAll before after outcomes (error_of read_failed) text
+Wrote before after write_failed outcomes text = CutShort outcomes text
+Wrote before after out_of_memory outcomes text = WroteMost outcomes text
 
 -- which lines were read, and why no more were answered
 abbrev pub HasEnd : Before → After → List Line → End → Type 0
@@ -168,6 +194,15 @@ Lives before write_failed fresh lines outcomes last = Answers fresh lines outcom
 Lives before out_of_memory fresh lines outcomes last =
     ((lines ≡ []) × (outcomes ≡ []) × (last ≡ fresh)) ⊎ (Unopened fresh lines outcomes (not_read no_memory) last
     ⊎ (Answers fresh lines outcomes last ⊎ RanShort before fresh lines outcomes last))
+
+-- the fault of the store that the last line tells
+abbrev pub end_told : End → List Interval
+end_told (by_reading ending) = []
+end_told no_index = []
+end_told (opening_failed low high) = record { low = low; high = high } ∷ []
+end_told read_failed = []
+end_told write_failed = []
+end_told out_of_memory = []
 
 abbrev pub log_faults_of : Indexer → ℕ
 log_faults_of indexer = indexer.log_faults
@@ -246,15 +281,26 @@ pub record Drives (history : List Entry) (before : Before) (after : After) (stat
   -- what was written: a line for each of these, and the last line of the status
   pub text : List ℕ
   pub written : after.written ≡ before.written ++ text
-  pub wrote : Wrote before.write_faults after.write_faults end (printed outcomes) text
+  pub wrote : Wrote before.write_faults after.write_faults end outcomes text
   -- the journal at entry is a prefix of the journal at exit, and the store is an index again
   pub exit : List Entry
   pub index : IsIndexOf after.kept exit before.log
   pub goes_on : IsPrefixOf history exit
   -- each accepted record below the checkpoints that is not removed stands once in the published files, and nothing else does
   pub once : HoldsOnce after.kept exit before.log
-  -- each search is answered, whatever failed
+  -- so it was at each revision of the journal
+  pub always : (revision : ℕ) → HoldsAt after.kept revision exit before.log
+  -- each reply with hits is right, whatever failed
   pub searches : AnswersFrom exit before.log (length history) [] lines outcomes
+  -- each fault of the store that a line tells has its count before and behind, of which the second rose: these lie one behind
+  -- another between the counts at entry and at exit
+  pub faults : before.store_faults ≤ last_count → AreBetween before.store_faults (end_told end ++ flat_map store_told outcomes) after.store_faults
+  -- so where that count stood still none tells any, whatever was late
+  pub faultless : StoodStill before.store_faults after.store_faults → end_told end ++ flat_map store_told outcomes ≡ []
+  -- each indexer says that it caught up exactly where the checkpoints that it saw are the ends of its partitions
+  pub catch_up : (i : ℕ) → i < length before.log_faults → CatchesUp exit before.log i (length history) unseen lines outcomes
+  -- no line tells that a key is foreign, and what fails but for the entry of an indexer is the store
+  pub tell : AllByRecursion MayTell outcomes
   -- the node of the store at entry did all this, whatever failed
   pub fresh : Node
   pub is_fresh : IsFresh before history fresh
@@ -291,12 +337,13 @@ pub record Shows {S L R W : Type 0} (told : S → Option State) (count : S → �
   pub logs_show : LogsShow log_told log_count logs before
   pub streams_show : StreamsShow left read_count taken write_count input output before
 
--- and behind the call this
-pub record ShowsAfter {S L R W : Type 0} (told : S → Option State) (log_count : L → ℕ) (since : L → L → Type 0) (read_count : R → ℕ)
+-- and behind the call this; the counts that the call reports are those of the store that it gives back and of the logs
+pub record ShowsAfter {S L R W : Type 0} (told : S → Option State) (count : S → ℕ) (log_count : L → ℕ) (since : L → L → Type 0) (read_count : R → ℕ)
     (taken : W → Option (List ℕ)) (write_count : W → ℕ) (store : S) (store_faults log_faults : ℕ) (logs : List L) (input : R) (output : W)
     (after : After) : Type 0 where
   pub kept : told store ≡ Some after.kept
-  pub store_count : store_faults ≡ after.store_faults
+  pub store_count : count store ≡ after.store_faults
+  pub reported : store_faults ≡ after.store_faults
   pub let_go : LetGo log_count since logs after.log_faults log_faults
   pub read_faults : read_count input ≡ after.read_faults
   pub written : taken output ≡ Some after.written
@@ -310,15 +357,22 @@ pub record EntersAs (history : List Entry) (before : Before) : Type 0 where
   pub extends : Extends log before.log
   pub index : IsIndexOf before.kept history log
 
+-- the first entry of an index
+abbrev pub create_entry : ℕ → List ℕ → Entry
+create_entry moment config = record { moment = moment; act = Create config }
+
 -- the words of the command line are `drive` alone
 abbrev pub IsDrive : List (List ℕ) → Type 0
 IsDrive given = given ≡ codes "drive" ∷ []
 
--- other words are answered before anything else: nothing is read, and the store is as it was
-pub record RefusesWords {S R : Type 0} (told : S → Option State) (count : S → ℕ) (left : R → Option (List ℕ)) (read_count : R → ℕ)
-    (store after_store : S) (input after_input : R) : Type 0 where
+-- Other words are answered before anything else: nothing is read, the store is as it was, and the counts that are reported
+-- are those of the store and of the logs as they were handed in.
+pub record RefusesWords {S L R : Type 0} (told : S → Option State) (count : S → ℕ) (log_count : L → ℕ) (left : R → Option (List ℕ)) (read_count : R → ℕ)
+    (store after_store : S) (logs : List L) (store_faults log_faults : ℕ) (input after_input : R) : Type 0 where
   pub kept : told after_store ≡ told store
   pub store_count : count after_store ≡ count store
+  pub reported : store_faults ≡ count store
+  pub log_sum : log_faults ≡ min (sum (map log_count logs)) last_count
   pub left_same : left after_input ≡ left input
   pub read_same : read_count after_input ≡ read_count input
 

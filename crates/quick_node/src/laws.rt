@@ -1,16 +1,20 @@
 //! What holds of each run, by its definitions alone. Each law is the contract of a function that does nothing.
 
-ghost use Rattle.std.specs.Prelude.{◌≡◌, ◌⊎◌, ◌≢◌, ℕ, ◌<◌, ◌≤◌, List, [], ◌∷◌, ◌++◌, length, Option, Some, Ok};
+ghost use Rattle.std.specs.Prelude.{◌≡◌, ◌⊎◌, ◌≢◌, ℕ, ◌<◌, ◌≤◌, List, [], ◌∷◌, ◌++◌, length, Option, Some, Ok, IsSome};
+ghost use Rattle.std.specs.FinMap.{empty};
+ghost use Rattle.meta_journal.specs.Places.{meta_key};
+ghost use Rattle.meta_journal.specs.Spelling.{Spells, CanSpell};
+ghost use Rattle.index_world.specs.Config.{read_config};
 ghost use Rattle.meta_journal.specs.declared.entry.Entry.{Entry};
-ghost use Rattle.object_store.specs.Store.{State};
+ghost use Rattle.object_store.specs.Store.{State, with_object};
 ghost use Rattle.source_log.specs.Log.{Log, IsLog};
 ghost use Rattle.index_world.specs.Index.{IsIndexOf};
 ghost use Rattle.node_run.specs.Node.{Node, Line, Outcome};
 ghost use Rattle.node_run.specs.Turns.{Turn, turns};
-ghost use Rattle.quick_node.specs.Once.{HoldsOnce};
+ghost use Rattle.quick_node.specs.Once.{HoldsOnce, HoldsAt};
 ghost use Rattle.quick_node.specs.Reading.{Ending, stopped, Reads};
 ghost use Rattle.quick_node.specs.Running.{Counts, HasRun, HasRunEnd};
-ghost use Rattle.quick_node.specs.Serve.{IsPrefixOf, Before, After, End, HasEnd, IsFresh, Opens, Answers, Lives, IsShown, IsCalm, AnswersFrom, status_of, reading_status};
+ghost use Rattle.quick_node.specs.Serve.{IsPrefixOf, Before, After, End, HasEnd, IsFresh, Opens, Answers, Lives, IsShown, IsCalm, AnswersFrom, EntersAs, create_entry, status_of, reading_status};
 
 /// The published files of a sound index hold each accepted record below the checkpoints that is not removed once, and
 /// nothing else.
@@ -18,9 +22,20 @@ pub fn an_index_holds_each_record_once()
     ensures { (kept : State) (entries : List Entry) (log : Log) → IsLog log → IsIndexOf kept entries log → HoldsOnce kept entries log }
 {}
 
-/// Whatever lands and fails, the journal at entry is a prefix of each history that the last node's is a prefix of, and
-/// each search is answered.
-pub fn searches_are_answered()
+/// So do those of each revision: the rows that were published then have their files still.
+pub fn an_index_held_each_record_once_at_each_revision()
+    ensures { (kept : State) (revision : ℕ) (entries : List Entry) (log : Log) → IsLog log → IsIndexOf kept entries log → HoldsAt kept revision entries log }
+{}
+
+/// A store whose one object is a Create of a readable configuration, with nothing late, is such an index over every log.
+pub fn a_new_index_enters()
+    ensures { (config bytes : List ℕ) (moment : ℕ) (before : Before) → IsSome (read_config config) → Spells bytes (create_entry moment config) → CanSpell (create_entry moment config) →
+        before.kept ≡ with_object (record { objects = empty; late = [] }) (meta_key 0) bytes → IsLog before.log → EntersAs (create_entry moment config ∷ []) before }
+{}
+
+/// Whatever lands and fails, the journal at entry is a prefix of each history that the last node's is a prefix of, and each
+/// reply with hits is the answer to what its client asked last, over one revision of that history.
+pub fn replies_with_hits_are_right()
     ensures { (history exit : List Entry) (before : Before) (fresh : Node) → IsFresh before history fresh →
         (end : End) (lines : List Line) (outcomes : List Outcome) (last : Node) → Lives before end fresh lines outcomes last →
         IsPrefixOf last.core.history exit →

@@ -1,12 +1,13 @@
 //! The lines of an input, one after another.
 
-ghost use Rattle.std.specs.Prelude.{◌≡◌, ◌≤◌, ◌<◌, ◌+◌, ℕ, List, [], Some, None, length, vec_len, IfOk};
+ghost use Rattle.std.specs.Prelude.{◌≡◌, ◌≤◌, ◌<◌, ◌+◌, ℕ, List, [], Some, None, length, vec_len, IfOk, IfSome};
 ghost use Rattle.node_run.specs.declared.drive.Accepts.TheVariants.{Yes};
 ghost use Rattle.node_run.specs.Fitting.{IsNumbered};
 ghost use Rattle.node_run.specs.Lines.{Spells};
 ghost use Rattle.node_run.specs.Node.{Node};
 ghost use Rattle.node_run.specs.Seen.{seen};
 ghost use Rattle.node_run.specs.Standing.{NodeStands, accepts_of};
+ghost use Rattle.quick_node.specs.Causes.{EndsLineBy, EndsRunBy};
 ghost use Rattle.quick_node.specs.Running.{Counts, counts_of, TakesLine, IsGoing, GoesOrEnds, Runs, RunsOrShort};
 ghost use Rattle.quick_node.specs.Held.{held as in_hand};
 
@@ -31,6 +32,7 @@ fn take_line<Rt: Threads + Sync, S: ObjectStore, L: SourceLog, W: Sink>(
     output: &mut W,
 ) -> Result<Option<End>, AllocError>
     ensures counted { W.fault_count output.old ≤ W.fault_count output.new }
+    ensures causes { IfOk result (λ end. IfSome end (EndsLineBy (W.fault_count output.old) (W.fault_count output.new))) }
     ensures takes { (firsts : List L) (mid : Node) (held : List ℕ) → NodeStands L.told L.fault_count L.since firsts node.old mid → W.content output.old ≡ Some held →
         TakesLine (λ n. NodeStands L.told L.fault_count L.since firsts node.new n) text.now number mid held (W.content output.new)
         (W.fault_count output.old) (W.fault_count output.new) result }
@@ -57,6 +59,7 @@ fn answer_line<Rt: Threads + Sync, S: ObjectStore, L: SourceLog, W: Sink>(
 ) -> Result<Option<End>, AllocError>
     requires { IsNumbered line.now (vec_len node.old.indexers) }
     ensures counted { W.fault_count output.old ≤ W.fault_count output.new }
+    ensures causes { IfOk result (λ end. IfSome end (EndsLineBy (W.fault_count output.old) (W.fault_count output.new))) }
     ensures takes { (firsts : List L) (mid : Node) (text : List ℕ) (number : ℕ) (held : List ℕ) →
         NodeStands L.told L.fault_count L.since firsts node.old mid → Spells text (seen line.now) → accepts_of mid (seen line.now) ≡ Yes →
         W.content output.old ≡ Some held →
@@ -85,6 +88,7 @@ fn next_line<Rt: Threads + Sync, S: ObjectStore, L: SourceLog, R: Source, W: Sin
     ensures moves { IfOk result (λ end. end ≡ None → lines.old.taken < lines.new.taken) }
     ensures read { R.fault_count input.old ≤ R.fault_count input.new }
     ensures written { W.fault_count output.old ≤ W.fault_count output.new }
+    ensures causes { IfOk result (λ end. IfSome end (EndsRunBy (counts_of (R.fault_count input.old) (R.fault_count input.new) (W.fault_count output.old) (W.fault_count output.new)))) }
     ensures goes { (firsts : List L) (readers : ℕ) (text : List ℕ) (begun : Node) (held : List ℕ) (counts : Counts) →
         IsGoing (λ n. NodeStands L.told L.fault_count L.since firsts node.old n) readers text begun held (W.content output.old) (R.left input.old) (in_hand lines.old) lines.old.taken number →
         counts.read_before ≤ R.fault_count input.old → R.fault_count input.new ≤ counts.read_after →
@@ -119,6 +123,7 @@ fn run_lines<Rt: Threads + Sync, S: ObjectStore, L: SourceLog, R: Source, W: Sin
 ) -> Result<End, AllocError>
     ensures read { R.fault_count input.old ≤ R.fault_count input.new }
     ensures written { W.fault_count output.old ≤ W.fault_count output.new }
+    ensures causes { IfOk result (EndsRunBy (counts_of (R.fault_count input.old) (R.fault_count input.new) (W.fault_count output.old) (W.fault_count output.new))) }
     ensures runs { (firsts : List L) (begun : Node) (text held : List ℕ) → NodeStands L.told L.fault_count L.since firsts node.old begun →
         begun.core.clock ≡ 0 → begun.clients ≡ [] → R.left input.old ≡ Some text → W.content output.old ≡ Some held →
         RunsOrShort (λ n. NodeStands L.told L.fault_count L.since firsts node.new n) (length begun.indexers) text begun held (W.content output.new)
@@ -146,6 +151,7 @@ pub fn run<Rt: Threads + Sync, S: ObjectStore, L: SourceLog, R: Source, W: Sink>
 ) -> End
     ensures read { R.fault_count input.old ≤ R.fault_count input.new }
     ensures written { W.fault_count output.old ≤ W.fault_count output.new }
+    ensures causes { EndsRunBy (counts_of (R.fault_count input.old) (R.fault_count input.new) (W.fault_count output.old) (W.fault_count output.new)) result }
     ensures runs { (firsts : List L) (begun : Node) (text held : List ℕ) → NodeStands L.told L.fault_count L.since firsts node.old begun →
         begun.core.clock ≡ 0 → begun.clients ≡ [] → R.left input.old ≡ Some text → W.content output.old ≡ Some held →
         Runs (λ n. NodeStands L.told L.fault_count L.since firsts node.new n) (length begun.indexers) text begun held (W.content output.new)

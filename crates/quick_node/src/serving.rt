@@ -1,6 +1,6 @@
 //! The top call: one command over a store, logs, a clock, an input and an output.
 
-ghost use Rattle.std.specs.Prelude.{◌≡◌, ◌≤◌, ◌↔◌, ℕ, List, Some, Ok, IsTrue, map, min, sum};
+ghost use Rattle.std.specs.Prelude.{◌≡◌, ◌⊎◌, ◌≤◌, ◌↔◌, ℕ, List, Some, Ok, IsTrue, map, min, sum};
 ghost use Rattle.std.specs.String.{string_bytes};
 ghost use Rattle.meta_journal.specs.declared.entry.Entry.{Entry};
 ghost use Rattle.source_log.specs.Log.{IsLog};
@@ -8,7 +8,8 @@ ghost use Rattle.index_world.specs.Core.{last_count};
 ghost use Rattle.index_world.specs.World.{WorldStands};
 ghost use Rattle.node_run.specs.Node.{Node};
 ghost use Rattle.node_run.specs.Standing.{NodeStands};
-ghost use Rattle.quick_node.specs.Ending.{EndsSo};
+ghost use Rattle.quick_node.specs.Causes.{faults_of, IsOneOf, other_statuses, DriveCauses, HasCauses, IsStatusOf};
+ghost use Rattle.quick_node.specs.Ending.{EndsSo, ended_status};
 ghost use Rattle.quick_node.specs.Serve.{Before, After, LogsShow, StreamsShow, Shows, ShowsAfter, EntersAs, IsFresh, Opens, Drives, IsDrive, RefusesWords, WroteWords};
 
 use crate::error_line::{End, print_end, status_of};
@@ -55,6 +56,7 @@ fn ended<S: ObjectStore, W: Sink>(
     ensures store_faults { result.store_faults ≡ S.fault_count store }
     ensures log_faults { result.log_faults ≡ log_faults }
     ensures counted { W.fault_count output.old ≤ W.fault_count output.new }
+    ensures status { (result.status ≡ ended_status end.now) ⊎ (result.status ≡ 11) }
     ensures writes { (held : List ℕ) → W.content output.old ≡ Some held →
         EndsSo end.now held (W.content output.new) (W.fault_count output.old) (W.fault_count output.new) result.status }
 {
@@ -91,6 +93,10 @@ fn refuse<S: ObjectStore, L: SourceLog, W: Sink>(
     output: &mut W,
 ) -> Finished<S>
     ensures store { result.store ≡ store }
+    ensures store_faults { result.store_faults ≡ S.fault_count store }
+    ensures log_faults { result.log_faults ≡ min (sum (map L.fault_count logs.items)) last_count }
+    ensures counted { W.fault_count output.old ≤ W.fault_count output.new }
+    ensures status { IsOneOf result.status other_statuses }
     ensures writes { WroteWords result.status (W.fault_count output.old) (W.fault_count output.new) (W.content output.old) (W.content output.new) }
 {
     let log_faults = sum_of_faults(logs.as_slice());
@@ -106,12 +112,15 @@ fn drive_node<Rt: Threads + Sync, S: ObjectStore, L: SourceLog, R: Source, W: Si
     input: &mut R,
     output: &mut W,
 ) -> Finished<S>
-    ensures { (history : List Entry) (before : Before) (firsts : List L) (fresh opened : Node) → IsFresh before history fresh → Opens fresh (Ok tt) opened →
+    ensures drives { (history : List Entry) (before : Before) (firsts : List L) (fresh opened : Node) → IsFresh before history fresh → Opens fresh (Ok tt) opened →
         NodeStands L.told L.fault_count L.since firsts node opened →
         StreamsShow R.left R.fault_count W.content W.fault_count input.old output.old before →
-        (after : After) × ShowsAfter S.told L.fault_count L.since R.fault_count W.content W.fault_count
+        (after : After) × ShowsAfter S.told S.fault_count L.fault_count L.since R.fault_count W.content W.fault_count
         result.store result.store_faults result.log_faults firsts input.new output.new after
         × Drives history before after result.status }
+    ensures causes { (low high : ℕ) → DriveCauses (faults_of low (R.fault_count input.old) (W.fault_count output.old))
+        (faults_of high (R.fault_count input.new) (W.fault_count output.new)) result.status }
+    ensures store_faults { result.store_faults ≡ S.fault_count result.store }
 {
     let mut node = node;
     let end = run(rt, alloc, &mut node, input, output);
@@ -129,12 +138,15 @@ fn drive_world<Rt: Threads + Sync, S: ObjectStore, L: SourceLog, R: Source, W: S
     input: &mut R,
     output: &mut W,
 ) -> Finished<S>
-    ensures { (history : List Entry) (before : Before) (fresh opened : Node) → IsFresh before history fresh → Opens fresh (Ok tt) opened →
+    ensures drives { (history : List Entry) (before : Before) (fresh opened : Node) → IsFresh before history fresh → Opens fresh (Ok tt) opened →
         WorldStands world opened.core before.log → IsLog before.log → LogsShow L.told L.fault_count logs.items before →
         StreamsShow R.left R.fault_count W.content W.fault_count input.old output.old before →
-        (after : After) × ShowsAfter S.told L.fault_count L.since R.fault_count W.content W.fault_count
+        (after : After) × ShowsAfter S.told S.fault_count L.fault_count L.since R.fault_count W.content W.fault_count
         result.store result.store_faults result.log_faults logs.items input.new output.new after
         × Drives history before after result.status }
+    ensures causes { (low high : ℕ) → DriveCauses (faults_of low (R.fault_count input.old) (W.fault_count output.old))
+        (faults_of high (R.fault_count input.new) (W.fault_count output.new)) result.status }
+    ensures store_faults { result.store_faults ≡ S.fault_count result.store }
 {
     match DriveNode::start(alloc, world, logs) {
         Ok(node) => drive_node(rt, alloc, node, input, output),
@@ -161,12 +173,15 @@ fn drive<Rt: Threads + Sync, S: ObjectStore, L: SourceLog, R: Source, W: Sink>(
     input: &mut R,
     output: &mut W,
 ) -> Finished<S>
-    ensures { (history : List Entry) (before : Before) →
+    ensures drives { (history : List Entry) (before : Before) →
         Shows S.told S.fault_count L.told L.fault_count R.left R.fault_count W.content W.fault_count store logs.items input.old output.old before →
         EntersAs history before →
-        (after : After) × ShowsAfter S.told L.fault_count L.since R.fault_count W.content W.fault_count
+        (after : After) × ShowsAfter S.told S.fault_count L.fault_count L.since R.fault_count W.content W.fault_count
         result.store result.store_faults result.log_faults logs.items input.new output.new after
         × Drives history before after result.status }
+    ensures causes { DriveCauses (faults_of (S.fault_count store) (R.fault_count input.old) (W.fault_count output.old))
+        (faults_of (S.fault_count result.store) (R.fault_count input.new) (W.fault_count output.new)) result.status }
+    ensures store_faults { result.store_faults ≡ S.fault_count result.store }
 {
     match World::load(alloc, store, ScriptClock::at(0)) {
         Ok(world) => drive_world(rt, alloc, world, logs, input, output),
@@ -202,12 +217,16 @@ pub fn serve<
     ensures drives { (history : List Entry) (before : Before) → IsDrive (map string_bytes words.now) →
         Shows S.told S.fault_count L.told L.fault_count R.left R.fault_count W.content W.fault_count store logs.items input.old output.old before →
         EntersAs history before →
-        (after : After) × ShowsAfter S.told L.fault_count L.since R.fault_count W.content W.fault_count
+        (after : After) × ShowsAfter S.told S.fault_count L.fault_count L.since R.fault_count W.content W.fault_count
         result.store result.store_faults result.log_faults logs.items input.new output.new after
         × Drives history before after result.status }
     ensures refuses { (IsDrive (map string_bytes words.now) → ⊥) →
-        RefusesWords S.told S.fault_count R.left R.fault_count store result.store input.old input.new
+        RefusesWords S.told S.fault_count L.fault_count R.left R.fault_count store result.store logs.items result.store_faults result.log_faults input.old input.new
         × WroteWords result.status (W.fault_count output.old) (W.fault_count output.new) (W.content output.old) (W.content output.new) }
+    ensures causes { HasCauses (faults_of (S.fault_count store) (R.fault_count input.old) (W.fault_count output.old))
+        (faults_of (S.fault_count result.store) (R.fault_count input.new) (W.fault_count output.new)) result.status }
+    ensures statuses { IsStatusOf (map string_bytes words.now) result.status }
+    ensures counts { result.store_faults ≡ S.fault_count result.store }
 {
     if !is_drive(words) {
         return refuse(alloc, store, logs, output);

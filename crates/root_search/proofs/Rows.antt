@@ -127,7 +127,7 @@ published_on h moment (Retire numbers) n a = a
 sound_before : (kept : State) (tasks : List KeptTask) (log : Log) (row : Row) → IsRowKept kept tasks log (published row) → IsRowKept kept tasks log row
 sound_before kept tasks log row k e = let s = k refl in record { file = s.file; facts = s.facts; documents = s.documents; weight = s.weight }
 
-kept_before : (kept : State) (log : Log) (h : History) (moment : ℕ) (act : Act) → IsBuilt act →
+pub kept_before : (kept : State) (log : Log) (h : History) (moment : ℕ) (act : Act) → IsBuilt act →
     AllByRecursion (IsRowKept kept (ledger (h ▸ record { moment = moment; act = act })).tasks log) (rows (h ▸ record { moment = moment; act = act })) →
     AllByRecursion (IsRowKept kept (ledger h).tasks log) (rows h)
 kept_before kept log h moment Fence f all = all

@@ -220,8 +220,8 @@ left_next n numbers (r ∷ rows) =
       | inr away ↦
           let there : (n == r.number) ≡ false = turned n r.number ∙ away in
           rw (away, there) (elim (Repeats numbers r.number) as (λ (b : Bool).
-              cond (not b) (r ∷ filter (is_left numbers) (without n rows)) (filter (is_left numbers) (without n rows))
-              ≡ cond (not b) (r ∷ filter (is_left (n ∷ numbers)) rows) (filter (is_left (n ∷ numbers)) rows)) [
+          cond (not b) (r ∷ filter (is_left numbers) (without n rows)) (filter (is_left numbers) (without n rows))
+          ≡ cond (not b) (r ∷ filter (is_left (n ∷ numbers)) rows) (filter (is_left (n ∷ numbers)) rows)) [
             | true ↦ rest
             | false ↦ ap (λ (l : List Row). r ∷ l) rest
           ])

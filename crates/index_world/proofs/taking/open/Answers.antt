@@ -7,8 +7,9 @@ use Rattle.meta_journal.specs.declared.journal_error.JournalError.{JournalError}
 use Rattle.meta_store.specs.History.{history, moment_of}
 use Rattle.meta_store.specs.State.{Legal, state_of}
 use Rattle.index_world.specs.Config.{reads}
-use Rattle.index_world.specs.Taking.{IsWant}
-use Rattle.index_world.proofs.Fronts.{AreTimely, some_entry}
+use Rattle.index_world.specs.Taking.{IsFaultBetween, IsNoFault, IsWant}
+use Rattle.index_world.proofs.Fronts.{AreTimely, err_so, some_entry}
+use Rattle.index_world.proofs.Faulted.{no_fault_between, fault_between}
 use Rattle.index_world.proofs.Reading.{opening_failed, opening_empty, opening_short_by, opening_ok, read_legal, read_timely, loads_ok_at, loads_err_at}
 use Rattle.object_store.proofs.Told.{told_map}
 use Rattle.meta_store.specs.History.History.{Start}
@@ -85,3 +86,14 @@ returns-in-Err-clause-step g c old core log e at w clock =
     opening_failed old core log _ _ _ _ e w at c.load-answer.ensures.later (omega (arith, counts, fits)) _ _ c.in-Err.error _ c.world_error.ensures c.faults-before.ensures
     (subst (λ (r : Result (Numbered × List Entry) JournalError). IfErr r (FaultIs (g.S.ObjectStore.fault_count c.args.store.now) (g.S.ObjectStore.fault_count c.load-answer.new.store))) said c.load-answer.ensures.faults)
     (loads_err_at _ _ _ _ said c.load-answer.ensures.answer)
+
+pub returns-in_err-meta-in-Ok-clause-faults : goal.returns-in_err-meta-in-Ok-clause-faults
+returns-in_err-meta-in-Ok-clause-faults g c =
+    err_so c.from_residual.result _ (IsFaultBetween (g.S.ObjectStore.fault_count c.args.store.now) (g.S.ObjectStore.fault_count c.load-answer.new.store)) c.from_residual.ensures.1
+    (λ error is. no_fault_between _ _ error (subst IsNoFault (sym is) c.in_err-meta-in-Ok.ensures.no_fault))
+
+pub returns-in-Err-clause-faults : goal.returns-in-Err-clause-faults
+returns-in-Err-clause-faults g c =
+    let said : c.load-answer.result ≡ Err c.in-Err.error = cc in
+    fault_between _ _ 0 c.faults-before.result c.in-Err.error c.world_error.result c.world_error.ensures c.faults-before.ensures
+    (subst (λ (r : Result (Numbered × List Entry) JournalError). IfErr r (FaultIs (g.S.ObjectStore.fault_count c.args.store.now) (g.S.ObjectStore.fault_count c.load-answer.new.store))) said c.load-answer.ensures.faults)

@@ -4,7 +4,7 @@ use Rattle.std.specs.Prelude.{IsOk}
 use Rattle.meta_store.specs.Answers.{answer_to}
 use Rattle.meta_store.specs.History.History.{Start}
 use Rattle.index_world.specs.Opened.{first_refused}
-use Rattle.index_world.specs.Taking.{IsWant, IsUnfit, IsRefusedAt}
+use Rattle.index_world.specs.Taking.{IsNoFault, IsWant, IsUnfit, IsRefusedAt}
 use Rattle.index_world.specs.Config.{reads}
 use Rattle.index_world.proofs.Fronts.{front_start, front_more, front_answers, front_state, front_moment, front_refused, front_none, err_so, no_entry_left}
 use Rattle.index_world.proofs.taking.state_of.Goals as goal
@@ -66,3 +66,7 @@ returns-clause-greatest c low =
     let z = c.in_default.ensures.cases.0 in
     let ok = c.entries.left.ok.0 in
     front_moment _ _ _ _ c.entries.invariant.front (no_entry_left c.entries.left.items (omega (arith, z, ok))) low
+
+pub returns-in_err-admit-clause-no_fault : goal.returns-in_err-admit-clause-no_fault
+returns-in_err-admit-clause-no_fault c =
+    err_so c.from_residual.result _ IsNoFault c.from_residual.ensures.1 (λ error is. subst IsNoFault (sym is) c.in_err-admit.ensures.no_fault)

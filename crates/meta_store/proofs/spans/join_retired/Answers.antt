@@ -1,11 +1,9 @@
-use Rattle.std.proofs.Common.{◌≡◌, ◌∙◌, ap, get_or, length, subst, arith}
+use Rattle.std.proofs.Common.{◌∙◌, ap, length, arith}
 use Rattle.std.specs.Prelude.{map}
-use Rattle.std.specs.Option.{option_copied}
-use Rattle.std.proofs.lemmas.List.{length-append}
 use Rattle.source_checkpoint.specs.Deltas.{range_of}
-use Rattle.split_states.specs.Rows.{row_spans, row_at}
+use Rattle.split_states.specs.Rows.{row_spans}
 use Rattle.meta_store.specs.Retired.{with_ranges}
-use Rattle.meta_store.proofs.Retiring.{retired_next, joined_next, spans_long}
+use Rattle.meta_store.proofs.Retiring.{retired_next, spans_long}
 use Rattle.meta_store.proofs.spans.join_retired.Goals as goal
 
 pub loop-number-preserved : goal.loop-number-preserved

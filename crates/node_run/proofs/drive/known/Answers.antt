@@ -12,7 +12,7 @@ use Rattle.node_run.proofs.Names.{known_stays, unknown_fresh, unknown_with, push
 use Rattle.node_run.proofs.drive.known.Goals as goal
 
 abbrev some_core : Core
-some_core = record { history = []; store_faults = 0; moment = 0; clock = 0; files = []; unsure = false; standing = None; late = [] }
+some_core = record { history = []; store_faults = 0; moment = 0; clock = 0; frozen = false; files = []; unsure = false; standing = None; late = [] }
 
 pub returns-in-Some-clause-bound : goal.returns-in-Some-clause-bound
 returns-in-Some-clause-bound c =

@@ -4,6 +4,7 @@ use Rattle.std.specs.Prelude.{Some}
 use Rattle.node_run.specs.Standing.{NodeStands}
 use Rattle.node_run.specs.Seen.{seen}
 use Rattle.quick_node.proofs.Taking.{short_takes, did_line, said_line}
+use Rattle.quick_node.proofs.Going.{if_ok_err}
 use Rattle.quick_node.proofs.running.answer_line.Goals as goal
 
 pub step-requires-after_bounds : goal.step-requires-after_bounds
@@ -46,3 +47,15 @@ returns-clause-takes g c firsts mid text number held stands spells taken told =
     (c.in_ok-said.ensures firsts mid stands spells.formed) in
     let w = c.in-Err.ensures.writes held told in
     (s.0, s.1, (w.0, w.1, w.2, sym s.2 ∙ sym c.in_ok-push.ensures.ok ∙ sym c.as_slice.ensures ∙ w.3), c.in-Err.ensures.cause.failed refl)
+
+pub returns-in_err-said-clause-causes : goal.returns-in_err-said-clause-causes
+returns-in_err-said-clause-causes g c = if_ok_err c.from_residual.result _ c.from_residual.ensures.0
+
+pub returns-in_err-push-clause-causes : goal.returns-in_err-push-clause-causes
+returns-in_err-push-clause-causes g c = if_ok_err c.from_residual-in_err-push.result _ c.from_residual-in_err-push.ensures.0
+
+pub returns-in-Ok-clause-causes : goal.returns-in-Ok-clause-causes
+returns-in-Ok-clause-causes g c = tt
+
+pub returns-clause-causes : goal.returns-clause-causes
+returns-clause-causes g c = c.in-Err.ensures.cause.failed refl

@@ -6,6 +6,7 @@ use Rattle.quick_node.specs.declared.error_line.End.TheVariants as ended
 use Rattle.quick_node.specs.Held.{held as in_hand}
 use Rattle.quick_node.specs.Pieces.{IsLine, IsFault}
 use Rattle.quick_node.proofs.Going.{rose_earlier, ends_short, ends_by_fault, ends_at_end, ends_at_line, ends_at_input, line_came, ends_in_short, some_not_none, if_ok_any, if_ok_err}
+use Rattle.quick_node.proofs.Caused.{line_causes}
 use Rattle.quick_node.proofs.running.next_line.Goals as goal
 
 pub returns-in_err-next-clause-moves : goal.returns-in_err-next-clause-moves
@@ -110,3 +111,23 @@ returns-in-Fault-clause-goes g c firsts readers text begun held counts going rb 
     ends_by_fault Stands readers text begun held (g.W.Sink.content c.args.output.now) (g.R.Source.left c.args.input.now) (in_hand c.args.lines.now) c.args.lines.now.taken c.args.number going counts
     (rose_earlier counts.read_before (g.R.Source.fault_count c.args.input.now) (g.R.Source.fault_count c.next.new.input) counts.read_after rb
     (c.in_ok-next.ensures.cause.failed (subst IsFault (sym c.in-Fault.is) tt)) ra)
+
+pub returns-in_err-next-clause-causes : goal.returns-in_err-next-clause-causes
+returns-in_err-next-clause-causes g c = if_ok_err c.from_residual.result _ c.from_residual.ensures.0
+
+pub returns-in-Line-clause-causes : goal.returns-in-Line-clause-causes
+returns-in-Line-clause-causes g c =
+    line_causes (g.R.Source.fault_count c.args.input.now) (g.R.Source.fault_count c.next.new.input) (g.W.Sink.fault_count c.args.output.now) (g.W.Sink.fault_count c.take_line.new.output) c.take_line.result
+    c.take_line.ensures.causes
+
+pub returns-in-End-clause-causes : goal.returns-in-End-clause-causes
+returns-in-End-clause-causes g c = tt
+
+pub returns-in-LineOver-clause-causes : goal.returns-in-LineOver-clause-causes
+returns-in-LineOver-clause-causes g c = tt
+
+pub returns-in-InputOver-clause-causes : goal.returns-in-InputOver-clause-causes
+returns-in-InputOver-clause-causes g c = tt
+
+pub returns-in-Fault-clause-causes : goal.returns-in-Fault-clause-causes
+returns-in-Fault-clause-causes g c = c.in_ok-next.ensures.cause.failed (subst IsFault (sym c.in-Fault.is) tt)

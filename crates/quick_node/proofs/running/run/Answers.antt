@@ -19,3 +19,9 @@ returns-in-Err-clause-written g c = c.run_lines.ensures.written
 pub returns-in-Err-clause-runs : goal.returns-in-Err-clause-runs
 returns-in-Err-clause-runs g c firsts begun text held stands clock clients told written =
     c.in-Err.ensures.runs firsts begun text held stands clock clients told written
+
+pub returns-in-Ok-clause-causes : goal.returns-in-Ok-clause-causes
+returns-in-Ok-clause-causes g c = c.in-Ok.ensures.causes
+
+pub returns-in-Err-clause-causes : goal.returns-in-Err-clause-causes
+returns-in-Err-clause-causes g c = tt

@@ -3,7 +3,8 @@ use Rattle.node_run.specs.Node.{Node}
 use Rattle.node_run.specs.Standing.{NodeStands}
 use Rattle.quick_node.specs.Held.{held as in_hand}
 use Rattle.quick_node.specs.Running.{counts_of}
-use Rattle.quick_node.proofs.Going.{begins, begins_with, ends_short, run_in_short, went_on, same_number, ended_by}
+use Rattle.quick_node.proofs.Going.{if_ok_err, begins, begins_with, ends_short, run_in_short, went_on, same_number, ended_by}
+use Rattle.quick_node.proofs.Caused.{ended_earlier}
 use Rattle.quick_node.proofs.running.run_lines.Goals as goal
 
 pub lines-init : goal.lines-init
@@ -80,3 +81,14 @@ returns-in-Some-clause-runs g c firsts begun text held stands clock clients told
     let going = c.lines.invariant.going firsts begun text held stands clock clients told written in
     ended_by Stands (length begun.indexers) text begun held (g.W.Sink.content c.next_line.new.output) (g.R.Source.left c.next_line.new.input) (in_hand c.next_line.new.lines) c.next_line.new.lines.taken (c.lines.number + 1) counts c.in_ok-end.end c.in-Some.end c.in-Some.is
     (c.in_ok-end.ensures.goes firsts (length begun.indexers) text begun held counts going c.lines.invariant.read (omega arith) c.lines.invariant.written (omega arith))
+
+pub returns-in_err-lines-clause-causes : goal.returns-in_err-lines-clause-causes
+returns-in_err-lines-clause-causes g c = if_ok_err c.from_residual.result _ c.from_residual.ensures.0
+
+pub returns-in_err-end-clause-causes : goal.returns-in_err-end-clause-causes
+returns-in_err-end-clause-causes g c = if_ok_err c.from_residual-in_err-end.result _ c.from_residual-in_err-end.ensures.0
+
+pub returns-in-Some-clause-causes : goal.returns-in-Some-clause-causes
+returns-in-Some-clause-causes g c =
+    ended_earlier (g.R.Source.fault_count c.args.input.now) (g.R.Source.fault_count c.lines.input) (g.R.Source.fault_count c.next_line.new.input) (g.W.Sink.fault_count c.args.output.now) (g.W.Sink.fault_count c.lines.output)
+    (g.W.Sink.fault_count c.next_line.new.output) c.lines.invariant.read c.lines.invariant.written c.in_ok-end.end c.in-Some.end c.in-Some.is c.in_ok-end.ensures.causes

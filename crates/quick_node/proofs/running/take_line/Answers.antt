@@ -38,3 +38,18 @@ returns-clause-counted g c = c.answer_line.ensures.counted
 pub returns-clause-takes : goal.returns-clause-takes
 returns-clause-takes g c firsts mid held stands told =
     c.answer_line.ensures.takes firsts mid c.args.text.now c.args.number held stands c.in-Ok.ensures (sym (c.accepts.ensures.exact firsts mid stands) ∙ c.in-Yes.is) told
+
+pub returns-in-BadLine-clause-causes : goal.returns-in-BadLine-clause-causes
+returns-in-BadLine-clause-causes g c = tt
+
+pub returns-in-TooManyClients-clause-causes : goal.returns-in-TooManyClients-clause-causes
+returns-in-TooManyClients-clause-causes g c = tt
+
+pub returns-in-Err-BadLine-clause-causes : goal.returns-in-Err-BadLine-clause-causes
+returns-in-Err-BadLine-clause-causes g c = tt
+
+pub returns-in-Err-Memory-clause-causes : goal.returns-in-Err-Memory-clause-causes
+returns-in-Err-Memory-clause-causes g c = tt
+
+pub returns-clause-causes : goal.returns-clause-causes
+returns-clause-causes g c = c.answer_line.ensures.causes

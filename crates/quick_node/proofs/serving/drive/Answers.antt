@@ -1,50 +1,68 @@
-use Rattle.std.proofs.Common.{◌≡◌, ◌++◌, [], map, sum, refl, sym, ap, ◌∙◌, append-nil, arith}
+use Rattle.std.proofs.Common.{◌≡◌, ◌++◌, [], map, sum, refl, sym, ap, ◌∙◌, subst, append-nil, arith}
 use Rattle.std.specs.Prelude.{Some, Ok, Err, min}
 use Rattle.index_world.specs.Core.{last_count}
 use Rattle.index_world.specs.Loading.{LoadsWorld, LoadsNone}
+use Rattle.index_world.specs.Taking.{IsFaultBetween}
 use Rattle.node_run.specs.Calm.{log_counts}
 use Rattle.node_run.specs.Node.{Node}
 use Rattle.quick_node.specs.Serve.{Opens}
 use Rattle.quick_node.specs.declared.error_line.End.TheVariants as ended
 use Rattle.quick_node.proofs.Driven.{new_moment, new_sure, opened_counts, begins, kept_logs, returned}
 use Rattle.quick_node.proofs.UpToLast.{met_unopened}
+use Rattle.quick_node.specs.Causes.{faults_of}
+use Rattle.quick_node.proofs.Caused.{opening_causes}
 use Rattle.quick_node.proofs.serving.drive.Goals as goal
 
 pub at-requires : goal.at-requires
 at-requires g c = omega arith
 
-pub returns-in-Ok : goal.returns-in-Ok
-returns-in-Ok g c history before shows enters =
+pub returns-in-Ok-clause-drives : goal.returns-in-Ok-clause-drives
+returns-in-Ok-clause-drives g c history before shows enters =
     let b = begins history before enters in
     let fresh = b.fresh in
     let count : fresh.core.store_faults ≡ before.store_faults = ap (λ n. n.core.store_faults) b.is.is in
     let clock : fresh.core.clock ≡ 0 = ap (λ n. n.core.clock) b.is.is in
     let l : LoadsWorld fresh.core before.log c.in-Ok.world =
-    c.in-Ok.ensures before.kept fresh.core before.log shows.kept (shows.store_faults ∙ sym count) (ap Some (c.at.ensures ∙ sym clock)) (omega (arith, clock)) b.world in
+    c.in-Ok.ensures.step before.kept fresh.core before.log shows.kept (shows.store_faults ∙ sym count) (ap Some (c.at.ensures ∙ sym clock)) (omega (arith, clock)) (ap (λ n. n.core.frozen) b.is.is) b.world in
     let opened : Node = record fresh { core = l.after } in
     let opens : Opens fresh (Ok tt) opened = record { fate = l.loads.fate; core = l.after; did = l.loads.did; is = refl } in
-    c.drive_world.ensures history before fresh opened b.is opens l.stands enters.is_log shows.logs_show shows.streams_show
+    c.drive_world.ensures.drives history before fresh opened b.is opens l.stands enters.is_log shows.logs_show shows.streams_show
 
-pub returns-in-Err : goal.returns-in-Err
-returns-in-Err g c history before shows enters =
+pub returns-in-Err-clause-drives : goal.returns-in-Err-clause-drives
+returns-in-Err-clause-drives g c history before shows enters =
     let b = begins history before enters in
     let fresh = b.fresh in
     let streams = shows.streams_show in
     let count : fresh.core.store_faults ≡ before.store_faults = ap (λ n. n.core.store_faults) b.is.is in
     let clock : fresh.core.clock ≡ 0 = ap (λ n. n.core.clock) b.is.is in
     let l : LoadsNone fresh.core before.log c.in-Err.field-0.error (g.S.ObjectStore.told c.in-Err.field-0.store) (g.S.ObjectStore.fault_count c.in-Err.field-0.store) =
-    c.in-Err.ensures before.kept fresh.core before.log shows.kept (shows.store_faults ∙ sym count) (ap Some (c.at.ensures ∙ sym clock)) (omega (arith, clock)) b.world in
+    c.in-Err.ensures.step before.kept fresh.core before.log shows.kept (shows.store_faults ∙ sym count) (ap Some (c.at.ensures ∙ sym clock)) (omega (arith, clock)) (ap (λ n. n.core.frozen) b.is.is) b.world in
     let last : Node = record fresh { core = l.after } in
     let opens : Opens fresh (Err l.unread) last = record { fate = l.loads.fate; core = l.after; did = l.loads.did; is = refl } in
-    returned g.S.ObjectStore.told g.L.SourceLog.fault_count g.L.SourceLog.since g.R.Source.fault_count g.W.Sink.content g.W.Sink.fault_count
+    returned g.S.ObjectStore.told g.S.ObjectStore.fault_count g.L.SourceLog.fault_count g.L.SourceLog.since g.R.Source.fault_count g.W.Sink.content g.W.Sink.fault_count
     history before fresh last b.is enters.is_log (ended.NotOpened c.in-Err.field-0.error) (g.R.Source.fault_count c.args.input.now) (g.W.Sink.fault_count c.args.output.now) []
     (met_unopened before fresh last (new_moment history before fresh b.is) (new_sure history before fresh b.is) (g.R.Source.fault_count c.args.input.now) (g.W.Sink.fault_count c.args.output.now)
     c.in-Err.field-0.error l.unread l.says opens)
     c.ended.result.store c.ended.result.store_faults c.ended.result.log_faults c.ended.result.status c.args.logs.items c.args.input.now c.ended.new.output
-    l.kept (ap g.S.ObjectStore.told c.ended.ensures.store ∙ l.tells) l.world (sym (c.ended.ensures.store_faults ∙ l.counts))
+    l.kept (ap g.S.ObjectStore.told c.ended.ensures.store ∙ l.tells) (ap g.S.ObjectStore.fault_count c.ended.ensures.store ∙ sym c.ended.ensures.store_faults) l.world (sym (c.ended.ensures.store_faults ∙ l.counts))
     (kept_logs g.L.SourceLog.fault_count g.L.SourceLog.since g.met.L.SourceLog.since_itself c.args.logs.items (log_counts last.indexers) c.ended.result.log_faults
     (shows.logs_show.log_faults ∙ sym (opened_counts history before fresh b.is (Err l.unread) last opens))
     (c.ended.ensures.log_faults ∙ c.sum_of_faults-log_faults.ensures
     ∙ ap (λ ls. min (sum (map g.L.SourceLog.fault_count ls)) last_count) c.as_slice.ensures.value))
     (omega arith) (omega (arith, streams.write_faults)) c.ended.ensures.counted
     (c.ended.ensures.writes (before.written ++ []) (streams.written ∙ ap Some (sym (append-nil before.written))))
+
+pub returns-in-Ok-clause-causes : goal.returns-in-Ok-clause-causes
+returns-in-Ok-clause-causes g c = c.drive_world.ensures.causes (g.S.ObjectStore.fault_count c.args.store) (g.S.ObjectStore.fault_count c.drive_world.result.store)
+
+pub returns-in-Ok-clause-store_faults : goal.returns-in-Ok-clause-store_faults
+returns-in-Ok-clause-store_faults g c = c.drive_world.ensures.store_faults
+
+pub returns-in-Err-clause-causes : goal.returns-in-Err-clause-causes
+returns-in-Err-clause-causes g c =
+    opening_causes (faults_of (g.S.ObjectStore.fault_count c.args.store) (g.R.Source.fault_count c.args.input.now) (g.W.Sink.fault_count c.args.output.now)) (faults_of (g.S.ObjectStore.fault_count c.ended.result.store) (g.R.Source.fault_count c.args.input.now) (g.W.Sink.fault_count c.ended.new.output))
+    c.ended.result.status (omega arith) c.ended.ensures.counted c.in-Err.field-0.error
+    (subst (λ n. IsFaultBetween (g.S.ObjectStore.fault_count c.args.store) n c.in-Err.field-0.error) (sym (ap g.S.ObjectStore.fault_count c.ended.ensures.store)) c.in-Err.ensures.faults) c.ended.ensures.status
+
+pub returns-in-Err-clause-store_faults : goal.returns-in-Err-clause-store_faults
+returns-in-Err-clause-store_faults g c = c.ended.ensures.store_faults ∙ sym (ap g.S.ObjectStore.fault_count c.ended.ensures.store)

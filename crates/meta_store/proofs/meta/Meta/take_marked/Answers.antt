@@ -1,4 +1,4 @@
-use Rattle.std.proofs.Common.{◌≡◌, ℕ, List, ◌+◌, ◌≤◌, length, map, refl, ap, sym, subst, ◌∙◌, arith}
+use Rattle.std.proofs.Common.{◌≡◌, List, ◌+◌, refl, ap, sym, subst, arith}
 use Rattle.meta_store.specs.Room.{Kept, MergedUpTo}
 use Rattle.split_states.specs.declared.rows.Row.{Row}
 use Rattle.split_states.specs.Rows.{marked, IsAbove}

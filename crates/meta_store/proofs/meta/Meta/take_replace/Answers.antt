@@ -1,7 +1,7 @@
-use Rattle.std.proofs.Common.{◌≡◌, ℕ, List, ◌+◌, ◌≤◌, length, map, refl, ap, sym, subst, ◌∙◌, arith}
+use Rattle.std.proofs.Common.{◌≡◌, List, ◌+◌, ◌≤◌, refl, ap, sym, subst, ◌∙◌, arith}
 use Rattle.meta_store.specs.Room.{Kept, MergedUpTo}
 use Rattle.split_states.specs.declared.rows.Row.{Row}
-use Rattle.split_states.specs.Rows.{marked, merged_ops, replacing, change, change_each, IsAbove}
+use Rattle.split_states.specs.Rows.{marked, replacing, change, change_each, IsAbove}
 use Rattle.meta_store.proofs.Fitting.{merged_low, merged_replace, above_change, above_each}
 use Rattle.meta_store.proofs.meta.Meta.take_replace.Goals as goal
 

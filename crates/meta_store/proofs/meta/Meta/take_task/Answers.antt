@@ -1,9 +1,7 @@
-use Rattle.std.proofs.Common.{◌≡◌, ℕ, List, ◌+◌, ◌≤◌, length, map, refl, ap, sym, subst, ◌∙◌, arith}
-use Rattle.meta_store.specs.Room.{Kept, MergedUpTo}
+use Rattle.std.proofs.Common.{◌≡◌, ap, ◌∙◌, arith}
+use Rattle.meta_store.specs.Room.{Kept}
 use Rattle.delete_tasks.specs.Ledger.{last_of}
 use Rattle.delete_tasks.proofs.Last.{last_push}
-use Rattle.split_states.specs.declared.rows.Row.{Row}
-use Rattle.split_states.specs.Rows.{IsAbove}
 use Rattle.meta_store.proofs.Fitting.{merged_more}
 use Rattle.meta_store.proofs.meta.Meta.take_task.Goals as goal
 

@@ -28,3 +28,7 @@ returns-clause-faults g c = λ firsts node p.
           ∙ ap (λ rs. min (sum (map (λ reader. g.L.SourceLog.fault_count reader.log) rs)) last_count) c.as_slice.ensures.value
           ∙ ap (λ ns. min (sum ns) last_count) (map_twice g.L.SourceLog.fault_count (λ reader. reader.log) c.args.self.indexers.items);
     }
+
+pub returns-clause-sum : goal.returns-clause-sum
+returns-clause-sum g c =
+    c.sum_of_faults-faults.ensures ∙ ap (λ rs. min (sum (map (λ reader. g.L.SourceLog.fault_count reader.log) rs)) last_count) c.as_slice.ensures.value

@@ -8,7 +8,7 @@ use Rattle.node_run.proofs.drive.DriveNode.restart_node.Goals as goal
 pub returns-in-Ok-clause-does : goal.returns-in-Ok-clause-does
 returns-in-Ok-clause-does g c = λ firsts node p.
     let q = c.stop.ensures.does firsts node p in
-    let l = c.in-Ok.ensures node.core node.log q.world_stands in
+    let l = c.in-Ok.ensures.step node.core node.log q.world_stands in
     let last = record (restarted node) { core = l.after; down = false } in
     let revision = c.revision.ensures ∙ ap (λ meta. meta.revision) (c.meta.ensures ∙ l.stands.meta) ∙ revision_is l.after.history in
     most_done g.L.SourceLog.told g.L.SourceLog.fault_count g.L.SourceLog.since firsts node said.RestartNode _ c.node_restarted.result (record calm { world = l.loads.fate }) (said.node_restarted c.revision.result) last
@@ -20,7 +20,7 @@ returns-in-Ok-clause-does g c = λ firsts node p.
 pub returns-in-Err-clause-does : goal.returns-in-Err-clause-does
 returns-in-Err-clause-does g c = λ firsts node p.
     let q = c.stop.ensures.does firsts node p in
-    let l = c.in-Err.ensures node.core node.log q.world_stands in
+    let l = c.in-Err.ensures.step node.core node.log q.world_stands in
     failed_restart g.L.SourceLog.told g.L.SourceLog.fault_count g.L.SourceLog.since firsts node _ (record calm { world = l.loads.fate }) l.after c.in-Err.error c.fault_line.result l.answer
     (ap (restart_given node) l.loads.did) l.says
     (loaded_parts g.L.SourceLog.told g.L.SourceLog.fault_count g.L.SourceLog.since firsts c.stop.new.self.world c.reload.new.self c.stop.new.self.indexers.items c.stop.new.self.clients.items c.stop.new.self.moment

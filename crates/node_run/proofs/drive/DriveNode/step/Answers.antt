@@ -16,7 +16,7 @@ use Rattle.node_run.proofs.drive.DriveNode.step.Goals as goal
 
 pub returns-in-Ok : goal.returns-in-Ok
 returns-in-Ok g c = λ firsts node p f.
-    does_ok g.L.SourceLog.told g.L.SourceLog.fault_count g.L.SourceLog.since firsts node _ c.in-Ok.out _ (c.in-Ok.ensures.does firsts node p f)
+    does_ok g.L.SourceLog.told g.L.SourceLog.fault_count g.L.SourceLog.since firsts node _ c.in-Ok.out c.args.self.now _ p (c.in-Ok.ensures.does firsts node p f)
 
 pub returns-in-Err : goal.returns-in-Err
 returns-in-Err g c = λ firsts node p f.

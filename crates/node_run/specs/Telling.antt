@@ -1,0 +1,68 @@
+-- Which faults a node over a sound index tells: no key is foreign to it, and only an indexer's entry meets a full journal.
+use Rattle.std.specs.Prelude.{ℕ, Option, Some, None}
+use Rattle.index_world.specs.Calls.{Fault, store_fault, is_foreign, is_full}
+use Rattle.indexing_run.specs.Outcomes.{IndexerOutcome}
+use Rattle.indexing_run.specs.Outcomes as indexing
+use Rattle.root_search.specs.Replies.{Said, Found, Refusal, NotBuilt}
+use Rattle.root_search.specs.Replies as replies
+use Rattle.root_search.specs.Steps.{SearchStep, Idle, Planned, Fetched, Replied}
+use Rattle.node_run.specs.Node.{NodeFault, world_fault, no_index, Outcome, at_said, assigned, indexer_busy, indexer_said, indexer_down, indexer_restarted, client_restarted, node_restarted, node_failed, request_opened, request_busy, client_said, client_down}
+
+-- the store failed
+abbrev pub IsOfStore : Fault → Type 0
+IsOfStore (store_fault before after) = Unit {0}
+IsOfStore (is_foreign key) = ⊥
+IsOfStore is_full = ⊥
+
+abbrev pub IsNotForeign : Fault → Type 0
+IsNotForeign (store_fault before after) = Unit {0}
+IsNotForeign (is_foreign key) = ⊥
+IsNotForeign is_full = Unit {0}
+
+abbrev pub IndexerMayTell : IndexerOutcome → Type 0
+IndexerMayTell indexing.Checkpoint = Unit {0}
+IndexerMayTell (indexing.Read count) = Unit {0}
+IndexerMayTell (indexing.Staged number) = Unit {0}
+IndexerMayTell (indexing.Uploaded number) = Unit {0}
+IndexerMayTell (indexing.Published number) = Unit {0}
+IndexerMayTell indexing.CaughtUp = Unit {0}
+IndexerMayTell (indexing.Stale partition current from) = Unit {0}
+IndexerMayTell (indexing.Lost number refusal) = Unit {0}
+IndexerMayTell (indexing.Refused refusal) = Unit {0}
+IndexerMayTell (indexing.SourceFault before after) = Unit {0}
+IndexerMayTell (indexing.Faulted fault) = IsNotForeign fault
+
+abbrev pub SaidMayTell : Said → Type 0
+SaidMayTell (Found count hits) = Unit {0}
+SaidMayTell (Refusal NotBuilt) = Unit {0}
+SaidMayTell (Refusal (replies.Faulted fault)) = IsOfStore fault
+
+abbrev pub SearchMayTell : SearchStep → Type 0
+SearchMayTell Idle = Unit {0}
+SearchMayTell (Planned revision count) = Unit {0}
+SearchMayTell (Fetched number) = Unit {0}
+SearchMayTell (Replied reply) = SaidMayTell reply.said
+
+abbrev pub NodeMayTell : NodeFault → Type 0
+NodeMayTell (world_fault fault) = IsOfStore fault
+NodeMayTell no_index = Unit {0}
+
+abbrev pub MayTell : Outcome → Type 0
+MayTell (at_said moment) = Unit {0}
+MayTell (assigned indexer count) = Unit {0}
+MayTell (indexer_busy indexer) = Unit {0}
+MayTell (indexer_said indexer outcome) = IndexerMayTell outcome
+MayTell (indexer_down indexer) = Unit {0}
+MayTell (indexer_restarted indexer) = Unit {0}
+MayTell (client_restarted name) = Unit {0}
+MayTell (node_restarted revision) = Unit {0}
+MayTell (node_failed fault) = NodeMayTell fault
+MayTell (request_opened name) = Unit {0}
+MayTell (request_busy name) = Unit {0}
+MayTell (client_said name outcome) = SearchMayTell outcome
+MayTell (client_down name) = Unit {0}
+
+-- without an outcome nothing is told
+abbrev pub LineMayTell : Option Outcome → Type 0
+LineMayTell None = Unit {0}
+LineMayTell (Some outcome) = MayTell outcome

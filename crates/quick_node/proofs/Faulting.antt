@@ -1,0 +1,653 @@
+-- Each fault of the store that a line tells has the counts before the line and behind it, of which the second rose.
+use Rattle.std.proofs.Common.{◌≡◌, ℕ, ◌≤◌, ◌<◌, ◌+◌, Bool, true, false, List, [], ◌∷◌, ◌++◌, flat_map, refl, sym, ap, ◌∙◌, subst, inl, inr, arith}
+use Rattle.std.specs.Prelude.{Option, Some, None, Result, Ok, Err, ⊤, if◌then◌else◌, ◌==◌, ◌||◌, is_some, min}
+use Rattle.byte_fields.specs.Causes.{Rose}
+use Rattle.meta_journal.specs.Places.{split_key}
+use Rattle.meta_journal.specs.declared.entry.Act.{Act}
+use Rattle.meta_journal.specs.declared.entry.Act.TheVariants.{Publish}
+use Rattle.meta_journal.specs.declared.entry.Entry.{Entry}
+use Rattle.meta_store.specs.declared.refusal.Refusal.{Refusal}
+use Rattle.meta_store.specs.declared.refusal.Refusal.TheVariants.{MomentBack, NotCreated, AlreadyCreated, BadConfig, NotNext, Delta, State, BadTask, UptoAhead, TooManyTasks, TooManyRows, TooManySpans}
+use Rattle.source_checkpoint.specs.declared.delta.StaleDelta.{StaleDelta}
+use Rattle.source_checkpoint.specs.declared.delta.StaleDelta.TheVariants as deltas
+use Rattle.source_checkpoint.specs.declared.ledger.Checkpoint.{Checkpoint}
+use Rattle.source_log.specs.Log.{Log}
+use Rattle.index_world.specs.Calls.{Fate, Call, Fault, Trouble, faulted, no_memory, Unmade, refused, troubled, Unread, not_read, Gives, gives, Made, made, exists, failed, Making, risen, may_fail, begun, tried, made_behind, made_at, create_at_end, taken_in, or_short, unless_short, asked_clock, asking, and_then, and_then_by, taken_unless, got_at, get_at_end, settle_made, settle_with, settled, fence_of, entry_of, may_append, last_made, last_unless, last_create, troubled_by, as_unmade, adopted_made, first_unless, transact, appended, looked, settled_and_copied, asked_and_looked, asked, file_by, file_made, got_file, file_got, fetched, with_standing, read_journal, unless_empty, load_by, loaded}
+use Rattle.index_world.specs.Calls as calls
+use Rattle.index_world.specs.Core.{Core, last_count, file_at}
+use Rattle.index_world.specs.Gate.{stage_act}
+use Rattle.index_world.specs.SplitFile.{split_file}
+use Rattle.indexing_run.specs.Outcomes.{IndexerOutcome}
+use Rattle.indexing_run.specs.Places.{Batch, Held, Place, idle, reading, staged, uploaded, Indexer}
+use Rattle.indexing_run.specs.Steps.{Stepped, log_may_fail, log_called, checkpoints_by, take_checkpoints, idle_by, read_by, read_given, step_read, stage_by, step_stage, batch_facts, upload_by, step_upload, publish_by, publish_refused, step_publish, step_batch, step_place, step_indexer}
+use Rattle.indexing_run.specs.Steps as indexing
+use Rattle.root_search.specs.Requests.{word_asked}
+use Rattle.root_search.specs.Steps.{Request, no_request, opened, planned, Plan, Client, SearchStep, plan_by, fetch_by, next_step, step_request, step_client}
+use Rattle.root_search.specs.Steps as searching
+use Rattle.node_run.specs.Node.{Node, Line, At, Assign, StepIndexer, RestartIndexer, RestartClient, RestartNode, Open, StepClient, Outcome}
+use Rattle.node_run.specs.Turns.{Luck, Turned, indexer_at, indexing_luck, searching_luck, said_by_indexer, said_by_client, assign_at, indexer_turn_by, client_turn_by, client_named, open_by, restart_by, full_turn, quiet, or_quiet, turn_by, Turn, Turns}
+use Rattle.node_run.proofs.Moving.{journal_moves}
+use Rattle.quick_node.specs.Faults.{Interval, AreBetween, fault_told, indexer_told, search_told, store_told}
+use Rattle.quick_node.proofs.Exact.{begun_count, failed_rose}
+
+abbrev trouble_told : Trouble → List Interval
+trouble_told (faulted fault) = fault_told fault
+trouble_told no_memory = []
+
+abbrev unmade_told : Unmade → List Interval
+unmade_told (refused refusal) = []
+unmade_told (troubled trouble) = trouble_told trouble
+
+abbrev unread_told : Unread → List Interval
+unread_told (not_read trouble) = trouble_told trouble
+unread_told calls.no_index = []
+
+abbrev answer_told : {E A : Type 0} → (E → List Interval) → Result A E → List Interval
+answer_told told (Ok a) = []
+answer_told told (Err e) = told e
+
+-- a call that began at this count told what it answers within its counts
+record Good {E A : Type 0} (told : E → List Interval) (low : ℕ) (given : Gives E A) : Type 0 where
+  says : AreBetween low (answer_told told given.answer) given.core.store_faults
+  on : low ≤ given.core.store_faults
+  bound : given.core.store_faults ≤ last_count
+
+rose_on : (low count : ℕ) (call : Call) → low ≤ count → may_fail call count ≡ true → Rose low (risen count call.rises)
+rose_on low count call le may = grind (arith, le, failed_rose call count may)
+
+module _ (low : ℕ) where
+  begun_on : (call : Call) (core : Core) → low ≤ core.store_faults → core.store_faults ≤ last_count → low ≤ (begun call core).store_faults
+  begun_on call core on bound = let e = begun_count call core in omega (arith, e, on, bound)
+
+  begun_bound : (call : Call) (core : Core) → (begun call core).store_faults ≤ last_count
+  begun_bound call core = let e = begun_count call core in omega (arith, e)
+
+  begun_rose : (call : Call) (core : Core) → low ≤ core.store_faults → may_fail call core.store_faults ≡ true → Rose low (begun call core).store_faults
+  begun_rose call core on may = subst (Rose low) (sym (begun_count call core)) (rose_on low core.store_faults call on may)
+
+  failed_here : (core : Core) → Rose low core.store_faults → AreBetween low (trouble_told (calls.store_failed low core)) core.store_faults
+  failed_here core rose = (omega arith, rose, omega arith)
+
+  taken_good : (b unsure : Bool) (entry : Entry) (core : Core) → low ≤ core.store_faults → core.store_faults ≤ last_count → Good trouble_told low (taken_unless b unsure entry core)
+  taken_good true unsure entry core on bound = record { says = on; on = on; bound = bound }
+  taken_good false unsure entry core on bound = record { says = on; on = on; bound = bound }
+
+  got_good : (b : Bool) (call : Call) (entry : Entry) (core : Core) → low ≤ core.store_faults → core.store_faults ≤ last_count → (b ≡ true → Rose low core.store_faults) →
+      Good trouble_told low (got_at b call low entry core)
+  got_good true call entry core on bound rose = record { says = failed_here core (rose refl); on = on; bound = bound }
+  got_good false call entry core on bound rose = taken_good call.short (core.unsure || call.at_once) entry core on bound
+
+  get_good : (call : Call) (entry : Entry) (core : Core) → low ≤ core.store_faults → core.store_faults ≤ last_count → Good trouble_told low (get_at_end call entry low core)
+  get_good call entry core on bound =
+      got_good (may_fail call core.store_faults) call entry (begun call core) (begun_on call core on bound) (begun_bound call core) (λ may. begun_rose call core on may)
+
+  -- a create
+  record Created (making : Making) : Type 0 where
+    rose : making.answer ≡ failed → Rose low making.core.store_faults
+    on : low ≤ making.core.store_faults
+    bound : making.core.store_faults ≤ last_count
+
+  made_not_failed : made ≡ failed → ⊥
+  made_not_failed e = cc
+
+  exists_not_failed : (entry : Entry) → exists entry ≡ failed → ⊥
+  exists_not_failed entry e = cc
+
+  behind_good : (standing : Option Entry) (entry : Entry) (core : Core) → low ≤ core.store_faults → core.store_faults ≤ last_count → Created (made_behind standing entry core)
+  behind_good None entry core on bound = record { rose = λ e. absurd (made_not_failed e); on = on; bound = bound }
+  behind_good (Some other) entry core on bound = record { rose = λ e. absurd (exists_not_failed other e); on = on; bound = bound }
+
+  tried_count : (b : Bool) (standing : Option Entry) (entry : Entry) (core : Core) → (tried b standing entry core).store_faults ≡ core.store_faults
+  tried_count true None entry core = refl
+  tried_count true (Some other) entry core = refl
+  tried_count false standing entry core = refl
+
+  made_good : (b c : Bool) (entry : Entry) (core : Core) → low ≤ core.store_faults → core.store_faults ≤ last_count → (b ≡ true → Rose low core.store_faults) →
+      Created (made_at b c entry core)
+  made_good true c entry core on bound rose =
+      let same = tried_count c core.standing entry core in
+      record { rose = λ e. subst (Rose low) (sym same) (rose refl); on = omega (arith, same, on); bound = omega (arith, same, bound) }
+  made_good false c entry core on bound rose = behind_good core.standing entry core on bound
+
+  create_good : (call : Call) (entry : Entry) (core : Core) → low ≤ core.store_faults → core.store_faults ≤ last_count → Created (create_at_end call entry core)
+  create_good call entry core on bound =
+      made_good (may_fail call core.store_faults) call.at_once entry (begun call core) (begun_on call core on bound) (begun_bound call core) (λ may. begun_rose call core on may)
+
+  settle_made_good : (get : Call) (fence : Entry) (m : Made) (core : Core) → (m ≡ failed → Rose low core.store_faults) → low ≤ core.store_faults → core.store_faults ≤ last_count →
+      Good trouble_told low (settle_made get low fence m core)
+  settle_made_good get fence made core rose on bound = taken_good get.short true fence core on bound
+  settle_made_good get fence (exists entry) core rose on bound = get_good get entry core on bound
+  settle_made_good get fence failed core rose on bound = record { says = failed_here core (rose refl); on = on; bound = bound }
+
+  or_short_good : {E A : Type 0} (told : E → List Interval) (b : Bool) (e : E) (call : Call) (core : Core) (given : Gives E A) → told e ≡ [] → low ≤ core.store_faults → core.store_faults ≤ last_count →
+      Good told low given → Good told low (or_short b e call core given)
+  or_short_good told true e call core given none on bound g =
+      record {
+        says = subst (λ faults. AreBetween low faults (begun call core).store_faults) (sym none) (begun_on call core on bound);
+        on = begun_on call core on bound;
+        bound = begun_bound call core;
+      }
+  or_short_good told false e call core given none on bound g = g
+
+  unless_good : (b : Bool) (core : Core) → low ≤ core.store_faults → core.store_faults ≤ last_count → Good trouble_told low (unless_short b core)
+  unless_good true core on bound = record { says = on; on = on; bound = bound }
+  unless_good false core on bound = record { says = on; on = on; bound = bound }
+
+  last_made_good : (entry : Entry) (m : Made) (core : Core) → (m ≡ failed → Rose low core.store_faults) → low ≤ core.store_faults → core.store_faults ≤ last_count →
+      Good unmade_told low (last_made low entry m core)
+  last_made_good entry made core rose on bound = record { says = on; on = on; bound = bound }
+  last_made_good entry (exists other) core rose on bound = record { says = on; on = on; bound = bound }
+  last_made_good entry failed core rose on bound = record { says = failed_here core (rose refl); on = on; bound = bound }
+
+  -- an entry of one's own, where it may be created
+  last_ok_good : (call : Call) (act : Act) (core : Core) → low ≤ core.store_faults → core.store_faults ≤ last_count → Good unmade_told low (last_unless (Ok tt) call low act core)
+  last_ok_good call act core on bound =
+      let k = create_good call (entry_of act core) core on bound in
+      last_made_good (entry_of act core) (create_at_end call (entry_of act core) core).answer (create_at_end call (entry_of act core) core).core k.rose k.on k.bound
+
+  last_full_good : (b : Bool) (call : Call) (act : Act) (core : Core) → low ≤ core.store_faults → core.store_faults ≤ last_count →
+      Good unmade_told low (last_unless (calls.full_answer b) call low act core)
+  last_full_good true call act core on bound = record { says = on; on = on; bound = bound }
+  last_full_good false call act core on bound = last_ok_good call act core on bound
+
+  last_by_good : (r : Result (Unit {0}) Refusal) (call : Call) (act : Act) (core : Core) → low ≤ core.store_faults → core.store_faults ≤ last_count →
+      Good unmade_told low (last_unless (calls.or_full r core) call low act core)
+  last_by_good (Err refusal) call act core on bound = record { says = on; on = on; bound = bound }
+  last_by_good (Ok done) call act core on bound = last_full_good _ call act core on bound
+
+  last_good : (call : Call) (act : Act) (core : Core) → low ≤ core.store_faults → core.store_faults ≤ last_count → Good unmade_told low (last_create call low act core)
+  last_good call act core on bound =
+      or_short_good unmade_told call.short (troubled no_memory) call core (last_unless (may_append act core) call low act core) refl on bound
+      (last_by_good (calls.answer_behind core.history (entry_of act core)) call act core on bound)
+
+  then_good : {E A B : Type 0} (told : E → List Interval) (r : Result A E) (core : Core) (next : Core → Gives E B) → Good told low (gives r core) →
+      ((c : Core) → low ≤ c.store_faults → c.store_faults ≤ last_count → Good told low (next c)) → Good told low (and_then_by r core next)
+  then_good told (Ok a) core next g n = n core g.on g.bound
+  then_good told (Err e) core next g n = record { says = g.says; on = g.on; bound = g.bound }
+
+  unmade_good : {A : Type 0} (r : Result A Trouble) (core : Core) → Good trouble_told low (gives r core) → Good unmade_told low (troubled_by r core)
+  unmade_good (Ok a) core g = record { says = g.on; on = g.on; bound = g.bound }
+  unmade_good (Err e) core g = record { says = g.says; on = g.on; bound = g.bound }
+
+  as_unmade_good : {A : Type 0} (given : Gives Trouble A) → Good trouble_told low given → Good unmade_told low (as_unmade given)
+  as_unmade_good given g = unmade_good given.answer given.core (record { says = g.says; on = g.on; bound = g.bound })
+
+  and_then_good : {E A B : Type 0} (told : E → List Interval) (given : Gives E A) (next : Core → Gives E B) → Good told low given →
+      ((c : Core) → low ≤ c.store_faults → c.store_faults ≤ last_count → Good told low (next c)) → Good told low (and_then given next)
+  and_then_good told given next g n = then_good told given.answer given.core next (record { says = g.says; on = g.on; bound = g.bound }) n
+
+  adopted_good : (get again : Call) (act : Core → Act) (entry : Entry) (m : Made) (core : Core) → (m ≡ failed → Rose low core.store_faults) → low ≤ core.store_faults →
+      core.store_faults ≤ last_count → Good unmade_told low (adopted_made get again low act entry m core)
+  adopted_good get again act entry made core rose on bound = record { says = on; on = on; bound = bound }
+  adopted_good get again act entry (exists other) core rose on bound =
+      and_then_good unmade_told (as_unmade (get_at_end get other low core)) (λ c. last_create again low (act c) c)
+      (as_unmade_good (get_at_end get other low core) (get_good get other core on bound)) (λ c o b. last_good again (act c) c o b)
+  adopted_good get again act entry failed core rose on bound = record { says = failed_here core (rose refl); on = on; bound = bound }
+
+settle_good : (b : Bool) (first second : Call) (core : Core) → core.store_faults ≤ last_count → Good trouble_told core.store_faults (settle_with b first second core)
+settle_good false first second core bound = unless_good core.store_faults first.short core (omega arith) bound
+settle_good true first second core bound =
+    let k = create_good core.store_faults first (fence_of core) core (omega arith) bound in
+    or_short_good core.store_faults trouble_told first.short no_memory first core _ refl (omega arith) bound
+    (settle_made_good core.store_faults second (fence_of core) (create_at_end first (fence_of core) core).answer (create_at_end first (fence_of core) core).core k.rose k.on k.bound)
+
+settled_good : (first second : Call) (core : Core) → core.store_faults ≤ last_count → Good trouble_told core.store_faults (settled first second core)
+settled_good first second core bound = settle_good core.unsure first second core bound
+
+first_ok_good : (first second third : Call) (act : Core → Act) (core : Core) → core.store_faults ≤ last_count →
+    Good unmade_told core.store_faults (first_unless (Ok tt) first second third act core)
+first_ok_good first second third act core bound =
+    let k = create_good core.store_faults first (entry_of (act core) core) core (omega arith) bound in
+    adopted_good core.store_faults second third act (entry_of (act core) core) (create_at_end first (entry_of (act core) core) core).answer
+    (create_at_end first (entry_of (act core) core) core).core k.rose k.on k.bound
+
+first_full_good : (b : Bool) (first second third : Call) (act : Core → Act) (core : Core) → core.store_faults ≤ last_count →
+    Good unmade_told core.store_faults (first_unless (calls.full_answer b) first second third act core)
+first_full_good true first second third act core bound = record { says = omega arith; on = omega arith; bound = bound }
+first_full_good false first second third act core bound = first_ok_good first second third act core bound
+
+first_by_good : (r : Result (Unit {0}) Refusal) (first second third : Call) (act : Core → Act) (core : Core) → core.store_faults ≤ last_count →
+    Good unmade_told core.store_faults (first_unless (calls.or_full r core) first second third act core)
+first_by_good (Err refusal) first second third act core bound = record { says = omega arith; on = omega arith; bound = bound }
+first_by_good (Ok done) first second third act core bound = first_full_good _ first second third act core bound
+
+transact_good : (b : Bool) (first second third : Call) (act : Core → Act) (core : Core) → core.store_faults ≤ last_count →
+    Good unmade_told core.store_faults (transact b first second third act core)
+transact_good true first second third act core bound =
+    and_then_good core.store_faults unmade_told (as_unmade (settled first second core)) (λ c. last_create third core.store_faults (act c) c)
+    (as_unmade_good core.store_faults (settled first second core) (settled_good first second core bound)) (λ c o b. last_good core.store_faults third (act c) c o b)
+transact_good false first second third act core bound =
+    or_short_good core.store_faults unmade_told first.short (troubled no_memory) first core _ refl (omega arith) bound
+    (first_by_good (calls.answer_behind core.history (entry_of (act core) core)) first second third act core bound)
+
+asking_good : {E A : Type 0} (told : E → List Interval) (b : Bool) (e : E) (core : Core) (next : Core → Gives E A) → told e ≡ [] → core.store_faults ≤ last_count →
+    Good told core.store_faults (next (asked_clock core)) → Good told core.store_faults (asking b e core next)
+asking_good told true e core next none bound g =
+    record { says = subst (λ faults. AreBetween core.store_faults faults core.store_faults) (sym none) (omega arith); on = omega arith; bound = bound }
+asking_good told false e core next none bound g = g
+
+appended_good : (fate : Fate) (act : Core → Act) (core : Core) → core.store_faults ≤ last_count → Good unmade_told core.store_faults (appended fate act core)
+appended_good fate act core bound =
+    asking_good unmade_told fate.unasked (troubled no_memory) core (λ c. transact c.unsure fate.first fate.second fate.third act c) refl bound
+    (transact_good core.unsure fate.first fate.second fate.third act (asked_clock core) bound)
+
+copied_good : (fate : Fate) (core : Core) → core.store_faults ≤ last_count → Good trouble_told core.store_faults (settled_and_copied fate core)
+copied_good fate core bound =
+    and_then_good core.store_faults trouble_told (settled fate.first fate.second core) (λ c. unless_short fate.third.short c) (settled_good fate.first fate.second core bound)
+    (λ c o b. unless_good core.store_faults fate.third.short c o b)
+
+looked_good : (fate : Fate) (core : Core) → core.store_faults ≤ last_count → Good trouble_told core.store_faults (looked fate core)
+looked_good fate core bound = copied_good fate core bound
+
+asked_and_looked_good : (fate : Fate) (core : Core) → core.store_faults ≤ last_count → Good trouble_told core.store_faults (asked_and_looked fate core)
+asked_and_looked_good fate core bound =
+    asking_good trouble_told fate.unasked no_memory core (λ c. settled_and_copied fate c) refl bound (copied_good fate (asked_clock core) bound)
+
+asked_good : (fate : Fate) (core : Core) → core.store_faults ≤ last_count → Good trouble_told core.store_faults (asked fate core)
+asked_good fate core bound =
+    asking_good trouble_told fate.unasked no_memory core (λ c. gives (Ok tt) c) refl bound (record { says = omega arith; on = omega arith; bound = bound })
+
+file_by_good : (low : ℕ) (b c d : Bool) (key bytes : List ℕ) (core : Core) → low ≤ core.store_faults → core.store_faults ≤ last_count → (b ≡ true → Rose low core.store_faults) →
+    Good trouble_told low (file_by b c d low key bytes core)
+file_by_good low true true false key bytes core on bound rose = record { says = failed_here low core (rose refl); on = on; bound = bound }
+file_by_good low true true true key bytes core on bound rose = record { says = failed_here low core (rose refl); on = on; bound = bound }
+file_by_good low true false d key bytes core on bound rose = record { says = failed_here low core (rose refl); on = on; bound = bound }
+file_by_good low false c true key bytes core on bound rose = record { says = on; on = on; bound = bound }
+file_by_good low false c false key bytes core on bound rose = record { says = on; on = on; bound = bound }
+
+file_good : (call : Call) (key bytes : List ℕ) (core : Core) → core.store_faults ≤ last_count → Good trouble_told core.store_faults (file_made call key bytes core)
+file_good call key bytes core bound =
+    or_short_good core.store_faults trouble_told call.short no_memory call core _ refl (omega arith) bound
+    (file_by_good core.store_faults (may_fail call core.store_faults) call.at_once (is_some (file_at (begun call core).files key)) key bytes (begun call core)
+    (begun_on core.store_faults call core (omega arith) bound) (begun_bound core.store_faults call core) (λ may. begun_rose core.store_faults call core (omega arith) may))
+
+got_file_good : (low : ℕ) (b : Bool) (core : Core) → low ≤ core.store_faults → core.store_faults ≤ last_count → (b ≡ true → Rose low core.store_faults) →
+    Good trouble_told low (got_file b low core)
+got_file_good low true core on bound rose = record { says = failed_here low core (rose refl); on = on; bound = bound }
+got_file_good low false core on bound rose = record { says = on; on = on; bound = bound }
+
+file_got_good : (call : Call) (core : Core) → core.store_faults ≤ last_count → Good trouble_told core.store_faults (file_got call core)
+file_got_good call core bound =
+    or_short_good core.store_faults trouble_told call.short no_memory call core _ refl (omega arith) bound
+    (got_file_good core.store_faults (may_fail call core.store_faults) (begun call core) (begun_on core.store_faults call core (omega arith) bound)
+    (begun_bound core.store_faults call core) (λ may. begun_rose core.store_faults call core (omega arith) may))
+
+fetched_good : (fate : Fate) (core : Core) → core.store_faults ≤ last_count → Good trouble_told core.store_faults (fetched fate core)
+fetched_good fate core bound =
+    asking_good trouble_told fate.unasked no_memory core (λ c. file_got fate.first c) refl bound (file_got_good fate.first (asked_clock core) bound)
+
+-- ---- opening anew
+
+standing_count : (standing : Option Entry) (core : Core) → (with_standing standing core).store_faults ≡ core.store_faults
+standing_count None core = refl
+standing_count (Some entry) core = refl
+
+journal_count : (core : Core) → (read_journal core).store_faults ≡ core.store_faults
+journal_count core = standing_count core.standing core
+
+empty_good : (low : ℕ) (b : Bool) (core : Core) → low ≤ core.store_faults → core.store_faults ≤ last_count → Good unread_told low (unless_empty b core)
+empty_good low true core on bound = record { says = on; on = on; bound = bound }
+empty_good low false core on bound = record { says = on; on = on; bound = bound }
+
+load_good : (low : ℕ) (b c : Bool) (second : Call) (core : Core) → low ≤ core.store_faults → core.store_faults ≤ last_count →
+    (c ≡ true → Rose low (begun second core).store_faults) → Good unread_told low (load_by b c second low core)
+load_good low true c second core on bound rose =
+    record { says = begun_on low second core on bound; on = begun_on low second core on bound; bound = begun_bound low second core }
+load_good low false true second core on bound rose =
+    record { says = failed_here low (begun second core) (rose refl); on = begun_on low second core on bound; bound = begun_bound low second core }
+load_good low false false second core on bound rose =
+    let e = journal_count core in
+    empty_good low _ (begun second (read_journal core)) (begun_on low second (read_journal core) (omega (arith, e, on)) (omega (arith, e, bound)))
+    (begun_bound low second (read_journal core))
+
+loaded_good : (fate : Fate) (core : Core) → core.store_faults ≤ last_count → Good unread_told core.store_faults (loaded fate core)
+loaded_good fate core bound =
+    load_good core.store_faults (fate.first.short || fate.second.short)
+    (may_fail fate.first core.store_faults || may_fail fate.second (begun fate.first core).store_faults) fate.second (begun fate.first core) on (begun_bound core.store_faults fate.first core) rose
+  where
+    on : core.store_faults ≤ (begun fate.first core).store_faults
+    on = begun_on core.store_faults fate.first core (omega arith) bound
+
+    later : Rose core.store_faults (begun fate.first core).store_faults → Rose core.store_faults (begun fate.second (begun fate.first core)).store_faults
+    later r = let up = begun_on (begun fate.first core).store_faults fate.second (begun fate.first core) (omega arith) (begun_bound core.store_faults fate.first core) in omega (arith, r, up)
+
+    rose_by : (a b : Bool) → (a ≡ true → Rose core.store_faults (begun fate.first core).store_faults) → (b ≡ true → Rose core.store_faults (begun fate.second (begun fate.first core)).store_faults) →
+        (a || b) ≡ true → Rose core.store_faults (begun fate.second (begun fate.first core)).store_faults
+    rose_by true b f g e = later (f refl)
+    rose_by false b f g e = g e
+
+    rose : (may_fail fate.first core.store_faults || may_fail fate.second (begun fate.first core).store_faults) ≡ true →
+        Rose core.store_faults (begun fate.second (begun fate.first core)).store_faults
+    rose e =
+        rose_by (may_fail fate.first core.store_faults) (may_fail fate.second (begun fate.first core).store_faults)
+        (λ may. begun_rose core.store_faults fate.first core (omega arith) may)
+        (λ may. begun_rose core.store_faults fate.second (begun fate.first core) on may) e
+
+-- ---- what is said of it
+
+-- the faults that are said lie between the counts before and behind the step
+record Says (low : ℕ) (faults : List Interval) (core : Core) : Type 0 where
+  says : AreBetween low faults core.store_faults
+  on : low ≤ core.store_faults
+  bound : core.store_faults ≤ last_count
+
+abbrev by_indexer : Option IndexerOutcome → List Interval
+by_indexer None = []
+by_indexer (Some outcome) = indexer_told outcome
+
+abbrev by_search : Option SearchStep → List Interval
+by_search None = []
+by_search (Some step) = search_told step
+
+abbrev by_line : Option Outcome → List Interval
+by_line None = []
+by_line (Some outcome) = store_told outcome
+
+as_said : {E A : Type 0} (told : E → List Interval) (low : ℕ) (given : Gives E A) (faults : List Interval) (core : Core) → Good told low given → faults ≡ answer_told told given.answer →
+    core ≡ given.core → Says low faults core
+as_said told low given faults core g same at =
+    subst (λ c. Says low faults c) (sym at) (subst (λ fs. Says low fs given.core) (sym same) (record { says = g.says; on = g.on; bound = g.bound }))
+
+-- nothing is said of it
+unsaid : {E A : Type 0} (told : E → List Interval) (low : ℕ) (given : Gives E A) (core : Core) → Good told low given → core ≡ given.core → Says low [] core
+unsaid told low given core g at = subst (λ c. Says low [] c) (sym at) (record { says = g.on; on = g.on; bound = g.bound })
+
+still : (core : Core) → core.store_faults ≤ last_count → Says core.store_faults [] core
+still core bound = record { says = omega arith; on = omega arith; bound = bound }
+
+stale_none : (number : ℕ) (delta : StaleDelta) → indexer_told (indexing.stale_or_lost number delta) ≡ []
+stale_none number (deltas.Stale partition current from) = refl
+stale_none number (deltas.BackwardDelta partition) = refl
+stale_none number (deltas.DoubledPartition partition) = refl
+
+publish_none : (number : ℕ) (refusal : Refusal) → indexer_told (publish_refused number refusal) ≡ []
+publish_none number (Delta fault) = stale_none number fault
+publish_none number (MomentBack given greatest) = refl
+publish_none number NotCreated = refl
+publish_none number AlreadyCreated = refl
+publish_none number BadConfig = refl
+publish_none number (NotNext given next) = refl
+publish_none number (State refusal) = refl
+publish_none number BadTask = refl
+publish_none number (UptoAhead upto last) = refl
+publish_none number (TooManyTasks count) = refl
+publish_none number (TooManyRows count) = refl
+publish_none number (TooManySpans count) = refl
+
+trouble_said : (trouble : Trouble) → by_indexer (indexing.trouble_outcome trouble) ≡ trouble_told trouble
+trouble_said (faulted fault) = refl
+trouble_said no_memory = refl
+
+abbrev Stepping : ℕ → Stepped → Type 0
+Stepping low step = Says low (by_indexer step.outcome) step.core
+
+checkpoints_said : (low : ℕ) (log : Log) (indexer : Indexer) (r : Result ⊤ Trouble) (core : Core) → Good trouble_told low (gives r core) → Stepping low (checkpoints_by r log indexer core)
+checkpoints_said low log indexer (Ok done) core g = record { says = g.on; on = g.on; bound = g.bound }
+checkpoints_said low log indexer (Err trouble) core g =
+    as_said trouble_told low (gives {A = ⊤} (Err trouble) core) _ core g (trouble_said trouble) refl
+
+as_given : {E A : Type 0} (told : E → List Interval) (low : ℕ) (given : Gives E A) → Good told low given → Good told low (gives given.answer given.core)
+as_given told low given g = record { says = g.says; on = g.on; bound = g.bound }
+
+module _ (luck : indexing.Luck) (log : Log) (core : Core) (bound : core.store_faults ≤ last_count) where
+  take_said : (indexer : Indexer) → Stepping core.store_faults (take_checkpoints luck log indexer core)
+  take_said indexer =
+      checkpoints_said core.store_faults log indexer (looked luck.world core).answer (looked luck.world core).core
+      (as_given trouble_told core.store_faults (looked luck.world core) (looked_good luck.world core bound))
+
+  idle_said : (b : Bool) (names : Option (List (List ℕ))) (indexer : Indexer) → Stepping core.store_faults (idle_by b names luck log indexer core)
+  idle_said true None indexer = still core bound
+  idle_said false None indexer = take_said (log_called luck.log indexer)
+  idle_said true (Some names) indexer = take_said indexer
+  idle_said false (Some names) indexer = take_said indexer
+
+  unless_said : (b : Bool) (indexer : Indexer) → Stepping core.store_faults (indexing.idle_unless b luck log indexer core)
+  unless_said true indexer = still core bound
+  unless_said false indexer = idle_said (log_may_fail luck.log indexer.log_faults) indexer.assignment indexer
+
+  read_by_said : (b : Bool) (batch : Batch) (mark : Checkpoint) (rest : List Checkpoint) (indexer : Indexer) (c : Core) → core.store_faults ≤ c.store_faults → c.store_faults ≤ last_count →
+      Stepping core.store_faults (read_by b luck log batch mark rest indexer c)
+  read_by_said true batch mark rest indexer c on b = record { says = on; on = on; bound = b }
+  read_by_said false batch mark rest indexer c on b = record { says = on; on = on; bound = b }
+
+  given_said : (batch : Batch) (mark : Checkpoint) (rest : List Checkpoint) (indexer : Indexer) (r : Result ⊤ Trouble) (c : Core) → Good trouble_told core.store_faults (gives r c) →
+      Stepping core.store_faults (read_given luck log batch mark rest indexer r c)
+  given_said batch mark rest indexer (Err trouble) c g =
+      as_said trouble_told core.store_faults (gives {A = ⊤} (Err trouble) c) _ c g (trouble_said trouble) refl
+  given_said batch mark rest indexer (Ok done) c g = read_by_said (log_may_fail luck.log indexer.log_faults) batch mark rest indexer c g.on g.bound
+
+  read_said : (batch : Batch) (queue : List Checkpoint) (indexer : Indexer) → Stepping core.store_faults (step_read luck log batch queue indexer core)
+  read_said batch [] indexer = still core bound
+  read_said batch (mark ∷ rest) indexer =
+      given_said batch mark rest indexer (asked luck.world core).answer (asked luck.world core).core
+      (as_given trouble_told core.store_faults (asked luck.world core) (asked_good luck.world core bound))
+
+  stage_by_said : (batch : Batch) (indexer : Indexer) (r : Result ⊤ Unmade) (c : Core) → Good unmade_told core.store_faults (gives r c) → Stepping core.store_faults (stage_by r batch indexer c)
+  stage_by_said batch indexer (Ok done) c g = record { says = g.on; on = g.on; bound = g.bound }
+  stage_by_said batch indexer (Err (refused refusal)) c g = record { says = g.on; on = g.on; bound = g.bound }
+  stage_by_said batch indexer (Err (troubled trouble)) c g =
+      as_said unmade_told core.store_faults (gives {A = ⊤} (Err (troubled trouble)) c) _ c g (trouble_said trouble) refl
+
+  upload_by_said : (held : Held) (indexer : Indexer) (r : Result ⊤ Trouble) (c : Core) → Good trouble_told core.store_faults (gives r c) → Stepping core.store_faults (upload_by r held indexer c)
+  upload_by_said held indexer (Ok done) c g = record { says = g.on; on = g.on; bound = g.bound }
+  upload_by_said held indexer (Err trouble) c g =
+      as_said trouble_told core.store_faults (gives {A = ⊤} (Err trouble) c) _ c g (trouble_said trouble) refl
+
+  publish_by_said : (held : Held) (indexer : Indexer) (r : Result ⊤ Unmade) (c : Core) → Good unmade_told core.store_faults (gives r c) → Stepping core.store_faults (publish_by r held indexer c)
+  publish_by_said held indexer (Ok done) c g = record { says = g.on; on = g.on; bound = g.bound }
+  publish_by_said held indexer (Err (refused refusal)) c g =
+      as_said unmade_told core.store_faults (gives {A = ⊤} (Err (refused refusal)) c) _ c g (publish_none held.number refusal) refl
+  publish_by_said held indexer (Err (troubled trouble)) c g =
+      as_said unmade_told core.store_faults (gives {A = ⊤} (Err (troubled trouble)) c) _ c g (trouble_said trouble) refl
+
+  stage_said : (batch : Batch) (indexer : Indexer) → Stepping core.store_faults (step_stage luck batch indexer core)
+  stage_said batch indexer =
+      let given = appended luck.world (stage_act batch.parts (batch_facts batch)) core in
+      stage_by_said batch indexer given.answer given.core
+      (as_given unmade_told core.store_faults given (appended_good luck.world (stage_act batch.parts (batch_facts batch)) core bound))
+
+  choice_said : (b : Bool) (x y : Stepped) → Stepping core.store_faults x → Stepping core.store_faults y → Stepping core.store_faults (if b then x else y)
+  choice_said true x y p q = p
+  choice_said false x y p q = q
+
+  batch_said : (batch : Batch) (indexer : Indexer) → Stepping core.store_faults (step_batch luck log batch indexer core)
+  batch_said batch indexer =
+      choice_said batch.closed _ _ (choice_said (batch.count == 0) _ _ (still core bound) (stage_said batch indexer)) (read_said batch batch.queue indexer)
+
+  place_said : (place : Place) (indexer : Indexer) → Stepping core.store_faults (step_place place luck log indexer core)
+  place_said idle indexer = unless_said luck.log.short indexer
+  place_said (reading batch) indexer = batch_said batch indexer
+  place_said (staged held) indexer =
+      let given = file_made luck.world.first (split_key held.number) (split_file held.documents) core in
+      upload_by_said held indexer given.answer given.core
+      (as_given trouble_told core.store_faults given (file_good luck.world.first (split_key held.number) (split_file held.documents) core bound))
+  place_said (uploaded held) indexer =
+      let given = appended luck.world (λ c. Publish held.number) core in
+      publish_by_said held indexer given.answer given.core
+      (as_given unmade_told core.store_faults given (appended_good luck.world (λ c. Publish held.number) core bound))
+
+  short_said : (b : Bool) (step : Stepped) → Stepping core.store_faults step → Stepping core.store_faults (indexing.or_short b step)
+  short_said true step p = record { says = p.on; on = p.on; bound = p.bound }
+  short_said false step p = p
+
+  indexer_said : (indexer : Indexer) → Stepping core.store_faults (step_indexer luck log indexer core)
+  indexer_said indexer = short_said luck.short _ (place_said indexer.place indexer)
+
+-- ---- a client's step
+
+abbrev Searching : ℕ → searching.Searched → Type 0
+Searching low step = Says low (by_search step.outcome) step.core
+
+replied_said : (low revision : ℕ) (trouble : Trouble) (client : Client) (core : Core) → Says low (trouble_told trouble) core → Searching low (searching.trouble_replied revision trouble client core)
+replied_said low revision (faulted fault) client core p = p
+replied_said low revision no_memory client core p = p
+
+refusal_said : (low revision : ℕ) (trouble : Trouble) (client : Client) (core : Core) → Says low (trouble_told trouble) core → Searching low (searching.refusal_by revision trouble client core)
+refusal_said low revision (faulted fault) client core p = record { says = p.on; on = p.on; bound = p.bound }
+refusal_said low revision no_memory client core p = p
+
+plan_said : (low : ℕ) (r : Result ⊤ Trouble) (asked : Option (List ℕ)) (client : Client) (core : Core) → Good trouble_told low (gives r core) → Searching low (plan_by r asked client core)
+plan_said low (Ok done) (Some word) client core g = record { says = g.on; on = g.on; bound = g.bound }
+plan_said low (Ok done) None client core g = record { says = g.on; on = g.on; bound = g.bound }
+plan_said low (Err trouble) (Some word) client core g = replied_said low client.front trouble client core (record { says = g.says; on = g.on; bound = g.bound })
+plan_said low (Err trouble) None client core g = refusal_said low client.front trouble client core (record { says = g.says; on = g.on; bound = g.bound })
+
+fetch_said : (low : ℕ) (r : Result ⊤ Trouble) (plan : Plan) (number : ℕ) (more : List ℕ) (client : Client) (core : Core) → Good trouble_told low (gives r core) →
+    Searching low (fetch_by r plan number more client core)
+fetch_said low (Ok done) plan number more client core g = record { says = g.on; on = g.on; bound = g.bound }
+fetch_said low (Err trouble) plan number more client core g = replied_said low plan.revision trouble client core (record { says = g.says; on = g.on; bound = g.bound })
+
+module _ (luck : searching.Luck) (log : Log) (client : Client) (core : Core) (bound : core.store_faults ≤ last_count) where
+  next_said : (plan : Plan) (unfetched : List ℕ) → Searching core.store_faults (next_step luck log plan unfetched client core)
+  next_said plan [] = still core bound
+  next_said plan (number ∷ more) =
+      let given = fetched luck.world core in
+      fetch_said core.store_faults given.answer plan number more client given.core (as_given trouble_told core.store_faults given (fetched_good luck.world core bound))
+
+  request_said : (request : Request) → Searching core.store_faults (step_request request luck log client core)
+  request_said no_request = still core bound
+  request_said (opened text) =
+      let given = asked_and_looked luck.world core in
+      plan_said core.store_faults given.answer (word_asked text) client given.core (as_given trouble_told core.store_faults given (asked_and_looked_good luck.world core bound))
+  request_said (planned plan) = next_said plan plan.unfetched
+
+  search_short : (b : Bool) (step : searching.Searched) → Searching core.store_faults step → Searching core.store_faults (searching.or_short b client step)
+  search_short true step p = record { says = p.on; on = p.on; bound = p.bound }
+  search_short false step p = p
+
+  client_said : Searching core.store_faults (step_client luck log client core)
+  client_said = search_short luck.short _ (request_said client.request)
+
+-- ---- a line
+
+abbrev Turning : ℕ → Turned → Type 0
+Turning low turn = Says low (by_line turn.said) turn.node.core
+
+indexer_line : (low i : ℕ) (outcome : Option IndexerOutcome) (core : Core) → Says low (by_indexer outcome) core → Says low (by_line (said_by_indexer i outcome)) core
+indexer_line low i None core p = p
+indexer_line low i (Some outcome) core p = p
+
+client_line : (low : ℕ) (name : List ℕ) (outcome : Option SearchStep) (core : Core) → Says low (by_search outcome) core → Says low (by_line (said_by_client name outcome)) core
+client_line low name None core p = p
+client_line low name (Some outcome) core p = p
+
+restart_said : (low : ℕ) (r : Result ⊤ Unread) (core : Core) (node : Node) → Good unread_told low (gives r core) → Turning low (restart_by r core node)
+restart_said low (Ok done) core node g = record { says = g.on; on = g.on; bound = g.bound }
+restart_said low (Err (not_read (faulted fault))) core node g = record { says = g.says; on = g.on; bound = g.bound }
+restart_said low (Err (not_read no_memory)) core node g = record { says = g.on; on = g.on; bound = g.bound }
+restart_said low (Err calls.no_index) core node g = record { says = g.on; on = g.on; bound = g.bound }
+
+module _ (luck : Luck) (node : Node) (bound : node.core.store_faults ≤ last_count) where
+  assign_said : (place : Place) (i : ℕ) (names : List (List ℕ)) (indexer : Indexer) → Turning node.core.store_faults (assign_at place i names indexer node)
+  assign_said idle i names indexer = still node.core bound
+  assign_said (reading batch) i names indexer = still node.core bound
+  assign_said (staged held) i names indexer = still node.core bound
+  assign_said (uploaded held) i names indexer = still node.core bound
+
+  open_said : (request : Request) (name text : List ℕ) (client : Client) → Turning node.core.store_faults (open_by request name text client node)
+  open_said no_request name text client = still node.core bound
+  open_said (opened other) name text client = still node.core bound
+  open_said (planned plan) name text client = still node.core bound
+
+  indexer_turn_said : (down : Bool) (i : ℕ) → Turning node.core.store_faults (indexer_turn_by down luck i node)
+  indexer_turn_said true i = still node.core bound
+  indexer_turn_said false i = indexer_line node.core.store_faults i _ _ (indexer_said (indexing_luck luck) node.log node.core bound (indexer_at node.indexers i))
+
+  client_turn_said : (down : Bool) (name : List ℕ) → Turning node.core.store_faults (client_turn_by down luck name node)
+  client_turn_said true name = still node.core bound
+  client_turn_said false name = client_line node.core.store_faults name _ _ (client_said (searching_luck luck) node.log (client_named name node.clients) node.core bound)
+
+  full_said : (line : Line) → Turning node.core.store_faults (full_turn luck node line)
+  full_said (At moment) = record { says = omega arith; on = omega arith; bound = bound }
+  full_said (Assign i names) = assign_said (indexer_at node.indexers i).place i names (indexer_at node.indexers i)
+  full_said (StepIndexer i) = indexer_turn_said node.down i
+  full_said (RestartIndexer i) = still node.core bound
+  full_said (RestartClient name) = still node.core bound
+  full_said RestartNode =
+      let given = loaded luck.world node.core in
+      restart_said node.core.store_faults given.answer given.core node (as_given unread_told node.core.store_faults given (loaded_good luck.world node.core bound))
+  full_said (Open name text) = open_said (client_named name node.clients).request name text (client_named name node.clients)
+  full_said (StepClient name) = client_turn_said node.down name
+
+quiet_count : (line : Line) (node : Node) → (quiet line node).core.store_faults ≡ node.core.store_faults
+quiet_count (At moment) node = refl
+quiet_count (Assign i names) node = refl
+quiet_count (StepIndexer i) node = refl
+quiet_count (RestartIndexer i) node = refl
+quiet_count (RestartClient name) node = refl
+quiet_count RestartNode node = refl
+quiet_count (Open name text) node = refl
+quiet_count (StepClient name) node = refl
+
+quiet_said : (low : ℕ) (b : Bool) (line : Line) (turn : Turned) → Turning low turn → Turning low (or_quiet b line turn)
+quiet_said low true line turn p =
+    let e = quiet_count line turn.node in
+    record { says = omega (arith, e, p.on); on = omega (arith, e, p.on); bound = omega (arith, e, p.bound) }
+quiet_said low false line turn p = p
+
+by_said : (b : Bool) (luck : Luck) (node : Node) (line : Line) → node.core.store_faults ≤ last_count → Turning node.core.store_faults (turn_by b luck node line)
+by_said true luck node line bound =
+    let e = quiet_count line node in
+    record { says = omega (arith, e); on = omega (arith, e); bound = omega (arith, e, bound) }
+by_said false luck node line bound = quiet_said node.core.store_faults luck.short line (full_turn luck node line) (full_said luck node bound line)
+
+turn_said : (node : Node) (line : Line) (said : Option Outcome) (last : Node) → node.core.store_faults ≤ last_count → Turn node line said last →
+    Says node.core.store_faults (by_line said) last.core
+turn_said node line said last bound turn = subst (λ t. Turning node.core.store_faults t) turn.is (by_said turn.luck.early turn.luck node line bound)
+
+-- ---- lines
+
+lower : (low mid high : ℕ) (ys : List Interval) → low ≤ mid → AreBetween mid ys high → AreBetween low ys high
+lower low mid high [] p q = omega (arith, p, q)
+lower low mid high (y ∷ ys) p q = (omega (arith, p, q.0), q.1, q.2)
+
+pub between_more : (low mid high : ℕ) (xs ys : List Interval) → AreBetween low xs mid → AreBetween mid ys high → AreBetween low (xs ++ ys) high
+between_more low mid high [] ys p q = lower low mid high ys p q
+between_more low mid high (x ∷ xs) ys p q = (p.0, p.1, between_more x.high mid high xs ys p.2 q)
+
+pub turns_told : (node last : Node) (lines : List Line) (outcomes : List Outcome) → node.core.store_faults ≤ last_count → Turns node lines outcomes last →
+    AreBetween node.core.store_faults (flat_map store_told outcomes) last.core.store_faults
+turns_told node last [] [] bound run = let e = ap (λ n. n.core.store_faults) run in omega (arith, e)
+turns_told node last [] (o ∷ os) bound run = absurd run
+turns_told node last (line ∷ lines) [] bound run = absurd run
+turns_told node last (line ∷ lines) (o ∷ os) bound run =
+    let s = turn_said node line (Some o) run.0 bound run.1 in
+    between_more node.core.store_faults run.0.core.store_faults last.core.store_faults (store_told o) (flat_map store_told os) s.says
+    (turns_told run.0 last lines os s.bound run.2)
+
+abbrev pub opening_told : Result ⊤ Unread → List Interval
+opening_told (Ok done) = []
+opening_told (Err e) = unread_told e
+
+-- an opening tells within its counts, and leaves a count with an end
+pub opening_says : (fate : Fate) (core after : Core) (answer : Result ⊤ Unread) → core.store_faults ≤ last_count → loaded fate core ≡ gives answer after →
+    AreBetween core.store_faults (opening_told answer) after.store_faults × (core.store_faults ≤ after.store_faults) × (after.store_faults ≤ last_count)
+opening_says fate core after answer bound did = by answer (subst (λ (given : Gives Unread ⊤). Good unread_told core.store_faults given) did (loaded_good fate core bound))
+  where
+    by : (answer : Result ⊤ Unread) → Good unread_told core.store_faults (gives answer after) →
+        AreBetween core.store_faults (opening_told answer) after.store_faults × (core.store_faults ≤ after.store_faults) × (after.store_faults ≤ last_count)
+    by (Ok done) g = (g.on, g.on, g.bound)
+    by (Err e) g = (g.says, g.on, g.bound)
+
+pub turns_bound : (node last : Node) (lines : List Line) (outcomes : List Outcome) → node.core.store_faults ≤ last_count → Turns node lines outcomes last →
+    last.core.store_faults ≤ last_count
+turns_bound node last [] [] bound run = let e = ap (λ n. n.core.store_faults) run in omega (arith, e, bound)
+turns_bound node last [] (o ∷ os) bound run = absurd run
+turns_bound node last (line ∷ lines) [] bound run = absurd run
+turns_bound node last (line ∷ lines) (o ∷ os) bound run = turns_bound run.0 last lines os (turn_said node line (Some o) run.0 bound run.1).bound run.2
+
+pub turn_on : (node : Node) (line : Line) (said : Option Outcome) (last : Node) → node.core.store_faults ≤ last_count → Turn node line said last →
+    node.core.store_faults ≤ last.core.store_faults
+turn_on node line said last bound turn = (turn_said node line said last bound turn).on
+
+-- where the count stood still, no fault was told
+pub none_told : (count : ℕ) (faults : List Interval) → count < last_count → AreBetween count faults count → faults ≡ []
+none_told count [] below p = refl
+none_told count (fault ∷ faults) below p = absurd (rises_past fault.high faults p.2 p.0 p.1)
+  where
+    reach : (low high : ℕ) (faults : List Interval) → AreBetween low faults high → min low last_count ≤ high
+    reach low high [] p = omega (arith, p)
+    reach low high (fault ∷ faults) p = let r = reach fault.high high faults p.2 in let q = p.1 in omega (arith, p.0, q, r)
+
+    rises_past : (high : ℕ) (faults : List Interval) → AreBetween high faults count → count ≤ fault.low → Rose fault.low high → ⊥
+    rises_past high faults q low rose = let r = reach high count faults q in omega (arith, low, rose, r, below)

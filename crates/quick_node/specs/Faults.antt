@@ -1,0 +1,71 @@
+-- Which faults outcomes tell, by the counts before and after them.
+use Rattle.std.specs.Prelude.{ℕ, ◌≤◌, ◌==◌, List, [], ◌∷◌, if◌then◌else◌}
+use Rattle.byte_fields.specs.Causes.{Rose}
+use Rattle.index_world.specs.Calls.{Fault, store_fault, is_foreign, is_full}
+use Rattle.indexing_run.specs.Outcomes.{IndexerOutcome}
+use Rattle.indexing_run.specs.Outcomes as indexing
+use Rattle.root_search.specs.Replies.{Said, Found, Refusal, NotBuilt}
+use Rattle.root_search.specs.Replies as replies
+use Rattle.root_search.specs.Steps.{SearchStep, Idle, Planned, Fetched, Replied}
+use Rattle.node_run.specs.Node.{NodeFault, world_fault, no_index, Outcome, at_said, assigned, indexer_busy, indexer_said, indexer_down, indexer_restarted, client_restarted, node_restarted, node_failed, request_opened, request_busy, client_said, client_down}
+
+-- a count of faults before something failed and behind it
+pub record Interval : Type 0 where
+  pub low : ℕ
+  pub high : ℕ
+
+-- These faults were told one after another between two counts: with each the count rose, or stands at its end.
+abbrev pub AreBetween : ℕ → List Interval → ℕ → Type 0
+AreBetween low [] high = low ≤ high
+AreBetween low (fault ∷ faults) high = (low ≤ fault.low) × Rose fault.low fault.high × AreBetween fault.high faults high
+
+-- ---- of the store
+
+abbrev pub fault_told : Fault → List Interval
+fault_told (store_fault before after) = record { low = before; high = after } ∷ []
+fault_told (is_foreign key) = []
+fault_told is_full = []
+
+abbrev pub said_told : Said → List Interval
+said_told (Found count hits) = []
+said_told (Refusal NotBuilt) = []
+said_told (Refusal (replies.Faulted fault)) = fault_told fault
+
+abbrev pub search_told : SearchStep → List Interval
+search_told Idle = []
+search_told (Planned revision count) = []
+search_told (Fetched number) = []
+search_told (Replied reply) = said_told reply.said
+
+abbrev pub indexer_told : IndexerOutcome → List Interval
+indexer_told indexing.Checkpoint = []
+indexer_told (indexing.Read count) = []
+indexer_told (indexing.Staged number) = []
+indexer_told (indexing.Uploaded number) = []
+indexer_told (indexing.Published number) = []
+indexer_told indexing.CaughtUp = []
+indexer_told (indexing.Stale partition current from) = []
+indexer_told (indexing.Lost number refusal) = []
+indexer_told (indexing.Refused refusal) = []
+indexer_told (indexing.SourceFault before after) = []
+indexer_told (indexing.Faulted fault) = fault_told fault
+
+abbrev pub node_told : NodeFault → List Interval
+node_told (world_fault fault) = fault_told fault
+node_told no_index = []
+
+-- the faults of the store that an outcome tells
+abbrev pub store_told : Outcome → List Interval
+store_told (at_said moment) = []
+store_told (assigned indexer count) = []
+store_told (indexer_busy indexer) = []
+store_told (indexer_said indexer outcome) = indexer_told outcome
+store_told (indexer_down indexer) = []
+store_told (indexer_restarted indexer) = []
+store_told (client_restarted name) = []
+store_told (node_restarted revision) = []
+store_told (node_failed fault) = node_told fault
+store_told (request_opened name) = []
+store_told (request_busy name) = []
+store_told (client_said name outcome) = search_told outcome
+store_told (client_down name) = []
