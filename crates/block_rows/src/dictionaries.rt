@@ -166,6 +166,9 @@ fn cuts_of_a_long_one(rt: HostRuntime) -> Result<(), Fail> {
 fn lent_by_blocks(area: &[u8], index: &BlockIndex, prefix: &[u8]) -> Result<u16, Corrupt> {
     let mut terms = 0u16;
     for number in index.blocks_with(prefix) {
+        if number >= index.len() {
+            return Err(Corrupt { at: 0 });
+        }
         let (start, end) = index.place_of(number, area.len() as u64)?;
         let Some(bytes) = area.get(start as usize..end as usize) else {
             return Err(Corrupt { at: 0 });
