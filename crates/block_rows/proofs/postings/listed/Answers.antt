@@ -1,4 +1,4 @@
-use Rattle.std.proofs.Common.{◌≡◌, ℕ, ◌+◌, ◌*◌, ◌<◌, ◌≤◌, List, [], ◌∷◌, ◌++◌, refl, sym, ◌∙◌, ap, subst, arith}
+use Rattle.std.proofs.Common.{◌≡◌, ℕ, ◌+◌, ◌<◌, ◌≤◌, List, [], ◌∷◌, ◌++◌, refl, sym, ◌∙◌, ap, subst, arith}
 use Rattle.std.specs.List.{AllByRecursion}
 use Rattle.term_postings.specs.Postings.{AreRising, documents}
 use Rattle.term_postings.specs.declared.list.Posting.{Posting}
@@ -17,19 +17,17 @@ wider : (ps : List Posting) (m n : ℕ) → m ≤ n → AllByRecursion (λ q. q.
 wider [] m n le h = tt
 wider (q ∷ qs) m n le h = (omega (arith, h.0), wider qs m n le h.1)
 
-abbrev IsGrown : List Posting → ℕ → List ℕ → Type 0
-IsGrown ps n positions = AreRising (documents ps) × AllByRecursion (λ q. q.document < n) ps × AllByRecursion (λ q. q.positions ≡ positions) ps
+abbrev IsGrown : List Posting → ℕ → Type 0
+IsGrown ps n = AreRising (documents ps) × AllByRecursion (λ q. q.document < n) ps × AllByRecursion (λ q. q.positions ≡ []) ps
 
-grown : (old : List Posting) (p : Posting) (n m : ℕ) (positions : List ℕ) → p.document ≡ n → p.positions ≡ positions → n < m → IsGrown old n positions → IsGrown (old ++ p ∷ []) m positions
-grown old p n m positions document same lt h =
+grown : (old : List Posting) (p : Posting) (n : ℕ) → p.document ≡ n → p.positions ≡ [] → IsGrown old n → IsGrown (old ++ p ∷ []) (n + 1)
+grown old p n document none h =
     let below : AllByRecursion (λ q. q.document < p.document) old = subst (λ (k : ℕ). AllByRecursion (λ q. q.document < k) old) (sym document) h.1 in
-    let small : p.document < m = omega (arith, document) in (
+    let small : p.document < n + 1 = omega (arith, document) in (
       rising_push old p h.0 below,
-      all_both (λ (q : Posting). q.document < m) old (p ∷ []) (wider old n m (omega arith) h.1) (small, tt),
-      all_both (λ (q : Posting). q.positions ≡ positions) old (p ∷ []) h.2 (same, tt),
+      all_both (λ (q : Posting). q.document < n + 1) old (p ∷ []) (wider old n (n + 1) (omega arith) h.1) (small, tt),
+      all_both (λ (q : Posting). q.positions ≡ []) old (p ∷ []) h.2 (none, tt),
     )
 
-pub loop-number-preserved : goal.loop-number-preserved
-loop-number-preserved c =
-    rw c.in_ok-push.ensures.ok (grown c.loop-number.list _ (c.loop-number.number * c.args.step) ((c.loop-number.number + 1) * c.args.step) c.args.positions.now
-    (rw (c.from.ensures, c.from-in-loop-number.ensures) refl) c.in_ok-copied.ensures (omega (arith, c.requires.step)) c.loop-number.invariant)
+pub loop-document-preserved : goal.loop-document-preserved
+loop-document-preserved c = rw c.in_ok-push.ensures.ok (grown c.loop-document.list _ c.loop-document.document refl c.vacant.ensures c.loop-document.invariant)
