@@ -41,13 +41,6 @@ impl Text {
         })
     }
 
-    pub fn into_string(self) -> String
-        ensures { string_bytes result ≡ self }
-    {
-        let Text { held } = self;
-        held
-    }
-
     pub fn as_str(&self) -> &str
         ensures { result.now ≡ self.now }
     {

@@ -57,9 +57,6 @@ set_rest text field n ms at f fs = run at (state (InSet field n ms) f fs) (drop 
 abbrev pub range_rest : List ℕ → Span → ℕ → RangeMode → ℕ → Rest
 range_rest text field n m at f fs = run at (state (InRange field n m) f fs) (drop at text)
 
-abbrev pub after_rest : List ℕ → Bool → ℕ → Rest
-after_rest text free at f fs = run at (state (After free) f fs) (drop at text)
-
 -- where a word ends
 abbrev pub word_rest : List ℕ → Role → ℕ → Scan → Rest
 word_rest text role from s f fs = run s.to (state (word role from (slice_range text from s.to) s.plain s.escaped) f fs) (drop s.to text)

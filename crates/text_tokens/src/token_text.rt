@@ -40,13 +40,6 @@ impl TokenText {
         })
     }
 
-    pub fn into_string(self) -> String
-        ensures { string_bytes result ≡ self }
-    {
-        let TokenText { held } = self;
-        held
-    }
-
     pub fn as_str(&self) -> &str
         ensures { result.now ≡ self.now }
     {
