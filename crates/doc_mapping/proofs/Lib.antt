@@ -1,10 +1,10 @@
 pub mod Choices
 pub mod Splitting
-pub mod Marking
-pub mod Fits
 pub mod Answering
 pub mod Rising
 pub mod Fitting
 pub mod Holding
 pub mod Walked
 pub mod Recorded
+pub mod Numbering
+pub mod Gathering

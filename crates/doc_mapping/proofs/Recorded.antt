@@ -48,7 +48,7 @@ values_here : (fs : List Field) (m n : ℕ) (d : Data) (vs : List Value) → m �
 values_here fs m n d [] e = values_none fs (suc m) n d (omega arith)
 values_here fs m n d (v ∷ vs) e = rw ((unsigned_Decides m n).1 e) refl
 
-values_found : (fs : List Field) (m k n : ℕ) (f : Field) (d : Data) → slice_get fs k ≡ Some f → n ≡ m + k
+pub values_found : (fs : List Field) (m k n : ℕ) (f : Field) (d : Data) → slice_get fs k ≡ Some f → n ≡ m + k
     → values_at (doc_from m fs d) n ≡ found_values f.kind (value_at (names_of f.path) d)
 values_found [] m k n f d a e = none_some f a
 values_found (g ∷ fs) m zero n f d a e =
@@ -64,7 +64,7 @@ is_equal Less e = absurd (let x : false ≡ true = e in cc)
 is_equal Equal e = refl
 is_equal Greater e = absurd (let x : false ≡ true = e in cc)
 
-own_order : (path : List ℕ) → slice_cmp nat_cmp path path ≡ Equal
+pub own_order : (path : List ℕ) → slice_cmp nat_cmp path path ≡ Equal
 own_order path = is_equal (slice_cmp nat_cmp path path) (is_eq-slice_cmp path path ∙ (bytes_eq-Decides path path).1 refl)
 
 last_plain : (name : List ℕ) (names : List (List ℕ)) → ArePlain (name ∷ names) → has_dot (last name names) ≡ false

@@ -2,4 +2,4 @@ pub mod Answer
 pub mod Documents
 pub mod Faults
 pub mod Held
-pub mod Marks
+pub mod Walk

@@ -1,16 +1,16 @@
-ghost use Rattle.std.specs.Prelude.{◌≡◌, Ok, Err, Some, MatchResult, IsTrue};
+ghost use Rattle.std.specs.Prelude.{◌≡◌, Ok, Err, Some, MatchResult, IsTrue, IfOk};
 ghost use Rattle.serde_json.specs.View.{view};
-ghost use Rattle.doc_value.specs.Documents.{PathsRise};
 ghost use Rattle.doc_mapping.specs.Answer.{answer, read_answer, lacks_timestamp, IsMemory};
-ghost use Rattle.doc_mapping.specs.Documents.{has_number};
+ghost use Rattle.doc_mapping.specs.Documents.{doc_from, has_number};
+ghost use Rattle.doc_mapping.specs.Walk.{AreRegular};
 
 use crate::documents::doc_of;
-use crate::faults::paths_rise;
+use crate::faults::are_regular;
 use crate::levels::is_within;
-use crate::marks::marks_of;
+use crate::parts::Parts;
 use crate::reject::Reject;
 use crate::walk::members_fault;
-use doc_value::{Doc, Text};
+use doc_value::{Doc, Fields};
 use index_config::IndexConfig;
 use serde_json::Value;
 use std::alloc::{AllocError, Global};
@@ -29,17 +29,17 @@ pub fn accept(alloc: Global, config: &IndexConfig, bytes: &[u8]) -> Result<Doc, 
         (λ doc. answer config.now bytes.now ≡ Ok doc)
         (λ refusal. ¬ IsMemory refusal → answer config.now bytes.now ≡ Err refusal) }
 {
-    accept_by(alloc, config, paths_rise(&config.schema.fields), bytes)
+    accept_by(alloc, config, are_regular(&config.schema.fields), bytes)
 }
 
-/// The same, told whether the paths of the fields rise.
+/// The same, told whether the fields are regular.
 pub fn accept_by(
     alloc: Global,
     config: &IndexConfig,
-    rise: bool,
+    regular: bool,
     bytes: &[u8],
 ) -> Result<Doc, Reject>
-    requires rising { IsTrue rise → PathsRise config.now.schema.fields }
+    requires rising { IsTrue regular → AreRegular config.now.schema.fields }
     ensures { MatchResult result
         (λ doc. answer config.now bytes.now ≡ Ok doc)
         (λ refusal. ¬ IsMemory refusal → answer config.now bytes.now ≡ Err refusal) }
@@ -51,7 +51,7 @@ pub fn accept_by(
         return Err(Reject::NotJson);
     };
     match Value::from_str(alloc, text) {
-        Ok(value) => accept_value(alloc, config, rise, &value),
+        Ok(value) => accept_value(alloc, config, regular, &value),
         Err(error) => {
             if error.is_memory() {
                 Err(Reject::Memory(AllocError))
@@ -65,10 +65,10 @@ pub fn accept_by(
 fn accept_value(
     alloc: Global,
     config: &IndexConfig,
-    rise: bool,
+    regular: bool,
     value: &Value,
 ) -> Result<Doc, Reject>
-    requires rising { IsTrue rise → PathsRise config.now.schema.fields }
+    requires rising { IsTrue regular → AreRegular config.now.schema.fields }
     ensures { MatchResult result
         (λ doc. read_answer config.now (Some (view value.now)) ≡ Ok doc)
         (λ refusal. ¬ IsMemory refusal → read_answer config.now (Some (view value.now)) ≡ Err refusal) }
@@ -79,16 +79,32 @@ fn accept_value(
     if !is_within(value, MAX_LEVELS) {
         return Err(Reject::TooDeep);
     }
-    let root = Text::vacant(alloc);
-    if let Some(refusal) = members_fault(alloc, config, rise, &root, map, MAX_LEVELS)? {
+    let mut parts = Parts::new(alloc);
+    if let Some(refusal) = members_fault(alloc, config, regular, "", map, MAX_LEVELS, &mut parts)? {
         return Err(refusal);
     }
-    let marks = marks_of(alloc, &config.schema, rise, map)?;
-    let doc = doc_of(alloc, &config.schema.fields, &marks, value)?;
+    let doc = doc_by(alloc, &config.schema.fields, regular, parts, value)?;
     if is_timestamp_missing(config.timestamp_field, &doc) {
         return Err(Reject::MissingTimestamp);
     }
     Ok(doc)
+}
+
+/// The document: the parts that the walk gathered, or where the fields are not regular what is looked for path by path.
+fn doc_by(
+    alloc: Global,
+    fields: &Fields,
+    regular: bool,
+    parts: Parts,
+    value: &Value,
+) -> Result<Doc, AllocError>
+    requires { IsTrue regular → parts.items ≡ doc_from 0 fields.now (view value.now) }
+    ensures { IfOk result (λ doc. doc ≡ doc_from 0 fields.now (view value.now)) }
+{
+    if regular {
+        return Ok(Doc::from_vec(parts));
+    }
+    doc_of(alloc, fields, value)
 }
 
 fn is_timestamp_missing(timestamp: Option<usize>, doc: &Doc) -> bool

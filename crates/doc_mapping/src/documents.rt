@@ -1,53 +1,28 @@
-ghost use Rattle.std.specs.Prelude.{◌≡◌, ◌++◌, false, None, IfOk, OnOk, option_map};
-ghost use Rattle.serde_json.specs.Find.{as_str, as_array};
+ghost use Rattle.std.specs.Prelude.{◌≡◌, ◌++◌, None, IfOk, OnOk, option_map};
+ghost use Rattle.serde_json.specs.Find.{as_null, as_str, as_array};
 ghost use Rattle.serde_json.specs.View.{view, items_view};
 ghost use Rattle.doc_value.specs.Printed.{names_of};
 ghost use Rattle.doc_mapping.specs.Faults.{i64_of};
 ghost use Rattle.clock_time.specs.Datetimes.{rfc3339_seconds, unix_seconds};
 ghost use Rattle.doc_mapping.specs.Documents as spec;
-ghost use Rattle.doc_mapping.specs.Marks.{AreAbsent};
+ghost use Rattle.doc_mapping.specs.Walk.{Fits, FitsSecond};
 
-use crate::marks::{Marks, may_stand};
+use crate::faults::value_fault;
 use clock_time::{read_rfc3339, read_unix};
 use doc_value::{Doc, DocField, Field, Fields, Kind, Text, Value as DocValue, Values};
+use index_config::Formats;
 use serde_json::Value;
 use std::alloc::{AllocError, Global};
 
-/// The values that stand at the paths of these fields; those whose mark is false are not looked for.
-pub fn doc_of(
-    alloc: Global,
-    fields: &Fields,
-    marks: &Marks,
-    root: &Value,
-) -> Result<Doc, AllocError>
-    requires { AreAbsent fields.now (view root.now) marks.now }
+/// The values that stand at the paths of these fields, each looked for by itself.
+pub fn doc_of(alloc: Global, fields: &Fields, root: &Value) -> Result<Doc, AllocError>
     ensures { IfOk result (λ doc. doc ≡ spec.doc_from 0 fields.now (view root.now)) }
 {
     let mut doc = Doc::vacant(alloc);
     for (number, field) in fields.as_slice().iter().enumerate() {
-        let mark = may_stand(marks, number);
-        push_marked(alloc, &mut doc, mark, number, field, root)?;
+        push_part(alloc, &mut doc, number, field, root)?;
     }
     Ok(doc)
-}
-
-/// The values of a field, looked for where its mark is true.
-fn push_marked(
-    alloc: Global,
-    doc: &mut Doc,
-    mark: bool,
-    number: usize,
-    field: &Field,
-    root: &Value,
-) -> Result<(), AllocError>
-    requires { mark ≡ false → spec.value_at (names_of field.now.path) (view root.now) ≡ None }
-    ensures { OnOk result (doc.new ≡ doc.old
-        ++ spec.part_of number (spec.found_values field.now.kind (spec.value_at (names_of field.now.path) (view root.now)))) }
-{
-    if mark {
-        return push_part(alloc, doc, number, field, root);
-    }
-    Ok(())
 }
 
 /// The values of a field, if it has any.
@@ -87,6 +62,72 @@ fn value_at<'a>(root: &'a Value, path: &str) -> Option<&'a Value>
             Some(inner) => value_at(inner, rest),
             None => None,
         },
+    }
+}
+
+/// The values of a value that fits a field, or none where it doesn't; a date is read once.
+pub fn fitting_values(
+    alloc: Global,
+    kind: Kind,
+    formats: Formats,
+    value: &Value,
+) -> Result<Option<Values>, AllocError>
+    ensures { IfOk result (Fits kind formats (view value.now)) }
+{
+    if value.is_null() {
+        return Ok(Some(Values::vacant(alloc)));
+    }
+    match kind {
+        Kind::Datetime => fitting_date(alloc, formats, value),
+        _ => fitting_others(alloc, kind, formats, value),
+    }
+}
+
+fn fitting_others(
+    alloc: Global,
+    kind: Kind,
+    formats: Formats,
+    value: &Value,
+) -> Result<Option<Values>, AllocError>
+    ensures { IfOk result (Fits kind formats (view value.now)) }
+{
+    if value_fault(kind, formats, Text::vacant(alloc), value).is_some() {
+        return Ok(None);
+    }
+    Ok(Some(values_of(alloc, kind, value)?))
+}
+
+fn fitting_date(
+    alloc: Global,
+    formats: Formats,
+    value: &Value,
+) -> Result<Option<Values>, AllocError>
+    requires { as_null (view value.now) ≡ None }
+    ensures { IfOk result (Fits Kind.Datetime formats (view value.now)) }
+{
+    match fitting_second(formats, value) {
+        Some(second) => Ok(Some(Values::one(alloc, DocValue::Datetime(second))?)),
+        None => Ok(None),
+    }
+}
+
+/// The second of a text or of a whole number, spelled as the formats take it.
+fn fitting_second(formats: Formats, value: &Value) -> Option<i64>
+    ensures { FitsSecond formats (view value.now) result }
+{
+    if let Some(text) = value.as_str() {
+        return if formats.rfc3339 {
+            second_of_text(text)
+        } else {
+            None
+        };
+    }
+    if !formats.unix {
+        return None;
+    }
+    match value.as_i64() {
+        Some(number) => second_of_number(number),
+        None => None,
     }
 }
 

@@ -6,12 +6,14 @@ ghost use Rattle.clock_time.specs.Datetimes.{rfc3339_seconds, unix_seconds};
 ghost use Rattle.serde_json.specs.Find.{as_str, as_array};
 ghost use Rattle.doc_value.specs.Documents as words;
 ghost use Rattle.doc_value.specs.Documents.{PathsRise};
+ghost use Rattle.index_config.specs.Accepted.{BeginPlain};
 ghost use Rattle.doc_mapping.specs.Faults as spec;
+ghost use Rattle.doc_mapping.specs.Walk.{AreRegular};
 
 use crate::reject::Reject;
 use clock_time::{read_rfc3339, read_unix};
 use doc_value::{Field, Fields, Kind, Schema, Text};
-use index_config::{FieldFormats, Formats, Mode};
+use index_config::{FieldFormats, Formats};
 use serde_json::Value;
 use std::cmp::Ordering;
 
@@ -20,17 +22,6 @@ pub fn unless(passes: bool, refusal: Reject) -> Option<Reject>
     ensures { result ≡ spec.unless passes refusal }
 {
     if passes { None } else { Some(refusal) }
-}
-
-/// A key that the schema doesn't have is refused in strict mode.
-pub fn unmapped(mode: Mode, path: Text) -> Option<Reject>
-    ensures { result ≡ spec.unmapped mode path }
-{
-    match mode {
-        Mode::Strict => Some(Reject::Unmapped { path }),
-        Mode::Lenient => None,
-        Mode::Dynamic => None,
-    }
 }
 
 /// The first refusal of a value where a field of this kind stands.
@@ -151,7 +142,7 @@ fn is_before(path: &[u8], other: &[u8]) -> bool
 }
 
 /// Whether each path comes before the next.
-pub fn paths_rise(fields: &Fields) -> bool
+fn paths_rise(fields: &Fields) -> bool
     ensures rise { IsTrue result → PathsRise fields.now }
     ensures only { PathsRise fields.now → IsTrue result }
 {
@@ -166,12 +157,33 @@ pub fn paths_rise(fields: &Fields) -> bool
     true
 }
 
-/// The number of the field with this path, found in logarithmic time where the paths rise.
-pub fn number_of(schema: &Schema, rise: bool, path: &[u8]) -> Option<usize>
-    requires { IsTrue rise → PathsRise schema.now.fields }
+/// Whether no path begins with a dot.
+fn begin_plain(fields: &Fields) -> bool
+    ensures plain { IsTrue result → BeginPlain fields.now }
+    ensures only { BeginPlain fields.now → IsTrue result }
+{
+    for field in fields.as_slice() {
+        if field.path.as_slice().starts_with(b".") {
+            return false;
+        }
+    }
+    true
+}
+
+/// Whether the paths of the fields rise and none begins with a dot.
+pub fn are_regular(fields: &Fields) -> bool
+    ensures regular { IsTrue result → AreRegular fields.now }
+    ensures only { AreRegular fields.now → IsTrue result }
+{
+    paths_rise(fields) && begin_plain(fields)
+}
+
+/// The number of the field with this path, found in logarithmic time where the fields are regular.
+pub fn number_of(schema: &Schema, regular: bool, path: &[u8]) -> Option<usize>
+    requires { IsTrue regular → AreRegular schema.now.fields }
     ensures { result ≡ words.number_of schema.now.fields path.now }
 {
-    if rise {
+    if regular {
         return schema.number_of(path);
     }
     first_number_of(schema.fields.as_slice(), path)

@@ -7,7 +7,7 @@ mod faults;
 pub mod laws;
 mod levels;
 mod mapping;
-mod marks;
+mod parts;
 pub mod reject;
 mod walk;
 

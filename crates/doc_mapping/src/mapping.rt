@@ -2,7 +2,7 @@ ghost use Rattle.std.specs.Prelude.{◌≡◌, Ok, Err, MatchResult};
 ghost use Rattle.doc_mapping.specs.Answer.{answer, IsMemory};
 
 use crate::accepting::accept_by;
-use crate::faults::paths_rise;
+use crate::faults::are_regular;
 use crate::reject::Reject;
 use doc_value::Doc;
 use index_config::IndexConfig;
@@ -13,27 +13,27 @@ use std::marker::Model;
 #[derive(Debug, Drop)]
 pub struct Mapping {
     config: IndexConfig,
-    rise: bool,
+    regular: bool,
 }
 
 impl Model for Mapping {
     ghost use Rattle.std.specs.Prelude.{IsTrue};
-    ghost use Rattle.doc_value.specs.Documents.{PathsRise};
+    ghost use Rattle.doc_mapping.specs.Walk.{AreRegular};
     ghost use Rattle.index_config.specs.declared.config.IndexConfig.{IndexConfig};
 
     ghost Value = { IndexConfig };
 
     ghost view = { λ m. m.config };
 
-    ghost invariant = { λ m. IsTrue m.rise → PathsRise m.config.schema.fields };
+    ghost invariant = { λ m. IsTrue m.regular → AreRegular m.config.schema.fields };
 }
 
 impl Mapping {
     pub fn new(config: IndexConfig) -> Mapping
         ensures { result ≡ config }
     {
-        let rise = paths_rise(&config.schema.fields);
-        Mapping { config, rise }
+        let regular = are_regular(&config.schema.fields);
+        Mapping { config, regular }
     }
 
     pub fn config(&self) -> &IndexConfig
@@ -48,6 +48,6 @@ impl Mapping {
             (λ doc. answer self.now bytes.now ≡ Ok doc)
             (λ refusal. ¬ IsMemory refusal → answer self.now bytes.now ≡ Err refusal) }
     {
-        accept_by(alloc, &self.config, self.rise, bytes)
+        accept_by(alloc, &self.config, self.regular, bytes)
     }
 }

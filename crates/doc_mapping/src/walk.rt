@@ -1,33 +1,50 @@
-ghost use Rattle.std.specs.Prelude.{◌≡◌, ◌<◌, ◌≤◌, ◌++◌, ◌∷◌, [], slice_get, IfOk, IsTrue, Option, None};
-ghost use Rattle.doc_mapping.specs.declared.reject.Reject.{Reject};
-ghost use Rattle.doc_value.specs.Documents.{PathsRise};
+ghost use Rattle.std.specs.Prelude.{◌≡◌, ◌<◌, ◌≤◌, ◌++◌, ◌∷◌, [], length, slice_get, IfOk, IsTrue, true, false, Some, None, is_some};
+ghost use Rattle.doc_value.specs.Documents as words;
 ghost use Rattle.serde_json.specs.Data.{depth, members_depth};
 ghost use Rattle.serde_json.specs.View.{view, members_view};
 ghost use Rattle.doc_mapping.specs.Faults as spec;
+ghost use Rattle.serde_json.specs.Find.{as_object, as_null};
+ghost use Rattle.doc_mapping.specs.declared.reject.Reject.TheVariants.{WrongType};
+ghost use Rattle.doc_mapping.specs.Walk.{AreRegular, GatherAll, Gathers, HasEntered, RiseFrom};
+ghost use Rattle.doc_mapping.specs.Held.{values_at};
 
-use crate::faults::{formats_at, is_object, number_of, unless, unmapped, value_fault};
+use crate::documents::fitting_values;
+use crate::faults::{formats_at, is_object, number_of, value_fault};
+use crate::parts::{Parts, put};
 use crate::reject::Reject;
-use doc_value::{Replica, Text};
-use index_config::IndexConfig;
+use doc_value::Text;
+use index_config::{IndexConfig, Mode};
 use serde_json::{Map, Value};
 use std::alloc::{AllocError, Global};
 
-/// The first refusal among the keys of an object with this path.
+/// The first refusal among the keys of an object with this path; where there is none, the parts have its values.
 #[cycle(walk)]
 pub fn members_fault(
     alloc: Global,
     config: &IndexConfig,
-    rise: bool,
-    prefix: &Text,
+    regular: bool,
+    prefix: &str,
     map: &Map<String, Value>,
     levels: usize,
+    parts: &mut Parts,
 ) -> Result<Option<Reject>, AllocError>
-    requires rising { IsTrue rise → PathsRise config.now.schema.fields }
+    requires rising { IsTrue regular → AreRegular config.now.schema.fields }
     requires shallow { members_depth (members_view map.now.entries) ≤ levels }
-    ensures { IfOk result (λ fault. fault ≡ spec.members_fault config.now prefix.now (members_view map.now.entries)) }
+    ensures fault { IfOk result (λ fault. fault ≡ spec.members_fault config.now prefix.now (members_view map.now.entries)) }
+    ensures gathers { IfOk result (λ fault. fault ≡ None →
+        GatherAll config.now.schema.fields prefix.now (members_view map.now.entries) parts.old.items parts.new.items) }
 {
     for (key, value) in map {
-        let fault = key_fault(alloc, config, rise, prefix, key.as_str(), value, levels)?;
+        let fault = key_fault(
+            alloc,
+            config,
+            regular,
+            prefix,
+            key.as_str(),
+            value,
+            levels,
+            parts,
+        )?;
         if fault.is_some() {
             return Ok(fault);
         }
@@ -40,78 +57,148 @@ pub fn members_fault(
 fn key_fault(
     alloc: Global,
     config: &IndexConfig,
-    rise: bool,
-    prefix: &Text,
+    regular: bool,
+    prefix: &str,
     key: &str,
     value: &Value,
     levels: usize,
+    parts: &mut Parts,
 ) -> Result<Option<Reject>, AllocError>
-    requires rising { IsTrue rise → PathsRise config.now.schema.fields }
+    requires rising { IsTrue regular → AreRegular config.now.schema.fields }
     requires shallow { depth (view value.now) ≤ levels }
-    ensures { IfOk result (λ fault. fault ≡
+    ensures fault { IfOk result (λ fault. fault ≡
         spec.key_fault config.now (spec.under prefix.now key.now) key.now (view value.now)
         (spec.inner_fault config.now (spec.under prefix.now key.now) (view value.now))) }
+    ensures dotted { spec.has_dot key.now ≡ true → parts.new.items ≡ parts.old.items }
+    ensures gathers { spec.has_dot key.now ≡ false → IfOk result (λ fault. fault ≡ None →
+        Gathers config.now.schema.fields (spec.under prefix.now key.now) (view value.now) parts.old.items parts.new.items) }
 {
-    if fits_field(alloc, config, rise, prefix, key, value) {
-        return Ok(None);
+    if has_dot(key) {
+        return unmapped_key(alloc, config, prefix, key);
+    }
+    if prefix.is_empty() {
+        return path_fault(alloc, config, regular, key, value, levels, parts);
     }
     let path = under(alloc, prefix, key)?;
-    if has_dot(key) {
-        return Ok(unmapped(config.mode, path));
-    }
-    if let Some(number) = number_of(&config.schema, rise, path.as_slice()) {
-        return Ok(field_fault(config, number, path, value));
-    }
-    if !lies_above_fields(alloc, config, &path)? {
-        return Ok(unmapped(config.mode, path));
-    }
-    match value.as_object() {
-        Some(inner) => members_fault(alloc, config, rise, &path, inner, levels - 1),
-        None => Ok(unless(value.is_null(), Reject::WrongType { path })),
-    }
+    path_fault(alloc, config, regular, path.as_str(), value, levels, parts)
 }
 
-/// Whether a key of the record itself names a field that its value fits, told without the key's path.
-fn fits_field(
+/// The first refusal of a value at this path, behind a key without a dot.
+#[cycle(walk)]
+fn path_fault(
     alloc: Global,
     config: &IndexConfig,
-    rise: bool,
-    prefix: &Text,
-    key: &str,
+    regular: bool,
+    path: &str,
     value: &Value,
-) -> bool
-    requires rising { IsTrue rise → PathsRise config.now.schema.fields }
-    ensures { IsTrue result → (inner : Option Reject) →
-        spec.key_fault config.now (spec.under prefix.now key.now) key.now (view value.now) inner ≡ None }
+    levels: usize,
+    parts: &mut Parts,
+) -> Result<Option<Reject>, AllocError>
+    requires rising { IsTrue regular → AreRegular config.now.schema.fields }
+    requires shallow { depth (view value.now) ≤ levels }
+    ensures fault { IfOk result (λ fault. fault ≡
+        spec.path_fault config.now path.now (view value.now) (spec.inner_fault config.now path.now (view value.now))
+        (words.number_of config.now.schema.fields path.now)) }
+    ensures gathers { IfOk result (λ fault. fault ≡ None →
+        Gathers config.now.schema.fields path.now (view value.now) parts.old.items parts.new.items) }
 {
-    if prefix.len() > 0 || has_dot(key) {
-        return false;
+    if let Some(number) = number_of(&config.schema, regular, path.as_bytes()) {
+        return field_fault(alloc, config, number, path, value, parts);
     }
-    match number_of(&config.schema, rise, key.as_bytes()) {
-        Some(number) => {
-            let fault = field_fault(config, number, Text::vacant(alloc), value);
-            fault.is_none()
-        }
-        None => false,
+    if !lies_above_fields(alloc, config, regular, path)? {
+        return unmapped_path(alloc, config, path);
+    }
+    match value.as_object() {
+        Some(inner) => members_fault(alloc, config, regular, path, inner, levels - 1, parts),
+        None => type_fault(alloc, path, value),
     }
 }
 
-/// The value of a key that has the path of this field.
-fn field_fault(config: &IndexConfig, number: usize, path: Text, value: &Value) -> Option<Reject>
-    ensures { result ≡ spec.field_fault config.now path (view value.now) number (slice_get config.now.schema.fields number) }
+/// The first refusal of a value at the path of this field; where it fits, the parts have its values.
+fn field_fault(
+    alloc: Global,
+    config: &IndexConfig,
+    number: usize,
+    path: &str,
+    value: &Value,
+    parts: &mut Parts,
+) -> Result<Option<Reject>, AllocError>
+    requires { number < length config.now.schema.fields }
+    ensures fault { IfOk result (λ fault. fault ≡
+        spec.field_fault config.now path.now (view value.now) number (slice_get config.now.schema.fields number)) }
+    ensures enters { IfOk result (λ fault. fault ≡ None → RiseFrom 0 parts.old.items → values_at parts.old.items number ≡ [] →
+        HasEntered config.now.schema.fields number (view value.now) parts.old.items parts.new.items) }
 {
-    if number >= config.schema.fields.len() {
-        return unmapped(config.mode, path);
-    }
     let kind = config.schema.fields.at(number).kind;
-    value_fault(kind, formats_at(&config.formats, number), path, value)
+    let formats = formats_at(&config.formats, number);
+    match fitting_values(alloc, kind, formats, value)? {
+        Some(values) => {
+            put(parts, number, values)?;
+            Ok(None)
+        }
+        None => Ok(value_fault(kind, formats, Text::from_str(alloc, path)?, value)),
+    }
+}
+
+/// A value where an object is asked that is none: null fits, and nothing else.
+fn type_fault(alloc: Global, path: &str, value: &Value) -> Result<Option<Reject>, AllocError>
+    requires { as_object (view value.now) ≡ None }
+    ensures { IfOk result (λ fault. fault ≡ spec.unless (is_some (as_null (view value.now))) (WrongType path.now)) }
+{
+    if value.is_null() {
+        return Ok(None);
+    }
+    Ok(Some(Reject::WrongType {
+        path: Text::from_str(alloc, path)?,
+    }))
+}
+
+/// A path that the schema doesn't have is refused in strict mode.
+fn unmapped_path(
+    alloc: Global,
+    config: &IndexConfig,
+    path: &str,
+) -> Result<Option<Reject>, AllocError>
+    ensures { IfOk result (λ fault. fault ≡ spec.unmapped config.now.mode path.now) }
+{
+    match config.mode {
+        Mode::Strict => Ok(Some(Reject::Unmapped {
+            path: Text::from_str(alloc, path)?,
+        })),
+        Mode::Lenient => Ok(None),
+        Mode::Dynamic => Ok(None),
+    }
+}
+
+/// The same of the path of a key in an object with this path.
+fn unmapped_key(
+    alloc: Global,
+    config: &IndexConfig,
+    prefix: &str,
+    key: &str,
+) -> Result<Option<Reject>, AllocError>
+    ensures { IfOk result (λ fault. fault ≡ spec.unmapped config.now.mode (spec.under prefix.now key.now)) }
+{
+    match config.mode {
+        Mode::Strict => Ok(Some(Reject::Unmapped {
+            path: under(alloc, prefix, key)?,
+        })),
+        Mode::Lenient => Ok(None),
+        Mode::Dynamic => Ok(None),
+    }
 }
 
 /// Whether a path is that of an object in which some field lies.
-fn lies_above_fields(alloc: Global, config: &IndexConfig, path: &Text) -> Result<bool, AllocError>
+fn lies_above_fields(
+    alloc: Global,
+    config: &IndexConfig,
+    regular: bool,
+    path: &str,
+) -> Result<bool, AllocError>
+    requires { IsTrue regular → AreRegular config.now.schema.fields }
     ensures { IfOk result (λ above. above ≡ spec.is_object config.now.schema.fields (path.now ++ 46 ∷ [])) }
 {
-    let mut start = path.copy(alloc)?;
+    let mut start = Text::from_str(alloc, path)?;
     start.push('.')?;
     Ok(is_object(config.schema.fields.as_slice(), start.as_slice()))
 }
@@ -124,14 +211,13 @@ fn has_dot(key: &str) -> bool
 }
 
 /// The path of a key in an object with this path; the record itself has the empty path.
-fn under(alloc: Global, prefix: &Text, key: &str) -> Result<Text, AllocError>
+fn under(alloc: Global, prefix: &str, key: &str) -> Result<Text, AllocError>
     ensures { IfOk result (λ path. path ≡ spec.under prefix.now key.now) }
 {
-    if prefix.len() == 0 {
-        return Text::from_str(alloc, key);
+    let mut path = Text::from_str(alloc, prefix)?;
+    if path.len() > 0 {
+        path.push('.')?;
     }
-    let mut path = prefix.copy(alloc)?;
-    path.push('.')?;
     path.extend(key)?;
     Ok(path)
 }

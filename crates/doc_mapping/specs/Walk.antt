@@ -1,0 +1,83 @@
+-- What one walk over a record's keys gathers: for each field the values that stand at its path.
+use Rattle.std.specs.Prelude.{◌≡◌, ◌≢◌, ◌⊎◌, ℕ, suc, false, ◌≤◌, List, [], ◌∷◌, ◌++◌, slice_get, Option, Some, None, ℤ}
+use Rattle.serde_json.specs.Data.{Data, object, Members}
+use Rattle.serde_json.specs.Find.{as_str}
+use Rattle.doc_value.specs.declared.schema.Field.{Field}
+use Rattle.doc_value.specs.declared.schema.Kind.{Kind}
+use Rattle.doc_value.specs.declared.doc.Value.{Value}
+use Rattle.doc_value.specs.declared.doc.DocField.{DocField}
+use Rattle.doc_value.specs.Documents.{PathsRise}
+use Rattle.doc_value.specs.Printed.{names_of}
+use Rattle.index_config.specs.Accepted.{BeginPlain}
+use Rattle.index_config.specs.declared.config.Formats.{Formats}
+use Rattle.doc_mapping.specs.Documents.{value_at, second_of, values_of, found_values}
+use Rattle.doc_mapping.specs.Faults.{under, has_dot, i64_of, u64_of, date_fault, value_fault}
+use Rattle.doc_mapping.specs.Held.{values_at}
+
+-- the paths of the fields rise, and none begins with a dot
+abbrev pub AreRegular : List Field → Type 0
+AreRegular fields = PathsRise fields × BeginPlain fields
+
+-- the values of what fits a field, and none of what doesn't fit
+abbrev pub Fits : Kind → Formats → Data → Option (List Value) → Type 0
+Fits kind formats d None = (path : List ℕ) → value_fault kind formats path d ≢ None
+Fits kind formats d (Some vs) = ((path : List ℕ) → value_fault kind formats path d ≡ None) × (vs ≡ values_of kind d)
+
+-- the second of what fits a datetime field, and none of what doesn't fit
+abbrev pub FitsSecond : Formats → Data → Option ℤ → Type 0
+FitsSecond formats d None = (path : List ℕ) → date_fault formats path (as_str d) (i64_of d) (u64_of d) ≢ None
+FitsSecond formats d (Some second) =
+    ((path : List ℕ) → date_fault formats path (as_str d) (i64_of d) (u64_of d) ≡ None) × (second_of (as_str d) (i64_of d) ≡ Some second)
+
+-- a document's parts from a number on: their numbers rise, and each has values
+abbrev pub RiseFrom : ℕ → List DocField → Type 0
+RiseFrom least [] = Unit {0}
+RiseFrom least (part ∷ parts) = (least ≤ part.number) × (part.values ≢ []) × RiseFrom (suc part.number) parts
+
+-- parts with these values of a field more, of which they had none
+pub record Enters (number : ℕ) (values : List Value) (old new : List DocField) : Type 0 where
+  pub rise : RiseFrom 0 new
+  pub own : values_at new number ≡ values
+  pub others : (n : ℕ) → n ≢ number → values_at new n ≡ values_at old n
+
+-- the same, of what a value gives of the field's kind
+abbrev pub HasEntered : List Field → ℕ → Data → List DocField → List DocField → Type 0
+HasEntered fields number d old new = (f : Field) → slice_get fields number ≡ Some f → Enters number (values_of f.kind d) old new
+
+-- a path is another one, or goes on behind it by these names
+abbrev pub LiesAt : List ℕ → List (List ℕ) → List ℕ → Type 0
+LiesAt at names path = ((names ≡ []) × (path ≡ at)) ⊎ ((rest : List ℕ) × ((names ≡ names_of rest) × (path ≡ at ++ 46 ∷ rest)))
+
+-- no part is of a field that lies there
+abbrev pub IsFree : List Field → List ℕ → List DocField → Type 0
+IsFree fields at parts = (n : ℕ) (f : Field) (names : List (List ℕ)) → slice_get fields n ≡ Some f → LiesAt at names f.path → values_at parts n ≡ []
+
+-- parts with what a value at a path brings: of each field that lies there its values
+pub record Brings (fields : List Field) (at : List ℕ) (d : Data) (old new : List DocField) : Type 0 where
+  pub rise : RiseFrom 0 new
+  pub own : (n : ℕ) (f : Field) (names : List (List ℕ)) → slice_get fields n ≡ Some f → LiesAt at names f.path
+      → values_at new n ≡ found_values f.kind (value_at names d)
+  pub others : (n : ℕ) → ((f : Field) (names : List (List ℕ)) → slice_get fields n ≡ Some f → LiesAt at names f.path → ⊥)
+      → values_at new n ≡ values_at old n
+
+-- the same, of regular fields and of parts that rise and have nothing yet of what lies there
+abbrev pub Gathers : List Field → List ℕ → Data → List DocField → List DocField → Type 0
+Gathers fields at d old new = AreRegular fields → RiseFrom 0 old → IsFree fields at old → Brings fields at d old new
+
+-- the way to a field goes by this key of the object at a path, and then by these names
+abbrev pub GoesBy : List Field → List ℕ → List ℕ → List (List ℕ) → ℕ → Field → Type 0
+GoesBy fields prefix key names n f = (has_dot key ≡ false) × (slice_get fields n ≡ Some f) × LiesAt (under prefix key) names f.path
+
+abbrev pub AreFree : List Field → List ℕ → List DocField → Type 0
+AreFree fields prefix parts = (key : List ℕ) (n : ℕ) (f : Field) (names : List (List ℕ)) → GoesBy fields prefix key names n f → values_at parts n ≡ []
+
+-- parts with what the members of an object bring
+pub record BringAll (fields : List Field) (prefix : List ℕ) (ms : Members) (old new : List DocField) : Type 0 where
+  pub rise : RiseFrom 0 new
+  pub own : (key : List ℕ) (n : ℕ) (f : Field) (names : List (List ℕ)) → GoesBy fields prefix key names n f
+      → values_at new n ≡ found_values f.kind (value_at (key ∷ names) (object ms))
+  pub others : (n : ℕ) → ((key : List ℕ) (f : Field) (names : List (List ℕ)) → GoesBy fields prefix key names n f → ⊥)
+      → values_at new n ≡ values_at old n
+
+abbrev pub GatherAll : List Field → List ℕ → Members → List DocField → List DocField → Type 0
+GatherAll fields prefix ms old new = AreRegular fields → RiseFrom 0 old → AreFree fields prefix old → BringAll fields prefix ms old new
