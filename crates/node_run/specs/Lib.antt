@@ -10,3 +10,4 @@ pub mod Named
 pub mod Each
 pub mod Restarting
 pub mod Telling
+pub mod Logs

@@ -115,6 +115,11 @@ DoesMost told count since firsts node line (Err refused) new =
 
 -- ---- finish
 
+-- these logs are later states of the first ones, one of each, and these are their counts
+pub record GivesLogs {L : Type 0} (count : L → ℕ) (since : L → L → Type 0) (firsts lasts : List L) (counts : List ℕ) : Type 0 where
+  pub later : AllZip since firsts lasts
+  pub counts_are : map count lasts ≡ counts
+
 -- these are the counts of logs that are later states of the first ones, and this is their sum
 pub record LetGo {L : Type 0} (count : L → ℕ) (since : L → L → Type 0) (firsts : List L) (counts : List ℕ) (total : ℕ) : Type 0 where
   pub lasts : List L

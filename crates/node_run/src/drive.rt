@@ -16,14 +16,16 @@ ghost use Rattle.root_search.specs.Steps.{Client as Asker, without_request};
 ghost use Rattle.node_run.specs.Calm.{log_counts};
 ghost use Rattle.node_run.specs.Fitting.{IsNumbered, IsYes};
 ghost use Rattle.node_run.specs.Lines.{IsWellFormed, AreNames, outcome_text};
+ghost use Rattle.node_run.specs.Logs.{logs_in};
 ghost use Rattle.node_run.specs.Named.{NamedAt, IsUnknown};
 ghost use Rattle.node_run.specs.Node.{Node};
 ghost use Rattle.node_run.specs.Node as said;
 ghost use Rattle.node_run.specs.Seen.{seen};
-ghost use Rattle.node_run.specs.Standing.{NodeStands, IsFresh, fresh_node, accepts_of, accepts_client, accepts_indexer, DoesLine, DoesMost, LetGo, GivesStore};
+ghost use Rattle.node_run.specs.Standing.{NodeStands, IsFresh, fresh_node, accepts_of, accepts_client, accepts_indexer, DoesLine, DoesMost, LetGo, GivesLogs, GivesStore};
 ghost use Rattle.node_run.specs.Turns.{made_idle, client_named, with_client, quiet, stopped};
 
 use crate::line::Line;
+use crate::logs::Logs;
 use crate::out_line::OutLine;
 use byte_fields::{Client, Text};
 use clock_time::ScriptClock;
@@ -186,16 +188,6 @@ fn fault_line(alloc: Global, error: WorldError) -> Result<OutLine, AllocError>
     }
 }
 
-fn sum_of_faults<L: SourceLog>(indexers: &[Indexer<L>]) -> u64
-    ensures { result ≡ min (sum (map (λ reader. L.fault_count reader.log) indexers.now)) last_count }
-{
-    let mut sum: u64 = 0;
-    for indexer in indexers {
-        sum = sum.saturating_add(indexer.log_faults());
-    }
-    sum
-}
-
 // A fresh reader of a log, behind those of other logs.
 fn push_reader<L: SourceLog>(readers: &mut Vec<Indexer<L>>, log: L)
     requires { vec_len readers.old < vec_capacity readers.old }
@@ -249,6 +241,25 @@ impl<S: ObjectStore, L: SourceLog> DriveNode<S, L> {
         })
     }
 
+    /// Ends the node. Gives the store and the logs.
+    pub fn finish_with_logs(self) -> (S, Logs<L>)
+        ensures store { (firsts : List L) (node : Node) → NodeStands L.told L.fault_count L.since firsts self node →
+            GivesStore S.told S.fault_count result.0 node.core node.log }
+        ensures logs { (firsts : List L) (node : Node) → NodeStands L.told L.fault_count L.since firsts self node →
+            GivesLogs L.fault_count L.since firsts (logs_in result.1) (log_counts node.indexers) }
+        // Over all logs: those that the node has as it ends.
+        ensures same { logs_in result.1 ≡ map (λ reader. reader.log) self.indexers.items }
+    {
+        let DriveNode {
+            world,
+            indexers,
+            clients: _,
+            moment: _,
+            down: _,
+        } = self;
+        (world.unload().0, Logs::Read(indexers))
+    }
+
     /// Ends the node. Gives the store, and the sum of the logs' counts of faults, at most 2 ^ 64 - 1.
     pub fn finish(self) -> (S, u64)
         ensures store { (firsts : List L) (node : Node) → NodeStands L.told L.fault_count L.since firsts self node →
@@ -258,15 +269,9 @@ impl<S: ObjectStore, L: SourceLog> DriveNode<S, L> {
         // Over all logs: of those that the node has as it ends.
         ensures sum { result.1 ≡ min (sum (map (λ reader. L.fault_count reader.log) self.indexers.items)) last_count }
     {
-        let DriveNode {
-            world,
-            indexers,
-            clients: _,
-            moment: _,
-            down: _,
-        } = self;
-        let faults = sum_of_faults(indexers.as_slice());
-        (world.unload().0, faults)
+        let (store, logs) = self.finish_with_logs();
+        let faults = logs.faults();
+        (store, faults)
     }
 
     fn accepts_client(&self, client: &Client) -> Accepts

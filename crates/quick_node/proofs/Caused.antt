@@ -8,7 +8,7 @@ use Rattle.index_world.specs.declared.world_error.WorldError.{WorldError}
 use Rattle.index_world.specs.declared.world_error.WorldError.TheVariants as errors
 use Rattle.quick_node.specs.Causes.{Faults, faults_of, HasCauses, IsOneOf, other_statuses, DriveCauses, EndsLineBy, EndsRunBy}
 use Rattle.quick_node.specs.Ending.{ended_status}
-use Rattle.quick_node.specs.Running.{Counts, counts_of}
+use Rattle.quick_node.specs.Running.{Counts, counts_of, done_behind}
 use Rattle.quick_node.specs.declared.error_line.End.{End as Ended}
 use Rattle.quick_node.specs.declared.error_line.End.TheVariants as ended
 use Rattle.quick_node.proofs.Going.{rose_earlier}
@@ -143,6 +143,11 @@ pub line_causes : (read_before read_after before after : ℕ) (r : Result (Optio
 line_causes read_before read_after before after (Ok None) by = tt
 line_causes read_before read_after before after (Ok (Some e)) by = line_by read_before read_after before after e by
 line_causes read_before read_after before after (Err refused) by = tt
+
+pub done_causes : (counts : Counts) (r : Result (Option Ended) AllocError) → IfOk r (λ end. IfSome end (EndsRunBy counts)) → IfOk (done_behind r) (λ end. IfSome end (EndsRunBy counts))
+done_causes counts (Ok None) by = tt
+done_causes counts (Ok (Some e)) by = by
+done_causes counts (Err refused) by = by
 
 -- seen from earlier counts
 run_earlier : (read read_before read_after write before after : ℕ) → read ≤ read_before → write ≤ before → (e : Ended) →

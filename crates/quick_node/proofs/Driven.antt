@@ -2,7 +2,7 @@
 use Rattle.std.proofs.Common.{◌≡◌, ◌⊎◌, ℕ, ◌≤◌, false, List, [], ◌∷◌, ◌++◌, length, map, flat_map, sum, refl, sym, ap, ◌∙◌, subst, inl, inr, append-nil, append_assoc, arith}
 use Rattle.std.proofs.lemmas.List.{length-map}
 use Rattle.std.specs.List.{AllByRecursion, AllZip}
-use Rattle.std.specs.Prelude.{Option, Some, None, Result, ⊤, min}
+use Rattle.std.specs.Prelude.{Option, Some, None, Result, ⊤, min, slice_index}
 use Rattle.meta_journal.specs.declared.entry.Entry.{Entry}
 use Rattle.meta_store.specs.History.{moment_of, history as told_by}
 use Rattle.object_store.specs.Store.{State}
@@ -12,13 +12,14 @@ use Rattle.index_world.specs.Core.{with_unread, journal_of, last_count}
 use Rattle.index_world.specs.World.{IsWorld}
 use Rattle.index_world.proofs.Opening.{index_opens}
 use Rattle.node_run.specs.Calm.{log_counts}
+use Rattle.node_run.specs.Lines.{printed}
 use Rattle.node_run.specs.Node.{Node, Line, Outcome}
-use Rattle.node_run.specs.Standing.{LetGo, fresh_node}
+use Rattle.node_run.specs.Standing.{GivesLogs, LetGo, fresh_node}
 use Rattle.node_run.specs.Telling.{MayTell}
 use Rattle.node_run.specs.Turns.{opened_node}
-use Rattle.quick_node.specs.Faults.{AreBetween, store_told}
+use Rattle.quick_node.specs.Faults.{AreBetween, store_told, log_told}
 use Rattle.quick_node.specs.Ending.{EndsSo, ended_status, last_line}
-use Rattle.quick_node.specs.Serve.{IsPrefixOf, Before, After, End, out_of_memory, end_told, status_of, reading_status, WroteLine, Wrote, HasEnd, IsFresh, Opens, Lives, IsShown, AnswersFrom, EntersAs, Drives, ShowsAfter}
+use Rattle.quick_node.specs.Serve.{IsPrefixOf, Before, After, End, out_of_memory, end_told, status_of, reading_status, WroteLine, Wrote, HasEnd, IsFresh, Opens, Answers, Lives, IsShown, AnswersFrom, EntersAs, Drives, ShowsAfter}
 use Rattle.quick_node.specs.declared.error_line.End.{End as Ended}
 use Rattle.quick_node.proofs.Catching.{lives_catch}
 use Rattle.quick_node.proofs.Calmed.{reader_counts, lives_calm}
@@ -27,8 +28,9 @@ use Rattle.quick_node.proofs.Living.{opens_moves, lives_follow}
 use Rattle.quick_node.proofs.LongerLog.{index_longer}
 use Rattle.quick_node.proofs.Onces.{holds_once, holds_at}
 use Rattle.quick_node.proofs.Faulting.{none_told}
+use Rattle.quick_node.proofs.Sources.{lives_between}
 use Rattle.quick_node.proofs.Telling.{lives_told}
-use Rattle.quick_node.proofs.UpToLast.{Met, most_on}
+use Rattle.quick_node.proofs.UpToLast.{Met, printed_on, silent_short, most_on}
 
 -- ---- a fresh node, and what opening makes of it
 
@@ -90,8 +92,8 @@ module _ {L : Type 0} (count : L → ℕ) (since : L → L → Type 0) (itself :
   all_later [] = tt
   all_later (log ∷ logs) = (itself log, all_later logs)
 
-  pub kept_logs : (logs : List L) (counts : List ℕ) (total : ℕ) → map count logs ≡ counts → total ≡ min (sum (map count logs)) last_count → LetGo count since logs counts total
-  kept_logs logs counts total are sum = record { lasts = logs; later = all_later logs; counts_are = are; sum_is = sum }
+  pub kept_logs : (logs lasts : List L) (counts : List ℕ) → lasts ≡ logs → map count logs ≡ counts → GivesLogs count since logs lasts counts
+  kept_logs logs lasts counts same are = record { later = subst (λ ls. AllZip since logs ls) (sym same) (all_later logs); counts_are = ap (map count) same ∙ are }
 
 -- ---- the clause
 
@@ -110,8 +112,8 @@ module _ (history : List Entry) (before : Before) (after : After) (fresh last : 
 
   drives_with : (status : ℕ) (end : End) (lines : List Line) (outcomes : List Outcome) (text : List ℕ) → status ≡ status_of end → HasEnd before after lines end →
       after.written ≡ before.written ++ text → Wrote before.write_faults after.write_faults end outcomes text → Lives before end fresh lines outcomes last →
-      AllByRecursion MayTell outcomes → Drives history before after status
-  drives_with status end lines outcomes text status_is ends written wrote lives tell = record {
+      AllByRecursion MayTell outcomes → (end ≡ out_of_memory → (text ≡ printed outcomes) ⊎ Answers fresh lines outcomes last) → Drives history before after status
+  drives_with status end lines outcomes text status_is ends written wrote lives tell all = record {
     end = end;
     status_is = status_is;
     lines = lines;
@@ -129,12 +131,16 @@ module _ (history : List Entry) (before : Before) (after : After) (fresh last : 
     faults = told;
     faultless = λ still. none_told after.store_faults (end_told end ++ flat_map store_told outcomes) still.1
         (subst (λ n. AreBetween n (end_told end ++ flat_map store_told outcomes) after.store_faults) still.0 (told (omega (arith, still.0, still.1))));
+    source_faults = λ i within bound.
+        subst (λ ns. AreBetween (slice_index before.log_faults i) (flat_map (log_told i) outcomes) (slice_index ns i)) log_count
+        (lives_between history before fresh is i within bound end lines outcomes last lives);
     catch_up = λ i within. lives_catch history (journal_of last.core) before fresh is i within end lines outcomes last lives (unread_front last.core.history last.core.standing);
     tell = tell;
     fresh = fresh;
     is_fresh = is;
     last = last;
     lives = lives;
+    printed_all = all;
     shown = shown;
     calm = λ calm late. lives_calm history before after fresh last is shown calm late end lines outcomes ends lives;
     exact = λ calm some read ending live reads.
@@ -157,24 +163,31 @@ module _ (history : List Entry) (before : Before) (after : After) (fresh last : 
   drives_of e read write status text piece m ra low wa written (inl w) =
       drives_with status m.end m.lines m.outcomes (text ++ piece) (w.0 ∙ m.status_is) (m.ends after ra wa) (written ∙ append_assoc before.written text piece)
       (m.wrote before.write_faults after.write_faults piece (earlier before.write_faults write after.write_faults (last_line e) piece low w.1)) m.lives m.tell
+      (λ short. printed_on m.outcomes text piece (Answers fresh m.lines m.outcomes last) m.printed_all (silent_short e write after.write_faults piece (m.status_is ∙ ap status_of short) w.1))
   drives_of e read write status text piece m ra low wa written (inr w) =
       drives_with status out_of_memory m.lines m.outcomes (text ++ piece) w.0 m.reads (written ∙ append_assoc before.written text piece)
-      (most_on m.outcomes text piece m.front w.1) m.short m.tell
+      (most_on m.outcomes text piece m.front w.1) m.short m.tell (λ short. printed_on m.outcomes text piece (Answers fresh m.lines m.outcomes last) m.printed_all w.1)
 
 -- the objects behind the call tell it
 module _ {S L R W : Type 0} (told : S → Option State) (count : S → ℕ) (log_count : L → ℕ) (since : L → L → Type 0) (read_count : R → ℕ) (taken : W → Option (List ℕ)) (write_count : W → ℕ) where
   pub returned : (history : List Entry) (before : Before) (fresh last : Node) → IsFresh before history fresh → IsLog before.log → (e : Ended) (read write : ℕ) (text : List ℕ) →
       Met before fresh e read write text last → (store : S) (store_faults log_faults status : ℕ) (firsts : List L) (input : R) (output : W) (kept : State) →
-      told store ≡ Some kept → count store ≡ store_faults → IsWorld kept last.core before.log → last.core.store_faults ≡ store_faults → LetGo log_count since firsts (log_counts last.indexers) log_faults →
+      told store ≡ Some kept → count store ≡ store_faults → IsWorld kept last.core before.log → last.core.store_faults ≡ store_faults →
+      (lasts : List L) → GivesLogs log_count since firsts lasts (log_counts last.indexers) → log_faults ≡ min (sum (map log_count lasts)) last_count →
       read ≤ read_count input → before.write_faults ≤ write → write ≤ write_count output →
       EndsSo e (before.written ++ text) (taken output) write (write_count output) status →
       (after : After) × ShowsAfter told count log_count since read_count taken write_count store store_faults log_faults firsts input output after × Drives history before after status
-  returned history before fresh last is is_log e read write text met store store_faults log_faults status firsts input output kept tells counted world counts let_go ra low wa line = (
+      × GivesLogs log_count since firsts lasts after.log_faults
+  returned history before fresh last is is_log e read write text met store store_faults log_faults status firsts input output kept tells counted world counts lasts gives sums ra low wa line = (
     after,
     record { kept = tells; store_count = counted; reported = refl; let_go = let_go; read_faults = refl; written = line.written; write_faults = refl },
     drives_of history before after fresh last is is_log counts refl world e read write status text line.text met ra low wa refl line.wrote,
+    gives,
   )
     where
+      let_go : LetGo log_count since firsts (log_counts last.indexers) log_faults
+      let_go = record { lasts = lasts; later = gives.later; counts_are = gives.counts_are; sum_is = sums }
+
       after : After
       after = record {
         kept = kept;

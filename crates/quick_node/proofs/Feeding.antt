@@ -11,7 +11,7 @@ use Rattle.quick_node.specs.declared.lines.Next.{Next}
 use Rattle.quick_node.specs.declared.lines.Next.TheVariants as next
 use Rattle.quick_node.specs.Reading.{onto_line, raw_lines, max_line, max_input, end_of, Within, PassesLine, PassesInput}
 use Rattle.quick_node.specs.Held.{held}
-use Rattle.quick_node.specs.Pieces.{IsFault, EndsWith, IsUnbroken, Splits, with_feed, Takes, Comes}
+use Rattle.quick_node.specs.Pieces.{IsFed, IsFault, EndsWith, IsUnbroken, Splits, with_feed, Takes, Comes}
 
 abbrev IsByte : ℕ → Type 0
 IsByte c = c ≢ 10
@@ -122,12 +122,14 @@ module _ (at : ℕ) (text line : List ℕ) (before count : ℕ) (piece more line
 
   first_raw : (len : ℕ) (fed : Bool) → Splits piece len fed → (fed ≡ false → 0 < length line + len) →
       (raw : List ℕ) × (raws : List (List ℕ)) × (raw_lines text ≡ raw ∷ raws) × (length line + len ≤ length raw) × (at + length line + with_feed len fed ≤ end_of (at + length text) at raw)
+      × (fed ≡ true → length raw ≤ length line + len)
   first_raw len true s some = (
     line ++ take len piece,
     raw_lines (drop (suc len) piece ++ more),
     ap raw_lines (u.is ∙ fed_is len s) ∙ raw-fed (line ++ take len piece) (drop (suc len) piece ++ more) (fed_unbroken len s),
     omega (arith, fed_length len s),
     omega (arith, fed_length len s, long, s.0),
+    λ _. omega (arith, fed_length len s),
   )
   first_raw len false s some =
       let b = begins (line ++ piece) more (All-append IsByte line piece u.unbroken s.1) (omega (arith, length-append line piece, s.0, some refl)) in (
@@ -136,6 +138,7 @@ module _ (at : ℕ) (text line : List ℕ) (before count : ℕ) (piece more line
         ap raw_lines (u.is ∙ sym (append_assoc line piece more)) ∙ b.is,
         omega (arith, b.longer, length-append line piece, s.0),
         omega (arith, b.longer, length-append line piece, s.0, long),
+        λ e. absurd (true_is_false (sym e)),
       )
 
   pub line_over : Takes taken.LineOver before count piece line line' → (line'' : List ℕ) (at' : ℕ) (rest : List ℕ) → Comes next.LineOver at text line'' at' rest
@@ -153,20 +156,34 @@ module _ (at : ℕ) (text line : List ℕ) (before count : ℕ) (piece more line
   over_some len true over e = absurd (true_is_false e)
   over_some len false over e = omega (arith, over, limit)
 
+  not_line : (len : ℕ) (fed : Bool) (raw : ℕ) → max_input < before + with_feed len fed → (before + max_line ≤ max_input + length line → length line + len ≤ max_line) →
+      (fed ≡ true → raw ≤ length line + len) → max_line < raw → at + max_line ≤ max_input → ⊥
+  not_line len true raw over first short passes early =
+      let within = first (omega (arith, early, u.place)) in
+      let all = short refl in
+      omega (arith, within, all, passes)
+  not_line len false raw over first short passes early =
+      let within = first (omega (arith, early, u.place)) in
+      omega (arith, within, over, early, u.place)
+
   pub input_over : Takes taken.InputOver before count piece line line' → (line'' : List ℕ) (at' : ℕ) (rest : List ℕ) → Comes next.InputOver at text line'' at' rest
   input_over t line'' at' rest =
       let r = first_raw t.0 t.1 t.2 (over_some t.0 t.1 t.3) in
-      (r.0, r.1, r.2, (omega (arith, r.4, t.3, u.place), inr (omega (arith, t.4, u.place))))
+      (r.0, r.1, r.2, (omega (arith, r.4, t.3, u.place), λ passes. not_line t.0 t.1 (length r.0) t.3 t.4 r.5 passes.0 passes.1))
 
 -- ---- the end of the text
 
-last_line : (at : ℕ) (text line : List ℕ) (taken : ℕ) → IsUnderWay at text line taken [] → taken ≤ max_input → at < taken → Comes next.Line at text line taken []
+last_line : (at : ℕ) (text line : List ℕ) (taken : ℕ) → IsUnderWay at text line taken [] → taken ≤ max_input → at < taken → Comes next.Last at text line taken []
 last_line at text line taken u limit some =
     let e : text ≡ line = u.is ∙ append-nil line in
-    (ap raw_lines e ∙ raw-last line u.unbroken (omega (arith, u.place, some)), (u.short, omega (arith, u.place, limit, ap length e)), omega (arith, u.place, ap length e), omega (arith, u.place, ap length e))
+    (
+      (ap raw_lines e ∙ raw-last line u.unbroken (omega (arith, u.place, some)), (u.short, omega (arith, u.place, limit, ap length e)), omega (arith, u.place, ap length e), omega (arith, u.place, ap length e)),
+      refl,
+    )
 
 ended_at : (n : Next) (at : ℕ) (text line : List ℕ) (taken : ℕ) → EndsWith n at taken → IsUnderWay at text line taken [] → taken ≤ max_input → Comes n at text line taken []
-ended_at next.Line at text line taken e u limit = last_line at text line taken u limit e
+ended_at next.Line at text line taken e u limit = absurd e
+ended_at next.Last at text line taken e u limit = last_line at text line taken u limit e
 ended_at next.End at text line taken e u limit = u.is ∙ append-nil line ∙ nil_from_length line (omega (arith, u.place, e))
 ended_at next.LineOver at text line taken e u limit = absurd e
 ended_at next.InputOver at text line taken e u limit = absurd e
@@ -177,13 +194,37 @@ pub ended : (n : Next) (at : ℕ) (text line : List ℕ) (taken : ℕ) (rest : L
 ended n at text line taken rest none e u limit =
     subst (λ r. Comes n at text line taken r) (sym none) (ended_at n at text line taken e (subst (λ r. IsUnderWay at text line taken r) none u) limit)
 
+-- what comes at the end is no line with a line feed
+pub ended_not_fed : (n : Next) (before taken : ℕ) → EndsWith n before taken → IsFed n → ⊥
+ended_not_fed next.Line before taken e f = e
+ended_not_fed next.Last before taken e f = f
+ended_not_fed next.End before taken e f = f
+ended_not_fed next.LineOver before taken e f = f
+ended_not_fed next.InputOver before taken e f = f
+ended_not_fed next.Fault before taken e f = f
+
 -- a fault that comes at the end is none
 pub ended_no_fault : (n : Next) (before taken : ℕ) → EndsWith n before taken → IsFault n → ⊥
 ended_no_fault next.Line before taken e f = f
+ended_no_fault next.Last before taken e f = f
 ended_no_fault next.End before taken e f = f
 ended_no_fault next.LineOver before taken e f = f
 ended_no_fault next.InputOver before taken e f = f
 ended_no_fault next.Fault before taken e f = e
+
+-- ---- a line's place, over every input
+
+pub more_place : (v : Taken) (old before count : ℕ) (piece line line' : List ℕ) → v ≡ taken.More → before ≡ old + length line → Takes v before count piece line line' →
+    (before + count ≡ old + length line') × (length line' ≤ max_line)
+more_place v old before count piece line line' is place takes =
+    let t : Takes taken.More before count piece line line' = subst (λ x. Takes x before count piece line line') is takes in
+    (omega (arith, place, t.0.0, ap length t.1, length-append line piece), t.2)
+
+pub whole_place : (v : Taken) (old before count : ℕ) (piece line line' : List ℕ) → v ≡ taken.Whole → before ≡ old + length line → Takes v before count piece line line' →
+    before + count ≡ old + length line' + 1
+whole_place v old before count piece line line' is place takes =
+    let t : Takes taken.Whole before count piece line line' = subst (λ x. Takes x before count piece line line') is takes in
+    omega (arith, place, t.1, ap length t.3, length-append line (take t.0 piece), length-take-le t.0 piece (omega (arith, t.2.0)))
 
 -- ---- a reader that takes
 

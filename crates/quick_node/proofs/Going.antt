@@ -21,9 +21,9 @@ use Rattle.quick_node.specs.declared.error_line.End.{End as Ended}
 use Rattle.quick_node.specs.declared.error_line.End.TheVariants as ended
 use Rattle.quick_node.specs.declared.lines.Next.{Next}
 use Rattle.quick_node.specs.declared.lines.Next.TheVariants as next
-use Rattle.quick_node.specs.Pieces.{Comes}
+use Rattle.quick_node.specs.Pieces.{ComesLine, Comes}
 use Rattle.quick_node.specs.Reading.{raw_lines, Fit, fits, falls_or_unknown, too_many_clients, fit_if, fit_of, client_fit, with_client_name, names_in, last_moment, max_clients, Ending, all_read, bad_line, clients_over, line_over, input_over, stopped, Within, IsBad, EndsAt, Reads}
-use Rattle.quick_node.specs.Running.{AreNamed, HasAnswered, HasRead, IsGoing, Does, IsNotTaken, WroteFront, EndsLine, TakesLine, IsRunEnd, Counts, HasRunEnd, StopsShort, HasRun, HasWritten, Runs, GoesOrEnds, RunsOrShort}
+use Rattle.quick_node.specs.Running.{AreNamed, HasAnswered, HasRead, IsGoing, Does, IsNotTaken, WroteFront, EndsLine, TakesLine, IsRunEnd, Counts, HasRunEnd, StopsShort, HasRun, HasWritten, Runs, done_behind, GoesOrEnds, RunsOrShort}
 use Rattle.quick_node.specs.Serve.{End, by_reading, no_index, opening_failed, read_failed, write_failed, out_of_memory}
 use Rattle.quick_node.proofs.Clocks.{turn_ticks}
 use Rattle.quick_node.proofs.Fitted.{accepts_as, line_fits}
@@ -139,6 +139,7 @@ module _ (Stands : Node → Type 0) (readers : ℕ) (input : List ℕ) (begun : 
         text = printed going.outcomes;
         written = same ∙ going.written;
         wrote = refl;
+        printed_all = inl refl;
       }
 
   pub ends_short : (Stands' : Node → Type 0) (content' : Option (List ℕ)) (counts : Counts) → Stands' going.mid → content' ≡ content →
@@ -157,6 +158,7 @@ module _ (Stands : Node → Type 0) (readers : ℕ) (input : List ℕ) (begun : 
         text = printed going.outcomes;
         written = same ∙ going.written;
         wrote = inl refl;
+        printed_all = inl refl;
       }
 
   pub ends_by_fault : (counts : Counts) → Rose counts.read_before counts.read_after → Runs Stands readers input begun held content counts ended.ReadFault
@@ -174,6 +176,7 @@ module _ (Stands : Node → Type 0) (readers : ℕ) (input : List ℕ) (begun : 
         text = printed going.outcomes;
         written = going.written;
         wrote = refl;
+        printed_all = inl refl;
       }
 
   not_stopped-all : all_read ≢ stopped
@@ -212,7 +215,7 @@ module _ (Stands : Node → Type 0) (readers : ℕ) (input : List ℕ) (begun : 
       (reads_here readers input going.lines taken rest going.read c.0 c.1 c.2 input_over c.3)
 
   -- the next line was read
-  module _ (raw : List ℕ) (taken' : ℕ) (hand' behind' : List ℕ) (left' : Option (List ℕ)) (comes : Comes next.Line taken rest raw taken' (hand' ++ behind'))
+  module _ (raw : List ℕ) (taken' : ℕ) (hand' behind' : List ℕ) (left' : Option (List ℕ)) (comes : ComesLine taken rest raw taken' (hand' ++ behind'))
       (told : left' ≡ Some behind') (more : taken < taken') where
     module _ (Stands' : Node → Type 0) (line : Line) (spells : Spells raw line) (takes : accepts_of going.mid line ≡ accepts.Yes) where
       line_is_fit : fit_of readers going.lines line ≡ fits
@@ -288,6 +291,7 @@ module _ (Stands : Node → Type 0) (readers : ℕ) (input : List ℕ) (begun : 
             text = printed going.outcomes ++ w.0;
             written = w.2 ∙ ap Some (append_assoc held (printed going.outcomes) w.0);
             wrote = record { whole = going.outcomes; last = outcome; are = refl; front = w.0; rest = w.1; line = w.3; is = refl };
+            printed_all = inr (turns_go_on begun going.mid d.last going.lines d.line going.outcomes outcome going.turns d.turn);
           }
 
       -- it ended the run
@@ -324,6 +328,7 @@ module _ (Stands : Node → Type 0) (readers : ℕ) (input : List ℕ) (begun : 
             text = printed going.outcomes;
             written = written;
             wrote = inl refl;
+            printed_all = inl refl;
           }
       short_by (Some outcome) d written =
           record {
@@ -339,6 +344,7 @@ module _ (Stands : Node → Type 0) (readers : ℕ) (input : List ℕ) (begun : 
             text = printed going.outcomes;
             written = written;
             wrote = inr (record { whole = going.outcomes; last = outcome; are = refl; front = []; rest = printed (outcome ∷ []); line = refl; is = sym (append-nil (printed going.outcomes)) });
+            printed_all = inr (turns_go_on begun going.mid d.last going.lines d.line going.outcomes outcome going.turns d.turn);
           }
 
       -- there was no memory for it
@@ -355,14 +361,20 @@ module _ (Stands : Node → Type 0) (readers : ℕ) (input : List ℕ) (begun : 
       goes_or_ends (Ok (Some e)) t = ends_with e t
       goes_or_ends (Err refused) t = ends_memory refused t
 
+  pub came_line : (n : Next) (line : List ℕ) (taken' : ℕ) (rest' : List ℕ) → n ≡ next.Line → Comes n taken rest line taken' rest' → ComesLine taken rest line taken' rest'
+  came_line n line taken' rest' is comes = subst (λ v. Comes v taken rest line taken' rest') is comes
+
+  pub came_last : (n : Next) (line : List ℕ) (taken' : ℕ) (rest' : List ℕ) → n ≡ next.Last → Comes n taken rest line taken' rest' → ComesLine taken rest line taken' rest' × (rest' ≡ [])
+  came_last n line taken' rest' is comes = subst (λ v. Comes v taken rest line taken' rest') is comes
+
   -- the next line was read, and it did this
-  pub line_came : (n : Next) (raw raw' : List ℕ) (taken' : ℕ) (hand' behind' : List ℕ) (left' : Option (List ℕ)) (Stands' : Node → Type 0) (content' : Option (List ℕ))
-      (number' before after : ℕ) (counts : Counts) (r : Result (Option Ended) AllocError) → n ≡ next.Line → Comes n taken rest raw taken' (hand' ++ behind') → left' ≡ Some behind' →
+  pub line_came : (raw raw' : List ℕ) (taken' : ℕ) (hand' behind' : List ℕ) (left' : Option (List ℕ)) (Stands' : Node → Type 0) (content' : Option (List ℕ))
+      (number' before after : ℕ) (counts : Counts) (r : Result (Option Ended) AllocError) → ComesLine taken rest raw taken' (hand' ++ behind') → left' ≡ Some behind' →
       taken < taken' → raw' ≡ raw → number' ≡ number + 1 → counts.write_before ≤ before → after ≤ counts.write_after →
       TakesLine Stands' raw' number' going.mid (held ++ printed going.outcomes) content' before after r →
       GoesOrEnds Stands' readers input begun held content' left' hand' taken' (number + 1) counts r
-  line_came n raw raw' taken' hand' behind' left' Stands' content' number' before after counts r is comes told more same next_number earlier later t =
-      goes_or_ends raw taken' hand' behind' left' (subst (λ v. Comes v taken rest raw taken' (hand' ++ behind')) is comes) told more Stands' content' number' before after next_number
+  line_came raw raw' taken' hand' behind' left' Stands' content' number' before after counts r comes told more same next_number earlier later t =
+      goes_or_ends raw taken' hand' behind' left' comes told more Stands' content' number' before after next_number
       counts earlier later r (subst (λ l. TakesLine Stands' l number' going.mid (held ++ printed going.outcomes) content' before after r) same t)
 
 false_is_true : false ≡ true → ⊥
@@ -376,6 +388,24 @@ ends_in_short Stands readers input begun held content left hand taken number cou
 
 pub some_not_none : (e : Ended) → Some e ≡ None → ⊥
 some_not_none e f = cc
+
+some_list : (a b : List ℕ) → Some a ≡ Some b → a ≡ b
+some_list a b e = cc
+
+-- the run is done behind the last line, of which nothing is left
+pub done_or_ends : (Stands : Node → Type 0) (readers : ℕ) (input : List ℕ) (begun : Node) (held : List ℕ) (content left : Option (List ℕ)) (hand behind : List ℕ) (taken number : ℕ)
+    (counts : Counts) (r : Result (Option Ended) AllocError) → left ≡ Some behind → hand ++ behind ≡ [] → GoesOrEnds Stands readers input begun held content left hand taken number counts r →
+    GoesOrEnds Stands readers input begun held content left hand taken number counts (done_behind r)
+done_or_ends Stands readers input begun held content left hand behind taken number counts (Ok None) told none going =
+    ends_at_end Stands readers input begun held content left hand taken number going next.End [] taken [] counts refl
+    (ap (λ l. hand ++ l) (some_list going.behind behind (sym going.left_is ∙ told)) ∙ none)
+done_or_ends Stands readers input begun held content left hand behind taken number counts (Ok (Some e)) told none ends = ends
+done_or_ends Stands readers input begun held content left hand behind taken number counts (Err refused) told none ends = ends
+
+pub never_goes_on : (r : Result (Option Ended) AllocError) (P : Type 0) → IfOk (done_behind r) (λ end. end ≡ None → P)
+never_goes_on (Ok None) P = λ e. absurd (some_not_none ended.Done e)
+never_goes_on (Ok (Some end)) P = λ e. absurd (some_not_none end e)
+never_goes_on (Err refused) P = tt
 
 pub if_ok_any : {A E : Type 0} (r : Result A E) (P : A → Type 0) → ((a : A) → P a) → IfOk r P
 if_ok_any (Ok a) P h = h a

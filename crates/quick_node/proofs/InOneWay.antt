@@ -38,11 +38,7 @@ module _ (readers total at : ℕ) (before : List Line) (raw : List ℕ) where
   bad_not_over number b o = let over = o.1 in not_bad over.0 too_many_clients (λ e. falls_not_many (sym e)) over.1 over.2 b.2
 
   line_not_input : EndsAt readers total at before raw line_over → EndsAt readers total at before raw input_over → ⊥
-  line_not_input l i = by i.1
-    where
-      by : (length raw ≤ max_line) ⊎ (max_input ≤ at + max_line) → ⊥
-      by (inl short) = omega (arith, l.0, short)
-      by (inr past) = omega (arith, l.1, past)
+  line_not_input l i = i.1 l
 
   ends_one : (a b : Ending) → a ≢ stopped → b ≢ stopped → EndsAt readers total at before raw a → EndsAt readers total at before raw b → a ≡ b
   ends_one all_read b la lb ea eb = absurd ea

@@ -25,3 +25,4 @@ mod NewIndex
 mod Faulting
 mod Telling
 mod Catching
+mod Sources

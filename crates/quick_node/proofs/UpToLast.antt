@@ -2,7 +2,7 @@
 use Rattle.std.proofs.Common.{◌≡◌, ◌⊎◌, ℕ, ◌+◌, ◌≤◌, false, List, [], ◌∷◌, ◌++◌, length, refl, sym, ap, ◌∙◌, subst, inl, inr, append-nil}
 use Rattle.std.specs.Fmt.{digits}
 use Rattle.std.specs.List.{AllByRecursion}
-use Rattle.std.specs.Prelude.{Option, Some, Ok, Err, codes}
+use Rattle.std.specs.Prelude.{Option, Some, Ok, Err, codes, decimal, if◌then◌else◌}
 use Rattle.meta_store.specs.History.{history, moment_of}
 use Rattle.index_world.specs.Calls.{no_memory, store_fault, faulted, Unread, not_read}
 use Rattle.index_world.specs.Calls as calls
@@ -13,10 +13,11 @@ use Rattle.node_run.specs.Lines.{printed}
 use Rattle.node_run.specs.Node.{Node, Line, Outcome}
 use Rattle.node_run.specs.Telling.{MayTell}
 use Rattle.node_run.specs.Turns.{Turns}
-use Rattle.quick_node.specs.Ending.{ended_status, last_line, EndsSo}
+use Rattle.index_world.specs.Saying.{words}
+use Rattle.quick_node.specs.Ending.{ended_status, is_silent, cause_words, last_line, EndsSo}
 use Rattle.quick_node.specs.Reading.{Ending, stopped, ReadsFrom, Reads, raw_lines}
 use Rattle.quick_node.specs.Running.{Counts, IsRunEnd, HasRunEnd, HasRun, HasWritten, Runs}
-use Rattle.quick_node.specs.Serve.{CutShort, WroteMost, Before, After, End, by_reading, no_index, opening_failed, read_failed, write_failed, out_of_memory, status_of, error_line, error_of, WroteLine, Wrote, HasEnd, Opens, Unopened, Lives}
+use Rattle.quick_node.specs.Serve.{CutShort, WroteMost, Before, After, End, by_reading, no_index, opening_failed, read_failed, write_failed, out_of_memory, status_of, error_line, error_of, WroteLine, Wrote, HasEnd, Opens, Answers, Unopened, Lives}
 use Rattle.quick_node.specs.declared.error_line.End.{End as Ended}
 use Rattle.quick_node.specs.declared.error_line.End.TheVariants as ended
 use Rattle.quick_node.proofs.Driving.{run_ends, run_lives}
@@ -32,6 +33,7 @@ pub record Met (before : Before) (fresh : Node) (e : Ended) (read write : ℕ) (
   pub wrote : (low high : ℕ) (piece : List ℕ) → WroteLine low high (last_line e) piece → Wrote low high end outcomes (text ++ piece)
   pub lives : Lives before end fresh lines outcomes last
   pub tell : AllByRecursion MayTell outcomes
+  pub printed_all : (text ≡ printed outcomes) ⊎ Answers fresh lines outcomes last
   -- and the same where there is no memory for the last line
   pub reads : Reads (length before.log_faults) before.input lines stopped
   pub front : WroteMost outcomes text
@@ -121,6 +123,16 @@ silent low high piece (inr w) = let rest = w.1 in front_none piece rest.0 rest.1
 nothing_more : (text piece : List ℕ) → piece ≡ [] → text ++ piece ≡ text
 nothing_more text piece none = ap (λ l. text ++ l) none ∙ append-nil text
 
+pub printed_on : (outcomes : List Outcome) (text piece : List ℕ) (A : Type 0) → (text ≡ printed outcomes) ⊎ A → piece ≡ [] → (text ++ piece ≡ printed outcomes) ⊎ A
+printed_on outcomes text piece A (inl all) none = inl (nothing_more text piece none ∙ all)
+printed_on outcomes text piece A (inr a) none = inr a
+
+-- status 11 has no last line
+pub silent_short : (e : Ended) (low high : ℕ) (piece : List ℕ) → ended_status e ≡ 11 → WroteLine low high (last_line e) piece → piece ≡ []
+silent_short e low high piece short w =
+    silent low high piece
+    (subst (λ line. WroteLine low high line piece) (ap (λ s. if is_silent s then [] else words (codes "error" ∷ decimal s ∷ cause_words e) ++ 10 ∷ []) short) w)
+
 pub most_on : (outcomes : List Outcome) (text piece : List ℕ) → WroteMost outcomes text → piece ≡ [] → WroteMost outcomes (text ++ piece)
 most_on outcomes text piece w none = subst (λ t. WroteMost outcomes t) (sym (nothing_more text piece none)) w
 
@@ -154,6 +166,11 @@ module _ (before : Before) (fresh opened : Node) (opens : Opens fresh (Ok tt) op
   run_short write_failed lines outcomes last did = answered lines outcomes last did
   run_short out_of_memory lines outcomes last did = run_lives before fresh opened opens out_of_memory lines outcomes last did
 
+  run_printed : (lines : List Line) (outcomes : List Outcome) (last : Node) (text : List ℕ) → (text ≡ printed outcomes) ⊎ Turns opened lines outcomes last →
+      (text ≡ printed outcomes) ⊎ Answers fresh lines outcomes last
+  run_printed lines outcomes last text (inl all) = inl all
+  run_printed lines outcomes last text (inr turns) = inr (record { opened = opened; opens = opens; turns = turns })
+
   -- of a run
   pub met_run : (Stands : Node → Type 0) (content : Option (List ℕ)) (counts : Counts) (e : Ended) → counts.read_before ≡ before.read_faults → counts.write_before ≡ before.write_faults →
       (r : Runs Stands (length before.log_faults) before.input opened before.written content counts e) → Met before fresh e counts.read_after counts.write_after r.text r.last
@@ -166,6 +183,7 @@ module _ (before : Before) (fresh opened : Node) (opens : Opens fresh (Ok tt) op
     wrote = λ low high piece l. run_wrote r.end r.outcomes r.text r.wrote low high piece (subst (λ line. WroteLine low high line piece) (run_line e r.end r.is) l);
     lives = run_lives before fresh opened opens r.end r.lines r.outcomes r.last r.did;
     tell = r.tell;
+    printed_all = run_printed r.lines r.outcomes r.last r.text r.printed_all;
     reads = run_stops (length before.log_faults) before.input counts r.lines r.end r.ends;
     front = run_front r.end r.outcomes r.text r.wrote;
     short = run_short r.end r.lines r.outcomes r.last r.did;
@@ -182,6 +200,7 @@ module _ (before : Before) (fresh opened : Node) (opens : Opens fresh (Ok tt) op
     wrote = λ low high piece l. inl (silent low high piece l);
     lives = lives;
     tell = tt;
+    printed_all = inl refl;
     reads = none;
     front = inl refl;
     short = lives;
@@ -216,6 +235,7 @@ module _ (before : Before) (fresh last : Node) (moment : fresh.core.moment ≡ m
     wrote = λ low high piece l. inl (silent low high piece l);
     lives = unopened_short why opens;
     tell = tt;
+    printed_all = inl refl;
     reads = none_read;
     front = inl refl;
     short = unopened_short why opens;
@@ -230,6 +250,7 @@ module _ (before : Before) (fresh last : Node) (moment : fresh.core.moment ≡ m
     wrote = λ low high piece l. record { last = piece; is = refl; wrote = subst (λ line. WroteLine low high line piece) (fault_line a b) l };
     lives = unopened (not_read (faulted (store_fault a b))) (subst (λ w. Opens fresh (Err w) last) is opens);
     tell = tt;
+    printed_all = inl refl;
     reads = none_read;
     front = inl refl;
     short = unopened_short why opens;
@@ -247,6 +268,7 @@ module _ (before : Before) (fresh last : Node) (moment : fresh.core.moment ≡ m
     wrote = λ low high piece l. record { last = piece; is = refl; wrote = subst (λ line. WroteLine low high line piece) none_line l };
     lives = unopened calls.no_index (subst (λ w. Opens fresh (Err w) last) is opens);
     tell = tt;
+    printed_all = inl refl;
     reads = none_read;
     front = inl refl;
     short = unopened_short why opens;

@@ -69,3 +69,34 @@ store_told (request_opened name) = []
 store_told (request_busy name) = []
 store_told (client_said name outcome) = search_told outcome
 store_told (client_down name) = []
+
+-- ---- of a log
+
+abbrev pub source_told : IndexerOutcome → List Interval
+source_told indexing.Checkpoint = []
+source_told (indexing.Read count) = []
+source_told (indexing.Staged number) = []
+source_told (indexing.Uploaded number) = []
+source_told (indexing.Published number) = []
+source_told indexing.CaughtUp = []
+source_told (indexing.Stale partition current from) = []
+source_told (indexing.Lost number refusal) = []
+source_told (indexing.Refused refusal) = []
+source_told (indexing.SourceFault before after) = record { low = before; high = after } ∷ []
+source_told (indexing.Faulted fault) = []
+
+-- the faults of its log that the indexer with this number tells
+abbrev pub log_told : ℕ → Outcome → List Interval
+log_told i (at_said moment) = []
+log_told i (assigned indexer count) = []
+log_told i (indexer_busy indexer) = []
+log_told i (indexer_said indexer outcome) = if indexer == i then source_told outcome else []
+log_told i (indexer_down indexer) = []
+log_told i (indexer_restarted indexer) = []
+log_told i (client_restarted name) = []
+log_told i (node_restarted revision) = []
+log_told i (node_failed fault) = []
+log_told i (request_opened name) = []
+log_told i (request_busy name) = []
+log_told i (client_said name outcome) = []
+log_told i (client_down name) = []

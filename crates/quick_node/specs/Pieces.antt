@@ -15,21 +15,33 @@ GoesOn taken.InputOver = ⊥
 
 abbrev pub IsLine : Next → Type 0
 IsLine next.Line = Unit {0}
+IsLine next.Last = Unit {0}
 IsLine next.End = ⊥
 IsLine next.LineOver = ⊥
 IsLine next.InputOver = ⊥
 IsLine next.Fault = ⊥
 
+-- a line with its line feed
+abbrev pub IsFed : Next → Type 0
+IsFed next.Line = Unit {0}
+IsFed next.Last = ⊥
+IsFed next.End = ⊥
+IsFed next.LineOver = ⊥
+IsFed next.InputOver = ⊥
+IsFed next.Fault = ⊥
+
 abbrev pub IsFault : Next → Type 0
 IsFault next.Line = ⊥
+IsFault next.Last = ⊥
 IsFault next.End = ⊥
 IsFault next.LineOver = ⊥
 IsFault next.InputOver = ⊥
 IsFault next.Fault = Unit {0}
 
--- what comes at the end of the input, which had so many bytes before the line and has so many now
+-- what comes at the end of the input, of which so many bytes were taken before the line and so many are now
 abbrev pub EndsWith : Next → ℕ → ℕ → Type 0
-EndsWith next.Line before taken = before < taken
+EndsWith next.Line before taken = ⊥
+EndsWith next.Last before taken = before < taken
 EndsWith next.End before taken = taken ≤ before
 EndsWith next.LineOver before taken = ⊥
 EndsWith next.InputOver before taken = ⊥
@@ -58,18 +70,24 @@ Takes taken.More before count piece line line' =
 Takes taken.Whole before count piece line line' =
     (len : ℕ) × (count ≡ suc len) × Splits piece len true × (line' ≡ line ++ take len piece) × (length line' ≤ max_line)
 Takes taken.LineOver before count piece line line' =
-    (len : ℕ) × (fed : Bool) × Splits piece len fed × (max_line < length line + len) × (before + max_line < max_input + length line)
+    (len : ℕ) × (fed : Bool) × Splits piece len fed × (max_line < length line + len) × (before + max_line ≤ max_input + length line)
 Takes taken.InputOver before count piece line line' =
-    (len : ℕ) × (fed : Bool) × Splits piece len fed × (max_input < before + with_feed len fed) × (max_input + length line ≤ before + max_line)
+    (len : ℕ) × (fed : Bool) × Splits piece len fed × (max_input < before + with_feed len fed)
+    × (before + max_line ≤ max_input + length line → length line + len ≤ max_line)
 
 -- ---- an input
 
--- What comes next of a text behind so many bytes: a line, with which so many bytes were taken and this rest is left; or
--- the text has no more, or its next line passes a limit.
-abbrev pub Comes : Next → ℕ → List ℕ → List ℕ → ℕ → List ℕ → Type 0
-Comes next.Line at text line at' rest =
+-- the next line of a text behind so many bytes, with which so many bytes were taken and this rest is left
+abbrev pub ComesLine : ℕ → List ℕ → List ℕ → ℕ → List ℕ → Type 0
+ComesLine at text line at' rest =
     (raw_lines text ≡ line ∷ raw_lines rest) × Within (at + length text) at line × (at' ≡ end_of (at + length text) at line)
     × (at' + length rest ≡ at + length text)
+
+-- What comes next of a text behind so many bytes: a line, which is the last one where nothing is left; or the text has no
+-- more, or its next line passes a limit.
+abbrev pub Comes : Next → ℕ → List ℕ → List ℕ → ℕ → List ℕ → Type 0
+Comes next.Line at text line at' rest = ComesLine at text line at' rest
+Comes next.Last at text line at' rest = ComesLine at text line at' rest × (rest ≡ [])
 Comes next.End at text line at' rest = text ≡ []
 Comes next.LineOver at text line at' rest =
     (raw : List ℕ) × (raws : List (List ℕ)) × (raw_lines text ≡ raw ∷ raws) × PassesLine at raw

@@ -91,19 +91,19 @@ end_of total at raw = min (at + length raw + 1) total
 abbrev pub Within : ℕ → ℕ → List ℕ → Type 0
 Within total at raw = (length raw ≤ max_line) × (end_of total at raw ≤ max_input)
 
--- the limit on a line is passed, and at an earlier byte than the one on the input
+-- the limit on a line is passed, and at no later byte than the one on the input
 abbrev pub PassesLine : ℕ → List ℕ → Type 0
-PassesLine at raw = (max_line < length raw) × (at + max_line < max_input)
+PassesLine at raw = (max_line < length raw) × (at + max_line ≤ max_input)
 
--- the limit on the input is passed, and at no later byte than the one on a line
+-- the limit on the input is passed, and the one on a line at no byte up to there
 abbrev pub PassesInput : ℕ → ℕ → List ℕ → Type 0
-PassesInput total at raw = (max_input < end_of total at raw) × ((length raw ≤ max_line) ⊎ (max_input ≤ at + max_line))
+PassesInput total at raw = (max_input < end_of total at raw) × (PassesLine at raw → ⊥)
 
 abbrev pub IsBad : ℕ → List Line → List ℕ → Type 0
 IsBad readers before raw =
     ((line : Line) → Spells raw line → ⊥) ⊎ ((line : Line) × Spells raw line × (fit_of readers before line ≡ falls_or_unknown))
 
--- why the reading ends at this line; of two limits it is the one that is passed at the earlier byte
+-- why the reading ends at this line; of two limits it is the one that is passed at the earlier byte, and at one byte the line's
 abbrev pub EndsAt : ℕ → ℕ → ℕ → List Line → List ℕ → Ending → Type 0
 EndsAt readers total at before raw all_read = ⊥
 EndsAt readers total at before raw (bad_line number) = Within total at raw × (number ≡ suc (length before)) × IsBad readers before raw

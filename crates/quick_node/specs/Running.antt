@@ -60,6 +60,12 @@ TakesLine Stands text number node held content before after (Ok (Some e)) = Ends
 TakesLine Stands text number node held content before after (Err refused) =
     (content ≡ Some held) × (Stands node ⊎ ((said : Option Outcome) × Does Stands text node said))
 
+-- behind the last line the run is done
+abbrev pub done_behind : Result (Option Ended) AllocError → Result (Option Ended) AllocError
+done_behind (Ok None) = Ok (Some ended.Done)
+done_behind (Ok (Some e)) = Ok (Some e)
+done_behind (Err refused) = Err refused
+
 -- ---- all lines
 
 -- the end of a run over lines
@@ -132,6 +138,8 @@ pub record Runs (Stands : Node → Type 0) (readers : ℕ) (input : List ℕ) (n
   pub text : List ℕ
   pub written : content ≡ Some (held ++ text)
   pub wrote : HasWritten end text outcomes
+  -- the lines of all outcomes were written, or no line was begun behind the last of them
+  pub printed_all : (text ≡ printed outcomes) ⊎ Turns node lines outcomes last
 
 -- ---- a run that goes on
 

@@ -1,5 +1,5 @@
 -- The clause of the top call for the command `drive`.
-use Rattle.std.specs.Prelude.{◌≡◌, ◌⊎◌, ◌≢◌, ℕ, ◌<◌, ◌≤◌, List, [], ◌∷◌, ◌++◌, length, if◌then◌else◌, decimal, codes, map, flat_map, min, sum, Ok, Err, Result, ⊤, Option, Some, None, All, bytes_eq}
+use Rattle.std.specs.Prelude.{◌≡◌, ◌⊎◌, ◌≢◌, ℕ, ◌<◌, ◌≤◌, List, [], ◌∷◌, ◌++◌, length, if◌then◌else◌, decimal, codes, map, flat_map, min, sum, Ok, Err, Result, ⊤, Option, Some, None, All, bytes_eq, slice_index}
 use Rattle.std.specs.List.{AllByRecursion}
 use Rattle.meta_journal.specs.declared.entry.Act.TheVariants.{Create}
 use Rattle.meta_journal.specs.declared.entry.Entry.{Entry}
@@ -23,7 +23,7 @@ use Rattle.node_run.specs.Standing.{LetGo}
 use Rattle.node_run.specs.Telling.{MayTell}
 use Rattle.node_run.specs.Turns.{Turn, Turns, turns, opened_node}
 use Rattle.quick_node.specs.CaughtUp.{unseen, CatchesUp}
-use Rattle.quick_node.specs.Faults.{Interval, AreBetween, store_told}
+use Rattle.quick_node.specs.Faults.{Interval, AreBetween, store_told, log_told}
 use Rattle.quick_node.specs.Once.{HoldsOnce, HoldsAt}
 use Rattle.quick_node.specs.Reading.{Ending, all_read, bad_line, clients_over, line_over, input_over, stopped, Reads, max_clients, max_line, max_input}
 
@@ -297,6 +297,9 @@ pub record Drives (history : List Entry) (before : Before) (after : After) (stat
   pub faults : before.store_faults ≤ last_count → AreBetween before.store_faults (end_told end ++ flat_map store_told outcomes) after.store_faults
   -- so where that count stood still none tells any, whatever was late
   pub faultless : StoodStill before.store_faults after.store_faults → end_told end ++ flat_map store_told outcomes ≡ []
+  -- so are the faults of each log that its indexer's lines tell: between that log's counts at entry and at exit
+  pub source_faults : (i : ℕ) → i < length before.log_faults → slice_index before.log_faults i ≤ last_count →
+      AreBetween (slice_index before.log_faults i) (flat_map (log_told i) outcomes) (slice_index after.log_faults i)
   -- each indexer says that it caught up exactly where the checkpoints that it saw are the ends of its partitions
   pub catch_up : (i : ℕ) → i < length before.log_faults → CatchesUp exit before.log i (length history) unseen lines outcomes
   -- no line tells that a key is foreign, and what fails but for the entry of an indexer is the store
@@ -306,6 +309,8 @@ pub record Drives (history : List Entry) (before : Before) (after : After) (stat
   pub is_fresh : IsFresh before history fresh
   pub last : Node
   pub lives : Lives before end fresh lines outcomes last
+  -- where memory ran out, the lines of all outcomes were written, or no line was begun behind the last of them
+  pub printed_all : end ≡ out_of_memory → (text ≡ printed outcomes) ⊎ Answers fresh lines outcomes last
   pub shown : IsShown after last
   -- where nothing failed and nothing was late, the outcomes are those of the node
   pub calm : IsCalm before after → before.kept.late ≡ [] → outcomes ≡ (turns fresh lines).outcomes

@@ -133,41 +133,39 @@ fn a_store_that_fails_while_opening(rt: HostRuntime) -> Result<(), Fail> {
     ends(&rt, alloc, store, b"at 5\n", 4, b"error 4 storefault 0 1\n")
 }
 
+// One call of the input fails. Where the end was told behind a last line without a line feed, no further call is made.
 #[test]
 fn an_input_that_fails(rt: HostRuntime) -> Result<(), Fail> {
     let alloc = rt.alloc();
-    let mut input = source_of(alloc, b"at 5\n")?;
-    input.fail_call(1)?;
-    let mut output = MemorySink::with_room(alloc, 4096)?;
-    let finished = drive(&rt, alloc, index_store(alloc)?, &mut input, &mut output)?;
-    assert_eq!(rt; finished.status, 5);
-    assert_eq!(rt;
-        output.content().as_slice(),
-        b"error 5 readfault\n".as_slice()
-    );
+    let table: [(&[u8], u64, u8, &[u8]); 3] = [
+        (b"at 5\n", 1, 5, b"error 5 readfault\n"),
+        (b"at 5\n", 2, 5, b"at 5\nerror 5 readfault\n"),
+        (b"at 5", 3, 0, b"at 5\n"),
+    ];
+    for (schedule, call, status, expected) in &table {
+        let mut input = source_of(alloc, schedule)?;
+        input.fail_call(*call)?;
+        let mut output = MemorySink::with_room(alloc, 4096)?;
+        let finished = drive(&rt, alloc, index_store(alloc)?, &mut input, &mut output)?;
+        assert_eq!(rt; finished.status, *status);
+        assert_eq!(rt; output.content().as_slice(), *expected);
+    }
     Ok(())
 }
 
+// A write fails, by its number or for want of room.
 #[test]
 fn an_output_that_fails(rt: HostRuntime) -> Result<(), Fail> {
     let alloc = rt.alloc();
-    let mut input = source_of(alloc, b"at 5\nat 6\n")?;
-    let mut output = MemorySink::with_room(alloc, 4096)?;
-    output.fail_call(2)?;
-    let finished = drive(&rt, alloc, index_store(alloc)?, &mut input, &mut output)?;
-    assert_eq!(rt; finished.status, 6);
-    assert_eq!(rt; output.content().as_slice(), b"at 5\n".as_slice());
-    Ok(())
-}
-
-#[test]
-fn an_output_without_room(rt: HostRuntime) -> Result<(), Fail> {
-    let alloc = rt.alloc();
-    let mut input = source_of(alloc, b"at 5\nat 6\n")?;
-    let mut output = MemorySink::with_room(alloc, 7)?;
-    let finished = drive(&rt, alloc, index_store(alloc)?, &mut input, &mut output)?;
-    assert_eq!(rt; finished.status, 6);
-    assert_eq!(rt; output.content().as_slice(), b"at 5\nat".as_slice());
+    let table: [(usize, u64, &[u8]); 2] = [(4096, 2, b"at 5\n"), (7, 100, b"at 5\nat")];
+    for (room, call, expected) in &table {
+        let mut input = source_of(alloc, b"at 5\nat 6\n")?;
+        let mut output = MemorySink::with_room(alloc, *room)?;
+        output.fail_call(*call)?;
+        let finished = drive(&rt, alloc, index_store(alloc)?, &mut input, &mut output)?;
+        assert_eq!(rt; finished.status, 6);
+        assert_eq!(rt; output.content().as_slice(), *expected);
+    }
     Ok(())
 }
 

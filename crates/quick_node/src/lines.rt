@@ -3,7 +3,7 @@
 ghost use Rattle.std.specs.Prelude.{◌≡◌, ◌<◌, ◌≤◌, ◌+◌, true, false, IfOk, MatchResult, IsErr, IsOkAnd, Some, ℕ, [], List, ◌++◌, vec_len, length, take, drop};
 ghost use Rattle.byte_fields.specs.Causes.{HasCause};
 ghost use Rattle.quick_node.specs.Reading.{max_line, max_input};
-ghost use Rattle.quick_node.specs.Pieces.{GoesOn, IsLine, IsFault, EndsWith, Splits, Takes, Comes};
+ghost use Rattle.quick_node.specs.Pieces.{GoesOn, IsLine, IsFed, IsFault, EndsWith, Splits, Takes, Comes};
 
 use byte_fields::{Failed, Source};
 use std::alloc::{AllocError, Global};
@@ -17,7 +17,10 @@ const CHUNK: usize = 65_536;
 /// What comes next of an input.
 #[derive(Clone, Copy, Debug, PartialEq, Eq)]
 pub enum Next {
+    /// A line with its line feed.
     Line,
+    /// A line without one. The input told its end behind it, so nothing more is read.
+    Last,
     /// The input was read to its end.
     End,
     /// The line is too long.
@@ -106,7 +109,7 @@ fn take_piece(line: &mut Vec<u8>, piece: &[u8], before: u64) -> Result<(Taken, u
     let total = if has_feed { len + 1 } else { len };
     let room = MAX_INPUT - before;
     let line_room = MAX_LINE.saturating_sub(line.len() as u64);
-    if line_room < len as u64 && line_room < room {
+    if line_room < len as u64 && line_room <= room {
         return Ok((Taken::LineOver, 0));
     }
     if room < total as u64 {
@@ -180,6 +183,8 @@ impl Lines {
         ensures comes { (more : List ℕ) → R.left input.old ≡ Some more → IfOk result (λ next. (behind : List ℕ) × (R.left input.new ≡ Some behind)
             × Comes next self.old.taken (held self.old ++ more)
             self.new.line.items self.new.taken (held self.new ++ behind)) }
+        // Over every input: a line that is not the last one came with its line feed.
+        ensures fed { IfOk result (λ next. IsFed next → self.new.taken ≡ self.old.taken + length self.new.line.items + 1) }
         ensures cause { HasCause (R.fault_count input.old) (R.fault_count input.new) (IsOkAnd result IsFault) }
     {
         self.line.clear();
@@ -200,12 +205,12 @@ impl Lines {
     }
 }
 
-// What comes at the end of the input, which had so many bytes before the line and has so many now.
+// What comes at the end of the input, of which so many bytes were taken before the line and so many are now.
 fn last(before: u64, taken: u64) -> Next
     ensures { EndsWith result before taken }
 {
     if before < taken {
-        return Next::Line;
+        return Next::Last;
     }
     Next::End
 }

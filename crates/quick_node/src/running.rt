@@ -8,7 +8,7 @@ ghost use Rattle.node_run.specs.Node.{Node};
 ghost use Rattle.node_run.specs.Seen.{seen};
 ghost use Rattle.node_run.specs.Standing.{NodeStands, accepts_of};
 ghost use Rattle.quick_node.specs.Causes.{EndsLineBy, EndsRunBy};
-ghost use Rattle.quick_node.specs.Running.{Counts, counts_of, TakesLine, IsGoing, GoesOrEnds, Runs, RunsOrShort};
+ghost use Rattle.quick_node.specs.Running.{Counts, counts_of, TakesLine, done_behind, IsGoing, GoesOrEnds, Runs, RunsOrShort};
 ghost use Rattle.quick_node.specs.Held.{held as in_hand};
 
 use crate::error_line::End;
@@ -74,7 +74,18 @@ fn answer_line<Rt: Threads + Sync, S: ObjectStore, L: SourceLog, W: Sink>(
     }
 }
 
-// Does the next line of the input. Gives how the run ends, where it ends here.
+// Behind the last line the run is done.
+fn or_done(ended: Result<Option<End>, AllocError>) -> Result<Option<End>, AllocError>
+    ensures { result ≡ done_behind ended }
+{
+    match ended {
+        Ok(None) => Ok(Some(End::Done)),
+        Ok(Some(end)) => Ok(Some(end)),
+        Err(refused) => Err(refused),
+    }
+}
+
+// Does the next line of the input. Gives how the run ends, where it ends here: behind the last line at the latest.
 #[tactic(none)]
 fn next_line<Rt: Threads + Sync, S: ObjectStore, L: SourceLog, R: Source, W: Sink>(
     rt: &Rt,
@@ -85,7 +96,8 @@ fn next_line<Rt: Threads + Sync, S: ObjectStore, L: SourceLog, R: Source, W: Sin
     input: &mut R,
     output: &mut W,
 ) -> Result<Option<End>, AllocError>
-    ensures moves { IfOk result (λ end. end ≡ None → lines.old.taken < lines.new.taken) }
+    // It goes on behind a line with its line feed alone: the input told no end yet.
+    ensures moves { IfOk result (λ end. end ≡ None → lines.new.taken ≡ lines.old.taken + length lines.new.line.items + 1) }
     ensures read { R.fault_count input.old ≤ R.fault_count input.new }
     ensures written { W.fault_count output.old ≤ W.fault_count output.new }
     ensures causes { IfOk result (λ end. IfSome end (EndsRunBy (counts_of (R.fault_count input.old) (R.fault_count input.new) (W.fault_count output.old) (W.fault_count output.new)))) }
@@ -96,15 +108,10 @@ fn next_line<Rt: Threads + Sync, S: ObjectStore, L: SourceLog, R: Source, W: Sin
         GoesOrEnds (λ n. NodeStands L.told L.fault_count L.since firsts node.new n) readers text begun held (W.content output.new) (R.left input.new) (in_hand lines.new) lines.new.taken
         (number + 1) counts result }
 {
+    let number = number.saturating_add(1);
     match lines.next(input)? {
-        Next::Line => take_line(
-            rt,
-            alloc,
-            node,
-            lines.line(),
-            number.saturating_add(1),
-            output,
-        ),
+        Next::Line => take_line(rt, alloc, node, lines.line(), number, output),
+        Next::Last => or_done(take_line(rt, alloc, node, lines.line(), number, output)),
         Next::End => Ok(Some(End::Done)),
         Next::LineOver => Ok(Some(End::LineOver)),
         Next::InputOver => Ok(Some(End::InputOver)),

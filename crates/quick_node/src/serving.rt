@@ -7,7 +7,8 @@ ghost use Rattle.source_log.specs.Log.{IsLog};
 ghost use Rattle.index_world.specs.Core.{last_count};
 ghost use Rattle.index_world.specs.World.{WorldStands};
 ghost use Rattle.node_run.specs.Node.{Node};
-ghost use Rattle.node_run.specs.Standing.{NodeStands};
+ghost use Rattle.node_run.specs.Logs.{logs_in};
+ghost use Rattle.node_run.specs.Standing.{NodeStands, GivesLogs};
 ghost use Rattle.quick_node.specs.Causes.{faults_of, IsOneOf, other_statuses, DriveCauses, HasCauses, IsStatusOf};
 ghost use Rattle.quick_node.specs.Ending.{EndsSo, ended_status};
 ghost use Rattle.quick_node.specs.Serve.{Before, After, LogsShow, StreamsShow, Shows, ShowsAfter, EntersAs, IsFresh, Opens, Drives, IsDrive, RefusesWords, WroteWords};
@@ -18,7 +19,7 @@ use crate::writing::write_all;
 use byte_fields::{Sink, Source};
 use clock_time::{Clock, ScriptClock};
 use index_world::{Unopened, World};
-use node_run::{DriveNode, Unstarted};
+use node_run::{DriveNode, Logs, Unstarted};
 use object_store::ObjectStore;
 use source_log::SourceLog;
 use std::alloc::Global;
@@ -34,33 +35,26 @@ pub struct Finished<S> {
     pub log_faults: u64,
 }
 
-fn sum_of_faults<L: SourceLog>(logs: &[L]) -> u64
-    ensures { result ≡ min (sum (map L.fault_count logs.now)) last_count }
-{
-    let mut sum: u64 = 0;
-    for log in logs {
-        sum = sum.saturating_add(log.faults());
-    }
-    sum
-}
-
-// Writes the last line. Where its text finds no memory, the status is that of want of memory.
-fn ended<S: ObjectStore, W: Sink>(
+// Writes the last line, and gives back the store and the logs with their counts. Where the line's text finds no memory, the
+// status is that of want of memory.
+fn ended<S: ObjectStore, L: SourceLog, W: Sink>(
     alloc: Global,
     store: S,
-    log_faults: u64,
+    logs: Logs<L>,
     end: &End,
     output: &mut W,
-) -> Finished<S>
-    ensures store { result.store ≡ store }
-    ensures store_faults { result.store_faults ≡ S.fault_count store }
-    ensures log_faults { result.log_faults ≡ log_faults }
+) -> (Finished<S>, Logs<L>)
+    ensures store { result.0.store ≡ store }
+    ensures store_faults { result.0.store_faults ≡ S.fault_count store }
+    ensures logs { logs_in result.1 ≡ logs_in logs }
+    ensures log_sum { result.0.log_faults ≡ min (sum (map L.fault_count (logs_in result.1))) last_count }
     ensures counted { W.fault_count output.old ≤ W.fault_count output.new }
-    ensures status { (result.status ≡ ended_status end.now) ⊎ (result.status ≡ 11) }
+    ensures status { (result.0.status ≡ ended_status end.now) ⊎ (result.0.status ≡ 11) }
     ensures writes { (held : List ℕ) → W.content output.old ≡ Some held →
-        EndsSo end.now held (W.content output.new) (W.fault_count output.old) (W.fault_count output.new) result.status }
+        EndsSo end.now held (W.content output.new) (W.fault_count output.old) (W.fault_count output.new) result.0.status }
 {
     let store_faults = store.faults();
+    let log_faults = logs.faults();
     let status = match print_end(alloc, end) {
         Ok(text) => {
             let _ = write_all(output, text.as_slice());
@@ -68,12 +62,13 @@ fn ended<S: ObjectStore, W: Sink>(
         }
         Err(_) => status_of(&End::Memory),
     };
-    Finished {
+    let finished = Finished {
         status,
         store,
         store_faults,
         log_faults,
-    }
+    };
+    (finished, logs)
 }
 
 fn is_drive(words: &[String]) -> bool
@@ -91,16 +86,16 @@ fn refuse<S: ObjectStore, L: SourceLog, W: Sink>(
     store: S,
     logs: Vec<L>,
     output: &mut W,
-) -> Finished<S>
-    ensures store { result.store ≡ store }
-    ensures store_faults { result.store_faults ≡ S.fault_count store }
-    ensures log_faults { result.log_faults ≡ min (sum (map L.fault_count logs.items)) last_count }
+) -> (Finished<S>, Logs<L>)
+    ensures store { result.0.store ≡ store }
+    ensures store_faults { result.0.store_faults ≡ S.fault_count store }
+    ensures logs { logs_in result.1 ≡ logs.items }
+    ensures log_sum { result.0.log_faults ≡ min (sum (map L.fault_count (logs_in result.1))) last_count }
     ensures counted { W.fault_count output.old ≤ W.fault_count output.new }
-    ensures status { IsOneOf result.status other_statuses }
-    ensures writes { WroteWords result.status (W.fault_count output.old) (W.fault_count output.new) (W.content output.old) (W.content output.new) }
+    ensures status { IsOneOf result.0.status other_statuses }
+    ensures writes { WroteWords result.0.status (W.fault_count output.old) (W.fault_count output.new) (W.content output.old) (W.content output.new) }
 {
-    let log_faults = sum_of_faults(logs.as_slice());
-    ended(alloc, store, log_faults, &End::BadWords, output)
+    ended(alloc, store, Logs::Unread(logs), &End::BadWords, output)
 }
 
 // Does the lines of the input with an opened node, and lets it go.
@@ -111,21 +106,22 @@ fn drive_node<Rt: Threads + Sync, S: ObjectStore, L: SourceLog, R: Source, W: Si
     node: DriveNode<S, L>,
     input: &mut R,
     output: &mut W,
-) -> Finished<S>
+) -> (Finished<S>, Logs<L>)
     ensures drives { (history : List Entry) (before : Before) (firsts : List L) (fresh opened : Node) → IsFresh before history fresh → Opens fresh (Ok tt) opened →
         NodeStands L.told L.fault_count L.since firsts node opened →
         StreamsShow R.left R.fault_count W.content W.fault_count input.old output.old before →
         (after : After) × ShowsAfter S.told S.fault_count L.fault_count L.since R.fault_count W.content W.fault_count
-        result.store result.store_faults result.log_faults firsts input.new output.new after
-        × Drives history before after result.status }
+        result.0.store result.0.store_faults result.0.log_faults firsts input.new output.new after
+        × Drives history before after result.0.status × GivesLogs L.fault_count L.since firsts (logs_in result.1) after.log_faults }
     ensures causes { (low high : ℕ) → DriveCauses (faults_of low (R.fault_count input.old) (W.fault_count output.old))
-        (faults_of high (R.fault_count input.new) (W.fault_count output.new)) result.status }
-    ensures store_faults { result.store_faults ≡ S.fault_count result.store }
+        (faults_of high (R.fault_count input.new) (W.fault_count output.new)) result.0.status }
+    ensures store_faults { result.0.store_faults ≡ S.fault_count result.0.store }
+    ensures log_sum { result.0.log_faults ≡ min (sum (map L.fault_count (logs_in result.1))) last_count }
 {
     let mut node = node;
     let end = run(rt, alloc, &mut node, input, output);
-    let (store, log_faults) = node.finish();
-    ended(alloc, store, log_faults, &end, output)
+    let (store, logs) = node.finish_with_logs();
+    ended(alloc, store, logs, &end, output)
 }
 
 // Starts a node over an opened world, and drives it.
@@ -137,16 +133,17 @@ fn drive_world<Rt: Threads + Sync, S: ObjectStore, L: SourceLog, R: Source, W: S
     logs: Vec<L>,
     input: &mut R,
     output: &mut W,
-) -> Finished<S>
+) -> (Finished<S>, Logs<L>)
     ensures drives { (history : List Entry) (before : Before) (fresh opened : Node) → IsFresh before history fresh → Opens fresh (Ok tt) opened →
         WorldStands world opened.core before.log → IsLog before.log → LogsShow L.told L.fault_count logs.items before →
         StreamsShow R.left R.fault_count W.content W.fault_count input.old output.old before →
         (after : After) × ShowsAfter S.told S.fault_count L.fault_count L.since R.fault_count W.content W.fault_count
-        result.store result.store_faults result.log_faults logs.items input.new output.new after
-        × Drives history before after result.status }
+        result.0.store result.0.store_faults result.0.log_faults logs.items input.new output.new after
+        × Drives history before after result.0.status × GivesLogs L.fault_count L.since logs.items (logs_in result.1) after.log_faults }
     ensures causes { (low high : ℕ) → DriveCauses (faults_of low (R.fault_count input.old) (W.fault_count output.old))
-        (faults_of high (R.fault_count input.new) (W.fault_count output.new)) result.status }
-    ensures store_faults { result.store_faults ≡ S.fault_count result.store }
+        (faults_of high (R.fault_count input.new) (W.fault_count output.new)) result.0.status }
+    ensures store_faults { result.0.store_faults ≡ S.fault_count result.0.store }
+    ensures log_sum { result.0.log_faults ≡ min (sum (map L.fault_count (logs_in result.1))) last_count }
 {
     match DriveNode::start(alloc, world, logs) {
         Ok(node) => drive_node(rt, alloc, node, input, output),
@@ -156,9 +153,8 @@ fn drive_world<Rt: Threads + Sync, S: ObjectStore, L: SourceLog, R: Source, W: S
                 logs,
                 error: _error,
             } = unstarted;
-            let log_faults = sum_of_faults(logs.as_slice());
             let (store, _) = world.unload();
-            ended(alloc, store, log_faults, &End::Memory, output)
+            ended(alloc, store, Logs::Unread(logs), &End::Memory, output)
         }
     }
 }
@@ -172,22 +168,22 @@ fn drive<Rt: Threads + Sync, S: ObjectStore, L: SourceLog, R: Source, W: Sink>(
     logs: Vec<L>,
     input: &mut R,
     output: &mut W,
-) -> Finished<S>
+) -> (Finished<S>, Logs<L>)
     ensures drives { (history : List Entry) (before : Before) →
         Shows S.told S.fault_count L.told L.fault_count R.left R.fault_count W.content W.fault_count store logs.items input.old output.old before →
         EntersAs history before →
         (after : After) × ShowsAfter S.told S.fault_count L.fault_count L.since R.fault_count W.content W.fault_count
-        result.store result.store_faults result.log_faults logs.items input.new output.new after
-        × Drives history before after result.status }
+        result.0.store result.0.store_faults result.0.log_faults logs.items input.new output.new after
+        × Drives history before after result.0.status × GivesLogs L.fault_count L.since logs.items (logs_in result.1) after.log_faults }
     ensures causes { DriveCauses (faults_of (S.fault_count store) (R.fault_count input.old) (W.fault_count output.old))
-        (faults_of (S.fault_count result.store) (R.fault_count input.new) (W.fault_count output.new)) result.status }
-    ensures store_faults { result.store_faults ≡ S.fault_count result.store }
+        (faults_of (S.fault_count result.0.store) (R.fault_count input.new) (W.fault_count output.new)) result.0.status }
+    ensures store_faults { result.0.store_faults ≡ S.fault_count result.0.store }
+    ensures log_sum { result.0.log_faults ≡ min (sum (map L.fault_count (logs_in result.1))) last_count }
 {
     match World::load(alloc, store, ScriptClock::at(0)) {
         Ok(world) => drive_world(rt, alloc, world, logs, input, output),
         Err(Unopened { error, store }) => {
-            let log_faults = sum_of_faults(logs.as_slice());
-            ended(alloc, store, log_faults, &End::NotOpened(error), output)
+            ended(alloc, store, Logs::Unread(logs), &End::NotOpened(error), output)
         }
     }
 }
@@ -195,7 +191,50 @@ fn drive<Rt: Threads + Sync, S: ObjectStore, L: SourceLog, R: Source, W: Sink>(
 /// Does the command that the words name. `drive` reads a schedule line by line from the input, and answers each line by a
 /// line of the output. Statuses: 0 all lines were answered, 1 the words name no command, 3 a line is none, 4 the store
 /// failed while opening, 5 the input failed, 6 the output failed, 7 the store is no index, 8 its journal is empty, 10 a
-/// limit was passed, 11 want of memory.
+/// limit was passed, 11 want of memory. The logs are given back, each as a later state of the one that was handed in.
+#[tactic(none)]
+pub fn serve_with_logs<
+    Rt: Threads + Wait + Sync,
+    S: ObjectStore + Send,
+    L: SourceLog + Send,
+    C: Clock + Send,
+    R: Source,
+    W: Sink,
+>(
+    rt: &Rt,
+    alloc: Global,
+    words: &[String],
+    store: S,
+    logs: Vec<L>,
+    _clock: C,
+    input: &mut R,
+    output: &mut W,
+) -> (Finished<S>, Logs<L>)
+    ensures drives { (history : List Entry) (before : Before) → IsDrive (map string_bytes words.now) →
+        Shows S.told S.fault_count L.told L.fault_count R.left R.fault_count W.content W.fault_count store logs.items input.old output.old before →
+        EntersAs history before →
+        (after : After) × ShowsAfter S.told S.fault_count L.fault_count L.since R.fault_count W.content W.fault_count
+        result.0.store result.0.store_faults result.0.log_faults logs.items input.new output.new after
+        × Drives history before after result.0.status × GivesLogs L.fault_count L.since logs.items (logs_in result.1) after.log_faults }
+    ensures refuses { (IsDrive (map string_bytes words.now) → ⊥) →
+        RefusesWords S.told S.fault_count L.fault_count R.left R.fault_count store result.0.store logs.items result.0.store_faults result.0.log_faults input.old input.new
+        × WroteWords result.0.status (W.fault_count output.old) (W.fault_count output.new) (W.content output.old) (W.content output.new) }
+    ensures causes { HasCauses (faults_of (S.fault_count store) (R.fault_count input.old) (W.fault_count output.old))
+        (faults_of (S.fault_count result.0.store) (R.fault_count input.new) (W.fault_count output.new)) result.0.status }
+    ensures statuses { IsStatusOf (map string_bytes words.now) result.0.status }
+    ensures counts { result.0.store_faults ≡ S.fault_count result.0.store }
+    // Over all logs, the count that is reported is the sum of those of the logs that are given back.
+    ensures log_sum { result.0.log_faults ≡ min (sum (map L.fault_count (logs_in result.1))) last_count }
+    // Other words leave the logs as they were.
+    ensures unread { (IsDrive (map string_bytes words.now) → ⊥) → logs_in result.1 ≡ logs.items }
+{
+    if !is_drive(words) {
+        return refuse(alloc, store, logs, output);
+    }
+    drive(rt, alloc, store, logs, input, output)
+}
+
+/// Does the command that the words name, as `serve_with_logs`, and lets the logs go.
 #[tactic(none)]
 pub fn serve<
     Rt: Threads + Wait + Sync,
@@ -210,7 +249,7 @@ pub fn serve<
     words: &[String],
     store: S,
     logs: Vec<L>,
-    _clock: C,
+    clock: C,
     input: &mut R,
     output: &mut W,
 ) -> Finished<S>
@@ -228,8 +267,6 @@ pub fn serve<
     ensures statuses { IsStatusOf (map string_bytes words.now) result.status }
     ensures counts { result.store_faults ≡ S.fault_count result.store }
 {
-    if !is_drive(words) {
-        return refuse(alloc, store, logs, output);
-    }
-    drive(rt, alloc, store, logs, input, output)
+    let (finished, _logs) = serve_with_logs(rt, alloc, words, store, logs, clock, input, output);
+    finished
 }

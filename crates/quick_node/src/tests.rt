@@ -1,5 +1,5 @@
 use super::new_entry;
-use crate::serving::{Finished, serve};
+use crate::serving::{Finished, serve, serve_with_logs};
 use byte_fields::{Bytes, MemorySink, MemorySource};
 use clock_time::ScriptClock;
 use meta_journal::meta_key;
@@ -130,110 +130,6 @@ fn two_hits(rt: HostRuntime) -> Result<(), Fail> {
 }
 
 #[test]
-fn a_late_reader_is_stale(rt: HostRuntime) -> Result<(), Fail> {
-    let alloc = rt.alloc();
-    let store = index_store(alloc)?;
-    let logs = two_logs(alloc, &[("p0", FOX), ("p0", "oops"), ("p0", HEN)])?;
-    let schedule =
-        "at 1000\nindexer 0\nindexer 1\nindexer 0\nindexer 1\nindexer 0\nindexer 1\nindexer 0\nindexer 1\nindexer 0\nindexer 1\nclient a {\"search\":{\"query\":\"red\"}}\nclient a\nclient a\nclient a\n";
-    let expected =
-        "at 1000\nindexer 0 checkpoint\nindexer 1 checkpoint\nindexer 0 read 3\nindexer 1 read 3\nindexer 0 staged 1\nindexer 1 staged 2\nindexer 0 uploaded 1\nindexer 1 uploaded 2\nindexer 0 published 1\nindexer 1 stale p0 3 0\na opened\na planned 4 1\na fetched 1\n{\"aggregations\":{},\"client\":\"a\",\"hits\":[{\"body\":\"red fox\"},{\"body\":\"red hen\"}],\"num_hits\":2,\"revision\":4}\n";
-    let _ = plays(&rt, alloc, store, logs, schedule, expected)?;
-    Ok(())
-}
-
-#[test]
-fn one_stale_part(rt: HostRuntime) -> Result<(), Fail> {
-    let alloc = rt.alloc();
-    let store = index_store(alloc)?;
-    let logs = two_logs(alloc, &[("p0", RED), ("p1", RED)])?;
-    let schedule =
-        "at 1000\nassign 1 p1\nindexer 0\nindexer 0\nindexer 0\nindexer 1\nindexer 1\nindexer 1\nindexer 1\nindexer 1\nindexer 0\nindexer 0\nindexer 0\nclient a {\"search\":{\"query\":\"red\"}}\nclient a\nclient a\nclient a\n";
-    let expected =
-        "at 1000\nindexer 1 assigned 1\nindexer 0 checkpoint\nindexer 0 read 1\nindexer 0 read 1\nindexer 1 checkpoint\nindexer 1 read 1\nindexer 1 staged 1\nindexer 1 uploaded 1\nindexer 1 published 1\nindexer 0 staged 2\nindexer 0 uploaded 2\nindexer 0 stale p1 1 0\na opened\na planned 4 1\na fetched 1\n{\"aggregations\":{},\"client\":\"a\",\"hits\":[{\"body\":\"red\"}],\"num_hits\":1,\"revision\":4}\n";
-    let _ = plays(&rt, alloc, store, logs, schedule, expected)?;
-    Ok(())
-}
-
-#[test]
-fn a_publish_lands(rt: HostRuntime) -> Result<(), Fail> {
-    let alloc = rt.alloc();
-    let store = failing_store(alloc, "meta/00000000000000000002", Landing::AfterCalls(1))?;
-    let logs = one_log(alloc)?;
-    let schedule =
-        "at 1000\nindexer 0\nindexer 0\nindexer 0\nindexer 0\nindexer 0\nindexer 0\nindexer 0\nindexer 0\nclient a {\"search\":{\"query\":\"red\"}}\nclient a\nclient a\nclient a\n";
-    let expected =
-        "at 1000\nindexer 0 checkpoint\nindexer 0 read 3\nindexer 0 staged 1\nindexer 0 uploaded 1\nindexer 0 storefault 0 1\nindexer 0 checkpoint\nindexer 0 read 0\nindexer 0 caughtup\na opened\na planned 3 1\na fetched 1\n{\"aggregations\":{},\"client\":\"a\",\"hits\":[{\"body\":\"red fox\"},{\"body\":\"red hen\"}],\"num_hits\":2,\"revision\":3}\n";
-    let _ = plays(&rt, alloc, store, logs, schedule, expected)?;
-    Ok(())
-}
-
-#[test]
-fn a_publish_never_lands(rt: HostRuntime) -> Result<(), Fail> {
-    let alloc = rt.alloc();
-    let store = failing_store(alloc, "meta/00000000000000000002", Landing::Never)?;
-    let logs = one_log(alloc)?;
-    let schedule =
-        "at 1000\nindexer 0\nindexer 0\nindexer 0\nindexer 0\nindexer 0\nindexer 0\nindexer 0\nindexer 0\nindexer 0\nindexer 0\nclient a {\"search\":{\"query\":\"red\"}}\nclient a\nclient a\nclient a\n";
-    let expected =
-        "at 1000\nindexer 0 checkpoint\nindexer 0 read 3\nindexer 0 staged 1\nindexer 0 uploaded 1\nindexer 0 storefault 0 1\nindexer 0 checkpoint\nindexer 0 read 3\nindexer 0 staged 2\nindexer 0 uploaded 2\nindexer 0 published 2\na opened\na planned 5 1\na fetched 2\n{\"aggregations\":{},\"client\":\"a\",\"hits\":[{\"body\":\"red fox\"},{\"body\":\"red hen\"}],\"num_hits\":2,\"revision\":5}\n";
-    let _ = plays(&rt, alloc, store, logs, schedule, expected)?;
-    Ok(())
-}
-
-#[test]
-fn an_indexer_restarts(rt: HostRuntime) -> Result<(), Fail> {
-    let alloc = rt.alloc();
-    let store = index_store(alloc)?;
-    let logs = one_log(alloc)?;
-    let schedule =
-        "at 1000\nindexer 0\nindexer 0\nindexer 0\nindexer 0\nrestart indexer 0\nindexer 0\nindexer 0\nindexer 0\nindexer 0\nindexer 0\n";
-    let expected =
-        "at 1000\nindexer 0 checkpoint\nindexer 0 read 3\nindexer 0 staged 1\nindexer 0 uploaded 1\nindexer 0 restarted\nindexer 0 checkpoint\nindexer 0 read 3\nindexer 0 staged 2\nindexer 0 uploaded 2\nindexer 0 published 2\n";
-    let _ = plays(&rt, alloc, store, logs, schedule, expected)?;
-    Ok(())
-}
-
-#[test]
-fn a_node_restarts(rt: HostRuntime) -> Result<(), Fail> {
-    let alloc = rt.alloc();
-    let store = index_store(alloc)?;
-    let logs = one_log(alloc)?;
-    let schedule =
-        "at 1000\nindexer 0\nindexer 0\nindexer 0\nindexer 0\nrestart node\nindexer 0\nindexer 0\nindexer 0\nindexer 0\nindexer 0\nclient a {\"search\":{\"query\":\"red\"}}\nclient a\nclient a\nclient a\n";
-    let expected =
-        "at 1000\nindexer 0 checkpoint\nindexer 0 read 3\nindexer 0 staged 1\nindexer 0 uploaded 1\nnode restarted 2\nindexer 0 checkpoint\nindexer 0 read 3\nindexer 0 staged 2\nindexer 0 uploaded 2\nindexer 0 published 2\na opened\na planned 4 1\na fetched 2\n{\"aggregations\":{},\"client\":\"a\",\"hits\":[{\"body\":\"red fox\"},{\"body\":\"red hen\"}],\"num_hits\":2,\"revision\":4}\n";
-    let _ = plays(&rt, alloc, store, logs, schedule, expected)?;
-    Ok(())
-}
-
-#[test]
-fn an_upload_never_lands(rt: HostRuntime) -> Result<(), Fail> {
-    let alloc = rt.alloc();
-    let store = failing_store(alloc, "splits/00000000000000000001", Landing::Never)?;
-    let logs = one_log(alloc)?;
-    let schedule =
-        "at 1000\nindexer 0\nindexer 0\nindexer 0\nindexer 0\nindexer 0\nindexer 0\nindexer 0\nindexer 0\nindexer 0\nclient a {\"search\":{\"query\":\"red\"}}\nclient a\nclient a\nclient a\n";
-    let expected =
-        "at 1000\nindexer 0 checkpoint\nindexer 0 read 3\nindexer 0 staged 1\nindexer 0 storefault 0 1\nindexer 0 checkpoint\nindexer 0 read 3\nindexer 0 staged 2\nindexer 0 uploaded 2\nindexer 0 published 2\na opened\na planned 4 1\na fetched 2\n{\"aggregations\":{},\"client\":\"a\",\"hits\":[{\"body\":\"red fox\"},{\"body\":\"red hen\"}],\"num_hits\":2,\"revision\":4}\n";
-    let _ = plays(&rt, alloc, store, logs, schedule, expected)?;
-    Ok(())
-}
-
-#[test]
-fn a_fetch_fails(rt: HostRuntime) -> Result<(), Fail> {
-    let alloc = rt.alloc();
-    let store = failing_call(alloc, 7)?;
-    let logs = one_log(alloc)?;
-    let schedule =
-        "at 1000\nindexer 0\nindexer 0\nindexer 0\nindexer 0\nindexer 0\nclient a {\"search\":{\"query\":\"red\"}}\nclient a\nclient a\nclient a {\"search\":{\"query\":\"red\"}}\nclient a\nclient a\nclient a\n";
-    let expected =
-        "at 1000\nindexer 0 checkpoint\nindexer 0 read 3\nindexer 0 staged 1\nindexer 0 uploaded 1\nindexer 0 published 1\na opened\na planned 3 1\n{\"client\":\"a\",\"error\":{\"after\":1,\"before\":0,\"kind\":\"StoreFault\"},\"revision\":3}\na opened\na planned 3 1\na fetched 1\n{\"aggregations\":{},\"client\":\"a\",\"hits\":[{\"body\":\"red fox\"},{\"body\":\"red hen\"}],\"num_hits\":2,\"revision\":3}\n";
-    let _ = plays(&rt, alloc, store, logs, schedule, expected)?;
-    Ok(())
-}
-
-#[test]
 fn an_empty_batch_waits(rt: HostRuntime) -> Result<(), Fail> {
     let alloc = rt.alloc();
     let store = index_store(alloc)?;
@@ -243,29 +139,6 @@ fn an_empty_batch_waits(rt: HostRuntime) -> Result<(), Fail> {
         "at 1000\nassign 0 p0 p1 p2\nindexer 0\nindexer 0\nat 1060\nindexer 0\nindexer 0\nindexer 0\nindexer 0\nindexer 0\n";
     let expected =
         "at 1000\nindexer 0 assigned 3\nindexer 0 checkpoint\nindexer 0 read 0\nat 1060\nindexer 0 read 0\nindexer 0 read 1\nindexer 0 staged 1\nindexer 0 uploaded 1\nindexer 0 published 1\n";
-    let _ = plays(&rt, alloc, store, logs, schedule, expected)?;
-    Ok(())
-}
-
-#[test]
-fn two_words_are_not_built(rt: HostRuntime) -> Result<(), Fail> {
-    let alloc = rt.alloc();
-    let store = index_store(alloc)?;
-    let logs = one_log(alloc)?;
-    let schedule = "client a {\"search\":{\"query\":\"red fox\"}}\nclient a\n";
-    let expected =
-        "a opened\n{\"client\":\"a\",\"error\":{\"kind\":\"NotBuilt\",\"name\":\"request\"},\"revision\":1}\n";
-    let _ = plays(&rt, alloc, store, logs, schedule, expected)?;
-    Ok(())
-}
-
-#[test]
-fn a_restart_fails(rt: HostRuntime) -> Result<(), Fail> {
-    let alloc = rt.alloc();
-    let store = failing_call(alloc, 4)?;
-    let logs = one_log(alloc)?;
-    let schedule = "restart node\nindexer 0\nrestart node\n";
-    let expected = "node storefault 0 1\nindexer 0 down\nnode restarted 1\n";
     let _ = plays(&rt, alloc, store, logs, schedule, expected)?;
     Ok(())
 }
@@ -288,21 +161,141 @@ fn a_publish_lands_in_the_next_life(rt: HostRuntime) -> Result<(), Fail> {
 }
 
 #[test]
-fn statuses(rt: HostRuntime) -> Result<(), Fail> {
+fn restarts_and_a_request_that_is_not_built(rt: HostRuntime) -> Result<(), Fail> {
     let alloc = rt.alloc();
-    let logs = one_log(alloc)?;
-    let (finished, output) = drive(&rt, alloc, MemoryStore::vacant(alloc), logs, "at 5\n")?;
-    assert_eq!(rt; finished.status, 8);
-    assert_eq!(rt;
-        output.content().as_slice(),
-        b"error 8 noindex\n".as_slice()
+    let table = [
+        // An indexer restarts.
+        (
+            "at 1000\nindexer 0\nindexer 0\nindexer 0\nindexer 0\nrestart indexer 0\nindexer 0\nindexer 0\nindexer 0\nindexer 0\nindexer 0\n",
+            "at 1000\nindexer 0 checkpoint\nindexer 0 read 3\nindexer 0 staged 1\nindexer 0 uploaded 1\nindexer 0 restarted\nindexer 0 checkpoint\nindexer 0 read 3\nindexer 0 staged 2\nindexer 0 uploaded 2\nindexer 0 published 2\n",
+        ),
+        // A node restarts.
+        (
+            "at 1000\nindexer 0\nindexer 0\nindexer 0\nindexer 0\nrestart node\nindexer 0\nindexer 0\nindexer 0\nindexer 0\nindexer 0\nclient a {\"search\":{\"query\":\"red\"}}\nclient a\nclient a\nclient a\n",
+            "at 1000\nindexer 0 checkpoint\nindexer 0 read 3\nindexer 0 staged 1\nindexer 0 uploaded 1\nnode restarted 2\nindexer 0 checkpoint\nindexer 0 read 3\nindexer 0 staged 2\nindexer 0 uploaded 2\nindexer 0 published 2\na opened\na planned 4 1\na fetched 2\n{\"aggregations\":{},\"client\":\"a\",\"hits\":[{\"body\":\"red fox\"},{\"body\":\"red hen\"}],\"num_hits\":2,\"revision\":4}\n",
+        ),
+        // Two words are not built.
+        (
+            "client a {\"search\":{\"query\":\"red fox\"}}\nclient a\n",
+            "a opened\n{\"client\":\"a\",\"error\":{\"kind\":\"NotBuilt\",\"name\":\"request\"},\"revision\":1}\n",
+        ),
+    ];
+    for (schedule, expected) in &table {
+        let _ = plays(&rt, alloc, index_store(alloc)?, one_log(alloc)?, schedule, expected)?;
+    }
+    Ok(())
+}
+
+#[test]
+fn two_readers(rt: HostRuntime) -> Result<(), Fail> {
+    let alloc = rt.alloc();
+    let three: &[(&str, &str)] = &[("p0", FOX), ("p0", "oops"), ("p0", HEN)];
+    let two: &[(&str, &str)] = &[("p0", RED), ("p1", RED)];
+    let table = [
+        // A late reader is stale.
+        (
+            three,
+            "at 1000\nindexer 0\nindexer 1\nindexer 0\nindexer 1\nindexer 0\nindexer 1\nindexer 0\nindexer 1\nindexer 0\nindexer 1\nclient a {\"search\":{\"query\":\"red\"}}\nclient a\nclient a\nclient a\n",
+            "at 1000\nindexer 0 checkpoint\nindexer 1 checkpoint\nindexer 0 read 3\nindexer 1 read 3\nindexer 0 staged 1\nindexer 1 staged 2\nindexer 0 uploaded 1\nindexer 1 uploaded 2\nindexer 0 published 1\nindexer 1 stale p0 3 0\na opened\na planned 4 1\na fetched 1\n{\"aggregations\":{},\"client\":\"a\",\"hits\":[{\"body\":\"red fox\"},{\"body\":\"red hen\"}],\"num_hits\":2,\"revision\":4}\n",
+        ),
+        // One stale part.
+        (
+            two,
+            "at 1000\nassign 1 p1\nindexer 0\nindexer 0\nindexer 0\nindexer 1\nindexer 1\nindexer 1\nindexer 1\nindexer 1\nindexer 0\nindexer 0\nindexer 0\nclient a {\"search\":{\"query\":\"red\"}}\nclient a\nclient a\nclient a\n",
+            "at 1000\nindexer 1 assigned 1\nindexer 0 checkpoint\nindexer 0 read 1\nindexer 0 read 1\nindexer 1 checkpoint\nindexer 1 read 1\nindexer 1 staged 1\nindexer 1 uploaded 1\nindexer 1 published 1\nindexer 0 staged 2\nindexer 0 uploaded 2\nindexer 0 stale p1 1 0\na opened\na planned 4 1\na fetched 1\n{\"aggregations\":{},\"client\":\"a\",\"hits\":[{\"body\":\"red\"}],\"num_hits\":1,\"revision\":4}\n",
+        ),
+    ];
+    for (records, schedule, expected) in &table {
+        let logs = two_logs(alloc, records)?;
+        let _ = plays(&rt, alloc, index_store(alloc)?, logs, schedule, expected)?;
+    }
+    Ok(())
+}
+
+#[test]
+fn creates_that_fail(rt: HostRuntime) -> Result<(), Fail> {
+    let alloc = rt.alloc();
+    let table = [
+        // A publish lands.
+        (
+            "meta/00000000000000000002",
+            Landing::AfterCalls(1),
+            "at 1000\nindexer 0\nindexer 0\nindexer 0\nindexer 0\nindexer 0\nindexer 0\nindexer 0\nindexer 0\nclient a {\"search\":{\"query\":\"red\"}}\nclient a\nclient a\nclient a\n",
+            "at 1000\nindexer 0 checkpoint\nindexer 0 read 3\nindexer 0 staged 1\nindexer 0 uploaded 1\nindexer 0 storefault 0 1\nindexer 0 checkpoint\nindexer 0 read 0\nindexer 0 caughtup\na opened\na planned 3 1\na fetched 1\n{\"aggregations\":{},\"client\":\"a\",\"hits\":[{\"body\":\"red fox\"},{\"body\":\"red hen\"}],\"num_hits\":2,\"revision\":3}\n",
+        ),
+        // A publish never lands.
+        (
+            "meta/00000000000000000002",
+            Landing::Never,
+            "at 1000\nindexer 0\nindexer 0\nindexer 0\nindexer 0\nindexer 0\nindexer 0\nindexer 0\nindexer 0\nindexer 0\nindexer 0\nclient a {\"search\":{\"query\":\"red\"}}\nclient a\nclient a\nclient a\n",
+            "at 1000\nindexer 0 checkpoint\nindexer 0 read 3\nindexer 0 staged 1\nindexer 0 uploaded 1\nindexer 0 storefault 0 1\nindexer 0 checkpoint\nindexer 0 read 3\nindexer 0 staged 2\nindexer 0 uploaded 2\nindexer 0 published 2\na opened\na planned 5 1\na fetched 2\n{\"aggregations\":{},\"client\":\"a\",\"hits\":[{\"body\":\"red fox\"},{\"body\":\"red hen\"}],\"num_hits\":2,\"revision\":5}\n",
+        ),
+        // An upload never lands.
+        (
+            "splits/00000000000000000001",
+            Landing::Never,
+            "at 1000\nindexer 0\nindexer 0\nindexer 0\nindexer 0\nindexer 0\nindexer 0\nindexer 0\nindexer 0\nindexer 0\nclient a {\"search\":{\"query\":\"red\"}}\nclient a\nclient a\nclient a\n",
+            "at 1000\nindexer 0 checkpoint\nindexer 0 read 3\nindexer 0 staged 1\nindexer 0 storefault 0 1\nindexer 0 checkpoint\nindexer 0 read 3\nindexer 0 staged 2\nindexer 0 uploaded 2\nindexer 0 published 2\na opened\na planned 4 1\na fetched 2\n{\"aggregations\":{},\"client\":\"a\",\"hits\":[{\"body\":\"red fox\"},{\"body\":\"red hen\"}],\"num_hits\":2,\"revision\":4}\n",
+        ),
+    ];
+    for (key, landing, schedule, expected) in &table {
+        let store = failing_store(alloc, key, *landing)?;
+        let _ = plays(&rt, alloc, store, one_log(alloc)?, schedule, expected)?;
+    }
+    Ok(())
+}
+
+#[test]
+fn calls_that_fail(rt: HostRuntime) -> Result<(), Fail> {
+    let alloc = rt.alloc();
+    let table = [
+        // A fetch fails.
+        (
+            7u64,
+            "at 1000\nindexer 0\nindexer 0\nindexer 0\nindexer 0\nindexer 0\nclient a {\"search\":{\"query\":\"red\"}}\nclient a\nclient a\nclient a {\"search\":{\"query\":\"red\"}}\nclient a\nclient a\nclient a\n",
+            "at 1000\nindexer 0 checkpoint\nindexer 0 read 3\nindexer 0 staged 1\nindexer 0 uploaded 1\nindexer 0 published 1\na opened\na planned 3 1\n{\"client\":\"a\",\"error\":{\"after\":1,\"before\":0,\"kind\":\"StoreFault\"},\"revision\":3}\na opened\na planned 3 1\na fetched 1\n{\"aggregations\":{},\"client\":\"a\",\"hits\":[{\"body\":\"red fox\"},{\"body\":\"red hen\"}],\"num_hits\":2,\"revision\":3}\n",
+        ),
+        // A restart fails.
+        (
+            4,
+            "restart node\nindexer 0\nrestart node\n",
+            "node storefault 0 1\nindexer 0 down\nnode restarted 1\n",
+        ),
+    ];
+    for (number, schedule, expected) in &table {
+        let store = failing_call(alloc, *number)?;
+        let _ = plays(&rt, alloc, store, one_log(alloc)?, schedule, expected)?;
+    }
+    Ok(())
+}
+
+// A log whose call fails is given back with its count.
+#[test]
+fn a_source_fails(rt: HostRuntime) -> Result<(), Fail> {
+    let alloc = rt.alloc();
+    let mut log = FaultyLog::over(alloc, log_a(alloc)?);
+    log.fail_call(1)?;
+    let mut logs = Vec::new(alloc);
+    logs.push(log)?;
+    let mut words = Vec::new(alloc);
+    words.push(String::from_str(alloc, "drive")?)?;
+    let mut input = MemorySource::from_bytes(Bytes::from_slice(alloc, b"indexer 0\n")?);
+    let mut output = MemorySink::with_room(alloc, 4096)?;
+    let (finished, logs) = serve_with_logs(
+        &rt,
+        alloc,
+        words.as_slice(),
+        index_store(alloc)?,
+        logs,
+        ScriptClock::at(0),
+        &mut input,
+        &mut output,
     );
-    let logs = one_log(alloc)?;
-    let (finished, output) = drive(&rt, alloc, index_store(alloc)?, logs, "at 5\njump\n")?;
-    assert_eq!(rt; finished.status, 3);
+    assert_eq!(rt; finished.log_faults, 1);
+    assert_eq!(rt; logs.faults(), 1);
     assert_eq!(rt;
         output.content().as_slice(),
-        b"at 5\nerror 3 badline 2\n".as_slice()
+        b"indexer 0 sourcefault 0 1\n".as_slice()
     );
     Ok(())
 }

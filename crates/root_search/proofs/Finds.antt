@@ -1,5 +1,5 @@
 -- What is found in files is the answer over their documents.
-use Rattle.std.proofs.Common.{◌≡◌, ℕ, zero, suc, ◌+◌, ◌<◌, ◌≤◌, get_or, arith, true, false, cond, List, [], ◌∷◌, ◌++◌, map, filter, length, take, refl, sym, ap, ap₂, ◌∙◌, subst, IsPermutation, IsSorted, append_assoc}
+use Rattle.std.proofs.Common.{◌≡◌, ℕ, zero, suc, ◌+◌, ◌<◌, ◌≤◌, get_or, arith, true, false, cond, Option, Some, None, List, [], ◌∷◌, ◌++◌, map, filter, length, take, refl, sym, ap, ap₂, ◌∙◌, subst, IsPermutation, IsSorted, append_assoc}
 use Rattle.std.specs.List.{AllByRecursion}
 use Rattle.std.proofs.lemmas.List.{take-map, take_more, take_all, length-map, append-nil, get_or-map}
 use Rattle.std.proofs.lemmas.List.Kept.{IsStrictlySortedBy-filter}
@@ -11,7 +11,9 @@ use Rattle.index_world.specs.Config.{logs_schema}
 use Rattle.index_world.specs.SplitFile.{split_file, IsPlaced}
 use Rattle.index_world.specs.Words.{matches}
 use Rattle.index_world.specs.declared.placed.Placed.{Placed}
-use Rattle.root_search.specs.Finding.{place_order, all_of, has_word, AreHeld}
+use Rattle.root_search.specs.Finding.{place_order, all_of, has_word}
+use Rattle.root_search.specs.Gathering.{HasGathered, AreTogether}
+use Rattle.root_search.specs.declared.finding.Gathered.{Gathered}
 use Rattle.root_search.specs.Replies.{Found, answer, matching, default_hits}
 use Rattle.root_search.proofs.Orders.{sorted_unique}
 use Rattle.root_search.proofs.Records.{place_order_total}
@@ -48,39 +50,22 @@ found_more word (l ∷ lists) list =
     ∙ ap (λ r. r ++ filter (has_word word) list) (sym (filter-append (has_word word) l (all_of lists)))))
 
 -- what was found, put in order
-pub found_in_order : (word : List ℕ) (files : List (ℕ × List ℕ)) (documents found sorted : List Placed) → (a : AreHeld files documents) → found ≡ filter (has_word word) (all_of a.held) → IsPermutation found sorted →
+pub found_in_order : (word : List ℕ) (lists : List (List Placed)) (documents found sorted : List Placed) → AreTogether lists documents → found ≡ filter (has_word word) (all_of lists) → IsPermutation found sorted →
     IsSorted place_order sorted → sorted ≡ filter (has_word word) documents
-found_in_order word files documents found sorted a e moved up =
+found_in_order word lists documents found sorted a e moved up =
     sorted_unique place_order place_order_total (filter (has_word word) documents) sorted (IsStrictlySortedBy-filter place_order (has_word word) documents a.in_order)
     (IsPermutation-trans _ _ _ (IsPermutation-sym _ _ (subst (λ l. IsPermutation l (filter (has_word word) documents)) (sym e) (IsPermutation-filter (has_word word) _ _ a.together))) moved) up
 
 -- ---- one file after the other
 
-pub record IsHeldAt (word : List ℕ) (held : List (List Placed)) (i : ℕ) (bytes : List ℕ) : Type 0 where
-  pub list : List Placed
-  pub spelled : bytes ≡ split_file list
-  pub placed : AllByRecursion IsPlaced list
-  pub more : filter (has_word word) (all_of (take (i + 1) held)) ≡ filter (has_word word) (all_of (take i held)) ++ filter (has_word word) list
-
-all_at : (P : List Placed → Type 0) (lists : List (List Placed)) (i : ℕ) (d : List Placed) → i < length lists → AllByRecursion P lists → P (get_or lists i d)
-all_at P [] i d lt all = absurd (omega arith)
-all_at P (list ∷ lists) zero d lt all = all.0
-all_at P (list ∷ lists) (suc i) d lt all = all_at P lists i d (omega (arith, lt)) all.1
-
-pub held_at : (word : List ℕ) (files : List (ℕ × List ℕ)) (documents : List Placed) (a : AreHeld files documents) (i : ℕ) (file : ℕ × List ℕ) → i < length files → file ≡ get_or files i file →
-    IsHeldAt word a.held i file.1
-held_at word files documents a i file lt is =
+-- one list more was gathered
+pub gathered_more : (old new : Gathered) (word : List ℕ) (lists : List (List Placed)) (documents : List Placed) → HasGathered old word lists →
+    new.documents.items ≡ old.documents.items ++ filter (has_word word) documents → new.refusal ≡ old.refusal → HasGathered new word (lists ++ documents ∷ [])
+gathered_more old new word lists documents g more same =
     record {
-      list = get_or a.held i [];
-      spelled = ap (λ (f : ℕ × List ℕ). f.1) is ∙ (sym (get_or-map (λ (f : ℕ × List ℕ). f.1) files i file [] lt) ∙ (ap (λ l. get_or l i []) a.files_are ∙ get_or-map split_file a.held i [] [] there));
-      placed = all_at (AllByRecursion IsPlaced) a.held i [] there a.placed;
-      more = ap (λ l. filter (has_word word) (all_of l)) (take_more a.held i [] there) ∙ found_more word (take i a.held) (get_or a.held i []);
+      sound = same ∙ g.sound;
+      documents = more ∙ ap (λ found. found ++ filter (has_word word) documents) g.documents ∙ sym (found_more word lists documents);
     }
-  where
-    there : i < length a.held
-    there = omega (arith, lt, ap length a.files_are, length-map files (λ (f : ℕ × List ℕ). f.1), length-map a.held split_file)
 
--- behind the last one
-pub held_all : (word : List ℕ) (files : List (ℕ × List ℕ)) (documents : List Placed) (a : AreHeld files documents) (i : ℕ) → length files ≤ i → filter (has_word word) (all_of (take i a.held)) ≡ filter (has_word word) (all_of a.held)
-held_all word files documents a i le =
-    ap (λ l. filter (has_word word) (all_of l)) (take_all i a.held (omega (arith, le, ap length a.files_are, length-map files (λ (f : ℕ × List ℕ). f.1), length-map a.held split_file)))
+pub none_not_some : {A : Type 0} (o : Option A) (a : A) → o ≡ None → o ≡ Some a → ⊥
+none_not_some o a none some = cc

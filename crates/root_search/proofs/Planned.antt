@@ -1,5 +1,5 @@
 -- A held that is planned, and one more of its files.
-use Rattle.std.proofs.Common.{◌≡◌, ℕ, zero, suc, ◌+◌, ◌<◌, ◌≤◌, true, List, [], ◌∷◌, ◌++◌, map, length, take, drop, refl, sym, ap, ap₂, ◌∙◌, subst, arith, Option, Some, None, Ok, slice_get, option_map, add-one, drop-cons}
+use Rattle.std.proofs.Common.{◌≡◌, ℕ, zero, suc, ◌+◌, ◌<◌, ◌≤◌, true, List, [], ◌∷◌, ◌++◌, map, filter, length, take, drop, refl, sym, ap, ap₂, ◌∙◌, subst, arith, Option, Some, None, Ok, slice_get, option_map, add-one, drop-cons}
 use Rattle.std.proofs.lemmas.List.{take_all, take_more, length-map, map-append}
 use Rattle.std.proofs.lemmas.Option.{slice_get-map, slice_get_within, get_or_from_slice_get}
 use Rattle.meta_store.specs.History.{history}
@@ -18,7 +18,9 @@ use Rattle.root_search.specs.declared.searcher.Planned.{Planned as GivenPlan}
 use Rattle.root_search.specs.declared.searcher.Request.TheVariants as given
 use Rattle.root_search.specs.declared.searcher.Searcher.{Searcher}
 use Rattle.root_search.specs.Requests.{is_run}
-use Rattle.root_search.specs.Searching.{rows_at, file_at, IsPlanned, IsAtWork, Ends}
+use Rattle.root_search.specs.Finding.{all_of, has_word}
+use Rattle.root_search.specs.Gathering.{HasGathered}
+use Rattle.root_search.specs.Searching.{rows_at, documents_at, file_at, IsPlanned, IsAtWork, Ends}
 use Rattle.root_search.specs.Steps.{Plan, Planned, Client, planned_numbers, with_plan}
 use Rattle.root_search.proofs.Rows.{searched_few}
 use Rattle.root_search.proofs.Stands.{rows_of, planned_goes_on, sound_in_hand}
@@ -28,9 +30,9 @@ numbers_are [] = refl
 numbers_are (row ∷ list) = ap (λ l. row.number ∷ l) (numbers_are list)
 
 pub plan_ends : (searcher : Searcher) (client : Client) (word : List ℕ) (held : GivenPlan) (count : ℕ) (after : Core) (log : Log) → IsSoundCore after log → IsPlan choices.Search held.plan after →
-    held.word ≡ word → is_run word ≡ true → held.next ≡ 0 → held.files.items ≡ [] → count ≡ length held.plan.rows → IsAtWork searcher client →
+    held.word ≡ word → is_run word ≡ true → held.next ≡ 0 → held.gathered.documents.items ≡ [] → held.gathered.refusal ≡ None → count ≡ length held.plan.rows → IsAtWork searcher client →
     Ends (Ok (steps.Planned held.plan.revision count)) (record { client = searcher.client; front = searcher.front; request = given.Planned held }) (with_plan word client after) log
-plan_ends searcher client word held count after log s p e run first none counted w =
+plan_ends searcher client word held count after log s p e run first none sound counted w =
     record {
       says = (Planned held.plan.revision count, refl, ap₂ (λ r n. Some (Planned r n)) (sym p.revision) (sym (counted ∙ many)));
       stands = record {
@@ -47,7 +49,10 @@ plan_ends searcher client word held count after log s p e run first none counted
             few = (let few : length list ≤ 100000 = searched_few s.kept after log s.world in omega (arith, few, ap length p.rows, length-map list planned_row));
             place = omega (arith, first);
             unfetched = sym (ap (λ n. map (λ (row : PlanRow). row.number) (drop n held.plan.rows)) first ∙ (ap (map (λ (row : PlanRow). row.number)) p.rows ∙ numbers_are list));
-            fetched = ap (map (λ (file : ℕ × List ℕ). file.1)) none ∙ ap (λ n. map (file_at (length after.history) after log) (take n (rows_at (length after.history) after))) (sym first);
+            gathered = record {
+              sound = sound;
+              documents = none ∙ ap (λ n. filter (has_word word) (all_of (map (documents_at (length after.history) after log) (take n (rows_at (length after.history) after))))) (sym first);
+            };
             in_hand = sound_in_hand after log s;
           },
         );
@@ -101,14 +106,14 @@ next_row held plan core log row p found =
     split = let lt = within in rw (add-one, drop-cons held.plan.rows held.next row, get_or_from_slice_get held.plan.rows held.next row row found)
 
 -- all bytes of a file that is as long as what was asked for
-whole_piece : (bytes : List ℕ) (len : ℕ) (piece : Piece) → IsPieceOf bytes 0 len piece → len ≡ length bytes → piece.bytes ≡ bytes
+pub whole_piece : (bytes : List ℕ) (len : ℕ) (piece : Piece) → IsPieceOf bytes 0 len piece → len ≡ length bytes → piece.bytes ≡ bytes
 whole_piece bytes len piece p long = p.bytes_are ∙ take_all len bytes (omega (arith, long))
 
-pub one_more : (held more : GivenPlan) (plan : Plan) (core after : Core) (log : Log) (number size : ℕ) (piece : Piece) → IsPlanned held plan core log → (next : IsNext held plan core log number size) →
-    GoesOn None core after → IsPieceOf (file_at plan.revision core log next.row) 0 size piece → more.word ≡ held.word → more.plan ≡ held.plan → more.next ≡ held.next + 1 →
-    more.files.items ≡ held.files.items ++ (number, piece.bytes) ∷ [] →
+pub one_more : (held more : GivenPlan) (plan : Plan) (core after : Core) (log : Log) (number size : ℕ) → IsPlanned held plan core log → (next : IsNext held plan core log number size) →
+    GoesOn None core after → more.word ≡ held.word → more.plan ≡ held.plan → more.next ≡ held.next + 1 →
+    HasGathered more.gathered plan.word (map (documents_at plan.revision core log) (take held.next (rows_at plan.revision core)) ++ documents_at plan.revision core log next.row ∷ []) →
     IsPlanned more (record plan { unfetched = map (λ (r : PlanRow). r.number) (drop (held.next + 1) held.plan.rows) }) after log
-one_more held more plan core after log number size piece p next on piece_is word same further files =
+one_more held more plan core after log number size p next on word same further gathers =
     planned_goes_on None more later core after log on
     (record {
       word = word ∙ p.word;
@@ -118,10 +123,8 @@ one_more held more plan core after log number size piece p next on piece_is word
       few = (let few = p.few in omega (arith, few, ap length rows_same));
       place = omega (arith, further, within, ap length rows_same);
       unfetched = ap₂ (λ n l. map (λ (r : PlanRow). r.number) (drop n l)) (sym further) (sym rows_same);
-      fetched = ap (map (λ (file : ℕ × List ℕ). file.1)) files ∙ (map-append (λ (file : ℕ × List ℕ). file.1) held.files.items ((number, piece.bytes) ∷ [])
-          ∙ (ap₂ (λ l b. l ++ b ∷ []) p.fetched (whole_piece _ size piece piece_is next.long)
-          ∙ (sym (map-append (file_at plan.revision core log) (take held.next list) (next.row ∷ []))
-          ∙ ap (map (file_at plan.revision core log)) (sym taken))));
+      gathered = subst (λ lists. HasGathered more.gathered plan.word lists)
+          (sym (map-append (documents_at plan.revision core log) (take held.next list) (next.row ∷ [])) ∙ ap (map (documents_at plan.revision core log)) (sym taken)) gathers;
       in_hand = p.in_hand;
     })
   where

@@ -1,4 +1,4 @@
--- A searcher goes on to stand for its client, and the files that it fetched hold what is visible.
+-- A searcher goes on to stand for its client, and what it gathers is of what is visible.
 use Rattle.std.proofs.Common.{◌≡◌, ℕ, ◌≤◌, List, [], ◌∷◌, ◌++◌, map, flat_map, length, take, refl, sym, ap, ◌∙◌, subst, arith, Option, IsPermutation}
 use Rattle.std.specs.List.{AllByRecursion}
 use Rattle.std.proofs.lemmas.List.{take-append-le, take_all, length-append, length-map}
@@ -10,16 +10,16 @@ use Rattle.split_states.specs.declared.rows.Row.{Row}
 use Rattle.index_world.specs.Core.{Core, IsUploadedIn}
 use Rattle.index_world.specs.Gate.{searched_rows, planned_row, IsSoundCore}
 use Rattle.index_world.specs.Seen.{contents, visible, visible_at}
-use Rattle.index_world.specs.SplitFile.{split_file, IsPlaced}
+use Rattle.index_world.specs.SplitFile.{split_file}
 use Rattle.index_world.specs.World.{GoesOn}
 use Rattle.index_world.specs.declared.placed.Placed.{Placed}
-use Rattle.index_world.proofs.Placing.{contents-placed}
 use Rattle.index_world.proofs.StoreChanges.{All-each}
 use Rattle.root_search.specs.declared.searcher.Planned.{Planned as GivenPlan}
 use Rattle.root_search.specs.declared.searcher.Request.{Request as GivenRequest}
 use Rattle.root_search.specs.declared.searcher.Request.TheVariants as given
 use Rattle.root_search.specs.declared.searcher.Searcher.{Searcher}
-use Rattle.root_search.specs.Finding.{all_of, AreHeld}
+use Rattle.root_search.specs.Finding.{all_of}
+use Rattle.root_search.specs.Gathering.{HasGathered, AreTogether}
 use Rattle.root_search.specs.Searching.{history_at, rows_at, documents_at, file_at, AreInHand, IsPlanned, IsRequest, SearcherStands}
 use Rattle.root_search.specs.Steps.{Plan, Request, Client}
 use Rattle.root_search.proofs.Records.{visible_in_order}
@@ -69,7 +69,7 @@ planned_goes_on one given plan core after log g p =
       few = p.few;
       place = p.place;
       unfetched = p.unfetched;
-      fetched = subst (λ seen. map (λ (file : ℕ × List ℕ). file.1) given.files.items ≡ map (file_of seen log) (take given.next (rows_of seen))) (sym same) p.fetched;
+      gathered = subst (λ seen. HasGathered given.gathered plan.word (map (λ row. contents (ledger (history seen)).tasks row log) (take given.next (rows_of seen)))) (sym same) p.gathered;
       in_hand = in_hand_goes_on one core after log plan.revision g p.in_hand;
     }
   where
@@ -104,34 +104,22 @@ sound_in_hand core log s =
 
 -- ---- what the files hold together
 
-maps : {A B C : Type 0} (g : B → C) (f : A → B) (xs : List A) → map (λ x. g (f x)) xs ≡ map g (map f xs)
-maps g f [] = refl
-maps g f (x ∷ xs) = ap (λ l. g (f x) ∷ l) (maps g f xs)
-
 joined : (f : Row → List Placed) (list : List Row) → flat_map f list ≡ all_of (map f list)
 joined f [] = refl
 joined f (row ∷ list) = ap (λ l. f row ++ l) (joined f list)
 
-placed_each : (f : Row → List Placed) → ((row : Row) → AllByRecursion IsPlaced (f row)) → (list : List Row) → AllByRecursion (AllByRecursion IsPlaced) (map f list)
-placed_each f h [] = tt
-placed_each f h (row ∷ list) = (h row, placed_each f h list)
+-- behind the last row all of the planned documents were gathered
+pub all_gathered : (given : GivenPlan) (plan : Plan) (core : Core) (log : Log) → IsPlanned given plan core log → length given.plan.rows ≤ given.next →
+    HasGathered given.gathered plan.word (map (documents_at plan.revision core log) (rows_at plan.revision core))
+all_gathered given plan core log p over =
+    subst (λ rows. HasGathered given.gathered plan.word (map (documents_at plan.revision core log) rows))
+    (take_all given.next (rows_at plan.revision core) (omega (arith, over, ap length p.rows, length-map (rows_at plan.revision core) planned_row))) p.gathered
 
-pub all_held : (given : GivenPlan) (plan : Plan) (core : Core) (log : Log) → IsLog log → IsPlanned given plan core log → length given.plan.rows ≤ given.next →
-    AreHeld given.files.items (visible_at plan.revision core.history log)
-all_held given plan core log g p over =
+-- and these are what is visible
+pub all_together : (given : GivenPlan) (plan : Plan) (core : Core) (log : Log) → IsLog log → IsPlanned given plan core log →
+    AreTogether (map (documents_at plan.revision core log) (rows_at plan.revision core)) (visible_at plan.revision core.history log)
+all_together given plan core log g p =
     record {
-      held = map docs list;
-      files_are = p.fetched ∙ (ap (map (file_at plan.revision core log)) (take_all given.next list (omega (arith, many, over))) ∙ maps split_file docs list);
-      placed = placed_each docs (λ row. contents-placed (ledger (history_at plan.revision core)).tasks row log g) list;
-      together = subst (λ l. IsPermutation l (visible_at plan.revision core.history log)) (joined docs list) p.in_hand.shown;
+      together = subst (λ l. IsPermutation l (visible_at plan.revision core.history log)) (joined (documents_at plan.revision core log) (rows_at plan.revision core)) p.in_hand.shown;
       in_order = visible_in_order (ledger (history_at plan.revision core)) log g;
     }
-  where
-    list : List Row
-    list = rows_at plan.revision core
-
-    docs : Row → List Placed
-    docs = documents_at plan.revision core log
-
-    many : length given.plan.rows ≡ length list
-    many = ap length p.rows ∙ length-map list planned_row

@@ -1,11 +1,8 @@
--- The order of documents, and which documents some split files hold.
-use Rattle.std.specs.Prelude.{◌≡◌, ℕ, Bool, List, ◌++◌, map, filter, flat_map, Result, Ok, Err, IsPermutation}
-use Rattle.std.specs.List.{AllByRecursion}
-use Rattle.std.specs.List.Sorted.{IsStrictlySortedBy}
+-- The order of documents, and what is found in one split file.
+use Rattle.std.specs.Prelude.{◌≡◌, ℕ, Bool, List, ◌++◌, filter, flat_map, Result, Ok, Err}
 use Rattle.std.specs.Ordering.{nat_cmp, ordering_then}
 use Rattle.std.specs.Cmp.Lexicographic.{slice_cmp}
 use Rattle.std.specs.declared.cmp.Ordering.{Ordering}
-use Rattle.index_world.specs.SplitFile.{split_file, IsPlaced}
 use Rattle.index_world.specs.Words.{matches}
 use Rattle.index_world.specs.declared.placed.Placed.{Placed}
 use Rattle.root_search.specs.declared.finding.FindError.{FindError}
@@ -18,14 +15,6 @@ place_order one other = ordering_then (slice_cmp nat_cmp one.partition other.par
 abbrev pub all_of : List (List Placed) → List Placed
 all_of lists = flat_map (λ list. list) lists
 
--- The files, each with its number, hold these documents together, each once. The documents stand in their order.
-pub record AreHeld (files : List (ℕ × List ℕ)) (documents : List Placed) : Type 0 where
-  pub held : List (List Placed)
-  pub files_are : map (λ file. file.1) files ≡ map split_file held
-  pub placed : AllByRecursion (AllByRecursion IsPlaced) held
-  pub together : IsPermutation (all_of held) documents
-  pub in_order : IsStrictlySortedBy place_order documents
-
 abbrev pub has_word : List ℕ → Placed → Bool
 has_word word placed = matches word placed.doc
 
@@ -37,8 +26,3 @@ IsMemory (finds.Refused refusal) = ⊥
 abbrev pub FindsIn : List ℕ → List Placed → Result (Unit {0}) FindError → List Placed → List Placed → Type 0
 FindsIn word documents (Ok done) old new = new ≡ old ++ filter (has_word word) documents
 FindsIn word documents (Err e) old new = IsMemory e
-
--- those of all files, in their order
-abbrev pub FindsAll : List ℕ → List Placed → Result (List Placed) FindError → Type 0
-FindsAll word documents (Ok found) = found ≡ filter (has_word word) documents
-FindsAll word documents (Err e) = IsMemory e

@@ -4,4 +4,5 @@ pub mod Steps
 pub mod Said
 pub mod Matching
 pub mod Finding
+pub mod Gathering
 pub mod Searching

@@ -20,6 +20,7 @@ use Rattle.root_search.specs.declared.searcher.Planned.{Planned as GivenPlan}
 use Rattle.root_search.specs.declared.searcher.Request.{Request as GivenRequest}
 use Rattle.root_search.specs.declared.searcher.Request.TheVariants as given
 use Rattle.root_search.specs.declared.searcher.Searcher.{Searcher}
+use Rattle.root_search.specs.Gathering.{HasGathered}
 use Rattle.root_search.specs.Replies.{Faulted}
 use Rattle.root_search.specs.Requests.{is_run}
 use Rattle.root_search.specs.Said.{refused_of, step_of}
@@ -49,7 +50,7 @@ pub record AreInHand (revision : ℕ) (core : Core) (log : Log) : Type 0 where
 
 -- ---- a searcher and a client
 
--- Of the planned rows the first ones are fetched, with the bytes of their files, and the others are still to be fetched.
+-- Of the planned rows the first ones are fetched, of whose files what matches is kept, and the others are still to be fetched.
 pub record IsPlanned (given : GivenPlan) (plan : Plan) (core : Core) (log : Log) : Type 0 where
   pub word : given.word ≡ plan.word
   pub asked : is_run plan.word ≡ true
@@ -58,7 +59,7 @@ pub record IsPlanned (given : GivenPlan) (plan : Plan) (core : Core) (log : Log)
   pub few : length given.plan.rows ≤ 100000
   pub place : given.next ≤ length given.plan.rows
   pub unfetched : plan.unfetched ≡ map (λ row. row.number) (drop given.next given.plan.rows)
-  pub fetched : map (λ file. file.1) given.files.items ≡ map (file_at plan.revision core log) (take given.next (rows_at plan.revision core))
+  pub gathered : HasGathered given.gathered plan.word (map (documents_at plan.revision core log) (take given.next (rows_at plan.revision core)))
   pub in_hand : AreInHand plan.revision core log
 
 abbrev pub IsRequest : GivenRequest → Request → Core → Log → Type 0

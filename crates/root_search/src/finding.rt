@@ -1,12 +1,13 @@
 //! The documents of fetched splits that match.
 
-ghost use Rattle.std.specs.Prelude.{◌≡◌, List, true, map, take, Some, IfOk, MatchResult};
+ghost use Rattle.std.specs.Prelude.{◌≡◌, ◌++◌, ◌∷◌, [], ℕ, List, true, map, take, Some, None, IfOk, OnOk};
 ghost use Rattle.std.specs.List.{AllByRecursion};
 ghost use Rattle.doc_value.specs.Printed.{printed_doc};
 ghost use Rattle.index_world.specs.Config.{logs_schema};
 ghost use Rattle.index_world.specs.SplitFile.{split_file, IsPlaced};
 ghost use Rattle.index_world.specs.declared.placed.Placed as placed;
-ghost use Rattle.root_search.specs.Finding.{place_order, AreHeld, FindsIn, FindsAll};
+ghost use Rattle.root_search.specs.Finding.{place_order, FindsIn};
+ghost use Rattle.root_search.specs.Gathering.{HasGathered, AreTogether};
 ghost use Rattle.root_search.specs.Replies.{answer, default_hits};
 ghost use Rattle.root_search.specs.Requests.{is_run};
 ghost use Rattle.root_search.specs.Said.{said_of};
@@ -22,7 +23,7 @@ use std::cmp::Ordering;
 
 const MAX_HITS: usize = 20;
 
-// Why the files give no answer.
+// Why a file gives no answer.
 #[derive(Drop)]
 enum FindError {
     Memory(AllocError),
@@ -90,30 +91,65 @@ fn first_hits(alloc: Global, found: &[Placed]) -> Result<Hits, AllocError>
     Ok(Hits { list })
 }
 
-fn find_all(alloc: Global, word: &[u8], files: &[(u64, Bytes)]) -> Result<Vec<Placed>, FindError>
-    ensures { (documents : List placed.Placed) → is_run word.now ≡ true → AreHeld files.now documents →
-        MatchResult result (λ found. FindsAll word.now documents (Ok found.items)) (λ e. FindsAll word.now documents (Err e)) }
-{
-    let mut found = Vec::new(alloc);
-    for (number, bytes) in files {
-        find_in(alloc, word, *number, bytes, &mut found)?;
-    }
-    found.sort_by(|one, other| compare_places(one, other))?;
-    Ok(found)
+/// What was found of a word in files, one after another: the documents that match, or why the files give no answer.
+#[derive(Drop)]
+pub struct Gathered {
+    documents: Vec<Placed>,
+    refusal: Option<ReplyRefusal>,
 }
 
-/// What is found of a word in these split files, each with its number.
-pub fn find(alloc: Global, word: &[u8], files: &[(u64, Bytes)]) -> Result<Said, AllocError>
-    // Over files that hold these documents together, the answer to the word. It is no refusal.
-    ensures { (documents : List placed.Placed) → is_run word.now ≡ true → AreHeld files.now documents →
-        IfOk result (λ said. said_of said ≡ Some (answer word.now documents)) }
-{
-    match find_all(alloc, word, files) {
-        Ok(found) => Ok(Said::Found {
+impl Gathered {
+    /// Of no file.
+    pub fn vacant(alloc: Global) -> Gathered
+        ensures documents { result.documents.items ≡ [] }
+        ensures sound { result.refusal ≡ None }
+    {
+        Gathered {
+            documents: Vec::new(alloc),
+            refusal: None,
+        }
+    }
+
+    /// Takes in what matches of one more split file. Behind a file that is refused no more is taken in.
+    pub fn take(
+        &mut self,
+        alloc: Global,
+        word: &[u8],
+        number: u64,
+        bytes: &Bytes,
+    ) -> Result<(), AllocError>
+        // A file that holds these documents is not refused.
+        ensures { (lists : List (List placed.Placed)) (documents : List placed.Placed) → is_run word.now ≡ true → AllByRecursion IsPlaced documents → bytes.now ≡ split_file documents →
+            HasGathered self.old word.now lists → OnOk result (HasGathered self.new word.now (lists ++ documents ∷ [])) }
+    {
+        if self.refusal.is_some() {
+            return Ok(());
+        }
+        match find_in(alloc, word, number, bytes, &mut self.documents) {
+            Ok(()) => Ok(()),
+            Err(FindError::Memory(refused)) => Err(refused),
+            Err(FindError::Refused(refusal)) => {
+                self.refusal = Some(refusal);
+                Ok(())
+            }
+        }
+    }
+
+    /// The answer over all files that were taken in.
+    pub fn answer(self, alloc: Global) -> Result<Said, AllocError>
+        // Over lists that are these documents together, the answer to the word. It is no refusal.
+        ensures { (word : List ℕ) (lists : List (List placed.Placed)) (documents : List placed.Placed) → HasGathered self word lists → AreTogether lists documents →
+            IfOk result (λ said. said_of said ≡ Some (answer word documents)) }
+    {
+        let Gathered { documents, refusal } = self;
+        if let Some(refusal) = refusal {
+            return Ok(Said::Refused(refusal));
+        }
+        let mut found = documents;
+        found.sort_by(|one, other| compare_places(one, other))?;
+        Ok(Said::Found {
             count: found.len() as u64,
             hits: first_hits(alloc, found.as_slice())?,
-        }),
-        Err(FindError::Memory(refused)) => Err(refused),
-        Err(FindError::Refused(refusal)) => Ok(Said::Refused(refusal)),
+        })
     }
 }

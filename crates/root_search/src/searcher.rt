@@ -13,10 +13,10 @@ ghost use Rattle.root_search.specs.Steps as steps;
 ghost use Rattle.root_search.specs.Steps.{opened, without_request, reply_with, trouble_replied, refusal_by};
 
 use crate::asking::word_asked;
-use crate::finding::find;
+use crate::finding::Gathered;
 use crate::outcome::SearchStep;
 use crate::reply::{Reply, ReplyRefusal, Said};
-use byte_fields::{Bytes, Client, Text};
+use byte_fields::{Client, Text};
 use index_world::{Choice, Gate, Plan, WorldError};
 use std::alloc::{AllocError, Global};
 use std::mem;
@@ -28,14 +28,14 @@ use thiserror::Error;
 #[error("a request is unanswered")]
 pub struct Busy;
 
-// A planned search: its word, and the files that were fetched so far.
+// A planned search: its word, and what matches of the files that were fetched so far.
 #[derive(Drop)]
 struct Planned {
     word: Text,
     plan: Plan,
     // The place of the row that is fetched next.
     next: u32,
-    files: Vec<(u64, Bytes)>,
+    gathered: Gathered,
 }
 
 #[derive(Drop)]
@@ -183,7 +183,7 @@ impl Searcher {
                     word,
                     plan,
                     next: 0,
-                    files: Vec::new(alloc),
+                    gathered: Gathered::vacant(alloc),
                 });
                 Ok(SearchStep::Planned { revision, count })
             }
@@ -198,7 +198,7 @@ impl Searcher {
         mut planned: Planned,
     ) -> Result<SearchStep, AllocError>
         requires { planned.next < length planned.plan.rows }
-        ensures { (search : steps.Plan) (client : steps.Client) (core : Core) (log : Log) → client.request ≡ steps.planned search →
+        ensures { (search : steps.Plan) (client : steps.Client) (core : Core) (log : Log) → IsLog log → client.request ≡ steps.planned search →
             IsPlanned planned search core log → G.Stands gate.old core log → IsAtWork self.old client →
             SearchesAs G.Stands G.Between result self.new gate.new client core log }
     {
@@ -207,7 +207,8 @@ impl Searcher {
         let (number, size) = (row.number, row.facts.size);
         match gate.fetch(alloc, &planned.plan, place, 0, size) {
             Ok(piece) => {
-                planned.files.push((number, piece.bytes))?;
+                let word = planned.word.as_slice();
+                planned.gathered.take(alloc, word, number, &piece.bytes)?;
                 planned.next = place.saturating_add(1);
                 self.request = Request::Planned(planned);
                 Ok(SearchStep::Fetched { number })
@@ -229,8 +230,9 @@ impl Searcher {
         if (planned.next as usize) < planned.plan.rows.len() {
             return self.fetch(alloc, gate, planned);
         }
-        let said = find(alloc, planned.word.as_slice(), planned.files.as_slice())?;
-        Ok(self.reply(planned.plan.revision, said))
+        let revision = planned.plan.revision;
+        let said = planned.gathered.answer(alloc)?;
+        Ok(self.reply(revision, said))
     }
 
     /// One step. After want of memory there is no request any more.

@@ -1,12 +1,17 @@
-use Rattle.std.proofs.Common.{◌≡◌, ◌≤◌, ◌+◌, ◌++◌, ◌∷◌, [], ℕ, List, refl, sym, ap, ◌∙◌, subst, inl, inr, arith, rules}
+use Rattle.std.proofs.Common.{◌≡◌, ◌≤◌, ◌+◌, ◌++◌, ◌∷◌, [], ℕ, List, length, refl, sym, ap, ◌∙◌, subst, inl, inr, arith, rules}
+use Rattle.std.specs.Prelude.{Option, None, Result, IfOk, IfSome}
+use Rattle.std.specs.declared.alloc.AllocError.{AllocError}
 use Rattle.node_run.specs.Standing.{NodeStands}
 use Rattle.node_run.specs.Lines.{printed}
 use Rattle.node_run.specs.Node.{Node}
+use Rattle.quick_node.specs.declared.error_line.End.{End as Ended}
 use Rattle.quick_node.specs.declared.error_line.End.TheVariants as ended
+use Rattle.quick_node.specs.Causes.{EndsRunBy}
+use Rattle.quick_node.specs.Running.{counts_of, GoesOrEnds}
 use Rattle.quick_node.specs.Held.{held as in_hand}
-use Rattle.quick_node.specs.Pieces.{IsLine, IsFault}
-use Rattle.quick_node.proofs.Going.{rose_earlier, ends_short, ends_by_fault, ends_at_end, ends_at_line, ends_at_input, line_came, ends_in_short, some_not_none, if_ok_any, if_ok_err}
-use Rattle.quick_node.proofs.Caused.{line_causes}
+use Rattle.quick_node.specs.Pieces.{IsLine, IsFed, IsFault}
+use Rattle.quick_node.proofs.Going.{rose_earlier, ends_short, ends_by_fault, ends_at_end, ends_at_line, ends_at_input, came_line, came_last, line_came, done_or_ends, never_goes_on, ends_in_short, some_not_none, if_ok_any, if_ok_err}
+use Rattle.quick_node.proofs.Caused.{line_causes, done_causes}
 use Rattle.quick_node.proofs.running.next_line.Goals as goal
 
 pub returns-in_err-next-clause-moves : goal.returns-in_err-next-clause-moves
@@ -27,7 +32,7 @@ returns-in_err-next-clause-goes g c firsts readers text begun held counts going 
     (ends_short Stands readers text begun held content (g.R.Source.left c.args.input.now) (in_hand c.args.lines.now) c.args.lines.now.taken c.args.number going Stands content counts going.stands refl)
 
 pub returns-in-Line-clause-moves : goal.returns-in-Line-clause-moves
-returns-in-Line-clause-moves g c = if_ok_any c.take_line.result _ (λ end none. c.in_ok-next.ensures.moves (subst IsLine (sym c.in-Line.is) tt))
+returns-in-Line-clause-moves g c = if_ok_any c.take_line.result _ (λ end none. c.in_ok-next.ensures.fed (subst IsFed (sym c.in-Line.is) tt))
 
 pub returns-in-Line-clause-read : goal.returns-in-Line-clause-read
 returns-in-Line-clause-read g c = c.next.ensures.cause.later
@@ -42,11 +47,42 @@ returns-in-Line-clause-goes g c firsts readers text begun held counts going rb r
     let t = c.in_ok-next.ensures.comes going.behind going.left_is in
     let limit = c.args.lines.now.limit in
     line_came Old readers text begun held (g.W.Sink.content c.args.output.now) (g.R.Source.left c.args.input.now) (in_hand c.args.lines.now) c.args.lines.now.taken c.args.number going
-    c.in_ok-next.field-0 c.next.new.self.line.items c.line.result.now c.next.new.self.taken (in_hand c.next.new.self) t.0 (g.R.Source.left c.next.new.input) New
-    (g.W.Sink.content c.take_line.new.output) c.saturating_add.result (g.W.Sink.fault_count c.args.output.now) (g.W.Sink.fault_count c.take_line.new.output) counts c.take_line.result
-    c.in-Line.is t.2 t.1 (c.in_ok-next.ensures.moves (subst IsLine (sym c.in-Line.is) tt)) c.line.ensures
-    (omega (arith, c.saturating_add.ensures, going.count, going.read.few, limit)) wb wa
+    c.next.new.self.line.items c.line.result.now c.next.new.self.taken (in_hand c.next.new.self) t.0 (g.R.Source.left c.next.new.input) New
+    (g.W.Sink.content c.take_line.new.output) c.saturating_add-number.result (g.W.Sink.fault_count c.args.output.now) (g.W.Sink.fault_count c.take_line.new.output) counts c.take_line.result
+    (came_line Old readers text begun held (g.W.Sink.content c.args.output.now) (g.R.Source.left c.args.input.now) (in_hand c.args.lines.now) c.args.lines.now.taken c.args.number going
+    c.in_ok-next.field-0 c.next.new.self.line.items c.next.new.self.taken (in_hand c.next.new.self ++ t.0) c.in-Line.is t.2) t.1 (c.in_ok-next.ensures.moves (subst IsLine (sym c.in-Line.is) tt)) c.line.ensures
+    (omega (arith, c.saturating_add-number.ensures, going.count, going.read.few, limit)) wb wa
     (c.take_line.ensures.takes firsts going.mid (held ++ printed going.outcomes) going.stands going.written)
+
+pub returns-in-Last-clause-moves : goal.returns-in-Last-clause-moves
+returns-in-Last-clause-moves g c =
+    let Grows : Type 0 = c.next.new.self.taken ≡ c.args.lines.now.taken + length c.next.new.self.line.items + 1 in
+    subst (λ (r : Result (Option Ended) AllocError). IfOk r (λ end. end ≡ None → Grows)) (sym c.or_done.ensures) (never_goes_on c.take_line-in-Last.result Grows)
+
+pub returns-in-Last-clause-read : goal.returns-in-Last-clause-read
+returns-in-Last-clause-read g c = c.next.ensures.cause.later
+
+pub returns-in-Last-clause-written : goal.returns-in-Last-clause-written
+returns-in-Last-clause-written g c = c.take_line-in-Last.ensures.counted
+
+pub returns-in-Last-clause-goes : goal.returns-in-Last-clause-goes
+returns-in-Last-clause-goes g c firsts readers text begun held counts going rb ra wb wa =
+    let Old : Node → Type 0 = λ n. NodeStands g.L.SourceLog.told g.L.SourceLog.fault_count g.L.SourceLog.since firsts c.args.node.now n in
+    let New : Node → Type 0 = λ n. NodeStands g.L.SourceLog.told g.L.SourceLog.fault_count g.L.SourceLog.since firsts c.take_line-in-Last.new.node n in
+    let t = c.in_ok-next.ensures.comes going.behind going.left_is in
+    let limit = c.args.lines.now.limit in
+    let last = came_last Old readers text begun held (g.W.Sink.content c.args.output.now) (g.R.Source.left c.args.input.now) (in_hand c.args.lines.now) c.args.lines.now.taken c.args.number going
+    c.in_ok-next.field-0 c.next.new.self.line.items c.next.new.self.taken (in_hand c.next.new.self ++ t.0) c.in-Last.is t.2 in
+    let r = line_came Old readers text begun held (g.W.Sink.content c.args.output.now) (g.R.Source.left c.args.input.now) (in_hand c.args.lines.now) c.args.lines.now.taken c.args.number going
+    c.next.new.self.line.items c.line-in-Last.result.now c.next.new.self.taken (in_hand c.next.new.self) t.0 (g.R.Source.left c.next.new.input) New
+    (g.W.Sink.content c.take_line-in-Last.new.output) c.saturating_add-number.result (g.W.Sink.fault_count c.args.output.now) (g.W.Sink.fault_count c.take_line-in-Last.new.output) counts c.take_line-in-Last.result
+    last.0 t.1 (c.in_ok-next.ensures.moves (subst IsLine (sym c.in-Last.is) tt)) c.line-in-Last.ensures
+    (omega (arith, c.saturating_add-number.ensures, going.count, going.read.few, limit)) wb wa
+    (c.take_line-in-Last.ensures.takes firsts going.mid (held ++ printed going.outcomes) going.stands going.written) in
+    let Goes : Result (Option Ended) AllocError → Type 0 = GoesOrEnds New readers text begun held (g.W.Sink.content c.take_line-in-Last.new.output) (g.R.Source.left c.next.new.input) (in_hand c.next.new.self) c.next.new.self.taken (c.args.number + 1) counts in
+    subst Goes (sym c.or_done.ensures)
+    (done_or_ends New readers text begun held (g.W.Sink.content c.take_line-in-Last.new.output) (g.R.Source.left c.next.new.input) (in_hand c.next.new.self) t.0 c.next.new.self.taken (c.args.number + 1)
+    counts c.take_line-in-Last.result t.1 last.1 r)
 
 pub returns-in-End-clause-moves : goal.returns-in-End-clause-moves
 returns-in-End-clause-moves g c e = absurd (some_not_none ended.Done e)
@@ -119,6 +155,14 @@ pub returns-in-Line-clause-causes : goal.returns-in-Line-clause-causes
 returns-in-Line-clause-causes g c =
     line_causes (g.R.Source.fault_count c.args.input.now) (g.R.Source.fault_count c.next.new.input) (g.W.Sink.fault_count c.args.output.now) (g.W.Sink.fault_count c.take_line.new.output) c.take_line.result
     c.take_line.ensures.causes
+
+pub returns-in-Last-clause-causes : goal.returns-in-Last-clause-causes
+returns-in-Last-clause-causes g c =
+    let counts = counts_of (g.R.Source.fault_count c.args.input.now) (g.R.Source.fault_count c.next.new.input) (g.W.Sink.fault_count c.args.output.now) (g.W.Sink.fault_count c.take_line-in-Last.new.output) in
+    subst (λ (r : Result (Option Ended) AllocError). IfOk r (λ end. IfSome end (EndsRunBy counts))) (sym c.or_done.ensures)
+    (done_causes counts c.take_line-in-Last.result
+    (line_causes (g.R.Source.fault_count c.args.input.now) (g.R.Source.fault_count c.next.new.input) (g.W.Sink.fault_count c.args.output.now) (g.W.Sink.fault_count c.take_line-in-Last.new.output) c.take_line-in-Last.result
+    c.take_line-in-Last.ensures.causes))
 
 pub returns-in-End-clause-causes : goal.returns-in-End-clause-causes
 returns-in-End-clause-causes g c = tt

@@ -4,6 +4,7 @@ use Rattle.index_world.specs.Core.{last_count}
 use Rattle.index_world.specs.Loading.{LoadsWorld, LoadsNone}
 use Rattle.index_world.specs.Taking.{IsFaultBetween}
 use Rattle.node_run.specs.Calm.{log_counts}
+use Rattle.node_run.specs.Logs.{logs_in}
 use Rattle.node_run.specs.Node.{Node}
 use Rattle.quick_node.specs.Serve.{Opens}
 use Rattle.quick_node.specs.declared.error_line.End.TheVariants as ended
@@ -43,26 +44,31 @@ returns-in-Err-clause-drives g c history before shows enters =
     history before fresh last b.is enters.is_log (ended.NotOpened c.in-Err.field-0.error) (g.R.Source.fault_count c.args.input.now) (g.W.Sink.fault_count c.args.output.now) []
     (met_unopened before fresh last (new_moment history before fresh b.is) (new_sure history before fresh b.is) (g.R.Source.fault_count c.args.input.now) (g.W.Sink.fault_count c.args.output.now)
     c.in-Err.field-0.error l.unread l.says opens)
-    c.ended.result.store c.ended.result.store_faults c.ended.result.log_faults c.ended.result.status c.args.logs.items c.args.input.now c.ended.new.output
+    c.ended.result.0.store c.ended.result.0.store_faults c.ended.result.0.log_faults c.ended.result.0.status c.args.logs.items c.args.input.now c.ended.new.output
     l.kept (ap g.S.ObjectStore.told c.ended.ensures.store ∙ l.tells) (ap g.S.ObjectStore.fault_count c.ended.ensures.store ∙ sym c.ended.ensures.store_faults) l.world (sym (c.ended.ensures.store_faults ∙ l.counts))
-    (kept_logs g.L.SourceLog.fault_count g.L.SourceLog.since g.met.L.SourceLog.since_itself c.args.logs.items (log_counts last.indexers) c.ended.result.log_faults
-    (shows.logs_show.log_faults ∙ sym (opened_counts history before fresh b.is (Err l.unread) last opens))
-    (c.ended.ensures.log_faults ∙ c.sum_of_faults-log_faults.ensures
-    ∙ ap (λ ls. min (sum (map g.L.SourceLog.fault_count ls)) last_count) c.as_slice.ensures.value))
+    (logs_in c.ended.result.1)
+    (kept_logs g.L.SourceLog.fault_count g.L.SourceLog.since g.met.L.SourceLog.since_itself c.args.logs.items (logs_in c.ended.result.1) (log_counts last.indexers)
+    c.ended.ensures.logs (shows.logs_show.log_faults ∙ sym (opened_counts history before fresh b.is (Err l.unread) last opens))) c.ended.ensures.log_sum
     (omega arith) (omega (arith, streams.write_faults)) c.ended.ensures.counted
     (c.ended.ensures.writes (before.written ++ []) (streams.written ∙ ap Some (sym (append-nil before.written))))
 
 pub returns-in-Ok-clause-causes : goal.returns-in-Ok-clause-causes
-returns-in-Ok-clause-causes g c = c.drive_world.ensures.causes (g.S.ObjectStore.fault_count c.args.store) (g.S.ObjectStore.fault_count c.drive_world.result.store)
+returns-in-Ok-clause-causes g c = c.drive_world.ensures.causes (g.S.ObjectStore.fault_count c.args.store) (g.S.ObjectStore.fault_count c.drive_world.result.0.store)
 
 pub returns-in-Ok-clause-store_faults : goal.returns-in-Ok-clause-store_faults
 returns-in-Ok-clause-store_faults g c = c.drive_world.ensures.store_faults
 
 pub returns-in-Err-clause-causes : goal.returns-in-Err-clause-causes
 returns-in-Err-clause-causes g c =
-    opening_causes (faults_of (g.S.ObjectStore.fault_count c.args.store) (g.R.Source.fault_count c.args.input.now) (g.W.Sink.fault_count c.args.output.now)) (faults_of (g.S.ObjectStore.fault_count c.ended.result.store) (g.R.Source.fault_count c.args.input.now) (g.W.Sink.fault_count c.ended.new.output))
-    c.ended.result.status (omega arith) c.ended.ensures.counted c.in-Err.field-0.error
+    opening_causes (faults_of (g.S.ObjectStore.fault_count c.args.store) (g.R.Source.fault_count c.args.input.now) (g.W.Sink.fault_count c.args.output.now)) (faults_of (g.S.ObjectStore.fault_count c.ended.result.0.store) (g.R.Source.fault_count c.args.input.now) (g.W.Sink.fault_count c.ended.new.output))
+    c.ended.result.0.status (omega arith) c.ended.ensures.counted c.in-Err.field-0.error
     (subst (λ n. IsFaultBetween (g.S.ObjectStore.fault_count c.args.store) n c.in-Err.field-0.error) (sym (ap g.S.ObjectStore.fault_count c.ended.ensures.store)) c.in-Err.ensures.faults) c.ended.ensures.status
 
 pub returns-in-Err-clause-store_faults : goal.returns-in-Err-clause-store_faults
 returns-in-Err-clause-store_faults g c = c.ended.ensures.store_faults ∙ sym (ap g.S.ObjectStore.fault_count c.ended.ensures.store)
+
+pub returns-in-Ok-clause-log_sum : goal.returns-in-Ok-clause-log_sum
+returns-in-Ok-clause-log_sum g c = c.drive_world.ensures.log_sum
+
+pub returns-in-Err-clause-log_sum : goal.returns-in-Err-clause-log_sum
+returns-in-Err-clause-log_sum g c = c.ended.ensures.log_sum

@@ -2,6 +2,7 @@ use Rattle.std.proofs.Common.{◌≡◌, ◌++◌, [], map, sum, sym, ap, ◌∙
 use Rattle.std.specs.Prelude.{Some, Ok, min}
 use Rattle.index_world.specs.Core.{last_count}
 use Rattle.node_run.specs.Calm.{log_counts}
+use Rattle.node_run.specs.Logs.{logs_in}
 use Rattle.node_run.specs.Standing.{NodeStands}
 use Rattle.node_run.specs.Standing.{fresh_node}
 use Rattle.quick_node.specs.declared.error_line.End.TheVariants as ended
@@ -27,13 +28,12 @@ returns-in-Err-clause-drives g c history before fresh opened is opens world is_l
     returned g.S.ObjectStore.told g.S.ObjectStore.fault_count g.L.SourceLog.fault_count g.L.SourceLog.since g.R.Source.fault_count g.W.Sink.content g.W.Sink.fault_count
     history before fresh opened is is_log ended.Memory (g.R.Source.fault_count c.args.input.now) (g.W.Sink.fault_count c.args.output.now) []
     (met_unstarted before fresh opened opens (g.R.Source.fault_count c.args.input.now) (g.W.Sink.fault_count c.args.output.now))
-    c.ended.result.store c.ended.result.store_faults c.ended.result.log_faults c.ended.result.status c.args.logs.items c.args.input.now c.ended.new.output
+    c.ended.result.0.store c.ended.result.0.store_faults c.ended.result.0.log_faults c.ended.result.0.status c.args.logs.items c.args.input.now c.ended.new.output
     world.kept (ap g.S.ObjectStore.told c.ended.ensures.store ∙ c.unload-store.ensures.told ∙ ap (λ w. w.told) same.0 ∙ world.told) (ap g.S.ObjectStore.fault_count c.ended.ensures.store ∙ sym c.ended.ensures.store_faults) world.world
     (sym (c.ended.ensures.store_faults ∙ c.unload-store.ensures.faults ∙ ap (λ w. w.store_faults) same.0 ∙ world.store_faults))
-    (kept_logs g.L.SourceLog.fault_count g.L.SourceLog.since g.met.L.SourceLog.since_itself c.args.logs.items (log_counts opened.indexers) c.ended.result.log_faults
-    (logs.log_faults ∙ sym counts)
-    (c.ended.ensures.log_faults ∙ c.sum_of_faults-log_faults.ensures
-    ∙ ap (λ ls. min (sum (map g.L.SourceLog.fault_count ls)) last_count) (c.as_slice.ensures.value ∙ same.1)))
+    (logs_in c.ended.result.1)
+    (kept_logs g.L.SourceLog.fault_count g.L.SourceLog.since g.met.L.SourceLog.since_itself c.args.logs.items (logs_in c.ended.result.1) (log_counts opened.indexers)
+    (c.ended.ensures.logs ∙ same.1) (logs.log_faults ∙ sym counts)) c.ended.ensures.log_sum
     (omega arith) (omega (arith, streams.write_faults)) c.ended.ensures.counted
     (c.ended.ensures.writes (before.written ++ []) (streams.written ∙ ap Some (sym (append-nil before.written))))
 
@@ -46,7 +46,13 @@ returns-in-Ok-clause-store_faults g c = c.drive_node.ensures.store_faults
 pub returns-in-Err-clause-causes : goal.returns-in-Err-clause-causes
 returns-in-Err-clause-causes g c low high =
     run_causes (counts_of (g.R.Source.fault_count c.args.input.now) (g.R.Source.fault_count c.args.input.now) (g.W.Sink.fault_count c.args.output.now) (g.W.Sink.fault_count c.args.output.now)) low high (g.W.Sink.fault_count c.ended.new.output)
-    c.ended.result.status (omega arith) (omega arith) c.ended.ensures.counted ended.Memory tt c.ended.ensures.status
+    c.ended.result.0.status (omega arith) (omega arith) c.ended.ensures.counted ended.Memory tt c.ended.ensures.status
 
 pub returns-in-Err-clause-store_faults : goal.returns-in-Err-clause-store_faults
 returns-in-Err-clause-store_faults g c = c.ended.ensures.store_faults ∙ sym (ap g.S.ObjectStore.fault_count c.ended.ensures.store)
+
+pub returns-in-Ok-clause-log_sum : goal.returns-in-Ok-clause-log_sum
+returns-in-Ok-clause-log_sum g c = c.drive_node.ensures.log_sum
+
+pub returns-in-Err-clause-log_sum : goal.returns-in-Err-clause-log_sum
+returns-in-Err-clause-log_sum g c = c.ended.ensures.log_sum

@@ -1,50 +1,18 @@
-use Rattle.std.proofs.Common.{refl, sym, ap, ◌∙◌, arith}
-use Rattle.quick_node.proofs.Words.{not_both}
-use Rattle.quick_node.specs.Causes.{faults_of}
-use Rattle.quick_node.proofs.Caused.{other_causes}
 use Rattle.quick_node.proofs.serving.serve.Goals as goal
 
-pub returns-then-not-is_drive-clause-drives : goal.returns-then-not-is_drive-clause-drives
-returns-then-not-is_drive-clause-drives g c history before drive shows enters =
-    absurd (not_both c.is_drive.result c.if-not-is_drive.true (c.is_drive.ensures.1 drive))
-
-pub returns-then-not-is_drive-clause-refuses : goal.returns-then-not-is_drive-clause-refuses
-returns-then-not-is_drive-clause-refuses g c other = (
-  record {
-    kept = ap g.S.ObjectStore.told c.refuse.ensures.store;
-    store_count = ap g.S.ObjectStore.fault_count c.refuse.ensures.store;
-    reported = c.refuse.ensures.store_faults;
-    log_sum = c.refuse.ensures.log_faults;
-    left_same = refl;
-    read_same = refl;
-  },
-  c.refuse.ensures.writes,
-)
-
 pub returns-clause-drives : goal.returns-clause-drives
-returns-clause-drives g c history before drive shows enters = c.drive.ensures.drives history before shows enters
+returns-clause-drives g c history before drive shows enters =
+    let ended = c.serve_with_logs-finished.ensures.drives history before drive shows enters in
+    (ended.0, ended.1, ended.2)
 
 pub returns-clause-refuses : goal.returns-clause-refuses
-returns-clause-refuses g c other = absurd (other (c.is_drive.ensures.0 c.if-not-is_drive.false))
-
-pub returns-then-not-is_drive-clause-causes : goal.returns-then-not-is_drive-clause-causes
-returns-then-not-is_drive-clause-causes g c =
-    other_causes (faults_of (g.S.ObjectStore.fault_count c.args.store) (g.R.Source.fault_count c.args.input.now) (g.W.Sink.fault_count c.args.output.now)) (faults_of (g.S.ObjectStore.fault_count c.refuse.result.store) (g.R.Source.fault_count c.args.input.now) (g.W.Sink.fault_count c.refuse.new.output))
-    c.refuse.result.status (omega arith) c.refuse.ensures.counted c.refuse.ensures.status
-
-pub returns-then-not-is_drive-clause-statuses : goal.returns-then-not-is_drive-clause-statuses
-returns-then-not-is_drive-clause-statuses g c =
-    record { drive = λ drive. absurd (not_both c.is_drive.result c.if-not-is_drive.true (c.is_drive.ensures.1 drive)); other = λ other. c.refuse.ensures.status }
-
-pub returns-then-not-is_drive-clause-counts : goal.returns-then-not-is_drive-clause-counts
-returns-then-not-is_drive-clause-counts g c = c.refuse.ensures.store_faults ∙ sym (ap g.S.ObjectStore.fault_count c.refuse.ensures.store)
+returns-clause-refuses g c other = c.serve_with_logs-finished.ensures.refuses other
 
 pub returns-clause-causes : goal.returns-clause-causes
-returns-clause-causes g c = c.drive.ensures.causes.causes
+returns-clause-causes g c = c.serve_with_logs-finished.ensures.causes
 
 pub returns-clause-statuses : goal.returns-clause-statuses
-returns-clause-statuses g c =
-    record { drive = λ drive. c.drive.ensures.causes.known; other = λ other. absurd (other (c.is_drive.ensures.0 c.if-not-is_drive.false)) }
+returns-clause-statuses g c = c.serve_with_logs-finished.ensures.statuses
 
 pub returns-clause-counts : goal.returns-clause-counts
-returns-clause-counts g c = c.drive.ensures.store_faults
+returns-clause-counts g c = c.serve_with_logs-finished.ensures.counts

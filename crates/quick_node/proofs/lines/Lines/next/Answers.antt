@@ -1,10 +1,18 @@
-use Rattle.std.proofs.Common.{◌++◌, ap, subst, arith}
+use Rattle.std.proofs.Common.{◌≡◌, ◌≤◌, ◌+◌, ◌++◌, length, sym, ap, ◌∙◌, subst, arith}
 use Rattle.quick_node.specs.Held.{held}
-use Rattle.quick_node.proofs.Feeding.{Reached, filled, reached, ended, ended_no_fault}
+use Rattle.quick_node.specs.Reading.{max_line}
+use Rattle.quick_node.proofs.Feeding.{Reached, filled, more_place, whole_place, reached, ended, ended_not_fed, ended_no_fault}
 use Rattle.quick_node.proofs.lines.Lines.next.Goals as goal
 
 pub pieces-preserved : goal.pieces-preserved
-pieces-preserved g c = record {
+pieces-preserved g c =
+    let line = c.in-Ok-true.ensures.line in
+    let taken : c.fill.new.self.taken ≡ c.args.self.now.taken + length c.fill.new.self.line.items =
+    c.in-Ok-true.ensures.taken ∙ c.pieces.invariant.place ∙ ap (λ v. c.args.self.now.taken + length v.items) (sym line) in
+    let short : length c.fill.new.self.line.items ≤ max_line = subst (λ v. length v.items ≤ max_line) (sym line) c.pieces.invariant.short in
+    let takes = c.in_ok-take.ensures.takes in
+    let more = more_place c.in_ok-take.field-0 c.args.self.now.taken c.fill.new.self.taken takes.0 (held c.fill.new.self) c.fill.new.self.line.items c.take.new.self.line.items c.in-More.is taken (takes.3 short) in
+    record {
   reaches = λ more told.
       let r = c.pieces.invariant.reaches more told in
       let f = c.in-Ok-true.ensures.reads r.0 r.1 in
@@ -17,6 +25,8 @@ pieces-preserved g c = record {
       );
   counted = omega (arith, c.pieces.invariant.counted, c.in-Ok-true.ensures.cause.later);
   ahead = omega (arith, c.pieces.invariant.ahead, c.in-Ok-true.ensures.taken, c.in_ok-take.ensures.takes.2);
+  place = takes.2 ∙ more.0;
+  short = more.1;
 }
 
 pub returns-in-Whole-clause-comes : goal.returns-in-Whole-clause-comes
@@ -71,3 +81,15 @@ returns-in-Ok-false-clause-cause g c = record {
   later = omega (arith, c.pieces.invariant.counted, c.in-Ok-false.ensures.cause.later);
   failed = λ f. absurd (ended_no_fault c.last.result c.args.self.now.taken c.fill.new.self.taken c.last.ensures f);
 }
+
+pub returns-in-Whole-clause-fed : goal.returns-in-Whole-clause-fed
+returns-in-Whole-clause-fed g c fed =
+    let line = c.in-Ok-true.ensures.line in
+    let taken : c.fill.new.self.taken ≡ c.args.self.now.taken + length c.fill.new.self.line.items =
+    c.in-Ok-true.ensures.taken ∙ c.pieces.invariant.place ∙ ap (λ v. c.args.self.now.taken + length v.items) (sym line) in
+    let short : length c.fill.new.self.line.items ≤ max_line = subst (λ v. length v.items ≤ max_line) (sym line) c.pieces.invariant.short in
+    let takes = c.in_ok-take.ensures.takes in
+    takes.2 ∙ whole_place c.in_ok-take.field-0 c.args.self.now.taken c.fill.new.self.taken takes.0 (held c.fill.new.self) c.fill.new.self.line.items c.take.new.self.line.items c.in-Whole.is taken (takes.3 short)
+
+pub returns-in-Ok-false-clause-fed : goal.returns-in-Ok-false-clause-fed
+returns-in-Ok-false-clause-fed g c fed = absurd (ended_not_fed c.last.result c.args.self.now.taken c.fill.new.self.taken c.last.ensures fed)

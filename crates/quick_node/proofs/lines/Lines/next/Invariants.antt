@@ -1,4 +1,4 @@
-use Rattle.std.proofs.Common.{◌≡◌, ◌≤◌, ◌-◌, ◌++◌, ℕ, List}
+use Rattle.std.proofs.Common.{◌≡◌, ◌≤◌, ◌-◌, ◌+◌, ◌++◌, ℕ, List, length}
 use Rattle.std.specs.Prelude.{Some}
 use Rattle.quick_node.specs.Held.{held}
 use Rattle.quick_node.proofs.Feeding.{IsUnderWay}
@@ -10,6 +10,8 @@ invariant-pieces g l = record {
       × IsUnderWay l.before (held l.fn.self ++ more) l.self.line.items l.self.taken (held l.self ++ behind);
   counted : g.R.Source.fault_count l.fn.input ≤ g.R.Source.fault_count l.input;
   ahead : l.before ≤ l.self.taken;
+  place : l.self.taken ≡ l.before + length l.self.line.items;
+  short : length l.self.line.items ≤ 2097152;
 }
 
 abbrev pub decreases-pieces : goal.decreases-pieces

@@ -18,8 +18,8 @@ returns-in-Ok g c client core log asked stands w =
     let s = says_ok (IsPlan Search) c.in-Ok.plan d.answer d.after d.says in
     let word : word_asked c.args.text.now ≡ Some c.in-Some.word = ap word_asked (sym c.as_slice.ensures) ∙ (sym c.in_ok-word.ensures ∙ c.in-Some.is) in
     planned_as g.G.Gate.Stands g.G.Gate.Between _ _ _ client core log c.args.text.now d.mid d.fate d.answer (Ok tt) (Some c.in-Some.word) d.after d.passed d.did d.goes_on d.stands asked word s.0
-    (plan_ends c.args.self.now client c.in-Some.word (record { word = c.in-Some.word; plan = c.in-Ok.plan; next = 0; files = c.new.result }) c.len-count.result d.after log
-    (g.met.G.Gate.is_sound c.plan.new.self d.after log d.stands) s.1 refl (asked_run c.args.text.now c.in-Some.word word) refl c.new.ensures.items c.len-count.ensures w)
+    (plan_ends c.args.self.now client c.in-Some.word (record { word = c.in-Some.word; plan = c.in-Ok.plan; next = 0; gathered = c.vacant.result }) c.len-count.result d.after log
+    (g.met.G.Gate.is_sound c.plan.new.self d.after log d.stands) s.1 refl (asked_run c.args.text.now c.in-Some.word word) refl c.vacant.ensures.documents c.vacant.ensures.sound c.len-count.ensures w)
 
 pub returns-in-Err : goal.returns-in-Err
 returns-in-Err g c client core log asked stands w =
