@@ -1,23 +1,33 @@
 //! What no clause says: each call with ample memory, over histories whose outcomes are known.
 
+ghost use Rattle.std.specs.Prelude.{◌<◌, IsOk};
+ghost use Rattle.meta_store.specs.Answers.{answer_to};
+
 use byte_fields::{Bytes, Text, Texts};
 use doc_value::{TagFacts, TimeRange};
+use index_config::ConfigError;
 use meta_journal::{Act, Entry};
 use meta_store::{Meta, Reading, Refusal, Settings};
+use query_ast::Query;
+use query_reader::QueryError;
 use source_checkpoint::{Delta, Part, Partition, Span, StaleDelta};
 use split_states::{Numbers, RowFacts, StateRefusal};
 use std::alloc::Global;
+use std::mem;
 use std::str;
 use std::test::Fail;
 
-const READING: Reading = Reading {
-    settings: Some(Settings {
-        staged_grace: 200,
-        deletion_grace: 100,
-        period: None,
-    }),
-    task: true,
-};
+/// What readers say of a configuration and of a query that read.
+fn read() -> Reading {
+    Reading {
+        config: Ok(Settings {
+            staged_grace: 200,
+            deletion_grace: 100,
+            period: None,
+        }),
+        query: Ok(Query::All),
+    }
+}
 
 fn delta_of(alloc: Global, name: &str, from: u64, to: u64) -> Result<Delta, Fail> {
     let mut delta = Delta::vacant(alloc);
@@ -50,19 +60,36 @@ fn numbers(alloc: Global, list: &[u64]) -> Result<Numbers, Fail> {
     Ok(Numbers::from_vec(Vec::from_slice(alloc, list)?))
 }
 
+/// Makes the room of an entry that may come, and takes it in.
+fn give(meta: &mut Meta, entry: Entry, reading: Reading) -> Result<(), Fail>
+    requires may { IsOk (answer_to reading meta.old.state entry) }
+    requires few { meta.old.state.revision < 1000 }
+{
+    match meta.reserve(&entry) {
+        Err(refused) => {
+            mem::drop(reading);
+            Err(Fail::from(refused))
+        }
+        Ok(()) => {
+            meta.apply(entry, reading);
+            Ok(())
+        }
+    }
+}
+
 /// Checks an entry, makes its room and takes it in.
 fn take(meta: &mut Meta, moment: u64, act: Act) -> Result<(), Fail> {
     let entry = Entry { moment, act };
     if meta.revision() >= 1000 {
         return Err(Fail::from("many entries"));
     }
-    let answer = meta.check(&entry, READING);
-    if !answer.is_ok() {
-        return Err(Fail::from("refused"));
+    match meta.check(&entry, read()) {
+        Err(refusal) => {
+            mem::drop(refusal);
+            Err(Fail::from("refused"))
+        }
+        Ok(reading) => give(meta, entry, reading),
     }
-    meta.reserve(&entry)?;
-    meta.apply(entry, READING);
-    Ok(())
 }
 
 fn begun(alloc: Global) -> Result<Meta, Fail> {
@@ -124,7 +151,7 @@ fn spans_of(alloc: Global, meta: &Meta, number: u64) -> Result<String, Fail> {
 
 /// Why the delta of an entry is refused, with what is kept of it.
 fn told(alloc: Global, meta: &Meta, entry: &Entry) -> Result<String, Fail> {
-    let Err(Refusal::Delta(fault)) = meta.check(entry, READING) else {
+    let Err(Refusal::Delta(fault)) = meta.check(entry, read()) else {
         return Ok(String::new(alloc));
     };
     let mut text = String::new(alloc);
@@ -232,8 +259,8 @@ fn doubled_partitions_are_refused(rt: HostRuntime) -> Result<(), Fail> {
 }
 
 /// What is said to an entry of this moment.
-fn answer(meta: &Meta, moment: u64, act: Act) -> Result<(), Refusal> {
-    meta.check(&Entry { moment, act }, READING)
+fn answer(meta: &Meta, moment: u64, act: Act) -> Result<Reading, Refusal> {
+    meta.check(&Entry { moment, act }, read())
 }
 
 #[test]
@@ -274,6 +301,49 @@ fn marked_rows_go_after_their_grace(rt: HostRuntime) -> Result<(), Fail> {
         matches!(
             answer(&meta, 1300, later),
             Err(Refusal::State(StateRefusal::NoRow { number: 1 }))
+        )
+    );
+    Ok(())
+}
+
+/// What is said to an entry of the moment 1000 of which readers say this.
+fn refused(meta: &Meta, act: Act, reading: Reading) -> Result<Reading, Refusal> {
+    meta.check(&Entry { moment: 1000, act }, reading)
+}
+
+#[test]
+fn refusals_keep_the_errors_of_readers(rt: HostRuntime) -> Result<(), Fail> {
+    let alloc = rt.alloc();
+    let create = Act::Create {
+        config: Bytes::vacant(alloc),
+    };
+    let reading = Reading {
+        config: Err(ConfigError::ModeNotBuilt),
+        query: Ok(Query::All),
+    };
+    assert!(rt;
+        matches!(
+            refused(&Meta::vacant(alloc), create, reading),
+            Err(Refusal::BadConfig(ConfigError::ModeNotBuilt))
+        )
+    );
+    let task = Act::Task {
+        opstamp: 1,
+        text: Text::vacant(alloc),
+        fields: Texts::vacant(alloc),
+        times: TimeRange {
+            start: None,
+            end: None,
+        },
+    };
+    let reading = Reading {
+        config: Err(ConfigError::NotToml),
+        query: Err(QueryError::BadValue { at: 3 }),
+    };
+    assert!(rt;
+        matches!(
+            refused(&begun(alloc)?, task, reading),
+            Err(Refusal::BadTask(QueryError::BadValue { at: 3 }))
         )
     );
     Ok(())
