@@ -1,5 +1,5 @@
 -- The answers over a list of numbers, and where nothing is read.
-use Rattle.std.proofs.Common.{◌≡◌, ℕ, List, Option, Some, None, Result, refl, ap, ap₂, ◌∙◌}
+use Rattle.std.proofs.Common.{◌≡◌, ℕ, List, Option, Some, None, Result, Ok, Err, IsOk, refl, ap, ap₂, ◌∙◌}
 use Rattle.split_states.specs.declared.rows.Row.{Row}
 use Rattle.split_states.specs.declared.refusal.StateRefusal.{StateRefusal}
 use Rattle.meta_store.specs.declared.refusal.Refusal.{Refusal}
@@ -10,7 +10,7 @@ use Rattle.meta_store.specs.History.{at}
 use Rattle.meta_store.specs.Said.{Said}
 use Rattle.meta_store.specs.State.{State}
 use Rattle.meta_store.specs.declared.config.Config.{Config}
-use Rattle.meta_store.specs.Answers.{answer_to_each, answer_to_moment, answer_by, answer_to, in_state, IsUnread, unread}
+use Rattle.meta_store.specs.Answers.{Answer, handed, answer_to_each, answer_to_moment, answer_by, answer_to, in_state, IsUnread, unread}
 
 -- of the same rows and numbers
 pub answered_each : (answer : List Row → ℕ → Result (Unit {0}) StateRefusal) (r s : List Row) (ms ns : List ℕ) (given : Result (Unit {0}) StateRefusal) (result : Result (Unit {0}) Refusal) → r ≡ s → ms ≡ ns → given ≡ answer_to_each (answer r) ms → result ≡ in_state given → result ≡ in_state (answer_to_each (answer s) ns)
@@ -41,3 +41,12 @@ unread_same reading s m act u = ap (then_answer (answer_to_moment m s.moment)) (
     by (Some config) (MarkStaged numbers) u = refl
     by (Some config) (Remove numbers) u = refl
     by (Some config) (Retire numbers) u = refl
+
+-- what a reading that is handed back, and one that isn't, say of the answer
+pub handed_ok : (reading back : Said) (answer : Answer) → Ok back ≡ handed reading answer → (back ≡ reading) × IsOk answer
+handed_ok reading back (Ok u) e = ((cc), refl)
+handed_ok reading back (Err refusal) e = cc e
+
+pub handed_err : (reading : Said) (refusal : Refusal) (answer : Answer) → Err refusal ≡ handed reading answer → answer ≡ Err refusal
+handed_err reading refusal (Ok u) e = cc e
+handed_err reading refusal (Err other) e = cc
