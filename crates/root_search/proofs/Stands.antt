@@ -70,7 +70,7 @@ planned_goes_on one given plan core after log g p =
       few = p.few;
       place = p.place;
       unfetched = p.unfetched;
-      gathered = subst (λ seen. HasGathered given.gathered plan.word (map (λ row. contents (ledger (history seen)).tasks row log) (take given.next (rows_of seen)))) (sym same) p.gathered;
+      gathered = subst (λ seen. HasGathered given.gathered plan.word (map (λ row. contents (ledger reads (history seen)).tasks row log) (take given.next (rows_of seen)))) (sym same) p.gathered;
       in_hand = in_hand_goes_on one core after log plan.revision g p.in_hand;
     }
   where
