@@ -1,4 +1,5 @@
 use Rattle.std.proofs.Common.{◌≡◌, ◌+◌, ◌≤◌, ◌++◌, ◌∷◌, [], ◌∙◌, refl, sym, subst, Ok, Err, true, false, map, take, drop, arith, length}
+use Rattle.index_world.specs.Config.{reads}
 use Rattle.index_world.specs.Gate.{IsPieceGiven}
 use Rattle.index_world.specs.declared.planning.PlanRow.{PlanRow}
 use Rattle.index_world.proofs.Placing.{contents-placed}
@@ -34,7 +35,7 @@ returns-in_ok-take-in-Ok g c plan client core log good asked planned stands w =
     let gathers : HasGathered c.take.new.self plan.word (lists ++ docs next.row ∷ []) =
     subst (λ v. HasGathered c.take.new.self v (lists ++ docs next.row ∷ [])) word
     (c.in_ok-take-in-Ok.ensures lists (docs next.row) (subst (λ v. is_run v ≡ true) (sym word) planned.asked)
-    (contents-placed (ledger (history_at plan.revision core)).tasks next.row log good)
+    (contents-placed (ledger reads (history_at plan.revision core)).tasks next.row log good)
     (whole_piece (file_at plan.revision core log next.row) row.facts.size c.in-Ok.piece s.1 next.long)
     (subst (λ v. HasGathered c.args.planned.gathered v lists) (sym word) planned.gathered)) in
     fetched_as g.G.Gate.Stands g.G.Gate.Between _ _ _ client core log plan row.number
