@@ -3,7 +3,7 @@ use Rattle.std.proofs.Common.{◌≡◌, ℕ, List, ◌∷◌, ◌++◌, Option,
 use Rattle.std.specs.Prelude.{Result, Ok, Err, IfOk}
 use Rattle.std.specs.declared.alloc.AllocError.{AllocError}
 use Rattle.node_run.specs.declared.out_line.OutLine.{OutLine}
-use Rattle.root_search.proofs.Lines.{line-of_reply, line-of_step}
+use Rattle.root_search.proofs.Lines.{line-of_reply}
 use Rattle.root_search.specs.declared.outcome.SearchStep.{SearchStep as GivenStep}
 use Rattle.root_search.specs.declared.outcome.SearchStep.TheVariants as given
 use Rattle.root_search.specs.declared.reply.Reply.{Reply as GivenReply}

@@ -1,7 +1,7 @@
 -- What is answered where bytes are no line.
-use Rattle.std.proofs.Common.{◌≡◌, ℕ, List, ◌∙◌, sym, subst}
+use Rattle.std.proofs.Common.{◌≡◌, sym, subst}
 use Rattle.std.proofs.lemmas.Result.{err_from_is_err_and}
-use Rattle.std.specs.Prelude.{Result, Ok, Err, MatchResult}
+use Rattle.std.specs.Prelude.{Result, MatchResult}
 use Rattle.std.specs.Result.{IsErrAnd}
 use Rattle.node_run.specs.declared.line.LineError.{LineError}
 use Rattle.node_run.specs.declared.line.LineError.TheVariants as errors

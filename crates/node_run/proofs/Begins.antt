@@ -1,10 +1,9 @@
 -- What a line is that begins with a front.
-use Rattle.std.proofs.Common.{◌≡◌, ◌≢◌, ℕ, zero, suc, Bool, true, false, eq-eqb, drop, ◌<◌, ◌≤◌, ◌^◌, List, [], ◌∷◌, ◌++◌, length, refl, sym, ap, ◌∙◌, arith}
-use Rattle.std.specs.Prelude.{◌==◌, decimal, codes, All, AllPairs}
+use Rattle.std.proofs.Common.{◌≡◌, ℕ, zero, suc, true, false, eq-eqb, drop, ◌<◌, ◌^◌, List, [], ◌∷◌, ◌++◌, refl, sym, ap, ◌∙◌}
+use Rattle.std.specs.Prelude.{◌==◌, decimal, codes}
 use Rattle.byte_fields.specs.ClientName.{IsClientName}
-use Rattle.source_checkpoint.specs.Names.{IsPartition}
 use Rattle.indexing_run.specs.Outcomes.{words}
-use Rattle.node_run.specs.Lines.{line_text, IsWellFormed, Spells, AreNames}
+use Rattle.node_run.specs.Lines.{Spells, AreNames}
 use Rattle.node_run.specs.Node.{Line, At, Assign, StepIndexer, RestartIndexer, RestartClient, RestartNode, Open, StepClient}
 
 abbrev byte_at : ℕ → List ℕ → ℕ

@@ -1,11 +1,11 @@
 -- Clients by name, and their searchers.
-use Rattle.std.proofs.Common.{◌≡◌, ℕ, zero, suc, ◌<◌, ◌+◌, List, [], ◌∷◌, ◌++◌, length, get_or, refl, sym, ap, ◌∙◌, subst, arith, Bool, true, false, not, add-one}
+use Rattle.std.proofs.Common.{◌≡◌, ℕ, zero, suc, ◌<◌, List, [], ◌∷◌, ◌++◌, length, get_or, refl, sym, ap, ◌∙◌, subst, arith, Bool, true, false, not}
 use Rattle.std.proofs.lemmas.Slice.Eq.{bytes_eq-Decides}
-use Rattle.std.specs.List.{AllByRecursion, AllZip, list_any}
+use Rattle.std.specs.List.{AllZip, list_any}
 use Rattle.std.specs.Prelude.{Option, Some, None, IfSome, IfNone, is_some, slice_set, bytes_eq, ◌||◌, if◌then◌else◌}
 use Rattle.source_log.specs.Log.{Log}
 use Rattle.index_world.specs.Core.{Core}
-use Rattle.root_search.specs.Steps.{Client, Request, no_request, without_request}
+use Rattle.root_search.specs.Steps.{Client, no_request, without_request}
 use Rattle.root_search.specs.Searching.{SearcherStands}
 use Rattle.root_search.specs.declared.searcher.Searcher.{Searcher}
 use Rattle.node_run.specs.Named.{NamedAt, IsUnknown, NotAmongFirst}

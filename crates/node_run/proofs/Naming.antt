@@ -1,10 +1,10 @@
 -- Names of a line, and what none is.
-use Rattle.std.proofs.Common.{◌≡◌, ◌≢◌, ℕ, zero, suc, ◌<◌, ◌≤◌, ◌+◌, Bool, true, false, List, [], ◌∷◌, ◌++◌, length, get_or, inl, inr, refl, sym, ap, ◌∙◌, subst, arith}
+use Rattle.std.proofs.Common.{◌≡◌, ℕ, zero, suc, ◌<◌, Bool, true, false, List, [], ◌∷◌, length, inl, inr, sym, ◌∙◌, arith}
 use Rattle.std.proofs.lemmas.Bool.Decides.{nat_tests}
 use Rattle.std.proofs.lemmas.List.Elements.{recursion_from_All}
 use Rattle.std.proofs.lemmas.Str.{IsUtf8-from_ascii}
 use Rattle.std.specs.List.{AllByRecursion}
-use Rattle.std.specs.Prelude.{◌⊎◌, All, IsTrue, IsUtf8, slice_index}
+use Rattle.std.specs.Prelude.{◌⊎◌, IsTrue, IsUtf8, slice_index}
 use Rattle.std.specs.Str.{IsAscii}
 use Rattle.source_checkpoint.specs.Names.{IsPartition, IsBadNameAt}
 use Rattle.source_checkpoint.specs.Names as partitions

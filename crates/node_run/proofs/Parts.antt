@@ -2,26 +2,25 @@
 use Rattle.std.proofs.Common.{◌≡◌, ℕ, zero, suc, ◌<◌, ◌^◌, List, [], ◌∷◌, ◌++◌, length, get_or, refl, sym, ap, ◌∙◌, subst, arith, Bool, true, false, map, inl, inr, take, drop, ◌≤◌}
 use Rattle.std.proofs.lemmas.List.{append-nil, take_at}
 use Rattle.std.proofs.lemmas.Bool.{lt-ltb, le-ltb}
-use Rattle.std.proofs.lemmas.Result.{err_from_is_err_and}
 use Rattle.std.specs.List.{AllZip}
-use Rattle.std.specs.Prelude.{◌⊎◌, ◌||◌, if◌then◌else◌, nat_lt, slice_set, Option, Some, None, Result, Ok, Err, IfOk, IsErr, ⊤}
+use Rattle.std.specs.Prelude.{◌||◌, if◌then◌else◌, nat_lt, slice_set, Option, Some, None, Result, Ok, Err, IfOk, IsErr, ⊤}
 use Rattle.std.specs.Result.{IsErrAnd}
 use Rattle.std.specs.declared.alloc.AllocError.{AllocError}
-use Rattle.source_log.specs.Log.{Log, IsLog}
+use Rattle.source_log.specs.Log.{Log}
 use Rattle.index_world.specs.Loading.{IsUnread, IsLoaded}
 use Rattle.index_world.specs.Gate.{Says}
 use Rattle.index_world.specs.declared.world_error.WorldError.{WorldError}
 use Rattle.index_world.specs.Calls as calls
 use Rattle.index_world.specs.Calls.{Fate, Fault, Trouble, faulted, no_memory, not_read, Unread, Gives, gives, loaded, calm_fate, fetched, asked_and_looked}
 use Rattle.root_search.specs.Requests.{word_asked}
-use Rattle.index_world.specs.Core.{Core, KeepsBut, IsOther, IsUnusedIn, IsUploadedIn, HasStagedIn, journal_of}
+use Rattle.index_world.specs.Core.{Core, journal_of}
 use Rattle.index_world.specs.Gate.{NoneBetween}
 use Rattle.index_world.specs.Index.{has_staged}
 use Rattle.index_world.specs.World.{Keeping, WorldStands, GoesOn}
 use Rattle.indexing_run.proofs.Holding.{indexer_stays}
 use Rattle.indexing_run.specs.Outcomes.{IndexerOutcome}
 use Rattle.indexing_run.specs.Making.{IsAssigned}
-use Rattle.indexing_run.specs.Places.{Indexer, Held, Place, reading, staged, uploaded, idle, is_idle, number_held}
+use Rattle.indexing_run.specs.Places.{Indexer, Place, reading, staged, uploaded, idle, is_idle, number_held}
 use Rattle.node_run.specs.Lines.{AreNames}
 use Rattle.node_run.specs.Seen.{seen}
 use Rattle.node_run.specs.declared.line.Line.{Line as CodeLine}
@@ -44,11 +43,11 @@ use Rattle.node_run.specs.declared.drive.DriveNode.{DriveNode}
 use Rattle.node_run.specs.declared.out_line.OutLine.{OutLine}
 use Rattle.node_run.specs.Lines.{outcome_text}
 use Rattle.node_run.specs.Named.{NamedAt}
-use Rattle.node_run.specs.Node.{Node, Line, At, Assign, StepIndexer, RestartIndexer, RestartClient, RestartNode, Open, StepClient, Outcome, indexer_said, client_said, request_busy, assigned, indexer_busy, node_failed, world_fault, no_index}
-use Rattle.node_run.specs.Standing.{PartsStand, NodeStands, DoesMost, DoesLine, IsSaid, HoldApart, AllApart}
-use Rattle.node_run.specs.Turns.{restart_by, Luck, calm, Turn, Turned, turned, full_turn, turn_with, quiet, assign_at, with_indexer, indexer_at, made_idle, client_named, with_client, keep_client, stopped, restarted, indexer_stepped, client_stepped, indexing_luck, searching_luck, indexer_turn_by, client_turn_by, said_by_indexer, said_by_client, open_by}
+use Rattle.node_run.specs.Node.{Node, Line, At, Assign, StepIndexer, RestartIndexer, RestartClient, RestartNode, Open, StepClient, Outcome, request_busy, assigned, indexer_busy, node_failed, world_fault, no_index}
+use Rattle.node_run.specs.Standing.{PartsStand, NodeStands, DoesMost, DoesLine, HoldApart}
+use Rattle.node_run.specs.Turns.{restart_by, Luck, calm, Turn, Turned, turned, full_turn, quiet, assign_at, with_indexer, indexer_at, made_idle, client_named, with_client, keep_client, stopped, restarted, indexer_stepped, client_stepped, indexer_turn_by, client_turn_by, said_by_indexer, said_by_client, open_by}
 use Rattle.node_run.proofs.Telling.{stands_own}
-use Rattle.node_run.proofs.Names.{named_name, named_with, with_with, named_stands, named_set}
+use Rattle.node_run.proofs.Names.{with_with, named_set}
 use Rattle.node_run.proofs.Moving.{indexer_moves, client_moves, loaded_moves}
 use Rattle.node_run.proofs.Zips.{zip_length, zip_weaker, zip_set, zip_at, zip_right, map_set, map_at, others_apart, zip_step, new_apart, idle_apart, idle_all_apart, same_apart, other_of}
 

@@ -1,9 +1,9 @@
 -- A line of a node over a sound index tells no foreign key.
-use Rattle.std.proofs.Common.{◌≡◌, ℕ, suc, ◌≤◌, ◌<◌, ◌+◌, Bool, true, false, List, [], ◌∷◌, ◌++◌, length, refl, sym, ap, ◌∙◌, subst, arith}
+use Rattle.std.proofs.Common.{◌≡◌, ℕ, ◌≤◌, ◌<◌, Bool, true, false, List, [], ◌∷◌, ◌++◌, length, refl, sym, ap, subst, arith}
 use Rattle.std.proofs.lemmas.Bool.{eqb-true}
 use Rattle.std.proofs.lemmas.List.{length-append}
 use Rattle.std.specs.List.{AllByRecursion, AllZip}
-use Rattle.std.specs.Prelude.{Option, Some, None, Result, Ok, Err, ⊤, if◌then◌else◌, ◌==◌, ◌||◌, is_some, slice_get, remove, nat_le, bytes_eq}
+use Rattle.std.specs.Prelude.{Option, Some, None, Result, Ok, Err, ⊤, if◌then◌else◌, ◌==◌, ◌||◌, is_some, slice_get, bytes_eq}
 use Rattle.std.proofs.lemmas.Slice.Eq.{bytes_eq-Decides}
 use Rattle.meta_journal.specs.Places.{split_key}
 use Rattle.meta_journal.specs.declared.entry.Act.{Act}
@@ -17,7 +17,7 @@ use Rattle.source_checkpoint.specs.declared.ledger.Checkpoint.{Checkpoint}
 use Rattle.source_log.specs.Log.{Log}
 use Rattle.index_world.specs.Calls.{Fate, Call, Fault, store_fault, is_foreign, is_full, Trouble, faulted, no_memory, Unmade, refused, troubled, Unread, not_read, Gives, gives, Made, made, exists, failed, Making, risen, may_fail, entry_lands, file_lands, late_lands, without_late, land_at, all_landed, begun, with_file, tried, made_behind, made_at, create_at_end, taken_in, or_short, unless_short, asked_clock, asking, and_then, and_then_by, taken_unless, got_at, get_at_end, settle_made, settle_with, settled, fence_of, entry_of, may_append, last_made, last_unless, last_create, troubled_by, as_unmade, adopted_made, first_unless, transact, appended, looked, settled_and_copied, asked_and_looked, asked, file_by, file_made, got_file, file_got, fetched, unless_empty, read_journal, load_by, loaded}
 use Rattle.index_world.specs.Calls as calls
-use Rattle.index_world.specs.Core.{Core, File, Late, late_entry, late_dead, late_file, late_key, file_at, IsNotLateIn, IsUnusedIn}
+use Rattle.index_world.specs.Core.{Core, File, Late, late_entry, late_dead, late_file, late_key, file_at, IsNotLateIn}
 use Rattle.index_world.specs.Gate.{stage_act}
 use Rattle.index_world.specs.SplitFile.{split_file}
 use Rattle.index_world.specs.Standing.{IsCalled}
@@ -34,8 +34,8 @@ use Rattle.root_search.specs.Requests.{word_asked}
 use Rattle.root_search.specs.Steps.{Request, no_request, opened, planned, Plan, Client, SearchStep, plan_by, fetch_by, next_step, step_request, step_client}
 use Rattle.root_search.specs.Steps as searching
 use Rattle.node_run.specs.Node.{Node, Line, At, Assign, StepIndexer, RestartIndexer, RestartClient, RestartNode, Open, StepClient, Outcome}
-use Rattle.node_run.specs.Telling.{IsOfStore, IsNotForeign, IndexerMayTell, SearchMayTell, MayTell, LineMayTell}
-use Rattle.node_run.specs.Turns.{Luck, Turned, indexer_or, indexer_at, indexing_luck, searching_luck, said_by_indexer, said_by_client, assign_at, indexer_turn_by, client_turn_by, client_named, open_by, restart_by, full_turn, quiet, or_quiet, turn_by, Turn}
+use Rattle.node_run.specs.Telling.{IsOfStore, IsNotForeign, IndexerMayTell, SearchMayTell, LineMayTell}
+use Rattle.node_run.specs.Turns.{Luck, Turned, indexer_or, indexer_at, indexing_luck, searching_luck, said_by_indexer, said_by_client, assign_at, indexer_turn_by, client_turn_by, client_named, open_by, restart_by, full_turn, or_quiet, turn_by, Turn}
 use Rattle.node_run.proofs.Moving.{landed_kept}
 
 -- ---- late entries lie at most at the end of the history

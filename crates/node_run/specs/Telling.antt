@@ -1,5 +1,5 @@
 -- Which faults a node over a sound index tells: no key is foreign to it, and only an indexer's entry meets a full journal.
-use Rattle.std.specs.Prelude.{ℕ, Option, Some, None}
+use Rattle.std.specs.Prelude.{Option, Some, None}
 use Rattle.index_world.specs.Calls.{Fault, store_fault, is_foreign, is_full}
 use Rattle.indexing_run.specs.Outcomes.{IndexerOutcome}
 use Rattle.indexing_run.specs.Outcomes as indexing

@@ -175,8 +175,7 @@ module _ (at : ℕ) (text line : List ℕ) (before count : ℕ) (piece more line
 
 last_line : (at : ℕ) (text line : List ℕ) (taken : ℕ) → IsUnderWay at text line taken [] → taken ≤ max_input → at < taken → Comes next.Last at text line taken []
 last_line at text line taken u limit some =
-    let e : text ≡ line = u.is ∙ append-nil line in
-    (
+    let e : text ≡ line = u.is ∙ append-nil line in (
       (ap raw_lines e ∙ raw-last line u.unbroken (omega (arith, u.place, some)), (u.short, omega (arith, u.place, limit, ap length e)), omega (arith, u.place, ap length e), omega (arith, u.place, ap length e)),
       refl,
     )

@@ -183,7 +183,13 @@ fn drive<Rt: Threads + Sync, S: ObjectStore, L: SourceLog, R: Source, W: Sink>(
     match World::load(alloc, store, ScriptClock::at(0)) {
         Ok(world) => drive_world(rt, alloc, world, logs, input, output),
         Err(Unopened { error, store }) => {
-            ended(alloc, store, Logs::Unread(logs), &End::NotOpened(error), output)
+            ended(
+                alloc,
+                store,
+                Logs::Unread(logs),
+                &End::NotOpened(error),
+                output,
+            )
         }
     }
 }

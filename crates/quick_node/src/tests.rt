@@ -181,7 +181,14 @@ fn restarts_and_a_request_that_is_not_built(rt: HostRuntime) -> Result<(), Fail>
         ),
     ];
     for (schedule, expected) in &table {
-        let _ = plays(&rt, alloc, index_store(alloc)?, one_log(alloc)?, schedule, expected)?;
+        let _ = plays(
+            &rt,
+            alloc,
+            index_store(alloc)?,
+            one_log(alloc)?,
+            schedule,
+            expected,
+        )?;
     }
     Ok(())
 }

@@ -1,14 +1,12 @@
 -- What is found in files is the answer over their documents.
-use Rattle.std.proofs.Common.{◌≡◌, ℕ, zero, suc, ◌+◌, ◌<◌, ◌≤◌, get_or, arith, true, false, cond, Option, Some, None, List, [], ◌∷◌, ◌++◌, map, filter, length, take, refl, sym, ap, ap₂, ◌∙◌, subst, IsPermutation, IsSorted, append_assoc}
-use Rattle.std.specs.List.{AllByRecursion}
-use Rattle.std.proofs.lemmas.List.{take-map, take_more, take_all, length-map, append-nil, get_or-map}
+use Rattle.std.proofs.Common.{◌≡◌, ℕ, true, false, cond, Option, Some, None, List, [], ◌∷◌, ◌++◌, map, filter, length, take, refl, sym, ap, ap₂, ◌∙◌, subst, IsPermutation, IsSorted, append_assoc}
+use Rattle.std.proofs.lemmas.List.{take-map, length-map, append-nil}
 use Rattle.std.proofs.lemmas.List.Kept.{IsStrictlySortedBy-filter}
 use Rattle.std.proofs.lemmas.List.Elements.{filter-append}
 use Rattle.std.proofs.lemmas.List.Sorted.{IsPermutation-trans, IsPermutation-sym}
 use Rattle.meta_store.proofs.Lists.{IsPermutation-filter}
 use Rattle.doc_value.specs.Printed.{printed_doc}
 use Rattle.index_world.specs.Config.{logs_schema}
-use Rattle.index_world.specs.SplitFile.{split_file, IsPlaced}
 use Rattle.index_world.specs.Words.{matches}
 use Rattle.index_world.specs.declared.placed.Placed.{Placed}
 use Rattle.root_search.specs.Finding.{place_order, all_of, has_word}

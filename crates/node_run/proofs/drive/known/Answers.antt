@@ -1,6 +1,5 @@
-use Rattle.std.proofs.Common.{◌≡◌, ◌∷◌, [], ◌++◌, List, ℕ, ap, sym, subst, ◌∙◌, false, length, None, refl, arith}
+use Rattle.std.proofs.Common.{◌∷◌, [], ◌++◌, List, ℕ, ap, sym, subst, ◌∙◌, false, None, refl, arith}
 use Rattle.std.specs.List.{AllZip}
-use Rattle.source_log.specs.Log.{Log}
 use Rattle.index_world.specs.Core.{Core}
 use Rattle.root_search.specs.Searching.{SearcherStands}
 use Rattle.root_search.specs.Steps.{Client}

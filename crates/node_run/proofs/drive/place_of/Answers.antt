@@ -1,6 +1,6 @@
-use Rattle.std.proofs.Common.{◌≡◌, ◌+◌, true, false, arith, sym, ◌∙◌, subst, add-one, refl}
+use Rattle.std.proofs.Common.{arith, sym, ◌∙◌, subst, add-one}
 use Rattle.node_run.specs.Named.{NotAmongFirst}
-use Rattle.node_run.proofs.Names.{none_before, one_more_not, found_at, none_at_all, true_false}
+use Rattle.node_run.proofs.Names.{one_more_not, found_at, none_at_all, true_false}
 use Rattle.node_run.proofs.drive.place_of.Goals as goal
 
 pub returns-then-is_same-clause-some : goal.returns-then-is_same-clause-some

@@ -1,12 +1,10 @@
-use Rattle.std.proofs.Common.{◌≡◌, sym, subst, ap, get_or, add-one, arith}
+use Rattle.std.proofs.Common.{sym, subst, ap, get_or, add-one, arith}
 use Rattle.std.specs.Prelude.{slice_set}
 use Rattle.node_run.specs.Each.{ChangedUpTo}
 use Rattle.node_run.specs.Restarting.{Dropped}
-use Rattle.indexing_run.specs.Standing.{IndexerStands}
 use Rattle.root_search.specs.Searching.{SearcherStands}
 use Rattle.root_search.specs.Steps.{without_request}
-use Rattle.node_run.specs.Turns.{made_idle}
-use Rattle.node_run.proofs.Zips.{none_changed, one_changed, all_changed, zip_map, same_map}
+use Rattle.node_run.proofs.Zips.{none_changed, one_changed, all_changed, zip_map}
 use Rattle.node_run.proofs.drive.restart_clients.Goals as goal
 
 pub loop-i-init : goal.loop-i-init

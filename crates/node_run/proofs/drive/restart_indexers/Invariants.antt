@@ -1,4 +1,3 @@
-use Rattle.std.proofs.Common.{◌≡◌, ◌≤◌, length}
 use Rattle.node_run.specs.Each.{ChangedUpTo}
 use Rattle.node_run.specs.Restarting.{Restarted}
 use Rattle.node_run.proofs.drive.restart_indexers.Given as goal

@@ -1,5 +1,4 @@
-use Rattle.std.proofs.Common.{◌≡◌, arith, ap, ◌∙◌, sym, subst, refl}
-use Rattle.std.specs.Prelude.{codes, ◌++◌, ◌∷◌, Option, Some, None, IfSome, IfNone}
+use Rattle.std.specs.Prelude.{codes, ◌++◌}
 use Rattle.node_run.proofs.Bad.{handed_on}
 use Rattle.node_run.proofs.Begins.{assign_only}
 use Rattle.node_run.proofs.Splitting.{has_names, number_is, names_are, rest_at_none, rest_at_some}

@@ -1,5 +1,4 @@
-use Rattle.std.proofs.Common.{List, []}
-use Rattle.std.specs.Prelude.{codes, ◌++◌, Option, Some, None}
+use Rattle.std.specs.Prelude.{codes, ◌++◌}
 use Rattle.node_run.proofs.Bad.{handed_on}
 use Rattle.node_run.proofs.Begins.{client_only}
 use Rattle.node_run.proofs.Splitting.{client_is, first_in}

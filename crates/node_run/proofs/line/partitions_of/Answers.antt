@@ -1,4 +1,4 @@
-use Rattle.std.proofs.Common.{◌≡◌, true, false, arith, ap, ◌∙◌, sym, subst, refl, length, List, ℕ, [], ◌∷◌, ◌++◌}
+use Rattle.std.proofs.Common.{◌≡◌, true, false, arith, ap, ◌∙◌, sym, subst, refl, List, ℕ, [], ◌∷◌, ◌++◌}
 use Rattle.node_run.proofs.Bad.{handed_on}
 use Rattle.node_run.proofs.Spelling.{words_in}
 use Rattle.node_run.proofs.Splitting.{ReadNames, too_many, one_word, next_word, first_in, rest_at_none, rest_at_some, not_named, twice, found_again, one_more, last_name}

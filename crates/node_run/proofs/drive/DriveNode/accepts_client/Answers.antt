@@ -1,4 +1,4 @@
-use Rattle.std.proofs.Common.{◌≡◌, ◌∙◌, ap, sym, subst, refl, true, false, length, arith, List}
+use Rattle.std.proofs.Common.{subst, length, arith, List}
 use Rattle.std.specs.Prelude.{nat_lt}
 use Rattle.node_run.specs.Standing.{is_known}
 use Rattle.root_search.specs.Searching.{SearcherStands}

@@ -1,17 +1,8 @@
-use Rattle.std.proofs.Common.{◌≡◌, ◌∙◌, ap, sym, subst, refl, arith, true, false, List, map}
-use Rattle.std.specs.List.{AllZip}
+use Rattle.std.proofs.Common.{refl, arith}
 use Rattle.std.specs.Prelude.{Some}
-use Rattle.indexing_run.specs.Standing.{IndexerStands}
-use Rattle.root_search.specs.Searching.{SearcherStands}
-use Rattle.root_search.specs.Steps.{Client, without_request, opened, no_request}
-use Rattle.root_search.specs.declared.searcher.Searcher.{Searcher}
-use Rattle.node_run.specs.Named.{NamedAt, IsUnknown}
 use Rattle.node_run.specs.Node as said
-use Rattle.node_run.specs.Standing.{NodeStands, PartsStand}
-use Rattle.node_run.specs.Turns.{calm, Luck, with_indexer, indexer_at, made_idle, client_named, with_client, keep_client, with_dropped, quiet, indexer_turn_by, client_turn_by, open_by, said_by_indexer, said_by_client}
-use Rattle.node_run.proofs.Names.{named_name, named_below, named_stands, named_set, named_dropped, unknown_dropped, known_one, kept_by_request}
-use Rattle.node_run.proofs.Zips.{zip_at}
-use Rattle.node_run.proofs.Parts.{most_done, most_short, idle_parts, stepped_parts, client_parts, known_parts, searched_parts, stopped_parts, searched_name, indexer_turns, client_turns, said_some, busy_turn, does_ok, does_err}
+use Rattle.node_run.specs.Turns.{calm}
+use Rattle.node_run.proofs.Parts.{most_done}
 use Rattle.node_run.proofs.Parts.{clock_parts, stands_along, clocked}
 use Rattle.node_run.proofs.drive.DriveNode.at_line.Goals as goal
 use Rattle.node_run.proofs.drive.DriveNode.at_line.Goals.{then-moment-lt-MOMENT_END, else-moment-lt-MOMENT_END}

@@ -1,4 +1,4 @@
-use Rattle.std.proofs.Common.{◌≡◌, ◌∙◌, ap, sym, subst, refl, true, false, length}
+use Rattle.std.proofs.Common.{◌∙◌, ap, sym, refl, true, false}
 use Rattle.index_world.proofs.Numbers.{revision_is}
 use Rattle.node_run.specs.Node as said
 use Rattle.node_run.specs.Turns.{calm, turned, restarted, restart_by, restart_given}

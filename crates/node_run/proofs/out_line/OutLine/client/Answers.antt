@@ -1,4 +1,4 @@
-use Rattle.std.proofs.Common.{sym, ap, ◌∙◌, ◌++◌, ◌∷◌}
+use Rattle.std.proofs.Common.{ap, ◌∙◌, ◌++◌, ◌∷◌}
 use Rattle.node_run.proofs.Answered.{replied, not_replied, ok_along}
 use Rattle.node_run.specs.Lines.{search_text}
 use Rattle.node_run.proofs.out_line.OutLine.client.Goals as goal

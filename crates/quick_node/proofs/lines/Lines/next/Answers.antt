@@ -13,21 +13,21 @@ pieces-preserved g c =
     let takes = c.in_ok-take.ensures.takes in
     let more = more_place c.in_ok-take.field-0 c.args.self.now.taken c.fill.new.self.taken takes.0 (held c.fill.new.self) c.fill.new.self.line.items c.take.new.self.line.items c.in-More.is taken (takes.3 short) in
     record {
-  reaches = λ more told.
-      let r = c.pieces.invariant.reaches more told in
-      let f = c.in-Ok-true.ensures.reads r.0 r.1 in
-      let u = filled _ _ _ _ _ _ _ _ (ap (λ v. v.items) c.in-Ok-true.ensures.line) c.in-Ok-true.ensures.taken f.2.0 r.2 in (
-        f.0,
-        f.1,
-        subst (λ v. Reached v c.args.self.now.taken (held c.args.self.now ++ more) c.take.new.self.line.items c.take.new.self.taken (held c.take.new.self ++ f.0)) c.in-More.is
-            (reached c.args.self.now.taken (held c.args.self.now ++ more) f.0 c.fill.new.self c.take.new.self u c.in_ok-take.field-0
-            c.in_ok-take.ensures.kept c.in_ok-take.ensures.takes c.fill.new.self.limit c.take.new.self.limit c.take.new.self.order),
-      );
-  counted = omega (arith, c.pieces.invariant.counted, c.in-Ok-true.ensures.cause.later);
-  ahead = omega (arith, c.pieces.invariant.ahead, c.in-Ok-true.ensures.taken, c.in_ok-take.ensures.takes.2);
-  place = takes.2 ∙ more.0;
-  short = more.1;
-}
+      reaches = λ more told.
+          let r = c.pieces.invariant.reaches more told in
+          let f = c.in-Ok-true.ensures.reads r.0 r.1 in
+          let u = filled _ _ _ _ _ _ _ _ (ap (λ v. v.items) c.in-Ok-true.ensures.line) c.in-Ok-true.ensures.taken f.2.0 r.2 in (
+            f.0,
+            f.1,
+            subst (λ v. Reached v c.args.self.now.taken (held c.args.self.now ++ more) c.take.new.self.line.items c.take.new.self.taken (held c.take.new.self ++ f.0)) c.in-More.is
+                (reached c.args.self.now.taken (held c.args.self.now ++ more) f.0 c.fill.new.self c.take.new.self u c.in_ok-take.field-0
+                c.in_ok-take.ensures.kept c.in_ok-take.ensures.takes c.fill.new.self.limit c.take.new.self.limit c.take.new.self.order),
+          );
+      counted = omega (arith, c.pieces.invariant.counted, c.in-Ok-true.ensures.cause.later);
+      ahead = omega (arith, c.pieces.invariant.ahead, c.in-Ok-true.ensures.taken, c.in_ok-take.ensures.takes.2);
+      place = takes.2 ∙ more.0;
+      short = more.1;
+    }
 
 pub returns-in-Whole-clause-comes : goal.returns-in-Whole-clause-comes
 returns-in-Whole-clause-comes g c more told =
