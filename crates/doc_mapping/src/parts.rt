@@ -22,3 +22,11 @@ pub fn put(parts: &mut Parts, number: usize, values: Values) -> Result<(), Alloc
     parts.insert(place, DocField { number, values })?;
     Ok(())
 }
+
+/// The number behind the last part's, at which the next key's field stands where a record has each field.
+pub fn next_number(parts: &Parts) -> usize {
+    match parts.last() {
+        Some(part) => part.number.saturating_add(1),
+        None => 0,
+    }
+}

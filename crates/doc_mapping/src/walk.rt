@@ -10,7 +10,7 @@ ghost use Rattle.doc_mapping.specs.Held.{values_at};
 
 use crate::documents::fitting_values;
 use crate::faults::{formats_at, is_object, number_of, value_fault};
-use crate::parts::{Parts, put};
+use crate::parts::{Parts, next_number, put};
 use crate::reject::Reject;
 use doc_value::Text;
 use index_config::{IndexConfig, Mode};
@@ -102,7 +102,7 @@ fn path_fault(
     ensures gathers { IfOk result (λ fault. fault ≡ None →
         Gathers config.now.schema.fields path.now (view value.now) parts.old.items parts.new.items) }
 {
-    if let Some(number) = number_of(&config.schema, regular, path.as_bytes()) {
+    if let Some(number) = number_of(&config.schema, regular, next_number(parts), path.as_bytes()) {
         return field_fault(alloc, config, number, path, value, parts);
     }
     if !lies_above_fields(alloc, config, regular, path)? {
@@ -200,7 +200,7 @@ fn lies_above_fields(
 {
     let mut start = Text::from_str(alloc, path)?;
     start.push('.')?;
-    Ok(is_object(config.schema.fields.as_slice(), start.as_slice()))
+    Ok(is_object(&config.schema.fields, regular, start.as_slice()))
 }
 
 /// A dot in a key is none between names.
