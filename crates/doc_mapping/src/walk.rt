@@ -198,8 +198,7 @@ fn lies_above_fields(
     requires { IsTrue regular → AreRegular config.now.schema.fields }
     ensures { IfOk result (λ above. above ≡ spec.is_object config.now.schema.fields (path.now ++ 46 ∷ [])) }
 {
-    let mut start = Text::from_str(alloc, path)?;
-    start.push('.')?;
+    let start = joined(alloc, path, "")?;
     Ok(is_object(&config.schema.fields, regular, start.as_slice()))
 }
 
@@ -214,10 +213,20 @@ fn has_dot(key: &str) -> bool
 fn under(alloc: Global, prefix: &str, key: &str) -> Result<Text, AllocError>
     ensures { IfOk result (λ path. path ≡ spec.under prefix.now key.now) }
 {
-    let mut path = Text::from_str(alloc, prefix)?;
-    if path.len() > 0 {
-        path.push('.')?;
+    if prefix.is_empty() {
+        return Text::from_str(alloc, key);
     }
-    path.extend(key)?;
-    Ok(path)
+    joined(alloc, prefix, key)
+}
+
+/// Two names with a dot between them.
+fn joined(alloc: Global, front: &str, back: &str) -> Result<Text, AllocError>
+    ensures { IfOk result (λ path. path ≡ front.now ++ 46 ∷ back.now) }
+{
+    let room = front.len().saturating_add(back.len()).saturating_add(1);
+    let mut held = String::with_capacity(alloc, room)?;
+    held.push_str(front)?;
+    held.push('.')?;
+    held.push_str(back)?;
+    Ok(Text::from_string(held))
 }
