@@ -6,6 +6,8 @@ use Rattle.std.specs.Result.{IfOk}
 use Rattle.std.specs.List.{AllByRecursion}
 use Rattle.std.specs.List.Sorted.{IsStrictlySortedBy}
 use Rattle.std.specs.Map.{keys_of}
+use Rattle.std.specs.Str.{bytes_eq}
+use Rattle.std.proofs.lemmas.Slice.Eq.{bytes_eq-Decides}
 use Rattle.std.proofs.lemmas.Option.{slice_get_within}
 use Rattle.serde_json.specs.View.{members_view}
 use Rattle.serde_json.specs.declared.value.Value.{Value as Json}
@@ -459,3 +461,10 @@ module _ (config : IndexConfig) (prefix : List ℕ) (ms : Members) (levels : ℕ
         here.2.1,
         step config.schema.fields prefix ms old bytes d rest doc new here.2 here.3 dots (λ plain. gathers plain (none_from fault none)),
       )
+
+-- the field at a guess has the path
+pub guessed : (fields : List Field) (n : ℕ) (g : Field) (own path : List ℕ) (b : Bool) → PathsRise fields → slice_get fields n ≡ Some g → own ≡ g.path → b ≡ bytes_eq own path
+    → b ≡ true → Some n ≡ number_of fields path
+guessed fields n g own path b rise a e t h =
+    let same : own ≡ path = (bytes_eq-Decides own path).0 (sym t ∙ h) in
+    found fields n g path rise a (ap (slice_cmp nat_cmp path) (sym e ∙ same) ∙ own_order path)

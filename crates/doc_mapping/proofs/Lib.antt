@@ -8,3 +8,4 @@ pub mod Walked
 pub mod Recorded
 pub mod Numbering
 pub mod Gathering
+pub mod Starting

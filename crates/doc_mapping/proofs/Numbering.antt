@@ -37,7 +37,7 @@ weaker : (parts : List DocField) (least lower : ℕ) → lower ≤ least → Ris
 weaker [] least lower l h = tt
 weaker (p ∷ ps) least lower l h = (omega (arith, h.0), h.1, h.2)
 
-number_cases : (a b : ℕ) → (a ≡ b) ⊎ ((a < b) ⊎ (b < a))
+pub number_cases : (a b : ℕ) → (a ≡ b) ⊎ ((a < b) ⊎ (b < a))
 number_cases a b = elim (cases_Bool (a == b)) [
   | inl equal ↦ inl (grind (arith, nat_tests))
   | inr other ↦ elim (cases_Bool (nat_lt a b)) [ inl less ↦ inr (inl (grind (arith, nat_tests))) | inr more ↦ inr (inr (grind (arith, nat_tests))) ]

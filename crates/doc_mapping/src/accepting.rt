@@ -79,7 +79,8 @@ fn accept_value(
     if !is_within(value, MAX_LEVELS) {
         return Err(Reject::TooDeep);
     }
-    let mut parts = Parts::new(alloc);
+    let room = map.len().min(config.schema.fields.len());
+    let mut parts = Parts::with_capacity(alloc, room)?;
     if let Some(refusal) = members_fault(alloc, config, regular, "", map, MAX_LEVELS, &mut parts)? {
         return Err(refusal);
     }

@@ -1,4 +1,4 @@
-ghost use Rattle.std.specs.Prelude.{◌≡◌, ◌++◌, None, IfOk, OnOk, option_map};
+ghost use Rattle.std.specs.Prelude.{◌≡◌, ◌++◌, ◌∷◌, [], None, IfOk, OnOk, option_map};
 ghost use Rattle.serde_json.specs.Find.{as_null, as_str, as_array};
 ghost use Rattle.serde_json.specs.View.{view, items_view};
 ghost use Rattle.doc_value.specs.Printed.{names_of};
@@ -106,7 +106,7 @@ fn fitting_date(
     ensures { IfOk result (Fits Kind.Datetime formats (view value.now)) }
 {
     match fitting_second(formats, value) {
-        Some(second) => Ok(Some(Values::one(alloc, DocValue::Datetime(second))?)),
+        Some(second) => Ok(Some(one_value(alloc, DocValue::Datetime(second))?)),
         None => Ok(None),
     }
 }
@@ -131,6 +131,15 @@ fn fitting_second(formats: Formats, value: &Value) -> Option<i64>
     }
 }
 
+/// One value, in a list with room for no other.
+fn one_value(alloc: Global, value: DocValue) -> Result<Values, AllocError>
+    ensures { IfOk result (λ values. values ≡ value ∷ []) }
+{
+    let mut held = Vec::with_capacity(alloc, 1)?;
+    held.push(value)?;
+    Ok(Values::from_vec(held))
+}
+
 /// The values of a field of this kind.
 fn values_of(alloc: Global, kind: Kind, value: &Value) -> Result<Values, AllocError>
     ensures { IfOk result (λ values. values ≡ spec.values_of kind (view value.now)) }
@@ -138,19 +147,19 @@ fn values_of(alloc: Global, kind: Kind, value: &Value) -> Result<Values, AllocEr
     match kind {
         Kind::Text => text_values(alloc, value),
         Kind::I64 => match value.as_i64() {
-            Some(number) => Values::one(alloc, DocValue::I64(number)),
+            Some(number) => one_value(alloc, DocValue::I64(number)),
             None => Ok(Values::vacant(alloc)),
         },
         Kind::U64 => match value.as_u64() {
-            Some(number) => Values::one(alloc, DocValue::U64(number)),
+            Some(number) => one_value(alloc, DocValue::U64(number)),
             None => Ok(Values::vacant(alloc)),
         },
         Kind::Bool => match value.as_bool() {
-            Some(truth) => Values::one(alloc, DocValue::Bool(truth)),
+            Some(truth) => one_value(alloc, DocValue::Bool(truth)),
             None => Ok(Values::vacant(alloc)),
         },
         Kind::Datetime => match second_of(value) {
-            Some(second) => Values::one(alloc, DocValue::Datetime(second)),
+            Some(second) => one_value(alloc, DocValue::Datetime(second)),
             None => Ok(Values::vacant(alloc)),
         },
         Kind::TextList => list_values(alloc, value),
@@ -161,7 +170,7 @@ fn text_values(alloc: Global, value: &Value) -> Result<Values, AllocError>
     ensures { IfOk result (λ values. values ≡ spec.text_values (as_str (view value.now))) }
 {
     match value.as_str() {
-        Some(text) => Values::one(alloc, DocValue::Text(Text::from_str(alloc, text)?)),
+        Some(text) => one_value(alloc, DocValue::Text(Text::from_str(alloc, text)?)),
         None => Ok(Values::vacant(alloc)),
     }
 }

@@ -123,7 +123,17 @@ pub fn formats_at(formats: &FieldFormats, number: usize) -> Formats
 }
 
 /// Whether some field lies in the object whose path and dot these bytes are.
-pub fn is_object(fields: &[Field], start: &[u8]) -> bool
+pub fn is_object(fields: &Fields, regular: bool, start: &[u8]) -> bool
+    requires { IsTrue regular → AreRegular fields.now }
+    ensures { result ≡ spec.is_object fields.now start.now }
+{
+    if regular {
+        return is_object_by_halves(fields, start);
+    }
+    is_object_one_by_one(fields.as_slice(), start)
+}
+
+fn is_object_one_by_one(fields: &[Field], start: &[u8]) -> bool
     ensures { result ≡ spec.is_object fields.now start.now }
 {
     for field in fields {
@@ -132,6 +142,27 @@ pub fn is_object(fields: &[Field], start: &[u8]) -> bool
         }
     }
     false
+}
+
+/// The same where the paths rise: if some path begins so, the first one does that doesn't come before.
+fn is_object_by_halves(fields: &Fields, start: &[u8]) -> bool
+    requires { PathsRise fields.now }
+    ensures { result ≡ spec.is_object fields.now start.now }
+{
+    let mut low = 0;
+    let mut high = fields.len();
+    while low < high {
+        let middle = low + (high - low) / 2;
+        if is_before(fields.at(middle).path.as_slice(), start) {
+            low = middle + 1;
+        } else {
+            high = middle;
+        }
+    }
+    if low >= fields.len() {
+        return false;
+    }
+    fields.at(low).path.as_slice().starts_with(start)
 }
 
 /// Whether one path comes before another in byte order.
@@ -178,15 +209,27 @@ pub fn are_regular(fields: &Fields) -> bool
     paths_rise(fields) && begin_plain(fields)
 }
 
-/// The number of the field with this path, found in logarithmic time where the fields are regular.
-pub fn number_of(schema: &Schema, regular: bool, path: &[u8]) -> Option<usize>
+/// The number of the field with this path: where the fields are regular the guess, if it is right, or else found in
+/// logarithmic time.
+pub fn number_of(schema: &Schema, regular: bool, guess: usize, path: &[u8]) -> Option<usize>
     requires { IsTrue regular → AreRegular schema.now.fields }
     ensures { result ≡ words.number_of schema.now.fields path.now }
 {
     if regular {
+        if is_at(&schema.fields, guess, path) {
+            return Some(guess);
+        }
         return schema.number_of(path);
     }
     first_number_of(schema.fields.as_slice(), path)
+}
+
+/// Whether the field of this number has this path.
+fn is_at(fields: &Fields, number: usize, path: &[u8]) -> bool
+    requires { PathsRise fields.now }
+    ensures { IsTrue result → Some number ≡ words.number_of fields.now path.now }
+{
+    number < fields.len() && fields.at(number).path.as_slice() == path
 }
 
 /// The number of the first field with this path, looked for one by one.

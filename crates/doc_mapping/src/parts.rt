@@ -1,4 +1,4 @@
-ghost use Rattle.std.specs.Prelude.{◌≡◌, [], OnOk};
+ghost use Rattle.std.specs.Prelude.{◌≡◌, ◌≤◌, [], OnOk, vec_len, insert};
 ghost use Rattle.doc_mapping.specs.Held.{values_at};
 ghost use Rattle.doc_mapping.specs.Walk.{RiseFrom, Enters};
 
@@ -19,6 +19,26 @@ pub fn put(parts: &mut Parts, number: usize, values: Values) -> Result<(), Alloc
     while place > 0 && parts[place - 1].number > number {
         place -= 1;
     }
-    parts.insert(place, DocField { number, values })?;
+    enter(parts, place, DocField { number, values })
+}
+
+/// Puts a part at a place, which is mostly the end.
+fn enter(parts: &mut Parts, place: usize, part: DocField) -> Result<(), AllocError>
+    requires { place ≤ vec_len parts.old }
+    ensures { OnOk result (parts.new.items ≡ insert parts.old.items place part) }
+{
+    if place == parts.len() {
+        parts.push(part)?;
+        return Ok(());
+    }
+    parts.insert(place, part)?;
     Ok(())
+}
+
+/// The number behind the last part's, at which the next key's field stands where a record has each field.
+pub fn next_number(parts: &Parts) -> usize {
+    match parts.last() {
+        Some(part) => part.number.saturating_add(1),
+        None => 0,
+    }
 }

@@ -10,7 +10,7 @@ ghost use Rattle.doc_mapping.specs.Held.{values_at};
 
 use crate::documents::fitting_values;
 use crate::faults::{formats_at, is_object, number_of, value_fault};
-use crate::parts::{Parts, put};
+use crate::parts::{Parts, next_number, put};
 use crate::reject::Reject;
 use doc_value::Text;
 use index_config::{IndexConfig, Mode};
@@ -102,7 +102,7 @@ fn path_fault(
     ensures gathers { IfOk result (λ fault. fault ≡ None →
         Gathers config.now.schema.fields path.now (view value.now) parts.old.items parts.new.items) }
 {
-    if let Some(number) = number_of(&config.schema, regular, path.as_bytes()) {
+    if let Some(number) = number_of(&config.schema, regular, next_number(parts), path.as_bytes()) {
         return field_fault(alloc, config, number, path, value, parts);
     }
     if !lies_above_fields(alloc, config, regular, path)? {
@@ -198,9 +198,8 @@ fn lies_above_fields(
     requires { IsTrue regular → AreRegular config.now.schema.fields }
     ensures { IfOk result (λ above. above ≡ spec.is_object config.now.schema.fields (path.now ++ 46 ∷ [])) }
 {
-    let mut start = Text::from_str(alloc, path)?;
-    start.push('.')?;
-    Ok(is_object(config.schema.fields.as_slice(), start.as_slice()))
+    let start = joined(alloc, path, "")?;
+    Ok(is_object(&config.schema.fields, regular, start.as_slice()))
 }
 
 /// A dot in a key is none between names.
@@ -214,10 +213,20 @@ fn has_dot(key: &str) -> bool
 fn under(alloc: Global, prefix: &str, key: &str) -> Result<Text, AllocError>
     ensures { IfOk result (λ path. path ≡ spec.under prefix.now key.now) }
 {
-    let mut path = Text::from_str(alloc, prefix)?;
-    if path.len() > 0 {
-        path.push('.')?;
+    if prefix.is_empty() {
+        return Text::from_str(alloc, key);
     }
-    path.extend(key)?;
-    Ok(path)
+    joined(alloc, prefix, key)
+}
+
+/// Two names with a dot between them.
+fn joined(alloc: Global, front: &str, back: &str) -> Result<Text, AllocError>
+    ensures { IfOk result (λ path. path ≡ front.now ++ 46 ∷ back.now) }
+{
+    let room = front.len().saturating_add(back.len()).saturating_add(1);
+    let mut held = String::with_capacity(alloc, room)?;
+    held.push_str(front)?;
+    held.push('.')?;
+    held.push_str(back)?;
+    Ok(Text::from_string(held))
 }

@@ -9,6 +9,6 @@ pub doc_by-requires : goal.doc_by-requires
 doc_by-requires c = λ is.
     let ms = members_view c.in-Some.map.now.entries in
     whole_gathered c.args.config.now.schema.fields ms c.members_fault.new.parts.items (c.requires.rising is)
-    (subst (λ old. GatherAll c.args.config.now.schema.fields [] ms old c.members_fault.new.parts.items) c.new-parts.ensures.items
+    (subst (λ old. GatherAll c.args.config.now.schema.fields [] ms old c.members_fault.new.parts.items) c.in_ok-parts.ensures.items
     (c.in_ok-refusal.ensures.gathers c.in_default-2.is))
     ∙ ap (doc_from 0 c.args.config.now.schema.fields) (sym (object_of (view c.args.value.now) ms c.in-Some.ensures))
