@@ -213,8 +213,10 @@ impl Rows {
         &self.list[index]
     }
 
+    /// The rows in the order in which they were staged, in which their numbers rise.
     pub fn as_slice(&self) -> &[Row]
-        ensures { result.now ≡ self.now.list }
+        ensures rows { result.now ≡ self.now.list }
+        ensures order { RowsRise result.now }
     {
         self.list.as_slice()
     }
