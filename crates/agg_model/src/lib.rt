@@ -1,0 +1,10 @@
+//! Aggregations over documents: what is asked, partials that are collected and merged, and what is answered.
+#![tactic(auto)]
+
+pub mod agg_error;
+pub mod answer;
+pub mod request;
+
+pub use agg_error::AggError;
+pub use answer::{AggAnswer, AggResult, Bucket, Buckets, Key, NamedResult};
+pub use request::{Agg, AggRequest, DocValues, NamedAgg};
