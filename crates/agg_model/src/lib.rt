@@ -3,7 +3,10 @@
 
 pub mod agg_error;
 pub mod answer;
+pub mod counts;
+pub mod partial;
 pub mod request;
+pub mod tallies;
 
 pub use agg_error::AggError;
 pub use answer::{AggAnswer, AggResult, Bucket, Buckets, Key, NamedResult};
