@@ -45,11 +45,16 @@ pub record StandsFor (request : List NamedAgg) (partial : Partial) (documents : 
   pub many : partial.documents ≡ length documents
   pub parts : AllZip (λ named counts. CountsFor named.agg counts documents) request partial.parts.items
 
--- an interval of at least 1 and an offset, both of less than 2^96 in size, as are those of which a request can speak
+-- an interval of at least 1 and an offset, both of less than 2^96 in size: more than a request can name
+pub record IsScale (interval offset : ℤ) : Type 0 where
+  pub some : pos 1 ≤ℤ interval
+  pub fine : unsigned_abs interval < 2 ^ 96
+  pub near : unsigned_abs offset < 2 ^ 96
+
+-- an aggregation's numbers are small enough
 abbrev pub IsNarrow : Agg → Type 0
 IsNarrow (Terms field size) = Unit {0}
-IsNarrow (Histogram field interval offset least dated) =
-    (pos 1 ≤ℤ interval) × (unsigned_abs interval < 2 ^ 96) × (unsigned_abs offset < 2 ^ 96)
+IsNarrow (Histogram field interval offset least dated) = IsScale interval offset
 
 -- a request has at most so many aggregations
 abbrev pub most_aggregations : ℕ
@@ -107,3 +112,13 @@ HasRoom counts = (value : Value) → IfSome (tally_of counts value) (λ t. t.cou
 pub record IsVacant (counts : Counts) : Type 0 where
   pub tallies : (value : Value) → tally_of counts value ≡ None
   pub steps : (step : ℤ) → in_step counts step ≡ None
+
+-- one more document lies in a step
+pub record IsStepRaised (step : ℤ) (old new : Counts) : Type 0 where
+  pub steps : (other : ℤ) → in_step new other
+      ≡ (if int_eq step other then Some (unwrap_or (in_step old step) 0 + 1) else in_step old other)
+  pub tallies : (value : Value) → tally_of new value ≡ tally_of old value
+
+-- the step's number and its place on the scale are small
+abbrev pub IsNear : ℤ → ℤ → Type 0
+IsNear interval step = (unsigned_abs (step *ℤ interval) < 2 ^ 98) × (unsigned_abs step < 2 ^ 98)

@@ -19,7 +19,7 @@ pub struct Counts {
 }
 
 impl Counts {
-    ghost use Rattle.agg_model.specs.Partials.{IsVacant, IsRaised, AreRaised, HasRoom, tally_of};
+    ghost use Rattle.agg_model.specs.Partials.{IsVacant, IsRaised, AreRaised, IsStepRaised, HasRoom, tally_of, in_step};
 
     /// The part of no documents.
     pub fn vacant(alloc: Global) -> Counts
@@ -64,6 +64,15 @@ impl Counts {
         for value in values {
             self.raise(alloc, value, number)?;
         }
+        Ok(())
+    }
+
+    /// Counts one more document in a step.
+    pub fn raise_step(&mut self, step: i128) -> Result<(), AllocError>
+        requires { IfSome (in_step self.old step) (λ count. count < 2 ^ 62) }
+        ensures { OnOk result (IsStepRaised step self.old self.new) }
+    {
+        *self.steps.entry(step)?.or_insert(0) += 1;
         Ok(())
     }
 }

@@ -3,6 +3,7 @@
 
 pub mod agg_error;
 pub mod answer;
+mod collecting;
 pub mod counts;
 pub mod partial;
 pub mod request;
