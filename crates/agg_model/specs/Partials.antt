@@ -1,5 +1,5 @@
 -- Which documents a partial stands for, and what is known of every partial.
-use Rattle.std.specs.Prelude.{◌≡◌, ℕ, ◌+◌, ◌*◌, ◌^◌, ◌<◌, ◌≤◌, Bool, true, false, List, [], ◌∷◌, length, Option, Some, None, if◌then◌else◌, ℤ, pos, ◌*ℤ◌, ◌<ℤ◌, ◌≤ℤ◌}
+use Rattle.std.specs.Prelude.{◌≡◌, ℕ, ◌++◌, ◌+◌, ◌*◌, ◌^◌, ◌<◌, ◌≤◌, Bool, true, false, List, [], ◌∷◌, length, Option, Some, None, if◌then◌else◌, ℤ, pos, ◌*ℤ◌, ◌<ℤ◌, ◌≤ℤ◌}
 use Rattle.std.specs.HashMap as hash
 use Rattle.std.specs.BTreeMap as tree
 use Rattle.std.specs.Int.RustNames.{unsigned_abs}
@@ -122,3 +122,18 @@ pub record IsStepRaised (step : ℤ) (old new : Counts) : Type 0 where
 -- the step's number and its place on the scale are small
 abbrev pub IsNear : ℤ → ℤ → Type 0
 IsNear interval step = (unsigned_abs (step *ℤ interval) < 2 ^ 98) × (unsigned_abs step < 2 ^ 98)
+
+-- how many documents a partial counts
+abbrev pub documents_in : Partial → ℕ
+documents_in partial = partial.documents
+
+-- one more document, behind so many, was counted for an aggregation
+pub record IsCollected (documents : ℕ) (doc : List DocField) (agg : Agg) (old new : Counts) : Type 0 where
+  pub part : IsPart (documents + 1) agg new
+  pub counts : (ds : List (List DocField)) → CountsFor agg old ds → CountsFor agg new (ds ++ doc ∷ [])
+
+-- the same for each aggregation of a request
+pub record AreCollected (documents : ℕ) (doc : List DocField) (request : List NamedAgg) (old new : List Counts) : Type 0 where
+  pub parts : AllZip (λ named counts. IsPart (documents + 1) named.agg counts) request new
+  pub counts : (ds : List (List DocField)) → AllZip (λ named part. CountsFor named.agg part ds) request old
+      → AllZip (λ named part. CountsFor named.agg part (ds ++ doc ∷ [])) request new

@@ -1,11 +1,10 @@
 //! What one more document counts.
 
-ghost use Rattle.std.specs.Prelude.{◌≡◌, ◌+◌, ◌^◌, ◌<◌, ◌≤◌, ◌∷◌, [], ◌++◌, List, IfSome, OnOk};
+ghost use Rattle.std.specs.Prelude.{◌≡◌, ◌+◌, ◌^◌, ◌<◌, ◌≤◌, IfSome, OnOk};
 ghost use Rattle.std.specs.Int.RustNames.{unsigned_abs};
 ghost use Rattle.std.specs.Option.{option_map};
-ghost use Rattle.doc_value.specs.declared.doc.DocField.{DocField};
 ghost use Rattle.agg_model.specs.Counting.{values_in, whole, step_of, first_whole};
-ghost use Rattle.agg_model.specs.Partials.{IsNarrow, IsNear, IsScale, IsPart, CountsFor};
+ghost use Rattle.agg_model.specs.Partials.{IsNarrow, IsNear, IsScale, IsPart, IsCollected};
 
 use crate::counts::Counts;
 use crate::request::{Agg, DocValues};
@@ -58,8 +57,8 @@ fn first_step(doc: &DocValues, field: u32, interval: i128, offset: i128) -> Opti
     Some(step_of(interval, offset, whole))
 }
 
-// Counts one more document, behind so many, for one aggregation.
-fn collect_part(
+/// Counts one more document, behind so many, for one aggregation.
+pub fn collect_part(
     alloc: Global,
     agg: &Agg,
     counts: &mut Counts,
@@ -69,9 +68,7 @@ fn collect_part(
     requires narrow { IsNarrow agg.now }
     requires few { documents + 1 < 2 ^ 62 }
     requires part { IsPart documents agg.now counts.old }
-    ensures part { OnOk result (IsPart (documents + 1) agg.now counts.new) }
-    ensures counts { OnOk result ((ds : List (List DocField)) → CountsFor agg.now counts.old ds
-        → CountsFor agg.now counts.new (ds ++ doc.now ∷ [])) }
+    ensures { OnOk result (IsCollected documents doc.now agg.now counts.old counts.new) }
 {
     match agg {
         Agg::Terms { field, .. } => {

@@ -11,4 +11,5 @@ pub mod tallies;
 
 pub use agg_error::AggError;
 pub use answer::{AggAnswer, AggResult, Bucket, Buckets, Key, NamedResult};
+pub use partial::{Partial, collect_one, vacant_partial};
 pub use request::{Agg, AggRequest, DocValues, NamedAgg};
