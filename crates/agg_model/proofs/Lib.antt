@@ -1,3 +1,4 @@
+pub mod Merging
 pub mod Parts
 pub mod Steps
 pub mod Values
