@@ -4,6 +4,7 @@ use Rattle.std.proofs.lemmas.List.{get_or_default}
 use Rattle.std.proofs.lemmas.Bool.{cases_eq}
 use Rattle.std.specs.List.{AllZip, All}
 use Rattle.doc_value.specs.declared.doc.DocField.{DocField}
+use Rattle.agg_model.specs.Counting.{slot_of}
 use Rattle.agg_model.specs.Partials.{IsVacant, IsPart, CountsFor, IsCollected, AreCollected}
 use Rattle.agg_model.specs.declared.counts.Counts.{Counts}
 use Rattle.agg_model.specs.declared.request.Agg.{Agg}
@@ -71,7 +72,7 @@ vacant_part agg counts h = record {
   }
 
 vacant_counts : (agg : Agg) (counts : Counts) → IsVacant counts → CountsFor agg counts []
-vacant_counts (Terms field size) counts h = λ value. rw (h.tallies value) refl
+vacant_counts (Terms field size) counts h = λ value. rw (h.tallies (slot_of value)) refl
 vacant_counts (Histogram field interval offset least dated) counts h = λ step. rw (h.steps step) refl
 
 -- parts in which nothing is counted

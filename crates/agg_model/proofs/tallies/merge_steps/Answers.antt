@@ -1,7 +1,7 @@
 use Rattle.std.proofs.Common.{◌≡◌, ◌+◌, ℕ, ℤ, ◌∙◌, refl, rules, Option, unwrap_or}
 use Rattle.std.proofs.lemmas.Bool.Decides.{Decides-int_eq}
 use Rattle.std.proofs.lemmas.Int.{to_z-of_z}
-use Rattle.std.proofs.lemmas.Map.Keys.{IsDistinct-tail}
+use Rattle.std.proofs.lemmas.Map.Keys.{IsDistinct-tail, IsDistinct-from_sorted}
 use Rattle.std.specs.BTreeMap.{get}
 use Rattle.std.specs.Cmp.{int_eq_equiv}
 use Rattle.std.specs.Int.RustNames.{FitsSigned}
@@ -30,3 +30,8 @@ loop-step-preserved c =
         ∙ (rw c.in-Some.ensures.steps at (c.loop-step.invariant.0 q))
     , IsDistinct-tail int_eq c.in-Some.step.now (keys_of c.next.new.self) apart
     )
+
+pub loop-step-init : goal.loop-step-init
+loop-step-init c =
+    let all = c.into_iter-step-iterator.ensures.into_iter_gives ∙ c.iter-step-items.ensures.rest in
+    rw all (λ q. refl, IsDistinct-from_sorted int_cmp (keys_of c.args.other.now.entries) c.iter-step-items.ensures.ordered)
