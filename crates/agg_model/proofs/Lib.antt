@@ -1,4 +1,4 @@
-pub mod Merging
+pub mod Entries
 pub mod Parts
 pub mod Steps
 pub mod Values

@@ -3,7 +3,7 @@ use Rattle.std.specs.Prelude.{◌≡◌, ℕ, ◌++◌, ◌+◌, ◌*◌, ◌^�
 use Rattle.std.specs.HashMap as hash
 use Rattle.std.specs.BTreeMap as tree
 use Rattle.std.specs.Int.RustNames.{unsigned_abs}
-use Rattle.std.specs.List.{AllZip, All, list_any}
+use Rattle.std.specs.List.{AllZip, All, list_any, slice_index_or}
 use Rattle.std.specs.Option.{IfSome, option_map_or, unwrap_or}
 use Rattle.std.specs.Ordering.{int_eq, int_cmp}
 use Rattle.doc_value.specs.declared.doc.Value.{Value}
@@ -142,3 +142,8 @@ pub record AreCollected (documents : ℕ) (doc : List DocField) (request : List 
 pub record IsMerged (mine yours new : Counts) : Type 0 where
   pub tallies : (slot : Slot) → tally_at new slot ≡ merged (tally_at mine slot) (tally_at yours slot)
   pub steps : (step : ℤ) → in_step new step ≡ step_sum (in_step mine step) (in_step yours step)
+
+-- the same for each part of two partials of one request
+pub record AreMerged (mine yours new : List Counts) : Type 0 where
+  pub long : length new ≡ length mine
+  pub each : (k : ℕ) (d : Counts) → k < length mine → IsMerged (slice_index_or mine k d) (slice_index_or yours k d) (slice_index_or new k d)

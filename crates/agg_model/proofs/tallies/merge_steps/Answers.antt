@@ -7,7 +7,7 @@ use Rattle.std.specs.Cmp.{int_eq_equiv}
 use Rattle.std.specs.Int.RustNames.{FitsSigned}
 use Rattle.std.specs.Map.{keys_of}
 use Rattle.std.specs.Ordering.{int_eq, int_cmp}
-use Rattle.agg_model.proofs.Merging.{added, none_left, fits_step}
+use Rattle.agg_model.proofs.Entries.{added, none_left, fits_step}
 use Rattle.agg_model.proofs.tallies.merge_steps.Goals as goal
 use mir.Syntax.{w128}
 

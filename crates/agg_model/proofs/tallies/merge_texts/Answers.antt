@@ -7,7 +7,7 @@ use Rattle.std.specs.Map.{lookup, keys_of}
 use Rattle.std.specs.Str.{bytes_eq}
 use Rattle.std.specs.String.{string_bytes, string_eq, string_eq_equiv}
 use Rattle.agg_model.specs.Tallies.{joined, merged}
-use Rattle.agg_model.proofs.Merging.{added, none_left, fits_with}
+use Rattle.agg_model.proofs.Entries.{added, none_left, fits_with}
 use Rattle.agg_model.proofs.tallies.merge_texts.Goals as goal
 
 pub add_text-requires : goal.add_text-requires

@@ -8,7 +8,7 @@ use Rattle.std.specs.Int.RustNames.{FitsSigned}
 use Rattle.std.specs.Map.{keys_of}
 use Rattle.std.specs.Ordering.{int_eq}
 use Rattle.agg_model.specs.Tallies.{joined}
-use Rattle.agg_model.proofs.Merging.{added, none_left, fits_with}
+use Rattle.agg_model.proofs.Entries.{added, none_left, fits_with}
 use Rattle.agg_model.proofs.tallies.merge_wholes.Goals as goal
 use mir.Syntax.{w128}
 
