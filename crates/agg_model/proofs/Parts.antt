@@ -7,7 +7,7 @@ use Rattle.std.proofs.lemmas.Option.{IfSome_then}
 use Rattle.std.specs.List.{AllZip, All}
 use Rattle.std.specs.Option.{IfSome}
 use Rattle.doc_value.specs.declared.doc.DocField.{DocField}
-use Rattle.agg_model.specs.Counting.{slot_of, has_value, lies_in}
+use Rattle.agg_model.specs.Counting.{Slot, slot_of, has_value, lies_in}
 use Rattle.agg_model.specs.Partials.{IsVacant, IsPart, IsTally, IsStep, HasRoom, CountsFor, IsCollected, AreCollected, IsMerged, AreMerged, tally_at, tallied, in_step, interval_of}
 use Rattle.agg_model.specs.Tallies.{merged, step_sum}
 use Rattle.agg_model.specs.declared.counts.Counts.{Counts}
@@ -121,11 +121,11 @@ merged_more mine yours now i own other part within inside is at before step = re
     there k d ne l = rw (get_or-set_other now i k part d ne) (before.done k d (omega arith))
 
 -- tallies of two parts are one of both
-merged_tally : (n m : ℕ) (a b : Option Tally) → IfSome a (IsTally n) → IfSome b (IsTally m) → IfSome (merged a b) (IsTally (n + m))
-merged_tally n m None None h k = tt
-merged_tally n m (Some a) None h k = record { some = h.some; most = omega arith; last = omega arith }
-merged_tally n m None (Some b) h k = record { some = k.some; most = omega arith; last = omega arith }
-merged_tally n m (Some a) (Some b) h k = record { some = omega arith; most = omega arith; last = omega arith }
+merged_tally : (n m : ℕ) (slot : Slot) (a b : Option Tally) → IfSome a (IsTally n slot) → IfSome b (IsTally m slot) → IfSome (merged a b) (IsTally (n + m) slot)
+merged_tally n m slot None None h k = tt
+merged_tally n m slot (Some a) None h k = record { fits = h.fits; some = h.some; most = omega arith; last = omega arith }
+merged_tally n m slot None (Some b) h k = record { fits = k.fits; some = k.some; most = omega arith; last = omega arith }
+merged_tally n m slot (Some a) (Some b) h k = record { fits = h.fits; some = omega arith; most = omega arith; last = omega arith }
 
 merged_count : (a b : Option Tally) → tallied (merged a b) ≡ tallied a + tallied b
 merged_count None None = refl
@@ -147,7 +147,7 @@ summed_count (Some a) (Some b) = refl
 
 merged_part : (n m : ℕ) (agg : Agg) (mine yours new : Counts) → IsPart n agg mine → IsPart m agg yours → IsMerged mine yours new → IsPart (n + m) agg new
 merged_part n m agg mine yours new h k e = record {
-    tallies = λ slot. rw (e.tallies slot) (merged_tally n m (tally_at mine slot) (tally_at yours slot) (h.tallies slot) (k.tallies slot));
+    tallies = λ slot. rw (e.tallies slot) (merged_tally n m slot (tally_at mine slot) (tally_at yours slot) (h.tallies slot) (k.tallies slot));
     steps = λ step. rw (e.steps step) (summed_step n m (interval_of agg) step (in_step mine step) (in_step yours step) (h.steps step) (k.steps step));
   }
 

@@ -63,7 +63,7 @@ step_counts field interval offset least dated step old new ds doc e raised befor
 -- the part after one more document lay in a step
 pub step_part : (number : ℕ) (agg : Agg) (step : ℤ) (old new : Counts) → IsNear (interval_of agg) step → IsStepRaised step old new → IsPart number agg old → IsPart (number + 1) agg new
 step_part number agg step old new near raised before = record {
-    tallies = λ slot. rw (raised.tallies slot) (IfSome_then (tally_at old slot) (before.tallies slot) (λ t h. record { some = h.some; most = omega arith; last = omega arith }));
+    tallies = λ slot. rw (raised.tallies slot) (IfSome_then (tally_at old slot) (before.tallies slot) (λ t h. record { fits = h.fits; some = h.some; most = omega arith; last = omega arith }));
     steps = λ other. rw (raised.steps other) (at other (int_eq step other) refl (before.steps other) (before.steps step));
   }
   where

@@ -1,4 +1,6 @@
+pub mod Answers
 pub mod Checking
 pub mod Counting
+pub mod Listed
 pub mod Partials
 pub mod Tallies

@@ -2,13 +2,14 @@
 use Rattle.std.specs.Prelude.{◌≡◌, ℕ, ◌++◌, ◌+◌, ◌*◌, ◌^◌, ◌<◌, ◌≤◌, Bool, true, false, List, [], ◌∷◌, length, Option, Some, None, if◌then◌else◌, ℤ, pos, ◌*ℤ◌, ◌<ℤ◌, ◌≤ℤ◌}
 use Rattle.std.specs.HashMap as hash
 use Rattle.std.specs.BTreeMap as tree
-use Rattle.std.specs.Int.RustNames.{unsigned_abs}
+use Rattle.std.specs.Int.RustNames.{unsigned_abs, FitsSigned}
+use Rattle.std.specs.Int.{w64}
 use Rattle.std.specs.List.{AllZip, All, list_any, slice_index_or}
 use Rattle.std.specs.Option.{IfSome, option_map_or, unwrap_or}
 use Rattle.std.specs.Ordering.{int_eq, int_cmp}
 use Rattle.doc_value.specs.declared.doc.Value.{Value}
 use Rattle.doc_value.specs.declared.doc.DocField.{DocField}
-use Rattle.agg_model.specs.Counting.{Slot, text, signed, unsigned, truth, datetime, slot_of, same_slot, value_count, step_count}
+use Rattle.agg_model.specs.Counting.{Slot, text, signed, unsigned, truth, datetime, slot_of, same_slot, truth_number, value_count, step_count}
 use Rattle.agg_model.specs.Tallies.{raised, merged, HaveRoom, step_sum}
 use Rattle.agg_model.specs.declared.request.Agg.{Agg}
 use Rattle.agg_model.specs.declared.request.Agg.TheVariants.{Terms, Histogram}
@@ -16,6 +17,14 @@ use Rattle.agg_model.specs.declared.request.NamedAgg.{NamedAgg}
 use Rattle.agg_model.specs.declared.tallies.Tally.{Tally}
 use Rattle.agg_model.specs.declared.counts.Counts.{Counts}
 use Rattle.agg_model.specs.declared.partial.Partial.{Partial}
+
+-- some value is counted at the slot
+abbrev pub IsSlotOfValue : Slot → Type 0
+IsSlotOfValue (text t) = Unit {0}
+IsSlotOfValue (signed z) = FitsSigned w64 z
+IsSlotOfValue (unsigned z) = (n : ℕ) × (z ≡ pos n) × (n < 2 ^ 64)
+IsSlotOfValue (truth z) = (b : Bool) × (z ≡ truth_number b)
+IsSlotOfValue (datetime z) = FitsSigned w64 z
 
 -- the tally at a slot
 abbrev pub tally_at : Counts → Slot → Option Tally
@@ -65,7 +74,8 @@ pub record IsAsked (request : List NamedAgg) : Type 0 where
   pub narrow : All (λ named. IsNarrow named.agg) request
 
 -- a tally of some of the first so many documents
-pub record IsTally (number : ℕ) (tally : Tally) : Type 0 where
+pub record IsTally (number : ℕ) (slot : Slot) (tally : Tally) : Type 0 where
+  pub fits : IsSlotOfValue slot
   pub some : 0 < tally.count
   pub most : tally.count ≤ number
   pub last : tally.last ≤ number
@@ -83,7 +93,7 @@ interval_of (Histogram field interval offset least dated) = interval
 
 -- a part of so many documents
 pub record IsPart (number : ℕ) (agg : Agg) (counts : Counts) : Type 0 where
-  pub tallies : (slot : Slot) → IfSome (tally_at counts slot) (IsTally number)
+  pub tallies : (slot : Slot) → IfSome (tally_at counts slot) (IsTally number slot)
   pub steps : (step : ℤ) → IfSome (in_step counts step) (IsStep number (interval_of agg) step)
 
 -- a partial of the request
@@ -96,12 +106,14 @@ pub record IsRaised (number : ℕ) (value : Value) (old new : Counts) : Type 0 w
   pub tallies : (slot : Slot) → tally_at new slot
       ≡ (if same_slot (slot_of value) slot then Some (raised number (tally_at old (slot_of value))) else tally_at old slot)
   pub steps : new.steps ≡ old.steps
+  pub slot : IsSlotOfValue (slot_of value)
 
 -- a document of this number has counted for each of the values once
 pub record AreRaised (number : ℕ) (values : List Value) (old new : Counts) : Type 0 where
   pub tallies : (slot : Slot) → tally_at new slot
       ≡ (if list_any (λ v. same_slot (slot_of v) slot) values then Some (raised number (tally_at old slot)) else tally_at old slot)
   pub steps : new.steps ≡ old.steps
+  pub slots : (slot : Slot) → list_any (λ v. same_slot (slot_of v) slot) values ≡ true → IsSlotOfValue slot
 
 -- each count leaves room for as much again
 pub record HasRoom (counts : Counts) : Type 0 where

@@ -8,6 +8,7 @@ mod collecting;
 pub mod counts;
 pub mod merging;
 pub mod partial;
+pub mod ranking;
 pub mod request;
 pub mod tallies;
 
