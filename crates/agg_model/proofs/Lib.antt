@@ -1,4 +1,5 @@
 pub mod Entries
+pub mod Listing
 pub mod Order
 pub mod Parts
 pub mod Steps

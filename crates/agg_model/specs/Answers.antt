@@ -43,3 +43,36 @@ pub record IsTermsAnswer (field size : ℕ) (documents : List (List DocField)) (
   pub counted : AreCounted field documents all
   pub order : IsSorted rank all
   pub cut : IsCut size all answer
+
+-- the step lies between two steps in which some document lies
+pub record IsBetween (count : ℤ → ℕ) (step : ℤ) : Type 0 where
+  pub low : ℤ
+  pub high : ℤ
+  pub some_low : 0 < count low
+  pub some_high : 0 < count high
+  pub from : low ≤ℤ step
+  pub to : step ≤ℤ high
+
+-- with least count 0 every step from the least to the greatest is answered, else those with at least that count
+abbrev pub IsShown : ℕ → (ℤ → ℕ) → ℤ → Type 0
+IsShown least count step = MatchBool (least == 0) (IsBetween count step) (least ≤ count step)
+
+abbrev pub step_bucket : ℤ → ℤ → (ℤ → ℕ) → ℤ → Bucket
+step_bucket interval offset count step = record { key = keys.Step (step *ℤ interval +ℤ offset); count = count step }
+
+abbrev pub AreBuckets : List Bucket → AggAnswer → Type 0
+AreBuckets buckets (answers.Histogram given) = given ≡ buckets
+AreBuckets buckets (answers.Terms given others) = ⊥
+
+-- the steps that are shown, by rising numbers, each with its count
+pub record IsHistogramAnswer (interval offset : ℤ) (least : ℕ) (count : ℤ → ℕ) (answer : AggAnswer) : Type 0 where
+  pub steps : List ℤ
+  pub rise : IsStrictlySortedBy int_cmp steps
+  pub shown : (step : ℤ) → Contains steps step ↔ IsShown least count step
+  pub given : AreBuckets (map (step_bucket interval offset count) steps) answer
+
+-- the answer of an aggregation over a list of documents
+abbrev pub IsAnswerOf : Agg → List (List DocField) → AggAnswer → Type 0
+IsAnswerOf (Terms field size) documents answer = IsTermsAnswer field size documents answer
+IsAnswerOf (Histogram field interval offset least dated) documents answer =
+    IsHistogramAnswer interval offset least (step_count field interval offset documents) answer

@@ -1,0 +1,69 @@
+//! The steps of a histogram that are answered.
+
+ghost use Rattle.std.specs.Prelude.{◌≡◌, ℕ, ◌++◌, ◌+◌, ◌<◌, ◌≤◌, ◌^◌, ℤ, pos, ◌+ℤ◌, ◌*ℤ◌, List, map, filter, nat_le, IfOk, OnOk, IfSome, length, unwrap_or};
+ghost use Rattle.std.specs.BTreeMap.{get};
+ghost use Rattle.std.specs.Ordering.{int_cmp};
+ghost use Rattle.std.specs.Int.RustNames.{unsigned_abs};
+ghost use Rattle.agg_model.specs.Answers.{step_bucket};
+ghost use Rattle.agg_model.specs.Partials.{IsScale};
+ghost use Rattle.agg_model.specs.Spans.{span, steps_with};
+
+use crate::answer::{Bucket, Buckets, Key};
+use crate::tallies::StepCounts;
+use std::alloc::{AllocError, Global};
+
+// The bucket of a step.
+fn step_bucket(interval: i128, offset: i128, step: i128, count: u64) -> Bucket
+    requires scale { IsScale interval offset }
+    requires near { unsigned_abs (step *ℤ interval) < 2 ^ 98 }
+    ensures { result ≡ step_bucket interval offset (λ _. count) step }
+{
+    Bucket {
+        key: Key::Step(step * interval + offset),
+        count,
+    }
+}
+
+/// So many steps from the first on, also those in which no document lies.
+pub fn every_step(
+    alloc: Global,
+    interval: i128,
+    offset: i128,
+    steps: &StepCounts,
+    first: i128,
+    many: u64,
+) -> Result<Buckets, AllocError>
+    requires scale { IsScale interval offset }
+    requires close { unsigned_abs first < 2 ^ 98 }
+    requires near { (k : ℕ) → k < many → unsigned_abs ((first +ℤ pos k) *ℤ interval) < 2 ^ 98 }
+    ensures { IfOk result (λ buckets. buckets ≡ map (step_bucket interval offset (λ s. unwrap_or (get int_cmp steps.now s) 0)) (span first many)) }
+{
+    let mut buckets = Buckets::vacant(alloc);
+    for i in 0..many {
+        let step = first + i128::from(i);
+        let count = steps.get(&step).copied().unwrap_or(0);
+        buckets.push(step_bucket(interval, offset, step, count))?;
+    }
+    Ok(buckets)
+}
+
+/// The steps with at least this count, which is not 0.
+pub fn frequent_steps(
+    alloc: Global,
+    interval: i128,
+    offset: i128,
+    steps: &StepCounts,
+    least: u32,
+) -> Result<Buckets, AllocError>
+    requires scale { IsScale interval offset }
+    requires near { (z : ℤ) → IfSome (get int_cmp steps.now z) (λ _. unsigned_abs (z *ℤ interval) < 2 ^ 98) }
+    ensures { IfOk result (λ buckets. buckets ≡ map (λ e. step_bucket interval offset (λ _. e.1) e.0) (filter (λ e. nat_le least e.1) steps.now.entries)) }
+{
+    let mut buckets = Buckets::vacant(alloc);
+    for (step, count) in steps.iter() {
+        if *count >= u64::from(least) {
+            buckets.push(step_bucket(interval, offset, *step, *count))?;
+        }
+    }
+    Ok(buckets)
+}
