@@ -2,5 +2,6 @@ pub mod Entries
 pub mod Listing
 pub mod Order
 pub mod Parts
+pub mod Shown
 pub mod Steps
 pub mod Values

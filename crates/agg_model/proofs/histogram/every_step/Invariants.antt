@@ -6,4 +6,4 @@ use Rattle.agg_model.specs.Spans.{span}
 use Rattle.agg_model.proofs.histogram.every_step.Given as goal
 
 abbrev pub invariant-loop-i : goal.invariant-loop-i
-invariant-loop-i l = l.buckets ≡ map (step_bucket l.interval l.offset (λ s. unwrap_or (get int_cmp l.steps s) 0)) (span l.first l.i)
+invariant-loop-i l = l.buckets ≡ map (step_bucket l.scale.interval l.scale.offset (λ s. unwrap_or (get int_cmp l.steps s) 0)) (span l.first l.i)

@@ -4,5 +4,5 @@ use Rattle.agg_model.proofs.histogram.frequent_steps.Given as goal
 
 abbrev pub invariant-loop-step : goal.invariant-loop-step
 invariant-loop-step l =
-    l.buckets ++ map (λ e. step_bucket l.interval l.offset (λ _. e.1) e.0) (filter (λ e. nat_le l.least e.1) l.step-iterator)
-    ≡ map (λ e. step_bucket l.interval l.offset (λ _. e.1) e.0) (filter (λ e. nat_le l.least e.1) l.steps.entries)
+    l.buckets ++ map (λ e. step_bucket l.scale.interval l.scale.offset (λ _. e.1) e.0) (filter (λ e. nat_le l.least e.1) l.step-iterator)
+    ≡ map (λ e. step_bucket l.scale.interval l.scale.offset (λ _. e.1) e.0) (filter (λ e. nat_le l.least e.1) l.steps.entries)
