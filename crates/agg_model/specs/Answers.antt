@@ -1,9 +1,9 @@
 -- What aggregations answer over a list of documents.
-use Rattle.std.specs.Prelude.{◌≡◌, ℕ, ◌+◌, ◌<◌, ◌≤◌, ◌==◌, nat_lt, Bool, true, false, List, [], ◌∷◌, map, length, if◌then◌else◌, ℤ, pos, ◌+ℤ◌, ◌*ℤ◌, ◌≤ℤ◌, ◌↔◌, count_by, sum_by, take, drop, MatchBool, IsTrue, min}
+use Rattle.std.specs.Prelude.{◌≡◌, ℕ, ◌+◌, ◌<◌, ◌≤◌, ◌==◌, nat_lt, Bool, true, false, List, [], ◌∷◌, map, length, if◌then◌else◌, ℤ, pos, ◌+ℤ◌, ◌*ℤ◌, ◌≤ℤ◌, ◌<ℤ◌, ◌↔◌, count_by, sum_by, take, drop, MatchBool, IsTrue, min}
 use Rattle.std.specs.Int.RustNames.{unsigned_abs}
-use Rattle.std.specs.List.{All, AllZip, Contains}
-use Rattle.std.specs.List.Sorted.{IsSorted, IsStrictlySortedBy}
-use Rattle.std.specs.Ordering.{nat_cmp, int_cmp, int_eq, ordering_then}
+use Rattle.std.specs.List.{All, AllByRecursion, AllZip, Contains}
+use Rattle.std.specs.List.Sorted.{IsSorted}
+use Rattle.std.specs.Ordering.{nat_cmp, ordering_then}
 use Rattle.std.specs.declared.cmp.Ordering.{Ordering}
 use Rattle.doc_value.specs.Terms.{value_cmp}
 use Rattle.doc_value.specs.declared.doc.Value.{Value}
@@ -64,11 +64,20 @@ abbrev pub AreBuckets : List Bucket → AggAnswer → Type 0
 AreBuckets buckets (answers.Histogram given) = given ≡ buckets
 AreBuckets buckets (answers.Terms given others) = ⊥
 
--- the steps that are shown, by rising numbers, each with its count
+-- each number is below all behind it
+abbrev pub IsRising : List ℤ → Type 0
+IsRising [] = Unit {0}
+IsRising (x ∷ xs) = AllByRecursion (λ y. x <ℤ y) xs × IsRising xs
+
+-- the steps that are shown, by rising numbers
+pub record AreShown (least : ℕ) (count : ℤ → ℕ) (steps : List ℤ) : Type 0 where
+  pub rise : IsRising steps
+  pub shown : (step : ℤ) → Contains steps step ↔ IsShown least count step
+
+-- the steps that are shown, each with its count
 pub record IsHistogramAnswer (interval offset : ℤ) (least : ℕ) (count : ℤ → ℕ) (answer : AggAnswer) : Type 0 where
   pub steps : List ℤ
-  pub rise : IsStrictlySortedBy int_cmp steps
-  pub shown : (step : ℤ) → Contains steps step ↔ IsShown least count step
+  pub are : AreShown least count steps
   pub given : AreBuckets (map (step_bucket interval offset count) steps) answer
 
 -- the answer of an aggregation over a list of documents
@@ -76,3 +85,28 @@ abbrev pub IsAnswerOf : Agg → List (List DocField) → AggAnswer → Type 0
 IsAnswerOf (Terms field size) documents answer = IsTermsAnswer field size documents answer
 IsAnswerOf (Histogram field interval offset least dated) documents answer =
     IsHistogramAnswer interval offset least (step_count field interval offset documents) answer
+
+-- how many buckets an aggregation's answer has
+abbrev pub HasBuckets : Agg → List (List DocField) → ℕ → Type 0
+HasBuckets (Terms field size) documents many = (all : List ValueCount) × AreCounted field documents all × (many ≡ min size (length all))
+HasBuckets (Histogram field interval offset least dated) documents many =
+    (steps : List ℤ) × AreShown least (step_count field interval offset documents) steps × (many ≡ length steps)
+
+-- and all of a request together
+abbrev pub HaveBuckets : List NamedAgg → List (List DocField) → ℕ → Type 0
+HaveBuckets [] documents many = many ≡ 0
+HaveBuckets (named ∷ rest) documents many =
+    (own : ℕ) × (others : ℕ) × HasBuckets named.agg documents own × HaveBuckets rest documents others × (many ≡ own + others)
+
+-- the answers to a request stand under its names, in its order
+abbrev pub AreAnswersOf : List NamedAgg → List (List DocField) → List NamedResult → Type 0
+AreAnswersOf request documents results =
+    AllZip (λ named answered. (answered.name ≡ named.name) × IsAnswerOf named.agg documents answered.result) request results
+
+abbrev pub buckets_of : AggAnswer → ℕ
+buckets_of (answers.Terms buckets others) = length buckets
+buckets_of (answers.Histogram buckets) = length buckets
+
+-- an answer has at most so many buckets
+abbrev pub most_buckets : ℕ
+most_buckets = 65000

@@ -1,5 +1,6 @@
 -- The steps of a part that are answered.
-use Rattle.std.specs.Prelude.{ℕ, zero, suc, List, [], ◌∷◌, ◌++◌, map, filter, ℤ, pos, ◌+ℤ◌, nat_le}
+use Rattle.std.specs.Prelude.{ℕ, zero, suc, List, [], ◌∷◌, ◌++◌, map, filter, ℤ, pos, ◌+ℤ◌, ◌-ℤ◌, nat_le, ◌+◌, ◌==◌, if◌then◌else◌}
+use Rattle.std.specs.Int.RustNames.{unsigned_abs}
 
 -- so many steps from the first on
 abbrev pub span : ℤ → ℕ → List ℤ
@@ -9,3 +10,16 @@ span first (suc n) = span first n ++ (first +ℤ pos n) ∷ []
 -- the steps of the entries with at least this count
 abbrev pub steps_with : ℕ → List (ℤ × ℕ) → List ℤ
 steps_with least es = map (λ e. e.0) (filter (λ e. nat_le least e.1) es)
+
+-- the last key of entries, which begin with this one
+abbrev pub last_step : ℤ → List (ℤ × ℕ) → ℤ
+last_step step [] = step
+last_step step (e ∷ es) = last_step e.0 es
+
+-- all steps from the least to the greatest
+abbrev pub spread : List (ℤ × ℕ) → List ℤ
+spread [] = []
+spread (e ∷ es) = span e.0 (unsigned_abs (last_step e.0 es -ℤ e.0) + 1)
+
+abbrev pub steps_shown : ℕ → List (ℤ × ℕ) → List ℤ
+steps_shown least es = if least == 0 then spread es else steps_with least es
