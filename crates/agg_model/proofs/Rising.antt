@@ -1,11 +1,12 @@
 -- Which steps of rising entries are shown.
-use Rattle.std.proofs.Common.{◌≡◌, ℕ, zero, suc, ◌<◌, ◌≤◌, ◌+◌, Bool, true, false, cond, List, [], ◌∷◌, ◌++◌, map, filter, nat_le, Option, Some, None, refl, sym, ◌∙◌, ap, subst, ⊎_elim, arith, length, get_or, ℤ, pos, ◌+ℤ◌, ◌-ℤ◌, ◌≤ℤ◌, ◌<ℤ◌, unwrap_or, int_lt, eqb}
-use Rattle.std.proofs.lemmas.Bool.{false≢true, leb-true, le-leb}
+use Rattle.std.proofs.Common.{negsuc, ◌≡◌, ℕ, zero, suc, ◌<◌, ◌≤◌, ◌+◌, Bool, true, false, cond, List, [], ◌∷◌, ◌++◌, map, filter, nat_le, Option, Some, None, refl, sym, ◌∙◌, ap, subst, ⊎_elim, arith, length, get_or, ℤ, pos, ◌+ℤ◌, ◌-ℤ◌, ◌≤ℤ◌, ◌<ℤ◌, unwrap_or, int_lt, eqb}
+use Rattle.std.proofs.lemmas.Bool.{false≢true, leb-true, le-leb, eqb-true}
 use Rattle.std.proofs.lemmas.Bool.Decides.{Decides-int_eq}
 use Rattle.std.proofs.lemmas.Int.{ints}
 use Rattle.std.proofs.lemmas.List.Elements.{Contains-append_cases, Contains-append_right}
 use Rattle.std.proofs.lemmas.Map.Keys.{sorted_head, sorted_tail}
 use Rattle.std.proofs.lemmas.Option.{none-some, same_Some, MatchOption-at_some}
+use Rattle.std.specs.Bool.{MatchBool}
 use Rattle.std.specs.Int.RustNames.{unsigned_abs}
 use Rattle.std.specs.List.{AllByRecursion, Contains}
 use Rattle.std.specs.List.Sorted.{IsStrictlySortedBy}
@@ -127,3 +128,90 @@ module _ (least : ℕ) where
                   (e.1, ap (λ c. cond c (Some e.1) (lookup (int_eq s) es)) ((Decides-int_eq s e.0).1 (sym own)), sym b))
               (λ k. later (more k)) (Contains-append_cases (e.0 ∷ []) (steps_with least es) s h)
       at false b h more = later (more h)
+
+-- ---- which steps are shown
+module _ (count : ℤ → ℕ) (es : List (ℤ × ℕ)) (rise : IsRising (keys_of es)) (same : (s : ℤ) → unwrap_or (lookup (int_eq s) es) 0 ≡ count s) (some : (s : ℤ) → IfSome (lookup (int_eq s) es) (λ n. 0 < n)) where
+  found_counts : (s : ℤ) (v : ℕ) → lookup (int_eq s) es ≡ Some v → (0 < count s) × (v ≡ count s)
+  found_counts s v f =
+      let own : v ≡ count s = ap (λ o. unwrap_or o 0) (sym f) ∙ same s in
+      let low : 0 < v = MatchOption-at_some (Unit {0}) (λ n. 0 < n) v f (some s) in
+      (omega arith, own)
+
+  counts_found : (s : ℤ) → 0 < count s → (v : ℕ) × (lookup (int_eq s) es ≡ Some v)
+  counts_found s h = at (lookup (int_eq s) es) refl (same s)
+    where
+      at : (o : Option ℕ) → o ≡ lookup (int_eq s) es → unwrap_or o 0 ≡ count s → (v : ℕ) × (lookup (int_eq s) es ≡ Some v)
+      at None e k = absurd (omega arith)
+      at (Some v) e k = (v, sym e)
+
+  pub frequent_shown : (least : ℕ) → 0 < least → AreShown least count (steps_with least es)
+  frequent_shown least h = record {
+      rise = kept_rises least es rise;
+      shown = λ s. (to s, from s);
+    }
+    where
+      shown_is : (s : ℤ) → least ≤ count s → IsShown least count s
+      shown_is s l = at (eqb least 0) refl
+        where
+          at : (b : Bool) → b ≡ eqb least 0 → MatchBool b (IsBetween count s) (least ≤ count s)
+          at true e = absurd (let z : least ≡ 0 = eqb-true least 0 (sym e) in omega arith)
+          at false e = l
+      is_shown : (s : ℤ) → IsShown least count s → least ≤ count s
+      is_shown s l = at (eqb least 0) refl l
+        where
+          at : (b : Bool) → b ≡ eqb least 0 → MatchBool b (IsBetween count s) (least ≤ count s) → least ≤ count s
+          at true e k = absurd (let z : least ≡ 0 = eqb-true least 0 (sym e) in omega arith)
+          at false e k = k
+      to : (s : ℤ) → Contains (steps_with least es) s → IsShown least count s
+      to s k =
+          let f = has_kept least s es rise k in
+          let own = (found_counts s f.0 f.1).1 in
+          let low = leb-true least f.0 f.2 in
+          shown_is s (omega arith)
+      from : (s : ℤ) → IsShown least count s → Contains (steps_with least es) s
+      from s k =
+          let l = is_shown s k in
+          let f = counts_found s (omega arith) in
+          let own = (found_counts s f.0 f.1).1 in
+          kept_has least s f.0 es f.1 (le-leb least f.0 (omega arith))
+
+pub difference : (l a : ℤ) → a ≤ℤ l → pos (unsigned_abs (l -ℤ a)) ≡ (l -ℤ a)
+difference l a h = at (l -ℤ a) (omega (arith, ints))
+  where
+    at : (z : ℤ) → pos 0 ≤ℤ z → pos (unsigned_abs z) ≡ z
+    at (pos n) k = refl
+    at (negsuc n) k = absurd (omega (arith, ints))
+
+-- every step from the least to the greatest
+pub every_shown : (count : ℤ → ℕ) (es : List (ℤ × ℕ)) → IsRising (keys_of es) → ((s : ℤ) → unwrap_or (lookup (int_eq s) es) 0 ≡ count s) → ((s : ℤ) → IfSome (lookup (int_eq s) es) (λ n. 0 < n))
+    → AreShown 0 count (spread es)
+every_shown count [] rise same some = record {
+    rise = tt;
+    shown = λ s. ((λ h. absurd (omega (arith, h.1))), (λ h. absurd (let low = h.some_low in let none = same h.low in omega arith)));
+  }
+every_shown count (e ∷ es) rise same some =
+    let top : e.0 ≤ℤ last_step e.0 es = last_above e.0 es rise.0 rise.1 in
+    let last = last_found e.0 e.1 es rise in
+    record {
+      rise = span_rises e.0 (unsigned_abs (last_step e.0 es -ℤ e.0) + 1);
+      shown = λ s. ((λ h. let r = in_span e.0 (unsigned_abs (last_step e.0 es -ℤ e.0) + 1) s h in record {
+            low = e.0;
+            high = last_step e.0 es;
+            some_low = (found_counts count (e ∷ es) rise same some e.0 e.1 (ap (λ b. cond b (Some e.1) (lookup (int_eq e.0) es)) ((Decides-int_eq e.0 e.0).1 refl))).0;
+            some_high = (found_counts count (e ∷ es) rise same some (last_step e.0 es) last.0 last.1).0;
+            from = r.0;
+            to = to_last (last_step e.0 es) e.0 s top r.1;
+          }),
+          (λ h. let low = counts_found count (e ∷ es) rise same some h.low h.some_low in
+              let high = counts_found count (e ∷ es) rise same some h.high h.some_high in
+              let a = (within e.0 e.1 es h.low low.0 rise low.1).0 in
+              let b = (within e.0 e.1 es h.high high.0 rise high.1).1 in
+              let from = h.from in
+              let to = h.to in
+              span_has e.0 (unsigned_abs (last_step e.0 es -ℤ e.0) + 1) s (omega (arith, ints)) (before_end (last_step e.0 es) e.0 s top (omega (arith, ints)))));
+    }
+  where
+    to_last : (l a s : ℤ) → a ≤ℤ l → s <ℤ (a +ℤ pos (unsigned_abs (l -ℤ a) + 1)) → s ≤ℤ l
+    to_last l a s h k = let e = difference l a h in omega (arith, ints)
+    before_end : (l a s : ℤ) → a ≤ℤ l → s ≤ℤ l → s <ℤ (a +ℤ pos (unsigned_abs (l -ℤ a) + 1))
+    before_end l a s h k = let e = difference l a h in omega (arith, ints)

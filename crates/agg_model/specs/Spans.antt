@@ -1,6 +1,10 @@
 -- The steps of a part that are answered.
-use Rattle.std.specs.Prelude.{ℕ, zero, suc, List, [], ◌∷◌, ◌++◌, map, filter, ℤ, pos, ◌+ℤ◌, ◌-ℤ◌, nat_le, ◌+◌, ◌==◌, if◌then◌else◌}
+use Rattle.std.specs.Prelude.{ℕ, zero, suc, List, [], ◌∷◌, ◌++◌, map, filter, ℤ, pos, ◌+ℤ◌, ◌-ℤ◌, nat_le, ◌+◌, ◌==◌, if◌then◌else◌, min, length}
 use Rattle.std.specs.Int.RustNames.{unsigned_abs}
+use Rattle.agg_model.specs.Listed.{all_listed}
+use Rattle.agg_model.specs.declared.counts.Counts.{Counts}
+use Rattle.agg_model.specs.declared.request.Agg.{Agg}
+use Rattle.agg_model.specs.declared.request.Agg.TheVariants.{Terms, Histogram}
 
 -- so many steps from the first on
 abbrev pub span : ℤ → ℕ → List ℤ
@@ -23,3 +27,8 @@ spread (e ∷ es) = span e.0 (unsigned_abs (last_step e.0 es -ℤ e.0) + 1)
 
 abbrev pub steps_shown : ℕ → List (ℤ × ℕ) → List ℤ
 steps_shown least es = if least == 0 then spread es else steps_with least es
+
+-- how many buckets an aggregation shows of a part
+abbrev pub shown_in : Agg → Counts → ℕ
+shown_in (Terms field size) counts = min size (length (all_listed counts))
+shown_in (Histogram field interval offset least dated) counts = length (steps_shown least counts.steps.entries)

@@ -6,6 +6,7 @@ pub mod answer;
 pub mod checking;
 mod collecting;
 pub mod counts;
+pub mod finishing;
 pub mod histogram;
 pub mod merging;
 pub mod partial;
