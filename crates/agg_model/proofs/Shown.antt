@@ -35,7 +35,7 @@ span_has a (suc n) s low high =
     by_lt_z s (a +ℤ pos n) (λ below. Contains-append_left (span a n) ((a +ℤ pos n) ∷ []) s (span_has a n s low below))
         (λ above. let e : s ≡ (a +ℤ pos n) = omega (arith, ints) in rw e (Contains-push (span a n) (a +ℤ pos n)))
 
-length_span : (a : ℤ) (n : ℕ) → length (span a n) ≡ n
+pub length_span : (a : ℤ) (n : ℕ) → length (span a n) ≡ n
 length_span a zero = refl
 length_span a (suc n) = length-append (span a n) ((a +ℤ pos n) ∷ []) ∙ rw (length_span a n) (add-one n)
 

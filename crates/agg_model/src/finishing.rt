@@ -5,10 +5,10 @@ ghost use Rattle.std.specs.BTreeMap.{get};
 ghost use Rattle.std.specs.Ordering.{int_cmp};
 ghost use Rattle.std.specs.Int.RustNames.{unsigned_abs};
 ghost use Rattle.doc_value.specs.declared.doc.DocField.{DocField};
-ghost use Rattle.agg_model.specs.Answers.{IsAnswerOf, step_bucket, buckets_of, most_buckets};
+ghost use Rattle.agg_model.specs.Answers.{IsAnswerOf, IsHistogramAnswer, step_bucket, buckets_of, most_buckets};
 ghost use Rattle.agg_model.specs.Listed.{all_listed};
 ghost use Rattle.agg_model.specs.Partials.{IsNarrow, IsScale, IsPart, IsStep, CountsFor};
-ghost use Rattle.agg_model.specs.Spans.{spread, steps_with, shown_in};
+ghost use Rattle.agg_model.specs.Spans.{spread, steps_with, steps_shown, shown_in};
 
 use crate::answer::{AggAnswer, Buckets};
 use crate::counts::Counts;
@@ -57,4 +57,67 @@ fn frequent_of(steps: &StepCounts, least: u32) -> u128
         }
     }
     many
+}
+
+// Every step from the least to the greatest, of which there are at most so many that 64 bits count them.
+fn all_steps(alloc: Global, scale: &Scale, steps: &StepCounts) -> Result<Buckets, AllocError>
+    requires scale { IsScale scale.now.interval scale.now.offset }
+    requires near { (number : ℕ) × ((z : ℤ) → IfSome (get int_cmp steps.now z) (IsStep number scale.now.interval z)) }
+    requires few { length (spread steps.now.entries) ≤ most_buckets }
+    ensures { IfOk result (λ buckets. buckets ≡ map (step_bucket scale.now.interval scale.now.offset (λ s. unwrap_or (get int_cmp steps.now s) 0)) (spread steps.now.entries)) }
+{
+    match steps.first_key_value() {
+        Some((first, _)) => every_step(alloc, scale, steps, first, spread_of(steps) as u64),
+        None => Ok(Buckets::vacant(alloc)),
+    }
+}
+
+// The answer of a histogram.
+fn histogram_answer(
+    alloc: Global,
+    scale: &Scale,
+    least: u32,
+    steps: &StepCounts,
+) -> Result<AggAnswer, AllocError>
+    requires scale { IsScale scale.now.interval scale.now.offset }
+    requires near { (number : ℕ) × ((z : ℤ) → IfSome (get int_cmp steps.now z) (IsStep number scale.now.interval z)) }
+    requires few { length (steps_shown least steps.now.entries) ≤ most_buckets }
+    ensures { IfOk result (λ r. (count : ℤ → ℕ) → ((z : ℤ) → unwrap_or (get int_cmp steps.now z) 0 ≡ count z)
+        → IsHistogramAnswer scale.now.interval scale.now.offset least count r) }
+{
+    if steps.len() == 0 {
+        return Ok(AggAnswer::Histogram {
+            buckets: Buckets::vacant(alloc),
+        });
+    }
+    if least == 0 {
+        let buckets = all_steps(alloc, scale, steps)?;
+        return Ok(AggAnswer::Histogram { buckets });
+    }
+    let buckets = frequent_steps(alloc, scale, steps, least)?;
+    Ok(AggAnswer::Histogram { buckets })
+}
+
+// The answer of one aggregation.
+fn answer(alloc: Global, agg: &Agg, counts: &Counts) -> Result<AggAnswer, AllocError>
+    requires narrow { IsNarrow agg.now }
+    requires part { (number : ℕ) × IsPart number agg.now counts.now }
+    requires few { shown_in agg.now counts.now ≤ most_buckets }
+    ensures { IfOk result (λ r. (ds : List (List DocField)) → CountsFor agg.now counts.now ds → IsAnswerOf agg.now ds r) }
+{
+    match agg {
+        Agg::Terms { size, .. } => cut(alloc, *size, ranked(alloc, counts)?),
+        Agg::Histogram {
+            interval,
+            offset,
+            min_doc_count,
+            ..
+        } => {
+            let scale = Scale {
+                interval: *interval,
+                offset: *offset,
+            };
+            histogram_answer(alloc, &scale, *min_doc_count, &counts.steps)
+        }
+    }
 }

@@ -1,0 +1,36 @@
+-- The buckets of the steps that are shown.
+use Rattle.std.proofs.Common.{◌≡◌, ℕ, zero, suc, ◌<◌, ◌≤◌, ◌+◌, ◌^◌, Bool, true, false, cond, List, [], ◌∷◌, map, filter, nat_le, Option, Some, None, refl, sym, ◌∙◌, ap, arith, length, get_or, ℤ, pos, ◌+ℤ◌, ◌*ℤ◌, unwrap_or, slice_get}
+use Rattle.std.proofs.lemmas.Map.Entries.{btree_map_get_place}
+use Rattle.std.proofs.lemmas.Option.{slice_get-get_or, none-some, same_Some, MatchOption-at_some}
+use Rattle.std.specs.BTreeMap.{BTreeMap, get, IsOrdered}
+use Rattle.std.specs.Cmp.{int_cmp_total}
+use Rattle.std.specs.Int.RustNames.{unsigned_abs}
+use Rattle.std.specs.Map.{lookup, keys_of}
+use Rattle.std.specs.Option.{IfSome}
+use Rattle.std.specs.Ordering.{int_cmp, int_eq}
+use Rattle.agg_model.specs.Answers.{step_bucket}
+use Rattle.agg_model.specs.Partials.{IsStep}
+use Rattle.agg_model.specs.Spans.{last_step, steps_with}
+use Rattle.agg_model.specs.declared.answer.Bucket.{Bucket}
+use Rattle.agg_model.proofs.Rising.{rising_keys}
+
+pub map_same : (f g : ℤ → Bucket) → ((z : ℤ) → f z ≡ g z) → (xs : List ℤ) → map f xs ≡ map g xs
+map_same f g h [] = refl
+map_same f g h (x ∷ xs) = rw (h x, map_same f g h xs) refl
+
+-- what an entry counts is what is counted in its step
+pub entry_counts : (m : BTreeMap ℤ ℕ) (count : ℤ → ℕ) → IsOrdered int_cmp m → ((z : ℤ) → unwrap_or (get int_cmp m z) 0 ≡ count z)
+    → (i : ℕ) (d : ℤ × ℕ) → i < length m.entries → (get_or m.entries i d).1 ≡ count (get_or m.entries i d).0
+entry_counts m count ordered same i d l =
+    ap (λ o. unwrap_or o 0) (sym (btree_map_get_place int_cmp_total m i (get_or m.entries i d).0 (get_or m.entries i d).1 ordered (slice_get-get_or m.entries i d l))) ∙ same (get_or m.entries i d).0
+
+pub kept_buckets : (interval offset : ℤ) (least : ℕ) (count : ℤ → ℕ) (es : List (ℤ × ℕ)) → ((i : ℕ) (d : ℤ × ℕ) → i < length es → (get_or es i d).1 ≡ count (get_or es i d).0)
+    → map (λ e. step_bucket interval offset (λ _. e.1) e.0) (filter (λ e. nat_le least e.1) es) ≡ map (step_bucket interval offset count) (steps_with least es)
+kept_buckets interval offset least count [] h = refl
+kept_buckets interval offset least count (e ∷ es) h = at (nat_le least e.1) (kept_buckets interval offset least count es (λ i d l. h (suc i) d (omega arith)))
+  where
+    at : (b : Bool) → map (λ w. step_bucket interval offset (λ _. w.1) w.0) (filter (λ w. nat_le least w.1) es) ≡ map (step_bucket interval offset count) (steps_with least es)
+        → map (λ w. step_bucket interval offset (λ _. w.1) w.0) (cond b (e ∷ filter (λ w. nat_le least w.1) es) (filter (λ w. nat_le least w.1) es))
+        ≡ map (step_bucket interval offset count) (map (λ w. w.0) (cond b (e ∷ filter (λ w. nat_le least w.1) es) (filter (λ w. nat_le least w.1) es)))
+    at true k = rw (h 0 e (omega arith), k) refl
+    at false k = k
