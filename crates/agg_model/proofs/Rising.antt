@@ -43,7 +43,7 @@ above x q v (e ∷ es) h f = at (int_eq q e.0) refl f (above x q v es h.1)
     at true b f more = subst (λ (z : ℤ). x <ℤ z) (sym ((Decides-int_eq q e.0).0 (sym b))) h.0
     at false b f more = more f
 
-last_above : (x : ℤ) (es : List (ℤ × ℕ)) → AllByRecursion (λ y. x <ℤ y) (keys_of es) → IsRising (keys_of es) → x ≤ℤ last_step x es
+pub last_above : (x : ℤ) (es : List (ℤ × ℕ)) → AllByRecursion (λ y. x <ℤ y) (keys_of es) → IsRising (keys_of es) → x ≤ℤ last_step x es
 last_above x [] h r = omega (arith, ints)
 last_above x (e ∷ es) h r = let low = h.0 in let more = last_above e.0 es r.0 r.1 in omega (arith, ints)
 
@@ -65,7 +65,7 @@ within x n es q v r f = at (int_eq q x) refl f
     at false b f = (let low = above x q v es r.0 f in omega (arith, ints), behind es x r f)
 
 -- the last key is found
-last_found : (x : ℤ) (n : ℕ) (es : List (ℤ × ℕ)) → IsRising (x ∷ keys_of es) → (v : ℕ) × (lookup (int_eq (last_step x es)) ((x, n) ∷ es) ≡ Some v)
+pub last_found : (x : ℤ) (n : ℕ) (es : List (ℤ × ℕ)) → IsRising (x ∷ keys_of es) → (v : ℕ) × (lookup (int_eq (last_step x es)) ((x, n) ∷ es) ≡ Some v)
 last_found x n [] r = (n, ap (λ b. cond b (Some n) None) ((Decides-int_eq x x).1 refl))
 last_found x n (e ∷ es) r =
     let f = last_found e.0 e.1 es r.1 in

@@ -1,7 +1,7 @@
 //! What a partial answers.
 
 ghost use Rattle.std.specs.Prelude.{◌≡◌, ℕ, ◌+◌, ◌<◌, ◌≤◌, ◌^◌, ◌*◌, ℤ, List, map, length, unwrap_or, IfOk, IfSome, IfErr};
-ghost use Rattle.std.specs.BTreeMap.{get};
+ghost use Rattle.std.specs.BTreeMap.{get, IsOrdered};
 ghost use Rattle.std.specs.Ordering.{int_cmp};
 ghost use Rattle.std.specs.Int.RustNames.{unsigned_abs};
 ghost use Rattle.doc_value.specs.declared.doc.DocField.{DocField};
@@ -64,6 +64,7 @@ fn all_steps(alloc: Global, scale: &Scale, steps: &StepCounts) -> Result<Buckets
     requires scale { IsScale scale.now.interval scale.now.offset }
     requires near { (number : ℕ) × ((z : ℤ) → IfSome (get int_cmp steps.now z) (IsStep number scale.now.interval z)) }
     requires few { length (spread steps.now.entries) ≤ most_buckets }
+    requires ordered { IsOrdered int_cmp steps.now }
     ensures { IfOk result (λ buckets. buckets ≡ map (step_bucket scale.now.interval scale.now.offset (λ s. unwrap_or (get int_cmp steps.now s) 0)) (spread steps.now.entries)) }
 {
     match steps.first_key_value() {
