@@ -1,5 +1,5 @@
 -- Entries of a map that are added one after another: what was added and what is left are what is to be added.
-use Rattle.std.proofs.Common.{◌≡◌, ℕ, ◌<◌, ◌+◌, ◌^◌, Bool, true, false, cond, List, [], ◌∷◌, Option, Some, None, refl, sym, ◌∙◌, ap, subst, arith, unwrap_or}
+use Rattle.std.proofs.Common.{◌≡◌, ℕ, ◌<◌, ◌+◌, ◌^◌, Bool, true, false, cond, List, ◌∷◌, Option, Some, None, refl, sym, ◌∙◌, ap, arith}
 use Rattle.std.proofs.lemmas.Bool.{false≢true}
 use Rattle.std.proofs.lemmas.Map.{lookup-none}
 use Rattle.std.proofs.lemmas.Map.Entries.{none_past_head}
@@ -31,9 +31,11 @@ module _ {K Q X : Type 0} (join : Option X → X → X) (key : K → Q) (test : 
           let gone : lookup (test q) rest ≡ None = ap (λ p. lookup (test p) rest) e ∙ none in
           let put : new q ≡ Some (join (now q) v) = step q ∙ ap (λ b. cond b (Some (join (now (key k)) v)) (now q)) ((decides q).1 (sym e)) ∙ ap (λ p. Some (join (now p) v)) (sym e) in
           rw (gone, put) refl
+
       other : (b : Bool) → b ≡ at q → test q k ≡ false → new q ≡ now q
       other true e f = absurd (false≢true (sym f ∙ (same q k).1 (sym ((decides q).0 (sym e)))))
       other false e f = step q ∙ ap (λ b. cond b (Some (join (now (key k)) v)) (now q)) (sym e)
+
       by_case : (b : Bool) → b ≡ test q k → both join (new q) (lookup (test q) rest) ≡ both join (now q) (cond b (Some v) (lookup (test q) rest))
       by_case true e = here ((same q k).0 (sym e))
       by_case false e = ap (λ o. both join o (lookup (test q) rest)) (other (at q) refl (sym e))

@@ -7,4 +7,5 @@ pub mod Rising
 pub mod Shown
 pub mod Spreads
 pub mod Steps
+pub mod Totals
 pub mod Values

@@ -1,5 +1,5 @@
 -- The values of a part, listed, are those that some document has.
-use Rattle.std.proofs.Common.{◌≡◌, ℕ, suc, ◌<◌, ◌+◌, Bool, true, false, cond, List, [], ◌∷◌, ◌++◌, length, get_or, Option, Some, None, refl, sym, ◌∙◌, ap, subst, arith, ℤ, pos, negsuc, String, is_some, nat_lt, map, zero-add}
+use Rattle.std.proofs.Common.{◌≡◌, ℕ, suc, ◌<◌, ◌+◌, Bool, true, false, cond, List, [], ◌∷◌, ◌++◌, length, get_or, Option, Some, None, refl, sym, ◌∙◌, ap, arith, ℤ, pos, negsuc, String, is_some, nat_lt, zero-add}
 use Rattle.std.proofs.lemmas.Bool.{false≢true, lt-ltb}
 use Rattle.std.proofs.lemmas.Bool.Decides.{Decides-int_eq}
 use Rattle.std.proofs.lemmas.List.Elements.{All-map, All-append}
@@ -12,7 +12,7 @@ use Rattle.std.proofs.lemmas.Slice.Eq.{bytes_eq-Decides}
 use Rattle.std.specs.Bool.{one_answer}
 use Rattle.std.specs.Cmp.{IsEquivalence, int_eq_equiv}
 use Rattle.std.specs.HashMap.{HashMap, get, IsUnique}
-use Rattle.std.specs.List.{All, AllByRecursion, IsDistinct, count_by, sum_by}
+use Rattle.std.specs.List.{All, AllByRecursion, IsDistinct, count_by}
 use Rattle.std.specs.List.Sorted.{IsPermutation}
 use Rattle.std.specs.Map.{lookup, keys_of}
 use Rattle.std.specs.Option.{IfSome}
@@ -21,7 +21,6 @@ use Rattle.std.specs.Str.{bytes_eq}
 use Rattle.std.specs.String.{string_bytes, string_eq, string_eq_equiv}
 use Rattle.std.specs.declared.alloc.Global.{Global}
 use Rattle.doc_value.specs.declared.doc.DocField.{DocField}
-use Rattle.doc_value.specs.declared.doc.Value.{Value}
 use Rattle.agg_model.specs.Answers.{AreCounted}
 use Rattle.agg_model.specs.Counting.{Slot, text, signed, unsigned, truth, datetime, slot_of, same_slot, truth_number, value_count}
 use Rattle.agg_model.specs.Listed.{value_at, counted, listed, text_slot, all_listed, AreUnique}
@@ -95,7 +94,7 @@ module _ {K S : Type 0} (eq : K → K → Bool) (laws : IsEquivalence eq) (slot 
   fits_in : ((k : K) → IfSome (get eq m k) (λ _. IsSlotOfValue (slot k))) → (i : ℕ) (d : K × Tally) → i < length m.entries → IsSlotOfValue (slot (get_or m.entries i d).0)
   fits_in h i d l =
       MatchOption-at_some (Unit {0}) (λ _. IsSlotOfValue (slot (get_or m.entries i d).0)) (get_or m.entries i d).1
-          (hash_map_get_place laws m i (get_or m.entries i d).0 (get_or m.entries i d).1 unique (slice_get-get_or m.entries i d l)) (h (get_or m.entries i d).0)
+      (hash_map_get_place laws m i (get_or m.entries i d).0 (get_or m.entries i d).1 unique (slice_get-get_or m.entries i d l)) (h (get_or m.entries i d).0)
 
   -- a slot of these keys is listed once where a key finds it
   here : (s : Slot) → ((k l : K) → slot k ≡ slot l → eq k l ≡ true) → ((k : K) → IfSome (get eq m k) (λ _. IsSlotOfValue (slot k)))
@@ -123,18 +122,22 @@ listed_once counts unique fits s =
   where
     texts_at : (k : String Global) → IfSome (get string_eq counts.texts k) (λ _. IsSlotOfValue (text_slot k))
     texts_at k = fits (text_slot k)
+
     text_inside : (k l : String Global) → text_slot k ≡ text_slot l → string_eq k l ≡ true
     text_inside k l e = (bytes_eq-Decides (string_bytes k) (string_bytes l)).1 cc
+
     text_turn : (t : List ℕ) (k : String Global) → bytes_eq (string_bytes k) t ≡ bytes_eq t (string_bytes k)
     text_turn t k = one_answer (bytes_eq (string_bytes k) t) (bytes_eq t (string_bytes k)) (bytes_eq-Decides (string_bytes k) t) ((λ e. sym ((bytes_eq-Decides t (string_bytes k)).0 e)), (λ e. (bytes_eq-Decides t (string_bytes k)).1 (sym e)))
+
     whole_inside : (slot : ℤ → Slot) → ((a b : ℤ) → slot a ≡ slot b → a ≡ b) → (k l : ℤ) → slot k ≡ slot l → int_eq k l ≡ true
     whole_inside slot one k l e = (Decides-int_eq k l).1 (one k l e)
+
     at : (s : Slot) → count_by (λ r. same_slot (slot_of r.value) s) (listed text_slot counts.texts.entries) + count_by (λ r. same_slot (slot_of r.value) s) (listed signed counts.signed.entries)
         + count_by (λ r. same_slot (slot_of r.value) s) (listed unsigned counts.unsigned.entries) + count_by (λ r. same_slot (slot_of r.value) s) (listed truth counts.truths.entries)
         + count_by (λ r. same_slot (slot_of r.value) s) (listed datetime counts.datetimes.entries) ≡ cond (is_some (tally_at counts s)) 1 0
     at (text t) =
         let h = here string_eq string_eq_equiv text_slot counts.texts unique.texts (text t) text_inside texts_at
-            ∙ ap (λ o. cond (is_some o) 1 0) (lookup_same (λ k. bytes_eq (string_bytes k) t) (λ k. bytes_eq t (string_bytes k)) (text_turn t) counts.texts.entries) in
+        ∙ ap (λ o. cond (is_some o) 1 0) (lookup_same (λ k. bytes_eq (string_bytes k) t) (λ k. bytes_eq t (string_bytes k)) (text_turn t) counts.texts.entries) in
         let s0 = away int_eq int_eq_equiv signed counts.signed unique.signed (text t) (λ k. refl) (λ k. fits (signed k)) in
         let u0 = away int_eq int_eq_equiv unsigned counts.unsigned unique.unsigned (text t) (λ k. refl) (λ k. fits (unsigned k)) in
         let t0 = away int_eq int_eq_equiv truth counts.truths unique.truths (text t) (λ k. refl) (λ k. fits (truth k)) in
@@ -142,7 +145,7 @@ listed_once counts unique fits s =
         omega arith
     at (signed z) =
         let h = here int_eq int_eq_equiv signed counts.signed unique.signed (signed z) (whole_inside signed (λ a b e. cc)) (λ k. fits (signed k))
-            ∙ ap (λ o. cond (is_some o) 1 0) (lookup_same (λ k. int_eq k z) (int_eq z) (λ k. int_eq_equiv.symm k z) counts.signed.entries) in
+        ∙ ap (λ o. cond (is_some o) 1 0) (lookup_same (λ k. int_eq k z) (int_eq z) (λ k. int_eq_equiv.symm k z) counts.signed.entries) in
         let x0 = away string_eq string_eq_equiv text_slot counts.texts unique.texts (signed z) (λ k. refl) texts_at in
         let u0 = away int_eq int_eq_equiv unsigned counts.unsigned unique.unsigned (signed z) (λ k. refl) (λ k. fits (unsigned k)) in
         let t0 = away int_eq int_eq_equiv truth counts.truths unique.truths (signed z) (λ k. refl) (λ k. fits (truth k)) in
@@ -150,7 +153,7 @@ listed_once counts unique fits s =
         omega arith
     at (unsigned z) =
         let h = here int_eq int_eq_equiv unsigned counts.unsigned unique.unsigned (unsigned z) (whole_inside unsigned (λ a b e. cc)) (λ k. fits (unsigned k))
-            ∙ ap (λ o. cond (is_some o) 1 0) (lookup_same (λ k. int_eq k z) (int_eq z) (λ k. int_eq_equiv.symm k z) counts.unsigned.entries) in
+        ∙ ap (λ o. cond (is_some o) 1 0) (lookup_same (λ k. int_eq k z) (int_eq z) (λ k. int_eq_equiv.symm k z) counts.unsigned.entries) in
         let x0 = away string_eq string_eq_equiv text_slot counts.texts unique.texts (unsigned z) (λ k. refl) texts_at in
         let s0 = away int_eq int_eq_equiv signed counts.signed unique.signed (unsigned z) (λ k. refl) (λ k. fits (signed k)) in
         let t0 = away int_eq int_eq_equiv truth counts.truths unique.truths (unsigned z) (λ k. refl) (λ k. fits (truth k)) in
@@ -158,7 +161,7 @@ listed_once counts unique fits s =
         omega arith
     at (truth z) =
         let h = here int_eq int_eq_equiv truth counts.truths unique.truths (truth z) (whole_inside truth (λ a b e. cc)) (λ k. fits (truth k))
-            ∙ ap (λ o. cond (is_some o) 1 0) (lookup_same (λ k. int_eq k z) (int_eq z) (λ k. int_eq_equiv.symm k z) counts.truths.entries) in
+        ∙ ap (λ o. cond (is_some o) 1 0) (lookup_same (λ k. int_eq k z) (int_eq z) (λ k. int_eq_equiv.symm k z) counts.truths.entries) in
         let x0 = away string_eq string_eq_equiv text_slot counts.texts unique.texts (truth z) (λ k. refl) texts_at in
         let s0 = away int_eq int_eq_equiv signed counts.signed unique.signed (truth z) (λ k. refl) (λ k. fits (signed k)) in
         let u0 = away int_eq int_eq_equiv unsigned counts.unsigned unique.unsigned (truth z) (λ k. refl) (λ k. fits (unsigned k)) in
@@ -166,7 +169,7 @@ listed_once counts unique fits s =
         omega arith
     at (datetime z) =
         let h = here int_eq int_eq_equiv datetime counts.datetimes unique.datetimes (datetime z) (whole_inside datetime (λ a b e. cc)) (λ k. fits (datetime k))
-            ∙ ap (λ o. cond (is_some o) 1 0) (lookup_same (λ k. int_eq k z) (int_eq z) (λ k. int_eq_equiv.symm k z) counts.datetimes.entries) in
+        ∙ ap (λ o. cond (is_some o) 1 0) (lookup_same (λ k. int_eq k z) (int_eq z) (λ k. int_eq_equiv.symm k z) counts.datetimes.entries) in
         let x0 = away string_eq string_eq_equiv text_slot counts.texts unique.texts (datetime z) (λ k. refl) texts_at in
         let s0 = away int_eq int_eq_equiv signed counts.signed unique.signed (datetime z) (λ k. refl) (λ k. fits (signed k)) in
         let u0 = away int_eq int_eq_equiv unsigned counts.unsigned unique.unsigned (datetime z) (λ k. refl) (λ k. fits (unsigned k)) in
@@ -182,28 +185,29 @@ listed_right counts unique P h =
     let d = listed truth counts.truths.entries in
     let e = listed datetime counts.datetimes.entries in
     All-append P (a ++ b ++ c ++ d) e (All-append P (a ++ b ++ c) d (All-append P (a ++ b) c (All-append P a b
-        (right_in string_eq string_eq_equiv text_slot counts.texts unique.texts P (λ k v f. h (text_slot k) v f))
-        (right_in int_eq int_eq_equiv signed counts.signed unique.signed P (λ k v f. h (signed k) v f)))
-        (right_in int_eq int_eq_equiv unsigned counts.unsigned unique.unsigned P (λ k v f. h (unsigned k) v f)))
-        (right_in int_eq int_eq_equiv truth counts.truths unique.truths P (λ k v f. h (truth k) v f)))
-        (right_in int_eq int_eq_equiv datetime counts.datetimes unique.datetimes P (λ k v f. h (datetime k) v f))
+    (right_in string_eq string_eq_equiv text_slot counts.texts unique.texts P (λ k v f. h (text_slot k) v f))
+    (right_in int_eq int_eq_equiv signed counts.signed unique.signed P (λ k v f. h (signed k) v f)))
+    (right_in int_eq int_eq_equiv unsigned counts.unsigned unique.unsigned P (λ k v f. h (unsigned k) v f)))
+    (right_in int_eq int_eq_equiv truth counts.truths unique.truths P (λ k v f. h (truth k) v f)))
+    (right_in int_eq int_eq_equiv datetime counts.datetimes unique.datetimes P (λ k v f. h (datetime k) v f))
 
 -- the values of a part are those of the documents for which it stands
 pub listed_counted : (number field size : ℕ) (counts : Counts) (documents : List (List DocField)) (all : List ValueCount) → AreUnique counts
     → ((slot : Slot) → IfSome (tally_at counts slot) (IsTally number slot)) → CountsFor (Terms field size) counts documents → IsPermutation (all_listed counts) all
     → AreCounted field documents all
 listed_counted number field size counts documents all unique tallies stands moved = record {
-    right = All-permutation (λ r. r.count ≡ value_count field documents r.value) (all_listed counts) all moved (listed_right counts unique (λ r. r.count ≡ value_count field documents r.value) right);
-    once = λ value. sum_by-IsPermutation (λ r. cond (same_slot (slot_of r.value) (slot_of value)) 1 0) (all_listed counts) all moved
-        ∙ listed_once counts unique (λ s. IfSome_then (tally_at counts s) (tallies s) (λ t h. h.fits)) (slot_of value)
-        ∙ ap (λ b. cond b 1 0) (there (slot_of value) (value_count field documents value) (tally_at counts (slot_of value)) (tallies (slot_of value)) (stands value));
-  }
+  right = All-permutation (λ r. r.count ≡ value_count field documents r.value) (all_listed counts) all moved (listed_right counts unique (λ r. r.count ≡ value_count field documents r.value) right);
+  once = λ value. sum_by-IsPermutation (λ r. cond (same_slot (slot_of r.value) (slot_of value)) 1 0) (all_listed counts) all moved
+      ∙ listed_once counts unique (λ s. IfSome_then (tally_at counts s) (tallies s) (λ t h. h.fits)) (slot_of value)
+      ∙ ap (λ b. cond b 1 0) (there (slot_of value) (value_count field documents value) (tally_at counts (slot_of value)) (tallies (slot_of value)) (stands value));
+}
   where
     right : (s : Slot) (v : Tally) → tally_at counts s ≡ Some v → v.count ≡ value_count field documents (value_at s)
     right s v f =
         let h : IsTally number s v = MatchOption-at_some (Unit {0}) (IsTally number s) v f (tallies s) in
         let own : tally_at counts (slot_of (value_at s)) ≡ Some v = ap (tally_at counts) (slot_round s h.fits) ∙ f in
         sym (ap tallied own) ∙ stands (value_at s)
+
     there : (s : Slot) (n : ℕ) (o : Option Tally) → IfSome o (IsTally number s) → tallied o ≡ n → is_some o ≡ nat_lt 0 n
     there s n None h e = ap (nat_lt 0) e
     there s n (Some t) h e = let some = h.some in sym (lt-ltb 0 n (omega arith))

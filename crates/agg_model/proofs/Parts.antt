@@ -48,10 +48,10 @@ pub collected_more : (documents : ℕ) (doc : List DocField) (request : List Nam
     → ((e : Counts) → IsCollected documents doc named.agg (get_or now i e) part)
     → AreCollectedBelow documents doc request old (set now i part) (i + 1)
 collected_more documents doc request old now i named part within inside is before step = record {
-    long = length-set now i part ∙ before.long;
-    done = λ k d e l. ⊎_elim (λ same. here k d e same) (λ other. there k d e other l) (cases_eq k i);
-    rest = λ k e l. let ne : k ≢ i = omega arith in rw (get_or-set_other now i k part e ne) (before.rest k e (omega arith));
-  }
+  long = length-set now i part ∙ before.long;
+  done = λ k d e l. ⊎_elim (λ same. here k d e same) (λ other. there k d e other l) (cases_eq k i);
+  rest = λ k e l. let ne : k ≢ i = omega arith in rw (get_or-set_other now i k part e ne) (before.rest k e (omega arith));
+}
   where
     here : (k : ℕ) (d : NamedAgg) (e : Counts) → k ≡ i → IsCollected documents doc (get_or request k d).agg (get_or old k e) (get_or (set now i part) k e)
     here k d e same =
@@ -59,22 +59,23 @@ collected_more documents doc request old now i named part within inside is befor
         let new : get_or (set now i part) k e ≡ part = ap (λ j. get_or (set now i part) j e) same ∙ get_or-set_same now i part e inside in
         let old_at : get_or old k e ≡ get_or now i e = ap (λ j. get_or old j e) same ∙ sym (before.rest i e (omega arith)) in
         rw (at, new, old_at) (step e)
+
     there : (k : ℕ) (d : NamedAgg) (e : Counts) → k ≢ i → k < i + 1 → IsCollected documents doc (get_or request k d).agg (get_or old k e) (get_or (set now i part) k e)
     there k d e ne l = rw (get_or-set_other now i k part e ne) (before.done k d e (omega arith))
 
 pub collected_all : (documents : ℕ) (doc : List DocField) (request : List NamedAgg) (old new : List Counts) → length old ≡ length request
     → AreCollectedBelow documents doc request old new (length request) → AreCollected documents doc request old new
 collected_all documents doc request old new long below = record {
-    parts = all_zip_from (λ (named : NamedAgg) (counts : Counts). IsPart (documents + 1) named.agg counts) request new (below.long ∙ long) (λ k d e l. (below.done k d e l).part);
-    counts = λ ds h. all_zip_from (λ (named : NamedAgg) (part : Counts). CountsFor named.agg part (ds ++ doc ∷ [])) request new (below.long ∙ long)
-        (λ k d e l. (below.done k d e l).counts ds (all_zip_at (λ (named : NamedAgg) (part : Counts). CountsFor named.agg part ds) request old k d e h l));
-  }
+  parts = all_zip_from (λ (named : NamedAgg) (counts : Counts). IsPart (documents + 1) named.agg counts) request new (below.long ∙ long) (λ k d e l. (below.done k d e l).part);
+  counts = λ ds h. all_zip_from (λ (named : NamedAgg) (part : Counts). CountsFor named.agg part (ds ++ doc ∷ [])) request new (below.long ∙ long)
+      (λ k d e l. (below.done k d e l).counts ds (all_zip_at (λ (named : NamedAgg) (part : Counts). CountsFor named.agg part ds) request old k d e h l));
+}
 
 vacant_part : (agg : Agg) (counts : Counts) → IsVacant counts → IsPart 0 agg counts
 vacant_part agg counts h = record {
-    tallies = λ value. rw (h.tallies value) tt;
-    steps = λ step. rw (h.steps step) tt;
-  }
+  tallies = λ value. rw (h.tallies value) tt;
+  steps = λ step. rw (h.steps step) tt;
+}
 
 vacant_counts : (agg : Agg) (counts : Counts) → IsVacant counts → CountsFor agg counts []
 vacant_counts (Terms field size) counts h = λ value. rw (h.tallies (slot_of value)) refl
@@ -83,10 +84,10 @@ vacant_counts (Histogram field interval offset least dated) counts h = λ step. 
 -- parts in which nothing is counted
 pub vacant_parts : (request : List NamedAgg) (parts : List Counts) → length parts ≡ length request → All IsVacant parts
     → AllZip (λ named counts. IsPart 0 named.agg counts) request parts × AllZip (λ named counts. CountsFor named.agg counts []) request parts
-vacant_parts request parts long h =
-    ( all_zip_from (λ (named : NamedAgg) (counts : Counts). IsPart 0 named.agg counts) request parts long (λ k d e l. vacant_part (get_or request k d).agg (get_or parts k e) (h k e (omega arith)))
-    , all_zip_from (λ (named : NamedAgg) (counts : Counts). CountsFor named.agg counts []) request parts long (λ k d e l. vacant_counts (get_or request k d).agg (get_or parts k e) (h k e (omega arith)))
-    )
+vacant_parts request parts long h = (
+  all_zip_from (λ (named : NamedAgg) (counts : Counts). IsPart 0 named.agg counts) request parts long (λ k d e l. vacant_part (get_or request k d).agg (get_or parts k e) (h k e (omega arith))),
+  all_zip_from (λ (named : NamedAgg) (counts : Counts). CountsFor named.agg counts []) request parts long (λ k d e l. vacant_counts (get_or request k d).agg (get_or parts k e) (h k e (omega arith))),
+)
 
 -- the part at a place, not changed yet
 pub part_at : (documents : ℕ) (request : List NamedAgg) (old now : List Counts) (i : ℕ) (named : NamedAgg) (part : Counts)
@@ -106,10 +107,10 @@ pub merged_more : (mine yours now : List Counts) (i : ℕ) (own other part : Cou
     → i < length yours → i < length now → own ≡ get_or now i own → other ≡ get_or yours i other
     → AreMergedBelow mine yours now i → IsMerged own other part → AreMergedBelow mine yours (set now i part) (i + 1)
 merged_more mine yours now i own other part within inside is at before step = record {
-    long = length-set now i part ∙ before.long;
-    done = λ k d l. ⊎_elim (λ same. here k d same) (λ ne. there k d ne l) (cases_eq k i);
-    rest = λ k d l. let ne : k ≢ i = omega arith in rw (get_or-set_other now i k part d ne) (before.rest k d (omega arith));
-  }
+  long = length-set now i part ∙ before.long;
+  done = λ k d l. ⊎_elim (λ same. here k d same) (λ ne. there k d ne l) (cases_eq k i);
+  rest = λ k d l. let ne : k ≢ i = omega arith in rw (get_or-set_other now i k part d ne) (before.rest k d (omega arith));
+}
   where
     here : (k : ℕ) (d : Counts) → k ≡ i → IsMerged (get_or mine k d) (get_or yours k d) (get_or (set now i part) k d)
     here k d same =
@@ -117,6 +118,7 @@ merged_more mine yours now i own other part within inside is at before step = re
         let yours_at : get_or yours k d ≡ other = ap (λ j. get_or yours j d) same ∙ get_or_default yours i d other within ∙ sym at in
         let new_at : get_or (set now i part) k d ≡ part = ap (λ j. get_or (set now i part) j d) same ∙ get_or-set_same now i part d inside in
         rw (mine_at, yours_at, new_at) step
+
     there : (k : ℕ) (d : Counts) → k ≢ i → k < i + 1 → IsMerged (get_or mine k d) (get_or yours k d) (get_or (set now i part) k d)
     there k d ne l = rw (get_or-set_other now i k part d ne) (before.done k d (omega arith))
 
@@ -147,9 +149,9 @@ summed_count (Some a) (Some b) = refl
 
 merged_part : (n m : ℕ) (agg : Agg) (mine yours new : Counts) → IsPart n agg mine → IsPart m agg yours → IsMerged mine yours new → IsPart (n + m) agg new
 merged_part n m agg mine yours new h k e = record {
-    tallies = λ slot. rw (e.tallies slot) (merged_tally n m slot (tally_at mine slot) (tally_at yours slot) (h.tallies slot) (k.tallies slot));
-    steps = λ step. rw (e.steps step) (summed_step n m (interval_of agg) step (in_step mine step) (in_step yours step) (h.steps step) (k.steps step));
-  }
+  tallies = λ slot. rw (e.tallies slot) (merged_tally n m slot (tally_at mine slot) (tally_at yours slot) (h.tallies slot) (k.tallies slot));
+  steps = λ step. rw (e.steps step) (summed_step n m (interval_of agg) step (in_step mine step) (in_step yours step) (h.steps step) (k.steps step));
+}
 
 merged_counts : (agg : Agg) (mine yours new : Counts) (ds es : List (List DocField)) → IsMerged mine yours new → CountsFor agg mine ds → CountsFor agg yours es → CountsFor agg new (ds ++ es)
 merged_counts (Terms field size) mine yours new ds es e h k = λ value.
@@ -164,10 +166,10 @@ pub merged_parts : (n m : ℕ) (request : List NamedAgg) (mine yours new : List 
 merged_parts n m request mine yours new h k e =
     let long = all_zip_long (λ (named : NamedAgg) (counts : Counts). IsPart n named.agg counts) request mine h in
     all_zip_from (λ (named : NamedAgg) (counts : Counts). IsPart (n + m) named.agg counts) request new (e.long ∙ long)
-        (λ i d c l. merged_part n m (get_or request i d).agg (get_or mine i c) (get_or yours i c) (get_or new i c)
-            (all_zip_at (λ (named : NamedAgg) (counts : Counts). IsPart n named.agg counts) request mine i d c h l)
-            (all_zip_at (λ (named : NamedAgg) (counts : Counts). IsPart m named.agg counts) request yours i d c k l)
-            (e.each i c (omega arith)))
+    (λ i d c l. merged_part n m (get_or request i d).agg (get_or mine i c) (get_or yours i c) (get_or new i c)
+    (all_zip_at (λ (named : NamedAgg) (counts : Counts). IsPart n named.agg counts) request mine i d c h l)
+    (all_zip_at (λ (named : NamedAgg) (counts : Counts). IsPart m named.agg counts) request yours i d c k l)
+    (e.each i c (omega arith)))
 
 pub merged_stand : (request : List NamedAgg) (mine yours new : List Counts) (ds es : List (List DocField)) → AreMerged mine yours new
     → AllZip (λ named counts. CountsFor named.agg counts ds) request mine → AllZip (λ named counts. CountsFor named.agg counts es) request yours
@@ -175,10 +177,10 @@ pub merged_stand : (request : List NamedAgg) (mine yours new : List Counts) (ds 
 merged_stand request mine yours new ds es e h k =
     let long = all_zip_long (λ (named : NamedAgg) (counts : Counts). CountsFor named.agg counts ds) request mine h in
     all_zip_from (λ (named : NamedAgg) (counts : Counts). CountsFor named.agg counts (ds ++ es)) request new (e.long ∙ long)
-        (λ i d c l. merged_counts (get_or request i d).agg (get_or mine i c) (get_or yours i c) (get_or new i c) ds es
-            (e.each i c (omega arith))
-            (all_zip_at (λ (named : NamedAgg) (counts : Counts). CountsFor named.agg counts ds) request mine i d c h l)
-            (all_zip_at (λ (named : NamedAgg) (counts : Counts). CountsFor named.agg counts es) request yours i d c k l))
+    (λ i d c l. merged_counts (get_or request i d).agg (get_or mine i c) (get_or yours i c) (get_or new i c) ds es
+    (e.each i c (omega arith))
+    (all_zip_at (λ (named : NamedAgg) (counts : Counts). CountsFor named.agg counts ds) request mine i d c h l)
+    (all_zip_at (λ (named : NamedAgg) (counts : Counts). CountsFor named.agg counts es) request yours i d c k l))
 
 -- each part has room for as much again
 pub have_room : (n : ℕ) (request : List NamedAgg) (parts : List Counts) → n < 2 ^ 62 → AllZip (λ named counts. IsPart n named.agg counts) request parts → All HasRoom parts
@@ -189,8 +191,9 @@ have_room n request parts few h i d l =
     some_named : (request : List NamedAgg) (i : ℕ) → i < length request → NamedAgg
     some_named [] i l = absurd (omega arith)
     some_named (x ∷ xs) i l = x
+
     room : {agg : Agg} → IsPart n agg (get_or parts i d) → HasRoom (get_or parts i d)
     room p = record {
-        tallies = λ slot. IfSome_then (tally_at (get_or parts i d) slot) (p.tallies slot) (λ t s. let most = s.most in omega arith);
-        steps = λ step. IfSome_then (in_step (get_or parts i d) step) (p.steps step) (λ t s. let most = s.most in omega arith);
-      }
+      tallies = λ slot. IfSome_then (tally_at (get_or parts i d) slot) (p.tallies slot) (λ t s. let most = s.most in omega arith);
+      steps = λ step. IfSome_then (in_step (get_or parts i d) step) (p.steps step) (λ t s. let most = s.most in omega arith);
+    }

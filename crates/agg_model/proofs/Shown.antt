@@ -1,5 +1,5 @@
 -- Steps that are put into a list one after another.
-use Rattle.std.proofs.Common.{◌≡◌, ℕ, zero, suc, ◌<◌, ◌≤◌, ◌+◌, Bool, true, false, cond, List, [], ◌∷◌, ◌++◌, map, filter, refl, sym, ◌∙◌, ap, subst, ⊎_elim, arith, add-one, append_assoc, length, length-append, ℤ, pos, ◌+ℤ◌, ◌≤ℤ◌, ◌<ℤ◌}
+use Rattle.std.proofs.Common.{◌≡◌, ℕ, zero, suc, ◌+◌, Bool, true, cond, List, [], ◌∷◌, ◌++◌, map, filter, refl, sym, ◌∙◌, ap, subst, ⊎_elim, arith, add-one, append_assoc, length, length-append, ℤ, pos, ◌+ℤ◌, ◌≤ℤ◌, ◌<ℤ◌}
 use Rattle.std.proofs.lemmas.Int.{ints, by_lt_z}
 use Rattle.std.proofs.lemmas.List.{map-append}
 use Rattle.std.proofs.lemmas.List.Elements.{Contains-push_cases, Contains-append_left, Contains-push}
@@ -27,13 +27,13 @@ pub in_span : (a : ℤ) (n : ℕ) (s : ℤ) → Contains (span a n) s → (a ≤
 in_span a zero s h = absurd (omega (arith, h.1))
 in_span a (suc n) s h =
     ⊎_elim (λ k. let r = in_span a n s k in let low = r.0 in let high = r.1 in (low, omega (arith, ints))) (λ (e : (a +ℤ pos n) ≡ s). subst (λ (z : ℤ). (a ≤ℤ z) × (z <ℤ (a +ℤ pos (suc n)))) e (omega (arith, ints), omega (arith, ints)))
-        (Contains-push_cases (span a n) (a +ℤ pos n) s h)
+    (Contains-push_cases (span a n) (a +ℤ pos n) s h)
 
 pub span_has : (a : ℤ) (n : ℕ) (s : ℤ) → a ≤ℤ s → s <ℤ (a +ℤ pos n) → Contains (span a n) s
 span_has a zero s low high = absurd (omega (arith, ints))
 span_has a (suc n) s low high =
     by_lt_z s (a +ℤ pos n) (λ below. Contains-append_left (span a n) ((a +ℤ pos n) ∷ []) s (span_has a n s low below))
-        (λ above. let e : s ≡ (a +ℤ pos n) = omega (arith, ints) in rw e (Contains-push (span a n) (a +ℤ pos n)))
+    (λ above. let e : s ≡ (a +ℤ pos n) = omega (arith, ints) in rw e (Contains-push (span a n) (a +ℤ pos n)))
 
 pub length_span : (a : ℤ) (n : ℕ) → length (span a n) ≡ n
 length_span a zero = refl

@@ -1,5 +1,5 @@
 -- Steps of a histogram are near 0.
-use Rattle.std.proofs.Common.{◌≡◌, ℕ, zero, suc, ◌<◌, ◌≤◌, ◌+◌, ◌*◌, ◌/◌, ◌%◌, ◌^◌, refl, sym, ◌∙◌, ap, subst, arith, Bool, true, false, cond, List, [], ◌∷◌, ◌++◌, Option, Some, None, unwrap_or, add-zero, ℤ, pos, negsuc, ◌*ℤ◌, ◌≤ℤ◌}
+use Rattle.std.proofs.Common.{◌≡◌, ℕ, ◌<◌, ◌≤◌, ◌+◌, ◌*◌, ◌/◌, ◌^◌, refl, sym, ◌∙◌, ap, subst, arith, Bool, true, false, cond, List, [], ◌∷◌, ◌++◌, Option, Some, None, unwrap_or, add-zero, ℤ, pos, negsuc, ◌≤ℤ◌}
 use Rattle.std.proofs.lemmas.Int.{ints, unsigned_abs-mul}
 use Rattle.std.proofs.lemmas.Bool.Decides.{Decides-int_eq}
 use Rattle.std.proofs.lemmas.List.Sums.{sum_by_push}
@@ -53,7 +53,7 @@ pub step_counts : (field : ℕ) (interval offset : ℤ) (least : ℕ) (dated : B
     → CountsFor (Histogram field interval offset least dated) new (ds ++ doc ∷ [])
 step_counts field interval offset least dated step old new ds doc e raised before other =
     rw (raised.steps other, sum_by_push (λ d. cond (lies_in field interval offset other d) 1 0) ds doc, lies_in_its_step field interval offset step other doc e)
-        (at (int_eq step other) refl (before other))
+    (at (int_eq step other) refl (before other))
   where
     at : (b : Bool) → b ≡ int_eq step other → unwrap_or (in_step old other) 0 ≡ step_count field interval offset ds other
         → unwrap_or (cond b (Some (unwrap_or (in_step old step) 0 + 1)) (in_step old other)) 0 ≡ step_count field interval offset ds other + cond b 1 0
@@ -63,13 +63,14 @@ step_counts field interval offset least dated step old new ds doc e raised befor
 -- the part after one more document lay in a step
 pub step_part : (number : ℕ) (agg : Agg) (step : ℤ) (old new : Counts) → IsNear (interval_of agg) step → IsStepRaised step old new → IsPart number agg old → IsPart (number + 1) agg new
 step_part number agg step old new near raised before = record {
-    tallies = λ slot. rw (raised.tallies slot) (IfSome_then (tally_at old slot) (before.tallies slot) (λ t h. record { fits = h.fits; some = h.some; most = omega arith; last = omega arith }));
-    steps = λ other. rw (raised.steps other) (at other (int_eq step other) refl (before.steps other) (before.steps step));
-  }
+  tallies = λ slot. rw (raised.tallies slot) (IfSome_then (tally_at old slot) (before.tallies slot) (λ t h. record { fits = h.fits; some = h.some; most = omega arith; last = omega arith }));
+  steps = λ other. rw (raised.steps other) (at other (int_eq step other) refl (before.steps other) (before.steps step));
+}
   where
     more : (o : Option ℕ) → IfSome o (IsStep number (interval_of agg) step) → IsStep (number + 1) (interval_of agg) step (unwrap_or o 0 + 1)
     more None h = record { some = omega arith; most = omega arith; near = near.0; close = near.1 }
     more (Some n) h = record { some = omega arith; most = omega arith; near = near.0; close = near.1 }
+
     at : (other : ℤ) (b : Bool) → b ≡ int_eq step other → IfSome (in_step old other) (IsStep number (interval_of agg) other) → IfSome (in_step old step) (IsStep number (interval_of agg) step)
         → IfSome (cond b (Some (unwrap_or (in_step old step) 0 + 1)) (in_step old other)) (IsStep (number + 1) (interval_of agg) other)
     at other true k h own = let e : step ≡ other = (Decides-int_eq step other).0 (sym k) in subst (λ s. IsStep (number + 1) (interval_of agg) s (unwrap_or (in_step old step) 0 + 1)) e (more (in_step old step) own)

@@ -1,6 +1,6 @@
 -- Values that are the same are equal, and a value counts once for a document.
-use Rattle.std.proofs.Common.{◌≡◌, ◌≢◌, ℕ, ◌<◌, ◌+◌, Bool, true, false, cond, List, Option, Some, None, refl, sym, ◌∙◌, ap, subst, get_or, take, length, arith, eqb, ℤ, pos, eq-eqb, ◌||◌, ◌∷◌, ◌++◌, [], add-zero, ◌≤◌}
-use Rattle.std.proofs.lemmas.Bool.{false≢true, eqb-true}
+use Rattle.std.proofs.Common.{◌≡◌, ℕ, ◌<◌, ◌+◌, Bool, true, false, cond, List, Option, Some, None, refl, sym, ◌∙◌, ap, subst, get_or, take, length, arith, eqb, pos, ◌||◌, add-zero}
+use Rattle.std.proofs.lemmas.Bool.{eqb-true}
 use Rattle.std.proofs.lemmas.Bool.Decides.{Decides-int_eq}
 use Rattle.std.proofs.lemmas.Slice.Eq.{bytes_eq-Decides}
 use Rattle.std.proofs.lemmas.List.Folds.{list_any_more}
@@ -70,18 +70,19 @@ raised_count documents slot (Some t) h = at (eqb t.last (documents + 1)) refl
 pub terms_collected : (documents field size : ℕ) (doc : List DocField) (old new : Counts)
     → AreRaised (documents + 1) (values_in doc field) old new → IsPart documents (Terms field size) old → IsCollected documents doc (Terms field size) old new
 terms_collected documents field size doc old new more before = record {
-    part = record {
-      tallies = λ slot. rw (more.tallies slot) (part_at slot (list_any (λ v. same_slot (slot_of v) slot) (values_in doc field)) (tally_at old slot) (more.slots slot) (before.tallies slot));
-      steps = λ step. subst (λ s. IfSome (get int_cmp s step) (IsStep (documents + 1) (pos 1) step)) (sym more.steps)
-          (IfSome_then (in_step old step) (before.steps step) (λ n s. record { some = s.some; most = omega arith; near = s.near; close = s.close }));
-    };
-    counts = λ ds h value. rw (more.tallies (slot_of value), sum_by_push (λ d. cond (has_value field value d) 1 0) ds doc)
-        (count_at (slot_of value) (has_value field value doc) (tally_at old (slot_of value)) (before.tallies (slot_of value)) (value_count field ds value) (h value));
-  }
+  part = record {
+    tallies = λ slot. rw (more.tallies slot) (part_at slot (list_any (λ v. same_slot (slot_of v) slot) (values_in doc field)) (tally_at old slot) (more.slots slot) (before.tallies slot));
+    steps = λ step. subst (λ s. IfSome (get int_cmp s step) (IsStep (documents + 1) (pos 1) step)) (sym more.steps)
+        (IfSome_then (in_step old step) (before.steps step) (λ n s. record { some = s.some; most = omega arith; near = s.near; close = s.close }));
+  };
+  counts = λ ds h value. rw (more.tallies (slot_of value), sum_by_push (λ d. cond (has_value field value d) 1 0) ds doc)
+      (count_at (slot_of value) (has_value field value doc) (tally_at old (slot_of value)) (before.tallies (slot_of value)) (value_count field ds value) (h value));
+}
   where
     part_at : (slot : Slot) (b : Bool) (o : Option Tally) → (b ≡ true → IsSlotOfValue slot) → IfSome o (IsTally documents slot) → IfSome (cond b (Some (raised (documents + 1) o)) o) (IsTally (documents + 1) slot)
     part_at slot true o fits h = raised_tally documents slot o (fits refl) h
     part_at slot false o fits h = IfSome_then o h (λ t s. record { fits = s.fits; some = s.some; most = omega arith; last = omega arith })
+
     count_at : (slot : Slot) (b : Bool) (o : Option Tally) → IfSome o (IsTally documents slot) → (n : ℕ) → tallied o ≡ n → tallied (cond b (Some (raised (documents + 1) o)) o) ≡ n + cond b 1 0
     count_at slot true o h n e = raised_count documents slot o h ∙ ap (λ k. k + 1) e
     count_at slot false o h n e = e ∙ sym (add-zero n)

@@ -1,15 +1,15 @@
 -- What aggregations answer over a list of documents.
-use Rattle.std.specs.Prelude.{◌≡◌, ℕ, ◌+◌, ◌<◌, ◌≤◌, ◌==◌, nat_lt, Bool, true, false, List, [], ◌∷◌, map, length, if◌then◌else◌, ℤ, pos, ◌+ℤ◌, ◌*ℤ◌, ◌≤ℤ◌, ◌<ℤ◌, ◌↔◌, count_by, sum_by, take, drop, MatchBool, IsTrue, min}
-use Rattle.std.specs.Int.RustNames.{unsigned_abs}
+use Rattle.std.specs.Prelude.{◌≡◌, ℕ, ◌+◌, ◌<◌, ◌≤◌, ◌==◌, nat_lt, List, [], ◌∷◌, map, length, if◌then◌else◌, ℤ, ◌+ℤ◌, ◌*ℤ◌, ◌≤ℤ◌, ◌<ℤ◌, ◌↔◌, count_by, sum_by, take, drop, MatchBool, min, Result, Ok, Err}
 use Rattle.std.specs.List.{All, AllByRecursion, AllZip, Contains}
 use Rattle.std.specs.List.Sorted.{IsSorted}
 use Rattle.std.specs.Ordering.{nat_cmp, ordering_then}
 use Rattle.std.specs.declared.cmp.Ordering.{Ordering}
 use Rattle.doc_value.specs.Terms.{value_cmp}
 use Rattle.doc_value.specs.declared.doc.Value.{Value}
-use Rattle.doc_value.specs.declared.doc.Value.TheVariants as values
 use Rattle.doc_value.specs.declared.doc.DocField.{DocField}
-use Rattle.agg_model.specs.Counting.{Slot, text, signed, unsigned, truth, datetime, is_same, value_count, step_count}
+use Rattle.agg_model.specs.Counting.{is_same, value_count, step_count}
+use Rattle.agg_model.specs.declared.agg_error.AggError.{AggError}
+use Rattle.agg_model.specs.declared.agg_error.AggError.TheVariants as refusals
 use Rattle.agg_model.specs.declared.answer.AggAnswer.{AggAnswer}
 use Rattle.agg_model.specs.declared.answer.AggAnswer.TheVariants as answers
 use Rattle.agg_model.specs.declared.answer.Bucket.{Bucket}
@@ -103,10 +103,15 @@ abbrev pub AreAnswersOf : List NamedAgg → List (List DocField) → List NamedR
 AreAnswersOf request documents results =
     AllZip (λ named answered. (answered.name ≡ named.name) × IsAnswerOf named.agg documents answered.result) request results
 
-abbrev pub buckets_of : AggAnswer → ℕ
-buckets_of (answers.Terms buckets others) = length buckets
-buckets_of (answers.Histogram buckets) = length buckets
-
 -- an answer has at most so many buckets
 abbrev pub most_buckets : ℕ
 most_buckets = 65000
+
+-- the answers, which have at most 65,000 buckets, or the number of buckets where they would have more, or want of memory
+abbrev pub IsFinished : List NamedAgg → List (List DocField) → Result (List NamedResult) AggError → Type 0
+IsFinished request documents (Ok results) =
+    AreAnswersOf request documents results × ((many : ℕ) × HaveBuckets request documents many × (many ≤ most_buckets))
+IsFinished request documents (Err (refusals.TooManyBuckets count)) = HaveBuckets request documents count × (most_buckets < count)
+IsFinished request documents (Err (refusals.Memory m)) = Unit {0}
+IsFinished request documents (Err (refusals.NotFast field)) = ⊥
+IsFinished request documents (Err (refusals.BadInterval name)) = ⊥

@@ -1,5 +1,5 @@
 -- The values of a part in a list, in no order.
-use Rattle.std.specs.Prelude.{ℕ, List, ◌++◌, map, ℤ, pos, String}
+use Rattle.std.specs.Prelude.{List, ◌++◌, map, ℤ, pos, String}
 use Rattle.std.specs.declared.alloc.Global.{Global}
 use Rattle.std.specs.Int.RustNames.{unsigned_abs}
 use Rattle.std.specs.Ordering.{int_eq}

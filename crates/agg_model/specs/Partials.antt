@@ -1,5 +1,5 @@
 -- Which documents a partial stands for, and what is known of every partial.
-use Rattle.std.specs.Prelude.{◌≡◌, ℕ, ◌++◌, ◌+◌, ◌*◌, ◌^◌, ◌<◌, ◌≤◌, Bool, true, false, List, [], ◌∷◌, length, Option, Some, None, if◌then◌else◌, ℤ, pos, ◌*ℤ◌, ◌<ℤ◌, ◌≤ℤ◌}
+use Rattle.std.specs.Prelude.{◌≡◌, ℕ, ◌++◌, ◌+◌, ◌^◌, ◌<◌, ◌≤◌, Bool, true, List, [], ◌∷◌, length, Option, Some, None, if◌then◌else◌, ℤ, pos, ◌*ℤ◌, ◌≤ℤ◌}
 use Rattle.std.specs.HashMap as hash
 use Rattle.std.specs.BTreeMap as tree
 use Rattle.std.specs.Int.RustNames.{unsigned_abs, FitsSigned}

@@ -5,6 +5,7 @@ use Rattle.agg_model.specs.Listed.{all_listed}
 use Rattle.agg_model.specs.declared.counts.Counts.{Counts}
 use Rattle.agg_model.specs.declared.request.Agg.{Agg}
 use Rattle.agg_model.specs.declared.request.Agg.TheVariants.{Terms, Histogram}
+use Rattle.agg_model.specs.declared.request.NamedAgg.{NamedAgg}
 
 -- so many steps from the first on
 abbrev pub span : ℤ → ℕ → List ℤ
@@ -32,3 +33,9 @@ steps_shown least es = if least == 0 then spread es else steps_with least es
 abbrev pub shown_in : Agg → Counts → ℕ
 shown_in (Terms field size) counts = min size (length (all_listed counts))
 shown_in (Histogram field interval offset least dated) counts = length (steps_shown least counts.steps.entries)
+
+-- and all of a request together
+abbrev pub total_shown : List NamedAgg → List Counts → ℕ
+total_shown [] parts = 0
+total_shown (named ∷ rest) [] = 0
+total_shown (named ∷ rest) (part ∷ parts) = shown_in named.agg part + total_shown rest parts

@@ -17,6 +17,7 @@ pub mod tallies;
 pub use agg_error::AggError;
 pub use answer::{AggAnswer, AggResult, Bucket, Buckets, Key, NamedResult};
 pub use checking::check_aggs;
+pub use finishing::finish;
 pub use merging::merge_partials;
 pub use partial::{Partial, collect_one, vacant_partial};
 pub use request::{Agg, AggRequest, DocValues, NamedAgg};

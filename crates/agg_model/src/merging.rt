@@ -10,11 +10,7 @@ use crate::partial::Partial;
 use crate::request::AggRequest;
 use std::alloc::{AllocError, Global};
 
-fn merge_parts(
-    alloc: Global,
-    parts: &mut Vec<Counts>,
-    others: &[Counts],
-) -> Result<(), AllocError>
+fn merge_parts(alloc: Global, parts: &mut Vec<Counts>, others: &[Counts]) -> Result<(), AllocError>
     requires same { length parts.old.items ≡ length others.now }
     requires mine { All HasRoom parts.old.items }
     requires yours { All HasRoom others.now }

@@ -61,11 +61,7 @@ pub fn raise_text(
 }
 
 /// Counts the document of this number for the whole number, once however often it is called.
-pub fn raise_whole(
-    tallies: &mut WholeTallies,
-    whole: i128,
-    number: u64,
-) -> Result<(), AllocError>
+pub fn raise_whole(tallies: &mut WholeTallies, whole: i128, number: u64) -> Result<(), AllocError>
     requires { IfSome (get int_eq tallies.old whole) (λ t. t.count < 2 ^ 63) }
     ensures { OnOk result ((z : ℤ) → get int_eq tallies.new z ≡
         (if int_eq whole z then Some (raised number (get int_eq tallies.old whole)) else get int_eq tallies.old z)) }

@@ -1,5 +1,4 @@
-use Rattle.std.proofs.Common.{rules, ℤ, arith}
-use Rattle.std.proofs.lemmas.Grind.{common_steps}
+use Rattle.std.proofs.Common.{rules}
 use Rattle.std.proofs.lemmas.Int.{to_z-of_z}
 use Rattle.std.specs.Int.RustNames.{FitsSigned}
 use Rattle.agg_model.proofs.Steps.{step_counts, step_part}
@@ -18,10 +17,10 @@ returns-in_ok-raise_step-in-Histogram c =
     record {
       part = step_part c.args.documents c.args.agg.now c.in-Some.step c.args.counts.now c.raise_step.new.self (rw c.in-Histogram.is near) raised c.requires.part;
       counts = rw c.in-Histogram.is (λ ds h. step_counts c.in-Histogram.field c.in-Histogram.interval c.in-Histogram.offset c.in-Histogram.min_doc_count c.in-Histogram.dated
-        c.in-Some.step c.args.counts.now c.raise_step.new.self ds c.args.doc.now first raised h);
+          c.in-Some.step c.args.counts.now c.raise_step.new.self ds c.args.doc.now first raised h);
     }
 
 pub returns-in_ok-raise_all-in-Terms : goal.returns-in_ok-raise_all-in-Terms
 returns-in_ok-raise_all-in-Terms c =
     rw c.in-Terms.is (terms_collected c.args.documents c.in-Terms.field c.in-Terms.size c.args.doc.now c.args.counts.now c.raise_all.new.self
-        (rw c.values_of.ensures at c.in_ok-raise_all-in-Terms.ensures) (rw c.in-Terms.is at c.requires.part))
+    (rw c.values_of.ensures at c.in_ok-raise_all-in-Terms.ensures) (rw c.in-Terms.is at c.requires.part))

@@ -1,4 +1,4 @@
-use Rattle.std.proofs.Common.{◌≡◌, ◌+◌, ◌≤◌, ◌^◌, ◌<◌, length, filter, nat_le}
+use Rattle.std.proofs.Common.{◌≡◌, ◌+◌, ◌^◌, ◌<◌, length}
 use Rattle.agg_model.specs.Spans.{steps_with}
 use Rattle.agg_model.proofs.finishing.frequent_of.Given as goal
 

@@ -1,4 +1,4 @@
-use Rattle.std.proofs.Common.{◌≡◌, ◌∙◌, ap, unwrap_or, ◌+ℤ◌, pos, ℕ, ℤ, rules}
+use Rattle.std.proofs.Common.{◌≡◌, ◌∙◌, ap, unwrap_or, ℕ, ℤ, rules}
 use Rattle.std.proofs.lemmas.Int.{to_z-of_z}
 use Rattle.std.specs.Int.RustNames.{FitsSigned}
 use mir.Syntax.{w128}
@@ -18,4 +18,4 @@ loop-i-preserved c =
     let f : ℤ → Bucket = step_bucket c.args.scale.now.interval c.args.scale.now.offset (λ s. unwrap_or (get int_cmp c.args.steps.now s) 0) in
     let at : c.step_bucket.result ≡ f c.later_step-step.result = own ∙ ap (λ (n : ℕ). step_bucket c.args.scale.now.interval c.args.scale.now.offset (λ _. n) c.later_step-step.result) count in
     span_push f c.args.first.now c.loop-i.i
-        c.loop-i.buckets c.push.new.self c.step_bucket.result c.in_ok-push.ensures.ok c.loop-i.invariant (at ∙ ap f c.later_step-step.ensures)
+    c.loop-i.buckets c.push.new.self c.step_bucket.result c.in_ok-push.ensures.ok c.loop-i.invariant (at ∙ ap f c.later_step-step.ensures)

@@ -1,4 +1,4 @@
-use Rattle.std.proofs.Common.{arith, ◌≡◌, ◌+◌, ◌∙◌, sym, ap, length, length-append, List}
+use Rattle.std.proofs.Common.{arith, ◌∙◌, sym, ap, length, length-append, List}
 use Rattle.doc_value.specs.declared.doc.DocField.{DocField}
 use Rattle.agg_model.specs.Partials.{IsPart}
 use Rattle.agg_model.specs.declared.counts.Counts.{Counts}
@@ -21,14 +21,14 @@ merge_parts-requires-clause-yours c =
 
 pub returns-clause-partial : goal.returns-clause-partial
 returns-clause-partial c = record {
-    few = c.requires.room;
-    parts = merged_parts c.args.into.now.documents c.args.other.now.documents c.args.request.now c.args.into.now.parts.items c.args.other.now.parts.items c.merge_parts.new.parts.items
-        c.requires.mine.parts c.requires.yours.parts (rw c.as_slice.ensures.value at c.in_ok-merge_parts.ensures);
-  }
+  few = c.requires.room;
+  parts = merged_parts c.args.into.now.documents c.args.other.now.documents c.args.request.now c.args.into.now.parts.items c.args.other.now.parts.items c.merge_parts.new.parts.items
+      c.requires.mine.parts c.requires.yours.parts (rw c.as_slice.ensures.value at c.in_ok-merge_parts.ensures);
+}
 
 pub returns-clause-stands : goal.returns-clause-stands
 returns-clause-stands c = λ mine yours h k. record {
-    many = let a = h.many in let b = k.many in omega (arith, length-append {A = List DocField});
-    parts = merged_stand c.args.request.now c.args.into.now.parts.items c.args.other.now.parts.items c.merge_parts.new.parts.items mine yours
-        (rw c.as_slice.ensures.value at c.in_ok-merge_parts.ensures) h.parts k.parts;
-  }
+  many = let a = h.many in let b = k.many in omega (arith, length-append {A = List DocField});
+  parts = merged_stand c.args.request.now c.args.into.now.parts.items c.args.other.now.parts.items c.merge_parts.new.parts.items mine yours
+      (rw c.as_slice.ensures.value at c.in_ok-merge_parts.ensures) h.parts k.parts;
+}

@@ -1,4 +1,4 @@
-use Rattle.std.proofs.Common.{rules, arith, ◌≡◌, ◌<◌, ◌∙◌, sym, subst, length}
+use Rattle.std.proofs.Common.{arith, ◌≡◌, ◌<◌, ◌∙◌, subst, length}
 use Rattle.std.proofs.lemmas.List.{get_or_default}
 use Rattle.agg_model.specs.Partials.{IsPart, IsCollected}
 use Rattle.agg_model.specs.declared.counts.Counts.{Counts}
@@ -15,7 +15,7 @@ index_mut-requires c =
 pub collect_part-requires-clause-part : goal.collect_part-requires-clause-part
 collect_part-requires-clause-part c =
     part_at c.args.documents c.args.request.now c.args.parts.now.items c.loop-i.parts.items c.loop-i.i c.index-request-i.result c.index_mut.result.now
-        (omega arith) c.index-request-i.is c.requires.parts (c.loop-i.invariant.rest c.loop-i.i c.index_mut.result.now (omega arith)) c.index_mut.ensures.value
+    (omega arith) c.index-request-i.is c.requires.parts (c.loop-i.invariant.rest c.loop-i.i c.index_mut.result.now (omega arith)) c.index_mut.ensures.value
 
 pub loop-i-preserved : goal.loop-i-preserved
 loop-i-preserved c =
@@ -23,10 +23,10 @@ loop-i-preserved c =
     let same = c.loop-i.invariant.long in
     let inside : c.loop-i.i < length c.loop-i.parts.items = omega arith in
     collected_more c.args.documents c.args.doc.now c.args.request.now c.args.parts.now.items c.loop-i.parts.items c.loop-i.i c.index-request-i.result c.collect_part.new.counts
-        (omega arith) inside c.index-request-i.is c.loop-i.invariant
-        (λ e. subst (λ (p : Counts). IsCollected c.args.documents c.args.doc.now c.index-request-i.result.agg p c.collect_part.new.counts)
-            (c.index_mut.ensures.value ∙ get_or_default c.loop-i.parts.items c.loop-i.i c.index_mut.result.now e inside)
-            c.in_ok-collect_part.ensures)
+    (omega arith) inside c.index-request-i.is c.loop-i.invariant
+    (λ e. subst (λ (p : Counts). IsCollected c.args.documents c.args.doc.now c.index-request-i.result.agg p c.collect_part.new.counts)
+    (c.index_mut.ensures.value ∙ get_or_default c.loop-i.parts.items c.loop-i.i c.index_mut.result.now e inside)
+    c.in_ok-collect_part.ensures)
 
 pub returns : goal.returns
 returns c =

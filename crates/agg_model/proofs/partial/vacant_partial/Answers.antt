@@ -1,4 +1,4 @@
-use Rattle.std.proofs.Common.{arith, ◌≡◌, ap, refl, length, length-append}
+use Rattle.std.proofs.Common.{arith, ap, refl, length, length-append}
 use Rattle.std.proofs.lemmas.List.Elements.{All-push}
 use Rattle.agg_model.specs.Partials.{IsVacant}
 use Rattle.agg_model.specs.declared.counts.Counts.{Counts}
@@ -7,10 +7,10 @@ use Rattle.agg_model.proofs.partial.vacant_partial.Goals as goal
 
 pub loop-named-preserved : goal.loop-named-preserved
 loop-named-preserved c =
-    rw c.in_ok-push.ensures.items
-        ( omega (arith, length-append {A = Counts}, c.loop-named.invariant.0)
-        , All-push IsVacant c.loop-named.parts.items c.vacant.result c.loop-named.invariant.1 c.vacant.ensures
-        )
+    rw c.in_ok-push.ensures.items (
+      omega (arith, length-append {A = Counts}, c.loop-named.invariant.0),
+      All-push IsVacant c.loop-named.parts.items c.vacant.result c.loop-named.invariant.1 c.vacant.ensures,
+    )
 
 pub returns-clause-partial : goal.returns-clause-partial
 returns-clause-partial c =

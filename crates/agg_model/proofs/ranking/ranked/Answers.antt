@@ -8,4 +8,4 @@ use Rattle.agg_model.proofs.ranking.ranked.Goals as goal
 pub returns-clause-order : goal.returns-clause-order
 returns-clause-order c =
     c.sort_unstable_by.ensures.sorted (λ a b. is_lt (rank a b)) rank_order
-        (answers_always _ (λ a r. is_lt r ≡ is_lt (rank a.0.now a.1.0.now)) _ (λ f a r f' k. search rules))
+    (answers_always _ (λ a r. is_lt r ≡ is_lt (rank a.0.now a.1.0.now)) _ (λ f a r f' k. search rules))

@@ -1,4 +1,4 @@
-use Rattle.std.proofs.Common.{◌≡◌, ◌+◌, ℕ, ℤ, ◌∙◌, refl, rules, Option, unwrap_or}
+use Rattle.std.proofs.Common.{◌+◌, ℕ, ℤ, ◌∙◌, refl, rules, Option, unwrap_or}
 use Rattle.std.proofs.lemmas.Bool.Decides.{Decides-int_eq}
 use Rattle.std.proofs.lemmas.Int.{to_z-of_z}
 use Rattle.std.proofs.lemmas.Map.Keys.{IsDistinct-tail, IsDistinct-from_sorted}
@@ -23,12 +23,12 @@ loop-step-preserved c =
     let fits : FitsSigned w128 c.in-Some.step.now = search rules in
     let apart = rw c.in-Some.ensures.steps at c.loop-step.invariant.1 in
     let none = none_left int_eq int_eq_equiv c.in-Some.step.now c.in-Some.count.now c.next.new.self apart in
-    let step = rw (to_z-of_z w128 c.in-Some.step.now fits) at c.in_ok-add_step.ensures in
-    ( λ q. added (λ (o : Option ℕ) more. unwrap_or o 0 + more) (λ (z : ℤ). z) int_eq Decides-int_eq
-        (get int_cmp c.loop-step.steps) (get int_cmp c.add_step.new.steps) (int_eq c.in-Some.step.now) c.in-Some.step.now c.in-Some.count.now c.next.new.self
-        (Decides-int_eq c.in-Some.step.now) step none q
-        ∙ (rw c.in-Some.ensures.steps at (c.loop-step.invariant.0 q))
-    , IsDistinct-tail int_eq c.in-Some.step.now (keys_of c.next.new.self) apart
+    let step = rw (to_z-of_z w128 c.in-Some.step.now fits) at c.in_ok-add_step.ensures in (
+      λ q. added (λ (o : Option ℕ) more. unwrap_or o 0 + more) (λ (z : ℤ). z) int_eq Decides-int_eq
+          (get int_cmp c.loop-step.steps) (get int_cmp c.add_step.new.steps) (int_eq c.in-Some.step.now) c.in-Some.step.now c.in-Some.count.now c.next.new.self
+          (Decides-int_eq c.in-Some.step.now) step none q
+          ∙ (rw c.in-Some.ensures.steps at (c.loop-step.invariant.0 q)),
+      IsDistinct-tail int_eq c.in-Some.step.now (keys_of c.next.new.self) apart,
     )
 
 pub loop-step-init : goal.loop-step-init

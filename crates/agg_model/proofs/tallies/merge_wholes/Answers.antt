@@ -1,4 +1,4 @@
-use Rattle.std.proofs.Common.{◌≡◌, ℤ, ◌∙◌, refl, rules}
+use Rattle.std.proofs.Common.{ℤ, ◌∙◌, refl, rules}
 use Rattle.std.proofs.lemmas.Bool.Decides.{Decides-int_eq}
 use Rattle.std.proofs.lemmas.Int.{to_z-of_z}
 use Rattle.std.proofs.lemmas.Map.Keys.{IsDistinct-tail}
@@ -24,10 +24,10 @@ loop-whole-preserved c =
     let fits : FitsSigned w128 c.in-Some.whole.now = search rules in
     let apart = rw c.in-Some.ensures.steps at c.loop-whole.invariant.1 in
     let none = none_left int_eq int_eq_equiv c.in-Some.whole.now c.in-Some.tally.now c.next.new.self apart in
-    let step = rw (to_z-of_z w128 c.in-Some.whole.now fits) at c.in_ok-add_whole.ensures in
-    ( λ q. added joined (λ (z : ℤ). z) int_eq Decides-int_eq
-        (get int_eq c.loop-whole.tallies) (get int_eq c.add_whole.new.tallies) (int_eq c.in-Some.whole.now) c.in-Some.whole.now c.in-Some.tally.now c.next.new.self
-        (Decides-int_eq c.in-Some.whole.now) step none q
-        ∙ (rw c.in-Some.ensures.steps at (c.loop-whole.invariant.0 q))
-    , IsDistinct-tail int_eq c.in-Some.whole.now (keys_of c.next.new.self) apart
+    let step = rw (to_z-of_z w128 c.in-Some.whole.now fits) at c.in_ok-add_whole.ensures in (
+      λ q. added joined (λ (z : ℤ). z) int_eq Decides-int_eq
+          (get int_eq c.loop-whole.tallies) (get int_eq c.add_whole.new.tallies) (int_eq c.in-Some.whole.now) c.in-Some.whole.now c.in-Some.tally.now c.next.new.self
+          (Decides-int_eq c.in-Some.whole.now) step none q
+          ∙ (rw c.in-Some.ensures.steps at (c.loop-whole.invariant.0 q)),
+      IsDistinct-tail int_eq c.in-Some.whole.now (keys_of c.next.new.self) apart,
     )
