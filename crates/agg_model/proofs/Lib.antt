@@ -1,0 +1,11 @@
+pub mod Entries
+pub mod Histograms
+pub mod Listing
+pub mod Order
+pub mod Parts
+pub mod Rising
+pub mod Shown
+pub mod Spreads
+pub mod Steps
+pub mod Totals
+pub mod Values
