@@ -1,0 +1,7 @@
+pub mod Digits
+pub mod Joined
+pub mod Cutting
+pub mod Sorting
+pub mod Aggs
+pub mod Members
+pub mod Texts

@@ -1,0 +1,6 @@
+pub mod Aggregations
+pub mod Answers
+pub mod Intervals
+pub mod Keys
+pub mod Kinds
+pub mod Requests
