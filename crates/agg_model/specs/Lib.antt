@@ -1,0 +1,3 @@
+pub mod Counting
+pub mod Partials
+pub mod Tallies

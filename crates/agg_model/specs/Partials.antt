@@ -1,0 +1,139 @@
+-- Which documents a partial stands for, and what is known of every partial.
+use Rattle.std.specs.Prelude.{◌≡◌, ℕ, ◌++◌, ◌+◌, ◌*◌, ◌^◌, ◌<◌, ◌≤◌, Bool, true, false, List, [], ◌∷◌, length, Option, Some, None, if◌then◌else◌, ℤ, pos, ◌*ℤ◌, ◌<ℤ◌, ◌≤ℤ◌}
+use Rattle.std.specs.HashMap as hash
+use Rattle.std.specs.BTreeMap as tree
+use Rattle.std.specs.Int.RustNames.{unsigned_abs}
+use Rattle.std.specs.List.{AllZip, All, list_any}
+use Rattle.std.specs.Option.{IfSome, option_map_or, unwrap_or}
+use Rattle.std.specs.Ordering.{int_eq, int_cmp}
+use Rattle.doc_value.specs.declared.doc.Value.{Value}
+use Rattle.doc_value.specs.declared.doc.Value.TheVariants as values
+use Rattle.doc_value.specs.declared.doc.DocField.{DocField}
+use Rattle.agg_model.specs.Counting.{is_same, truth_number, value_count, step_count}
+use Rattle.agg_model.specs.Tallies.{raised}
+use Rattle.agg_model.specs.declared.request.Agg.{Agg}
+use Rattle.agg_model.specs.declared.request.Agg.TheVariants.{Terms, Histogram}
+use Rattle.agg_model.specs.declared.request.NamedAgg.{NamedAgg}
+use Rattle.agg_model.specs.declared.tallies.Tally.{Tally}
+use Rattle.agg_model.specs.declared.counts.Counts.{Counts}
+use Rattle.agg_model.specs.declared.partial.Partial.{Partial}
+
+-- the tally of a value
+abbrev pub tally_of : Counts → Value → Option Tally
+tally_of counts (values.Text t) = hash.get_by_text counts.texts t
+tally_of counts (values.I64 z) = hash.get int_eq counts.signed z
+tally_of counts (values.U64 n) = hash.get int_eq counts.unsigned (pos n)
+tally_of counts (values.Bool b) = hash.get int_eq counts.truths (truth_number b)
+tally_of counts (values.Datetime s) = hash.get int_eq counts.datetimes s
+
+-- how many documents it counts for a value, and for a step
+abbrev pub tallied : Option Tally → ℕ
+tallied o = option_map_or (λ t. t.count) o 0
+
+abbrev pub in_step : Counts → ℤ → Option ℕ
+in_step counts step = tree.get int_cmp counts.steps step
+
+-- a part stands for documents where each of its counts is that of the documents
+abbrev pub CountsFor : Agg → Counts → List (List DocField) → Type 0
+CountsFor (Terms field size) counts documents =
+    (value : Value) → tallied (tally_of counts value) ≡ value_count field documents value
+CountsFor (Histogram field interval offset least dated) counts documents =
+    (step : ℤ) → unwrap_or (in_step counts step) 0 ≡ step_count field interval offset documents step
+
+-- a partial stands for documents where it counts so many, and each part stands for them
+pub record StandsFor (request : List NamedAgg) (partial : Partial) (documents : List (List DocField)) : Type 0 where
+  pub many : partial.documents ≡ length documents
+  pub parts : AllZip (λ named counts. CountsFor named.agg counts documents) request partial.parts.items
+
+-- an interval of at least 1 and an offset, both of less than 2^96 in size: more than a request can name
+pub record IsScale (interval offset : ℤ) : Type 0 where
+  pub some : pos 1 ≤ℤ interval
+  pub fine : unsigned_abs interval < 2 ^ 96
+  pub near : unsigned_abs offset < 2 ^ 96
+
+-- an aggregation's numbers are small enough
+abbrev pub IsNarrow : Agg → Type 0
+IsNarrow (Terms field size) = Unit {0}
+IsNarrow (Histogram field interval offset least dated) = IsScale interval offset
+
+-- a request has at most so many aggregations
+abbrev pub most_aggregations : ℕ
+most_aggregations = 16
+
+-- at most 16 aggregations, each interval at least 1, and no interval or offset too wide
+pub record IsAsked (request : List NamedAgg) : Type 0 where
+  pub few : length request ≤ most_aggregations
+  pub narrow : All (λ named. IsNarrow named.agg) request
+
+-- a tally of some of the first so many documents
+pub record IsTally (number : ℕ) (tally : Tally) : Type 0 where
+  pub some : 0 < tally.count
+  pub most : tally.count ≤ number
+  pub last : tally.last ≤ number
+
+-- a step with some of so many documents, which begins within 2^98
+pub record IsStep (number : ℕ) (interval step : ℤ) (count : ℕ) : Type 0 where
+  pub some : 0 < count
+  pub most : count ≤ number
+  pub near : unsigned_abs (step *ℤ interval) < 2 ^ 98
+  pub close : unsigned_abs step < 2 ^ 98
+
+abbrev pub interval_of : Agg → ℤ
+interval_of (Terms field size) = pos 1
+interval_of (Histogram field interval offset least dated) = interval
+
+-- a part of so many documents
+pub record IsPart (number : ℕ) (agg : Agg) (counts : Counts) : Type 0 where
+  pub tallies : (value : Value) → IfSome (tally_of counts value) (IsTally number)
+  pub steps : (step : ℤ) → IfSome (in_step counts step) (IsStep number (interval_of agg) step)
+
+-- a partial of the request
+pub record IsPartialOf (request : List NamedAgg) (partial : Partial) : Type 0 where
+  pub few : partial.documents < 2 ^ 62
+  pub parts : AllZip (λ named counts. IsPart partial.documents named.agg counts) request partial.parts.items
+
+-- a document of this number has counted for the value, and for no other
+pub record IsRaised (number : ℕ) (value : Value) (old new : Counts) : Type 0 where
+  pub tallies : (other : Value) → tally_of new other
+      ≡ (if is_same value other then Some (raised number (tally_of old value)) else tally_of old other)
+  pub steps : new.steps ≡ old.steps
+
+-- a document of this number has counted for each of the values once
+pub record AreRaised (number : ℕ) (values : List Value) (old new : Counts) : Type 0 where
+  pub tallies : (value : Value) → tally_of new value
+      ≡ (if list_any (λ v. is_same v value) values then Some (raised number (tally_of old value)) else tally_of old value)
+  pub steps : new.steps ≡ old.steps
+
+-- each tally leaves room for more
+abbrev pub HasRoom : Counts → Type 0
+HasRoom counts = (value : Value) → IfSome (tally_of counts value) (λ t. t.count < 2 ^ 62)
+
+-- a part in which nothing is counted
+pub record IsVacant (counts : Counts) : Type 0 where
+  pub tallies : (value : Value) → tally_of counts value ≡ None
+  pub steps : (step : ℤ) → in_step counts step ≡ None
+
+-- one more document lies in a step
+pub record IsStepRaised (step : ℤ) (old new : Counts) : Type 0 where
+  pub steps : (other : ℤ) → in_step new other
+      ≡ (if int_eq step other then Some (unwrap_or (in_step old step) 0 + 1) else in_step old other)
+  pub tallies : (value : Value) → tally_of new value ≡ tally_of old value
+
+-- the step's number and its place on the scale are small
+abbrev pub IsNear : ℤ → ℤ → Type 0
+IsNear interval step = (unsigned_abs (step *ℤ interval) < 2 ^ 98) × (unsigned_abs step < 2 ^ 98)
+
+-- how many documents a partial counts
+abbrev pub documents_in : Partial → ℕ
+documents_in partial = partial.documents
+
+-- one more document, behind so many, was counted for an aggregation
+pub record IsCollected (documents : ℕ) (doc : List DocField) (agg : Agg) (old new : Counts) : Type 0 where
+  pub part : IsPart (documents + 1) agg new
+  pub counts : (ds : List (List DocField)) → CountsFor agg old ds → CountsFor agg new (ds ++ doc ∷ [])
+
+-- the same for each aggregation of a request
+pub record AreCollected (documents : ℕ) (doc : List DocField) (request : List NamedAgg) (old new : List Counts) : Type 0 where
+  pub parts : AllZip (λ named counts. IsPart (documents + 1) named.agg counts) request new
+  pub counts : (ds : List (List DocField)) → AllZip (λ named part. CountsFor named.agg part ds) request old
+      → AllZip (λ named part. CountsFor named.agg part (ds ++ doc ∷ [])) request new

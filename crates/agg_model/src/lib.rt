@@ -1,0 +1,15 @@
+//! Aggregations over documents: what is asked, partials that are collected and merged, and what is answered.
+#![tactic(auto)]
+
+pub mod agg_error;
+pub mod answer;
+mod collecting;
+pub mod counts;
+pub mod partial;
+pub mod request;
+pub mod tallies;
+
+pub use agg_error::AggError;
+pub use answer::{AggAnswer, AggResult, Bucket, Buckets, Key, NamedResult};
+pub use partial::{Partial, collect_one, vacant_partial};
+pub use request::{Agg, AggRequest, DocValues, NamedAgg};

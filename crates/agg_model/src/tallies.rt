@@ -1,0 +1,118 @@
+//! How many documents have a text or a whole number.
+
+ghost use Rattle.std.specs.Prelude.{◌≡◌, ℕ, ◌+◌, ◌^◌, ◌<◌, List, ℤ, Some, IfSome, OnOk, if◌then◌else◌};
+ghost use Rattle.std.specs.HashMap.{get, get_by_text};
+ghost use Rattle.std.specs.Ordering.{int_eq};
+ghost use Rattle.std.specs.Str.{bytes_eq};
+ghost use Rattle.agg_model.specs.Tallies.{raised, joined, FitsWith};
+
+use std::alloc::{AllocError, Global};
+use std::collections::HashMap;
+
+/// How many documents have a key, and the number of the last of them, counted from 1.
+#[derive(Clone, Copy, Debug)]
+pub struct Tally {
+    pub count: u64,
+    pub last: u64,
+}
+
+/// Tallies of texts.
+pub type TextTallies = HashMap<String, Tally>;
+
+/// Tallies of whole numbers.
+pub type WholeTallies = HashMap<i128, Tally>;
+
+// Counts the document of this number for the key, where it isn't counted yet.
+fn raise(tally: &mut Tally, number: u64)
+    requires { tally.old.count < 2 ^ 63 }
+    ensures { tally.new ≡ raised number (Some tally.old) }
+{
+    if tally.last != number {
+        tally.count += 1;
+        tally.last = number;
+    }
+}
+
+/// Counts the document of this number for the text, once however often it is called.
+pub fn raise_text(
+    alloc: Global,
+    tallies: &mut TextTallies,
+    text: &str,
+    number: u64,
+) -> Result<(), AllocError>
+    requires { IfSome (get_by_text tallies.old text.now) (λ t. t.count < 2 ^ 63) }
+    ensures { OnOk result ((t : List ℕ) → get_by_text tallies.new t ≡
+        (if bytes_eq text.now t then Some (raised number (get_by_text tallies.old text.now)) else get_by_text tallies.old t)) }
+{
+    if let Some(tally) = tallies.get_mut(text) {
+        raise(tally, number);
+        return Ok(());
+    }
+    let key = String::from_str(alloc, text)?;
+    tallies.insert(
+        key,
+        Tally {
+            count: 1,
+            last: number,
+        },
+    )?;
+    Ok(())
+}
+
+/// Counts the document of this number for the whole number, once however often it is called.
+pub fn raise_whole(
+    tallies: &mut WholeTallies,
+    whole: i128,
+    number: u64,
+) -> Result<(), AllocError>
+    requires { IfSome (get int_eq tallies.old whole) (λ t. t.count < 2 ^ 63) }
+    ensures { OnOk result ((z : ℤ) → get int_eq tallies.new z ≡
+        (if int_eq whole z then Some (raised number (get int_eq tallies.old whole)) else get int_eq tallies.old z)) }
+{
+    if let Some(tally) = tallies.get_mut(&whole) {
+        raise(tally, number);
+        return Ok(());
+    }
+    tallies.insert(
+        whole,
+        Tally {
+            count: 1,
+            last: number,
+        },
+    )?;
+    Ok(())
+}
+
+/// Adds documents that another tally counted for the text.
+pub fn add_text(
+    alloc: Global,
+    tallies: &mut TextTallies,
+    text: &str,
+    more: Tally,
+) -> Result<(), AllocError>
+    requires { FitsWith more (get_by_text tallies.old text.now) }
+    ensures { OnOk result ((t : List ℕ) → get_by_text tallies.new t ≡
+        (if bytes_eq text.now t then Some (joined (get_by_text tallies.old text.now) more) else get_by_text tallies.old t)) }
+{
+    if let Some(tally) = tallies.get_mut(text) {
+        tally.count += more.count;
+        return Ok(());
+    }
+    let key = String::from_str(alloc, text)?;
+    tallies.insert(key, more)?;
+    Ok(())
+}
+
+/// Adds documents that another tally counted for the whole number.
+pub fn add_whole(tallies: &mut WholeTallies, whole: i128, more: Tally) -> Result<(), AllocError>
+    requires { FitsWith more (get int_eq tallies.old whole) }
+    ensures { OnOk result ((z : ℤ) → get int_eq tallies.new z ≡
+        (if int_eq whole z then Some (joined (get int_eq tallies.old whole) more) else get int_eq tallies.old z)) }
+{
+    if let Some(tally) = tallies.get_mut(&whole) {
+        tally.count += more.count;
+        return Ok(());
+    }
+    tallies.insert(whole, more)?;
+    Ok(())
+}
