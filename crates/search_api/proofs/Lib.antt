@@ -5,3 +5,4 @@ pub mod Sorting
 pub mod Aggs
 pub mod Members
 pub mod Texts
+pub mod Objects

@@ -3,4 +3,5 @@ pub mod Answers
 pub mod Intervals
 pub mod Keys
 pub mod Kinds
+pub mod Replies
 pub mod Requests

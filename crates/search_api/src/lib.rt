@@ -2,12 +2,23 @@
 #![tactic(auto)]
 
 mod aggregations;
+mod buckets;
 mod intervals;
 mod keys;
 mod kinds;
+mod pairs;
+mod printing;
 mod reading;
+mod refusals;
+pub mod reply;
 pub mod request;
 pub mod request_error;
 mod unknown;
 
+pub use printing::print_reply;
 pub use reading::read_request;
+pub use reply::{Hits, Refusal, Reply, Said};
+pub use request::{
+    AggShape, AskedAgg, AskedAggs, Paths, Request, SearchRequest, Selection, SortBy,
+};
+pub use request_error::RequestError;
