@@ -10,7 +10,7 @@ use Rattle.std.specs.Option.{option_map, option_map_or, IfSome}
 use Rattle.std.specs.Ordering.{int_eq}
 use Rattle.doc_value.specs.declared.doc.DocField.{DocField}
 use Rattle.agg_model.specs.Counting.{step_of, first_whole, lies_in, step_count}
-use Rattle.agg_model.specs.Partials.{IsNear, IsPart, IsStep, IsStepRaised, CountsFor, in_step, tally_of, interval_of}
+use Rattle.agg_model.specs.Partials.{IsNear, IsPart, IsStep, IsStepRaised, CountsFor, in_step, tally_at, interval_of}
 use Rattle.agg_model.specs.declared.counts.Counts.{Counts}
 use Rattle.agg_model.specs.declared.request.Agg.{Agg}
 use Rattle.agg_model.specs.declared.request.Agg.TheVariants.{Histogram}
@@ -63,7 +63,7 @@ step_counts field interval offset least dated step old new ds doc e raised befor
 -- the part after one more document lay in a step
 pub step_part : (number : ℕ) (agg : Agg) (step : ℤ) (old new : Counts) → IsNear (interval_of agg) step → IsStepRaised step old new → IsPart number agg old → IsPart (number + 1) agg new
 step_part number agg step old new near raised before = record {
-    tallies = λ value. rw (raised.tallies value) (IfSome_then (tally_of old value) (before.tallies value) (λ t h. record { some = h.some; most = omega arith; last = omega arith }));
+    tallies = λ slot. rw (raised.tallies slot) (IfSome_then (tally_at old slot) (before.tallies slot) (λ t h. record { some = h.some; most = omega arith; last = omega arith }));
     steps = λ other. rw (raised.steps other) (at other (int_eq step other) refl (before.steps other) (before.steps step));
   }
   where

@@ -21,14 +21,32 @@ abbrev pub truth_number : Bool → ℤ
 truth_number false = pos 0
 truth_number true = pos 1
 
--- two values are the same
+-- where a value is counted: its kind, and its text or whole number
+pub data Slot : Type 0 where
+  text : List ℕ → Slot
+  signed : ℤ → Slot
+  unsigned : ℤ → Slot
+  truth : ℤ → Slot
+  datetime : ℤ → Slot
+
+abbrev pub slot_of : Value → Slot
+slot_of (values.Text t) = text t
+slot_of (values.I64 z) = signed z
+slot_of (values.U64 n) = unsigned (pos n)
+slot_of (values.Bool b) = truth (truth_number b)
+slot_of (values.Datetime s) = datetime s
+
+abbrev pub same_slot : Slot → Slot → Bool
+same_slot (text a) (text b) = bytes_eq a b
+same_slot (signed a) (signed b) = int_eq a b
+same_slot (unsigned a) (unsigned b) = int_eq a b
+same_slot (truth a) (truth b) = int_eq a b
+same_slot (datetime a) (datetime b) = int_eq a b
+same_slot _ _ = false
+
+-- two values are of one kind and the same
 abbrev pub is_same : Value → Value → Bool
-is_same (values.Text a) (values.Text b) = bytes_eq a b
-is_same (values.I64 a) (values.I64 b) = int_eq a b
-is_same (values.U64 a) (values.U64 b) = int_eq (pos a) (pos b)
-is_same (values.Bool a) (values.Bool b) = int_eq (truth_number a) (truth_number b)
-is_same (values.Datetime a) (values.Datetime b) = int_eq a b
-is_same _ _ = false
+is_same a b = same_slot (slot_of a) (slot_of b)
 
 -- the document has the value among those of the field
 abbrev pub has_value : ℕ → Value → List DocField → Bool

@@ -3,14 +3,13 @@ use Rattle.std.specs.Prelude.{◌≡◌, ℕ, ◌++◌, ◌+◌, ◌*◌, ◌^�
 use Rattle.std.specs.HashMap as hash
 use Rattle.std.specs.BTreeMap as tree
 use Rattle.std.specs.Int.RustNames.{unsigned_abs}
-use Rattle.std.specs.List.{AllZip, All, list_any}
+use Rattle.std.specs.List.{AllZip, All, list_any, slice_index_or}
 use Rattle.std.specs.Option.{IfSome, option_map_or, unwrap_or}
 use Rattle.std.specs.Ordering.{int_eq, int_cmp}
 use Rattle.doc_value.specs.declared.doc.Value.{Value}
-use Rattle.doc_value.specs.declared.doc.Value.TheVariants as values
 use Rattle.doc_value.specs.declared.doc.DocField.{DocField}
-use Rattle.agg_model.specs.Counting.{is_same, truth_number, value_count, step_count}
-use Rattle.agg_model.specs.Tallies.{raised}
+use Rattle.agg_model.specs.Counting.{Slot, text, signed, unsigned, truth, datetime, slot_of, same_slot, value_count, step_count}
+use Rattle.agg_model.specs.Tallies.{raised, merged, HaveRoom, step_sum}
 use Rattle.agg_model.specs.declared.request.Agg.{Agg}
 use Rattle.agg_model.specs.declared.request.Agg.TheVariants.{Terms, Histogram}
 use Rattle.agg_model.specs.declared.request.NamedAgg.{NamedAgg}
@@ -18,13 +17,13 @@ use Rattle.agg_model.specs.declared.tallies.Tally.{Tally}
 use Rattle.agg_model.specs.declared.counts.Counts.{Counts}
 use Rattle.agg_model.specs.declared.partial.Partial.{Partial}
 
--- the tally of a value
-abbrev pub tally_of : Counts → Value → Option Tally
-tally_of counts (values.Text t) = hash.get_by_text counts.texts t
-tally_of counts (values.I64 z) = hash.get int_eq counts.signed z
-tally_of counts (values.U64 n) = hash.get int_eq counts.unsigned (pos n)
-tally_of counts (values.Bool b) = hash.get int_eq counts.truths (truth_number b)
-tally_of counts (values.Datetime s) = hash.get int_eq counts.datetimes s
+-- the tally at a slot
+abbrev pub tally_at : Counts → Slot → Option Tally
+tally_at counts (text t) = hash.get_by_text counts.texts t
+tally_at counts (signed z) = hash.get int_eq counts.signed z
+tally_at counts (unsigned z) = hash.get int_eq counts.unsigned z
+tally_at counts (truth z) = hash.get int_eq counts.truths z
+tally_at counts (datetime z) = hash.get int_eq counts.datetimes z
 
 -- how many documents it counts for a value, and for a step
 abbrev pub tallied : Option Tally → ℕ
@@ -36,7 +35,7 @@ in_step counts step = tree.get int_cmp counts.steps step
 -- a part stands for documents where each of its counts is that of the documents
 abbrev pub CountsFor : Agg → Counts → List (List DocField) → Type 0
 CountsFor (Terms field size) counts documents =
-    (value : Value) → tallied (tally_of counts value) ≡ value_count field documents value
+    (value : Value) → tallied (tally_at counts (slot_of value)) ≡ value_count field documents value
 CountsFor (Histogram field interval offset least dated) counts documents =
     (step : ℤ) → unwrap_or (in_step counts step) 0 ≡ step_count field interval offset documents step
 
@@ -84,7 +83,7 @@ interval_of (Histogram field interval offset least dated) = interval
 
 -- a part of so many documents
 pub record IsPart (number : ℕ) (agg : Agg) (counts : Counts) : Type 0 where
-  pub tallies : (value : Value) → IfSome (tally_of counts value) (IsTally number)
+  pub tallies : (slot : Slot) → IfSome (tally_at counts slot) (IsTally number)
   pub steps : (step : ℤ) → IfSome (in_step counts step) (IsStep number (interval_of agg) step)
 
 -- a partial of the request
@@ -94,30 +93,31 @@ pub record IsPartialOf (request : List NamedAgg) (partial : Partial) : Type 0 wh
 
 -- a document of this number has counted for the value, and for no other
 pub record IsRaised (number : ℕ) (value : Value) (old new : Counts) : Type 0 where
-  pub tallies : (other : Value) → tally_of new other
-      ≡ (if is_same value other then Some (raised number (tally_of old value)) else tally_of old other)
+  pub tallies : (slot : Slot) → tally_at new slot
+      ≡ (if same_slot (slot_of value) slot then Some (raised number (tally_at old (slot_of value))) else tally_at old slot)
   pub steps : new.steps ≡ old.steps
 
 -- a document of this number has counted for each of the values once
 pub record AreRaised (number : ℕ) (values : List Value) (old new : Counts) : Type 0 where
-  pub tallies : (value : Value) → tally_of new value
-      ≡ (if list_any (λ v. is_same v value) values then Some (raised number (tally_of old value)) else tally_of old value)
+  pub tallies : (slot : Slot) → tally_at new slot
+      ≡ (if list_any (λ v. same_slot (slot_of v) slot) values then Some (raised number (tally_at old slot)) else tally_at old slot)
   pub steps : new.steps ≡ old.steps
 
--- each tally leaves room for more
-abbrev pub HasRoom : Counts → Type 0
-HasRoom counts = (value : Value) → IfSome (tally_of counts value) (λ t. t.count < 2 ^ 62)
+-- each count leaves room for as much again
+pub record HasRoom (counts : Counts) : Type 0 where
+  pub tallies : HaveRoom (tally_at counts)
+  pub steps : (step : ℤ) → IfSome (in_step counts step) (λ count. count < 2 ^ 62)
 
 -- a part in which nothing is counted
 pub record IsVacant (counts : Counts) : Type 0 where
-  pub tallies : (value : Value) → tally_of counts value ≡ None
+  pub tallies : (slot : Slot) → tally_at counts slot ≡ None
   pub steps : (step : ℤ) → in_step counts step ≡ None
 
 -- one more document lies in a step
 pub record IsStepRaised (step : ℤ) (old new : Counts) : Type 0 where
   pub steps : (other : ℤ) → in_step new other
       ≡ (if int_eq step other then Some (unwrap_or (in_step old step) 0 + 1) else in_step old other)
-  pub tallies : (value : Value) → tally_of new value ≡ tally_of old value
+  pub tallies : (slot : Slot) → tally_at new slot ≡ tally_at old slot
 
 -- the step's number and its place on the scale are small
 abbrev pub IsNear : ℤ → ℤ → Type 0
@@ -137,3 +137,13 @@ pub record AreCollected (documents : ℕ) (doc : List DocField) (request : List 
   pub parts : AllZip (λ named counts. IsPart (documents + 1) named.agg counts) request new
   pub counts : (ds : List (List DocField)) → AllZip (λ named part. CountsFor named.agg part ds) request old
       → AllZip (λ named part. CountsFor named.agg part (ds ++ doc ∷ [])) request new
+
+-- what two parts count together
+pub record IsMerged (mine yours new : Counts) : Type 0 where
+  pub tallies : (slot : Slot) → tally_at new slot ≡ merged (tally_at mine slot) (tally_at yours slot)
+  pub steps : (step : ℤ) → in_step new step ≡ step_sum (in_step mine step) (in_step yours step)
+
+-- the same for each part of two partials of one request
+pub record AreMerged (mine yours new : List Counts) : Type 0 where
+  pub long : length new ≡ length mine
+  pub each : (k : ℕ) (d : Counts) → k < length mine → IsMerged (slice_index_or mine k d) (slice_index_or yours k d) (slice_index_or new k d)

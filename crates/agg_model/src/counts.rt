@@ -2,7 +2,10 @@
 
 ghost use Rattle.std.specs.Prelude.{◌≡◌, ◌^◌, ◌<◌, IfSome, OnOk};
 
-use crate::tallies::{TextTallies, WholeTallies, raise_text, raise_whole};
+use crate::tallies::{
+    StepCounts, TextTallies, WholeTallies, merge_steps, merge_texts, merge_wholes, raise_text,
+    raise_whole,
+};
 use doc_value::Value;
 use std::alloc::{AllocError, Global};
 use std::collections::{BTreeMap, HashMap};
@@ -15,11 +18,12 @@ pub struct Counts {
     pub(crate) unsigned: WholeTallies,
     pub(crate) truths: WholeTallies,
     pub(crate) datetimes: WholeTallies,
-    pub(crate) steps: BTreeMap<i128, u64>,
+    pub(crate) steps: StepCounts,
 }
 
 impl Counts {
-    ghost use Rattle.agg_model.specs.Partials.{IsVacant, IsRaised, AreRaised, IsStepRaised, HasRoom, tally_of, in_step};
+    ghost use Rattle.agg_model.specs.Partials.{IsVacant, IsRaised, AreRaised, IsStepRaised, IsMerged, HasRoom, tally_at, in_step};
+    ghost use Rattle.agg_model.specs.Counting.{slot_of};
 
     /// The part of no documents.
     pub fn vacant(alloc: Global) -> Counts
@@ -37,7 +41,7 @@ impl Counts {
 
     /// Counts the document of this number for the value, once however often it is called.
     fn raise(&mut self, alloc: Global, value: &Value, number: u64) -> Result<(), AllocError>
-        requires { IfSome (tally_of self.old value.now) (λ t. t.count < 2 ^ 63) }
+        requires { IfSome (tally_at self.old (slot_of value.now)) (λ t. t.count < 2 ^ 63) }
         ensures { OnOk result (IsRaised number value.now self.old self.new) }
     {
         match value {
@@ -74,5 +78,19 @@ impl Counts {
     {
         *self.steps.entry(step)?.or_insert(0) += 1;
         Ok(())
+    }
+
+    /// Adds what another part of the same aggregation counts.
+    pub fn merge(&mut self, alloc: Global, other: &Counts) -> Result<(), AllocError>
+        requires mine { HasRoom self.old }
+        requires yours { HasRoom other.now }
+        ensures { OnOk result (IsMerged self.old other.now self.new) }
+    {
+        merge_texts(alloc, &mut self.texts, &other.texts)?;
+        merge_wholes(&mut self.signed, &other.signed)?;
+        merge_wholes(&mut self.unsigned, &other.unsigned)?;
+        merge_wholes(&mut self.truths, &other.truths)?;
+        merge_wholes(&mut self.datetimes, &other.datetimes)?;
+        merge_steps(&mut self.steps, &other.steps)
     }
 }

@@ -3,13 +3,17 @@
 
 pub mod agg_error;
 pub mod answer;
+pub mod checking;
 mod collecting;
 pub mod counts;
+pub mod merging;
 pub mod partial;
 pub mod request;
 pub mod tallies;
 
 pub use agg_error::AggError;
 pub use answer::{AggAnswer, AggResult, Bucket, Buckets, Key, NamedResult};
+pub use checking::check_aggs;
+pub use merging::merge_partials;
 pub use partial::{Partial, collect_one, vacant_partial};
 pub use request::{Agg, AggRequest, DocValues, NamedAgg};

@@ -3,6 +3,7 @@ use Rattle.std.proofs.lemmas.Grind.{common_steps}
 use Rattle.std.proofs.lemmas.Int.{to_z-of_z}
 use Rattle.std.specs.Int.RustNames.{FitsSigned}
 use Rattle.agg_model.proofs.Steps.{step_counts, step_part}
+use Rattle.agg_model.proofs.Values.{terms_collected}
 use Rattle.agg_model.proofs.collecting.collect_part.Goals as goal
 use mir.Syntax.{w128}
 
@@ -19,3 +20,8 @@ returns-in_ok-raise_step-in-Histogram c =
       counts = rw c.in-Histogram.is (λ ds h. step_counts c.in-Histogram.field c.in-Histogram.interval c.in-Histogram.offset c.in-Histogram.min_doc_count c.in-Histogram.dated
         c.in-Some.step c.args.counts.now c.raise_step.new.self ds c.args.doc.now first raised h);
     }
+
+pub returns-in_ok-raise_all-in-Terms : goal.returns-in_ok-raise_all-in-Terms
+returns-in_ok-raise_all-in-Terms c =
+    rw c.in-Terms.is (terms_collected c.args.documents c.in-Terms.field c.in-Terms.size c.args.doc.now c.args.counts.now c.raise_all.new.self
+        (rw c.values_of.ensures at c.in_ok-raise_all-in-Terms.ensures) (rw c.in-Terms.is at c.requires.part))
