@@ -6,3 +6,5 @@ pub mod Aggs
 pub mod Members
 pub mod Texts
 pub mod Objects
+pub mod Numbered
+pub mod Within

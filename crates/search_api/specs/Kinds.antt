@@ -7,7 +7,7 @@ use Rattle.search_api.specs.declared.request_error.RequestError.TheVariants.{Wro
 
 -- what the second answer is, once the first is there
 infixl 10 ◌>>=◌
-abbrev pub ◌>>=◌ : {A B : Type 0} → Result A RequestError → (A → Result B RequestError) → Result B RequestError
+abbrev pub ◌>>=◌ : {A B E : Type 0} → Result A E → (A → Result B E) → Result B E
 (Ok x) >>= f = f x
 (Err e) >>= f = Err e
 

@@ -5,3 +5,6 @@ pub mod Keys
 pub mod Kinds
 pub mod Replies
 pub mod Requests
+pub mod Resolved
+pub mod Same
+pub mod Unanswered

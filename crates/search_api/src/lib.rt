@@ -13,6 +13,9 @@ mod refusals;
 pub mod reply;
 pub mod request;
 pub mod request_error;
+pub mod resolved;
+mod resolving;
+pub mod unanswered;
 mod unknown;
 
 pub use printing::print_reply;
@@ -22,3 +25,6 @@ pub use request::{
     AggShape, AskedAgg, AskedAggs, Paths, Request, SearchRequest, Selection, SortBy,
 };
 pub use request_error::RequestError;
+pub use resolved::{Deletion, Resolved, SearchAsk, SortField};
+pub use resolving::resolve;
+pub use unanswered::Unanswered;
