@@ -1,0 +1,10 @@
+pub mod Aggregations
+pub mod Answers
+pub mod Intervals
+pub mod Keys
+pub mod Kinds
+pub mod Replies
+pub mod Requests
+pub mod Resolved
+pub mod Same
+pub mod Unanswered

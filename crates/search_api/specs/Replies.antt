@@ -1,0 +1,148 @@
+-- The line of a reply: compact JSON, the keys of each object in byte order.
+use Rattle.std.specs.Prelude.{ℕ, Bool, true, false, List, [], ◌∷◌, ◌++◌, map, codes}
+use Rattle.std.specs.Fmt.{decimal, signed_decimal}
+use Rattle.doc_value.specs.Printed.{quoted, comma, value_text}
+use Rattle.agg_model.specs.declared.answer.Key.{Key}
+use Rattle.agg_model.specs.declared.answer.Key.TheVariants as bucket_keys
+use Rattle.agg_model.specs.declared.answer.Bucket.{Bucket}
+use Rattle.agg_model.specs.declared.answer.AggAnswer.{AggAnswer}
+use Rattle.agg_model.specs.declared.answer.AggAnswer.TheVariants as answers
+use Rattle.agg_model.specs.declared.answer.NamedResult.{NamedResult}
+use Rattle.search_api.specs.declared.reply.Refusal.{Refusal}
+use Rattle.search_api.specs.declared.reply.Refusal.TheVariants as refusals
+use Rattle.search_api.specs.declared.reply.Said.{Said}
+use Rattle.search_api.specs.declared.reply.Said.TheVariants.{Found, Deleted, Refused}
+use Rattle.search_api.specs.declared.reply.Reply.{Reply}
+
+-- texts with commas between
+abbrev pub with_commas : Bool → List (List ℕ) → List ℕ
+with_commas first [] = []
+with_commas first (x ∷ xs) = comma first ++ (x ++ with_commas false xs)
+
+-- a key and its colon, behind a comma unless it is the first
+unfoldable pub begun_pair : Bool → List ℕ → List ℕ
+begun_pair first key = comma first ++ (quoted key ++ 58 ∷ [])
+
+unfoldable pub pair_text : List ℕ → List ℕ → List ℕ
+pair_text key value = quoted key ++ 58 ∷ value
+
+unfoldable pub object_text : List (List ℕ) → List ℕ
+object_text pairs = 123 ∷ (with_commas true pairs ++ 125 ∷ [])
+
+unfoldable pub list_text : List (List ℕ) → List ℕ
+list_text items = 91 ∷ (with_commas true items ++ 93 ∷ [])
+
+-- ---- aggregations
+
+-- a value, or where a step of a histogram begins
+abbrev pub key_text : Key → List ℕ
+key_text (bucket_keys.Value v) = value_text v
+key_text (bucket_keys.Step z) = signed_decimal z
+
+unfoldable pub bucket_text : Bucket → List ℕ
+bucket_text b = object_text (pair_text (codes "doc_count") (decimal b.count) ∷ pair_text (codes "key") (key_text b.key) ∷ [])
+
+-- the counts are exact, so the error bound is 0
+unfoldable pub terms_text : List Bucket → ℕ → List ℕ
+terms_text buckets others =
+    object_text (pair_text (codes "buckets") (list_text (map bucket_text buckets)) ∷ pair_text (codes "doc_count_error_upper_bound") (decimal 0)
+    ∷ pair_text (codes "sum_other_doc_count") (decimal others) ∷ [])
+
+unfoldable pub histogram_text : List Bucket → List ℕ
+histogram_text buckets = object_text (pair_text (codes "buckets") (list_text (map bucket_text buckets)) ∷ [])
+
+abbrev pub answer_text : AggAnswer → List ℕ
+answer_text (answers.Terms buckets others) = terms_text buckets others
+answer_text (answers.Histogram buckets) = histogram_text buckets
+
+unfoldable pub named_text : NamedResult → List ℕ
+named_text r = pair_text r.name (answer_text r.result)
+
+unfoldable pub aggs_text : List NamedResult → List ℕ
+aggs_text results = object_text (map named_text results)
+
+-- ---- refusals
+
+abbrev pub kind_pair : List ℕ → List ℕ
+kind_pair kind = pair_text (codes "kind") (quoted kind)
+
+unfoldable pub alone : List ℕ → List (List ℕ)
+alone kind = kind_pair kind ∷ []
+
+unfoldable pub with_name : List ℕ → List ℕ → List (List ℕ)
+with_name kind name = kind_pair kind ∷ pair_text (codes "name") (quoted name) ∷ []
+
+unfoldable pub with_place : List ℕ → ℕ → List (List ℕ)
+with_place kind place = pair_text (codes "at") (decimal place) ∷ kind_pair kind ∷ []
+
+unfoldable pub with_count : List ℕ → ℕ → List (List ℕ)
+with_count kind count = pair_text (codes "count") (decimal count) ∷ kind_pair kind ∷ []
+
+unfoldable pub with_key : List ℕ → List ℕ → List (List ℕ)
+with_key kind key = pair_text (codes "key") (quoted key) ∷ kind_pair kind ∷ []
+
+unfoldable pub too_many_hits : ℕ → List (List ℕ)
+too_many_hits wanted = kind_pair (codes "TooManyHits") ∷ pair_text (codes "wanted") (decimal wanted) ∷ []
+
+unfoldable pub not_fast : List ℕ → List (List ℕ)
+not_fast field = pair_text (codes "field") (quoted field) ∷ kind_pair (codes "NotFast") ∷ []
+
+unfoldable pub expired : ℕ → ℕ → List (List ℕ)
+expired planned_at now =
+    kind_pair (codes "Expired") ∷ pair_text (codes "now") (decimal now) ∷ pair_text (codes "planned_at") (decimal planned_at) ∷ []
+
+unfoldable pub store_fault : ℕ → ℕ → List (List ℕ)
+store_fault before after =
+    pair_text (codes "after") (decimal after) ∷ pair_text (codes "before") (decimal before) ∷ kind_pair (codes "StoreFault") ∷ []
+
+-- the refusal's name and what is kept of it, by its names
+abbrev pub refusal_pairs : Refusal → List (List ℕ)
+refusal_pairs refusals.NotJson = alone (codes "NotJson")
+refusal_pairs (refusals.UnknownKey name) = with_name (codes "UnknownKey") name
+refusal_pairs (refusals.WrongKind name) = with_name (codes "WrongKind") name
+refusal_pairs (refusals.MissingKey name) = with_name (codes "MissingKey") name
+refusal_pairs (refusals.TooManyHits wanted) = too_many_hits wanted
+refusal_pairs (refusals.UnknownField name) = with_name (codes "UnknownField") name
+refusal_pairs (refusals.NotFast field) = not_fast field
+refusal_pairs refusals.NoTimestampField = alone (codes "NoTimestampField")
+refusal_pairs (refusals.Syntax place) = with_place (codes "Syntax") place
+refusal_pairs (refusals.TooDeep place) = with_place (codes "TooDeep") place
+refusal_pairs (refusals.NotIndexed place) = with_place (codes "NotIndexed") place
+refusal_pairs (refusals.BadValue place) = with_place (codes "BadValue") place
+refusal_pairs (refusals.NoDefaultField place) = with_place (codes "NoDefaultField") place
+refusal_pairs (refusals.NoPositions place) = with_place (codes "NoPositions") place
+refusal_pairs (refusals.BadInterval name) = with_name (codes "BadInterval") name
+refusal_pairs (refusals.Expired planned_at now) = expired planned_at now
+refusal_pairs (refusals.StoreFault before after) = store_fault before after
+refusal_pairs (refusals.Missing key) = with_key (codes "Missing") key
+refusal_pairs (refusals.Corrupt key) = with_key (codes "Corrupt") key
+refusal_pairs (refusals.Foreign key) = with_key (codes "Foreign") key
+refusal_pairs (refusals.TooManyBuckets count) = with_count (codes "TooManyBuckets") count
+refusal_pairs (refusals.TooManyTasks count) = with_count (codes "TooManyTasks") count
+refusal_pairs refusals.Full = alone (codes "Full")
+
+-- ---- replies
+
+unfoldable pub found_text : List ℕ → ℕ → ℕ → List (List ℕ) → List NamedResult → List ℕ
+found_text client revision count hits aggs =
+    object_text (pair_text (codes "aggregations") (aggs_text aggs) ∷ pair_text (codes "client") (quoted client)
+    ∷ pair_text (codes "hits") (list_text hits) ∷ pair_text (codes "num_hits") (decimal count) ∷ pair_text (codes "revision") (decimal revision) ∷ [])
+
+unfoldable pub deleted_text : List ℕ → ℕ → ℕ → List ℕ
+deleted_text client revision opstamp =
+    object_text (pair_text (codes "client") (quoted client) ∷ pair_text (codes "opstamp") (decimal opstamp)
+    ∷ pair_text (codes "revision") (decimal revision) ∷ [])
+
+unfoldable pub refused_text : List ℕ → ℕ → Refusal → List ℕ
+refused_text client revision refusal =
+    object_text (pair_text (codes "client") (quoted client) ∷ pair_text (codes "error") (object_text (refusal_pairs refusal))
+    ∷ pair_text (codes "revision") (decimal revision) ∷ [])
+
+abbrev pub said_text : List ℕ → ℕ → Said → List ℕ
+said_text client revision (Found count hits aggs) = found_text client revision count hits aggs
+said_text client revision (Deleted opstamp) = deleted_text client revision opstamp
+said_text client revision (Refused refusal) = refused_text client revision refusal
+
+-- the line of a reply
+abbrev pub reply_text : Reply → List ℕ
+reply_text reply = said_text reply.client reply.revision reply.said

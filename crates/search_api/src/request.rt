@@ -1,0 +1,69 @@
+use doc_value::{List, Text, TimeRange};
+
+/// Paths of fields, in the order in which they were given.
+pub type Paths = List<Text>;
+
+/// Which documents a search or a delete is about.
+#[derive(Debug, Drop)]
+pub struct Selection {
+    /// The query's text.
+    pub query: Text,
+    /// The fields that a clause without a field asks. Where none are given, the configuration's default fields.
+    pub fields: Option<Paths>,
+    /// In whole seconds from 1970 on: from the start on and before the end.
+    pub times: TimeRange,
+}
+
+/// The field by whose first value hits are sorted.
+#[derive(Debug, Drop)]
+pub struct SortBy {
+    pub path: Text,
+    pub descending: bool,
+}
+
+/// What an aggregation counts of its field's values.
+#[derive(Debug, Drop)]
+pub enum AggShape {
+    /// The `size` values that the most documents have.
+    Terms {
+        size: u32,
+    },
+    /// Values by intervals, in the field's unit, or in seconds where it is dated. The interval 0 stands for one that
+    /// can't be: 0 itself, or that of a dated histogram whose interval or offset isn't spelled as one.
+    Histogram {
+        interval: i128,
+        offset: i128,
+        min_doc_count: u32,
+        dated: bool,
+    },
+}
+
+/// An aggregation under its name, over the field with this path.
+#[derive(Debug, Drop)]
+pub struct AskedAgg {
+    pub name: Text,
+    pub path: Text,
+    pub shape: AggShape,
+}
+
+/// Aggregations in byte order of their names.
+pub type AskedAggs = List<AskedAgg>;
+
+/// A search: which documents, which of them are shown, and what is counted.
+#[derive(Debug, Drop)]
+pub struct SearchRequest {
+    pub selection: Selection,
+    /// How many hits are passed over.
+    pub start_offset: u32,
+    /// How many hits are shown at most.
+    pub max_hits: u32,
+    pub sort_by: Option<SortBy>,
+    pub aggs: AskedAggs,
+}
+
+/// What a client asks.
+#[derive(Debug, Drop)]
+pub enum Request {
+    Search(SearchRequest),
+    Delete(Selection),
+}
