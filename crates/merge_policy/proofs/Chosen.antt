@@ -16,8 +16,8 @@ use Rattle.index_config.specs.declared.config.Policy.{Policy}
 use Rattle.split_states.specs.declared.rows.Row.{Row}
 use Rattle.split_states.specs.Rows.{rising_from, row_numbers, RowsRise}
 use Rattle.merge_policy.specs.declared.candidate.Candidate.{Candidate}
-use Rattle.merge_policy.specs.Choice.{is_of_level, is_candidate, level_rows, times_order, row_order, merge_factor, max_merge_factor, IsFront, Gives, IsChosen}
-use Rattle.merge_policy.specs.Walk.{rows_of, IsRanked, candidate_order, of_level, LevelsRise, IsFrontAt, IsFirst, IsWalked}
+use Rattle.merge_policy.specs.Choice.{is_of_level, is_candidate, level_rows, times_order, row_order, merge_factor, max_merge_factor, IsMerge, Gives, IsChosen}
+use Rattle.merge_policy.specs.Walk.{rows_of, IsRanked, candidate_order, of_level, LevelsRise, IsMergeAt, IsFirst, IsWalked}
 use Rattle.merge_policy.proofs.Orders.{All-each, Ascends, AtMost, ascends_sorted, sorted_unique, row_order_total, candidate_order_total}
 use Rattle.merge_policy.proofs.Permuted.{IsPermutation-filter}
 
@@ -127,23 +127,23 @@ module _ (policy : Policy) (target now : ℕ) (rows : List Row) (sorted : List C
       let apart = IsDistinct-IsPermutation (eq_by_cmp by_number) equal.symm _ _ (level_same k) (IsDistinct-from_sorted by_number _ own) in
       strict_rows _ (rows_ascend k sorted ascend) apart
 
-  at_level : (k : ℕ) (front : List Row) → Gives policy target now rows k front → IsFrontAt (merge_factor policy) (max_merge_factor policy) sorted k front
-  at_level k front g =
+  at_level : (k : ℕ) (merged : List Row) → Gives policy target now rows k merged → IsMergeAt (merge_factor policy) (max_merge_factor policy) sorted k merged
+  at_level k merged g =
       let same = IsPermutation-trans _ _ _ (IsPermutation-sym _ _ (level_same k)) g.same in
       let e = sorted_unique row_order row_order_total (rows_of (of_level k sorted)) g.level (level_strict k) same g.in_order in
-      subst (λ (l : List Row). IsFront (merge_factor policy) (max_merge_factor policy) l front) e g.is_front
+      subst (λ (l : List Row). IsMerge (merge_factor policy) (max_merge_factor policy) l merged) e g.is_merge
 
-  gives : (k : ℕ) (front : List Row) → IsFrontAt (merge_factor policy) (max_merge_factor policy) sorted k front → Gives policy target now rows k front
-  gives k front at = record { level = rows_of (of_level k sorted); same = level_same k; in_order = level_strict k; is_front = at }
+  gives : (k : ℕ) (merged : List Row) → IsMergeAt (merge_factor policy) (max_merge_factor policy) sorted k merged → Gives policy target now rows k merged
+  gives k merged at = record { level = rows_of (of_level k sorted); same = level_same k; in_order = level_strict k; is_merge = at }
 
   pub chosen_none : IsWalked (merge_factor policy) (max_merge_factor policy) sorted None → IsChosen policy target now rows None
-  chosen_none walked = λ k front g. walked k front (at_level k front g)
+  chosen_none walked = λ k merged g. walked k merged (at_level k merged g)
 
-  pub chosen_some : (front : List Row) (numbers : List ℕ) → IsFirst (merge_factor policy) (max_merge_factor policy) sorted front → numbers ≡ map (λ row. row.number) front → IsChosen policy target now rows (Some numbers)
-  chosen_some front numbers walked e = record {
+  pub chosen_some : (merged : List Row) (numbers : List ℕ) → IsFirst (merge_factor policy) (max_merge_factor policy) sorted merged → numbers ≡ map (λ row. row.number) merged → IsChosen policy target now rows (Some numbers)
+  chosen_some merged numbers walked e = record {
     level = walked.level;
-    front = front;
-    gives = gives walked.level front walked.is_front;
+    merged = merged;
+    gives = gives walked.level merged walked.is_merge;
     least = λ k other g. walked.least k other (at_level k other g);
     numbers_are = e;
   }

@@ -6,8 +6,8 @@ use Rattle.std.proofs.lemmas.Bool.Decides.{nat_tests}
 use Rattle.std.proofs.lemmas.List.{take_all, drop_all, length-drop, length-take}
 use Rattle.split_states.specs.declared.rows.Row.{Row}
 use Rattle.merge_policy.specs.declared.candidate.Candidate.{Candidate}
-use Rattle.merge_policy.specs.Choice.{IsFront}
-use Rattle.merge_policy.specs.Walk.{rows_of, of_level, LevelsRise, IsFrontAt, IsWalked}
+use Rattle.merge_policy.specs.Choice.{IsMerge}
+use Rattle.merge_policy.specs.Walk.{rows_of, of_level, LevelsRise, IsMergeAt, IsWalked}
 use Rattle.merge_policy.proofs.Orders.{All-each, filter_none}
 
 eq_no : (a b : ℕ) → (a ≡ b → ⊥) → (a == b) ≡ false
@@ -31,7 +31,7 @@ past k c list le other up =
     (lt, All-each (λ d. c.level ≤ d.level) (λ d. k < d.level) list (λ d h. omega arith) up)
 
 abbrev IsSplit : ℕ → List Candidate → ℕ → List Candidate → Type 0
-IsSplit k list n front = (front ≡ take n list) × (of_level k (drop n list) ≡ [])
+IsSplit k list n merged = (merged ≡ take n list) × (of_level k (drop n list) ≡ [])
 
 -- the level's candidates stand in front
 split : (k : ℕ) (list : List Candidate) → AllByRecursion (λ d. k ≤ d.level) list → LevelsRise list → IsSplit k list (len_of k list) (of_level k list)
@@ -79,48 +79,48 @@ pub rest_is : (start : ℕ) (list : List Candidate) → take (length list - star
 rest_is start list = take_all _ _ (omega (arith, length-drop start list))
 
 module _ (factor greatest : ℕ) where
-  nothing : (other : List Row) → IsFront factor greatest [] other → ⊥
-  nothing other front =
+  nothing : (other : List Row) → IsMerge factor greatest [] other → ⊥
+  nothing other merged =
       let cut = length-take {A = Row} (length other) [] in
-      let same = ap length front.first in
-      let several = front.several in
+      let same = ap length merged.first in
+      let several = merged.several in
       absurd (omega arith)
 
   pub ended : (start : ℕ) (list : List Candidate) → length list ≤ start → IsWalked factor greatest (drop start list) None
-  ended start list le k front is =
+  ended start list le k merged is =
       let e : drop start list ≡ [] = drop_all start list le in
-      nothing front (subst (λ (l : List Candidate). IsFrontAt factor greatest l k front) e is)
+      nothing merged (subst (λ (l : List Candidate). IsMergeAt factor greatest l k merged) e is)
 
   module _ (k : ℕ) (list : List Candidate) (low : AllByRecursion (λ d. k ≤ d.level) list) (rise : LevelsRise list) where
-    here : (front : List Row) → IsFront factor greatest (rows_of (take (len_of k list) list)) front → IsWalked factor greatest list (Some front)
-    here front is = record {
+    here : (merged : List Row) → IsMerge factor greatest (rows_of (take (len_of k list) list)) merged → IsWalked factor greatest list (Some merged)
+    here merged is = record {
       level = k;
-      is_front = subst (λ (l : List Candidate). IsFront factor greatest (rows_of l) front) (sym (split k list low rise).0) is;
+      is_merge = subst (λ (l : List Candidate). IsMerge factor greatest (rows_of l) merged) (sym (split k list low rise).0) is;
       least = λ j other at. elim (cases_lt j k) [
         | inl less ↦
             let none = none_of j list (All-each (λ d. k ≤ d.level) (λ d. j < d.level) list (λ d h. omega arith) low) in
-            absurd (nothing other (subst (λ (l : List Candidate). IsFront factor greatest (rows_of l) other) none at))
+            absurd (nothing other (subst (λ (l : List Candidate). IsMerge factor greatest (rows_of l) other) none at))
         | inr le ↦ le
       ];
     }
 
-    module _ (none : (other : List Row) → IsFront factor greatest (rows_of (take (len_of k list) list)) other → ⊥) where
-      not_here : (other : List Row) → IsFrontAt factor greatest list k other → ⊥
-      not_here other at = none other (subst (λ (l : List Candidate). IsFront factor greatest (rows_of l) other) (split k list low rise).0 at)
+    module _ (none : (other : List Row) → IsMerge factor greatest (rows_of (take (len_of k list) list)) other → ⊥) where
+      not_here : (other : List Row) → IsMergeAt factor greatest list k other → ⊥
+      not_here other at = none other (subst (λ (l : List Candidate). IsMerge factor greatest (rows_of l) other) (split k list low rise).0 at)
 
-      behind : (j : ℕ) (other : List Row) → IsFrontAt factor greatest list j other → IsFrontAt factor greatest (drop (len_of k list) list) j other
+      behind : (j : ℕ) (other : List Row) → IsMergeAt factor greatest list j other → IsMergeAt factor greatest (drop (len_of k list) list) j other
       behind j other at = elim (cases_eq j k) [
-        | inl e ↦ absurd (not_here other (subst (λ (i : ℕ). IsFrontAt factor greatest list i other) e at))
-        | inr ne ↦ subst (λ (l : List Candidate). IsFront factor greatest (rows_of l) other) (others j k list ne) at
+        | inl e ↦ absurd (not_here other (subst (λ (i : ℕ). IsMergeAt factor greatest list i other) e at))
+        | inr ne ↦ subst (λ (l : List Candidate). IsMerge factor greatest (rows_of l) other) (others j k list ne) at
       ]
 
       step : (r : Option (List Row)) → IsWalked factor greatest (drop (len_of k list) list) r → IsWalked factor greatest list r
       step None walked = λ j other at. walked j other (behind j other at)
-      step (Some front) walked =
-          let ne : walked.level ≢ k = λ e. nothing front (subst (λ (l : List Candidate). IsFront factor greatest (rows_of l) front) (split k list low rise).1
-          (subst (λ (i : ℕ). IsFrontAt factor greatest (drop (len_of k list) list) i front) e walked.is_front)) in record {
+      step (Some merged) walked =
+          let ne : walked.level ≢ k = λ e. nothing merged (subst (λ (l : List Candidate). IsMerge factor greatest (rows_of l) merged) (split k list low rise).1
+          (subst (λ (i : ℕ). IsMergeAt factor greatest (drop (len_of k list) list) i merged) e walked.is_merge)) in record {
             level = walked.level;
-            is_front = subst (λ (l : List Candidate). IsFront factor greatest (rows_of l) front) (sym (others walked.level k list ne)) walked.is_front;
+            is_merge = subst (λ (l : List Candidate). IsMerge factor greatest (rows_of l) merged) (sym (others walked.level k list ne)) walked.is_merge;
             least = λ j other at. walked.least j other (behind j other at);
           }
 
@@ -139,17 +139,17 @@ module _ (factor greatest : ℕ) where
     next_is : drop (start + length (take n rest)) list ≡ drop (len_of first rest) rest
     next_is = sym (drop-drop (length (take n rest)) start list) ∙ (ap (λ (l : List Candidate). drop (length (take n rest)) l) (sym behind_is) ∙ (drop_taken n rest ∙ ap (λ (m : ℕ). drop m rest) n_is))
 
-    pub found_here : (front : List Row) → IsFront factor greatest (rows_of (take n rest)) front → IsWalked factor greatest (drop start list) (Some front)
-    found_here front is =
-        subst (λ (l : List Candidate). IsWalked factor greatest l (Some front)) behind_is
-        (here first rest low_rest rest_rises front (subst (λ (m : ℕ). IsFront factor greatest (rows_of (take m rest)) front) n_is is))
+    pub found_here : (merged : List Row) → IsMerge factor greatest (rows_of (take n rest)) merged → IsWalked factor greatest (drop start list) (Some merged)
+    found_here merged is =
+        subst (λ (l : List Candidate). IsWalked factor greatest l (Some merged)) behind_is
+        (here first rest low_rest rest_rises merged (subst (λ (m : ℕ). IsMerge factor greatest (rows_of (take m rest)) merged) n_is is))
 
     pub next_rises : LevelsRise (drop (start + length (take n rest)) list)
     next_rises = rw next_is (rise-drop (len_of first rest) rest rest_rises)
 
-    pub go_on : ((other : List Row) → IsFront factor greatest (rows_of (take n rest)) other → ⊥) → (r : Option (List Row)) → IsWalked factor greatest (drop (start + length (take n rest)) list) r
+    pub go_on : ((other : List Row) → IsMerge factor greatest (rows_of (take n rest)) other → ⊥) → (r : Option (List Row)) → IsWalked factor greatest (drop (start + length (take n rest)) list) r
         → IsWalked factor greatest (drop start list) r
     go_on none r walked =
         subst (λ (l : List Candidate). IsWalked factor greatest l r) behind_is
-        (step first rest low_rest rest_rises (λ other is. none other (subst (λ (m : ℕ). IsFront factor greatest (rows_of (take m rest)) other) (sym n_is) is)) r
+        (step first rest low_rest rest_rises (λ other is. none other (subst (λ (m : ℕ). IsMerge factor greatest (rows_of (take m rest)) other) (sym n_is) is)) r
         (subst (λ (l : List Candidate). IsWalked factor greatest l r) next_is walked))

@@ -1,6 +1,7 @@
 pub mod Levels
-pub mod Fronts
+pub mod Fitting
 pub mod Permuted
 pub mod Orders
 pub mod Levelled
 pub mod Chosen
+pub mod Only

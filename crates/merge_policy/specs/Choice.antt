@@ -77,31 +77,31 @@ pub record FitsSplit (rows : List Row) : Type 0 where
   pub docs : sum_by (λ row. row.facts.docs) rows ≤ max_docs
   pub weight : sum_by (λ row. row.facts.weight) rows ≤ max_weight
 
--- of a level with enough rows, in their order, the longest front that is bounded and fits; it has several rows
-pub record IsFront (factor greatest : ℕ) (level front : List Row) : Type 0 where
+-- of a level with enough rows, in their order, the longest prefix that is bounded and fits; it has several rows
+pub record IsMerge (factor greatest : ℕ) (level merged : List Row) : Type 0 where
   pub enough : factor ≤ length level
-  pub first : front ≡ take (length front) level
-  pub bounded : length front ≤ greatest
-  pub fits : FitsSplit front
-  pub longest : (n : ℕ) → n ≤ length level → n ≤ greatest → FitsSplit (take n level) → n ≤ length front
-  pub several : 2 ≤ length front
+  pub first : merged ≡ take (length merged) level
+  pub bounded : length merged ≤ greatest
+  pub fits : FitsSplit merged
+  pub longest : (n : ℕ) → n ≤ length level → n ≤ greatest → FitsSplit (take n level) → n ≤ length merged
+  pub several : 2 ≤ length merged
 
 -- the level gives these rows
-pub record Gives (policy : Policy) (target now : ℕ) (rows : List Row) (k : ℕ) (front : List Row) : Type 0 where
+pub record Gives (policy : Policy) (target now : ℕ) (rows : List Row) (k : ℕ) (merged : List Row) : Type 0 where
   pub level : List Row
   pub same : IsPermutation (level_rows policy target now rows k) level
   pub in_order : IsStrictlySortedBy row_order level
-  pub is_front : IsFront (merge_factor policy) (max_merge_factor policy) level front
+  pub is_merge : IsMerge (merge_factor policy) (max_merge_factor policy) level merged
 
 -- the least level that gives rows gives these
 pub record IsLeast (policy : Policy) (target now : ℕ) (rows : List Row) (numbers : List ℕ) : Type 0 where
   pub level : ℕ
-  pub front : List Row
-  pub gives : Gives policy target now rows level front
+  pub merged : List Row
+  pub gives : Gives policy target now rows level merged
   pub least : (k : ℕ) (other : List Row) → Gives policy target now rows k other → level ≤ k
-  pub numbers_are : numbers ≡ map (λ row. row.number) front
+  pub numbers_are : numbers ≡ map (λ row. row.number) merged
 
 -- the choice: the numbers of the rows that the least level gives, and nothing where no level gives any
 abbrev pub IsChosen : Policy → (target now : ℕ) → List Row → Option (List ℕ) → Type 0
-IsChosen policy target now rows None = (k : ℕ) (front : List Row) → Gives policy target now rows k front → ⊥
+IsChosen policy target now rows None = (k : ℕ) (merged : List Row) → Gives policy target now rows k merged → ⊥
 IsChosen policy target now rows (Some numbers) = IsLeast policy target now rows numbers

@@ -6,7 +6,7 @@ use Rattle.std.specs.declared.cmp.Ordering.{Ordering}
 use Rattle.index_config.specs.declared.config.Policy.{Policy}
 use Rattle.split_states.specs.declared.rows.Row.{Row}
 use Rattle.merge_policy.specs.declared.candidate.Candidate.{Candidate}
-use Rattle.merge_policy.specs.Choice.{is_of_level, row_order, IsFront}
+use Rattle.merge_policy.specs.Choice.{is_of_level, row_order, IsMerge}
 
 abbrev pub rows_of : List Candidate → List Row
 rows_of candidates = map (λ c. c.row.now) candidates
@@ -30,15 +30,15 @@ abbrev pub LevelsRise : List Candidate → Type 0
 LevelsRise [] = Unit {0}
 LevelsRise (c ∷ candidates) = AllByRecursion (λ d. c.level ≤ d.level) candidates × LevelsRise candidates
 
-abbrev pub IsFrontAt : (factor greatest : ℕ) → List Candidate → ℕ → List Row → Type 0
-IsFrontAt factor greatest candidates k front = IsFront factor greatest (rows_of (of_level k candidates)) front
+abbrev pub IsMergeAt : (factor greatest : ℕ) → List Candidate → ℕ → List Row → Type 0
+IsMergeAt factor greatest candidates k merged = IsMerge factor greatest (rows_of (of_level k candidates)) merged
 
-pub record IsFirst (factor greatest : ℕ) (candidates : List Candidate) (front : List Row) : Type 0 where
+pub record IsFirst (factor greatest : ℕ) (candidates : List Candidate) (merged : List Row) : Type 0 where
   pub level : ℕ
-  pub is_front : IsFrontAt factor greatest candidates level front
-  pub least : (k : ℕ) (other : List Row) → IsFrontAt factor greatest candidates k other → level ≤ k
+  pub is_merge : IsMergeAt factor greatest candidates level merged
+  pub least : (k : ℕ) (other : List Row) → IsMergeAt factor greatest candidates k other → level ≤ k
 
--- the front of the least level of the candidates that has one
+-- the merged rows of the least level of the candidates that has any
 abbrev pub IsWalked : (factor greatest : ℕ) → List Candidate → Option (List Row) → Type 0
-IsWalked factor greatest candidates None = (k : ℕ) (front : List Row) → IsFrontAt factor greatest candidates k front → ⊥
-IsWalked factor greatest candidates (Some front) = IsFirst factor greatest candidates front
+IsWalked factor greatest candidates None = (k : ℕ) (merged : List Row) → IsMergeAt factor greatest candidates k merged → ⊥
+IsWalked factor greatest candidates (Some merged) = IsFirst factor greatest candidates merged

@@ -6,17 +6,17 @@ ghost use Rattle.merge_policy.specs.Choice.{IsChosen};
 ghost use Rattle.merge_policy.specs.Walk.{rows_of};
 
 use crate::candidate::{Candidate, candidates};
-use crate::walk::first_front;
+use crate::walk::first_merged;
 use doc_value::Replica;
 use index_config::Policy;
 use split_states::{Numbers, Rows};
 use std::alloc::{AllocError, Global};
 
-fn numbers(alloc: Global, front: &[Candidate<'_>]) -> Result<Numbers, AllocError>
-    ensures { IfOk result (λ numbers. numbers ≡ map (λ row. row.number) (rows_of front.now)) }
+fn numbers(alloc: Global, merged: &[Candidate<'_>]) -> Result<Numbers, AllocError>
+    ensures { IfOk result (λ numbers. numbers ≡ map (λ row. row.number) (rows_of merged.now)) }
 {
     let mut numbers = Numbers::vacant(alloc);
-    for candidate in front {
+    for candidate in merged {
         numbers.push(candidate.row.number)?;
     }
     Ok(numbers)
@@ -37,8 +37,8 @@ pub fn choose(
     ensures { IfOk result (IsChosen policy.now docs_target now rows.now.list) }
 {
     let list = candidates(alloc, policy, docs_target, now, rows.as_slice())?;
-    match first_front(policy, &list) {
-        Some(front) => Ok(Some(numbers(alloc, front)?)),
+    match first_merged(policy, &list) {
+        Some(merged) => Ok(Some(numbers(alloc, merged)?)),
         None => Ok(None),
     }
 }

@@ -3,7 +3,9 @@
 
 mod candidate;
 mod choice;
+mod laws;
 mod level;
 mod walk;
 
 pub use choice::choose;
+pub use laws::choice_laws;

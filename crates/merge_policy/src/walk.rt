@@ -2,15 +2,12 @@
 
 ghost use Rattle.std.specs.Prelude.{◌≡◌, ℕ, ◌==◌, ◌≤◌, List, length, take, option_map, IfNone, IfSome};
 ghost use Rattle.std.specs.List.{prefix_len};
-ghost use Rattle.index_config.specs.Accepted.{HasPolicyRanges};
 ghost use Rattle.split_states.specs.declared.rows.Row as rows;
-ghost use Rattle.merge_policy.specs.Choice.{FitsSplit, IsFront, merge_factor as factor_of, max_merge_factor as greatest_of};
+ghost use Rattle.merge_policy.specs.Choice.{FitsSplit, IsMerge, merge_factor as factor_of, max_merge_factor as greatest_of};
 ghost use Rattle.merge_policy.specs.Walk.{rows_of, LevelsRise, IsWalked};
 
 use crate::candidate::Candidate;
 use index_config::Policy;
-use split_states::Numbers;
-use std::alloc::{AllocError, Global};
 
 const MAX_DOCS: u64 = 16_777_216;
 
@@ -69,10 +66,10 @@ fn fitting_len(list: &[Candidate<'_>]) -> usize
 }
 
 /// How many of the first candidates of a level are merged, where the level gives any.
-fn front_len(policy: &Policy, level: &[Candidate<'_>]) -> Option<usize>
-    ensures none { IfNone result ((other : List rows.Row) → IsFront (factor_of policy.now) (greatest_of policy.now) (rows_of level.now) other → ⊥) }
+fn merged_len(policy: &Policy, level: &[Candidate<'_>]) -> Option<usize>
+    ensures none { IfNone result ((other : List rows.Row) → IsMerge (factor_of policy.now) (greatest_of policy.now) (rows_of level.now) other → ⊥) }
     ensures within { IfSome result (λ len. len ≤ length level.now) }
-    ensures some { IfSome result (λ len. IsFront (factor_of policy.now) (greatest_of policy.now) (rows_of level.now) (take len (rows_of level.now))) }
+    ensures some { IfSome result (λ len. IsMerge (factor_of policy.now) (greatest_of policy.now) (rows_of level.now) (take len (rows_of level.now))) }
 {
     if (level.len() as u64) < merge_factor(policy) {
         return None;
@@ -86,7 +83,7 @@ fn front_len(policy: &Policy, level: &[Candidate<'_>]) -> Option<usize>
 }
 
 /// The candidates that are merged: those of the least level that gives any.
-pub(crate) fn first_front<'a>(
+pub(crate) fn first_merged<'a>(
     policy: &Policy,
     list: &'a [Candidate<'a>],
 ) -> Option<&'a [Candidate<'a>]>
@@ -97,7 +94,7 @@ pub(crate) fn first_front<'a>(
     while start < list.len() {
         let rest = &list[start..];
         let level = &rest[..level_len(rest, rest[0].level)];
-        if let Some(len) = front_len(policy, level) {
+        if let Some(len) = merged_len(policy, level) {
             return Some(&level[..len]);
         }
         start += level.len();

@@ -1,5 +1,5 @@
 use Rattle.std.proofs.Common.{◌+◌, ◌<◌, take, inl, inr, arith}
-use Rattle.merge_policy.proofs.Fronts.{docs_of, weight_of, docs_more, weight_more, fits_so, stops_docs, stops_weight}
+use Rattle.merge_policy.proofs.Fitting.{docs_of, weight_of, docs_more, weight_more, fits_so, stops_docs, stops_weight}
 use Rattle.merge_policy.proofs.walk.fitting_len.Goals as goal
 
 pub loop-i-preserved : goal.loop-i-preserved

@@ -1,5 +1,5 @@
 use Rattle.std.proofs.Common.{◌≡◌, ◌≤◌, take}
-use Rattle.merge_policy.proofs.Fronts.{docs_of, weight_of}
+use Rattle.merge_policy.proofs.Fitting.{docs_of, weight_of}
 use Rattle.merge_policy.proofs.walk.fitting_len.Given as goal
 
 abbrev pub invariant-loop-i : goal.invariant-loop-i

@@ -1,4 +1,4 @@
--- The longest front that one split file can hold.
+-- The longest prefix that one split file can hold.
 use Rattle.std.proofs.Common.{◌≡◌, ℕ, zero, suc, ◌+◌, ◌<◌, ◌≤◌, List, [], ◌∷◌, length, take, get_or, refl, sym, ap, subst, ◌∙◌, inl, inr, arith}
 use Rattle.std.specs.Prelude.{sum_by}
 use Rattle.std.proofs.lemmas.Bool.{cases_lt}
@@ -6,7 +6,7 @@ use Rattle.std.proofs.lemmas.List.{length-take-le, length-take}
 use Rattle.std.proofs.lemmas.List.Sums.{sum_by_more, sum_by-cons}
 use Rattle.split_states.specs.declared.rows.Row.{Row}
 use Rattle.merge_policy.specs.declared.candidate.Candidate.{Candidate}
-use Rattle.merge_policy.specs.Choice.{FitsSplit, IsFront}
+use Rattle.merge_policy.specs.Choice.{FitsSplit, IsMerge}
 use Rattle.merge_policy.specs.Walk.{rows_of}
 
 abbrev pub docs_of : List Candidate → ℕ
@@ -40,7 +40,7 @@ fits_so list n docs weight = record {
   weight = rw (sum_rows (λ row. row.facts.weight) n list) weight;
 }
 
--- where the limit on documents is passed, or that on weight, no longer front fits
+-- where the limit on documents is passed, or that on weight, no longer prefix fits
 pub stops_docs : (list : List Candidate) (i : ℕ) → 16777216 < docs_of (take (i + 1) list) → (n : ℕ) → FitsSplit (take n (rows_of list)) → n ≤ i
 stops_docs list i over n fits = elim (cases_lt i n) [
   | inl less ↦
@@ -77,13 +77,13 @@ length-rows : (list : List Candidate) → length (rows_of list) ≡ length list
 length-rows [] = refl
 length-rows (c ∷ list) = ap suc (length-rows list)
 
-front-within : (n m : ℕ) (list : List Candidate) → n ≤ m → take n (rows_of (take m list)) ≡ take n (rows_of list)
-front-within zero m list le = refl
-front-within (suc n) zero list le = absurd (omega arith)
-front-within (suc n) (suc m) [] le = refl
-front-within (suc n) (suc m) (c ∷ list) le = ap (λ (rows : List Row). c.row.now ∷ rows) (front-within n m list (omega arith))
+prefix-within : (n m : ℕ) (list : List Candidate) → n ≤ m → take n (rows_of (take m list)) ≡ take n (rows_of list)
+prefix-within zero m list le = refl
+prefix-within (suc n) zero list le = absurd (omega arith)
+prefix-within (suc n) (suc m) [] le = refl
+prefix-within (suc n) (suc m) (c ∷ list) le = ap (λ (rows : List Row). c.row.now ∷ rows) (prefix-within n m list (omega arith))
 
--- what is known of the longest front that fits among the first of a level
+-- what is known of the longest prefix that fits among the first of a level
 pub record Fitting (level : List Candidate) (most len : ℕ) : Type 0 where
   pub within : len ≤ length (take most level)
   pub fits : FitsSplit (take len (rows_of (take most level)))
@@ -96,21 +96,21 @@ module _ (factor greatest most len : ℕ) (level : List Candidate) (short : most
       let rows = length-rows level in
       let below = least n (omega arith) within in
       let first = length-take-le most level short in
-      f.longest n (omega arith) (rw (front-within n most level below) fits)
+      f.longest n (omega arith) (rw (prefix-within n most level below) fits)
 
-  pub no_front : len < 2 → (other : List Row) → IsFront factor greatest (rows_of level) other → ⊥
-  no_front small other front =
+  pub none_merged : len < 2 → (other : List Row) → IsMerge factor greatest (rows_of level) other → ⊥
+  none_merged small other merged =
       let n : ℕ = length other in
       let cut = length-take n (rows_of level) in
-      let same = ap length front.first in
+      let same = ap length merged.first in
       let le : n ≤ length (rows_of level) = omega arith in
-      let fits : FitsSplit (take n (rows_of level)) = subst FitsSplit front.first front.fits in
-      let longest = still_longest n le front.bounded fits in
-      let several = front.several in
+      let fits : FitsSplit (take n (rows_of level)) = subst FitsSplit merged.first merged.fits in
+      let longest = still_longest n le merged.bounded fits in
+      let several = merged.several in
       absurd (omega arith)
 
-  pub a_front : factor ≤ length level → 2 ≤ len → IsFront factor greatest (rows_of level) (take len (rows_of level))
-  a_front enough two =
+  pub some_merged : factor ≤ length level → 2 ≤ len → IsMerge factor greatest (rows_of level) (take len (rows_of level))
+  some_merged enough two =
       let rows = length-rows level in
       let first = length-take-le most level short in
       let within = f.within in
@@ -118,7 +118,7 @@ module _ (factor greatest most len : ℕ) (level : List Candidate) (short : most
         enough = omega arith;
         first = ap (λ (n : ℕ). take n (rows_of level)) (sym long);
         bounded = omega arith;
-        fits = subst FitsSplit (front-within len most level (omega arith)) f.fits;
+        fits = subst FitsSplit (prefix-within len most level (omega arith)) f.fits;
         longest = λ n le below fits. let h = still_longest n le below fits in omega arith;
         several = omega arith;
       }

@@ -2,7 +2,7 @@ use Rattle.std.proofs.Common.{◌-◌, List, length, drop, Option}
 use Rattle.split_states.specs.declared.rows.Row.{Row}
 use Rattle.merge_policy.specs.Choice.{merge_factor, max_merge_factor}
 use Rattle.merge_policy.specs.Walk.{LevelsRise, IsWalked}
-use Rattle.merge_policy.proofs.walk.first_front.Given as goal
+use Rattle.merge_policy.proofs.walk.first_merged.Given as goal
 
 abbrev pub invariant-loop-start : goal.invariant-loop-start
 invariant-loop-start l = record {

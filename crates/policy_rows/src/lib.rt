@@ -1,0 +1,5 @@
+//! Rows of the merge policies.
+#![tactic(auto)]
+
+#[cfg(test)]
+mod choices;
