@@ -24,14 +24,15 @@ fn read_search(alloc: Global, text: &str) -> Result<Option<SearchRequest>, Fail>
 #[test]
 fn a_search_is_read(rt: HostRuntime) -> Result<(), Fail> {
     let search = read_search(rt.alloc(), TIMED)?.ok_or("a delete")?;
-    assert!(rt; search.selection.query.as_str() == "a");
-    let paths = search.selection.fields.ok_or("none")?;
-    assert!(rt; paths.len() == 2);
-    assert!(rt; paths.at(1).as_str() == "level");
-    assert!(rt; search.selection.times.start == Some(-5));
-    assert!(rt; search.selection.times.end == Some(7));
     assert!(rt; search.start_offset == 0 && search.max_hits == 20);
     assert!(rt; search.sort_by.is_none() && search.aggs.is_empty());
+    let selection = search.selection;
+    assert!(rt; selection.query.as_str() == "a");
+    assert!(rt; selection.times.start == Some(-5));
+    assert!(rt; selection.times.end == Some(7));
+    let paths = selection.fields.ok_or("none")?;
+    assert!(rt; paths.len() == 2);
+    assert!(rt; paths.at(1).as_str() == "level");
     Ok(())
 }
 

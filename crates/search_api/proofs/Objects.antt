@@ -2,7 +2,7 @@
 use Rattle.std.proofs.Common.{◌≡◌, ℕ, Bool, List, [], ◌∷◌, ◌++◌, Result, append_assoc, ap, sym, ◌∙◌, subst}
 use Rattle.std.specs.Prelude.{OnOk}
 use Rattle.std.specs.declared.alloc.AllocError.{AllocError}
-use Rattle.doc_value.specs.Printed.{quoted, comma}
+use Rattle.doc_value.specs.Printed.{comma}
 use Rattle.search_api.specs.Replies.{begun_pair, pair_text, object_text}
 
 -- a key, and then its value

@@ -1,5 +1,5 @@
 -- A text that has no minus sign before it is a path.
-use Rattle.std.proofs.Common.{◌≡◌, ◌≢◌, ℕ, ◌==◌, Bool, true, false, List, [], ◌∷◌, refl, ap, subst}
+use Rattle.std.proofs.Common.{◌≡◌, ◌≢◌, ℕ, ◌==◌, Bool, true, false, List, [], ◌∷◌, refl, ap}
 use Rattle.std.specs.Cmp.{unsigned_Decides}
 use Rattle.search_api.specs.declared.request.SortBy.{SortBy}
 use Rattle.search_api.specs.Requests.{sort_of}

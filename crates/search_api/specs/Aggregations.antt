@@ -1,5 +1,5 @@
 -- The aggregations of a search, or the first refusal of one.
-use Rattle.std.specs.Prelude.{ℕ, suc, ◌+◌, ◌^◌, nat_le, true, false, List, [], ◌∷◌, Option, Some, None, is_some, unwrap_or, ℤ, pos, codes, Result, Ok, Err, if◌then◌else◌}
+use Rattle.std.specs.Prelude.{ℕ, suc, nat_le, true, false, List, [], ◌∷◌, Option, Some, None, is_some, unwrap_or, ℤ, pos, codes, Result, Ok, Err, if◌then◌else◌}
 use Rattle.serde_json.specs.Data.{Data, Members, no_members, member}
 use Rattle.serde_json.specs.Find.{as_str, as_object, get}
 use Rattle.search_api.specs.declared.aggregations.AggKind.{AggKind}

@@ -1,5 +1,5 @@
 -- Lengths of time as they are spelled: digits and a unit.
-use Rattle.std.specs.Prelude.{ℕ, ◌+◌, ◌-◌, ◌*◌, ◌/◌, ◌%◌, ◌^◌, ◌==◌, ◌&&◌, nat_le, nat_lt, Bool, true, false, List, [], ◌∷◌, Option, Some, None, option_map, ℤ, pos, neg_ℤ, codes, if◌then◌else◌}
+use Rattle.std.specs.Prelude.{ℕ, ◌+◌, ◌-◌, ◌*◌, ◌/◌, ◌%◌, ◌^◌, ◌==◌, ◌&&◌, nat_le, nat_lt, Bool, false, List, [], ◌∷◌, Option, Some, None, option_map, ℤ, pos, neg_ℤ, codes, if◌then◌else◌}
 use Rattle.std.specs.Str.{bytes_eq}
 
 abbrev pub is_digit : ℕ → Bool

@@ -1,5 +1,5 @@
 -- What stands at a key of a request: nothing, a value of the key's kind, or a refusal.
-use Rattle.std.specs.Prelude.{ℕ, ◌^◌, ◌==◌, ◌&&◌, nat_le, List, [], ◌∷◌, Option, Some, None, option_and_then, ℤ, Result, Ok, Err, if◌then◌else◌}
+use Rattle.std.specs.Prelude.{ℕ, ◌==◌, ◌&&◌, nat_le, List, [], ◌∷◌, Option, Some, None, option_and_then, ℤ, Result, Ok, Err, if◌then◌else◌}
 use Rattle.serde_json.specs.Data.{Data, Items, no_items, item}
 use Rattle.serde_json.specs.Find.{as_number, as_str, as_array, as_i64, as_u64, as_integer, get}
 use Rattle.search_api.specs.declared.request_error.RequestError.{RequestError}

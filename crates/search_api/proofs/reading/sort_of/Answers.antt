@@ -1,4 +1,4 @@
-use Rattle.std.proofs.Common.{None, arith, ◌∙◌}
+use Rattle.std.proofs.Common.{None, arith}
 use Rattle.std.proofs.lemmas.Str.Pattern.{strip_prefix_char}
 use Rattle.search_api.proofs.Sorting.{plain_sort}
 use Rattle.search_api.proofs.reading.sort_of.Goals as goal
