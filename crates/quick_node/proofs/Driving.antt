@@ -1,12 +1,10 @@
 -- What a run over lines gives of the top call's clause.
-use Rattle.std.proofs.Common.{◌≡◌, ◌⊎◌, ℕ, ◌≤◌, List, [], ◌∷◌, ◌++◌, length, refl, sym, ap, ◌∙◌, subst, inl, inr, arith}
-use Rattle.std.specs.Prelude.{Ok, ⊤}
-use Rattle.node_run.specs.Lines.{printed}
+use Rattle.std.proofs.Common.{◌≡◌, ◌≤◌, List, length, inl, inr, arith}
+use Rattle.std.specs.Prelude.{Ok}
 use Rattle.node_run.specs.Node.{Node, Line, Outcome}
 use Rattle.node_run.specs.Turns.{Turns}
-use Rattle.quick_node.specs.Reading.{Ending, Reads}
-use Rattle.quick_node.specs.Running.{Counts, HasRunEnd, StopsShort, HasRun, HasWritten}
-use Rattle.quick_node.specs.Serve.{Before, After, End, by_reading, no_index, opening_failed, read_failed, write_failed, out_of_memory, HasEnd, Opens, Answers, RanShort, Lives}
+use Rattle.quick_node.specs.Running.{Counts, HasRunEnd, HasRun}
+use Rattle.quick_node.specs.Serve.{Before, After, End, by_reading, no_index, opening_failed, read_failed, write_failed, out_of_memory, HasEnd, Opens, Answers, Lives}
 
 -- why it ended
 pub run_ends : (before : Before) (after : After) (counts : Counts) (lines : List Line) (end : End) → counts.read_before ≡ before.read_faults →

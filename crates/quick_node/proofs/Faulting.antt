@@ -1,5 +1,5 @@
 -- Each fault of the store that a line tells has the counts before the line and behind it, of which the second rose.
-use Rattle.std.proofs.Common.{◌≡◌, ℕ, ◌≤◌, ◌<◌, ◌+◌, Bool, true, false, List, [], ◌∷◌, ◌++◌, flat_map, refl, sym, ap, ◌∙◌, subst, inl, inr, arith}
+use Rattle.std.proofs.Common.{◌≡◌, ℕ, ◌≤◌, ◌<◌, Bool, true, false, List, [], ◌∷◌, ◌++◌, flat_map, refl, sym, ap, subst, arith}
 use Rattle.std.specs.Prelude.{Option, Some, None, Result, Ok, Err, ⊤, if◌then◌else◌, ◌==◌, ◌||◌, is_some, min}
 use Rattle.byte_fields.specs.Causes.{Rose}
 use Rattle.meta_journal.specs.Places.{split_key}
@@ -26,7 +26,6 @@ use Rattle.root_search.specs.Steps.{Request, no_request, opened, planned, Plan, 
 use Rattle.root_search.specs.Steps as searching
 use Rattle.node_run.specs.Node.{Node, Line, At, Assign, StepIndexer, RestartIndexer, RestartClient, RestartNode, Open, StepClient, Outcome}
 use Rattle.node_run.specs.Turns.{Luck, Turned, indexer_at, indexing_luck, searching_luck, said_by_indexer, said_by_client, assign_at, indexer_turn_by, client_turn_by, client_named, open_by, restart_by, full_turn, quiet, or_quiet, turn_by, Turn, Turns}
-use Rattle.node_run.proofs.Moving.{journal_moves}
 use Rattle.quick_node.specs.Faults.{Interval, AreBetween, fault_told, indexer_told, search_told, store_told}
 use Rattle.quick_node.proofs.Exact.{begun_count, failed_rose}
 

@@ -1,15 +1,15 @@
 -- How a line is put together of pieces, and what then comes next of the text.
-use Rattle.std.proofs.Common.{◌≡◌, ◌≢◌, ℕ, suc, ◌+◌, ◌-◌, ◌<◌, ◌≤◌, min, List, [], ◌∷◌, ◌++◌, length, take, drop, refl, sym, ap, ◌∙◌, subst, Bool, true, false, inl, inr, arith, append_assoc, length-append}
+use Rattle.std.proofs.Common.{◌≡◌, ◌≢◌, ℕ, suc, ◌+◌, ◌-◌, ◌<◌, ◌≤◌, List, [], ◌∷◌, ◌++◌, length, take, drop, refl, sym, ap, ◌∙◌, subst, Bool, true, false, arith, append_assoc, length-append}
 use Rattle.std.proofs.lemmas.Bool.{ne_eqb}
-use Rattle.std.proofs.lemmas.List.{append-nil, nil_from_length, drop_all, drop-drop, drop-take, take-append-drop, length-take, length-drop, length-take-le}
-use Rattle.std.proofs.lemmas.List.Elements.{All-nil, All-head, All-tail, All-append, All-take}
-use Rattle.std.specs.Prelude.{if◌then◌else◌, ◌==◌, slice_range}
+use Rattle.std.proofs.lemmas.List.{append-nil, nil_from_length, drop_all, drop-drop, drop-take, take-append-drop, length-drop, length-take-le}
+use Rattle.std.proofs.lemmas.List.Elements.{All-head, All-tail, All-append}
+use Rattle.std.specs.Prelude.{if◌then◌else◌, slice_range}
 use Rattle.quick_node.specs.declared.lines.Lines.{Lines}
 use Rattle.quick_node.specs.declared.lines.Taken.{Taken}
 use Rattle.quick_node.specs.declared.lines.Taken.TheVariants as taken
 use Rattle.quick_node.specs.declared.lines.Next.{Next}
 use Rattle.quick_node.specs.declared.lines.Next.TheVariants as next
-use Rattle.quick_node.specs.Reading.{onto_line, raw_lines, max_line, max_input, end_of, Within, PassesLine, PassesInput}
+use Rattle.quick_node.specs.Reading.{onto_line, raw_lines, max_line, max_input, end_of}
 use Rattle.quick_node.specs.Held.{held}
 use Rattle.quick_node.specs.Pieces.{IsFed, IsFault, EndsWith, IsUnbroken, Splits, with_feed, Takes, Comes}
 

@@ -1,14 +1,13 @@
 -- Whether a node takes a line is whether the line fits behind those that the node answered.
-use Rattle.std.proofs.Common.{◌≡◌, ◌⊎◌, ℕ, suc, ◌+◌, ◌<◌, ◌≤◌, Bool, true, false, List, [], ◌∷◌, ◌++◌, length, refl, sym, ap, ◌∙◌, subst, inl, inr, arith}
+use Rattle.std.proofs.Common.{◌≡◌, ℕ, suc, Bool, true, false, List, [], ◌∷◌, length, refl, sym, ap, ◌∙◌, arith}
 use Rattle.std.proofs.lemmas.Bool.{ltb-true, ltb-false, leb-true, leb-false, lt-ltb, le-ltb, le-leb, lt-leb}
 use Rattle.std.specs.List.{list_any}
-use Rattle.std.specs.Prelude.{Option, Some, None, ◌||◌, if◌then◌else◌, nat_le, nat_lt, bytes_eq}
+use Rattle.std.specs.Prelude.{◌||◌, if◌then◌else◌, nat_le, nat_lt, bytes_eq}
 use Rattle.node_run.specs.declared.drive.Accepts.{Accepts}
 use Rattle.node_run.specs.declared.drive.Accepts.TheVariants as accepts
-use Rattle.node_run.specs.Node.{Node, Line, At, Assign, StepIndexer, RestartIndexer, RestartClient, RestartNode, Open, StepClient, Outcome}
+use Rattle.node_run.specs.Node.{Node, Line, At, Assign, StepIndexer, RestartIndexer, RestartClient, RestartNode, Open, StepClient}
 use Rattle.node_run.specs.Standing.{accepts_of, accepts_client}
-use Rattle.node_run.specs.Turns.{Turn}
-use Rattle.quick_node.specs.Reading.{Fit, fits, falls_or_unknown, too_many_clients, fit_if, fit_of, client_fit, with_client_name, names_in, last_moment, max_clients}
+use Rattle.quick_node.specs.Reading.{Fit, fits, falls_or_unknown, too_many_clients, fit_if, fit_of, client_fit, names_in, last_moment, max_clients}
 use Rattle.quick_node.specs.Running.{HasAnswered}
 
 abbrev pub accepts_as : Fit → Accepts

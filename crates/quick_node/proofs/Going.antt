@@ -3,28 +3,26 @@ use Rattle.std.proofs.Common.{◌≡◌, ◌⊎◌, ℕ, suc, ◌+◌, ◌<◌, 
 use Rattle.std.proofs.lemmas.List.{append-nil, length-map}
 use Rattle.std.proofs.lemmas.Bool.{leb-true}
 use Rattle.std.specs.declared.alloc.AllocError.{AllocError}
-use Rattle.std.specs.List.{AllZip, list_any}
-use Rattle.std.specs.Prelude.{◌≢◌, Option, Some, None, Result, Ok, Err, IsErr, IfOk, ◌||◌, if◌then◌else◌, nat_le, bytes_eq}
+use Rattle.std.specs.Prelude.{◌≢◌, Option, Some, None, Result, Ok, Err, IsErr, IfOk}
 use Rattle.byte_fields.specs.Causes.{Rose}
-use Rattle.node_run.specs.declared.drive.Accepts.{Accepts}
 use Rattle.node_run.specs.declared.drive.Accepts.TheVariants as accepts
 use Rattle.node_run.specs.Calm.{log_counts}
 use Rattle.node_run.specs.Lines.{Spells, outcome_text, printed}
 use Rattle.node_run.specs.Node.{Node, Line, At, Assign, StepIndexer, RestartIndexer, RestartClient, RestartNode, Open, StepClient, Outcome}
 use Rattle.node_run.specs.Standing.{accepts_of}
 use Rattle.node_run.specs.Telling.{MayTell}
-use Rattle.node_run.specs.Turns.{Turn, Turns}
+use Rattle.node_run.specs.Turns.{Turn}
 use Rattle.index_world.proofs.StoreChanges.{All-snoc}
 use Rattle.node_run.proofs.Moving.{turns_go_on}
-use Rattle.node_run.proofs.LogCounts.{NotBelow, NoneFell, turn_counted}
+use Rattle.node_run.proofs.LogCounts.{NoneFell, turn_counted}
 use Rattle.quick_node.specs.declared.error_line.End.{End as Ended}
 use Rattle.quick_node.specs.declared.error_line.End.TheVariants as ended
 use Rattle.quick_node.specs.declared.lines.Next.{Next}
 use Rattle.quick_node.specs.declared.lines.Next.TheVariants as next
 use Rattle.quick_node.specs.Pieces.{ComesLine, Comes}
-use Rattle.quick_node.specs.Reading.{raw_lines, Fit, fits, falls_or_unknown, too_many_clients, fit_if, fit_of, client_fit, with_client_name, names_in, last_moment, max_clients, Ending, all_read, bad_line, clients_over, line_over, input_over, stopped, Within, IsBad, EndsAt, Reads}
-use Rattle.quick_node.specs.Running.{AreNamed, HasAnswered, HasRead, IsGoing, Does, IsNotTaken, WroteFront, EndsLine, TakesLine, IsRunEnd, Counts, HasRunEnd, StopsShort, HasRun, HasWritten, Runs, done_behind, GoesOrEnds, RunsOrShort}
-use Rattle.quick_node.specs.Serve.{End, by_reading, no_index, opening_failed, read_failed, write_failed, out_of_memory}
+use Rattle.quick_node.specs.Reading.{raw_lines, Fit, fits, falls_or_unknown, too_many_clients, fit_if, fit_of, with_client_name, names_in, last_moment, max_clients, Ending, all_read, bad_line, clients_over, line_over, input_over, stopped, IsBad, Reads}
+use Rattle.quick_node.specs.Running.{AreNamed, HasAnswered, HasRead, IsGoing, Does, IsNotTaken, WroteFront, EndsLine, TakesLine, IsRunEnd, Counts, Runs, done_behind, GoesOrEnds, RunsOrShort}
+use Rattle.quick_node.specs.Serve.{by_reading, read_failed, write_failed, out_of_memory}
 use Rattle.quick_node.proofs.Clocks.{turn_ticks}
 use Rattle.quick_node.proofs.Fitted.{accepts_as, line_fits}
 use Rattle.quick_node.proofs.Names.{turn_named, names_go_on, moments_go_on}

@@ -1,10 +1,10 @@
 -- An input is read in one way: one list of lines and one end, of which each reading that stopped earlier has a front.
-use Rattle.std.proofs.Common.{◌≡◌, ◌⊎◌, ℕ, ◌+◌, ◌≤◌, List, [], ◌∷◌, ◌++◌, refl, sym, ap, ◌∙◌, subst, inl, inr, length, arith}
+use Rattle.std.proofs.Common.{◌≡◌, ◌⊎◌, ℕ, ◌+◌, List, [], ◌∷◌, ◌++◌, refl, sym, ap, ◌∙◌, subst, inl, inr, length, arith}
 use Rattle.std.specs.Prelude.{◌≢◌}
 use Rattle.node_run.specs.Lines.{Spells}
 use Rattle.node_run.specs.Node.{Line}
 use Rattle.node_run.proofs.Spelling.{spells_one}
-use Rattle.quick_node.specs.Reading.{Fit, fits, falls_or_unknown, too_many_clients, fit_of, Ending, all_read, bad_line, clients_over, line_over, input_over, stopped, max_line, max_input, Within, IsBad, EndsAt, ReadsFrom, Reads, raw_lines}
+use Rattle.quick_node.specs.Reading.{Fit, fits, falls_or_unknown, too_many_clients, fit_of, Ending, all_read, bad_line, clients_over, line_over, input_over, stopped, Within, IsBad, EndsAt, ReadsFrom, Reads, raw_lines}
 use Rattle.quick_node.specs.Serve.{IsPrefixOf}
 
 fits_not_falls : fits ≡ falls_or_unknown → ⊥

@@ -1,12 +1,10 @@
 -- A reading that goes on line by line.
-use Rattle.std.proofs.Common.{◌≡◌, ◌⊎◌, ℕ, suc, ◌+◌, ◌<◌, ◌≤◌, min, List, [], ◌∷◌, ◌++◌, length, refl, sym, ap, ◌∙◌, subst, inl, inr, arith, append_assoc, length-append}
+use Rattle.std.proofs.Common.{◌≡◌, ℕ, ◌+◌, ◌<◌, min, List, [], ◌∷◌, ◌++◌, length, refl, sym, ap, ◌∙◌, subst, inl, inr, arith, append_assoc, length-append}
 use Rattle.std.proofs.lemmas.List.{append-nil}
 use Rattle.node_run.specs.Lines.{Spells}
 use Rattle.node_run.specs.Node.{Line}
-use Rattle.quick_node.specs.declared.lines.Next.TheVariants as next
-use Rattle.quick_node.specs.Pieces.{Comes}
 use Rattle.quick_node.specs.Running.{ReadsTo, HasRead}
-use Rattle.quick_node.specs.Reading.{raw_lines, fits, too_many_clients, fit_of, Ending, all_read, bad_line, clients_over, line_over, input_over, stopped, end_of, Within, IsBad, PassesLine, PassesInput, EndsAt, ReadsFrom, Reads}
+use Rattle.quick_node.specs.Reading.{raw_lines, fits, fit_of, Ending, all_read, stopped, end_of, Within, EndsAt, ReadsFrom, Reads}
 
 module _ (readers total : ℕ) where
   -- the reading ends there

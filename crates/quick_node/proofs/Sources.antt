@@ -1,8 +1,8 @@
 -- Each fault of a log that its indexer tells has the counts before its call and behind it, of which the second rose.
-use Rattle.std.proofs.Common.{◌≡◌, ◌⊎◌, ℕ, zero, suc, ◌<◌, ◌≤◌, ◌+◌, Bool, true, false, List, [], ◌∷◌, ◌++◌, length, flat_map, map, get_or, refl, sym, ap, ◌∙◌, subst, inl, inr, append-nil, arith}
+use Rattle.std.proofs.Common.{◌≡◌, ◌⊎◌, ℕ, zero, suc, ◌<◌, ◌≤◌, Bool, true, false, List, [], ◌∷◌, length, flat_map, map, refl, sym, ap, ◌∙◌, subst, inl, inr, append-nil, arith}
 use Rattle.std.proofs.lemmas.Bool.{eqb-true, eqb-false, ltb-true, or_cases}
 use Rattle.std.proofs.lemmas.List.{length-map}
-use Rattle.std.specs.Prelude.{Option, Some, None, Result, Ok, Err, ⊤, if◌then◌else◌, ◌==◌, ◌||◌, ◌&&◌, nat_lt, min, slice_set, slice_index}
+use Rattle.std.specs.Prelude.{Option, Some, None, Result, Ok, Err, ⊤, if◌then◌else◌, ◌==◌, ◌&&◌, nat_lt, min, slice_set, slice_index}
 use Rattle.byte_fields.specs.Causes.{Rose}
 use Rattle.meta_journal.specs.declared.entry.Entry.{Entry}
 use Rattle.meta_store.specs.declared.refusal.Refusal.{Refusal}
@@ -17,7 +17,6 @@ use Rattle.index_world.specs.Core.{Core, last_count}
 use Rattle.index_world.specs.Gate.{stage_call, publish_call}
 use Rattle.index_world.specs.SplitFile.{split_file}
 use Rattle.indexing_run.specs.Outcomes.{IndexerOutcome}
-use Rattle.indexing_run.specs.Outcomes as said
 use Rattle.indexing_run.specs.Places.{Batch, Held, Place, idle, reading, staged, uploaded, Indexer}
 use Rattle.indexing_run.specs.Steps.{LogCall, Stepped, stepped, log_may_fail, log_called, trouble_outcome, take_checkpoints, checkpoints_by, idle_by, read_by, read_given, step_read, stage_by, step_stage, batch_facts, upload_by, step_upload, publish_refused, publish_by, step_publish, step_batch, step_place, step_indexer}
 use Rattle.indexing_run.specs.Steps as indexing

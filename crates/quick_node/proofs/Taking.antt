@@ -1,8 +1,7 @@
 -- What a line did, by the clauses of the node and of the sink.
-use Rattle.std.proofs.Common.{◌≡◌, ◌⊎◌, ℕ, List, [], ◌∷◌, ◌++◌, Bool, true, false, refl, sym, ap, ◌∙◌, subst, inl, inr}
+use Rattle.std.proofs.Common.{◌≡◌, ◌⊎◌, ℕ, List, [], ◌∷◌, ◌++◌, true, false, refl, ap, subst}
 use Rattle.std.specs.declared.alloc.AllocError.{AllocError}
 use Rattle.std.specs.Prelude.{Option, Some, None, Result, Ok, Err, IsErr}
-use Rattle.byte_fields.specs.Causes.{Rose}
 use Rattle.source_log.specs.Log.{Log}
 use Rattle.node_run.specs.declared.drive.Accepts.TheVariants as accepts
 use Rattle.node_run.specs.declared.drive.DriveNode.{DriveNode}
@@ -10,7 +9,6 @@ use Rattle.node_run.specs.declared.out_line.OutLine.{OutLine}
 use Rattle.node_run.specs.Lines.{Spells, outcome_text, printed}
 use Rattle.node_run.specs.Node.{Node, Line, Outcome}
 use Rattle.node_run.specs.Standing.{NodeStands, accepts_of, DoesLine, IsSaid}
-use Rattle.node_run.specs.Turns.{Turn}
 use Rattle.quick_node.specs.declared.error_line.End.{End as Ended}
 use Rattle.quick_node.specs.Running.{Does, TakesLine}
 

@@ -1,12 +1,11 @@
 -- The faults of the store that a call tells, for each of its ends.
-use Rattle.std.proofs.Common.{◌≡◌, ℕ, ◌≤◌, List, [], ◌∷◌, ◌++◌, flat_map, sym, ap, ◌∙◌, subst, inl, inr, append-nil, arith}
+use Rattle.std.proofs.Common.{◌≡◌, ℕ, ◌≤◌, List, [], ◌++◌, flat_map, sym, ap, subst, inl, inr, append-nil, arith}
 use Rattle.std.specs.Prelude.{Ok, Err, Result, ⊤}
 use Rattle.index_world.specs.Calls.{Unread, not_read, faulted, no_memory, store_fault}
 use Rattle.index_world.specs.Calls as calls
 use Rattle.index_world.specs.Core.{last_count}
 use Rattle.node_run.specs.Node.{Node, Line, Outcome}
-use Rattle.node_run.specs.Turns.{Turns}
-use Rattle.quick_node.specs.Faults.{Interval, AreBetween, store_told}
+use Rattle.quick_node.specs.Faults.{AreBetween, store_told}
 use Rattle.quick_node.specs.Serve.{Before, End, by_reading, no_index, opening_failed, read_failed, write_failed, out_of_memory, end_told, Opens, Answers, Unopened, RanShort, Lives}
 use Rattle.quick_node.proofs.Faulting.{opening_told, opening_says, between_more, turns_told, turns_bound, turn_on}
 

@@ -8,7 +8,7 @@ use Rattle.source_checkpoint.specs.Checkpoints.{checkpoint_at}
 use Rattle.source_log.specs.Log.{Log, records_of}
 use Rattle.indexing_run.specs.Outcomes.{IndexerOutcome, Checkpoint, Read, Staged, Uploaded, Published, CaughtUp, Stale, Lost, Refused, SourceFault, Faulted}
 use Rattle.indexing_run.specs.Steps.{partitions_for}
-use Rattle.node_run.specs.Node.{Line, At, Assign, StepIndexer, RestartIndexer, RestartClient, RestartNode, Open, StepClient, Outcome, assigned, indexer_said}
+use Rattle.node_run.specs.Node.{Line, Assign, StepIndexer, Outcome, assigned, indexer_said}
 
 -- what an indexer was assigned last, and what it saw when it took the checkpoints last: of which partitions, and at which
 -- revision of the journal

@@ -1,8 +1,6 @@
 -- Why a call ends with its status. This holds over all objects, also where they tell nothing.
 use Rattle.std.specs.Prelude.{◌≡◌, ◌⊎◌, ℕ, ◌≤◌, List, [], ◌∷◌, ⊤}
 use Rattle.byte_fields.specs.Causes.{Rose}
-use Rattle.index_world.specs.declared.world_error.WorldError.{WorldError}
-use Rattle.index_world.specs.declared.world_error.WorldError.TheVariants as errors
 use Rattle.quick_node.specs.Running.{Counts}
 use Rattle.quick_node.specs.Serve.{IsDrive}
 use Rattle.quick_node.specs.declared.error_line.End.{End as Ended}

@@ -1,7 +1,6 @@
-use Rattle.std.proofs.Common.{◌≡◌, ◌≤◌, ◌++◌, ◌∷◌, [], ℕ, List, refl, sym, ap, ◌∙◌, subst, inl, inr, arith, rules}
+use Rattle.std.proofs.Common.{◌++◌, refl, sym, ap, ◌∙◌, inr, arith, rules}
 use Rattle.std.proofs.lemmas.List.{append-nil}
 use Rattle.std.specs.Prelude.{Some}
-use Rattle.node_run.specs.Standing.{NodeStands}
 use Rattle.node_run.specs.Seen.{seen}
 use Rattle.quick_node.proofs.Taking.{short_takes, did_line, said_line}
 use Rattle.quick_node.proofs.Going.{if_ok_err}

@@ -1,4 +1,4 @@
-use Rattle.std.proofs.Common.{◌≡◌, ◌≤◌, ◌+◌, ℕ, List, [], length, refl, sym, ap, ◌∙◌, subst, arith}
+use Rattle.std.proofs.Common.{◌+◌, [], length, refl, arith}
 use Rattle.node_run.specs.Node.{Node}
 use Rattle.node_run.specs.Standing.{NodeStands}
 use Rattle.quick_node.specs.Held.{held as in_hand}

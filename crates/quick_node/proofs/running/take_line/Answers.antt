@@ -1,4 +1,4 @@
-use Rattle.std.proofs.Common.{◌≡◌, ◌≤◌, ◌++◌, ◌∷◌, [], ℕ, List, refl, sym, ap, ◌∙◌, subst, inl, inr, arith, rules}
+use Rattle.std.proofs.Common.{refl, sym, ◌∙◌, inl, inr, arith, rules}
 use Rattle.node_run.specs.Seen.{seen}
 use Rattle.quick_node.proofs.running.take_line.Goals as goal
 

@@ -1,6 +1,5 @@
-use Rattle.std.proofs.Common.{◌≡◌, ◌++◌, [], map, sum, refl, sym, ap, ◌∙◌, subst, append-nil, arith}
-use Rattle.std.specs.Prelude.{Some, Ok, Err, min}
-use Rattle.index_world.specs.Core.{last_count}
+use Rattle.std.proofs.Common.{◌≡◌, ◌++◌, [], refl, sym, ap, ◌∙◌, subst, append-nil, arith}
+use Rattle.std.specs.Prelude.{Some, Ok, Err}
 use Rattle.index_world.specs.Loading.{LoadsWorld, LoadsNone}
 use Rattle.index_world.specs.Taking.{IsFaultBetween}
 use Rattle.node_run.specs.Calm.{log_counts}

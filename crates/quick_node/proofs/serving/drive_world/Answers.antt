@@ -1,6 +1,5 @@
-use Rattle.std.proofs.Common.{◌≡◌, ◌++◌, [], map, sum, sym, ap, ◌∙◌, subst, append-nil, arith}
-use Rattle.std.specs.Prelude.{Some, Ok, min}
-use Rattle.index_world.specs.Core.{last_count}
+use Rattle.std.proofs.Common.{◌≡◌, ◌++◌, [], map, sym, ap, ◌∙◌, subst, append-nil, arith}
+use Rattle.std.specs.Prelude.{Some, Ok}
 use Rattle.node_run.specs.Calm.{log_counts}
 use Rattle.node_run.specs.Logs.{logs_in}
 use Rattle.node_run.specs.Standing.{NodeStands}
