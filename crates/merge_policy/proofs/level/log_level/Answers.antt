@@ -15,7 +15,7 @@ loop-bound-preserved c =
     let i = c.loop-bound.invariant in
     let more = grows c.loop-bound.bound c.args.factor (omega arith) (omega arith) in record {
       bound_is = stepped c.args.least c.args.factor c.loop-bound.level c.loop-bound.bound i.bound_is;
-      reached = reached_next c.args.least c.args.factor c.args.docs c.loop-bound.level c.loop-bound.bound i.bound_is c.loop-bound-test.true;
+      reached = reached_next c.args.least c.args.factor c.args.docs c.loop-bound.level c.loop-bound.bound i.bound_is (omega arith);
       above = omega arith;
       below = bounded c.loop-bound.bound c.args.factor c.args.docs (omega arith) (omega arith) (omega arith);
     }
