@@ -1,3 +1,5 @@
+pub mod Stored
+pub mod Removes
 pub mod Ledger
 pub mod Adding
 pub mod Removed

@@ -1,6 +1,11 @@
-//! Delete tasks by their opstamps, and the ledger of what was taken in and what was removed from it.
+//! Delete tasks by their opstamps, the documents that they remove, and the ledger of what was taken in and what
+//! was removed from it.
 #![tactic(auto)]
 
+pub mod covering;
+pub mod task;
 pub mod tasks;
 
-pub use tasks::{Task, TaskError, Tasks};
+pub use covering::covers;
+pub use task::Task;
+pub use tasks::{TaskError, Tasks};

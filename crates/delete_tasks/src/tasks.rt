@@ -4,24 +4,13 @@ ghost use Rattle.std.specs.Prelude.{◌≡◌, ◌+◌, ◌<◌, ◌++◌, ◌�
 ghost use Rattle.delete_tasks.specs.Ledger.{last_of, MayAdd};
 ghost use Rattle.delete_tasks.specs.Adding.{IsRefusedAt};
 
-use byte_fields::{Text, Texts};
-use doc_value::TimeRange;
+use crate::task::Task;
 use std::alloc::{AllocError, Global};
 use std::marker::Model;
 use thiserror::Error;
 
 /// How many tasks an index has at most.
 pub const MOST_TASKS: usize = 10_000;
-
-/// A query that removes each document that it matches, read with these fields as its default fields, and
-/// that lies within the times.
-#[derive(Debug, Drop)]
-pub struct Task {
-    pub opstamp: u64,
-    pub text: Text,
-    pub fields: Texts,
-    pub times: TimeRange,
-}
 
 /// Tasks, each with an opstamp one more than that of the one before, from 1.
 #[derive(Debug, Drop)]
@@ -39,10 +28,14 @@ pub enum TaskError {
 }
 
 impl Model for Tasks {
-    ghost use Rattle.std.specs.Prelude.{◌-◌, vec_len, vec_capacity};
+    ghost use Rattle.std.specs.Coded.{codes, Coded};
+    ghost use Rattle.std.specs.Prelude.{◌-◌, List, vec_len, vec_capacity};
     ghost use Rattle.delete_tasks.specs.Ledger.{TaskList};
+    ghost use Rattle.delete_tasks.specs.Stored.{sought_code, Mark};
 
     ghost Value = { TaskList };
+
+    ghost coded = { let stored : Coded (List Mark) = Prim.hlevel codes in Prim.hlevel (codes, sought_code stored) };
 
     ghost view = { λ t. record { list = t.list.items; spare = vec_capacity t.list - vec_len t.list } };
 }

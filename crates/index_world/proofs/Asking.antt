@@ -1,14 +1,16 @@
 -- Which entries may enter: the fence of settling, and an entry of one's own.
 use Rattle.std.proofs.Common.{◌≡◌, ℕ, ◌-◌, ◌^◌, ◌<◌, ◌≤◌, List, refl, sym, ap, ◌∙◌, subst, Bool, true, false, length, arith}
 use Rattle.std.specs.List.{AllByRecursion}
-use Rattle.std.specs.Prelude.{Option, Some, None, max, IsSome}
+use Rattle.std.specs.Prelude.{Option, Some, None, Result, Ok, Err, IsOk, max}
+use Rattle.index_config.specs.declared.config_error.ConfigError.{ConfigError}
 use Rattle.meta_journal.specs.Spelling.{CanSpell}
 use Rattle.meta_journal.specs.declared.entry.Act.{Act}
 use Rattle.meta_journal.specs.declared.entry.Act.TheVariants.{Fence, Create, Stage, Publish, Replace, Raise, Task, MarkStaged, Remove, Retire}
 use Rattle.meta_journal.specs.declared.entry.Entry.{Entry}
 use Rattle.meta_store.specs.History.{History, history, revision_of, moment_of, delta_of}
 use Rattle.meta_store.specs.History.History.{Start, ◌▸◌}
-use Rattle.meta_store.specs.State.{Legal, MayCome, reading_of, config_of, state_of, configured}
+use Rattle.meta_store.specs.Readings.{reading_of, config_of, configured}
+use Rattle.meta_store.specs.State.{Legal, MayCome, state_of}
 use Rattle.meta_store.specs.declared.config.Config.{Config}
 use Rattle.meta_store.specs.declared.config.Settings.{Settings}
 use Rattle.object_store.specs.Store.{State}
@@ -31,9 +33,9 @@ pub record Begun (h : History) : Type 0 where
   pub config : Config
   pub is : config_of reads h ≡ Some config
 
-given : (o : Option Settings) (text : List ℕ) → IsSome o → (config : Config) × (configured text o ≡ Some config)
-given None text h = absurd (true_is_false (sym h))
-given (Some settings) text h = (record { text = text; settings = settings }, refl)
+given : (said : Result Settings ConfigError) (text : List ℕ) → IsOk said → (config : Config) × (configured text said ≡ Some config)
+given (Ok settings) text h = (record { text = text; settings = settings }, refl)
+given (Err error) text h = absurd (true_is_false (sym h))
 
 pub begun_history : (h : History) → Legal reads h → 0 < revision_of h → Begun h
 begun_history Start l some = absurd (omega arith)

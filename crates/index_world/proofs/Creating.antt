@@ -13,10 +13,11 @@ use Rattle.meta_journal.specs.declared.journal_error.JournalError.TheVariants as
 use Rattle.meta_journal.specs.declared.place.Place.TheVariants.{Sure, Given}
 use Rattle.meta_store.specs.Answers.{Answer, HasNumbers, answer_to}
 use Rattle.meta_store.specs.History.{history}
-use Rattle.meta_store.specs.State.{state_of, config_of, reading_of, after}
+use Rattle.meta_store.specs.Readings.{config_of, reading_of}
+use Rattle.meta_store.specs.State.{state_of, after}
 use Rattle.meta_store.specs.State as meta
 use Rattle.meta_store.specs.declared.config.Config.{Config}
-use Rattle.meta_store.specs.declared.config.Reading.{Reading}
+use Rattle.meta_store.specs.Said.{Said}
 use Rattle.index_world.specs.Config.{reads}
 use Rattle.meta_store.specs.declared.refusal.Refusal.{Refusal}
 use Rattle.object_store.specs.Store.{State, WhereTold}
@@ -74,10 +75,10 @@ may_append_is act core ok below = by (answer_behind core.history (entry_of act c
 pub entry_is : (m n : ℕ) (a b : Act) → m ≡ n → a ≡ b → ◌≡◌ {A = Entry} (record { moment = m; act = a }) (record { moment = n; act = b })
 entry_is m n a b p q = λ j. record { moment = p j; act = q j }
 
-pub answer_same : (reading : Reading) (s : meta.State) (entry x : Entry) (core : Core) → ((config : Option Config) → reading ≡ reading_of reads config entry.act) → s ≡ state_of reads (history core.history) → entry ≡ x →
+pub answer_same : (reading : Said) (s : meta.State) (entry x : Entry) (core : Core) → ((config : Option Config) → reading ≡ reading_of reads config entry.act) → s ≡ state_of reads (history core.history) → entry ≡ x →
     answer_to reading s entry ≡ answer_behind core.history x
 answer_same reading s entry x core read state same =
-    ap (λ (r : Reading). answer_to r s entry) (read (config_of reads (history core.history)))
+    ap (λ (r : Said). answer_to r s entry) (read (config_of reads (history core.history)))
     ∙ ap (λ (t : meta.State). answer_to (reading_of reads (config_of reads (history core.history)) entry.act) t entry) state
     ∙ ap (λ (y : Entry). answer_to (reading_of reads (config_of reads (history core.history)) y.act) (state_of reads (history core.history)) y) same
 
@@ -89,12 +90,12 @@ pub appends_at : (told told' : Option State) (n : ℕ) (entry : Entry) (r r' : R
 appends_at told told' n entry r r' e w = subst (λ (x : Result ℕ JournalError). WhereTold told told' (λ a s. Appends n entry x a s)) e w
 
 -- it was taken in
-pub life_own : (life new : Life) (entries : List Entry) (time : ℕ) (doubt : Bool) (entry x : Entry) (reading : Reading) (s : meta.State) → LifeIs life entries time doubt → new.journal.next ≡ life.journal.next + 1 → new.journal.place ≡ Sure →
+pub life_own : (life new : Life) (entries : List Entry) (time : ℕ) (doubt : Bool) (entry x : Entry) (reading : Said) (s : meta.State) → LifeIs life entries time doubt → new.journal.next ≡ life.journal.next + 1 → new.journal.place ≡ Sure →
     s ≡ life.meta.state → new.meta.state ≡ after reading entry s → ((config : Option Config) → reading ≡ reading_of reads config entry.act) → new.moment ≡ life.moment → entry ≡ x → LifeIs new (entries ++ x ∷ []) time false
 life_own life new entries time doubt entry x reading s k n p state applied read m same =
     subst (λ (y : Entry). LifeIs new (entries ++ y ∷ []) time false) same
     (life_more life new entries time time doubt entry k n p
-    (applied ∙ ap (λ (t : meta.State). after reading entry t) state ∙ ap (λ (r : Reading). after r entry life.meta.state) (read life.meta.state.config)) (m ∙ k.moment))
+    (applied ∙ ap (λ (t : meta.State). after reading entry t) state ∙ ap (λ (r : Said). after r entry life.meta.state) (read life.meta.state.config)) (m ∙ k.moment))
 
 -- ---- what a create answered
 

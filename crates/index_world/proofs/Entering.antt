@@ -5,8 +5,8 @@ use Rattle.std.specs.FinMap.{get}
 use Rattle.std.specs.List.{AllByRecursion}
 use Rattle.std.specs.Prelude.{Option, Some, None, IsSome, is_some, if◌then◌else◌, ◌&&◌, not, filter, flat_map, bytes_eq}
 use Rattle.std.specs.Cmp.Lexicographic.{bytes_decides}
-use Rattle.delete_tasks.specs.Removed.{lies_in, covered}
-use Rattle.delete_tasks.specs.declared.tasks.Task.{Task as KeptTask}
+use Rattle.delete_tasks.specs.Removed.{lies_in, covered_by}
+use Rattle.delete_tasks.specs.Removes.{DeleteTask as KeptTask}
 use Rattle.meta_journal.specs.Places.{meta_key, split_key, IsJournal}
 use Rattle.meta_journal.specs.Spelling.{Spells, CanSpell}
 use Rattle.meta_journal.specs.declared.entry.Act.{Act}
@@ -19,7 +19,8 @@ use Rattle.meta_store.specs.History.{History, history, delta_of, stamp_of, reach
 use Rattle.meta_store.specs.History.History.{◌▸◌}
 use Rattle.meta_store.specs.Ledgers.{ledger}
 use Rattle.meta_store.specs.Rows.{rows}
-use Rattle.meta_store.specs.State.{Legal, MayCome, reading_of, config_of, state_of}
+use Rattle.meta_store.specs.Readings.{reading_of, config_of}
+use Rattle.meta_store.specs.State.{Legal, MayCome, state_of}
 use Rattle.meta_store.specs.declared.config.Config.{Config}
 use Rattle.object_store.specs.Store.{State, with_object}
 use Rattle.source_checkpoint.specs.Deltas.{Partition, moved, spans_of, span_of, range_of}
@@ -103,13 +104,13 @@ moved_within limit checkpoints (part ∷ delta) name h d = by (bytes_eq part.par
     by false e more = rw e more
 
 checkpoints_act : (kept : State) (entries : List Entry) (log : Log) (moment : ℕ) (act : Act) →
-    ((name : List ℕ) → (ledger (history entries)).checkpoints name ≤ length (records_of log name)) → HasFile kept entries log act →
-    (name : List ℕ) → (ledger (history entries ▸ record { moment = moment; act = act })).checkpoints name ≤ length (records_of log name)
+    ((name : List ℕ) → (ledger reads (history entries)).checkpoints name ≤ length (records_of log name)) → HasFile kept entries log act →
+    (name : List ℕ) → (ledger reads (history entries ▸ record { moment = moment; act = act })).checkpoints name ≤ length (records_of log name)
 checkpoints_act kept entries log moment Fence h f name = h name
 checkpoints_act kept entries log moment (Create config) h f name = h name
 checkpoints_act kept entries log moment (Stage number delta facts) h f name = h name
 checkpoints_act kept entries log moment (Publish number) h f name =
-    moved_within (λ q. length (records_of log q)) (ledger (history entries)).checkpoints (delta_of (history entries) number) name (h name) f.ends
+    moved_within (λ q. length (records_of log q)) (ledger reads (history entries)).checkpoints (delta_of (history entries) number) name (h name) f.ends
 checkpoints_act kept entries log moment (Replace new old upto) h f name = absurd f
 checkpoints_act kept entries log moment (Raise number upto) h f name = absurd f
 checkpoints_act kept entries log moment (Task opstamp text fields times) h f name = absurd f
@@ -119,7 +120,7 @@ checkpoints_act kept entries log moment (Retire numbers) h f name = absurd f
 
 -- ---- contents
 
-none_covers : (tasks : List KeptTask) (a b : ℕ) → covered (λ task. false) tasks a b ≡ false
+none_covers : (tasks : List KeptTask) (a b : ℕ) → covered_by (λ task. false) tasks a b ≡ false
 none_covers [] a b = refl
 none_covers (t ∷ tasks) a b = none_covers tasks a b
 
@@ -170,11 +171,11 @@ fresh_spans entries n row legal at staged =
     subst (λ k. row.spans ≡ spans_of (stamp_of h k) (delta_of h k)) at.number ((held (IsTraced (reach h) (delta_of h) (stamp_of h)) (last_number h) (rows h) n row at (sound reads h legal).held).fresh staged)
 
 pub fresh_contents : (entries : List Entry) (log : Log) (n : ℕ) (row : Row) → Legal reads (history entries) → StandsIn (rows (history entries)) n row → row.state ≡ Staged →
-    contents (ledger (history entries)).tasks row log ≡ accepted_in log (delta_of (history entries) n)
+    contents (ledger reads (history entries)).tasks row log ≡ accepted_in log (delta_of (history entries) n)
 fresh_contents entries log n row legal at staged =
     let h = history entries in
-    ap (λ (ss : List Span). flat_map (λ s. filter (is_kept meaning (ledger h).tasks s) (accepted_records log)) ss) (fresh_spans entries n row legal at staged)
-    ∙ spans_contents (accepted_records log) (ledger h).tasks (stamp_of h n) (delta_of h n)
+    ap (λ (ss : List Span). flat_map (λ s. filter (is_kept meaning (ledger reads h).tasks s) (accepted_records log)) ss) (fresh_spans entries n row legal at staged)
+    ∙ spans_contents (accepted_records log) (ledger reads h).tasks (stamp_of h n) (delta_of h n)
 
 pub fresh_ranges : (entries : List Entry) (n : ℕ) (row : Row) → Legal reads (history entries) → StandsIn (rows (history entries)) n row → row.state ≡ Staged → ranges_of row ≡ delta_of (history entries) n
 fresh_ranges entries n row legal at staged =
@@ -182,11 +183,11 @@ fresh_ranges entries n row legal at staged =
 
 -- what a Publish needs is that its row is sound
 publish_sound : (kept : State) (entries : List Entry) (log : Log) (n : ℕ) (row : Row) → Legal reads (history entries) → StandsIn (rows (history entries)) n row → row.state ≡ Staged →
-    row_at (rows (history entries)) n ≡ Some row → MayPublish kept entries log n → IsRowSound kept (ledger (history entries)).tasks log (published row)
+    row_at (rows (history entries)) n ≡ Some row → MayPublish kept entries log n → IsRowSound kept (ledger reads (history entries)).tasks log (published row)
 publish_sound kept entries log n row legal at staged found m =
     record {
-      file = subst (λ k. get kept.objects (split_key k) ≡ Some (split_file (contents (ledger h).tasks row log))) (sym at.number) (m.file ∙ ap (λ xs. Some (split_file xs)) (sym same));
-      facts = m.facts row found ∙ ap (λ xs. facts_of xs (record_count (delta_of h n) - length xs)) (sym same) ∙ ap (λ ps. facts_of (contents (ledger h).tasks row log) (record_count ps - length (contents (ledger h).tasks row log))) (sym ranges);
+      file = subst (λ k. get kept.objects (split_key k) ≡ Some (split_file (contents (ledger reads h).tasks row log))) (sym at.number) (m.file ∙ ap (λ xs. Some (split_file xs)) (sym same));
+      facts = m.facts row found ∙ ap (λ xs. facts_of xs (record_count (delta_of h n) - length xs)) (sym same) ∙ ap (λ ps. facts_of (contents (ledger reads h).tasks row log) (record_count ps - length (contents (ledger reads h).tasks row log))) (sym ranges);
       documents = subst (λ xs. length xs ≤ max_documents) (sym same) m.documents;
       weight = subst (λ xs. weight xs ≤ max_weight) (sym same) m.weight;
     }
@@ -194,25 +195,25 @@ publish_sound kept entries log n row legal at staged found m =
     h : History
     h = history entries
 
-    same : contents (ledger h).tasks row log ≡ accepted_in log (delta_of h n)
+    same : contents (ledger reads h).tasks row log ≡ accepted_in log (delta_of h n)
     same = fresh_contents entries log n row legal at staged
 
     ranges : ranges_of row ≡ delta_of h n
     ranges = fresh_ranges entries n row legal at staged
 
 rows_act : (kept : State) (entries : List Entry) (log : Log) (moment : ℕ) (act : Act) → Legal reads (history entries) → Comes (history entries) moment act →
-    HasFile kept entries log act → AllByRecursion (IsRowKept kept (ledger (history entries)).tasks log) (rows (history entries)) →
-    AllByRecursion (IsRowKept kept (ledger (history entries ▸ record { moment = moment; act = act })).tasks log) (rows (history entries ▸ record { moment = moment; act = act }))
+    HasFile kept entries log act → AllByRecursion (IsRowKept kept (ledger reads (history entries)).tasks log) (rows (history entries)) →
+    AllByRecursion (IsRowKept kept (ledger reads (history entries ▸ record { moment = moment; act = act })).tasks log) (rows (history entries ▸ record { moment = moment; act = act }))
 rows_act kept entries log moment Fence legal may f all = all
 rows_act kept entries log moment (Create config) legal may f all = all
 rows_act kept entries log moment (Stage number delta facts) legal may f all =
-    All-snoc (IsRowKept kept (ledger (history entries)).tasks log) (rows (history entries)) _ all (λ s. absurd (staged_no s))
+    All-snoc (IsRowKept kept (ledger reads (history entries)).tasks log) (rows (history entries)) _ all (λ s. absurd (staged_no s))
 rows_act kept entries log moment (Publish n) legal may f all =
     let r = staged_row (history entries) moment n may in
     let at = row_stands (rows (history entries)) n r.0 (sound reads (history entries) legal).held.apart r.1 in
-    let before : AllByRecursion (IsRowKept kept (ledger (history entries)).tasks log) (at.before ++ (r.0 ∷ at.behind)) = subst (λ rs. AllByRecursion (IsRowKept kept (ledger (history entries)).tasks log) rs) at.is all in
-    subst (λ rs. AllByRecursion (IsRowKept kept (ledger (history entries)).tasks log) rs) (sym (at.changed published))
-    (AllOf-replace (IsRowKept kept (ledger (history entries)).tasks log) at.before r.0 (published r.0) at.behind before (λ e. publish_sound kept entries log n r.0 legal at r.2 r.1 f))
+    let before : AllByRecursion (IsRowKept kept (ledger reads (history entries)).tasks log) (at.before ++ (r.0 ∷ at.behind)) = subst (λ rs. AllByRecursion (IsRowKept kept (ledger reads (history entries)).tasks log) rs) at.is all in
+    subst (λ rs. AllByRecursion (IsRowKept kept (ledger reads (history entries)).tasks log) rs) (sym (at.changed published))
+    (AllOf-replace (IsRowKept kept (ledger reads (history entries)).tasks log) at.before r.0 (published r.0) at.behind before (λ e. publish_sound kept entries log n r.0 legal at r.2 r.1 f))
 rows_act kept entries log moment (Replace new old upto) legal may f all = absurd f
 rows_act kept entries log moment (Raise number upto) legal may f all = absurd f
 rows_act kept entries log moment (Task opstamp text fields times) legal may f all = absurd f
@@ -262,10 +263,10 @@ Stands-enters kept entries log entry bytes s spells e =
       legal = subst (Legal reads) (sym (history-snoc entries entry)) (s.legal, e.legal);
       within = omega (arith, length-append entries (entry ∷ []), e.room);
       no_other = no_other_more kept entries log entry bytes s;
-      checkpoints = λ name. subst (λ h. (ledger h).checkpoints name ≤ length (records_of log name)) (sym (history-snoc entries entry))
+      checkpoints = λ name. subst (λ h. (ledger reads h).checkpoints name ≤ length (records_of log name)) (sym (history-snoc entries entry))
           (checkpoints_act kept entries log entry.moment entry.act s.checkpoints e.file name);
-      rows = subst (λ h. AllByRecursion (IsRowKept new (ledger h).tasks log) (rows h)) (sym (history-snoc entries entry))
-          (rows_more kept (meta_key (length entries)) bytes (ledger (history entries ▸ entry)).tasks log (rows (history entries ▸ entry)) absent
+      rows = subst (λ h. AllByRecursion (IsRowKept new (ledger reads h).tasks log) (rows h)) (sym (history-snoc entries entry))
+          (rows_more kept (meta_key (length entries)) bytes (ledger reads (history entries ▸ entry)).tasks log (rows (history entries ▸ entry)) absent
           (rows_act kept entries log entry.moment entry.act s.legal e.legal.1 e.file s.rows));
       split_keys = split_keys_more kept entries log entry bytes s;
       late_keys = late_act kept entries log entry kept.late (λ n p. (publish_file kept entries log entry.act n e.file p).not_late) s.late_keys;

@@ -21,7 +21,7 @@ use Rattle.index_world.proofs.Journals.{once}
 use Rattle.index_world.proofs.StoreKeys.{none_some}
 use Rattle.index_world.proofs.WholeFiles.{Fetches, whole_upload, whole_fetched, uploaded_in_hand}
 use Rattle.delete_tasks.specs.Ledger.{last_of}
-use Rattle.meta_store.specs.History.{History, history, last_number, tasks_of}
+use Rattle.meta_store.specs.History.{History, history, last_number, last_opstamp}
 use Rattle.meta_store.specs.Rows.{rows}
 use Rattle.index_world.specs.declared.planning.Choice.{Choice}
 use Rattle.index_world.specs.declared.planning.Choice.TheVariants as choices
@@ -194,11 +194,11 @@ module _ (told told' : Option State) (n now : ℕ) (clock : Option ℕ) (life li
 pub life_revision : (life : Life) (entries : List Entry) (time : ℕ) (doubt : Bool) → LifeIs life entries time doubt → life.meta.state.revision ≡ length entries
 life_revision life entries time doubt k = ap (λ (m : meta.State). m.revision) k.meta ∙ revision_is entries
 
-pub life_opstamp : (life : Life) (entries : List Entry) (time : ℕ) (doubt : Bool) → LifeIs life entries time doubt → last_of life.meta.state.tasks ≡ last_of (tasks_of (history entries))
-life_opstamp life entries time doubt k = ap (λ (m : meta.State). last_of m.tasks) k.meta
+pub life_opstamp : (life : Life) (entries : List Entry) (time : ℕ) (doubt : Bool) → LifeIs life entries time doubt → life.meta.state.last_opstamp ≡ last_opstamp (history entries)
+life_opstamp life entries time doubt k = ap (λ (m : meta.State). m.last_opstamp) k.meta
 
 pub staged_holds : (delta : List Part) (facts : RowFacts) (d : Bor (List Part)) (f : Bor RowFacts) (core after : Core) (life : Life) (number opstamp : ℕ) → d.now ≡ delta → f.now ≡ facts → LifeIs life after.history after.moment after.unsure → OwnMade (owns.Stage d f) (asked_clock core) tt after →
-    number ≡ life.meta.state.last_number → opstamp ≡ last_of life.meta.state.tasks → WasStaged core delta facts (record { number = number; opstamp = opstamp }) after
+    number ≡ life.meta.state.last_number → opstamp ≡ life.meta.state.last_opstamp → WasStaged core delta facts (record { number = number; opstamp = opstamp }) after
 staged_holds delta facts d f core after life number opstamp ed ef k m n o =
     record {
       number = n ∙ ap (λ (x : meta.State). x.last_number) k.meta;

@@ -7,10 +7,11 @@ use Rattle.meta_journal.specs.declared.entry.Act.TheVariants.{Fence, Create, Sta
 use Rattle.meta_journal.specs.declared.entry.Entry.{Entry}
 use Rattle.meta_store.proofs.RowLists.{row_at-change, changed_at}
 use Rattle.meta_store.proofs.Sound.{sound}
-use Rattle.meta_store.specs.History.{History, history, last_number, delta_of, tasks_of}
+use Rattle.meta_store.specs.History.{History, history, last_number, delta_of, last_opstamp}
 use Rattle.meta_store.specs.History.History.{◌▸◌}
 use Rattle.meta_store.specs.Rows.{rows}
-use Rattle.meta_store.specs.State.{Legal, MayCome, reading_of, config_of, state_of}
+use Rattle.meta_store.specs.Readings.{reading_of, config_of}
+use Rattle.meta_store.specs.State.{Legal, MayCome, state_of}
 use Rattle.delete_tasks.specs.Ledger.{last_of}
 use Rattle.source_checkpoint.specs.Deltas.{spans_of}
 use Rattle.source_checkpoint.specs.declared.delta.Part.{Part}
@@ -53,7 +54,7 @@ row_at-append (x ∷ xs) r row n e = by (x.number == n) refl (row_at-append xs r
 
 -- the row that a Stage makes
 abbrev new_row : History → ℕ → ℕ → List Part → RowFacts → Row
-new_row h moment number delta facts = staged number (spans_of (last_of (tasks_of h)) delta) facts moment
+new_row h moment number delta facts = staged number (spans_of (last_opstamp h) delta) facts moment
 
 -- what the entries note of a number
 pub record Noted (h : History) (n : ℕ) (delta : List Part) (facts : RowFacts) : Type 0 where

@@ -4,7 +4,7 @@ use Rattle.std.proofs.lemmas.List.{length-append}
 use Rattle.std.specs.FinMap.{get, insert}
 use Rattle.std.specs.List.{AllByRecursion}
 use Rattle.std.specs.Prelude.{Option, Some, None, IsSome, is_some, slice_get, remove}
-use Rattle.delete_tasks.specs.declared.tasks.Task.{Task as KeptTask}
+use Rattle.delete_tasks.specs.Removes.{DeleteTask as KeptTask}
 use Rattle.meta_journal.specs.Places.{meta_key, split_key, IsJournal}
 use Rattle.meta_journal.specs.Spelling.{Spells}
 use Rattle.meta_journal.specs.declared.entry.Act.{Act}
@@ -67,7 +67,7 @@ Stands-late kept late entries log s h =
       within = s.within;
       no_other = s.no_other;
       checkpoints = s.checkpoints;
-      rows = rows_late kept late (ledger (history entries)).tasks log (rows (history entries)) s.rows;
+      rows = rows_late kept late (ledger reads (history entries)).tasks log (rows (history entries)) s.rows;
       split_keys = s.split_keys;
       late_keys = h;
     }
@@ -218,7 +218,7 @@ Stands-object kept key bytes entries log s absent outside staged =
       within = s.within;
       no_other = λ other meta stands. others other meta (stood kept.objects key bytes other stands);
       checkpoints = s.checkpoints;
-      rows = rows_more kept key bytes (ledger (history entries)).tasks log (rows (history entries)) absent s.rows;
+      rows = rows_more kept key bytes (ledger reads (history entries)).tasks log (rows (history entries)) absent s.rows;
       split_keys = λ other split stands. splits other split (stood kept.objects key bytes other stands);
       late_keys = s.late_keys;
     }

@@ -14,7 +14,7 @@ use Rattle.meta_store.specs.History.{history}
 use Rattle.meta_store.specs.State.{Legal, MayCome, state_of, after}
 use Rattle.meta_store.specs.State as meta
 use Rattle.meta_store.specs.declared.config.Config.{Config}
-use Rattle.meta_store.specs.declared.config.Reading.{Reading}
+use Rattle.meta_store.specs.Said.{Said}
 use Rattle.object_store.specs.Store.{State, WhereTold}
 use Rattle.source_log.specs.Log.{Log}
 use Rattle.index_world.specs.declared.life.Life.{Life}
@@ -104,7 +104,7 @@ stands_by new core after log count life more doubt some within w t e k =
 
 -- ---- an entry that stands behind the history may come next
 
-numbers_of : (reading : Reading) (c : Option Config) (s : meta.State) (m : ℕ) (act : Act) → MayCome reading c s m act → HasNumbers act
+numbers_of : (reading : Said) (c : Option Config) (s : meta.State) (m : ℕ) (act : Act) → MayCome reading c s m act → HasNumbers act
 numbers_of reading c s m Fence f = tt
 numbers_of reading c s m (Create config) f = tt
 numbers_of reading c s m (Stage number delta facts) f = tt

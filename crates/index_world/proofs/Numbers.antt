@@ -13,7 +13,8 @@ use Rattle.meta_store.proofs.Sound.{sound}
 use Rattle.meta_store.specs.History.{History, history, last_number, staged_numbers, published_numbers, revision_of}
 use Rattle.meta_store.specs.History.History.{Start, ◌▸◌}
 use Rattle.meta_store.specs.Rows.{rows}
-use Rattle.meta_store.specs.State.{Reads, Legal, MayCome, reading_of, config_of, state_of}
+use Rattle.meta_store.specs.Readings.{Reads, reading_of, config_of}
+use Rattle.meta_store.specs.State.{Legal, MayCome, state_of}
 use Rattle.meta_store.specs.declared.config.Config.{Config}
 use Rattle.split_states.specs.declared.rows.Row.{Row}
 use Rattle.split_states.specs.Rows.{row_at}

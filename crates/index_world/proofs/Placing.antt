@@ -10,7 +10,7 @@ use Rattle.serde_json.specs.Find.{get_member}
 use Rattle.serde_json.specs.Read.{read}
 use Rattle.doc_value.specs.declared.doc.DocField.{DocField}
 use Rattle.doc_value.specs.declared.doc.Value.TheVariants as values
-use Rattle.delete_tasks.specs.declared.tasks.Task.{Task}
+use Rattle.delete_tasks.specs.Removes.{DeleteTask}
 use Rattle.source_checkpoint.specs.Names.{IsPartition}
 use Rattle.source_checkpoint.specs.declared.delta.Part.{Part}
 use Rattle.source_checkpoint.specs.declared.span.Span.{Span}
@@ -155,7 +155,7 @@ accepted_in-placed log [] is = tt
 accepted_in-placed log (part ∷ parts) is =
     joined-placed (accepted_part log part) (accepted_in log parts) (filtered-placed _ (accepted_records log) (accepted_records-placed log is)) (accepted_in-placed log parts is)
 
-spans-placed : (tasks : List Task) (spans : List Span) (records : List Placed) → AllByRecursion IsPlaced records
+spans-placed : (tasks : List DeleteTask) (spans : List Span) (records : List Placed) → AllByRecursion IsPlaced records
     → AllByRecursion IsPlaced (flat_map (λ s. filter (is_kept meaning tasks s) records) spans)
 spans-placed tasks [] records are = tt
 spans-placed tasks (span ∷ spans) records are =
@@ -163,5 +163,5 @@ spans-placed tasks (span ∷ spans) records are =
     (filtered-placed (is_kept meaning tasks span) records are) (spans-placed tasks spans records are)
 
 -- what a row holds
-pub contents-placed : (tasks : List Task) (row : Row) (log : Log) → IsLog log → AllByRecursion IsPlaced (contents tasks row log)
+pub contents-placed : (tasks : List DeleteTask) (row : Row) (log : Log) → IsLog log → AllByRecursion IsPlaced (contents tasks row log)
 contents-placed tasks row log is = spans-placed tasks row.spans (accepted_records log) (accepted_records-placed log is)

@@ -11,7 +11,7 @@ use Rattle.meta_journal.specs.declared.entry.Act.TheVariants.{Fence, Create, Sta
 use Rattle.meta_journal.specs.declared.entry.Entry.{Entry}
 use Rattle.meta_store.specs.History.{History, history, staged_numbers, published_numbers}
 use Rattle.meta_store.specs.History.History.{◌▸◌}
-use Rattle.delete_tasks.specs.declared.tasks.Task.{Task as KeptTask}
+use Rattle.delete_tasks.specs.Removes.{DeleteTask as KeptTask}
 use Rattle.object_store.specs.Store.{State, with_object}
 use Rattle.source_checkpoint.specs.declared.delta.Part.{Part}
 use Rattle.source_log.specs.Log.{Log}

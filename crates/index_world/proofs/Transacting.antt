@@ -10,7 +10,8 @@ use Rattle.meta_journal.specs.declared.entry.Entry.{Entry}
 use Rattle.meta_store.proofs.Answered.{answered}
 use Rattle.meta_store.specs.Answers.{HasNumbers}
 use Rattle.meta_store.specs.History.{history, moment_of}
-use Rattle.meta_store.specs.State.{state_of, config_of, reading_of}
+use Rattle.meta_store.specs.Readings.{config_of, reading_of}
+use Rattle.meta_store.specs.State.{state_of}
 use Rattle.meta_store.specs.declared.refusal.Refusal.{Refusal}
 use Rattle.object_store.specs.Store.{State, HasLanded}
 use Rattle.source_log.specs.Log.{Log}

@@ -18,7 +18,8 @@ use Rattle.meta_store.specs.History.{History, history, delta_of, published_numbe
 use Rattle.meta_store.specs.History.History.{◌▸◌}
 use Rattle.meta_store.specs.Ledgers.{ledger}
 use Rattle.meta_store.specs.Rows.{rows}
-use Rattle.meta_store.specs.State.{Legal, MayCome, reading_of, config_of, state_of}
+use Rattle.meta_store.specs.Readings.{reading_of, config_of}
+use Rattle.meta_store.specs.State.{Legal, MayCome, state_of}
 use Rattle.meta_store.specs.declared.config.Config.{Config}
 use Rattle.object_store.specs.Store.{State, with_object}
 use Rattle.source_checkpoint.specs.Deltas.{Partition, Names, IsDelta, moved, range_of}
@@ -131,15 +132,15 @@ module _ (kept : State) (entries : List Entry) (log : Log) (moment n : ℕ) (byt
       let legal : Legal reads (h ▸ record { moment = moment; act = Publish n }) = subst (Legal reads) snoc s'.legal in
       let p = publishes h moment n legal.1.1 in
       let at : StandsIn (rows h) n p.row = row_stands (rows h) n p.row (sound reads h s.legal).held.apart p.found in
-      let all = subst (λ (t : History). AllByRecursion (IsRowKept new (ledger t).tasks log) (rows t)) snoc s'.rows in
-      let row : IsRowSound new (ledger h).tasks log (published p.row) = AllOf-at (IsRowKept new (ledger h).tasks log) at.before (published p.row) at.behind (subst (λ rs. AllByRecursion (IsRowKept new (ledger h).tasks log) rs) (at.changed published) all) refl in
-      let same : contents (ledger h).tasks p.row log ≡ accepted_in log (delta_of h n) = fresh_contents entries log n p.row s.legal at p.staged in
+      let all = subst (λ (t : History). AllByRecursion (IsRowKept new (ledger reads t).tasks log) (rows t)) snoc s'.rows in
+      let row : IsRowSound new (ledger reads h).tasks log (published p.row) = AllOf-at (IsRowKept new (ledger reads h).tasks log) at.before (published p.row) at.behind (subst (λ rs. AllByRecursion (IsRowKept new (ledger reads h).tasks log) rs) (at.changed published) all) refl in
+      let same : contents (ledger reads h).tasks p.row log ≡ accepted_in log (delta_of h n) = fresh_contents entries log n p.row s.legal at p.staged in
       let ranges : ranges_of p.row ≡ delta_of h n = fresh_ranges entries n p.row s.legal at p.staged in
       record {
-        ends = delta_ends (λ name. length (records_of log name)) (ledger h).checkpoints (delta_of h n) s.checkpoints (subst IsDelta ranges p.delta)
-            (λ name. subst (λ (t : History). (ledger t).checkpoints name ≤ length (records_of log name)) snoc (s'.checkpoints name));
+        ends = delta_ends (λ name. length (records_of log name)) (ledger reads h).checkpoints (delta_of h n) s.checkpoints (subst IsDelta ranges p.delta)
+            (λ name. subst (λ (t : History). (ledger reads t).checkpoints name ≤ length (records_of log name)) snoc (s'.checkpoints name));
         file = sym (get-other kept.objects (meta_key (length entries)) bytes (split_key n) (meta_is_no_split (length entries) n))
-            ∙ subst (λ (k : ℕ). get new.objects (split_key k) ≡ Some (split_file (contents (ledger h).tasks p.row log))) at.number row.file ∙ ap (λ xs. Some (split_file xs)) same;
+            ∙ subst (λ (k : ℕ). get new.objects (split_key k) ≡ Some (split_file (contents (ledger reads h).tasks p.row log))) at.number row.file ∙ ap (λ xs. Some (split_file xs)) same;
         facts = λ other found.
             let both : ◌≡◌ {A = Option Row} (Some other) (Some p.row) = sym found ∙ p.found in
             let is : other ≡ p.row = cc both in
@@ -208,7 +209,7 @@ one_index kept entries log = (index_whole kept entries log, whole_index kept ent
 
 -- ---- the files of published rows
 
-pub published_splits : (kept : State) (entries : List Entry) (log : Log) → IsLog log → IsIndexOf kept entries log → AllByRecursion (IsSplitKept kept (ledger (history entries)).tasks log) (rows (history entries))
+pub published_splits : (kept : State) (entries : List Entry) (log : Log) → IsLog log → IsIndexOf kept entries log → AllByRecursion (IsSplitKept kept (ledger reads (history entries)).tasks log) (rows (history entries))
 published_splits kept entries log is i =
-    All-each (IsRowKept kept (ledger (history entries)).tasks log) (IsSplitKept kept (ledger (history entries)).tasks log) (rows (history entries))
-    (λ row k e. let s = k e in (split_file (contents (ledger (history entries)).tasks row log), s.file, record { placed = contents-placed (ledger (history entries)).tasks row log is; spelled = refl })) i.stands.rows
+    All-each (IsRowKept kept (ledger reads (history entries)).tasks log) (IsSplitKept kept (ledger reads (history entries)).tasks log) (rows (history entries))
+    (λ row k e. let s = k e in (split_file (contents (ledger reads (history entries)).tasks row log), s.file, record { placed = contents-placed (ledger reads (history entries)).tasks row log is; spelled = refl })) i.stands.rows

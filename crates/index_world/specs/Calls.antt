@@ -8,7 +8,8 @@ use Rattle.meta_journal.specs.declared.entry.Act.TheVariants.{Fence}
 use Rattle.meta_journal.specs.declared.entry.Entry.{Entry}
 use Rattle.meta_store.specs.Answers.{answer_to}
 use Rattle.meta_store.specs.History.{history, moment_of}
-use Rattle.meta_store.specs.State.{state_of, config_of, reading_of}
+use Rattle.meta_store.specs.Readings.{config_of, reading_of}
+use Rattle.meta_store.specs.State.{state_of}
 use Rattle.meta_store.specs.declared.refusal.Refusal.{Refusal}
 use Rattle.index_world.specs.Config.{reads}
 use Rattle.index_world.specs.Index.{max_entries}

@@ -3,7 +3,7 @@ use Rattle.std.specs.Prelude.{◌≡◌, ◌+◌, ◌<◌, true, ℕ, List, [], 
 use Rattle.object_store.specs.Store.{State, IsPieceOf}
 use Rattle.meta_journal.specs.declared.entry.Act.{Act}
 use Rattle.meta_journal.specs.declared.entry.Act.TheVariants.{Stage, Publish}
-use Rattle.meta_store.specs.History.{History, history, last_number, tasks_of}
+use Rattle.meta_store.specs.History.{History, history, last_number, last_opstamp}
 use Rattle.meta_store.specs.Rows.{rows}
 use Rattle.meta_store.specs.State.{checkpoints_of}
 use Rattle.delete_tasks.specs.Ledger.{last_of}
@@ -80,7 +80,7 @@ NoneBetween core mid = mid ≡ core
 
 pub record AreMarks (marks : Marks) (core : Core) : Type 0 where
   pub checkpoints : marks.checkpoints.items ≡ checkpoints_of (history core.history)
-  pub opstamp : marks.opstamp ≡ last_of (tasks_of (history core.history))
+  pub opstamp : marks.opstamp ≡ last_opstamp (history core.history)
   pub revision : marks.revision ≡ length core.history
 
 abbrev pub IsMoment : ℕ → Core → Type 0
@@ -102,7 +102,7 @@ pub record IsStagedIn (delta : List Part) (facts : RowFacts) (core : Core) (numb
 pub record WasStaged (before : Core) (delta : List Part) (facts : RowFacts) (staged : Staged) (core : Core) : Type 0 where
   pub number : staged.number ≡ last_number (history core.history)
   pub apart : (n : ℕ) → has_staged (journal_of before) n ≡ true → n < staged.number
-  pub opstamp : staged.opstamp ≡ last_of (tasks_of (history core.history))
+  pub opstamp : staged.opstamp ≡ last_opstamp (history core.history)
   pub in_hand : IsStagedIn delta facts core staged.number
 
 pub record WasUploaded (number : ℕ) (bytes : List ℕ) (given : Uploaded) (core : Core) : Type 0 where
@@ -138,7 +138,7 @@ planned_row row = record { number = row.number; spans = row.spans; facts = row.f
 pub record IsPlan (choice : Choice) (plan : Plan) (core : Core) : Type 0 where
   pub revision : plan.revision ≡ length core.history
   pub moment : plan.moment ≡ core.moment
-  pub upto : plan.upto ≡ last_of (tasks_of (history core.history))
+  pub upto : plan.upto ≡ last_opstamp (history core.history)
   pub rows : plan.rows ≡ map planned_row (rows_for choice (history core.history))
 
 -- these are so many bytes of the file from a place on, and its size

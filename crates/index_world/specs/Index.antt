@@ -9,10 +9,11 @@ use Rattle.meta_journal.specs.declared.entry.Act.{Act}
 use Rattle.meta_journal.specs.declared.entry.Act.TheVariants.{Fence, Create, Stage, Publish, Replace, Raise, Task, MarkStaged, Remove, Retire}
 use Rattle.meta_journal.specs.declared.entry.Entry.{Entry}
 use Rattle.meta_store.specs.History.{history, delta_of, staged_numbers, published_numbers}
-use Rattle.delete_tasks.specs.declared.tasks.Task.{Task as KeptTask}
+use Rattle.delete_tasks.specs.Removes.{DeleteTask as KeptTask}
 use Rattle.meta_store.specs.Ledgers.{ledger}
 use Rattle.meta_store.specs.Rows.{rows}
-use Rattle.meta_store.specs.State.{Legal, MayFollow, state_of, config_of, reading_of}
+use Rattle.meta_store.specs.Readings.{config_of, reading_of}
+use Rattle.meta_store.specs.State.{Legal, MayFollow, state_of}
 use Rattle.object_store.specs.Store.{State, with_object}
 use Rattle.source_checkpoint.specs.Deltas.{range_of}
 use Rattle.source_checkpoint.specs.declared.delta.Part.{Part}
@@ -117,8 +118,8 @@ pub record Stands (kept : State) (entries : List Entry) (log : Log) : Type 0 whe
   pub within : length entries ≤ max_entries
   pub no_other : (key : List ℕ) → is_meta key ≡ true → IsSome (get kept.objects key) →
       (number : ℕ) × (number < length entries) × (key ≡ meta_key number)
-  pub checkpoints : (name : List ℕ) → (ledger (history entries)).checkpoints name ≤ length (records_of log name)
-  pub rows : AllByRecursion (IsRowKept kept (ledger (history entries)).tasks log) (rows (history entries))
+  pub checkpoints : (name : List ℕ) → (ledger reads (history entries)).checkpoints name ≤ length (records_of log name)
+  pub rows : AllByRecursion (IsRowKept kept (ledger reads (history entries)).tasks log) (rows (history entries))
   pub split_keys : (key : List ℕ) → is_split key ≡ true → IsSome (get kept.objects key) → IsStagedKey entries key
   pub late_keys : AllByRecursion (IsLateKey entries) kept.late
 

@@ -8,9 +8,10 @@ use Rattle.meta_journal.specs.declared.entry.Entry.{Entry}
 use Rattle.meta_journal.specs.declared.place.Place.TheVariants.{Sure, Given}
 use Rattle.meta_store.specs.Answers.{answer_to}
 use Rattle.meta_store.specs.History.{history, moment_of}
-use Rattle.meta_store.specs.State.{state_of, reading_of, after}
+use Rattle.meta_store.specs.Readings.{reading_of}
+use Rattle.meta_store.specs.State.{state_of, after}
 use Rattle.meta_store.specs.State as meta
-use Rattle.meta_store.specs.declared.config.Reading.{Reading}
+use Rattle.meta_store.specs.Said.{Said}
 use Rattle.object_store.specs.Store.{State, HasLanded}
 use Rattle.source_checkpoint.specs.declared.delta.Part.{Part}
 use Rattle.source_log.specs.Log.{Log}
@@ -50,7 +51,7 @@ pub record StandsBy (kept : State) (core : Core) (log : Log) (count : ℕ) (life
 
 -- ---- taking an entry in
 
-abbrev pub reading_in : meta.State → Act → Reading
+abbrev pub reading_in : meta.State → Act → Said
 reading_in state act = reading_of reads state.config act
 
 -- it was taken in

@@ -10,7 +10,8 @@ use Rattle.meta_journal.specs.declared.entry_error.EntryError.{EntryError}
 use Rattle.meta_store.specs.Answers.{Answer, answer_to}
 use Rattle.meta_store.specs.History.{History, history, revision_of, moment_of}
 use Rattle.meta_store.specs.History.History.{Start, ◌▸◌}
-use Rattle.meta_store.specs.State.{state_of, config_of, reading_of}
+use Rattle.meta_store.specs.Readings.{config_of, reading_of}
+use Rattle.meta_store.specs.State.{state_of}
 use Rattle.object_store.specs.Store.{State, HasLanded}
 use Rattle.index_world.specs.Config.{reads}
 use Rattle.index_world.specs.World.{Keeping}

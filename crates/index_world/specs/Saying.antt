@@ -48,11 +48,11 @@ abbrev pub refusal_words : Refusal → List (List ℕ)
 refusal_words (MomentBack given greatest) = codes "momentback" ∷ decimal given ∷ decimal greatest ∷ []
 refusal_words NotCreated = codes "notcreated" ∷ []
 refusal_words AlreadyCreated = codes "alreadycreated" ∷ []
-refusal_words BadConfig = codes "badconfig" ∷ []
+refusal_words (BadConfig error) = codes "badconfig" ∷ []
 refusal_words (NotNext given next) = codes "notnext" ∷ decimal given ∷ decimal next ∷ []
 refusal_words (Delta fault) = stale_words fault
 refusal_words (State refusal) = state_words refusal
-refusal_words BadTask = codes "badtask" ∷ []
+refusal_words (BadTask error) = codes "badtask" ∷ []
 refusal_words (UptoAhead upto last) = codes "uptoahead" ∷ decimal upto ∷ decimal last ∷ []
 refusal_words (TooManyTasks count) = codes "toomanytasks" ∷ decimal count ∷ []
 refusal_words (TooManyRows count) = codes "toomanyrows" ∷ decimal count ∷ []

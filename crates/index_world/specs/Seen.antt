@@ -5,11 +5,12 @@ use Rattle.source_checkpoint.specs.declared.delta.Part.{Part}
 use Rattle.source_log.specs.Log.{Log}
 use Rattle.meta_journal.specs.declared.entry.Entry.{Entry}
 use Rattle.split_states.specs.declared.rows.Row.{Row}
-use Rattle.delete_tasks.specs.declared.tasks.Task.{Task}
+use Rattle.delete_tasks.specs.Removes.{DeleteTask}
 use Rattle.delete_tasks.specs.Ledger.{Ledger}
 use Rattle.delete_tasks.specs.Removed.{Place, lies_in}
 use Rattle.meta_store.specs.History.{history}
 use Rattle.meta_store.specs.Ledgers.{ledger}
+use Rattle.index_world.specs.Config.{reads}
 use Rattle.meta_store.specs.Contents.{Meaning}
 use Rattle.meta_store.specs.Contents as by
 use Rattle.index_world.specs.declared.placed.Placed.{Placed}
@@ -19,7 +20,7 @@ abbrev pub place_of : Placed → Place
 place_of placed = record { partition = placed.partition; offset = placed.offset }
 
 -- no task matches a document yet
-abbrev pub matches_task : Placed → Task → Bool
+abbrev pub matches_task : Placed → DeleteTask → Bool
 matches_task placed task = false
 
 abbrev pub meaning : Meaning Placed
@@ -55,7 +56,7 @@ record_count (part ∷ parts) = part.to - part.from + record_count parts
 -- ---- what a history shows of them
 
 -- the accepted records of a row's spans, without those that one of these tasks removed
-abbrev pub contents : List Task → Row → Log → List Placed
+abbrev pub contents : List DeleteTask → Row → Log → List Placed
 contents tasks row log = by.contents meaning tasks (accepted_records log) row
 
 -- the accepted records below the checkpoints, by partition and then offset, without the removed ones
@@ -64,4 +65,4 @@ visible l log = by.visible meaning l (accepted_records log)
 
 -- what is visible at a revision: behind that many entries
 abbrev pub visible_at : ℕ → List Entry → Log → List Placed
-visible_at revision entries log = visible (ledger (history (take revision entries))) log
+visible_at revision entries log = visible (ledger reads (history (take revision entries))) log

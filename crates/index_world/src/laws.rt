@@ -70,7 +70,7 @@ pub fn index_is_whole()
 /// Over an index of a log each published row's file is a split of the row's contents.
 pub fn published_files_are_splits()
     ensures { (kept : State) (entries : List Entry) (log : Log) → IsLog log → IsIndexOf kept entries log →
-        AllByRecursion (IsSplitKept kept (ledger (told entries)).tasks log) (rows (told entries)) }
+        AllByRecursion (IsSplitKept kept (ledger reads (told entries)).tasks log) (rows (told entries)) }
 {}
 
 /// A store without objects is an index of no entry, over each log.

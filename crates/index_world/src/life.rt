@@ -10,6 +10,7 @@ use meta_journal::{Entry, Journal, JournalError, meta_key};
 use meta_store::Meta;
 use object_store::ObjectStore;
 use std::alloc::Global;
+use std::mem;
 
 /// The journal, the state behind the entries that were taken in, and the greatest moment.
 #[derive(Drop)]
@@ -42,9 +43,9 @@ impl Life {
         // Only a number below the limit is in doubt.
         let _place = self.journal.place();
         match admit(&mut self.meta, reading, &entry, self.journal.next()) {
-            Ok(()) => {
+            Ok(handed) => {
                 self.journal.step_over();
-                self.meta.apply(entry, reading);
+                self.meta.apply(entry, handed);
                 self.moment = self.moment.max(moment);
                 Ok(())
             }
@@ -93,19 +94,22 @@ impl Life {
             act: act_of(alloc, own, &self.meta)?,
         };
         let reading = reading_of(&entry);
-        prepare(&mut self.meta, reading, &entry)?;
+        let handed = prepare(&mut self.meta, reading, &entry)?;
         let answer = self.journal.append(alloc, store, &entry);
         // The count of a store has its range.
         let _count = store.faults();
         match answer {
             Ok(_) => {
-                self.meta.apply(entry, reading);
+                self.meta.apply(entry, handed);
                 Ok(None)
             }
-            Err(error) => match error {
-                JournalError::Adopted { entry } => Ok(Some(entry)),
-                error => Err(world_error(error, self.journal.next(), before)),
-            },
+            Err(error) => {
+                mem::drop(handed);
+                match error {
+                    JournalError::Adopted { entry } => Ok(Some(entry)),
+                    error => Err(world_error(error, self.journal.next(), before)),
+                }
+            }
         }
     }
 

@@ -26,7 +26,8 @@ use crate::world_error::WorldError;
 use meta_journal::{Entry, Journal, JournalError, meta_key};
 use meta_store::{Meta, Reading};
 use object_store::{CreateError, GetError, Key, ObjectStore};
-use std::alloc::Global;
+use std::alloc::{AllocError, Global};
+use std::mem;
 
 const MAX_ENTRIES: u64 = 10_000_000;
 
@@ -71,15 +72,16 @@ pub fn get_error(error: GetError, key: Key, before: u64, after: u64) -> WorldErr
     }
 }
 
-/// Makes the room for an entry of the journal with this number. Where the state refuses the entry it is no entry of
+/// Makes the room for an entry of the journal with this number, and hands its readings back. Where the state refuses the entry it is no entry of
 /// this journal, and nothing changes.
 pub fn admit(
     meta: &mut Meta,
     reading: Reading,
     entry: &Entry,
     number: u64,
-) -> Result<(), WorldError>
+) -> Result<Reading, WorldError>
     ensures same { meta.new.state ≡ meta.old.state }
+    ensures handed { IfOk result (λ back. back ≡ reading) }
     ensures allowed { OnOk result (IsOk (answer_to reading meta.new.state entry.now)) }
     ensures room { OnOk result (HasRoom entry.now.act meta.new) }
     ensures want { IfErr result (λ error. IsOk (answer_to reading meta.old.state entry.now) → IsWant error) }
@@ -87,34 +89,51 @@ pub fn admit(
     ensures unfit { IfErr result (IsUnfit (answer_to reading meta.old.state entry.now) number) }
 {
     match meta.check(entry, reading) {
-        Ok(()) => {}
-        Err(_) => {
-            return Err(WorldError::Corrupt {
+        Ok(handed) => Ok(with_room(meta, handed, entry)?),
+        Err(refusal) => {
+            mem::drop(refusal);
+            Err(WorldError::Corrupt {
                 key: meta_key(number),
-            });
+            })
         }
     }
-    meta.reserve(entry)?;
-    Ok(())
 }
 
-/// Makes the room for an entry of one's own, where the state allows it and the journal has a further number.
-pub fn prepare(meta: &mut Meta, reading: Reading, entry: &Entry) -> Result<(), WorldError>
+// The readings again, once there is room for their entry.
+fn with_room(meta: &mut Meta, reading: Reading, entry: &Entry) -> Result<Reading, AllocError>
     ensures same { meta.new.state ≡ meta.old.state }
+    ensures handed { IfOk result (λ back. back ≡ reading) }
+    ensures room { OnOk result (HasRoom entry.now.act meta.new) }
+{
+    match meta.reserve(entry) {
+        Ok(()) => Ok(reading),
+        Err(refused) => {
+            mem::drop(reading);
+            Err(refused)
+        }
+    }
+}
+
+/// Makes the room for an entry of one's own, where the state allows it and the journal has a further number, and hands
+/// its readings back.
+pub fn prepare(meta: &mut Meta, reading: Reading, entry: &Entry) -> Result<Reading, WorldError>
+    ensures same { meta.new.state ≡ meta.old.state }
+    ensures handed { IfOk result (λ back. back ≡ reading) }
     ensures allowed { OnOk result (IsOk (answer_to reading meta.new.state entry.now)) }
     ensures room { OnOk result (HasRoom entry.now.act meta.new) }
     ensures below { OnOk result (meta.old.state.revision < max_entries) }
     ensures why { IfErr result (IsUnprepared (answer_to reading meta.old.state entry.now) meta.old.state.revision) }
 {
     match meta.check(entry, reading) {
-        Ok(()) => {}
-        Err(refusal) => return Err(WorldError::Refused(refusal)),
+        Err(refusal) => Err(WorldError::Refused(refusal)),
+        Ok(handed) => {
+            if meta.revision() >= MAX_ENTRIES {
+                mem::drop(handed);
+                return Err(WorldError::Full);
+            }
+            Ok(with_room(meta, handed, entry)?)
+        }
     }
-    if meta.revision() >= MAX_ENTRIES {
-        return Err(WorldError::Full);
-    }
-    meta.reserve(entry)?;
-    Ok(())
 }
 
 /// A moment that the format can spell.
@@ -145,8 +164,8 @@ fn state_of(alloc: Global, entries: Vec<Entry>) -> Result<(Meta, u64), WorldErro
         let number = meta.revision();
         let reading = reading_of(&entry);
         moment = moment_of(&entry).max(moment);
-        admit(&mut meta, reading, &entry, number)?;
-        meta.apply(entry, reading);
+        let handed = admit(&mut meta, reading, &entry, number)?;
+        meta.apply(entry, handed);
     }
     Ok((meta, moment))
 }

@@ -133,11 +133,11 @@ pub fn put_refusal(alloc: Global, out: &mut Bytes, refusal: &Refusal) -> Result<
         }
         Refusal::NotCreated => put_word(out, b"notcreated"),
         Refusal::AlreadyCreated => put_word(out, b"alreadycreated"),
-        Refusal::BadConfig => put_word(out, b"badconfig"),
+        Refusal::BadConfig(_) => put_word(out, b"badconfig"),
         Refusal::NotNext { given, next } => put_pair(alloc, out, b"notnext", *given, *next),
         Refusal::Delta(fault) => put_stale(alloc, out, fault),
         Refusal::State(state) => put_state(alloc, out, state),
-        Refusal::BadTask => put_word(out, b"badtask"),
+        Refusal::BadTask(_) => put_word(out, b"badtask"),
         Refusal::UptoAhead { upto, last } => put_pair(alloc, out, b"uptoahead", *upto, *last),
         Refusal::TooManyTasks { count } => put_one(alloc, out, b"toomanytasks", *count as u64),
         Refusal::TooManyRows { count } => put_one(alloc, out, b"toomanyrows", *count as u64),

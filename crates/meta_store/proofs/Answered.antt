@@ -26,7 +26,10 @@ use Rattle.delete_tasks.specs.Ledger.{last_of}
 use Rattle.meta_journal.specs.declared.entry.Act.{Act}
 use Rattle.meta_journal.specs.declared.entry.Entry.{Entry}
 use Rattle.meta_journal.specs.declared.entry.Act.TheVariants.{Fence, Create, Stage, Publish, Replace, Raise, MarkStaged, Remove, Retire, Task as AddTask}
-use Rattle.meta_store.specs.declared.config.Reading.{Reading}
+use Rattle.index_config.specs.declared.config_error.ConfigError.{ConfigError}
+use Rattle.query_ast.specs.Sought.{Sought}
+use Rattle.query_reader.specs.declared.refusal.QueryError.{QueryError}
+use Rattle.meta_store.specs.Said.{Said}
 use Rattle.meta_store.specs.declared.config.Settings.{Settings}
 use Rattle.meta_store.specs.declared.config.Config.{Config}
 use Rattle.meta_store.specs.State.{State, Begins, Follows, MayCome, MayFollow}
@@ -307,10 +310,15 @@ upto_ok upto last h = ltb-false last upto (ok_unless (nat_lt last upto) _ _ h).0
 ok_upto : (upto last : ℕ) → upto ≤ last → IsOk (answer_to_upto upto last)
 ok_upto upto last h = unless_ok (nat_lt last upto) _ _ (le-ltb last upto h) refl
 
-task_ok : (b : Bool) → IsOk (answer_to_task b) → b ≡ true
-task_ok b h = ok_where b _ h
+task_ok : (said : Result Sought QueryError) → IsOk (answer_to_task said) → IsOk said
+task_ok (Ok query) h = refl
+task_ok (Err error) h = absurd (false≢true h)
 
-behind_ok : (reading : Reading) (settings : Settings) (s : State) (m : ℕ) (act : Act) → HasNumbers act → IsOk (answer_behind reading settings s m act) → Follows reading settings s m act
+ok_task : (said : Result Sought QueryError) → IsOk said → IsOk (answer_to_task said)
+ok_task (Ok query) h = refl
+ok_task (Err error) h = absurd (false≢true h)
+
+behind_ok : (reading : Said) (settings : Settings) (s : State) (m : ℕ) (act : Act) → HasNumbers act → IsOk (answer_behind reading settings s m act) → Follows reading settings s m act
 behind_ok reading settings s m Fence g h = tt
 behind_ok reading settings s m (Create config) g h = absurd (false≢true h)
 behind_ok reading settings s m (Stage number delta facts) g h =
@@ -319,21 +327,21 @@ behind_ok reading settings s m (Stage number delta facts) g h =
     (eqb-true number (s.last_number + 1) (ok_where (number == s.last_number + 1) _ first.0), (delta_answer delta).0 (delta_ok _ next.0), ltb-true (length s.rows) 100000 (ok_where (nat_lt (length s.rows) 100000) _ next.1))
 behind_ok reading settings s m (Publish number) g h = found_publish s number (row_at s.rows number) refl h
 behind_ok reading settings s m (Replace new old upto) g h =
-    let both = ok_then (in_state (answer_to_replace s.rows new old)) (answer_to_upto upto (last_of s.tasks)) h in
-    (replace_ok s.rows new old (state_ok _ both.0), upto_ok upto (last_of s.tasks) both.1)
+    let both = ok_then (in_state (answer_to_replace s.rows new old)) (answer_to_upto upto (s.last_opstamp)) h in
+    (replace_ok s.rows new old (state_ok _ both.0), upto_ok upto (s.last_opstamp) both.1)
 behind_ok reading settings s m (Raise number upto) g h =
-    let both = ok_then (in_state (answer_to_raise s.rows number)) (answer_to_upto upto (last_of s.tasks)) h in
-    (raise_ok s.rows number (state_ok _ both.0), upto_ok upto (last_of s.tasks) both.1)
+    let both = ok_then (in_state (answer_to_raise s.rows number)) (answer_to_upto upto (s.last_opstamp)) h in
+    (raise_ok s.rows number (state_ok _ both.0), upto_ok upto (s.last_opstamp) both.1)
 behind_ok reading settings s m (AddTask opstamp text fields times) g h =
-    let first = ok_then (answer_to_next opstamp (last_of s.tasks + 1)) _ h in
-    let next = ok_then (answer_to_task reading.task) (answer_to_tasks (length s.tasks)) first.1 in
-    (eqb-true opstamp (last_of s.tasks + 1) (ok_where (opstamp == last_of s.tasks + 1) _ first.0), task_ok reading.task next.0, ltb-true (length s.tasks) 10000 (ok_where (nat_lt (length s.tasks) 10000) _ next.1))
+    let first = ok_then (answer_to_next opstamp (s.last_opstamp + 1)) _ h in
+    let next = ok_then (answer_to_task reading.query) (answer_to_tasks (length s.tasks)) first.1 in
+    (eqb-true opstamp (s.last_opstamp + 1) (ok_where (opstamp == s.last_opstamp + 1) _ first.0), task_ok reading.query next.0, ltb-true (length s.tasks) 10000 (ok_where (nat_lt (length s.tasks) 10000) _ next.1))
 behind_ok reading settings s m (MarkStaged numbers) g h = each_ok (λ n. answer_to_mark s.rows n m settings.staged_grace) (MayMark m settings.staged_grace s.rows) numbers (λ n. mark_ok s.rows n m settings.staged_grace) (state_ok _ h)
 behind_ok reading settings s m (Remove numbers) g h = each_ok (λ n. answer_to_remove s.rows n m settings.deletion_grace) (MayRemove m settings.deletion_grace s.rows) numbers (λ n. remove_ok s.rows n m settings.deletion_grace) (state_ok _ h)
 behind_ok reading settings s m (Retire numbers) g h =
     (g.0, g.1, each_ok (λ n. answer_to_retire s.rows n m settings.period) (MayRetire m settings.period s.rows) numbers (λ n. retire_ok s.rows n m settings.period) (state_ok _ h))
 
-ok_behind : (reading : Reading) (settings : Settings) (s : State) (m : ℕ) (act : Act) → Follows reading settings s m act → IsOk (answer_behind reading settings s m act)
+ok_behind : (reading : Said) (settings : Settings) (s : State) (m : ℕ) (act : Act) → Follows reading settings s m act → IsOk (answer_behind reading settings s m act)
 ok_behind reading settings s m Fence f = refl
 ok_behind reading settings s m (Create config) f = absurd f
 ok_behind reading settings s m (Stage number delta facts) f =
@@ -341,27 +349,27 @@ ok_behind reading settings s m (Stage number delta facts) f =
     (then_ok (in_delta (answer_to_delta [] delta)) (answer_to_rows (length s.rows)) (ok_delta _ ((delta_answer delta).1 f.1)) (where_ok (nat_lt (length s.rows) 100000) _ (lt-ltb (length s.rows) 100000 f.2)))
 ok_behind reading settings s m (Publish number) f = publish_found s number (row_at s.rows number) refl f.0 f.1 f.2
 ok_behind reading settings s m (Replace new old upto) f =
-    then_ok (in_state (answer_to_replace s.rows new old)) (answer_to_upto upto (last_of s.tasks)) (ok_state _ (ok_replace s.rows new old f.0)) (ok_upto upto (last_of s.tasks) f.1)
+    then_ok (in_state (answer_to_replace s.rows new old)) (answer_to_upto upto (s.last_opstamp)) (ok_state _ (ok_replace s.rows new old f.0)) (ok_upto upto (s.last_opstamp) f.1)
 ok_behind reading settings s m (Raise number upto) f =
-    then_ok (in_state (answer_to_raise s.rows number)) (answer_to_upto upto (last_of s.tasks)) (ok_state _ (ok_raise s.rows number f.0)) (ok_upto upto (last_of s.tasks) f.1)
+    then_ok (in_state (answer_to_raise s.rows number)) (answer_to_upto upto (s.last_opstamp)) (ok_state _ (ok_raise s.rows number f.0)) (ok_upto upto (s.last_opstamp) f.1)
 ok_behind reading settings s m (AddTask opstamp text fields times) f =
-    then_ok (answer_to_next opstamp (last_of s.tasks + 1)) _ (where_ok (opstamp == last_of s.tasks + 1) _ (eq-eqb opstamp (last_of s.tasks + 1) f.0))
-    (then_ok (answer_to_task reading.task) (answer_to_tasks (length s.tasks)) (where_ok reading.task _ f.1) (where_ok (nat_lt (length s.tasks) 10000) _ (lt-ltb (length s.tasks) 10000 f.2)))
+    then_ok (answer_to_next opstamp (s.last_opstamp + 1)) _ (where_ok (opstamp == s.last_opstamp + 1) _ (eq-eqb opstamp (s.last_opstamp + 1) f.0))
+    (then_ok (answer_to_task reading.query) (answer_to_tasks (length s.tasks)) (ok_task reading.query f.1) (where_ok (nat_lt (length s.tasks) 10000) _ (lt-ltb (length s.tasks) 10000 f.2)))
 ok_behind reading settings s m (MarkStaged numbers) f = ok_state _ (ok_each (λ n. answer_to_mark s.rows n m settings.staged_grace) (MayMark m settings.staged_grace s.rows) numbers (λ n. ok_mark s.rows n m settings.staged_grace) f)
 ok_behind reading settings s m (Remove numbers) f = ok_state _ (ok_each (λ n. answer_to_remove s.rows n m settings.deletion_grace) (MayRemove m settings.deletion_grace s.rows) numbers (λ n. ok_remove s.rows n m settings.deletion_grace) f)
 ok_behind reading settings s m (Retire numbers) f = ok_state _ (ok_each (λ n. answer_to_retire s.rows n m settings.period) (MayRetire m settings.period s.rows) numbers (λ n. ok_retire s.rows n m settings.period) f.2)
 
-config_ok : (o : Option Settings) → IsOk (answer_to_config o) → IsSome o
-config_ok None h = absurd (false≢true h)
-config_ok (Some settings) h = refl
+config_ok : (said : Result Settings ConfigError) → IsOk (answer_to_config said) → IsOk said
+config_ok (Ok settings) h = refl
+config_ok (Err error) h = absurd (false≢true h)
 
-ok_config : (o : Option Settings) → IsSome o → IsOk (answer_to_config o)
-ok_config None h = absurd (false≢true h)
-ok_config (Some settings) h = refl
+ok_config : (said : Result Settings ConfigError) → IsOk said → IsOk (answer_to_config said)
+ok_config (Ok settings) h = refl
+ok_config (Err error) h = absurd (false≢true h)
 
-start_ok : (reading : Reading) (act : Act) → IsOk (answer_at_start reading act) → Begins reading act
+start_ok : (reading : Said) (act : Act) → IsOk (answer_at_start reading act) → Begins reading act
 start_ok reading Fence h = absurd (false≢true h)
-start_ok reading (Create config) h = config_ok reading.settings h
+start_ok reading (Create config) h = config_ok reading.config h
 start_ok reading (Stage number delta facts) h = absurd (false≢true h)
 start_ok reading (Publish number) h = absurd (false≢true h)
 start_ok reading (Replace new old upto) h = absurd (false≢true h)
@@ -371,9 +379,9 @@ start_ok reading (MarkStaged numbers) h = absurd (false≢true h)
 start_ok reading (Remove numbers) h = absurd (false≢true h)
 start_ok reading (Retire numbers) h = absurd (false≢true h)
 
-ok_start : (reading : Reading) (act : Act) → Begins reading act → IsOk (answer_at_start reading act)
+ok_start : (reading : Said) (act : Act) → Begins reading act → IsOk (answer_at_start reading act)
 ok_start reading Fence h = absurd h
-ok_start reading (Create config) h = ok_config reading.settings h
+ok_start reading (Create config) h = ok_config reading.config h
 ok_start reading (Stage number delta facts) h = absurd h
 ok_start reading (Publish number) h = absurd h
 ok_start reading (Replace new old upto) h = absurd h
@@ -383,15 +391,15 @@ ok_start reading (MarkStaged numbers) h = absurd h
 ok_start reading (Remove numbers) h = absurd h
 ok_start reading (Retire numbers) h = absurd h
 
-come_ok : (reading : Reading) (c : Option Config) (s : State) (m : ℕ) (act : Act) → HasNumbers act → IsOk (answer_by reading c s m act) → MayCome reading c s m act
+come_ok : (reading : Said) (c : Option Config) (s : State) (m : ℕ) (act : Act) → HasNumbers act → IsOk (answer_by reading c s m act) → MayCome reading c s m act
 come_ok reading None s m act g h = start_ok reading act h
 come_ok reading (Some config) s m act g h = behind_ok reading config.settings s m act g h
 
-ok_come : (reading : Reading) (c : Option Config) (s : State) (m : ℕ) (act : Act) → MayCome reading c s m act → IsOk (answer_by reading c s m act)
+ok_come : (reading : Said) (c : Option Config) (s : State) (m : ℕ) (act : Act) → MayCome reading c s m act → IsOk (answer_by reading c s m act)
 ok_come reading None s m act f = ok_start reading act f
 ok_come reading (Some config) s m act f = ok_behind reading config.settings s m act f
 
-pub answered : (reading : Reading) (s : State) (e : Entry) → HasNumbers e.act → IsOk (answer_to reading s e) ↔ MayFollow reading s e
+pub answered : (reading : Said) (s : State) (e : Entry) → HasNumbers e.act → IsOk (answer_to reading s e) ↔ MayFollow reading s e
 answered reading s e g = (
   (λ h. let both = ok_then (answer_to_moment e.moment s.moment) _ h in
       (ltb-false e.moment s.moment (ok_unless (nat_lt e.moment s.moment) _ _ both.0).0, come_ok reading s.config s e.moment e.act g both.1)),

@@ -6,11 +6,12 @@ use Rattle.meta_journal.specs.declared.entry.Entry.{Entry}
 use Rattle.meta_store.specs.History.{History, history, revision_of, moment_of, delta_of, published_numbers}
 use Rattle.meta_store.specs.History.History.{Start, ◌▸◌}
 use Rattle.meta_store.specs.Ledgers.{ledger}
-use Rattle.meta_store.specs.State.{Reads, Legal}
+use Rattle.meta_store.specs.Readings.{Reads}
+use Rattle.meta_store.specs.State.{Legal}
 use Rattle.meta_store.specs.Laws.{IsCounted, IsNumbered, holds_place, all_ranges}
 use Rattle.meta_store.proofs.Kept.{kept}
 use Rattle.meta_store.proofs.Covering.{one_if, once_at}
-use Rattle.meta_store.proofs.Current.{tasks_agree}
+use Rattle.meta_store.proofs.Current.{tasks_agree, opstamps_agree}
 use Rattle.meta_store.proofs.Sound.{IsSound, sound}
 use Rattle.meta_store.proofs.Tallied.{IsTallied, tallied}
 
@@ -29,12 +30,12 @@ moments h (e ∷ es) = (let rest = moment_grows (h ▸ e) es in omega (arith, re
 pub counted : (reads : Reads) (es : List Entry) → Legal reads (history es) → IsCounted reads es
 counted reads es l = by_parts (sound reads (history es) l) (tallied reads (history es) l)
   where
-    by_parts : IsSound (history es) → IsTallied (history es) → IsCounted reads es
+    by_parts : IsSound reads (history es) → IsTallied reads (history es) → IsCounted reads es
     by_parts s t = record {
       revision = revisions Start es ∙ omega arith;
       moment = moments Start es;
-      tasks = sym (tasks_agree (history es));
-      last_opstamp = rw (tasks_agree (history es)) t.last;
+      tasks = sym (tasks_agree reads (history es));
+      last_opstamp = rw (tasks_agree reads (history es)) (opstamps_agree reads (history es) ∙ t.last);
       spans = t.spans;
       checkpoints = s.agree;
       retired = (kept reads (history es) l).same;
@@ -45,17 +46,17 @@ at_most_one : (b : Bool) → one_if b ≤ 1
 at_most_one true = omega arith
 at_most_one false = omega arith
 
-pub numbered : (reads : Reads) (h : History) → Legal reads h → IsNumbered h
+pub numbered : (reads : Reads) (h : History) → Legal reads h → IsNumbered reads h
 numbered reads h l = by_parts (sound reads h l) (tallied reads h l)
   where
-    by_parts : IsSound h → IsTallied h → IsNumbered h
+    by_parts : IsSound reads h → IsTallied reads h → IsNumbered reads h
     by_parts s t = record {
       staged = t.staged_apart;
-      tasks = rw (tasks_agree h) t.numbered;
+      tasks = rw (tasks_agree reads h) t.numbered;
       published = t.published_apart;
       taken_once = λ p offset.
-          let same = sum_by-IsPermutation (λ r. one_if (holds_place p offset r)) (flat_map (delta_of h) (published_numbers h)) (all_ranges (ledger h)) t.taken in
-          let once = once_at p offset ((ledger h).checkpoints p) (all_ranges (ledger h)) (s.once.covers p) in
-          let low = at_most_one (nat_lt offset ((ledger h).checkpoints p)) in
+          let same = sum_by-IsPermutation (λ r. one_if (holds_place p offset r)) (flat_map (delta_of h) (published_numbers h)) (all_ranges (ledger reads h)) t.taken in
+          let once = once_at p offset ((ledger reads h).checkpoints p) (all_ranges (ledger reads h)) (s.once.covers p) in
+          let low = at_most_one (nat_lt offset ((ledger reads h).checkpoints p)) in
           omega (arith, same, once, low);
     }

@@ -5,19 +5,21 @@ use Rattle.std.proofs.lemmas.List.Elements.{All-from_recursion, recursion_from_A
 use Rattle.std.proofs.lemmas.List.Sorted.{All-permutation}
 use Rattle.delete_tasks.proofs.Last.{last_push}
 use Rattle.meta_store.proofs.RowLists.{AllOf, AllOf-append, AllOf-weaker, AllOf-without}
-use Rattle.meta_store.proofs.Current.{AllOf-change, AllOf-change_each, AllOf-without_each, tasks_agree}
+use Rattle.meta_store.proofs.Current.{AllOf-change, AllOf-change_each, AllOf-without_each, tasks_agree, opstamps_agree}
 use Rattle.meta_store.proofs.Sound.{IsSound, sound}
 use Rattle.delete_tasks.specs.Ledger.{last_of}
 use Rattle.meta_journal.specs.declared.entry.Act.{Act}
 use Rattle.meta_journal.specs.declared.entry.Act.TheVariants.{Fence, Create, Stage, Publish, Replace, Raise, MarkStaged, Remove, Retire, Task as AddTask}
-use Rattle.meta_store.specs.History.{History, at, task_of, tasks_of, last_number}
+use Rattle.meta_store.specs.Tasks.{task_of, tasks_of}
+use Rattle.meta_store.specs.History.{History, at, last_number, last_opstamp}
 use Rattle.meta_store.specs.History.History.{Start, ◌▸◌}
 use Rattle.meta_store.specs.Laws.{shown, published_spans, RowsRise, IsFormed}
 use Rattle.meta_store.specs.Ledgers.{ledger}
 use Rattle.meta_store.specs.Rows.{rows}
-use Rattle.meta_store.specs.State.{Reads, state_of, reading_of, config_of, Follows, Begins, MayCome, Legal}
+use Rattle.meta_store.specs.Readings.{Reads, reading_of, config_of}
+use Rattle.meta_store.specs.State.{state_of, Follows, Begins, MayCome, Legal}
 use Rattle.meta_store.specs.declared.config.Config.{Config}
-use Rattle.meta_store.specs.declared.config.Reading.{Reading}
+use Rattle.meta_store.specs.Said.{Said}
 use Rattle.meta_store.specs.declared.config.Settings.{Settings}
 use Rattle.source_checkpoint.specs.Deltas.{raised, spans_of, IsDelta, IsSpan}
 use Rattle.source_checkpoint.specs.declared.delta.Part.{Part}
@@ -99,52 +101,51 @@ good_shown last (r ∷ rows) h =
 
 pub record IsShaped (h : History) : Type 0 where
   pub rise : RowsRise (rows h)
-  pub good : AllOf (IsGood (last_of (tasks_of h))) (rows h)
+  pub good : AllOf (IsGood (last_opstamp h)) (rows h)
 
-shaped_after : (reads : Reads) (reading : Reading) (settings : Settings) (h : History) (m : ℕ) (act : Act) → IsSound h → IsShaped h → Follows reading settings (state_of reads h) m act → IsShaped (h ▸ at m act)
+shaped_after : (reads : Reads) (reading : Said) (settings : Settings) (h : History) (m : ℕ) (act : Act) → IsSound reads h → IsShaped h → Follows reading settings (state_of reads h) m act → IsShaped (h ▸ at m act)
 shaped_after reads reading settings h m Fence s t f = record { rise = t.rise; good = t.good }
 shaped_after reads reading settings h m (Create config) s t f = absurd f
 shaped_after reads reading settings h m (Stage number delta facts) s t f =
     let next : number ≡ last_number h + 1 = f.0 in
     record {
-      rise = rise_push (rows h) (staged number (spans_of (last_of (tasks_of h)) delta) facts m) t.rise (AllOf-weaker (λ row. row.number ≤ last_number h) (λ row. row.number < number) (rows h) (λ row le. omega (arith, next, le)) s.held.below);
-      good = AllOf-append (IsGood (last_of (tasks_of h))) (rows h) _ t.good (good_staged (last_of (tasks_of h)) delta f.1, tt);
+      rise = rise_push (rows h) (staged number (spans_of (last_opstamp h) delta) facts m) t.rise (AllOf-weaker (λ row. row.number ≤ last_number h) (λ row. row.number < number) (rows h) (λ row le. omega (arith, next, le)) s.held.below);
+      good = AllOf-append (IsGood (last_opstamp h)) (rows h) _ t.good (good_staged (last_opstamp h) delta f.1, tt);
     }
 shaped_after reads reading settings h m (Publish number) s t f = record {
   rise = rise_change (rows h) number published (λ row. refl) t.rise;
-  good = AllOf-change (IsGood (last_of (tasks_of h))) (rows h) number published (λ row w. w) t.good;
+  good = AllOf-change (IsGood (last_opstamp h)) (rows h) number published (λ row w. w) t.good;
 }
 shaped_after reads reading settings h m (Replace new old upto) s t f = record {
   rise = rise_change (change_each old (marked m) (rows h)) new (replacing (map (raised upto) (joined_spans (rows h) old)) (merged_ops (rows h) old)) (λ row. refl) (rise_each old (rows h) (marked m) (λ row. refl) t.rise);
-  good = AllOf-change (IsGood (last_of (tasks_of h))) (change_each old (marked m) (rows h)) new (replacing (map (raised upto) (joined_spans (rows h) old)) (merged_ops (rows h) old))
-      (λ row w. good_raised upto (last_of (tasks_of h)) (joined_spans (rows h) old) f.1 (good_joined (last_of (tasks_of h)) old (rows h) t.good))
-      (AllOf-change_each (IsGood (last_of (tasks_of h))) old (rows h) (marked m) (λ row w. w) t.good);
+  good = AllOf-change (IsGood (last_opstamp h)) (change_each old (marked m) (rows h)) new (replacing (map (raised upto) (joined_spans (rows h) old)) (merged_ops (rows h) old))
+      (λ row w. good_raised upto (last_opstamp h) (joined_spans (rows h) old) f.1 (good_joined (last_opstamp h) old (rows h) t.good))
+      (AllOf-change_each (IsGood (last_opstamp h)) old (rows h) (marked m) (λ row w. w) t.good);
 }
 shaped_after reads reading settings h m (Raise number upto) s t f = record {
   rise = rise_change (rows h) number (raised_row upto) (λ row. refl) t.rise;
-  good = AllOf-change (IsGood (last_of (tasks_of h))) (rows h) number (raised_row upto) (λ row w. good_raised upto (last_of (tasks_of h)) row.spans f.1 w) t.good;
+  good = AllOf-change (IsGood (last_opstamp h)) (rows h) number (raised_row upto) (λ row w. good_raised upto (last_opstamp h) row.spans f.1 w) t.good;
 }
 shaped_after reads reading settings h m (AddTask opstamp text fields times) s t f =
-    let next : opstamp ≡ last_of (tasks_of h) + 1 = f.0 in
-    let last = last_push (tasks_of h) (task_of opstamp text fields times) in
+    let next : opstamp ≡ last_opstamp h + 1 = f.0 in
     record {
       rise = t.rise;
-      good = good_later (last_of (tasks_of h)) (last_of (tasks_of h ++ task_of opstamp text fields times ∷ [])) (rows h) (omega (arith, next, last)) t.good;
+      good = good_later (last_opstamp h) opstamp (rows h) (omega (arith, next)) t.good;
     }
 shaped_after reads reading settings h m (MarkStaged numbers) s t f = record {
   rise = rise_each numbers (rows h) (marked m) (λ row. refl) t.rise;
-  good = AllOf-change_each (IsGood (last_of (tasks_of h))) numbers (rows h) (marked m) (λ row w. w) t.good;
+  good = AllOf-change_each (IsGood (last_opstamp h)) numbers (rows h) (marked m) (λ row w. w) t.good;
 }
 shaped_after reads reading settings h m (Remove numbers) s t f = record {
   rise = rise_without_each numbers (rows h) t.rise;
-  good = AllOf-without_each (IsGood (last_of (tasks_of h))) numbers (rows h) t.good;
+  good = AllOf-without_each (IsGood (last_opstamp h)) numbers (rows h) t.good;
 }
 shaped_after reads reading settings h m (Retire numbers) s t f = record {
   rise = rise_each numbers (rows h) (marked m) (λ row. refl) t.rise;
-  good = AllOf-change_each (IsGood (last_of (tasks_of h))) numbers (rows h) (marked m) (λ row w. w) t.good;
+  good = AllOf-change_each (IsGood (last_opstamp h)) numbers (rows h) (marked m) (λ row w. w) t.good;
 }
 
-shaped_first : (reading : Reading) (h : History) (m : ℕ) (act : Act) → IsShaped h → Begins reading act → IsShaped (h ▸ at m act)
+shaped_first : (reading : Said) (h : History) (m : ℕ) (act : Act) → IsShaped h → Begins reading act → IsShaped (h ▸ at m act)
 shaped_first reading h m (Create config) t b = record { rise = t.rise; good = t.good }
 shaped_first reading h m Fence t b = absurd b
 shaped_first reading h m (Stage number delta facts) t b = absurd b
@@ -156,7 +157,7 @@ shaped_first reading h m (MarkStaged numbers) t b = absurd b
 shaped_first reading h m (Remove numbers) t b = absurd b
 shaped_first reading h m (Retire numbers) t b = absurd b
 
-shaped_next : (reads : Reads) (reading : Reading) (c : Option Config) (h : History) (m : ℕ) (act : Act) → IsSound h → IsShaped h → MayCome reading c (state_of reads h) m act → IsShaped (h ▸ at m act)
+shaped_next : (reads : Reads) (reading : Said) (c : Option Config) (h : History) (m : ℕ) (act : Act) → IsSound reads h → IsShaped h → MayCome reading c (state_of reads h) m act → IsShaped (h ▸ at m act)
 shaped_next reads reading None h m act s t f = shaped_first reading h m act t f
 shaped_next reads reading (Some config) h m act s t f = shaped_after reads reading config.settings h m act s t f
 
@@ -164,14 +165,14 @@ pub shaped : (reads : Reads) (h : History) → Legal reads h → IsShaped h
 shaped reads Start l = record { rise = tt; good = tt }
 shaped reads (h ▸ e) l = shaped_next reads (reading_of reads (config_of reads h) e.act) (config_of reads h) h e.moment e.act (sound reads h l.0) (shaped reads h l.0) l.1.1
 
-pub formed : (reads : Reads) (h : History) → Legal reads h → IsFormed h
+pub formed : (reads : Reads) (h : History) → Legal reads h → IsFormed reads h
 formed reads h l = by_parts (sound reads h l) (shaped reads h l)
   where
-    by_parts : IsSound h → IsShaped h → IsFormed h
+    by_parts : IsSound reads h → IsShaped h → IsFormed reads h
     by_parts s t = record {
       rows_rise = t.rise;
-      row_spans = rw (tasks_agree h) t.good;
-      ledger_spans = rw (tasks_agree h) (recursion_from_All (IsSpan (last_of (tasks_of h))) (ledger h).spans
-          (All-permutation (IsSpan (last_of (tasks_of h))) (published_spans (rows h)) (ledger h).spans s.once.each_once
-          (All-from_recursion (IsSpan (last_of (tasks_of h))) (published_spans (rows h)) (good_shown (last_of (tasks_of h)) (rows h) t.good))));
+      row_spans = rw (tasks_agree reads h, opstamps_agree reads h) t.good;
+      ledger_spans = rw (tasks_agree reads h, opstamps_agree reads h) (recursion_from_All (IsSpan (last_opstamp h)) (ledger reads h).spans
+          (All-permutation (IsSpan (last_opstamp h)) (published_spans (rows h)) (ledger reads h).spans s.once.each_once
+          (All-from_recursion (IsSpan (last_opstamp h)) (published_spans (rows h)) (good_shown (last_opstamp h) (rows h) t.good))));
     }

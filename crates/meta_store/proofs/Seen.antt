@@ -8,8 +8,9 @@ use Rattle.std.proofs.lemmas.List.Sorted.{IsPermutation-trans}
 use Rattle.meta_store.proofs.Covering.{one_if, once_at}
 use Rattle.meta_store.proofs.Lists.{IsPermutation-flat_map, IsPermutation-same, alone_if, filter_is, flat_map-same, filters_joined}
 use Rattle.delete_tasks.specs.Ledger.{Ledger}
-use Rattle.delete_tasks.specs.Removed.{lies_in, Place, erased_by, erased}
-use Rattle.delete_tasks.specs.declared.tasks.Task.{Task}
+use Rattle.delete_tasks.specs.Removed.{lies_in, Place, erased_by, erased_where}
+use Rattle.delete_tasks.specs.Removes.{DeleteTask}
+use Rattle.meta_store.specs.Readings.{Reads}
 use Rattle.meta_store.specs.Contents.{Meaning, is_visible, visible, is_kept, contents, published_rows, published_contents}
 use Rattle.meta_store.specs.History.{History}
 use Rattle.meta_store.specs.Laws.{Once, published_spans, all_ranges, times_at}
@@ -21,7 +22,7 @@ use Rattle.source_checkpoint.specs.declared.span.Span.{Span}
 use Rattle.split_states.specs.Rows.{is_published}
 use Rattle.split_states.specs.declared.rows.Row.{Row}
 
-module _ {X : Type 0} (meaning : Meaning X) (tasks : List Task) (x : X) where
+module _ {X : Type 0} (meaning : Meaning X) (tasks : List DeleteTask) (x : X) where
   -- where the record stands
   abbrev here : Place
   here = meaning.place x
@@ -125,11 +126,11 @@ module _ {X : Type 0} (meaning : Meaning X) where
               | inl gone ↦
                   let counted = any_counted here l.retired gone in
                   let rest = copies_none meaning l.tasks x l.spans (omega (arith, parts, live, one, once, counted)) in
-                  rest ∙ rw (below, gone) (by_or x (erased (meaning.matches x) l here))
+                  rest ∙ rw (below, gone) (by_or x (erased_where (meaning.matches x) l here))
               | inr stands ↦
                   let counted = none_counted here l.retired stands in
                   let rest = copies_one meaning l.tasks x l.spans (omega (arith, parts, live, one, once, counted)) in
-                  rest ∙ rw (below, stands) (by_either x (erased (meaning.matches x) l here))
+                  rest ∙ rw (below, stands) (by_either x (erased_where (meaning.matches x) l here))
             ]
         | inr above ↦
             let none : one_if (nat_lt here.offset (l.checkpoints here.partition)) ≡ 0 = rw above refl in
@@ -146,7 +147,7 @@ module _ {X : Type 0} (meaning : Meaning X) where
       by_either x false = refl
 
   -- the rows' contents, span by span
-  contents_by_span : (tasks : List Task) (records : List X) (rows : List Row) → flat_map (contents meaning tasks records) (published_rows rows) ≡ flat_map (λ s. filter (is_kept meaning tasks s) records) (published_spans rows)
+  contents_by_span : (tasks : List DeleteTask) (records : List X) (rows : List Row) → flat_map (contents meaning tasks records) (published_rows rows) ≡ flat_map (λ s. filter (is_kept meaning tasks s) records) (published_spans rows)
   contents_by_span tasks records [] = refl
   contents_by_span tasks records (row ∷ rows) =
       let rest = contents_by_span tasks records rows in
@@ -156,11 +157,11 @@ module _ {X : Type 0} (meaning : Meaning X) where
         | inr hidden ↦ rw hidden rest
       ]
 
-  pub published_is_visible : (h : History) (records : List X) → Once h → IsPermutation (published_contents meaning h records) (visible meaning (ledger h) records)
-  published_is_visible h records once =
-      let l : Ledger = ledger h in
+  pub published_is_visible : (reads : Reads) (h : History) (records : List X) → Once reads h → IsPermutation (published_contents meaning reads h records) (visible meaning (ledger reads h) records)
+  published_is_visible reads h records once =
+      let l : Ledger = ledger reads h in
       let piece : Span → List X = λ s. filter (is_kept meaning l.tasks s) records in
-      let by_rows : IsPermutation (published_contents meaning h records) (flat_map piece (published_spans (rows h))) = IsPermutation-same _ _ (contents_by_span l.tasks records (rows h)) in
+      let by_rows : IsPermutation (published_contents meaning reads h records) (flat_map piece (published_spans (rows h))) = IsPermutation-same _ _ (contents_by_span l.tasks records (rows h)) in
       let by_ledger : IsPermutation (flat_map piece (published_spans (rows h))) (flat_map piece l.spans) = IsPermutation-flat_map piece (published_spans (rows h)) l.spans once.each_once in
       let by_record : IsPermutation (flat_map piece l.spans) (flat_map (λ x. flat_map (λ s. alone_if (is_kept meaning l.tasks s x) x) l.spans) records) = filters_joined (is_kept meaning l.tasks) l.spans records in
       let seen : flat_map (λ x. flat_map (λ s. alone_if (is_kept meaning l.tasks s x) x) l.spans) records ≡ visible meaning l records =

@@ -14,14 +14,16 @@ use Rattle.delete_tasks.specs.Ledger.{Ledger, admit, retire, is_among, raised_am
 use Rattle.meta_journal.specs.declared.entry.Act.{Act}
 use Rattle.meta_journal.specs.declared.entry.Act.TheVariants.{Fence, Create, Stage, Publish, Replace, Raise, MarkStaged, Remove, Retire, Task as AddTask}
 use Rattle.meta_journal.specs.declared.entry.Entry.{Entry}
-use Rattle.meta_store.specs.History.{History, history, tasks_of, delta_of, stamp_of, reach, last_number, at}
+use Rattle.meta_store.specs.Tasks.{tasks_of}
+use Rattle.meta_store.specs.History.{History, history, delta_of, stamp_of, reach, last_number, at, last_opstamp}
 use Rattle.meta_store.specs.History.History.{Start, ◌▸◌}
 use Rattle.meta_store.specs.Laws.{Once, shown, all_ranges}
 use Rattle.meta_store.specs.Ledgers.{ledger}
 use Rattle.meta_store.specs.Rows.{rows}
-use Rattle.meta_store.specs.State.{config_of, Follows, Begins, MayCome, Legal, Reads, state_of, reading_of, checkpoints_of, Rises}
+use Rattle.meta_store.specs.Readings.{config_of, Reads, reading_of}
+use Rattle.meta_store.specs.State.{Follows, Begins, MayCome, Legal, state_of, checkpoints_of, Rises}
 use Rattle.meta_store.specs.declared.config.Config.{Config}
-use Rattle.meta_store.specs.declared.config.Reading.{Reading}
+use Rattle.meta_store.specs.Said.{Said}
 use Rattle.meta_store.specs.declared.config.Settings.{Settings}
 use Rattle.source_checkpoint.specs.Checkpoints.{checkpoint_at, move_all}
 use Rattle.source_checkpoint.specs.Deltas.{range_of, spans_of, raised, MayAdmit, Partition}
@@ -41,11 +43,11 @@ pub record IsTraced (ranges delta : ℕ → List Part) (stamp : ℕ → ℕ) (ro
 abbrev pub Traced : History → Row → Type 0
 Traced h = IsTraced (reach h) (delta_of h) (stamp_of h)
 
-pub record IsSound (h : History) : Type 0 where
+pub record IsSound (reads : Reads) (h : History) : Type 0 where
   pub held : HoldRows (Traced h) (last_number h) (rows h)
-  pub once : Once h
+  pub once : Once reads h
   -- the listed checkpoints are the ledger's
-  pub agree : (p : Partition) → checkpoint_at (checkpoints_of h) p ≡ (ledger h).checkpoints p
+  pub agree : (p : Partition) → checkpoint_at (checkpoints_of h) p ≡ (ledger reads h).checkpoints p
 
 pub AllOf-ranges : (f g : Partition → ℕ) (delta : List Part) → ((p : Partition) → f p ≡ g p) → AllOf (λ part. part.from ≡ f part.partition) delta → AllOf (λ part. part.from ≡ g part.partition) delta
 AllOf-ranges f g [] e h = tt
@@ -101,38 +103,38 @@ ranges_retired ranges l =
     twice true = refl
     twice false = refl
 
-sound_start : IsSound Start
-sound_start = record {
+sound_start : (reads : Reads) → IsSound reads Start
+sound_start reads = record {
   held = record { apart = tt; below = tt; each = tt };
   once = record { each_once = IsPermutation-refl []; covers = λ p. record { in_order = []; same = IsPermutation-refl []; covers = refl } };
   agree = λ p. refl;
 }
 
 -- what neither moves a span nor changes a row
-sound_create : (h : History) (m : ℕ) (config : List ℕ) → IsSound h → IsSound (h ▸ at m (Create config))
-sound_create h m config s = record { held = s.held; once = record { each_once = s.once.each_once; covers = s.once.covers }; agree = s.agree }
+sound_create : (reads : Reads) (h : History) (m : ℕ) (config : List ℕ) → IsSound reads h → IsSound reads (h ▸ at m (Create config))
+sound_create reads h m config s = record { held = s.held; once = record { each_once = s.once.each_once; covers = s.once.covers }; agree = s.agree }
 
-sound_task : (h : History) (m opstamp : ℕ) (text : List ℕ) (fields : List (List ℕ)) (times : TimeRange) → IsSound h → IsSound (h ▸ at m (AddTask opstamp text fields times))
-sound_task h m opstamp text fields times s = record { held = s.held; once = record { each_once = s.once.each_once; covers = s.once.covers }; agree = s.agree }
+sound_task : (reads : Reads) (h : History) (m opstamp : ℕ) (text : List ℕ) (fields : List (List ℕ)) (times : TimeRange) → IsSound reads h → IsSound reads (h ▸ at m (AddTask opstamp text fields times))
+sound_task reads h m opstamp text fields times s = record { held = s.held; once = record { each_once = s.once.each_once; covers = s.once.covers }; agree = s.agree }
 
-sound_fence : (h : History) (m : ℕ) → IsSound h → IsSound (h ▸ at m Fence)
-sound_fence h m s = record { held = s.held; once = record { each_once = s.once.each_once; covers = s.once.covers }; agree = s.agree }
+sound_fence : (reads : Reads) (h : History) (m : ℕ) → IsSound reads h → IsSound reads (h ▸ at m Fence)
+sound_fence reads h m s = record { held = s.held; once = record { each_once = s.once.each_once; covers = s.once.covers }; agree = s.agree }
 
 -- an earlier row is traced as before where another number is staged, and the new one by its Stage
 traced_staged : (h : History) (m number : ℕ) (delta : List Part) (facts : RowFacts) (row : Row) → (row.number == number) ≡ false → Traced h row → Traced (h ▸ at m (Stage number delta facts)) row
 traced_staged h m number delta facts row other t = record { reaches = λ alive. rw other (t.reaches alive); fresh = λ still. rw other (t.fresh still) }
 
-traced_new : (h : History) (m number : ℕ) (delta : List Part) (facts : RowFacts) → Traced (h ▸ at m (Stage number delta facts)) (staged number (spans_of (last_of (tasks_of h)) delta) facts m)
+traced_new : (h : History) (m number : ℕ) (delta : List Part) (facts : RowFacts) → Traced (h ▸ at m (Stage number delta facts)) (staged number (spans_of (last_opstamp h) delta) facts m)
 traced_new h m number delta facts =
     let same : (number == number) ≡ true = eq-eqb number number refl in
     record {
-      reaches = λ alive. rw same (ranges_of_spans (last_of (tasks_of h)) delta);
+      reaches = λ alive. rw same (ranges_of_spans (last_opstamp h) delta);
       fresh = λ still. rw same refl;
     }
 
-sound_stage : (h : History) (m number : ℕ) (delta : List Part) (facts : RowFacts) → IsSound h → number ≡ last_number h + 1 → IsSound (h ▸ at m (Stage number delta facts))
-sound_stage h m number delta facts s next =
-    let new : Row = staged number (spans_of (last_of (tasks_of h)) delta) facts m in
+sound_stage : (reads : Reads) (h : History) (m number : ℕ) (delta : List Part) (facts : RowFacts) → IsSound reads h → number ≡ last_number h + 1 → IsSound reads (h ▸ at m (Stage number delta facts))
+sound_stage reads h m number delta facts s next =
+    let new : Row = staged number (spans_of (last_opstamp h) delta) facts m in
     let after : Row → Type 0 = Traced (h ▸ at m (Stage number delta facts)) in
     let last : last_number h + 1 ≡ max (last_number h) number = omega arith in
     let pushed : HoldRows after (last_number h + 1) (rows h ++ new ∷ []) =
@@ -156,11 +158,11 @@ traced_published h row still t = record {
   fresh = λ was. cc was;
 }
 
-sound_publish : (h : History) (m number : ℕ) (row : Row) → IsSound h → row_at (rows h) number ≡ Some row → row.state ≡ Staged → MayAdmit (row_ranges (rows h) number) (checkpoint_at (checkpoints_of h)) → IsSound (h ▸ at m (Publish number))
-sound_publish h m number row s found still may =
+sound_publish : (reads : Reads) (h : History) (m number : ℕ) (row : Row) → IsSound reads h → row_at (rows h) number ≡ Some row → row.state ≡ Staged → MayAdmit (row_ranges (rows h) number) (checkpoint_at (checkpoints_of h)) → IsSound reads (h ▸ at m (Publish number))
+sound_publish reads h m number row s found still may =
     publish_row h m number row s (row_stands (rows h) number row s.held.apart found) still (ap (λ o. map range_of (row_spans o)) found) may
   where
-    publish_row : (h : History) (m number : ℕ) (row : Row) → IsSound h → StandsIn (rows h) number row → row.state ≡ Staged → row_ranges (rows h) number ≡ map range_of row.spans → MayAdmit (row_ranges (rows h) number) (checkpoint_at (checkpoints_of h)) → IsSound (h ▸ at m (Publish number))
+    publish_row : (h : History) (m number : ℕ) (row : Row) → IsSound reads h → StandsIn (rows h) number row → row.state ≡ Staged → row_ranges (rows h) number ≡ map range_of row.spans → MayAdmit (row_ranges (rows h) number) (checkpoint_at (checkpoints_of h)) → IsSound reads (h ▸ at m (Publish number))
     publish_row h m number row s r still listed may =
         let t : Traced h row = held (Traced h) (last_number h) (rows h) number row r s.held in
         let delta : List Part = delta_of h number in
@@ -171,19 +173,19 @@ sound_publish h m number row s found still may =
         record {
           held = HoldRows-change (Traced h) (last_number h) (rows h) number row published (λ x. refl) r s.held (traced_published h row still t);
           once = record {
-            each_once = rw (r.changed published, ← spans) (spans_shown r.before r.behind row (published row) (ledger h).spans (rw still refl) refl (rw r.is at s.once.each_once));
-            covers = λ p. covers_permuted p _ (all_ranges (ledger h) ++ delta) (all_ranges (ledger (h ▸ at m (Publish number))))
-                (ranges_admitted (ledger h) k delta)
-                (covers_more delta (ledger h).checkpoints p (all_ranges (ledger h)) allowed.0 (AllOf-ranges (checkpoint_at (checkpoints_of h)) (ledger h).checkpoints delta s.agree allowed.1) (s.once.covers p));
+            each_once = rw (r.changed published, ← spans) (spans_shown r.before r.behind row (published row) (ledger reads h).spans (rw still refl) refl (rw r.is at s.once.each_once));
+            covers = λ p. covers_permuted p _ (all_ranges (ledger reads h) ++ delta) (all_ranges (ledger reads (h ▸ at m (Publish number))))
+                (ranges_admitted (ledger reads h) k delta)
+                (covers_more delta (ledger reads h).checkpoints p (all_ranges (ledger reads h)) allowed.0 (AllOf-ranges (checkpoint_at (checkpoints_of h)) (ledger reads h).checkpoints delta s.agree allowed.1) (s.once.covers p));
           };
           agree = λ p. ap (λ d. checkpoint_at (move_all d (checkpoints_of h)) p) ranges
               ∙ (checkpoints_moved delta (checkpoints_of h) allowed.0 p
-              ∙ moved_by delta (checkpoint_at (checkpoints_of h)) (ledger h).checkpoints p (s.agree p));
+              ∙ moved_by delta (checkpoint_at (checkpoints_of h)) (ledger reads h).checkpoints p (s.agree p));
         }
 
 -- a Staged row's ranges are those of its Stage's delta
-pub staged_ranges : (h : History) (number : ℕ) (row : Row) → IsSound h → row_at (rows h) number ≡ Some row → row.state ≡ Staged → row_ranges (rows h) number ≡ delta_of h number
-staged_ranges h number row s found still = by_row (row_stands (rows h) number row s.held.apart found)
+pub staged_ranges : (reads : Reads) (h : History) (number : ℕ) (row : Row) → IsSound reads h → row_at (rows h) number ≡ Some row → row.state ≡ Staged → row_ranges (rows h) number ≡ delta_of h number
+staged_ranges reads h number row s found still = by_row (row_stands (rows h) number row s.held.apart found)
   where
     by_row : StandsIn (rows h) number row → row_ranges (rows h) number ≡ delta_of h number
     by_row r =
@@ -199,17 +201,17 @@ ranges_raised : (upto : ℕ) (spans : List Span) → map range_of (map (raised u
 ranges_raised upto [] = refl
 ranges_raised upto (s ∷ spans) = ap (λ rest. range_of s ∷ rest) (ranges_raised upto spans)
 
-sound_raise : (h : History) (m number upto : ℕ) (row : Row) → IsSound h → StandsIn (rows h) number row → row.state ≡ Published → IsSound (h ▸ at m (Raise number upto))
-sound_raise h m number upto row s r open' =
+sound_raise : (reads : Reads) (h : History) (m number upto : ℕ) (row : Row) → IsSound reads h → StandsIn (rows h) number row → row.state ≡ Published → IsSound reads (h ▸ at m (Raise number upto))
+sound_raise reads h m number upto row s r open' =
     let t : Traced h row = held (Traced h) (last_number h) (rows h) number row r s.held in
     let ranges : map range_of row.spans ≡ reach h number = rw r.number at (t.reaches (λ dead. let e : Published ≡ Marked = sym open' ∙ dead in cc e)) in
-    let apart : AtMostOnce (ledger h).spans = covering_apart (ledger h) s.once.covers in
+    let apart : AtMostOnce (ledger reads h).spans = covering_apart (ledger reads h) s.once.covers in
     record {
       held = HoldRows-change (Traced h) (last_number h) (rows h) number row (raised_row upto) (λ x. refl) r s.held
           (record { reaches = λ alive. ranges_raised upto row.spans ∙ t.reaches alive; fresh = λ still. let e : Published ≡ Staged = sym open' ∙ still in cc e });
       once = record {
-        each_once = rw (← ranges) (spans_raised (rows h) number upto row (ledger h).spans r open' apart s.once.each_once);
-        covers = λ p. rw (ranges_kept (reach h number) upto (ledger h).spans) (s.once.covers p);
+        each_once = rw (← ranges) (spans_raised (rows h) number upto row (ledger reads h).spans r open' apart s.once.each_once);
+        covers = λ p. rw (ranges_kept (reach h number) upto (ledger reads h).spans) (s.once.covers p);
       };
       agree = s.agree;
     }
@@ -235,12 +237,12 @@ traced_replacing h m new upto ops old spans row ranges number =
     let same : (row.number == new) ≡ true = eq-eqb row.number new number in
     record { reaches = λ alive. rw same (ranges_raised upto spans ∙ ranges); fresh = λ still. cc still }
 
-sound_replace : (h : History) (m new upto : ℕ) (old : List ℕ) (row : Row) → IsSound h → row_at (rows h) new ≡ Some row → row.state ≡ Staged → AreApart old → AllOf (IsIn Published (rows h)) old → IsSound (h ▸ at m (Replace new old upto))
-sound_replace h m new upto old row s found still apart i =
+sound_replace : (reads : Reads) (h : History) (m new upto : ℕ) (old : List ℕ) (row : Row) → IsSound reads h → row_at (rows h) new ≡ Some row → row.state ≡ Staged → AreApart old → AllOf (IsIn Published (rows h)) old → IsSound reads (h ▸ at m (Replace new old upto))
+sound_replace reads h m new upto old row s found still apart i =
     let joined : List Span = joined_spans (rows h) old in
     let ops : ℕ = merged_ops (rows h) old in
     let ranges : map range_of joined ≡ flat_map (reach h) old = joined_reach h old s.held i in
-    let none : AtMostOnce (ledger h).spans = covering_apart (ledger h) s.once.covers in
+    let none : AtMostOnce (ledger reads h).spans = covering_apart (ledger reads h) s.once.covers in
     record {
       held = HoldRows-to (Traced h) (Traced (h ▸ at m (Replace new old upto))) (last_number h) (last_number h) (change_each old (marked m) (rows h)) new
           (replacing (map (raised upto) joined) ops) (λ x. refl) (omega arith)
@@ -248,36 +250,36 @@ sound_replace h m new upto old row s found still apart i =
           (λ x number t. traced_replacing h m new upto ops old joined x ranges number)
           (HoldRows-change_each (Traced h) (last_number h) old (rows h) (marked m) (λ x. refl) (λ x t. traced_marked h m x t) s.held);
       once = record {
-        each_once = rw (← ranges) (spans_replaced old (rows h) m new upto ops row (ledger h).spans s.held.apart apart i found still none s.once.each_once);
-        covers = λ p. rw (ranges_kept (flat_map (reach h) old) upto (ledger h).spans) (s.once.covers p);
+        each_once = rw (← ranges) (spans_replaced old (rows h) m new upto ops row (ledger reads h).spans s.held.apart apart i found still none s.once.each_once);
+        covers = λ p. rw (ranges_kept (flat_map (reach h) old) upto (ledger reads h).spans) (s.once.covers p);
       };
       agree = s.agree;
     }
 
-sound_mark : (h : History) (m : ℕ) (numbers : List ℕ) → IsSound h → AllOf (IsHidden (rows h)) numbers → IsSound (h ▸ at m (MarkStaged numbers))
-sound_mark h m numbers s i = record {
+sound_mark : (reads : Reads) (h : History) (m : ℕ) (numbers : List ℕ) → IsSound reads h → AllOf (IsHidden (rows h)) numbers → IsSound reads (h ▸ at m (MarkStaged numbers))
+sound_mark reads h m numbers s i = record {
   held = HoldRows-change_each (Traced h) (last_number h) numbers (rows h) (marked m) (λ x. refl) (λ x t. traced_marked h m x t) s.held;
   once = record { each_once = rw (spans_all_marked numbers (rows h) m s.held.apart i) s.once.each_once; covers = s.once.covers };
   agree = s.agree;
 }
 
-sound_remove : (h : History) (m : ℕ) (numbers : List ℕ) → IsSound h → AllOf (IsHidden (rows h)) numbers → IsSound (h ▸ at m (Remove numbers))
-sound_remove h m numbers s i = record {
+sound_remove : (reads : Reads) (h : History) (m : ℕ) (numbers : List ℕ) → IsSound reads h → AllOf (IsHidden (rows h)) numbers → IsSound reads (h ▸ at m (Remove numbers))
+sound_remove reads h m numbers s i = record {
   held = HoldRows-without_each (Traced h) (last_number h) numbers (rows h) s.held;
   once = record { each_once = rw (spans_all_gone numbers (rows h) s.held.apart i) s.once.each_once; covers = s.once.covers };
   agree = s.agree;
 }
 
-sound_retire : (h : History) (m : ℕ) (numbers : List ℕ) → IsSound h → AreApart numbers → AllOf (IsIn Published (rows h)) numbers → IsSound (h ▸ at m (Retire numbers))
-sound_retire h m numbers s apart i =
+sound_retire : (reads : Reads) (h : History) (m : ℕ) (numbers : List ℕ) → IsSound reads h → AreApart numbers → AllOf (IsIn Published (rows h)) numbers → IsSound reads (h ▸ at m (Retire numbers))
+sound_retire reads h m numbers s apart i =
     let ranges : map range_of (joined_spans (rows h) numbers) ≡ flat_map (reach h) numbers = joined_reach h numbers s.held i in
-    let none : AtMostOnce (ledger h).spans = covering_apart (ledger h) s.once.covers in
+    let none : AtMostOnce (ledger reads h).spans = covering_apart (ledger reads h) s.once.covers in
     record {
       held = HoldRows-change_each (Traced h) (last_number h) numbers (rows h) (marked m) (λ x. refl) (λ x t. traced_marked h m x t) s.held;
       once = record {
-        each_once = rw (← ranges) (spans_retired numbers (rows h) m (ledger h).spans s.held.apart apart i none s.once.each_once);
-        covers = λ p. covers_permuted p _ (all_ranges (ledger h)) (all_ranges (ledger (h ▸ at m (Retire numbers))))
-            (ranges_retired (flat_map (reach h) numbers) (ledger h)) (s.once.covers p);
+        each_once = rw (← ranges) (spans_retired numbers (rows h) m (ledger reads h).spans s.held.apart apart i none s.once.each_once);
+        covers = λ p. covers_permuted p _ (all_ranges (ledger reads h)) (all_ranges (ledger reads (h ▸ at m (Retire numbers))))
+            (ranges_retired (flat_map (reach h) numbers) (ledger reads h)) (s.once.covers p);
       };
       agree = s.agree;
     }
@@ -288,48 +290,48 @@ published_of None m rows n f = absurd f
 published_of (Some period) m rows n f = in_from Published _ rows n f
 
 -- every act that may follow
-sound_after : (reads : Reads) (reading : Reading) (settings : Settings) (h : History) (m : ℕ) (act : Act) → IsSound h → Follows reading settings (state_of reads h) m act → IsSound (h ▸ at m act)
-sound_after reads reading settings h m Fence s f = sound_fence h m s
+sound_after : (reads : Reads) (reading : Said) (settings : Settings) (h : History) (m : ℕ) (act : Act) → IsSound reads h → Follows reading settings (state_of reads h) m act → IsSound reads (h ▸ at m act)
+sound_after reads reading settings h m Fence s f = sound_fence reads h m s
 sound_after reads reading settings h m (Create config) s f = absurd f
-sound_after reads reading settings h m (Stage number delta facts) s f = sound_stage h m number delta facts s f.0
+sound_after reads reading settings h m (Stage number delta facts) s f = sound_stage reads h m number delta facts s f.0
 sound_after reads reading settings h m (Publish number) s f =
     let w = the_row (row_at (rows h) number) (λ row. (row.state ≡ Staged) × (row.spans ≢ [])) f.0 in
-    sound_publish h m number w.0 s w.1 w.2.0 f.1
+    sound_publish reads h m number w.0 s w.1 w.2.0 f.1
 sound_after reads reading settings h m (Replace new old upto) s f =
     let w = the_row (row_at (rows h) new) (λ row. (row.state ≡ Staged) × (row.spans ≡ [])) f.0.0 in
-    sound_replace h m new upto old w.0 s w.1 w.2.0 f.0.1.1 f.0.1.2
+    sound_replace reads h m new upto old w.0 s w.1 w.2.0 f.0.1.1 f.0.1.2
 sound_after reads reading settings h m (Raise number upto) s f =
     let w = the_row (row_at (rows h) number) (λ row. (row.state ≡ Published) × ⊤) f.0 in
-    sound_raise h m number upto w.0 s (row_stands (rows h) number w.0 s.held.apart w.1) w.2.0
-sound_after reads reading settings h m (AddTask opstamp text fields times) s f = sound_task h m opstamp text fields times s
+    sound_raise reads h m number upto w.0 s (row_stands (rows h) number w.0 s.held.apart w.1) w.2.0
+sound_after reads reading settings h m (AddTask opstamp text fields times) s f = sound_task reads h m opstamp text fields times s
 sound_after reads reading settings h m (MarkStaged numbers) s f =
-    sound_mark h m numbers s (AllOf-weaker (MayMark m settings.staged_grace (rows h)) (IsHidden (rows h)) numbers
+    sound_mark reads h m numbers s (AllOf-weaker (MayMark m settings.staged_grace (rows h)) (IsHidden (rows h)) numbers
     (λ n i. hidden_from Staged (λ row. row.staged_at + settings.staged_grace ≤ m) (rows h) n refl i) f)
 sound_after reads reading settings h m (Remove numbers) s f =
-    sound_remove h m numbers s (AllOf-weaker (MayRemove m settings.deletion_grace (rows h)) (IsHidden (rows h)) numbers
+    sound_remove reads h m numbers s (AllOf-weaker (MayRemove m settings.deletion_grace (rows h)) (IsHidden (rows h)) numbers
     (λ n i. hidden_from Marked (λ row. row.marked_at + settings.deletion_grace ≤ m) (rows h) n refl i) f)
 sound_after reads reading settings h m (Retire numbers) s f =
-    sound_retire h m numbers s (apart_rising numbers f.1)
+    sound_retire reads h m numbers s (apart_rising numbers f.1)
     (AllOf-weaker (MayRetire m settings.period (rows h)) (IsIn Published (rows h)) numbers (λ n i. published_of settings.period m (rows h) n i) f.2)
 
-sound_first : (reading : Reading) (h : History) (m : ℕ) (act : Act) → IsSound h → Begins reading act → IsSound (h ▸ at m act)
-sound_first reading h m Fence s b = absurd b
-sound_first reading h m (Create config) s b = sound_create h m config s
-sound_first reading h m (Stage number delta facts) s b = absurd b
-sound_first reading h m (Publish number) s b = absurd b
-sound_first reading h m (Replace new old upto) s b = absurd b
-sound_first reading h m (Raise number upto) s b = absurd b
-sound_first reading h m (AddTask opstamp text fields times) s b = absurd b
-sound_first reading h m (MarkStaged numbers) s b = absurd b
-sound_first reading h m (Remove numbers) s b = absurd b
-sound_first reading h m (Retire numbers) s b = absurd b
+sound_first : (reads : Reads) (reading : Said) (h : History) (m : ℕ) (act : Act) → IsSound reads h → Begins reading act → IsSound reads (h ▸ at m act)
+sound_first reads reading h m Fence s b = absurd b
+sound_first reads reading h m (Create config) s b = sound_create reads h m config s
+sound_first reads reading h m (Stage number delta facts) s b = absurd b
+sound_first reads reading h m (Publish number) s b = absurd b
+sound_first reads reading h m (Replace new old upto) s b = absurd b
+sound_first reads reading h m (Raise number upto) s b = absurd b
+sound_first reads reading h m (AddTask opstamp text fields times) s b = absurd b
+sound_first reads reading h m (MarkStaged numbers) s b = absurd b
+sound_first reads reading h m (Remove numbers) s b = absurd b
+sound_first reads reading h m (Retire numbers) s b = absurd b
 
-sound_next : (reads : Reads) (reading : Reading) (c : Option Config) (h : History) (m : ℕ) (act : Act) → IsSound h → MayCome reading c (state_of reads h) m act → IsSound (h ▸ at m act)
-sound_next reads reading None h m act s f = sound_first reading h m act s f
+sound_next : (reads : Reads) (reading : Said) (c : Option Config) (h : History) (m : ℕ) (act : Act) → IsSound reads h → MayCome reading c (state_of reads h) m act → IsSound reads (h ▸ at m act)
+sound_next reads reading None h m act s f = sound_first reads reading h m act s f
 sound_next reads reading (Some config) h m act s f = sound_after reads reading config.settings h m act s f
 
-pub sound : (reads : Reads) (h : History) → Legal reads h → IsSound h
-sound reads Start l = sound_start
+pub sound : (reads : Reads) (h : History) → Legal reads h → IsSound reads h
+sound reads Start l = sound_start reads
 sound reads (h ▸ e) l = sound_next reads (reading_of reads (config_of reads h) e.act) (config_of reads h) h e.moment e.act (sound reads h l.0) l.1.1
 
 -- a revision of a legal history is legal
@@ -342,5 +344,5 @@ legal_take reads h es zero l = legal_before reads h es l
 legal_take reads h [] (suc n) l = l
 legal_take reads h (e ∷ es) (suc n) l = legal_take reads (h ▸ e) es n l
 
-pub once_always : (reads : Reads) (es : List Entry) → Legal reads (history es) → (revision : ℕ) → Once (history (take revision es))
+pub once_always : (reads : Reads) (es : List Entry) → Legal reads (history es) → (revision : ℕ) → Once reads (history (take revision es))
 once_always reads es l revision = (sound reads (history (take revision es)) (legal_take reads Start es revision l)).once

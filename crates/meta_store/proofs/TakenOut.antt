@@ -15,7 +15,8 @@ use Rattle.meta_store.specs.History.{History, history, reach}
 use Rattle.meta_store.specs.Laws.{published_spans}
 use Rattle.meta_store.specs.Ledgers.{ledger}
 use Rattle.meta_store.specs.Rows.{rows}
-use Rattle.meta_store.specs.State.{Reads, Rises, Legal}
+use Rattle.meta_store.specs.Readings.{Reads}
+use Rattle.meta_store.specs.State.{Rises, Legal}
 use Rattle.meta_store.specs.declared.config.Settings.{Settings}
 use Rattle.source_checkpoint.specs.Deltas.{range_of}
 use Rattle.source_checkpoint.specs.declared.span.Span.{Span}
@@ -38,21 +39,21 @@ any_filtered p q (x ∷ xs) e = by (any_filtered p q xs) (p x) refl
     by rest false f = rw f (rest (subst (λ c. ((c && q x) || list_any (λ y. p y && q y) xs) ≡ true) f e))
 
 -- the row that holds the record
-pub record Holder {X : Type 0} (meaning : Meaning X) (h : History) (numbers : List ℕ) (x : X) : Type 0 where
+pub record Holder (reads : Reads) {X : Type 0} (meaning : Meaning X) (h : History) (numbers : List ℕ) (x : X) : Type 0 where
   pub number : ℕ
   pub among : list_any (λ n. n == number) numbers ≡ true
-  pub holds : list_any (λ s. is_kept meaning (ledger h).tasks s x) (row_spans (row_at (rows h) number)) ≡ true
+  pub holds : list_any (λ s. is_kept meaning (ledger reads h).tasks s x) (row_spans (row_at (rows h) number)) ≡ true
 
-holder : {X : Type 0} (meaning : Meaning X) (h : History) (numbers : List ℕ) (x : X) → list_any (λ s. is_kept meaning (ledger h).tasks s x) (joined_spans (rows h) numbers) ≡ true → Holder meaning h numbers x
-holder meaning h [] x e = absurd (let g : false ≡ true = e in cc g)
-holder meaning h (n ∷ numbers) x e =
+holder : (reads : Reads) {X : Type 0} (meaning : Meaning X) (h : History) (numbers : List ℕ) (x : X) → list_any (λ s. is_kept meaning (ledger reads h).tasks s x) (joined_spans (rows h) numbers) ≡ true → Holder reads meaning h numbers x
+holder reads meaning h [] x e = absurd (let g : false ≡ true = e in cc g)
+holder reads meaning h (n ∷ numbers) x e =
     elim (or_cases (list_any kept (row_spans (row_at (rows h) n))) (list_any kept (joined_spans (rows h) numbers)) (sym (list_any-append kept (row_spans (row_at (rows h) n)) (joined_spans (rows h) numbers)) ∙ e)) [
       | inl here ↦ record { number = n; among = rw (same n) refl; holds = here }
-      | inr later ↦ let rest = holder meaning h numbers x later in record { number = rest.number; among = or_true (n == rest.number) (list_any (λ m. m == rest.number) numbers) rest.among; holds = rest.holds }
+      | inr later ↦ let rest = holder reads meaning h numbers x later in record { number = rest.number; among = or_true (n == rest.number) (list_any (λ m. m == rest.number) numbers) rest.among; holds = rest.holds }
     ]
   where
     kept : Span → Bool
-    kept s = is_kept meaning (ledger h).tasks s x
+    kept s = is_kept meaning (ledger reads h).tasks s x
 
     same : (n : ℕ) → (n == n) ≡ true
     same n = eq-eqb n n refl
@@ -62,10 +63,10 @@ named P [] n all e = absurd (let g : false ≡ true = e in cc g)
 named P (m ∷ numbers) n all e =
     elim (or_cases (m == n) (list_any (λ k. k == n) numbers) e) [ inl here ↦ subst P (eqb-true m n here) all.0 | inr later ↦ named P numbers n all.1 later ]
 
-taken_from : {X : Type 0} (meaning : Meaning X) (h : History) (moment period : ℕ) (numbers : List ℕ) (x : X) → IsSound h → AreApart numbers → AllByRecursion (MayRetire moment (Some period) (rows h)) numbers →
-    is_taken_out meaning (ledger h) (flat_map (reach h) numbers) x ≡ true → IsTakenFrom meaning h moment period numbers x
-taken_from meaning h moment period numbers x s apart old e =
-    let w = holder meaning h numbers x held in
+taken_from : (reads : Reads) {X : Type 0} (meaning : Meaning X) (h : History) (moment period : ℕ) (numbers : List ℕ) (x : X) → IsSound reads h → AreApart numbers → AllByRecursion (MayRetire moment (Some period) (rows h)) numbers →
+    is_taken_out meaning (ledger reads h) (flat_map (reach h) numbers) x ≡ true → IsTakenFrom meaning reads h moment period numbers x
+taken_from reads meaning h moment period numbers x s apart old e =
+    let w = holder reads meaning h numbers x held in
     let at = the_row (row_at (rows h) w.number) (λ row. (row.state ≡ Published) × IsOld moment period row.facts) (named (MayRetire moment (Some period) (rows h)) numbers w.number old w.among) in
     record {
       number = w.number;
@@ -78,7 +79,7 @@ taken_from meaning h moment period numbers x s apart old e =
     }
   where
     kept : Span → Bool
-    kept s = is_kept meaning (ledger h).tasks s x
+    kept s = is_kept meaning (ledger reads h).tasks s x
 
     i : AllOf (IsIn Published (rows h)) numbers
     i = AllOf-weaker (MayRetire moment (Some period) (rows h)) (IsIn Published (rows h)) numbers (λ n r. published_of (Some period) moment (rows h) n r) old
@@ -86,25 +87,25 @@ taken_from meaning h moment period numbers x s apart old e =
     joined : List Span
     joined = joined_spans (rows h) numbers
 
-    gone : IsPermutation joined (filter (is_among (map range_of joined)) (ledger h).spans)
+    gone : IsPermutation joined (filter (is_among (map range_of joined)) (ledger reads h).spans)
     gone =
-        let none : AtMostOnce (ledger h).spans = covering_apart (ledger h) s.once.covers in
+        let none : AtMostOnce (ledger reads h).spans = covering_apart (ledger reads h) s.once.covers in
         let hidden : List Span = published_spans (change_each numbers (marked moment) (rows h)) in
-        IsPermutation-taken joined hidden (ledger h).spans none (IsPermutation-trans _ _ _ (spans_taken numbers (rows h) moment s.held.apart apart i) s.once.each_once)
+        IsPermutation-taken joined hidden (ledger reads h).spans none (IsPermutation-trans _ _ _ (spans_taken numbers (rows h) moment s.held.apart apart i) s.once.each_once)
 
     held : list_any kept joined ≡ true
     held =
-        list_any-IsPermutation kept joined (filter (is_among (map range_of joined)) (ledger h).spans) gone
-        ∙ any_filtered (is_among (map range_of joined)) kept (ledger h).spans
-        (subst (λ ranges. list_any (λ t. is_among ranges t && kept t) (ledger h).spans ≡ true) (sym (joined_reach h numbers s.held i)) e)
+        list_any-IsPermutation kept joined (filter (is_among (map range_of joined)) (ledger reads h).spans) gone
+        ∙ any_filtered (is_among (map range_of joined)) kept (ledger reads h).spans
+        (subst (λ ranges. list_any (λ t. is_among ranges t && kept t) (ledger reads h).spans ≡ true) (sym (joined_reach h numbers s.held i)) e)
 
-all_taken : {X : Type 0} (meaning : Meaning X) (h : History) (moment period : ℕ) (numbers : List ℕ) → IsSound h → AreApart numbers → AllByRecursion (MayRetire moment (Some period) (rows h)) numbers →
-    (records : List X) → AllByRecursion (IsTakenFrom meaning h moment period numbers) (taken_out meaning h numbers records)
-all_taken meaning h moment period numbers s apart old [] = tt
-all_taken meaning h moment period numbers s apart old (x ∷ records) = by (all_taken meaning h moment period numbers s apart old records) (is_taken_out meaning (ledger h) (flat_map (reach h) numbers) x) refl
+all_taken : (reads : Reads) {X : Type 0} (meaning : Meaning X) (h : History) (moment period : ℕ) (numbers : List ℕ) → IsSound reads h → AreApart numbers → AllByRecursion (MayRetire moment (Some period) (rows h)) numbers →
+    (records : List X) → AllByRecursion (IsTakenFrom meaning reads h moment period numbers) (taken_out meaning reads h numbers records)
+all_taken reads meaning h moment period numbers s apart old [] = tt
+all_taken reads meaning h moment period numbers s apart old (x ∷ records) = by (all_taken reads meaning h moment period numbers s apart old records) (is_taken_out meaning (ledger reads h) (flat_map (reach h) numbers) x) refl
   where
-    by : AllByRecursion (IsTakenFrom meaning h moment period numbers) (taken_out meaning h numbers records) → (b : Bool) → is_taken_out meaning (ledger h) (flat_map (reach h) numbers) x ≡ b → AllByRecursion (IsTakenFrom meaning h moment period numbers) (taken_out meaning h numbers (x ∷ records))
-    by rest true f = rw f (taken_from meaning h moment period numbers x s apart old f, rest)
+    by : AllByRecursion (IsTakenFrom meaning reads h moment period numbers) (taken_out meaning reads h numbers records) → (b : Bool) → is_taken_out meaning (ledger reads h) (flat_map (reach h) numbers) x ≡ b → AllByRecursion (IsTakenFrom meaning reads h moment period numbers) (taken_out meaning reads h numbers (x ∷ records))
+    by rest true f = rw f (taken_from reads meaning h moment period numbers x s apart old f, rest)
     by rest false f = rw f rest
 
 none_retired : (moment : ℕ) (rows : List Row) (numbers : List ℕ) → numbers ≢ [] → AllByRecursion (MayRetire moment None rows) numbers → ⊥
@@ -113,10 +114,10 @@ none_retired moment rows (n ∷ numbers) some all = all.0
 
 pub only_old : {X : Type 0} (reads : Reads) (entries : List Entry) → Legal reads (history entries) → (settings : Settings) (moment : ℕ) (numbers : List ℕ) →
     (numbers ≢ []) × Rises numbers × AllByRecursion (MayRetire moment settings.period (rows (history entries))) numbers →
-    (period : ℕ) × (settings.period ≡ Some period) × ((meaning : Meaning X) (records : List X) → AllByRecursion (IsTakenFrom meaning (history entries) moment period numbers) (taken_out meaning (history entries) numbers records))
+    (period : ℕ) × (settings.period ≡ Some period) × ((meaning : Meaning X) (records : List X) → AllByRecursion (IsTakenFrom meaning reads (history entries) moment period numbers) (taken_out meaning reads (history entries) numbers records))
 only_old {X = X} reads entries l settings moment numbers f = by settings.period refl f.2
   where
     by : (p : Option ℕ) → settings.period ≡ p → AllByRecursion (MayRetire moment p (rows (history entries))) numbers →
-        (period : ℕ) × (settings.period ≡ Some period) × ((meaning : Meaning X) (records : List X) → AllByRecursion (IsTakenFrom meaning (history entries) moment period numbers) (taken_out meaning (history entries) numbers records))
+        (period : ℕ) × (settings.period ≡ Some period) × ((meaning : Meaning X) (records : List X) → AllByRecursion (IsTakenFrom meaning reads (history entries) moment period numbers) (taken_out meaning reads (history entries) numbers records))
     by None e all = absurd (none_retired moment (rows (history entries)) numbers f.0 all)
-    by (Some period) e all = (period, e, λ meaning records. all_taken meaning (history entries) moment period numbers (sound reads (history entries) l) (apart_rising numbers f.1) all records)
+    by (Some period) e all = (period, e, λ meaning records. all_taken reads meaning (history entries) moment period numbers (sound reads (history entries) l) (apart_rising numbers f.1) all records)

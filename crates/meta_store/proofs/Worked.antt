@@ -1,14 +1,16 @@
 -- A history with every kind of entry, which is legal. It shows that the conditions can be met.
-use Rattle.std.proofs.Common.{ℕ, true, List, [], ◌∷◌, Some, None, refl, inl, arith}
+use Rattle.std.proofs.Common.{ℕ, true, List, [], ◌∷◌, Some, None, Ok, refl, inl, arith}
 use Rattle.source_checkpoint.specs.declared.delta.Part.{Part}
 use Rattle.split_states.specs.declared.facts.RowFacts.{RowFacts}
 use Rattle.meta_journal.specs.declared.entry.Entry.{Entry}
 use Rattle.meta_journal.specs.declared.entry.Act.TheVariants.{Fence, Create, Stage, Publish, Replace, Raise, MarkStaged, Remove, Retire, Task as AddTask}
+use Rattle.query_ast.specs.Sought.Sought.{All}
 use Rattle.meta_store.specs.History.{history, at}
-use Rattle.meta_store.specs.State.{Reads, Legal}
+use Rattle.meta_store.specs.Readings.{Reads}
+use Rattle.meta_store.specs.State.{Legal}
 
 reads : Reads
-reads = record { config = λ text. Some (record { staged_grace = 10; deletion_grace = 20; period = Some 100 }); task = λ config task. true }
+reads = record { config = λ text. Ok (record { staged_grace = 10; deletion_grace = 20; period = Some 100 }); query = λ config text fields. Ok All }
 
 part : ℕ → ℕ → Part
 part from to = record { partition = 112 ∷ []; from = from; to = to }

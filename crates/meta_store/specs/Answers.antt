@@ -1,5 +1,5 @@
 -- The answer to an entry, with the order of its refusals.
-use Rattle.std.specs.Prelude.{ℕ, ◌≢◌, ◌+◌, ◌==◌, Bool, List, [], ◌∷◌, length, map, if◌then◌else◌, ⊤, Option, Some, None, Result, Ok, Err, nat_lt, nat_le}
+use Rattle.std.specs.Prelude.{ℕ, ◌≢◌, ◌+◌, ◌==◌, List, [], ◌∷◌, length, map, if◌then◌else◌, ⊤, Option, Some, None, Result, Ok, Err, nat_lt, nat_le}
 use Rattle.meta_journal.specs.declared.entry.Act.{Act}
 use Rattle.meta_journal.specs.declared.entry.Entry.{Entry}
 use Rattle.meta_journal.specs.declared.entry.Act.TheVariants.{Fence, Create, Stage, Publish, Replace, Raise, MarkStaged, Remove, Retire}
@@ -12,10 +12,14 @@ use Rattle.split_states.specs.declared.refusal.StateRefusal.{StateRefusal}
 use Rattle.split_states.specs.declared.refusal.StateRefusal.TheVariants.{NoRow}
 use Rattle.split_states.specs.Rows.{row_at}
 use Rattle.split_states.specs.Answers.{answer_to_publish, answer_to_replace, answer_to_raise, answer_to_mark, answer_to_remove, answer_to_retire}
-use Rattle.delete_tasks.specs.Ledger.{last_of}
 use Rattle.meta_store.specs.declared.config.Settings.{Settings}
 use Rattle.meta_store.specs.declared.config.Config.{Config}
-use Rattle.meta_store.specs.declared.config.Reading.{Reading}
+use Rattle.meta_store.specs.Said.{Said}
+use Rattle.index_config.specs.declared.config_error.ConfigError.{ConfigError}
+use Rattle.query_ast.specs.Sought.{Sought}
+use Rattle.index_config.specs.declared.config_error.ConfigError.TheVariants.{NotToml}
+use Rattle.query_reader.specs.declared.refusal.QueryError.{QueryError}
+use Rattle.query_reader.specs.declared.refusal.QueryError.TheVariants.{Syntax}
 use Rattle.meta_store.specs.declared.refusal.Refusal.{Refusal}
 use Rattle.meta_store.specs.declared.refusal.Refusal.TheVariants.{MomentBack, NotCreated, AlreadyCreated, BadConfig, NotNext, BadTask, UptoAhead, TooManyTasks, TooManyRows, TooManySpans}
 use Rattle.meta_store.specs.declared.refusal.Refusal.TheVariants.{Delta as BadDelta, State as BadState}
@@ -41,12 +45,14 @@ answer_to_next given next = if given == next then Ok tt else Err (NotNext given 
 abbrev pub answer_to_upto : (upto last : ℕ) → Answer
 answer_to_upto upto last = if nat_lt last upto then Err (UptoAhead upto last) else Ok tt
 
-abbrev pub answer_to_task : Bool → Answer
-answer_to_task reads = if reads then Ok tt else Err BadTask
+-- a text that doesn't read is refused with the reader's own error
+abbrev pub answer_to_task : Result Sought QueryError → Answer
+answer_to_task (Ok query) = Ok tt
+answer_to_task (Err error) = Err (BadTask error)
 
-abbrev pub answer_to_config : Option Settings → Answer
-answer_to_config None = Err BadConfig
-answer_to_config (Some settings) = Ok tt
+abbrev pub answer_to_config : Result Settings ConfigError → Answer
+answer_to_config (Ok settings) = Ok tt
+answer_to_config (Err error) = Err (BadConfig error)
 
 abbrev pub answer_to_tasks : (count : ℕ) → Answer
 answer_to_tasks count = if nat_lt count 10000 then Ok tt else Err (TooManyTasks count)
@@ -70,9 +76,9 @@ answer_to_found s n (Some row) =
     (then_answer (in_state (answer_to_publish s.rows n)) (answer_to_spans (s.span_count + length row.spans)))
 
 -- the first act
-abbrev pub answer_at_start : Reading → Act → Answer
+abbrev pub answer_at_start : Said → Act → Answer
 answer_at_start reading Fence = Err NotCreated
-answer_at_start reading (Create config) = answer_to_config reading.settings
+answer_at_start reading (Create config) = answer_to_config reading.config
 answer_at_start reading (Stage number delta facts) = Err NotCreated
 answer_at_start reading (Publish number) = Err NotCreated
 answer_at_start reading (Replace new old upto) = Err NotCreated
@@ -83,27 +89,48 @@ answer_at_start reading (Remove numbers) = Err NotCreated
 answer_at_start reading (Retire numbers) = Err NotCreated
 
 -- an act behind a configuration
-abbrev pub answer_behind : Reading → Settings → State → (moment : ℕ) → Act → Answer
+abbrev pub answer_behind : Said → Settings → State → (moment : ℕ) → Act → Answer
 answer_behind reading settings s moment Fence = Ok tt
 answer_behind reading settings s moment (Create config) = Err AlreadyCreated
 answer_behind reading settings s moment (Stage number delta facts) =
     then_answer (answer_to_next number (s.last_number + 1)) (then_answer (in_delta (answer_to_delta [] delta)) (answer_to_rows (length s.rows)))
 answer_behind reading settings s moment (Publish number) = answer_to_found s number (row_at s.rows number)
-answer_behind reading settings s moment (Replace new old upto) = then_answer (in_state (answer_to_replace s.rows new old)) (answer_to_upto upto (last_of s.tasks))
-answer_behind reading settings s moment (Raise number upto) = then_answer (in_state (answer_to_raise s.rows number)) (answer_to_upto upto (last_of s.tasks))
+answer_behind reading settings s moment (Replace new old upto) = then_answer (in_state (answer_to_replace s.rows new old)) (answer_to_upto upto (s.last_opstamp))
+answer_behind reading settings s moment (Raise number upto) = then_answer (in_state (answer_to_raise s.rows number)) (answer_to_upto upto (s.last_opstamp))
 answer_behind reading settings s moment (AddTask opstamp text fields times) =
-    then_answer (answer_to_next opstamp (last_of s.tasks + 1)) (then_answer (answer_to_task reading.task) (answer_to_tasks (length s.tasks)))
+    then_answer (answer_to_next opstamp (s.last_opstamp + 1)) (then_answer (answer_to_task reading.query) (answer_to_tasks (length s.tasks)))
 answer_behind reading settings s moment (MarkStaged numbers) = in_state (answer_to_each (λ n. answer_to_mark s.rows n moment settings.staged_grace) numbers)
 answer_behind reading settings s moment (Remove numbers) = in_state (answer_to_each (λ n. answer_to_remove s.rows n moment settings.deletion_grace) numbers)
 answer_behind reading settings s moment (Retire numbers) = in_state (answer_to_each (λ n. answer_to_retire s.rows n moment settings.period) numbers)
 
-abbrev pub answer_by : Reading → Option Config → State → (moment : ℕ) → Act → Answer
+abbrev pub answer_by : Said → Option Config → State → (moment : ℕ) → Act → Answer
 answer_by reading None s moment act = answer_at_start reading act
 answer_by reading (Some config) s moment act = answer_behind reading config.settings s moment act
 
 -- the answer to an entry
-abbrev pub answer_to : Reading → State → Entry → Answer
+abbrev pub answer_to : Said → State → Entry → Answer
 answer_to reading s e = then_answer (answer_to_moment e.moment s.moment) (answer_by reading s.config s e.moment e.act)
+
+-- an act for which no text is read, and a reading that stands for it
+abbrev pub IsUnread : Act → Type 0
+IsUnread Fence = ⊤
+IsUnread (Create config) = ⊥
+IsUnread (Stage number delta facts) = ⊤
+IsUnread (Publish number) = ⊤
+IsUnread (Replace new old upto) = ⊤
+IsUnread (Raise number upto) = ⊤
+IsUnread (AddTask opstamp text fields times) = ⊥
+IsUnread (MarkStaged numbers) = ⊤
+IsUnread (Remove numbers) = ⊤
+IsUnread (Retire numbers) = ⊤
+
+abbrev pub unread : Said
+unread = record { config = Err NotToml; query = Err (Syntax 0) }
+
+-- where the entry may come the readings are handed back, for the state to take in
+abbrev pub handed : Said → Answer → Result Said Refusal
+handed reading (Ok u) = Ok reading
+handed reading (Err refusal) = Err refusal
 
 -- the numbers of a Retire as the journal can spell them: some, and rising
 abbrev pub HasNumbers : Act → Type 0

@@ -1,13 +1,10 @@
 -- A history of the journal, and what its entries say of numbers. The last entry stands at the end.
 use Rattle.std.specs.Prelude.{ℕ, ◌+◌, ◌==◌, List, [], ◌∷◌, ◌++◌, fold, max, if◌then◌else◌, flat_map}
 use Rattle.source_checkpoint.specs.declared.delta.Part.{Part}
-use Rattle.doc_value.specs.declared.facts.TimeRange.{TimeRange}
 use Rattle.meta_journal.specs.declared.entry.Act.{Act}
 use Rattle.meta_journal.specs.declared.entry.Entry.{Entry}
 use Rattle.meta_journal.specs.declared.entry.Act.TheVariants.{Fence, Create, Stage, Publish, Replace, Raise, MarkStaged, Remove, Retire}
 use Rattle.meta_journal.specs.declared.entry.Act.TheVariants.{Task as AddTask}
-use Rattle.delete_tasks.specs.declared.tasks.Task.{Task}
-use Rattle.delete_tasks.specs.Ledger.{last_of}
 
 pub data History : Type 0 where
   Start : History
@@ -32,25 +29,22 @@ abbrev pub moment_of : History → ℕ
 moment_of Start = 0
 moment_of (h ▸ e) = max (moment_of h) e.moment
 
--- the tasks, in the order of their entries
-abbrev pub task_of : (opstamp : ℕ) → List ℕ → List (List ℕ) → TimeRange → Task
-task_of opstamp text fields times = record { opstamp = opstamp; text = text; fields = fields; times = times }
+-- the opstamp of the last task, 0 for none
+abbrev pub opstamp_after : Act → ℕ → ℕ
+opstamp_after Fence so_far = so_far
+opstamp_after (Create config) so_far = so_far
+opstamp_after (Stage number delta facts) so_far = so_far
+opstamp_after (Publish number) so_far = so_far
+opstamp_after (Replace new old upto) so_far = so_far
+opstamp_after (Raise number upto) so_far = so_far
+opstamp_after (AddTask opstamp text fields times) so_far = opstamp
+opstamp_after (MarkStaged numbers) so_far = so_far
+opstamp_after (Remove numbers) so_far = so_far
+opstamp_after (Retire numbers) so_far = so_far
 
-abbrev pub tasks_after : Act → List Task → List Task
-tasks_after Fence so_far = so_far
-tasks_after (Create config) so_far = so_far
-tasks_after (Stage number delta facts) so_far = so_far
-tasks_after (Publish number) so_far = so_far
-tasks_after (Replace new old upto) so_far = so_far
-tasks_after (Raise number upto) so_far = so_far
-tasks_after (AddTask opstamp text fields times) so_far = so_far ++ task_of opstamp text fields times ∷ []
-tasks_after (MarkStaged numbers) so_far = so_far
-tasks_after (Remove numbers) so_far = so_far
-tasks_after (Retire numbers) so_far = so_far
-
-abbrev pub tasks_of : History → List Task
-tasks_of Start = []
-tasks_of (h ▸ e) = tasks_after e.act (tasks_of h)
+abbrev pub last_opstamp : History → ℕ
+last_opstamp Start = 0
+last_opstamp (h ▸ e) = opstamp_after e.act (last_opstamp h)
 
 -- the greatest number that was staged
 abbrev pub number_after : Act → ℕ → ℕ
@@ -101,7 +95,7 @@ stamp_after last (Retire numbers) so_far n = so_far n
 
 abbrev pub stamp_of : History → ℕ → ℕ
 stamp_of Start = λ n. 0
-stamp_of (h ▸ e) = stamp_after (last_of (tasks_of h)) e.act (stamp_of h)
+stamp_of (h ▸ e) = stamp_after (last_opstamp h) e.act (stamp_of h)
 
 -- the ranges that a number stands for: those of its Stage's delta, or of what it replaces
 abbrev pub reach_after : Act → (ℕ → List Part) → ℕ → List Part

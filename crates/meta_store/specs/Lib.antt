@@ -1,4 +1,7 @@
 pub mod History
+pub mod Said
+pub mod Readings
+pub mod Tasks
 pub mod Ledgers
 pub mod Rows
 pub mod Retired

@@ -6,8 +6,7 @@ use Rattle.meta_journal.specs.declared.entry.Act.TheVariants.{Task as AddTask}
 use Rattle.source_checkpoint.specs.Deltas.{spans_of, raised}
 use Rattle.split_states.specs.declared.rows.Row.{Row}
 use Rattle.split_states.specs.Rows.{staged, published, marked, raised_row, replacing, change, change_each, without_each, joined_spans, merged_ops}
-use Rattle.delete_tasks.specs.Ledger.{last_of}
-use Rattle.meta_store.specs.History.{History, tasks_of}
+use Rattle.meta_store.specs.History.{History, last_opstamp}
 use Rattle.meta_store.specs.History.History.{Start, ◌▸◌}
 
 -- the change of an entry, behind the task `last` and at its moment
@@ -26,4 +25,4 @@ rows_after last moment (Retire numbers) rows = change_each numbers (marked momen
 
 abbrev pub rows : History → List Row
 rows Start = []
-rows (h ▸ e) = rows_after (last_of (tasks_of h)) e.moment e.act (rows h)
+rows (h ▸ e) = rows_after (last_opstamp h) e.moment e.act (rows h)

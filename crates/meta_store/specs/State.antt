@@ -1,5 +1,5 @@
 -- What the conditions look at, and which entry may come next.
-use Rattle.std.specs.Prelude.{ℕ, ◌≡◌, ◌≢◌, ◌+◌, ◌-◌, ◌<◌, ◌≤◌, Bool, false, List, [], ◌∷◌, length, map, max, ⊤, Option, Some, None, IsSome, IsTrue, option_map}
+use Rattle.std.specs.Prelude.{ℕ, ◌≡◌, ◌≢◌, ◌+◌, ◌-◌, ◌<◌, ◌≤◌, List, [], ◌∷◌, length, map, max, ⊤, Option, Some, None, IsOk}
 use Rattle.std.specs.List.{AllByRecursion}
 use Rattle.meta_journal.specs.declared.entry.Act.{Act}
 use Rattle.meta_journal.specs.declared.entry.Entry.{Entry}
@@ -12,50 +12,16 @@ use Rattle.source_checkpoint.specs.Checkpoints.{checkpoint_at, move_all}
 use Rattle.split_states.specs.declared.rows.Row.{Row}
 use Rattle.split_states.specs.Rows.{row_ranges, joined_spans}
 use Rattle.split_states.specs.Answers.{MayPublish, MayReplace, MayRaise, MayMark, MayRemove, MayRetire}
-use Rattle.delete_tasks.specs.declared.tasks.Task.{Task}
-use Rattle.delete_tasks.specs.Ledger.{last_of}
+use Rattle.delete_tasks.specs.Removes.{DeleteTask}
 use Rattle.meta_store.specs.declared.config.Settings.{Settings}
 use Rattle.meta_store.specs.declared.config.Config.{Config}
-use Rattle.meta_store.specs.declared.config.Reading.{Reading}
-use Rattle.meta_store.specs.History.{History, revision_of, moment_of, task_of, tasks_after, tasks_of, number_after, last_number}
+use Rattle.meta_store.specs.Said.{Said}
+use Rattle.meta_store.specs.Readings.{Reads, reading_of, config_after, config_of}
+use Rattle.meta_store.specs.Tasks.{tasks_after, tasks_of}
+use Rattle.meta_store.specs.History.{History, revision_of, moment_of, opstamp_after, last_opstamp, number_after, last_number}
 use Rattle.meta_store.specs.History.History.{Start, ◌▸◌}
 use Rattle.meta_store.specs.Retired.{with_ranges}
 use Rattle.meta_store.specs.Rows.{rows_after, rows}
-
--- What the readers of texts say: what a configuration says of time, where the bytes are a configuration; and whether a
--- task's fields are paths of text fields of that configuration and its text reads with them as default fields.
-pub record Reads : Type 0 where
-  pub config : List ℕ → Option Settings
-  pub task : List ℕ → Task → Bool
-
--- what they say of one act, under the configuration so far
-abbrev pub settings_said : Reads → Act → Option Settings
-settings_said reads Fence = None
-settings_said reads (Create config) = reads.config config
-settings_said reads (Stage number delta facts) = None
-settings_said reads (Publish number) = None
-settings_said reads (Replace new old upto) = None
-settings_said reads (Raise number upto) = None
-settings_said reads (AddTask opstamp text fields times) = None
-settings_said reads (MarkStaged numbers) = None
-settings_said reads (Remove numbers) = None
-settings_said reads (Retire numbers) = None
-
-abbrev pub task_said : Reads → Option Config → Act → Bool
-task_said reads None act = false
-task_said reads (Some so_far) Fence = false
-task_said reads (Some so_far) (Create config) = false
-task_said reads (Some so_far) (Stage number delta facts) = false
-task_said reads (Some so_far) (Publish number) = false
-task_said reads (Some so_far) (Replace new old upto) = false
-task_said reads (Some so_far) (Raise number upto) = false
-task_said reads (Some so_far) (AddTask opstamp text fields times) = reads.task so_far.text (task_of opstamp text fields times)
-task_said reads (Some so_far) (MarkStaged numbers) = false
-task_said reads (Some so_far) (Remove numbers) = false
-task_said reads (Some so_far) (Retire numbers) = false
-
-abbrev pub reading_of : Reads → Option Config → Act → Reading
-reading_of reads so_far act = record { settings = settings_said reads act; task = task_said reads so_far act }
 
 -- all that is kept of the entries
 pub record State : Type 0 where
@@ -63,26 +29,13 @@ pub record State : Type 0 where
   pub moment : ℕ
   pub config : Option Config
   pub last_number : ℕ
-  pub tasks : List Task
+  -- the opstamp of the last task, 0 for none
+  pub last_opstamp : ℕ
+  pub tasks : List DeleteTask
   pub span_count : ℕ
   pub checkpoints : List Checkpoint
   pub rows : List Row
   pub retired : List Part
-
-abbrev pub configured : List ℕ → Option Settings → Option Config
-configured text said = option_map (λ settings. record { text = text; settings = settings }) said
-
-abbrev pub config_after : Reading → Act → Option Config → Option Config
-config_after reading Fence so_far = so_far
-config_after reading (Create config) so_far = configured config reading.settings
-config_after reading (Stage number delta facts) so_far = so_far
-config_after reading (Publish number) so_far = so_far
-config_after reading (Replace new old upto) so_far = so_far
-config_after reading (Raise number upto) so_far = so_far
-config_after reading (AddTask opstamp text fields times) so_far = so_far
-config_after reading (MarkStaged numbers) so_far = so_far
-config_after reading (Remove numbers) so_far = so_far
-config_after reading (Retire numbers) so_far = so_far
 
 abbrev pub span_count_after : Act → List Row → ℕ → ℕ
 span_count_after Fence rows so_far = so_far
@@ -121,24 +74,21 @@ retired_after (Remove numbers) rows so_far = so_far
 retired_after (Retire numbers) rows so_far = with_ranges (map range_of (joined_spans rows numbers)) so_far
 
 -- the state behind an entry
-abbrev pub after : Reading → Entry → State → State
+abbrev pub after : Said → Entry → State → State
 after reading e s = record {
   revision = s.revision + 1;
   moment = max s.moment e.moment;
   config = config_after reading e.act s.config;
   last_number = number_after e.act s.last_number;
-  tasks = tasks_after e.act s.tasks;
+  last_opstamp = opstamp_after e.act s.last_opstamp;
+  tasks = tasks_after reading e.act s.tasks;
   span_count = span_count_after e.act s.rows s.span_count;
   checkpoints = checkpoints_after e.act s.rows s.checkpoints;
-  rows = rows_after (last_of s.tasks) e.moment e.act s.rows;
+  rows = rows_after s.last_opstamp e.moment e.act s.rows;
   retired = retired_after e.act s.rows s.retired;
 }
 
 -- the parts of a history's state
-abbrev pub config_of : Reads → History → Option Config
-config_of reads Start = None
-config_of reads (h ▸ e) = config_after (reading_of reads (config_of reads h) e.act) e.act (config_of reads h)
-
 abbrev pub span_count_of : History → ℕ
 span_count_of Start = 0
 span_count_of (h ▸ e) = span_count_after e.act (rows h) (span_count_of h)
@@ -157,7 +107,8 @@ state_of reads h = record {
   moment = moment_of h;
   config = config_of reads h;
   last_number = last_number h;
-  tasks = tasks_of h;
+  last_opstamp = last_opstamp h;
+  tasks = tasks_of reads h;
   span_count = span_count_of h;
   checkpoints = checkpoints_of h;
   rows = rows h;
@@ -171,9 +122,9 @@ Rises (n ∷ []) = ⊤
 Rises (n ∷ m ∷ numbers) = (n < m) × Rises (m ∷ numbers)
 
 -- which act may come first
-abbrev pub Begins : Reading → Act → Type 0
+abbrev pub Begins : Said → Act → Type 0
 Begins reading Fence = ⊥
-Begins reading (Create config) = IsSome reading.settings
+Begins reading (Create config) = IsOk reading.config
 Begins reading (Stage number delta facts) = ⊥
 Begins reading (Publish number) = ⊥
 Begins reading (Replace new old upto) = ⊥
@@ -184,25 +135,25 @@ Begins reading (Remove numbers) = ⊥
 Begins reading (Retire numbers) = ⊥
 
 -- which act may come behind a configuration
-abbrev pub Follows : Reading → Settings → State → (moment : ℕ) → Act → Type 0
+abbrev pub Follows : Said → Settings → State → (moment : ℕ) → Act → Type 0
 Follows reading settings s moment Fence = ⊤
 Follows reading settings s moment (Create config) = ⊥
 Follows reading settings s moment (Stage number delta facts) = (number ≡ s.last_number + 1) × IsDelta delta × (length s.rows < 100000)
 Follows reading settings s moment (Publish number) =
     MayPublish s.rows number × MayAdmit (row_ranges s.rows number) (checkpoint_at s.checkpoints) × (s.span_count + length (row_ranges s.rows number) ≤ 1000000)
-Follows reading settings s moment (Replace new old upto) = MayReplace s.rows new old × (upto ≤ last_of s.tasks)
-Follows reading settings s moment (Raise number upto) = MayRaise s.rows number × (upto ≤ last_of s.tasks)
-Follows reading settings s moment (AddTask opstamp text fields times) = (opstamp ≡ last_of s.tasks + 1) × IsTrue reading.task × (length s.tasks < 10000)
+Follows reading settings s moment (Replace new old upto) = MayReplace s.rows new old × (upto ≤ s.last_opstamp)
+Follows reading settings s moment (Raise number upto) = MayRaise s.rows number × (upto ≤ s.last_opstamp)
+Follows reading settings s moment (AddTask opstamp text fields times) = (opstamp ≡ s.last_opstamp + 1) × IsOk reading.query × (length s.tasks < 10000)
 Follows reading settings s moment (MarkStaged numbers) = AllByRecursion (MayMark moment settings.staged_grace s.rows) numbers
 Follows reading settings s moment (Remove numbers) = AllByRecursion (MayRemove moment settings.deletion_grace s.rows) numbers
 Follows reading settings s moment (Retire numbers) = (numbers ≢ []) × Rises numbers × AllByRecursion (MayRetire moment settings.period s.rows) numbers
 
-abbrev pub MayCome : Reading → Option Config → State → (moment : ℕ) → Act → Type 0
+abbrev pub MayCome : Said → Option Config → State → (moment : ℕ) → Act → Type 0
 MayCome reading None s moment act = Begins reading act
 MayCome reading (Some config) s moment act = Follows reading config.settings s moment act
 
 -- which entry may come next, by what the readers say of it
-abbrev pub MayFollow : Reading → State → Entry → Type 0
+abbrev pub MayFollow : Said → State → Entry → Type 0
 MayFollow reading s e = (s.moment ≤ e.moment) × MayCome reading s.config s e.moment e.act
 
 -- each entry meets its condition at its place

@@ -2,9 +2,9 @@
 
 ghost use Rattle.std.specs.Prelude.{◌≡◌, ◌+◌, ◌<◌, ◌^◌, length};
 ghost use Rattle.split_states.specs.Answers.{answer_to_mark, answer_to_remove, answer_to_retire};
-ghost use Rattle.meta_store.specs.Answers.{in_delta, in_state, answer_to_moment, answer_to_next, answer_to_upto, answer_to_task, answer_to_config, answer_to_tasks, answer_to_rows, answer_to_spans, answer_to_each, answer_at_start};
+ghost use Rattle.meta_store.specs.Answers.{in_delta, in_state, answer_to_moment, answer_to_next, answer_to_upto, answer_to_task, answer_to_config, answer_to_tasks, answer_to_rows, answer_to_spans, answer_to_each, answer_at_start, handed};
 
-use crate::config::{Reading, Settings};
+use crate::config::Reading;
 use crate::refusal::Refusal;
 use delete_tasks::tasks::MOST_TASKS;
 use meta_journal::Act;
@@ -60,10 +60,18 @@ pub fn check_upto(upto: u64, last: u64) -> Result<(), Refusal>
     Ok(())
 }
 
-pub fn check_reading(reads: bool) -> Result<(), Refusal>
-    ensures { result ≡ answer_to_task reads }
+/// Whether a Task's text reads. What is wrong with it goes into the refusal.
+pub fn check_query(reading: Reading) -> Result<Reading, Refusal>
+    ensures { result ≡ handed reading (answer_to_task reading.query) }
 {
-    if reads { Ok(()) } else { Err(Refusal::BadTask) }
+    let Reading { config, query } = reading;
+    match query {
+        Ok(query) => Ok(Reading {
+            config,
+            query: Ok(query),
+        }),
+        Err(error) => Err(Refusal::BadTask(error)),
+    }
 }
 
 pub fn check_task_count(count: usize) -> Result<(), Refusal>
@@ -93,22 +101,37 @@ pub fn check_span_count(count: u128) -> Result<(), Refusal>
     Err(Refusal::TooManySpans { count })
 }
 
-fn check_config(settings: Option<Settings>) -> Result<(), Refusal>
-    ensures { result ≡ answer_to_config settings }
+/// Whether a Create's bytes are a configuration. What is wrong with them goes into the refusal.
+fn check_config(reading: Reading) -> Result<Reading, Refusal>
+    ensures { result ≡ handed reading (answer_to_config reading.config) }
 {
-    match settings {
-        None => Err(Refusal::BadConfig),
-        Some(_) => Ok(()),
+    let Reading { config, query } = reading;
+    match config {
+        Ok(settings) => Ok(Reading {
+            config: Ok(settings),
+            query,
+        }),
+        Err(error) => Err(Refusal::BadConfig(error)),
     }
 }
 
 /// The answer to the first act.
-pub fn check_first(act: &Act, reading: Reading) -> Result<(), Refusal>
-    ensures { result ≡ answer_at_start reading act.now }
+pub fn check_first(act: &Act, reading: Reading) -> Result<Reading, Refusal>
+    ensures { result ≡ handed reading (answer_at_start reading act.now) }
 {
     match act {
-        Act::Create { .. } => check_config(reading.settings),
+        Act::Create { .. } => check_config(reading),
         _ => Err(Refusal::NotCreated),
+    }
+}
+
+/// Hands the readings back where nothing is refused.
+pub fn hand_back(reading: Reading, answer: Result<(), Refusal>) -> Result<Reading, Refusal>
+    ensures { result ≡ handed reading answer }
+{
+    match answer {
+        Ok(()) => Ok(reading),
+        Err(refusal) => Err(refusal),
     }
 }
 

@@ -1,6 +1,10 @@
 //! What is kept of the configuration, and what the readers of texts say of an entry.
 
 use byte_fields::Bytes;
+use index_config::ConfigError;
+use query_ast::Query;
+use query_reader::QueryError;
+use std::marker::Model;
 
 /// What a configuration says of time, in seconds: how long a staged row is left alone, how long a marked
 /// row's file is kept, and, where there is one, the age at which documents are retired.
@@ -18,11 +22,25 @@ pub struct Config {
     pub settings: Settings,
 }
 
-/// What the readers of texts say of one entry: of a Create what its configuration says, or None where its
-/// bytes are no configuration; of a Task whether each of its fields is the path of a text field of the
-/// configuration and its text reads with these as default fields. Of other entries they say nothing.
-#[derive(Clone, Copy, Debug, Drop)]
+/// What the readers of texts say of one entry: of a Create what its configuration says, or what is wrong with its
+/// bytes; of a Task its query, read under the configuration so far with its fields as default fields, or why there
+/// is none. Of other entries nothing is read, and what stands here is not looked at. A reader that found no memory
+/// has said nothing: its caller answers that, and does not hand it in here.
+#[derive(Debug, Drop)]
 pub struct Reading {
-    pub settings: Option<Settings>,
-    pub task: bool,
+    pub config: Result<Settings, ConfigError>,
+    pub query: Result<Query, QueryError>,
+}
+
+impl Model for Reading {
+    ghost use Rattle.std.specs.Coded.{codes, Coded};
+    ghost use Rattle.std.specs.Prelude.{List};
+    ghost use Rattle.delete_tasks.specs.Stored.{sought_code, Mark};
+    ghost use Rattle.meta_store.specs.Said.{Said, sought_in};
+
+    ghost Value = { Said };
+
+    ghost coded = { let stored : Coded (List Mark) = Prim.hlevel codes in Prim.hlevel (codes, sought_code stored) };
+
+    ghost view = { λ r. record { config = r.config; query = sought_in r.query } };
 }

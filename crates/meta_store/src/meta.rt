@@ -1,28 +1,32 @@
 //! The state of an index after the entries of its journal.
 
-ghost use Rattle.std.specs.Prelude.{ℕ, ◌≡◌, ◌+◌, ◌-◌, ◌<◌, ◌≤◌, ◌^◌, [], length, OnOk, IsOk};
+ghost use Rattle.std.specs.Prelude.{ℕ, ◌≡◌, ◌+◌, ◌-◌, ◌<◌, ◌≤◌, ◌^◌, [], List, length, OnOk, IsOk};
 ghost use Rattle.source_checkpoint.specs.Checkpoints.{checkpoint_at};
 ghost use Rattle.split_states.specs.Rows.{row_at, row_ranges, joined_spans};
-ghost use Rattle.delete_tasks.specs.Ledger.{last_of};
 ghost use Rattle.meta_store.specs.History.{at};
 ghost use Rattle.meta_store.specs.History.History.{Start};
-ghost use Rattle.meta_store.specs.State.{Reads, state_of, after};
-ghost use Rattle.meta_store.specs.Answers.{answer_to, answer_behind, answer_to_found, answer_to_next, answer_to_task, answer_to_tasks, answer_to_rows, in_delta};
+ghost use Rattle.meta_store.specs.State.{state_of, after};
+ghost use Rattle.meta_store.specs.Readings.{Reads};
+ghost use Rattle.meta_store.specs.Answers.{answer_to, answer_behind, answer_to_found, answer_to_next, answer_to_task, answer_to_tasks, answer_to_rows, answer_to_each, answer_to_upto, in_delta, in_state, handed, unread, IsUnread};
+ghost use Rattle.split_states.specs.Answers.{answer_to_replace, answer_to_raise, answer_to_mark, answer_to_remove, answer_to_retire};
 ghost use Rattle.source_checkpoint.specs.Deltas.{then_answer, answer_to_delta};
 ghost use Rattle.meta_store.specs.Room.{HasRoom};
-ghost use Rattle.meta_store.specs.declared.config.Reading.{Reading};
+ghost use Rattle.meta_store.specs.Said.{Said};
+ghost use Rattle.meta_store.specs.Tasks.{task_of};
 
 use crate::checks::{
-    check_first, check_moment, check_next, check_reading, check_row_count, check_span_count,
-    check_task_count, check_upto, may_mark_each, may_remove_each, may_retire_each, of_delta,
-    of_state,
+    check_first, check_moment, check_next, check_query, check_row_count, check_span_count,
+    check_task_count, check_upto, hand_back, may_mark_each, may_remove_each, may_retire_each,
+    of_delta, of_state,
 };
 use crate::config::{Config, Reading, Settings};
 use crate::refusal::Refusal;
 use crate::spans::{admit_row, count_left, fill_spans, join_retired, reserve_retired, span_count};
 use byte_fields::Bytes;
 use delete_tasks::{Task, Tasks};
+use doc_value::TimeRange;
 use meta_journal::{Act, Entry};
+use query_ast::Query;
 use source_checkpoint::{Delta, Ledger, Part, Partition, Span, Spans};
 use split_states::{
     Numbers, Row, RowFacts, RowState, Rows, StateRefusal, may_publish, may_raise, may_replace,
@@ -48,12 +52,16 @@ pub struct Meta {
 }
 
 impl Model for Meta {
-    ghost use Rattle.std.specs.Prelude.{◌-◌, ◌+◌, ◌≤◌, ◌<◌, ◌^◌, vec_len, vec_capacity};
+    ghost use Rattle.std.specs.Coded.{codes, Coded};
+    ghost use Rattle.std.specs.Prelude.{◌-◌, ◌+◌, ◌≤◌, ◌<◌, ◌^◌, List, vec_len, vec_capacity};
     ghost use Rattle.delete_tasks.specs.Ledger.{last_of};
+    ghost use Rattle.delete_tasks.specs.Stored.{sought_code, Mark};
     ghost use Rattle.split_states.specs.Rows.{IsAbove};
     ghost use Rattle.meta_store.specs.Room.{Kept, MergedUpTo};
 
     ghost Value = { Kept };
+
+    ghost coded = { let stored : Coded (List Mark) = Prim.hlevel codes in Prim.hlevel (codes, sought_code stored) };
 
     ghost view = { λ m. record {
       state = record {
@@ -61,6 +69,7 @@ impl Model for Meta {
         moment = m.moment;
         config = m.config;
         last_number = m.last_number;
+        last_opstamp = last_of m.tasks.list;
         tasks = m.tasks.list;
         span_count = m.span_count;
         checkpoints = m.checkpoints.list;
@@ -78,6 +87,26 @@ impl Model for Meta {
     ghost invariant = { λ m.
         (m.revision + 1 < 2 ^ 64) × (m.last_number ≤ m.revision) × (last_of m.tasks.list ≤ m.revision)
         × (m.span_count ≤ 1000000) × MergedUpTo m.revision m.rows.list × IsAbove m.rows.list (m.last_number + 1) };
+}
+
+/// The task of an entry, with the query that its reader gave. Where it gave none there is nothing that the task asks
+/// for, and the entry may not come.
+fn task_read(opstamp: u64, reading: Reading, times: TimeRange) -> Task
+    ensures { result ≡ task_of opstamp reading.query times }
+{
+    let Reading { config: _, query } = reading;
+    match query {
+        Ok(query) => Task {
+            opstamp,
+            query,
+            times,
+        },
+        Err(_error) => Task {
+            opstamp,
+            query: Query::Nothing,
+            times,
+        },
+    }
 }
 
 impl Meta {
@@ -130,7 +159,7 @@ impl Meta {
 
     /// The opstamp of the last task, 0 for none.
     pub fn last_opstamp(&self) -> u64
-        ensures { result ≡ last_of self.now.state.tasks }
+        ensures { result ≡ self.now.state.last_opstamp }
     {
         self.tasks.last_opstamp()
     }
@@ -160,9 +189,10 @@ impl Meta {
         &self.tasks
     }
 
-    /// Whether an entry may come next, by what the readers say of it: its first refusal. It takes no memory.
-    pub fn check(&self, entry: &Entry, reading: Reading) -> Result<(), Refusal>
-        ensures { result ≡ answer_to reading self.now.state entry.now }
+    /// Whether an entry may come next, by what the readers say of it: the readings, to be taken in with it, or its first
+    /// refusal, with the reader's own error where a text doesn't read. It takes no memory.
+    pub fn check(&self, entry: &Entry, reading: Reading) -> Result<Reading, Refusal>
+        ensures { result ≡ handed reading (answer_to reading self.now.state entry.now) }
     {
         if let Err(refusal) = check_moment(entry.moment, self.moment) {
             return Err(refusal);
@@ -179,42 +209,74 @@ impl Meta {
         settings: Settings,
         moment: u64,
         act: &Act,
-    ) -> Result<(), Refusal>
-        ensures { result ≡ answer_behind reading settings self.now.state moment act.now }
+    ) -> Result<Reading, Refusal>
+        ensures { result ≡ handed reading (answer_behind reading settings self.now.state moment act.now) }
     {
         match act {
-            Act::Fence => Ok(()),
+            Act::Fence => Ok(reading),
             Act::Create { .. } => Err(Refusal::AlreadyCreated),
-            Act::Stage { number, delta, .. } => self.check_stage(*number, delta),
-            Act::Publish { number } => self.check_publish(*number),
+            Act::Stage { number, delta, .. } => hand_back(
+                reading,
+                self.check_stage(*number, delta),
+            ),
+            Act::Publish { number } => hand_back(reading, self.check_publish(*number)),
             Act::Replace { new, old, upto } => {
-                of_state(may_replace(&self.rows, *new, old))?;
-                check_upto(*upto, self.last_opstamp())
+                hand_back(reading, self.check_replace(*new, old, *upto))
             }
-            Act::Raise { number, upto } => {
-                of_state(may_raise(&self.rows, *number))?;
-                check_upto(*upto, self.last_opstamp())
+            Act::Raise { number, upto } => hand_back(reading, self.check_raise(*number, *upto)),
+            Act::Task { opstamp, .. } => self.check_task(*opstamp, reading),
+            Act::MarkStaged { numbers } => hand_back(
+                reading,
+                self.check_marked(numbers, moment, settings.staged_grace),
+            ),
+            Act::Remove { numbers } => hand_back(
+                reading,
+                self.check_removed(numbers, moment, settings.deletion_grace),
+            ),
+            Act::Retire { numbers } => {
+                hand_back(
+                    reading,
+                    self.check_retired(numbers, moment, settings.period),
+                )
             }
-            Act::Task { opstamp, .. } => self.check_task(*opstamp, reading.task),
-            Act::MarkStaged { numbers } => of_state(may_mark_each(
-                &self.rows,
-                numbers.as_slice(),
-                moment,
-                settings.staged_grace,
-            )),
-            Act::Remove { numbers } => of_state(may_remove_each(
-                &self.rows,
-                numbers.as_slice(),
-                moment,
-                settings.deletion_grace,
-            )),
-            Act::Retire { numbers } => of_state(may_retire_each(
-                &self.rows,
-                numbers.as_slice(),
-                moment,
-                settings.period,
-            )),
         }
+    }
+
+    fn check_replace(&self, new: u64, old: &Numbers, upto: u64) -> Result<(), Refusal>
+        ensures { result ≡ then_answer (in_state (answer_to_replace self.now.state.rows new old.now)) (answer_to_upto upto self.now.state.last_opstamp) }
+    {
+        of_state(may_replace(&self.rows, new, old))?;
+        check_upto(upto, self.last_opstamp())
+    }
+
+    fn check_raise(&self, number: u64, upto: u64) -> Result<(), Refusal>
+        ensures { result ≡ then_answer (in_state (answer_to_raise self.now.state.rows number)) (answer_to_upto upto self.now.state.last_opstamp) }
+    {
+        of_state(may_raise(&self.rows, number))?;
+        check_upto(upto, self.last_opstamp())
+    }
+
+    fn check_marked(&self, numbers: &Numbers, moment: u64, grace: u64) -> Result<(), Refusal>
+        ensures { result ≡ in_state (answer_to_each (λ n. answer_to_mark self.now.state.rows n moment grace) numbers.now) }
+    {
+        of_state(may_mark_each(&self.rows, numbers.as_slice(), moment, grace))
+    }
+
+    fn check_removed(&self, numbers: &Numbers, moment: u64, grace: u64) -> Result<(), Refusal>
+        ensures { result ≡ in_state (answer_to_each (λ n. answer_to_remove self.now.state.rows n moment grace) numbers.now) }
+    {
+        of_state(may_remove_each(&self.rows, numbers.as_slice(), moment, grace))
+    }
+
+    fn check_retired(
+        &self,
+        numbers: &Numbers,
+        moment: u64,
+        period: Option<u64>,
+    ) -> Result<(), Refusal>
+        ensures { result ≡ in_state (answer_to_each (λ n. answer_to_retire self.now.state.rows n moment period) numbers.now) }
+    {
+        of_state(may_retire_each(&self.rows, numbers.as_slice(), moment, period))
     }
 
     fn check_stage(&self, number: u64, delta: &Delta) -> Result<(), Refusal>
@@ -225,20 +287,17 @@ impl Meta {
         check_row_count(self.rows.len())
     }
 
-    fn check_task(&self, opstamp: u64, reads: bool) -> Result<(), Refusal>
-        ensures { result ≡ then_answer (answer_to_next opstamp (last_of self.now.state.tasks + 1)) (then_answer (answer_to_task reads) (answer_to_tasks (length self.now.state.tasks))) }
+    fn check_task(&self, opstamp: u64, reading: Reading) -> Result<Reading, Refusal>
+        ensures { result ≡ handed reading (then_answer (answer_to_next opstamp (self.now.state.last_opstamp + 1)) (then_answer (answer_to_task reading.query) (answer_to_tasks (length self.now.state.tasks)))) }
     {
-        if let Err(refusal) = check_next(opstamp, self.next_opstamp()) {
-            return Err(refusal);
-        }
-        if let Err(refusal) = check_reading(reads) {
-            return Err(refusal);
-        }
-        check_task_count(self.tasks.len())
+        check_next(opstamp, self.next_opstamp())?;
+        let reading = check_query(reading)?;
+        check_task_count(self.tasks.len())?;
+        Ok(reading)
     }
 
     fn next_opstamp(&self) -> u64
-        ensures { result ≡ last_of self.now.state.tasks + 1 }
+        ensures { result ≡ self.now.state.last_opstamp + 1 }
     {
         self.tasks.last_opstamp() + 1
     }
@@ -320,8 +379,31 @@ impl Meta {
     {
         let Entry { moment, act } = entry;
         match act {
-            Act::Fence => self.take_fence(moment),
             Act::Create { config } => self.take_create(moment, config, reading),
+            Act::Task {
+                opstamp,
+                text: _text,
+                fields: _fields,
+                times,
+            } => self.take_task(moment, opstamp, times, reading),
+            other => {
+                mem::drop(reading);
+                self.take_unread(moment, other)
+            }
+        }
+    }
+
+    /// Takes an act in for which nothing is read.
+    fn take_unread(&mut self, moment: u64, act: Act)
+        requires unread { IsUnread act }
+        requires may { IsOk (answer_to unread self.old.state (at moment act)) }
+        requires room { HasRoom act self.old }
+        requires few { self.old.state.revision + 2 < 2 ^ 64 }
+        ensures { (reading : Said) → self.new.state ≡ after reading (at moment act) self.old.state }
+    {
+        match act {
+            Act::Fence => self.take_fence(moment),
+            Act::Create { .. } | Act::Task { .. } => unreachable!(),
             Act::Stage {
                 number,
                 delta,
@@ -330,20 +412,6 @@ impl Meta {
             Act::Publish { number } => self.take_publish(moment, number),
             Act::Replace { new, old, upto } => self.take_replace(moment, new, &old, upto),
             Act::Raise { number, upto } => self.take_raise(moment, number, upto),
-            Act::Task {
-                opstamp,
-                text,
-                fields,
-                times,
-            } => self.take_task(
-                moment,
-                Task {
-                    opstamp,
-                    text,
-                    fields,
-                    times,
-                },
-            ),
             Act::MarkStaged { numbers } => self.take_marked(moment, &numbers),
             Act::Remove { numbers } => self.take_removed(moment, &numbers),
             Act::Retire { numbers } => self.take_retired(moment, &numbers),
@@ -352,7 +420,7 @@ impl Meta {
 
     fn take_fence(&mut self, moment: u64)
         requires { self.old.state.revision + 2 < 2 ^ 64 }
-        ensures { (reading : Reading) → self.new.state ≡ after reading (at moment Act.Fence) self.old.state }
+        ensures { (reading : Said) → self.new.state ≡ after reading (at moment Act.Fence) self.old.state }
     {
         self.moment = self.moment.max(moment);
         self.revision += 1;
@@ -362,12 +430,12 @@ impl Meta {
         requires { self.old.state.revision + 2 < 2 ^ 64 }
         ensures { self.new.state ≡ after reading (at moment (Act.Create config)) self.old.state }
     {
-        self.config = match reading.settings {
-            None => None,
-            Some(settings) => Some(Config {
+        self.config = match reading.config {
+            Ok(settings) => Some(Config {
                 text: config,
                 settings,
             }),
+            Err(_) => None,
         };
         self.moment = self.moment.max(moment);
         self.revision += 1;
@@ -377,7 +445,7 @@ impl Meta {
         requires next { number ≡ self.old.state.last_number + 1 }
         requires room { (0 < self.old.row_room) × (self.old.spare ≡ []) × (length delta.now ≤ self.old.spare_room) }
         requires few { self.old.state.revision + 2 < 2 ^ 64 }
-        ensures { (reading : Reading) → self.new.state ≡ after reading (at moment (Act.Stage number delta.now facts)) self.old.state }
+        ensures { (reading : Said) → self.new.state ≡ after reading (at moment (Act.Stage number delta.now facts)) self.old.state }
     {
         let mut spans = mem::replace(&mut self.spare, Vec::new(self.alloc));
         fill_spans(&mut spans, self.tasks.last_opstamp(), delta.as_slice());
@@ -399,7 +467,7 @@ impl Meta {
         requires room { length (row_ranges self.old.state.rows number) ≤ self.old.checkpoint_room }
         requires spans { self.old.state.span_count + length (row_ranges self.old.state.rows number) ≤ 1000000 }
         requires few { self.old.state.revision + 2 < 2 ^ 64 }
-        ensures { (reading : Reading) → self.new.state ≡ after reading (at moment (Act.Publish number)) self.old.state }
+        ensures { (reading : Said) → self.new.state ≡ after reading (at moment (Act.Publish number)) self.old.state }
     {
         self.span_count += span_count(self.rows.get(number));
         admit_row(&mut self.checkpoints, self.rows.get(number));
@@ -411,7 +479,7 @@ impl Meta {
     fn take_replace(&mut self, moment: u64, new: u64, old: &Numbers, upto: u64)
         requires room { self.old.spare ≡ joined_spans self.old.state.rows old.now }
         requires few { self.old.state.revision + 2 < 2 ^ 64 }
-        ensures { (reading : Reading) → self.new.state ≡ after reading (at moment (Act.Replace new old.now upto)) self.old.state }
+        ensures { (reading : Said) → self.new.state ≡ after reading (at moment (Act.Replace new old.now upto)) self.old.state }
     {
         let mut spans = Spans::from_vec(mem::replace(&mut self.spare, Vec::new(self.alloc)));
         spans.raise(upto);
@@ -424,27 +492,27 @@ impl Meta {
 
     fn take_raise(&mut self, moment: u64, number: u64, upto: u64)
         requires { self.old.state.revision + 2 < 2 ^ 64 }
-        ensures { (reading : Reading) → self.new.state ≡ after reading (at moment (Act.Raise number upto)) self.old.state }
+        ensures { (reading : Said) → self.new.state ≡ after reading (at moment (Act.Raise number upto)) self.old.state }
     {
         self.rows.raise(number, upto);
         self.moment = self.moment.max(moment);
         self.revision += 1;
     }
 
-    fn take_task(&mut self, moment: u64, task: Task)
-        requires next { task.opstamp ≡ last_of self.old.state.tasks + 1 }
+    fn take_task(&mut self, moment: u64, opstamp: u64, times: TimeRange, reading: Reading)
+        requires next { opstamp ≡ self.old.state.last_opstamp + 1 }
         requires room { 0 < self.old.task_room }
         requires few { self.old.state.revision + 2 < 2 ^ 64 }
-        ensures { (reading : Reading) → self.new.state ≡ after reading (at moment (Act.Task task.opstamp task.text task.fields task.times)) self.old.state }
+        ensures { (text : List ℕ) (fields : List (List ℕ)) → self.new.state ≡ after reading (at moment (Act.Task opstamp text fields times)) self.old.state }
     {
-        self.tasks.add_reserved(task);
+        self.tasks.add_reserved(task_read(opstamp, reading, times));
         self.moment = self.moment.max(moment);
         self.revision += 1;
     }
 
     fn take_marked(&mut self, moment: u64, numbers: &Numbers)
         requires { self.old.state.revision + 2 < 2 ^ 64 }
-        ensures { (reading : Reading) → self.new.state ≡ after reading (at moment (Act.MarkStaged numbers.now)) self.old.state }
+        ensures { (reading : Said) → self.new.state ≡ after reading (at moment (Act.MarkStaged numbers.now)) self.old.state }
     {
         self.rows.mark(numbers, moment);
         self.moment = self.moment.max(moment);
@@ -453,7 +521,7 @@ impl Meta {
 
     fn take_removed(&mut self, moment: u64, numbers: &Numbers)
         requires { self.old.state.revision + 2 < 2 ^ 64 }
-        ensures { (reading : Reading) → self.new.state ≡ after reading (at moment (Act.Remove numbers.now)) self.old.state }
+        ensures { (reading : Said) → self.new.state ≡ after reading (at moment (Act.Remove numbers.now)) self.old.state }
     {
         self.rows.remove(numbers);
         self.moment = self.moment.max(moment);
@@ -463,7 +531,7 @@ impl Meta {
     fn take_retired(&mut self, moment: u64, numbers: &Numbers)
         requires room { length (joined_spans self.old.state.rows numbers.now) ≤ self.old.retired_room }
         requires few { self.old.state.revision + 2 < 2 ^ 64 }
-        ensures { (reading : Reading) → self.new.state ≡ after reading (at moment (Act.Retire numbers.now)) self.old.state }
+        ensures { (reading : Said) → self.new.state ≡ after reading (at moment (Act.Retire numbers.now)) self.old.state }
     {
         join_retired(&mut self.retired, &self.rows, numbers.as_slice());
         self.span_count = count_left(self.span_count, &self.rows, numbers.as_slice());

@@ -1,5 +1,7 @@
 //! Why an entry may not come next.
 
+use index_config::ConfigError;
+use query_reader::QueryError;
 use source_checkpoint::StaleDelta;
 use split_states::StateRefusal;
 use thiserror::Error;
@@ -15,9 +17,9 @@ pub enum Refusal {
     NotCreated,
     #[error("already created")]
     AlreadyCreated,
-    /// The bytes of a Create are no configuration.
-    #[error("bad configuration")]
-    BadConfig,
+    /// The bytes of a Create are no configuration: what its reader says.
+    #[error(transparent)]
+    BadConfig(ConfigError),
     /// A Stage's number or a Task's opstamp isn't the next one.
     #[error("{given} is not {next}")]
     NotNext { given: u64, next: u64 },
@@ -25,9 +27,9 @@ pub enum Refusal {
     Delta(StaleDelta),
     #[error(transparent)]
     State(StateRefusal),
-    /// A field of a Task is no path of a text field, or its text doesn't read.
-    #[error("bad task")]
-    BadTask,
+    /// A field of a Task is no path of a text field, or its text doesn't read: what its reader says.
+    #[error(transparent)]
+    BadTask(QueryError),
     /// A Replace or a Raise goes beyond the last task.
     #[error("{upto} is above {last}")]
     UptoAhead { upto: u64, last: u64 },

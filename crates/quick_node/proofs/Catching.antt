@@ -314,10 +314,10 @@ module _ (exit : List Entry) (log : Log) (seen : Seen) where
     refused_says number (MomentBack given greatest) = tt
     refused_says number NotCreated = tt
     refused_says number AlreadyCreated = tt
-    refused_says number BadConfig = tt
+    refused_says number (BadConfig error) = tt
     refused_says number (NotNext given next) = tt
     refused_says number (State refusal) = tt
-    refused_says number BadTask = tt
+    refused_says number (BadTask error) = tt
     refused_says number (UptoAhead upto last) = tt
     refused_says number (TooManyTasks count) = tt
     refused_says number (TooManyRows count) = tt

@@ -11,7 +11,7 @@ use Rattle.meta_journal.specs.declared.entry.Act.TheVariants.{Fence, Create, Sta
 use Rattle.meta_journal.specs.declared.entry.Entry.{Entry}
 use Rattle.delete_tasks.specs.Ledger.{Ledger}
 use Rattle.delete_tasks.specs.Removed.{lies_in, erased_by}
-use Rattle.delete_tasks.specs.declared.tasks.Task.{Task as KeptTask}
+use Rattle.delete_tasks.specs.Removes.{DeleteTask as KeptTask}
 use Rattle.meta_store.specs.Contents.{is_kept}
 use Rattle.meta_store.specs.History.{history, delta_of}
 use Rattle.meta_store.specs.Laws.{Once, shown, published_spans, of_partition, Covers, CoversInOrder, all_ranges}
@@ -240,9 +240,9 @@ module _ (kept : State) (entries : List Entry) (log longer : Log) (is : IsLog lo
   }
     where
       l : Ledger
-      l = ledger (history entries)
+      l = ledger reads (history entries)
 
-      once : Once (history entries)
+      once : Once reads (history entries)
       once = (sound reads (history entries) s.legal).once
 
       ranges_end : AllByRecursion (Ends l.checkpoints) (all_ranges l)

@@ -1,7 +1,7 @@
 -- A store with one Create is an index over every log.
 use Rattle.std.proofs.Common.{◌≡◌, ℕ, List, [], ◌∷◌, sym, subst, append-nil, arith}
 use Rattle.std.specs.FinMap.{empty}
-use Rattle.std.specs.Prelude.{IsSome}
+use Rattle.std.specs.Prelude.{IsOk}
 use Rattle.meta_journal.specs.Places.{meta_key}
 use Rattle.meta_journal.specs.Spelling.{Spells, CanSpell}
 use Rattle.object_store.specs.Store.{with_object}
@@ -15,7 +15,7 @@ use Rattle.quick_node.specs.Serve.{Before, EntersAs, create_entry}
 extends_itself : (log : Log) → Extends log log
 extends_itself log name = ([], sym (append-nil (records_of log name)))
 
-module _ (config bytes : List ℕ) (moment : ℕ) (log : Log) (readable : IsSome (read_config config)) (spells : Spells bytes (create_entry moment config))
+module _ (config bytes : List ℕ) (moment : ℕ) (log : Log) (readable : IsOk (read_config config)) (spells : Spells bytes (create_entry moment config))
     (can : CanSpell (create_entry moment config)) where
   may_enter : MayEnter (record { objects = empty; late = [] }) [] log (create_entry moment config)
   may_enter = record { can = can; legal = (omega arith, readable); room = omega arith; file = tt }
@@ -23,7 +23,7 @@ module _ (config bytes : List ℕ) (moment : ℕ) (log : Log) (readable : IsSome
   is_index : IsIndexOf (with_object (record { objects = empty; late = [] }) (meta_key 0) bytes) (create_entry moment config ∷ []) log
   is_index = (index-enters (record { objects = empty; late = [] }) [] log (create_entry moment config) bytes (index-vacant log) spells may_enter).index
 
-pub new_index_enters : (config bytes : List ℕ) (moment : ℕ) (before : Before) → IsSome (read_config config) → Spells bytes (create_entry moment config) →
+pub new_index_enters : (config bytes : List ℕ) (moment : ℕ) (before : Before) → IsOk (read_config config) → Spells bytes (create_entry moment config) →
     CanSpell (create_entry moment config) → before.kept ≡ with_object (record { objects = empty; late = [] }) (meta_key 0) bytes → IsLog before.log →
     EntersAs (create_entry moment config ∷ []) before
 new_index_enters config bytes moment before readable spells can kept is_log =

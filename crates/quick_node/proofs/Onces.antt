@@ -6,7 +6,7 @@ use Rattle.std.proofs.Math.Seq.{take-length}
 use Rattle.std.specs.Prelude.{Some, flat_map}
 use Rattle.std.specs.List.{AllByRecursion}
 use Rattle.std.specs.FinMap.{get}
-use Rattle.delete_tasks.specs.declared.tasks.Task.{Task}
+use Rattle.delete_tasks.specs.Removes.{DeleteTask}
 use Rattle.meta_journal.specs.Places.{split_key}
 use Rattle.meta_journal.specs.declared.entry.Entry.{Entry}
 use Rattle.meta_store.specs.Contents.{published_rows}
@@ -31,7 +31,7 @@ use Rattle.root_search.proofs.Records.{visible_in_order}
 use Rattle.root_search.proofs.Rows.{kept_before}
 use Rattle.quick_node.specs.Once.{HoldsOnce, HoldsAt}
 
-module _ (kept : State) (tasks : List Task) (log : Log) where
+module _ (kept : State) (tasks : List DeleteTask) (log : Log) where
   abbrev HasFile : Row → Type 0
   HasFile row = get kept.objects (split_key row.number) ≡ Some (split_file (contents tasks row log))
 
@@ -48,11 +48,11 @@ module _ (kept : State) (tasks : List Task) (log : Log) where
 pub holds_once : (kept : State) (entries : List Entry) (log : Log) → IsLog log → IsIndexOf kept entries log → HoldsOnce kept entries log
 holds_once kept entries log is index =
     record {
-      held = λ row. contents (ledger h).tasks row log;
-      files = published_have kept (ledger h).tasks log (rows h) index.stands.rows;
-      once = subst (λ es. IsPermutation (flat_map (λ row. contents (ledger h).tasks row log) (published_rows (rows h))) (visible (ledger (history es)) log)) (sym (take-length entries))
-          (published_is_visible meaning h (accepted_records log) (sound reads h index.stands.legal).once);
-      apart = visible_in_order (ledger (history (take (length entries) entries))) log is;
+      held = λ row. contents (ledger reads h).tasks row log;
+      files = published_have kept (ledger reads h).tasks log (rows h) index.stands.rows;
+      once = subst (λ es. IsPermutation (flat_map (λ row. contents (ledger reads h).tasks row log) (published_rows (rows h))) (visible (ledger reads (history es)) log)) (sym (take-length entries))
+          (published_is_visible meaning reads h (accepted_records log) (sound reads h index.stands.legal).once);
+      apart = visible_in_order (ledger reads (history (take (length entries) entries))) log is;
     }
   where
     h : History
@@ -61,7 +61,7 @@ holds_once kept entries log is index =
 -- ---- at a revision
 
 abbrev AreKept : State → Log → History → Type 0
-AreKept kept log h = AllByRecursion (IsRowKept kept (ledger h).tasks log) (rows h)
+AreKept kept log h = AllByRecursion (IsRowKept kept (ledger reads h).tasks log) (rows h)
 
 abbrev AreBuilt : List Entry → Type 0
 AreBuilt es = AllByRecursion (λ e. IsBuilt e.act) es
@@ -83,10 +83,10 @@ kept_at kept log revision entries built all =
 pub holds_at : (kept : State) (revision : ℕ) (entries : List Entry) (log : Log) → IsLog log → IsIndexOf kept entries log → HoldsAt kept revision entries log
 holds_at kept revision entries log is index =
     record {
-      held = λ row. contents (ledger h).tasks row log;
-      files = published_have kept (ledger h).tasks log (rows h) (kept_at kept log revision entries index.stands.built index.stands.rows);
-      once = published_is_visible meaning h (accepted_records log) (sound reads h legal).once;
-      apart = visible_in_order (ledger h) log is;
+      held = λ row. contents (ledger reads h).tasks row log;
+      files = published_have kept (ledger reads h).tasks log (rows h) (kept_at kept log revision entries index.stands.built index.stands.rows);
+      once = published_is_visible meaning reads h (accepted_records log) (sound reads h legal).once;
+      apart = visible_in_order (ledger reads h) log is;
     }
   where
     h : History

@@ -1,6 +1,6 @@
 //! What holds of each run, by its definitions alone. Each law is the contract of a function that does nothing.
 
-ghost use Rattle.std.specs.Prelude.{◌≡◌, ◌⊎◌, ◌≢◌, ℕ, ◌<◌, ◌≤◌, List, [], ◌∷◌, ◌++◌, length, Option, Some, Ok, IsSome};
+ghost use Rattle.std.specs.Prelude.{◌≡◌, ◌⊎◌, ◌≢◌, ℕ, ◌<◌, ◌≤◌, List, [], ◌∷◌, ◌++◌, length, Option, Some, Ok, IsOk};
 ghost use Rattle.std.specs.FinMap.{empty};
 ghost use Rattle.meta_journal.specs.Places.{meta_key};
 ghost use Rattle.meta_journal.specs.Spelling.{Spells, CanSpell};
@@ -29,7 +29,7 @@ pub fn an_index_held_each_record_once_at_each_revision()
 
 /// A store whose one object is a Create of a readable configuration, with nothing late, is such an index over every log.
 pub fn a_new_index_enters()
-    ensures { (config bytes : List ℕ) (moment : ℕ) (before : Before) → IsSome (read_config config) → Spells bytes (create_entry moment config) → CanSpell (create_entry moment config) →
+    ensures { (config bytes : List ℕ) (moment : ℕ) (before : Before) → IsOk (read_config config) → Spells bytes (create_entry moment config) → CanSpell (create_entry moment config) →
         before.kept ≡ with_object (record { objects = empty; late = [] }) (meta_key 0) bytes → IsLog before.log → EntersAs (create_entry moment config ∷ []) before }
 {}
 

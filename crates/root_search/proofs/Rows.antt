@@ -4,7 +4,7 @@ use Rattle.std.specs.List.{AllByRecursion, list_any}
 use Rattle.std.proofs.lemmas.Bool.{eqb-true}
 use Rattle.std.proofs.lemmas.List.{length-append}
 use Rattle.std.proofs.lemmas.List.Folds.{list_any-append}
-use Rattle.delete_tasks.specs.declared.tasks.Task.{Task as KeptTask}
+use Rattle.delete_tasks.specs.Removes.{DeleteTask as KeptTask}
 use Rattle.meta_journal.specs.Places.{split_key}
 use Rattle.meta_journal.specs.declared.entry.Act.{Act}
 use Rattle.meta_journal.specs.declared.entry.Act.TheVariants.{Fence, Create, Stage, Publish, Replace, Raise, Task, MarkStaged, Remove, Retire}
@@ -17,7 +17,8 @@ use Rattle.meta_store.specs.History.{History, history, staged_numbers, published
 use Rattle.meta_store.specs.History.History.{Start, ◌▸◌}
 use Rattle.meta_store.specs.Ledgers.{ledger}
 use Rattle.meta_store.specs.Rows.{rows}
-use Rattle.meta_store.specs.State.{Legal, MayCome, reading_of, config_of, state_of}
+use Rattle.meta_store.specs.Readings.{reading_of, config_of}
+use Rattle.meta_store.specs.State.{Legal, MayCome, state_of}
 use Rattle.meta_store.specs.declared.config.Config.{Config}
 use Rattle.object_store.specs.Store.{State}
 use Rattle.source_log.specs.Log.{Log}
@@ -128,13 +129,13 @@ sound_before : (kept : State) (tasks : List KeptTask) (log : Log) (row : Row) �
 sound_before kept tasks log row k e = let s = k refl in record { file = s.file; facts = s.facts; documents = s.documents; weight = s.weight }
 
 pub kept_before : (kept : State) (log : Log) (h : History) (moment : ℕ) (act : Act) → IsBuilt act →
-    AllByRecursion (IsRowKept kept (ledger (h ▸ record { moment = moment; act = act })).tasks log) (rows (h ▸ record { moment = moment; act = act })) →
-    AllByRecursion (IsRowKept kept (ledger h).tasks log) (rows h)
+    AllByRecursion (IsRowKept kept (ledger reads (h ▸ record { moment = moment; act = act })).tasks log) (rows (h ▸ record { moment = moment; act = act })) →
+    AllByRecursion (IsRowKept kept (ledger reads h).tasks log) (rows h)
 kept_before kept log h moment Fence f all = all
 kept_before kept log h moment (Create config) f all = all
-kept_before kept log h moment (Stage number delta facts) f all = AllOf-front (IsRowKept kept (ledger h).tasks log) (rows h) _ all
+kept_before kept log h moment (Stage number delta facts) f all = AllOf-front (IsRowKept kept (ledger reads h).tasks log) (rows h) _ all
 kept_before kept log h moment (Publish n) f all =
-    All-unchange (IsRowKept kept (ledger h).tasks log) (IsRowKept kept (ledger h).tasks log) n published (rows h) (sound_before kept (ledger h).tasks log) (λ row k. k) all
+    All-unchange (IsRowKept kept (ledger reads h).tasks log) (IsRowKept kept (ledger reads h).tasks log) n published (rows h) (sound_before kept (ledger reads h).tasks log) (λ row k. k) all
 kept_before kept log h moment (Replace new old upto) f all = absurd f
 kept_before kept log h moment (Raise number upto) f all = absurd f
 kept_before kept log h moment (Task opstamp text fields times) f all = absurd f
@@ -146,7 +147,7 @@ kept_before kept log h moment (Retire numbers) f all = absurd f
 record Front (kept : State) (es : List Entry) (unread : Option Entry) (log : Log) : Type 0 where
   legal : Legal reads (history es)
   built : Builds (history es)
-  kept_rows : AllByRecursion (IsRowKept kept (ledger (history es)).tasks log) (rows (history es))
+  kept_rows : AllByRecursion (IsRowKept kept (ledger reads (history es)).tasks log) (rows (history es))
   staged : (n : ℕ) → has_staged es n ≡ true → has_staged (with_unread es unread) n ≡ true
   published : (n : ℕ) → was_published es n ≡ true → was_published (with_unread es unread) n ≡ true
 
@@ -156,7 +157,7 @@ front kept es (Some e) log s =
     record {
       legal = (subst (Legal reads) snoc s.legal).0;
       built = whole.0;
-      kept_rows = kept_before kept log (history es) e.moment e.act whole.1 (subst (λ h. AllByRecursion (IsRowKept kept (ledger h).tasks log) (rows h)) snoc s.rows);
+      kept_rows = kept_before kept log (history es) e.moment e.act whole.1 (subst (λ h. AllByRecursion (IsRowKept kept (ledger reads h).tasks log) (rows h)) snoc s.rows);
       staged = staged_more es e;
       published = λ n a. subst (λ h. Among n (published_numbers h)) (sym snoc) (published_on (history es) e.moment e.act n a);
     }
@@ -175,11 +176,11 @@ published_state Published e = refl
 published_state Marked e = absurd (true_is_false (sym e))
 
 record IsShown (kept : State) (log : Log) (h : History) (row : Row) : Type 0 where
-  sound : IsRowSound kept (ledger h).tasks log row
+  sound : IsRowSound kept (ledger reads h).tasks log row
   staged : Among row.number (staged_numbers h)
   published : Among row.number (published_numbers h)
 
-shown_rows : (kept : State) (log : Log) (h : History) (list : List Row) → AllByRecursion (IsRowKept kept (ledger h).tasks log) list → AllByRecursion (IsListed h) list → AllByRecursion (IsShown kept log h) (published_rows list)
+shown_rows : (kept : State) (log : Log) (h : History) (list : List Row) → AllByRecursion (IsRowKept kept (ledger reads h).tasks log) list → AllByRecursion (IsListed h) list → AllByRecursion (IsShown kept log h) (published_rows list)
 shown_rows kept log h [] k l = tt
 shown_rows kept log h (row ∷ list) k l = by (is_published row.state) refl (shown_rows kept log h list k.1 l.1)
   where
@@ -193,26 +194,26 @@ none_left [] n e h = refl
 none_left (x ∷ xs) n e h = let none : n ≤ 0 = ltb-false 0 n h in let some : n ≡ suc (length xs) = e in absurd (omega (arith, none, some))
 
 with_documents : (kept : State) (log : Log) (h : History) (list : List Row) → AllByRecursion (IsShown kept log h) list →
-    flat_map (λ row. contents (ledger h).tasks row log) (filter (λ row. nat_lt 0 row.facts.docs) list) ≡ flat_map (λ row. contents (ledger h).tasks row log) list
+    flat_map (λ row. contents (ledger reads h).tasks row log) (filter (λ row. nat_lt 0 row.facts.docs) list) ≡ flat_map (λ row. contents (ledger reads h).tasks row log) list
 with_documents kept log h [] all = refl
 with_documents kept log h (row ∷ list) all = by (nat_lt 0 row.facts.docs) refl (with_documents kept log h list all.1)
   where
     f : Row → List Placed
-    f r = contents (ledger h).tasks r log
+    f r = contents (ledger reads h).tasks r log
 
-    by : (b : Bool) → nat_lt 0 row.facts.docs ≡ b → flat_map (λ row. contents (ledger h).tasks row log) (filter (λ row. nat_lt 0 row.facts.docs) list) ≡ flat_map (λ row. contents (ledger h).tasks row log) list →
-        flat_map (λ row. contents (ledger h).tasks row log) (cond b (row ∷ filter (λ row. nat_lt 0 row.facts.docs) list) (filter (λ row. nat_lt 0 row.facts.docs) list)) ≡ contents (ledger h).tasks row log ++ flat_map (λ row. contents (ledger h).tasks row log) list
-    by true e more = ap (λ l. contents (ledger h).tasks row log ++ l) more
+    by : (b : Bool) → nat_lt 0 row.facts.docs ≡ b → flat_map (λ row. contents (ledger reads h).tasks row log) (filter (λ row. nat_lt 0 row.facts.docs) list) ≡ flat_map (λ row. contents (ledger reads h).tasks row log) list →
+        flat_map (λ row. contents (ledger reads h).tasks row log) (cond b (row ∷ filter (λ row. nat_lt 0 row.facts.docs) list) (filter (λ row. nat_lt 0 row.facts.docs) list)) ≡ contents (ledger reads h).tasks row log ++ flat_map (λ row. contents (ledger reads h).tasks row log) list
+    by true e more = ap (λ l. contents (ledger reads h).tasks row log ++ l) more
     by false e more =
-        let none : contents (ledger h).tasks row log ≡ [] = none_left (contents (ledger h).tasks row log) row.facts.docs (ap (λ (facts : RowFacts). facts.docs) all.0.sound.facts) e in
-        more ∙ ap (λ l. l ++ flat_map (λ row. contents (ledger h).tasks row log) list) (sym none)
+        let none : contents (ledger reads h).tasks row log ≡ [] = none_left (contents (ledger reads h).tasks row log) row.facts.docs (ap (λ (facts : RowFacts). facts.docs) all.0.sound.facts) e in
+        more ∙ ap (λ l. l ++ flat_map (λ row. contents (ledger reads h).tasks row log) list) (sym none)
 
 -- ---- the law
 
 pub record AreSearched (core : Core) (log : Log) (h : History) : Type 0 where
-  pub files : AllByRecursion (λ row. IsUploadedIn core row.number (split_file (contents (ledger h).tasks row log))) (searched_rows h)
-  pub sizes : AllByRecursion (λ row. row.facts.size ≡ length (split_file (contents (ledger h).tasks row log))) (searched_rows h)
-  pub shown : IsPermutation (flat_map (λ row. contents (ledger h).tasks row log) (searched_rows h)) (visible (ledger h) log)
+  pub files : AllByRecursion (λ row. IsUploadedIn core row.number (split_file (contents (ledger reads h).tasks row log))) (searched_rows h)
+  pub sizes : AllByRecursion (λ row. row.facts.size ≡ length (split_file (contents (ledger reads h).tasks row log))) (searched_rows h)
+  pub shown : IsPermutation (flat_map (λ row. contents (ledger reads h).tasks row log) (searched_rows h)) (visible (ledger reads h) log)
 
 module _ (kept : State) (core : Core) (log : Log) (w : IsWorld kept core log) where
   number_low : (n : ℕ) → has_staged (journal_of core) n ≡ true → n < 10 ^ 20
@@ -222,8 +223,8 @@ module _ (kept : State) (core : Core) (log : Log) (w : IsWorld kept core log) wh
       let within = w.index.stands.within in
       omega (arith, low, last, within)
 
-  row_in_hand : (row : Row) → IsRowSound kept (ledger (history core.history)).tasks log row → has_staged (journal_of core) row.number ≡ true → was_published (journal_of core) row.number ≡ true →
-      IsUploadedIn core row.number (split_file (contents (ledger (history core.history)).tasks row log))
+  row_in_hand : (row : Row) → IsRowSound kept (ledger reads (history core.history)).tasks log row → has_staged (journal_of core) row.number ≡ true → was_published (journal_of core) row.number ≡ true →
+      IsUploadedIn core row.number (split_file (contents (ledger reads (history core.history)).tasks row log))
   row_in_hand row s staged published =
       uploaded-in kept core row.number _ w.stands_for
       (record { staged = staged; file = s.file; not_late = All-each (IsLateKey (journal_of core)) (λ late. late.0 ≡ split_key row.number → ⊥) kept.late apart w.index.stands.late_keys })
@@ -239,8 +240,8 @@ module _ (kept : State) (core : Core) (log : Log) (w : IsWorld kept core log) wh
       record {
         files = All-each (IsShown kept log h) _ (searched_rows h) (λ row i. row_in_hand row i.sound (f.staged row.number i.staged) (f.published row.number i.published)) some;
         sizes = All-each (IsShown kept log h) _ (searched_rows h) (λ row i. ap (λ (facts : RowFacts). facts.size) i.sound.facts) some;
-        shown = subst (λ l. IsPermutation l (visible (ledger h) log)) (sym (with_documents kept log h (published_rows (rows h)) all))
-            (published_is_visible meaning h (accepted_records log) (sound reads h f.legal).once);
+        shown = subst (λ l. IsPermutation l (visible (ledger reads h) log)) (sym (with_documents kept log h (published_rows (rows h)) all))
+            (published_is_visible meaning reads h (accepted_records log) (sound reads h f.legal).once);
       }
     where
       h : History

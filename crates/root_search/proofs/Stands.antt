@@ -5,6 +5,7 @@ use Rattle.std.proofs.lemmas.List.{take-append-le, take_all, length-append, leng
 use Rattle.meta_journal.specs.declared.entry.Entry.{Entry}
 use Rattle.meta_store.specs.History.{history}
 use Rattle.meta_store.specs.Ledgers.{ledger}
+use Rattle.index_world.specs.Config.{reads}
 use Rattle.source_log.specs.Log.{Log, IsLog}
 use Rattle.split_states.specs.declared.rows.Row.{Row}
 use Rattle.index_world.specs.Core.{Core, IsUploadedIn}
@@ -34,7 +35,7 @@ abbrev pub rows_of : List Entry → List Row
 rows_of seen = searched_rows (history seen)
 
 abbrev file_of : List Entry → Log → Row → List ℕ
-file_of seen log row = split_file (contents (ledger (history seen)).tasks row log)
+file_of seen log row = split_file (contents (ledger reads (history seen)).tasks row log)
 
 abbrev AreStored : List Entry → Core → Log → Type 0
 AreStored seen core log = AllByRecursion (λ row. IsUploadedIn core row.number (file_of seen log row)) (rows_of seen)
@@ -43,7 +44,7 @@ abbrev HaveSizes : List Entry → Log → Type 0
 HaveSizes seen log = AllByRecursion (λ row. row.facts.size ≡ length (file_of seen log row)) (rows_of seen)
 
 abbrev IsWhole : List Entry → Log → Type 0
-IsWhole seen log = IsPermutation (flat_map (λ row. contents (ledger (history seen)).tasks row log) (rows_of seen)) (visible (ledger (history seen)) log)
+IsWhole seen log = IsPermutation (flat_map (λ row. contents (ledger reads (history seen)).tasks row log) (rows_of seen)) (visible (ledger reads (history seen)) log)
 
 pub in_hand_goes_on : (one : Option ℕ) (core after : Core) (log : Log) (revision : ℕ) → GoesOn one core after → AreInHand revision core log → AreInHand revision after log
 in_hand_goes_on one core after log revision g a =
@@ -122,9 +123,9 @@ all_held given plan core log g p over =
     record {
       held = map docs list;
       files_are = p.fetched ∙ (ap (map (file_at plan.revision core log)) (take_all given.next list (omega (arith, many, over))) ∙ maps split_file docs list);
-      placed = placed_each docs (λ row. contents-placed (ledger (history_at plan.revision core)).tasks row log g) list;
+      placed = placed_each docs (λ row. contents-placed (ledger reads (history_at plan.revision core)).tasks row log g) list;
       together = subst (λ l. IsPermutation l (visible_at plan.revision core.history log)) (joined docs list) p.in_hand.shown;
-      in_order = visible_in_order (ledger (history_at plan.revision core)) log g;
+      in_order = visible_in_order (ledger reads (history_at plan.revision core)) log g;
     }
   where
     list : List Row

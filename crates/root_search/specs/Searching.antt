@@ -4,6 +4,7 @@ use Rattle.std.specs.List.{AllByRecursion}
 use Rattle.std.specs.declared.alloc.AllocError.{AllocError}
 use Rattle.meta_store.specs.History.{History, history}
 use Rattle.meta_store.specs.Ledgers.{ledger}
+use Rattle.index_world.specs.Config.{reads}
 use Rattle.source_log.specs.Log.{Log}
 use Rattle.split_states.specs.declared.rows.Row.{Row}
 use Rattle.index_world.specs.Calls.{Fault, Trouble, faulted, no_memory}
@@ -35,7 +36,7 @@ rows_at revision core = searched_rows (history_at revision core)
 
 -- the documents of a row at a revision
 abbrev pub documents_at : ℕ → Core → Log → Row → List Placed
-documents_at revision core log row = contents (ledger (history_at revision core)).tasks row log
+documents_at revision core log row = contents (ledger reads (history_at revision core)).tasks row log
 
 abbrev pub file_at : ℕ → Core → Log → Row → List ℕ
 file_at revision core log row = split_file (documents_at revision core log row)

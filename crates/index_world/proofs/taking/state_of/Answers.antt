@@ -1,4 +1,5 @@
 use Rattle.std.proofs.Common.{◌≡◌, ◌+◌, ap, arith, sym, subst, ◌∙◌}
+use Rattle.meta_store.specs.Said.{Said}
 use Rattle.meta_store.specs.State.{State, after}
 use Rattle.std.specs.Prelude.{IsOk}
 use Rattle.meta_store.specs.Answers.{answer_to}
@@ -34,20 +35,20 @@ entries-preserved c =
       few = c.entries.invariant.few;
       early = omega (arith, m, low, early);
       front = front_more _ _ _ c.in-Some.entry c.reading_of-reading.result c.entries.meta.state _ _ _ c.moment_of.result c.entries.invariant.front c.in-Some.ensures.items
-          (c.apply.ensures ∙ ap (λ (s : State). after c.reading_of-reading.result c.in-Some.entry s) c.admit.ensures.same) c.reading_of-reading.ensures c.moment_of.ensures.same c.max-moment.ensures
-          (subst (λ (s : State). IsOk (answer_to c.reading_of-reading.result s c.in-Some.entry)) c.admit.ensures.same c.in_ok-admit.ensures.allowed);
+          (c.apply.ensures ∙ ap (λ (r : Said). after r c.in-Some.entry c.admit.new.meta.state) c.in_ok-handed.ensures.handed ∙ ap (λ (s : State). after c.reading_of-reading.result c.in-Some.entry s) c.admit.ensures.same) c.reading_of-reading.ensures c.moment_of.ensures.same c.max-moment.ensures
+          (subst (λ (s : State). IsOk (answer_to c.reading_of-reading.result s c.in-Some.entry)) c.admit.ensures.same c.in_ok-handed.ensures.allowed);
     }
 
-pub returns-in_err-admit-clause-want : goal.returns-in_err-admit-clause-want
-returns-in_err-admit-clause-want c legal =
+pub returns-in_err-handed-clause-want : goal.returns-in_err-handed-clause-want
+returns-in_err-handed-clause-want c legal =
     err_so c.from_residual.result _ IsWant c.from_residual.ensures.1
-    (λ error is. subst IsWant (sym is) (c.in_err-admit.ensures.want (front_answers _ _ _ c.in-Some.entry c.reading_of-reading.result _ _ c.entries.invariant.front c.in-Some.ensures.items c.reading_of-reading.ensures legal)))
+    (λ error is. subst IsWant (sym is) (c.in_err-handed.ensures.want (front_answers _ _ _ c.in-Some.entry c.reading_of-reading.result _ _ c.entries.invariant.front c.in-Some.ensures.items c.reading_of-reading.ensures legal)))
 
-pub returns-in_err-admit-clause-refused : goal.returns-in_err-admit-clause-refused
-returns-in_err-admit-clause-refused c =
+pub returns-in_err-handed-clause-refused : goal.returns-in_err-handed-clause-refused
+returns-in_err-handed-clause-refused c =
     err_so c.from_residual.result _ (IsRefusedAt (first_refused Start c.args.entries.items)) c.from_residual.ensures.1
     (λ error is. front_refused _ _ _ c.in-Some.entry c.reading_of-reading.result _ _ _ c.entries.invariant.front c.in-Some.ensures.items c.reading_of-reading.ensures c.revision-number.ensures error
-    (subst (IsUnfit (answer_to c.reading_of-reading.result c.entries.meta.state c.in-Some.entry) c.revision-number.result) (sym is) c.in_err-admit.ensures.unfit))
+    (subst (IsUnfit (answer_to c.reading_of-reading.result c.entries.meta.state c.in-Some.entry) c.revision-number.result) (sym is) c.in_err-handed.ensures.unfit))
 
 pub returns-clause-fit : goal.returns-clause-fit
 returns-clause-fit c =
@@ -67,6 +68,6 @@ returns-clause-greatest c low =
     let ok = c.entries.left.ok.0 in
     front_moment _ _ _ _ c.entries.invariant.front (no_entry_left c.entries.left.items (omega (arith, z, ok))) low
 
-pub returns-in_err-admit-clause-no_fault : goal.returns-in_err-admit-clause-no_fault
-returns-in_err-admit-clause-no_fault c =
-    err_so c.from_residual.result _ IsNoFault c.from_residual.ensures.1 (λ error is. subst IsNoFault (sym is) c.in_err-admit.ensures.no_fault)
+pub returns-in_err-handed-clause-no_fault : goal.returns-in_err-handed-clause-no_fault
+returns-in_err-handed-clause-no_fault c =
+    err_so c.from_residual.result _ IsNoFault c.from_residual.ensures.1 (λ error is. subst IsNoFault (sym is) c.in_err-handed.ensures.no_fault)

@@ -6,4 +6,4 @@ use Rattle.meta_store.proofs.laws.shown_once.Goals as goal
 
 pub returns : goal.returns
 returns c reads entries legal revision meaning records =
-    published_is_visible meaning (history (take revision entries)) records (once_always reads entries legal revision)
+    published_is_visible meaning reads (history (take revision entries)) records (once_always reads entries legal revision)

@@ -4,6 +4,9 @@ use Rattle.meta_journal.specs.Journal.{FaultIs, IsTaken, place_appended, next_ap
 use Rattle.meta_journal.specs.Spelling.{CanSpellAct}
 use Rattle.meta_journal.specs.declared.journal_error.JournalError.{JournalError}
 use Rattle.meta_journal.specs.declared.journal_error.JournalError.TheVariants as journal
+use Rattle.meta_store.specs.Said.{Said}
+use Rattle.meta_store.specs.History.{at}
+use Rattle.meta_store.specs.State.{after}
 use Rattle.index_world.specs.Owning.{own_act, act_in}
 use Rattle.index_world.specs.Taking.{IsWant}
 use Rattle.index_world.specs.Unsure.{is_unsure}
@@ -17,13 +20,13 @@ returns-in_err-act_of-clause-step g c old core log e b owned =
     (λ error is. subst IsWant (sym is) tt) refl
     (life_on c.args.self.now c.args.self.now core.history core.moment core.unsure false b.knows refl refl refl (ap is_unsure c.requires.sure)) refl
 
-pub returns-in_err-prepare-clause-step : goal.returns-in_err-prepare-clause-step
-returns-in_err-prepare-clause-step g c old core log e b owned =
+pub returns-in_err-handed-clause-step : goal.returns-in_err-handed-clause-step
+returns-in_err-handed-clause-step g c old core log e b owned =
     let same = entry_is c.args.self.now.moment core.moment c.in_ok-act_of.field-0 (own_act c.args.own core) b.knows.moment (c.in_ok-act_of.ensures.same ∙ ap (act_in c.args.own) b.knows.meta) in
     let answer = answer_same c.reading_of-reading.result c.args.self.now.meta.state _ _ core c.reading_of-reading.ensures b.knows.meta same in
     let revision : c.args.self.now.meta.state.revision ≡ length core.history = c.args.self.now.in_step ∙ b.knows.next in
-    creating_unprepared_by old core log _ _ c.args.self.now b _ _ e (omega arith) b.within _ (own_act c.args.own core) _ c.args.before c.from_residual-in_err-prepare.result _ c.from_residual-in_err-prepare.ensures.1
-    (λ error is. unprepared_same _ _ _ _ _ _ answer revision is c.in_err-prepare.ensures.why) refl refl
+    creating_unprepared_by old core log _ _ c.args.self.now b _ _ e (omega arith) b.within _ (own_act c.args.own core) _ c.args.before c.from_residual-in_err-handed.result _ c.from_residual-in_err-handed.ensures.1
+    (λ error is. unprepared_same _ _ _ _ _ _ answer revision is c.in_err-handed.ensures.why) refl refl
     (life_on c.args.self.now _ core.history core.moment core.unsure false b.knows refl c.prepare.ensures.same refl (ap is_unsure c.requires.sure)) refl
 
 pub returns-in-Ok-clause-step : goal.returns-in-Ok-clause-step
@@ -37,11 +40,11 @@ returns-in-Ok-clause-step g c old core log e b owned =
     let answer = answer_same c.reading_of-reading.result c.prepare.new.meta.state _ _ core c.reading_of-reading.ensures (state ∙ b.knows.meta) same in
     let revision : c.args.self.now.meta.state.revision ≡ length core.history = c.args.self.now.in_step ∙ b.knows.next in
     creating_own old core log _ _ c.args.self.now b _ _ e c.append-answer.ensures.later (omega (arith, count, fits)) c.args.own _ same (subst CanSpellAct act c.in_ok-act_of.ensures.can)
-    (may_append_is (own_act c.args.own core) core (subst IsOk answer c.in_ok-prepare.ensures.allowed) (let low = c.in_ok-prepare.ensures.below in omega (arith, low, revision))) owned
+    (may_append_is (own_act c.args.own core) core (subst IsOk answer c.in_ok-handed.ensures.allowed) (let low = c.in_ok-handed.ensures.below in omega (arith, low, revision))) owned
     _ _ c.args.before c.in-Ok.field-0
     (appends_at _ _ _ _ _ _ said c.append-answer.ensures.answer)
     (life_own c.args.self.now _ core.history core.moment core.unsure _ _ c.reading_of-reading.result c.prepare.new.meta.state b.knows
-    (c.append-answer.ensures.next ∙ ap (next_appended c.args.self.now.journal.next) said) (c.append-answer.ensures.place ∙ ap place_appended said) state c.apply.ensures c.reading_of-reading.ensures refl same)
+    (c.append-answer.ensures.next ∙ ap (next_appended c.args.self.now.journal.next) said) (c.append-answer.ensures.place ∙ ap place_appended said) state (c.apply.ensures ∙ ap (λ (r : Said). after r (at c.args.self.now.moment c.in_ok-act_of.field-0) c.prepare.new.meta.state) c.in_ok-handed.ensures.handed) c.reading_of-reading.ensures refl same)
     c.append-answer.ensures.settled
 
 pub returns-in-Adopted-clause-step : goal.returns-in-Adopted-clause-step
@@ -56,7 +59,7 @@ returns-in-Adopted-clause-step g c old core log e b owned =
     let revision : c.args.self.now.meta.state.revision ≡ length core.history = c.args.self.now.in_step ∙ b.knows.next in
     let place = c.append-answer.ensures.place ∙ ap place_appended said in
     creating_gives old core log _ _ c.args.self.now b _ _ e c.append-answer.ensures.later (omega (arith, count, fits)) c.args.own _ same (subst CanSpellAct act c.in_ok-act_of.ensures.can)
-    (may_append_is (own_act c.args.own core) core (subst IsOk answer c.in_ok-prepare.ensures.allowed) (let low = c.in_ok-prepare.ensures.below in omega (arith, low, revision))) owned
+    (may_append_is (own_act c.args.own core) core (subst IsOk answer c.in_ok-handed.ensures.allowed) (let low = c.in_ok-handed.ensures.below in omega (arith, low, revision))) owned
     _ _ c.args.before c.in-Adopted.entry
     (appends_at _ _ _ _ _ _ said c.append-answer.ensures.answer)
     (subst (λ (r : Result ℕ JournalError). IfErr r (IsTaken c.args.self.now.journal.settled)) said c.append-answer.ensures.taken) place
@@ -75,12 +78,12 @@ returns g c = record {
       let state : c.prepare.new.meta.state ≡ c.args.self.now.meta.state = c.prepare.ensures.same in
       let answer = answer_same c.reading_of-reading.result c.prepare.new.meta.state _ _ core c.reading_of-reading.ensures (state ∙ b.knows.meta) same in
       let revision : c.args.self.now.meta.state.revision ≡ length core.history = c.args.self.now.in_step ∙ b.knows.next in
-      let low = c.in_ok-prepare.ensures.below in
+      let low = c.in_ok-handed.ensures.below in
       let step = c.args.self.now.in_step in
       let place = c.append-answer.ensures.place ∙ ap place_appended said in
       let no = c.in_default.not-Adopted in
       creating_failed old core log _ _ c.args.self.now b _ _ e c.append-answer.ensures.later (omega (arith, count, fits)) c.args.own _ same (subst CanSpellAct act c.in_ok-act_of.ensures.can)
-      (may_append_is (own_act c.args.own core) core (subst IsOk answer c.in_ok-prepare.ensures.allowed) (omega (arith, low, revision))) owned
+      (may_append_is (own_act c.args.own core) core (subst IsOk answer c.in_ok-handed.ensures.allowed) (omega (arith, low, revision))) owned
       _ _ _ c.args.before c.in-Err.error _ c.world_error.ensures
       (appends_at _ _ _ _ _ _ said c.append-answer.ensures.answer)
       (subst (λ (r : Result ℕ JournalError). IfErr r (FaultIs (g.S.ObjectStore.fault_count c.args.store.now) (g.S.ObjectStore.fault_count c.append-answer.new.store))) said c.append-answer.ensures.faults)
