@@ -1,11 +1,9 @@
 //! What a line asks.
 
-use crate::bytes;
-use crate::entries;
-use crate::places;
+use crate::{bytes, entries, places};
 use byte_fields::Bytes;
 use delete_tasks::covers;
-use doc_value::{Fields, Doc, Schema};
+use doc_value::{Doc, Fields, Schema};
 use meta_journal::{Act, Entry};
 use meta_store::{Meta, Reading, Settings};
 use query_ast::Query;
@@ -75,7 +73,10 @@ fn spans_of(alloc: Global, meta: &Meta, number: u64) -> Result<String, AllocErro
     let mut text = String::new(alloc);
     if let Some(row) = meta.rows().get(number) {
         for span in row.spans.as_slice() {
-            let shown = format!(in alloc; "{}:{}-{}:{}:{} ", span.partition, span.from, span.to, span.admitted, span.applied)?;
+            let shown = format!(in alloc;
+                "{}:{}-{}:{}:{} ",
+                span.partition, span.from, span.to, span.admitted, span.applied
+            )?;
             text.push_str(shown.as_str())?;
         }
     }
@@ -98,6 +99,13 @@ fn covered(alloc: Global, meta: &Meta, numbers: &[u64]) -> Result<String, AllocE
         timestamp: None,
     };
     let upto = numbers.get(1).copied().unwrap_or(0);
-    let is_covered = covers(alloc, meta.tasks(), &span, upto, &schema, &Doc::vacant(alloc))?;
+    let is_covered = covers(
+        alloc,
+        meta.tasks(),
+        &span,
+        upto,
+        &schema,
+        &Doc::vacant(alloc),
+    )?;
     String::from_str(alloc, if is_covered { "yes" } else { "no" })
 }

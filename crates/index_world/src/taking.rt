@@ -116,11 +116,7 @@ fn with_room(meta: &mut Meta, reading: Reading, entry: &Entry) -> Result<Reading
 
 /// Makes the room for an entry of one's own, where the state allows it and the journal has a further number, and hands
 /// its readings back.
-pub fn prepare(
-    meta: &mut Meta,
-    reading: Reading,
-    entry: &Entry,
-) -> Result<Reading, WorldError>
+pub fn prepare(meta: &mut Meta, reading: Reading, entry: &Entry) -> Result<Reading, WorldError>
     ensures same { meta.new.state ≡ meta.old.state }
     ensures handed { IfOk result (λ back. back ≡ reading) }
     ensures allowed { OnOk result (IsOk (answer_to reading meta.new.state entry.now)) }

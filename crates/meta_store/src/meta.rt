@@ -16,8 +16,8 @@ ghost use Rattle.meta_store.specs.Tasks.{task_of};
 
 use crate::checks::{
     check_first, check_moment, check_next, check_query, check_row_count, check_span_count,
-    check_task_count, check_upto, hand_back, may_mark_each, may_remove_each, may_retire_each, of_delta,
-    of_state,
+    check_task_count, check_upto, hand_back, may_mark_each, may_remove_each, may_retire_each,
+    of_delta, of_state,
 };
 use crate::config::{Config, Reading, Settings};
 use crate::refusal::Refusal;
@@ -215,7 +215,10 @@ impl Meta {
         match act {
             Act::Fence => Ok(reading),
             Act::Create { .. } => Err(Refusal::AlreadyCreated),
-            Act::Stage { number, delta, .. } => hand_back(reading, self.check_stage(*number, delta)),
+            Act::Stage { number, delta, .. } => hand_back(
+                reading,
+                self.check_stage(*number, delta),
+            ),
             Act::Publish { number } => hand_back(reading, self.check_publish(*number)),
             Act::Replace { new, old, upto } => {
                 hand_back(reading, self.check_replace(*new, old, *upto))
@@ -231,7 +234,10 @@ impl Meta {
                 self.check_removed(numbers, moment, settings.deletion_grace),
             ),
             Act::Retire { numbers } => {
-                hand_back(reading, self.check_retired(numbers, moment, settings.period))
+                hand_back(
+                    reading,
+                    self.check_retired(numbers, moment, settings.period),
+                )
             }
         }
     }
@@ -253,23 +259,13 @@ impl Meta {
     fn check_marked(&self, numbers: &Numbers, moment: u64, grace: u64) -> Result<(), Refusal>
         ensures { result ≡ in_state (answer_to_each (λ n. answer_to_mark self.now.state.rows n moment grace) numbers.now) }
     {
-        of_state(may_mark_each(
-            &self.rows,
-            numbers.as_slice(),
-            moment,
-            grace,
-        ))
+        of_state(may_mark_each(&self.rows, numbers.as_slice(), moment, grace))
     }
 
     fn check_removed(&self, numbers: &Numbers, moment: u64, grace: u64) -> Result<(), Refusal>
         ensures { result ≡ in_state (answer_to_each (λ n. answer_to_remove self.now.state.rows n moment grace) numbers.now) }
     {
-        of_state(may_remove_each(
-            &self.rows,
-            numbers.as_slice(),
-            moment,
-            grace,
-        ))
+        of_state(may_remove_each(&self.rows, numbers.as_slice(), moment, grace))
     }
 
     fn check_retired(
@@ -280,12 +276,7 @@ impl Meta {
     ) -> Result<(), Refusal>
         ensures { result ≡ in_state (answer_to_each (λ n. answer_to_retire self.now.state.rows n moment period) numbers.now) }
     {
-        of_state(may_retire_each(
-            &self.rows,
-            numbers.as_slice(),
-            moment,
-            period,
-        ))
+        of_state(may_retire_each(&self.rows, numbers.as_slice(), moment, period))
     }
 
     fn check_stage(&self, number: u64, delta: &Delta) -> Result<(), Refusal>

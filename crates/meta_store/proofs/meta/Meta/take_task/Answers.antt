@@ -24,7 +24,7 @@ invariant_of-self c =
 pub returns : goal.returns
 returns c text fields =
     let pushed : last_of c.add_reserved.new.self.list ≡ c.args.opstamp =
-        ap last_of c.add_reserved.ensures ∙ (last_push c.self.inside.tasks.list c.task_read.result ∙ ap (λ (t : DeleteTask). t.opstamp) c.task_read.ensures) in
+    ap last_of c.add_reserved.ensures ∙ (last_push c.self.inside.tasks.list c.task_read.result ∙ ap (λ (t : DeleteTask). t.opstamp) c.task_read.ensures) in
     let kept : c.add_reserved.new.self.list ≡ c.self.inside.tasks.list ++ task_of c.args.opstamp c.args.reading.query c.args.times ∷ [] =
-        c.add_reserved.ensures ∙ ap (λ (t : DeleteTask). c.self.inside.tasks.list ++ t ∷ []) c.task_read.ensures in
+    c.add_reserved.ensures ∙ ap (λ (t : DeleteTask). c.self.inside.tasks.list ++ t ∷ []) c.task_read.ensures in
     rw (pushed, kept, c.max-self-inside.ensures, ← c.self.view_is) refl
