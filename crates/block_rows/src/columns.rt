@@ -26,9 +26,7 @@ const SIGNED: [u8; 19] = [
 ];
 
 // False of document 0 and true of document 3, one bit each.
-const TRUTHS: [u8; 19] = [
-    2, 0, 0, 0, 0, 3, 0, 0, 0, 0, 0, 0, 0, 0, 0, 0, 0, 1, 0x02,
-];
+const TRUTHS: [u8; 19] = [2, 0, 0, 0, 0, 3, 0, 0, 0, 0, 0, 0, 0, 0, 0, 0, 0, 1, 0x02];
 
 // The seconds 0 and 1 since 1970, of the documents 0 and 3.
 const SECONDS: [u8; 19] = [
@@ -75,8 +73,24 @@ fn each_kind_is_encoded(rt: HostRuntime) -> Result<(), Fail> {
     let alloc = rt.alloc();
     assert!(rt; has_bytes(alloc, Kind::I64, Value::I64(-1), Value::I64(1), &SIGNED)?);
     assert!(rt; has_bytes(alloc, Kind::U64, Value::U64(0), Value::U64(u64::MAX), &WIDE)?);
-    assert!(rt; has_bytes(alloc, Kind::Bool, Value::Bool(false), Value::Bool(true), &TRUTHS)?);
-    assert!(rt; has_bytes(alloc, Kind::Datetime, Value::Datetime(0), Value::Datetime(1), &SECONDS)?);
+    assert!(rt;
+        has_bytes(
+            alloc,
+            Kind::Bool,
+            Value::Bool(false),
+            Value::Bool(true),
+            &TRUTHS
+        )?
+    );
+    assert!(rt;
+        has_bytes(
+            alloc,
+            Kind::Datetime,
+            Value::Datetime(0),
+            Value::Datetime(1),
+            &SECONDS
+        )?
+    );
     let first = Value::Text(Text::from_str(alloc, "b")?);
     let second = Value::Text(Text::from_str(alloc, "a")?);
     assert!(rt; has_bytes(alloc, Kind::Text, first, second, &TWO_TEXTS)?);

@@ -1,8 +1,6 @@
 //! What a line asks.
 
-use crate::dates;
-use crate::records;
-use crate::tokens;
+use crate::{dates, records, tokens};
 use std::alloc::{AllocError, Global};
 
 /// `config T` reads a configuration, `strict R` and `timed R` take in a record, `default T`, `whitespace T` and `raw T` cut a text

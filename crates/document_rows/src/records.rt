@@ -7,10 +7,12 @@ use std::alloc::{AllocError, Global};
 use std::str;
 
 /// Fields of each kind, in mode strict.
-pub const STRICT: &str = "index_id='all'\n[doc_mapping]\nmode='strict'\nfield_mappings=[{name='body',type='text'},{name='count',type='u64'},{name='done',type='bool'},{name='list',type='array<text>'},{name='number',type='i64'},{name='o',type='object',field_mappings=[{name='w',type='i64'},{name='p',type='object',field_mappings=[{name='w',type='text'}]}]},{name='spelled',type='datetime',input_formats=['rfc3339']},{name='ts',type='datetime'},{name='unix',type='datetime',input_formats=['unix_timestamp']}]";
+pub const STRICT: &str =
+    "index_id='all'\n[doc_mapping]\nmode='strict'\nfield_mappings=[{name='body',type='text'},{name='count',type='u64'},{name='done',type='bool'},{name='list',type='array<text>'},{name='number',type='i64'},{name='o',type='object',field_mappings=[{name='w',type='i64'},{name='p',type='object',field_mappings=[{name='w',type='text'}]}]},{name='spelled',type='datetime',input_formats=['rfc3339']},{name='ts',type='datetime'},{name='unix',type='datetime',input_formats=['unix_timestamp']}]";
 
 /// A timestamp field, in mode lenient.
-pub const TIMED: &str = "index_id='timed'\n[doc_mapping]\nmode='lenient'\ntimestamp_field='ts'\nfield_mappings=[{name='number',type='i64'},{name='ts',type='datetime',fast=true}]";
+pub const TIMED: &str =
+    "index_id='timed'\n[doc_mapping]\nmode='lenient'\ntimestamp_field='ts'\nfield_mappings=[{name='number',type='i64'},{name='ts',type='datetime',fast=true}]";
 
 /// Why a text is no configuration, or `ok`. A `~` of the line stands for a line feed of the text.
 pub fn configured(alloc: Global, line: &str) -> Result<String, AllocError> {

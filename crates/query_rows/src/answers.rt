@@ -57,7 +57,10 @@ fn found(alloc: Global, schema: &Schema, body: &str, text: &str) -> Result<Strin
     let doc = one_value(alloc, 0, Value::Text(Text::from_str(alloc, body)?))?;
     let defaults = FieldNumbers::from_slice(alloc, &[0])?;
     match read_query(alloc, schema, &defaults, text) {
-        Ok(query) => said(alloc, matches(alloc, schema, &copy_query(alloc, &query)?, &doc)?),
+        Ok(query) => said(
+            alloc,
+            matches(alloc, schema, &copy_query(alloc, &query)?, &doc)?,
+        ),
         Err(refusal) => refused(alloc, &refusal),
     }
 }
@@ -76,12 +79,24 @@ fn said(alloc: Global, holds: bool) -> Result<String, AllocError> {
 }
 
 fn tagged(alloc: Global, schema: &Schema, level: &str, text: &str) -> Result<String, AllocError> {
-    may_match(alloc, schema, 1, Bytes::from_slice(alloc, level.as_bytes())?, text)
+    may_match(
+        alloc,
+        schema,
+        1,
+        Bytes::from_slice(alloc, level.as_bytes())?,
+        text,
+    )
 }
 
 fn sized(alloc: Global, schema: &Schema, size: &str, text: &str) -> Result<String, AllocError> {
     let size = size.parse::<i64>().unwrap_or(0);
-    may_match(alloc, schema, 5, term_bytes(alloc, &Value::I64(size))?, text)
+    may_match(
+        alloc,
+        schema,
+        5,
+        term_bytes(alloc, &Value::I64(size))?,
+        text,
+    )
 }
 
 /// Whether a document may match that has this one term in a tag field.
