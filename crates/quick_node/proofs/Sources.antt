@@ -89,10 +89,10 @@ module _ (luck : indexing.Luck) (log : Log) (low : ℕ) where
   refused_quiet number (MomentBack given greatest) = refl
   refused_quiet number NotCreated = refl
   refused_quiet number AlreadyCreated = refl
-  refused_quiet number BadConfig = refl
+  refused_quiet number (BadConfig error) = refl
   refused_quiet number (NotNext given next) = refl
   refused_quiet number (State refusal) = refl
-  refused_quiet number BadTask = refl
+  refused_quiet number (BadTask error) = refl
   refused_quiet number (UptoAhead upto last) = refl
   refused_quiet number (TooManyTasks count) = refl
   refused_quiet number (TooManyRows count) = refl
