@@ -63,14 +63,6 @@ names_lie (c ∷ cs) name names e = by (names_lie cs (name_first cs).0 (name_fir
 abbrev pub IsTail : List ℕ → Type 0
 IsTail x = (x ≡ []) ⊎ ((rest : List ℕ) × (x ≡ 46 ∷ rest))
 
-dotted : {B : Type 0} (c : ℕ) (cs x : List ℕ) → has_dot (c ∷ cs) ≡ false → IsTail x → x ≡ c ∷ cs → B
-dotted c cs x h (inl none) e = absurd (let w : [] ≡ c ∷ cs = sym none ∙ e in cc)
-dotted c cs x h (inr tail) e =
-    let w : 46 ∷ tail.0 ≡ c ∷ cs = sym tail.1 ∙ e in
-    let dot : c ≡ 46 = cc in
-    let here : (c == 46) ≡ true = (unsigned_Decides c 46).1 dot in
-    absurd (let wrong : true ≡ false = rw here at h in cc)
-
 dotted_tail : {B : Type 0} (c : ℕ) (cs x y : List ℕ) → has_dot (c ∷ cs) ≡ false → IsTail x → x ≡ c ∷ (cs ++ y) → B
 dotted_tail c cs x y h (inl none) e = absurd (let w : [] ≡ c ∷ (cs ++ y) = sym none ∙ e in cc)
 dotted_tail c cs x y h (inr tail) e =

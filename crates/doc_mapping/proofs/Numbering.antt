@@ -33,10 +33,6 @@ values_below (p ∷ ps) least n h l = rw (apart p.number n (omega arith)) (value
 values_first : (p : DocField) (ps : List DocField) → values_at (p ∷ ps) p.number ≡ p.values
 values_first p ps = rw (same p.number) refl
 
-weaker : (parts : List DocField) (least lower : ℕ) → lower ≤ least → RiseFrom least parts → RiseFrom lower parts
-weaker [] least lower l h = tt
-weaker (p ∷ ps) least lower l h = (omega (arith, h.0), h.1, h.2)
-
 pub number_cases : (a b : ℕ) → (a ≡ b) ⊎ ((a < b) ⊎ (b < a))
 number_cases a b = elim (cases_Bool (a == b)) [
   | inl equal ↦ inl (grind (arith, nat_tests))
@@ -178,9 +174,6 @@ put_at n i vs old new some made high low h e =
       own = ap (λ xs. values_at xs n) made ∙ entered_own n vs (take i old) (drop i old) below;
       others = λ m other. ap (λ xs. values_at xs m) made ∙ entered_others n m vs (take i old) (drop i old) other ∙ ap (λ xs. values_at xs m) again;
     }
-
-pub put_none : (n : ℕ) (vs : List Value) (old : List DocField) → vs ≡ [] → RiseFrom 0 old → values_at old n ≡ [] → Enters n vs old old
-put_none n vs old none h e = record { rise = h; own = e ∙ sym none; others = λ m other. refl }
 
 abbrev pub HasLower : ℕ → List DocField → ℕ → Type 0
 HasLower n parts i = (i ≡ 0) ⊎ ((j : ℕ) × (p : DocField) × ((i ≡ suc j) × (slice_get parts j ≡ Some p) × (p.number ≤ n)))

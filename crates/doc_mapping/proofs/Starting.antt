@@ -74,14 +74,6 @@ pub record Parts (fields : List Field) (start : List ℕ) (low high : ℕ) : Typ
   pub below : (k : ℕ) (f : Field) → slice_get fields k ≡ Some f → k < low → IsBefore f.path start
   pub above : (k : ℕ) (f : Field) → slice_get fields k ≡ Some f → high ≤ k → slice_cmp nat_cmp f.path start ≢ Less
 
-pub parts_begun : (fields : List Field) (start : List ℕ) → Parts fields start 0 (length fields)
-parts_begun fields start = record {
-  ordered = omega arith;
-  fits = omega arith;
-  below = λ k f e l. absurd (omega arith);
-  above = λ k f e l. let w : k < length fields = slice_get_within fields k f e in absurd (omega arith);
-}
-
 is_less : (o : Ordering) → is_lt o ≡ true → o ≡ Less
 is_less Less e = refl
 is_less Equal e = absurd (let wrong : false ≡ true = e in cc)
