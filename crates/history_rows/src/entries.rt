@@ -45,7 +45,7 @@ pub fn act_of(
             text: Text::vacant(alloc),
             fields: Texts::vacant(alloc),
             times: TimeRange {
-                start: None,
+                start: start_of(numbers),
                 end: None,
             },
         },
@@ -58,6 +58,12 @@ pub fn act_of(
         _ => return Ok(None),
     };
     Ok(Some(act))
+}
+
+/// A Task's times begin at the second behind its opstamp, where one stands there.
+fn start_of(numbers: &[u64]) -> Option<i64> {
+    let start = numbers.get(2)?;
+    i64::try_from(*start).ok()
 }
 
 fn listed(alloc: Global, numbers: &[u64], from: usize) -> Result<Numbers, AllocError> {
