@@ -1,0 +1,5 @@
+pub mod Keys
+pub mod Building
+pub mod Reading
+pub mod Texts
+pub mod Entries

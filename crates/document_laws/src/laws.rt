@@ -1,0 +1,18 @@
+// Laws of printed documents, over the definitions alone.
+
+ghost use Rattle.std.specs.Prelude.{List};
+ghost use Rattle.doc_value.specs.Documents.{IsOfSchema};
+ghost use Rattle.doc_value.specs.Printed.{printed_doc};
+ghost use Rattle.doc_value.specs.declared.doc.DocField.{DocField};
+ghost use Rattle.doc_value.specs.declared.schema.Schema.{Schema};
+ghost use Rattle.document_laws.specs.ReadBack.{AllApart, AreShort, HasNumbers, HasRisingKeys, ReadsBack, paths_of};
+
+/// What is printed of a document of a schema, where no two of its fields have one path and none lies in another.
+pub fn printing_laws()
+    // The keys of each object rise.
+    ensures rise { (schema : Schema) (doc : List DocField) → IsOfSchema schema doc → AllApart (paths_of schema.fields doc) → HasNumbers doc →
+        HasRisingKeys (printed_doc schema doc) }
+    // Where no path has more than 126 names, it reads back.
+    ensures back { (schema : Schema) (doc : List DocField) → IsOfSchema schema doc → AllApart (paths_of schema.fields doc) → HasNumbers doc →
+        AreShort (paths_of schema.fields doc) → ReadsBack schema doc }
+{}
