@@ -3,7 +3,8 @@ use Rattle.std.proofs.Common.{◌≡◌, ◌≢◌, ◌⊎◌, inl, inr, ℕ, ze
 use Rattle.std.specs.Str.{bytes_eq}
 use Rattle.doc_value.specs.Documents.{IsBefore}
 use Rattle.serde_json.specs.Data.{Data, null, boolean, number, string, array, object, Members, no_members, member, depth, members_depth}
-use Rattle.document_laws.specs.ReadBack.{AreApart, value_at, IsLeaf}
+use Rattle.document_laws.specs.ReadBack.{AreApart, IsLeaf}
+use Rattle.doc_mapping.specs.Documents.{value_at}
 use Rattle.document_laws.proofs.Keys.{Order, before, same, behind, order, same-bytes, other-bytes, get-first, get-behind, get-later, get-none, Above, above-trans}
 
 -- the members of the first object, if it has that name, and what comes behind it
@@ -194,7 +195,7 @@ finds q n = go (order q n)
     go (behind h) = past_first (λ qs d ms. ap (option_and_then (value_at qs)) (get-later q n d ms h))
 
 -- nothing stands deeper in what is no object
-plain_value_at : (q : List ℕ) (qs : List (List ℕ)) (d : Data) → is_object d ≡ false → value_at (q ∷ qs) d ≡ None
+pub plain_value_at : (q : List ℕ) (qs : List (List ℕ)) (d : Data) → is_object d ≡ false → value_at (q ∷ qs) d ≡ None
 plain_value_at q qs null e = refl
 plain_value_at q qs (boolean b) e = refl
 plain_value_at q qs (number x) e = refl

@@ -12,7 +12,8 @@ use Rattle.doc_value.specs.Printed.{names_of, onto_first, row_of, rows_of, names
 use Rattle.doc_value.specs.declared.schema.Field.{Field}
 use Rattle.doc_value.specs.declared.doc.DocField.{DocField}
 use Rattle.doc_value.specs.declared.rows.Row.{Row}
-use Rattle.document_laws.specs.ReadBack.{AreApart, IsApartFrom, AllApart, AreShort, HasNumbers, path_before, paths_of, field_data, IsAt, Has, value_at, IsLeaf}
+use Rattle.document_laws.specs.ReadBack.{AreApart, IsApartFrom, AllApart, AreShort, HasNumbers, path_before, paths_of, field_data, IsAt, Has, IsLeaf}
+use Rattle.doc_mapping.specs.Documents.{value_at}
 use Rattle.document_laws.proofs.Keys.{same-key, turned}
 use Rattle.document_laws.proofs.Building.{with_data, Precedes, IsPathBefore, precedes-next, AreOrdered, plain_value, none_ordered, with_ordered, with_depth, with_has, with_apart, IsThis, Either, Stands, with_only}
 use Rattle.document_laws.proofs.Reading.{IsReadable, IsFlat, field_back, field_flat}
@@ -99,7 +100,7 @@ onto_some : (c : ℕ) (names : List (List ℕ)) → onto_first c names ≢ []
 onto_some c [] e = absurd (cc)
 onto_some c (n ∷ ns) e = absurd (cc)
 
-names_some : (path : List ℕ) → names_of path ≢ []
+pub names_some : (path : List ℕ) → names_of path ≢ []
 names_some [] e = absurd (let y : [] ∷ [] ≡ [] = e in cc)
 names_some (c ∷ cs) e = go (nat_eq c 46) e
   where

@@ -3,3 +3,5 @@ pub mod Building
 pub mod Reading
 pub mod Texts
 pub mod Entries
+pub mod Whole
+pub mod Recorded

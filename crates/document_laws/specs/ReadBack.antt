@@ -1,10 +1,10 @@
 -- What the JSON that is printed of a document reads as.
-use Rattle.std.specs.Prelude.{◌≡◌, ◌⊎◌, ℕ, ◌^◌, ◌<◌, ◌≤◌, List, [], ◌∷◌, length, slice_get, MatchOption, Option, Some, None, option_and_then, ℤ, pos, negsuc}
+use Rattle.std.specs.Prelude.{◌≡◌, ◌⊎◌, ℕ, ◌^◌, ◌<◌, ◌≤◌, List, [], ◌∷◌, length, slice_get, MatchOption, Option, Some, None, ℤ, pos, negsuc}
 use Rattle.json.specs.Json as json
 use Rattle.json.specs.Lex.{tokens}
 use Rattle.json.specs.Tree.{json_tokens}
 use Rattle.serde_json.specs.Data.{Data, null, boolean, number, string, array, object, Items, no_items, item, Members, member, unsigned}
-use Rattle.serde_json.specs.Find.{get, of_integer}
+use Rattle.serde_json.specs.Find.{of_integer}
 use Rattle.serde_json.specs.Read.{read}
 use Rattle.doc_value.specs.Documents.{IsBefore}
 use Rattle.doc_value.specs.Printed.{names_of, printed_doc}
@@ -15,6 +15,7 @@ use Rattle.doc_value.specs.declared.schema.Schema.{Schema}
 use Rattle.doc_value.specs.declared.doc.Value.{Value}
 use Rattle.doc_value.specs.declared.doc.Value.TheVariants as values
 use Rattle.doc_value.specs.declared.doc.DocField.{DocField}
+use Rattle.doc_mapping.specs.Documents.{value_at}
 
 -- ---- which documents
 
@@ -137,11 +138,6 @@ IsAt names d vs f = (names_of f.path ≡ names) × (field_data f.kind vs ≡ d)
 abbrev pub Has : List Field → List DocField → List (List ℕ) → Data → Type 0
 Has fields [] names d = ⊥
 Has fields (part ∷ parts) names d = MatchOption (slice_get fields part.number) ⊥ (IsAt names d part.values) ⊎ Has fields parts names d
-
--- what stands in a value behind these names
-abbrev pub value_at : List (List ℕ) → Data → Option Data
-value_at [] d = Some d
-value_at (name ∷ names) d = option_and_then (value_at names) (get name d)
 
 -- no object, or an empty one
 abbrev pub IsLeaf : Data → Type 0

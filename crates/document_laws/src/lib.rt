@@ -3,4 +3,4 @@
 
 mod laws;
 
-pub use laws::printing_laws;
+pub use laws::{printing_laws, record_laws};
