@@ -28,7 +28,8 @@ use Rattle.query_reader.proofs.Rows.{count}
 use Rattle.query_laws.proofs.Words.{WordRead, word_reads, Delimited, at_end, at_blank, at_close, word_delimited, word_star, word_colon, quote_shown, quote_closes, quote_behind}
 use Rattle.query_laws.proofs.Edges.{edge_bytes, bound_at, ItemText, item_bytes, member_at, rest_bytes, all_bytes, rest_members, all_members, set_bytes, set_shown, range_bytes, range_shown, high_from, begins, shut}
 use Rattle.query_laws.proofs.Spelling.{word_at, quote_at, is_closed, edge_spelled, item_spelled}
-use Rattle.query_laws.proofs.Readable.{HasFirst, IsAsked, IsEdgeOf, AreItemsOf, no_items, more_items, Readable, r_all, r_word, r_quoted, r_prefix, r_exists, r_range, r_set, r_not, r_and, r_or, AreReadable, r_none, r_more, size}
+use Rattle.query_laws.proofs.Readable.{HasFirst, IsAsked, IsEdgeOf, AreItemsOf, no_items, more_items, Readable, r_all, r_word, r_quoted, r_prefix, r_exists, r_range, r_set, r_not, r_and, r_or, AreReadable, r_none, r_more}
+use Rattle.query_laws.proofs.Formed.{size}
 
 -- the members of a set
 pub record SpellsItems (f : Field) (is : List Item) : Type 0 where

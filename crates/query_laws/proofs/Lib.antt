@@ -5,7 +5,9 @@ pub mod Sound
 pub mod Words
 pub mod Edges
 pub mod Digits
+pub mod Formed
 pub mod Readable
 pub mod Spelling
 pub mod Back
 pub mod Deep
+pub mod Fitting

@@ -2,6 +2,8 @@
 
 ghost use Rattle.std.specs.Prelude.{◌≡◌, ◌↔◌, ◌<◌, ◌≤◌, ℕ, List, Ok, Err};
 ghost use Rattle.doc_value.specs.declared.schema.Field.{Field};
+ghost use Rattle.doc_value.specs.declared.schema.Schema.{Schema};
+ghost use Rattle.query_ast.specs.Queries.{IsQueryOf};
 ghost use Rattle.query_ast.specs.Sought.{Sought};
 ghost use Rattle.query_reader.specs.Grammar.{IsQuery, IsLongestFront, IsTooDeepAt};
 ghost use Rattle.query_reader.specs.Machine.{reads};
@@ -32,4 +34,10 @@ pub fn printing_laws()
     // Where they stand deeper, it is too deep.
     ensures deep { (fields : List Field) (defaults others text shown : List ℕ) (q : Sought) → IsPrintedOf fields defaults text q shown →
         64 < nesting q → (at : ℕ) × (query_of fields others shown ≡ Err (TooDeep at)) }
+{}
+
+/// A query that was read is of the schema that it was read for, whatever the default fields are.
+pub fn schema_laws()
+    // Its fields stand in the schema, its texts, members and edges are values of them, and And and Or have two members or more.
+    ensures { (schema : Schema) (defaults text : List ℕ) (q : Sought) → query_of schema.fields defaults text ≡ Ok q → IsQueryOf schema q }
 {}
