@@ -12,6 +12,7 @@ pub mod Bad
 pub mod Answered
 pub mod Zips
 pub mod Names
+pub mod Places
 pub mod Telling
 pub mod Parts
 pub mod StillCalls

@@ -1,14 +1,14 @@
 -- Clients by name, and their searchers.
-use Rattle.std.proofs.Common.{◌≡◌, ℕ, zero, suc, ◌<◌, List, [], ◌∷◌, ◌++◌, length, get_or, refl, sym, ap, ◌∙◌, subst, arith, Bool, true, false, not}
+use Rattle.std.proofs.Common.{◌≡◌, ℕ, zero, suc, List, [], ◌∷◌, ◌++◌, length, get_or, refl, sym, ap, ◌∙◌, subst, Bool, true, false, not}
 use Rattle.std.proofs.lemmas.Slice.Eq.{bytes_eq-Decides}
-use Rattle.std.specs.List.{AllZip, list_any}
-use Rattle.std.specs.Prelude.{Option, Some, None, IfSome, IfNone, is_some, slice_set, bytes_eq, ◌||◌, if◌then◌else◌}
+use Rattle.std.specs.List.{AllByRecursion, AllZip, list_any}
+use Rattle.std.specs.Prelude.{Option, Some, None, is_some, slice_set, bytes_eq, ◌||◌, if◌then◌else◌}
 use Rattle.source_log.specs.Log.{Log}
 use Rattle.index_world.specs.Core.{Core}
 use Rattle.root_search.specs.Steps.{Client, no_request, without_request}
 use Rattle.root_search.specs.Searching.{SearcherStands}
 use Rattle.root_search.specs.declared.searcher.Searcher.{Searcher}
-use Rattle.node_run.specs.Named.{NamedAt, IsUnknown, NotAmongFirst}
+use Rattle.node_run.specs.Named.{NamedAt}
 use Rattle.node_run.specs.Turns.{client_named, with_client, fresh_client, with_dropped}
 
 pub true_false : {P : Type 0} → true ≡ false → P
@@ -66,6 +66,10 @@ kept_by_request name (m ∷ ms) busy = by (bytes_eq m.name name) refl (kept_by_r
       ∙ ap (λ l. m ∷ l) (again b)
 
 -- ---- searchers by name
+
+-- none has this name
+abbrev pub IsUnknown : List ℕ → List Searcher → Type 0
+IsUnknown name searchers = AllByRecursion (λ searcher. searcher.client ≡ name → ⊥) searchers
 
 module _ (core : Core) (log : Log) where
   abbrev pub Stand : Searcher → Client → Type 0
@@ -162,37 +166,11 @@ named_dropped core log name (s ∷ ss) (m ∷ ms) (suc i) at z =
     ∙ ap (λ (t : Bool). if t then without_request (client_named name ms) ∷ ms else m ∷ with_client (without_request (client_named name ms)) ms)
     (ap (bytes_eq m.name) (named_name name ms) ∙ other))
 
--- ---- the search for a name
-
-pub none_before : (name : List ℕ) (ss : List Searcher) → NotAmongFirst name ss 0
-none_before name ss = tt
-
-pub one_more_not : (name : List ℕ) (ss : List Searcher) (i : ℕ) (s : Searcher) → NotAmongFirst name ss i → s ≡ get_or ss i s → (s.client ≡ name → ⊥) →
-    NotAmongFirst name ss (suc i)
-one_more_not name [] zero s n e other = tt
-one_more_not name [] (suc i) s n e other = tt
-one_more_not name (t ∷ ss) zero s n e other = ((λ h. other (ap (λ x. x.client) e ∙ h)), tt)
-one_more_not name (t ∷ ss) (suc i) s n e other = (n.0, one_more_not name ss i s n.1 e other)
-
-pub found_at : (name : List ℕ) (ss : List Searcher) (i : ℕ) (s : Searcher) → NotAmongFirst name ss i → i < length ss → s ≡ get_or ss i s → s.client ≡ name →
-    NamedAt name ss i
-found_at name [] i s n h e is = absurd (omega (arith, h))
-found_at name (t ∷ ss) zero s n h e is = sym (ap (λ x. x.client) e) ∙ is
-found_at name (t ∷ ss) (suc i) s n h e is = (n.0, found_at name ss i s n.1 (omega (arith, h)) e is)
-
-pub none_at_all : (name : List ℕ) (ss : List Searcher) (i : ℕ) → NotAmongFirst name ss i → length ss ≡ i → IsUnknown name ss
-none_at_all name [] i n e = tt
-none_at_all name (t ∷ ss) zero n e = absurd (omega (arith, e))
-none_at_all name (t ∷ ss) (suc i) n e = (n.0, none_at_all name ss i n.1 (omega (arith, e)))
+-- ---- places
 
 pub pushed_at : (name : List ℕ) (ss : List Searcher) (s : Searcher) → IsUnknown name ss → s.client ≡ name → NamedAt name (ss ++ s ∷ []) (length ss)
 pushed_at name [] s un e = e
 pushed_at name (t ∷ ss) s un e = (un.0, pushed_at name ss s un.1 e)
-
-pub named_below : (name : List ℕ) (ss : List Searcher) (i : ℕ) → NamedAt name ss i → i < length ss
-named_below name [] i at = absurd at
-named_below name (s ∷ ss) zero at = omega arith
-named_below name (s ∷ ss) (suc i) at = let h = named_below name ss i at.1 in omega (arith, h)
 
 -- the searcher of a client that is known by now
 pub known_one : (core : Core) (log : Log) (name : List ℕ) (known : List Searcher) (ms : List Client) (place : ℕ) (s : Searcher) → NamedAt name known place →
@@ -221,10 +199,10 @@ known_any core log name (s ∷ ss) (m ∷ ms) (suc i) at z =
     ap (λ (b : Bool). b || list_any (λ client. bytes_eq client.name name) ms) (is_false m.name name (λ e. at.0 (z.0.name ∙ e)))
     ∙ known_any core log name ss ms i at.1 z.1
 
-pub none_unknown : (o : Option ℕ) (P : Type 0) → is_some o ≡ false → IfNone o P → P
-none_unknown None P e none = none
-none_unknown (Some i) P e none = true_false e
+pub none_is : (o : Option ℕ) → is_some o ≡ false → o ≡ None
+none_is None e = refl
+none_is (Some i) e = true_false e
 
-pub some_known : (o : Option ℕ) (b : Bool) (P : ℕ → Type 0) → is_some o ≡ not b → b ≡ false → IfSome o P → (i : ℕ) × P i
-some_known None b P e off some = true_false (sym (e ∙ ap not off))
-some_known (Some i) b P e off some = (i, some)
+pub some_is : (o : Option ℕ) (b : Bool) → is_some o ≡ not b → b ≡ false → (i : ℕ) × (o ≡ Some i)
+some_is None b e off = true_false (sym (e ∙ ap not off))
+some_is (Some i) b e off = (i, refl)

@@ -42,12 +42,13 @@ use Rattle.root_search.specs.declared.searcher.Searcher.{Searcher}
 use Rattle.node_run.specs.declared.drive.DriveNode.{DriveNode}
 use Rattle.node_run.specs.declared.out_line.OutLine.{OutLine}
 use Rattle.node_run.specs.Lines.{outcome_text}
-use Rattle.node_run.specs.Named.{NamedAt}
+use Rattle.node_run.specs.Named.{NamedAt, names_of, HasPlaces}
 use Rattle.node_run.specs.Node.{Node, Line, At, Assign, StepIndexer, RestartIndexer, RestartClient, RestartNode, Open, StepClient, Outcome, request_busy, assigned, indexer_busy, node_failed, world_fault, no_index}
 use Rattle.node_run.specs.Standing.{PartsStand, NodeStands, DoesMost, DoesLine, HoldApart}
 use Rattle.node_run.specs.Turns.{restart_by, Luck, calm, Turn, Turned, turned, full_turn, quiet, assign_at, with_indexer, indexer_at, made_idle, client_named, with_client, keep_client, stopped, restarted, indexer_stepped, client_stepped, indexer_turn_by, client_turn_by, said_by_indexer, said_by_client, open_by}
 use Rattle.node_run.proofs.Telling.{stands_own}
 use Rattle.node_run.proofs.Names.{with_with, named_set}
+use Rattle.node_run.proofs.Places.{names_with, names_without}
 use Rattle.node_run.proofs.Moving.{indexer_moves, client_moves, loaded_moves}
 use Rattle.node_run.proofs.Zips.{zip_length, zip_weaker, zip_set, zip_at, zip_right, map_set, map_at, others_apart, zip_step, new_apart, idle_apart, idle_all_apart, same_apart, other_of}
 
@@ -102,8 +103,8 @@ staged_of {L} told count reader indexer core log n s held = by reader.place s.pl
       subst (λ m. has_staged (journal_of core) m ≡ true) (some_same p.0.number n (sym (ap number_held p.1) ∙ held)) p.3.uploaded.staged
 
 module _ {L : Type 0} (told : L → Option Log) (count : L → ℕ) (since : L → L → Type 0) (on_then : (a b c : L) → since a b → since b c → since a c) (firsts : List L)
-    (world : Keeping) (readers : List (Reader L)) (searchers : List Searcher) (clock : ℕ) (down : Bool) (node : Node)
-    (p : PartsStand told count since firsts world readers searchers clock down node) where
+    (world : Keeping) (readers : List (Reader L)) (searchers : List Searcher) (places : List (List ℕ × ℕ)) (clock : ℕ) (down : Bool) (node : Node)
+    (p : PartsStand told count since firsts world readers searchers places clock down node) where
   abbrev R : Reader L → Indexer → Type 0
   R reader indexer = IndexerStands told count reader indexer node.core node.log
 
@@ -119,7 +120,7 @@ module _ {L : Type 0} (told : L → Option Log) (count : L → ℕ) (since : L �
   -- it is made idle
   pub idle_parts : (i : ℕ) (old new : Reader L) → i < length readers → old ≡ get_or readers i old → since old.log new.log →
       ((indexer : Indexer) (core after : Core) (read : Log) → IndexerStands told count old indexer core read → IndexerStands told count new (made_idle indexer) after read) →
-      PartsStand told count since firsts world (slice_set readers i new) searchers clock down (with_indexer i (made_idle (indexer_at node.indexers i)) node)
+      PartsStand told count since firsts world (slice_set readers i new) searchers places clock down (with_indexer i (made_idle (indexer_at node.indexers i)) node)
   idle_parts i old new h e on again =
       record {
         world_stands = p.world_stands;
@@ -131,13 +132,14 @@ module _ {L : Type 0} (told : L → Option Log) (count : L → ℕ) (since : L �
             (zip_at R readers node.indexers i old p.indexers h e));
         apart = idle_apart node.indexers i (indexer_at node.indexers i) p.apart;
         clients = p.clients;
+        placed = p.placed;
         later = later_set i old new e on;
       }
 
   -- it stands for another one with the same place
   pub placed_parts : (i : ℕ) (old new : Reader L) (after : Indexer) → i < length readers → old ≡ get_or readers i old → since old.log new.log →
       after.place ≡ (indexer_at node.indexers i).place → IndexerStands told count new after node.core node.log →
-      PartsStand told count since firsts world (slice_set readers i new) searchers clock down (with_indexer i after node)
+      PartsStand told count since firsts world (slice_set readers i new) searchers places clock down (with_indexer i after node)
   placed_parts i old new after h e on same stands =
       record {
         world_stands = p.world_stands;
@@ -148,13 +150,14 @@ module _ {L : Type 0} (told : L → Option Log) (count : L → ℕ) (since : L �
         apart = same_apart node.indexers i after
             (subst (λ n. i < n) (zip_length R readers node.indexers p.indexers) h) same p.apart;
         clients = p.clients;
+        placed = p.placed;
         later = later_set i old new e on;
       }
 
   -- it took a step
   pub stepped_parts : (i : ℕ) (old new : Reader L) (world' : Keeping) (result : Result Said AllocError) → i < length readers → old ≡ get_or readers i old →
       since old.log new.log → (s : StepsAs told count WorldStands NoneBetween result (indexer_at node.indexers i) node.core node.log new world') →
-      PartsStand told count since firsts world' (slice_set readers i new) searchers clock down (record (with_indexer i s.after node) { core = s.behind })
+      PartsStand told count since firsts world' (slice_set readers i new) searchers places clock down (record (with_indexer i s.after node) { core = s.behind })
   stepped_parts i old new world' result h e on s =
       let apart = others_apart node.indexers i p.apart (subst (λ n. i < n) (zip_length R readers node.indexers p.indexers) h) in
       record {
@@ -170,16 +173,17 @@ module _ {L : Type 0} (told : L → Option Log) (count : L → ℕ) (since : L �
             off n (s.apart n (staged_of told count reader indexer node.core node.log n stands at_other) at_after) at_other);
         clients = zip_weaker C (λ searcher client. SearcherStands searcher client s.behind node.log)
             searchers node.clients (λ searcher client stands. searcher_goes_on (number_held (indexer_at node.indexers i).place) searcher client node.core s.behind node.log s.goes_on stands) p.clients;
+        placed = p.placed;
         later = later_set i old new e on;
       }
 
   -- ---- a client changes
 
   -- of a list of searchers in which it is known, one is changed
-  pub client_parts : (name : List ℕ) (known : List Searcher) (m c : Client) (place : ℕ) (searcher : Searcher) → m.name ≡ name → c.name ≡ name →
-      AllZip C known (with_client m node.clients) → NamedAt name known place → SearcherStands searcher c node.core node.log →
-      PartsStand told count since firsts world readers (slice_set known place searcher) clock down (keep_client c node)
-  client_parts name known m c place searcher em ec zip at stands =
+  pub client_parts : (name : List ℕ) (known : List Searcher) (found : List (List ℕ × ℕ)) (m c : Client) (place : ℕ) (searcher : Searcher) → m.name ≡ name → c.name ≡ name →
+      AllZip C known (with_client m node.clients) → HasPlaces found (names_of (with_client m node.clients)) → NamedAt name known place → SearcherStands searcher c node.core node.log →
+      PartsStand told count since firsts world readers (slice_set known place searcher) found clock down (keep_client c node)
+  client_parts name known found m c place searcher em ec zip has at stands =
       record {
         world_stands = p.world_stands;
         is_log = p.is_log;
@@ -189,13 +193,14 @@ module _ {L : Type 0} (told : L → Option Log) (count : L → ℕ) (since : L �
         apart = p.apart;
         clients = subst (λ (l : List Client). AllZip C (slice_set known place searcher) l) (with_with c m node.clients (ec ∙ sym em))
             (named_set node.core node.core node.log name known (with_client m node.clients) place searcher c (λ t n w. w) ec at zip stands);
+        placed = subst (HasPlaces found) (names_with m c node.clients (em ∙ sym ec)) has;
         later = p.later;
       }
 
   -- none is changed
-  pub known_parts : (known : List Searcher) (ms : List Client) → AllZip C known ms →
-      PartsStand told count since firsts world readers known clock down (record node { clients = ms })
-  known_parts known ms zip =
+  pub known_parts : (known : List Searcher) (found : List (List ℕ × ℕ)) (ms : List Client) → AllZip C known ms → HasPlaces found (names_of ms) →
+      PartsStand told count since firsts world readers known found clock down (record node { clients = ms })
+  known_parts known found ms zip has =
       record {
         world_stands = p.world_stands;
         is_log = p.is_log;
@@ -204,22 +209,23 @@ module _ {L : Type 0} (told : L → Option Log) (count : L → ℕ) (since : L �
         indexers = p.indexers;
         apart = p.apart;
         clients = zip;
+        placed = has;
         later = p.later;
       }
 
   -- a client that was known stays as it was
-  pub same_parts : (searchers' : List Searcher) (ms : List Client) → ms ≡ node.clients →
-      PartsStand told count since firsts world readers searchers' clock down (record node { clients = ms }) →
-      PartsStand told count since firsts world readers searchers' clock down node
-  same_parts searchers' ms e q =
-      subst (λ (ns : List Client). PartsStand told count since firsts world readers searchers' clock down (record node { clients = ns })) e q
+  pub same_parts : (searchers' : List Searcher) (places' : List (List ℕ × ℕ)) (ms : List Client) → ms ≡ node.clients →
+      PartsStand told count since firsts world readers searchers' places' clock down (record node { clients = ms }) →
+      PartsStand told count since firsts world readers searchers' places' clock down node
+  same_parts searchers' places' ms e q =
+      subst (λ (ns : List Client). PartsStand told count since firsts world readers searchers' places' clock down (record node { clients = ns })) e q
 
   -- it took a step
-  pub searched_parts : (name : List ℕ) (known : List Searcher) (m : Client) (place : ℕ) (new : Searcher) (world' : Keeping) (result : Result GivenStep AllocError) →
-      m.name ≡ name → AllZip C known (with_client m node.clients) → NamedAt name known place →
+  pub searched_parts : (name : List ℕ) (known : List Searcher) (found : List (List ℕ × ℕ)) (m : Client) (place : ℕ) (new : Searcher) (world' : Keeping) (result : Result GivenStep AllocError) →
+      m.name ≡ name → AllZip C known (with_client m node.clients) → HasPlaces found (names_of (with_client m node.clients)) → NamedAt name known place →
       (s : SearchesAs WorldStands NoneBetween result new world' m node.core node.log) → s.later.name ≡ name →
-      PartsStand told count since firsts world' readers (slice_set known place new) clock down (record (keep_client s.later node) { core = s.after })
-  searched_parts name known m place new world' result em zip at s el =
+      PartsStand told count since firsts world' readers (slice_set known place new) found clock down (record (keep_client s.later node) { core = s.after })
+  searched_parts name known found m place new world' result em zip has at s el =
       record {
         world_stands = s.gate_stands;
         is_log = p.is_log;
@@ -232,13 +238,14 @@ module _ {L : Type 0} (told : L → Option Log) (count : L → ℕ) (since : L �
             (with_with s.later m node.clients (el ∙ sym em))
             (named_set node.core s.after node.log name known (with_client m node.clients) place new s.later
             (λ t n w. searcher_goes_on None t n node.core s.after node.log s.goes_on w) el at zip s.searcher);
+        placed = subst (HasPlaces found) (names_with m s.later node.clients (em ∙ sym el)) has;
         later = p.later;
       }
 
   -- ---- the clock is set
 
   pub clock_parts : (moment : ℕ) (world' : Keeping) → WorldStands world' (record (node.core) { clock = moment }) node.log →
-      PartsStand told count since firsts world' readers searchers moment down (record node { core = record (node.core) { clock = moment } })
+      PartsStand told count since firsts world' readers searchers places moment down (record node { core = record (node.core) { clock = moment } })
   clock_parts moment world' stands =
       record {
         world_stands = stands;
@@ -251,6 +258,7 @@ module _ {L : Type 0} (told : L → Option Log) (count : L → ℕ) (since : L �
         apart = p.apart;
         clients = zip_weaker C (λ searcher client. SearcherStands searcher client (record (node.core) { clock = moment }) node.log) searchers node.clients
             (λ searcher client w. searcher_goes_on None searcher client node.core (record (node.core) { clock = moment }) node.log (clock_on node.core moment) w) p.clients;
+        placed = p.placed;
         later = p.later;
       }
 
@@ -260,7 +268,7 @@ module _ {L : Type 0} (told : L → Option Log) (count : L → ℕ) (since : L �
       WorldStands world' core node.log → map (λ reader. reader.log) readers' ≡ map (λ reader. reader.log) readers →
       AllZip (λ reader indexer. IndexerStands told count reader indexer core node.log) readers' (map made_idle node.indexers) →
       AllZip (λ searcher client. SearcherStands searcher client core node.log) searchers' (map without_request node.clients) →
-      PartsStand told count since firsts world' readers' searchers' clock down' (record (restarted node) { core = core; down = down' })
+      PartsStand told count since firsts world' readers' searchers' places clock down' (record (restarted node) { core = core; down = down' })
   stopped_parts readers' searchers' world' down' core same stands logs indexers clients =
       record {
         world_stands = stands;
@@ -270,6 +278,7 @@ module _ {L : Type 0} (told : L → Option Log) (count : L → ℕ) (since : L �
         indexers = indexers;
         apart = idle_all_apart node.indexers;
         clients = clients;
+        placed = subst (HasPlaces places) (sym (names_without node.clients)) p.placed;
         later = subst (λ (l : List L). AllZip since firsts l) (sym logs) p.later;
       }
 
@@ -508,10 +517,10 @@ all_without_over (s ∷ searchers) (c ∷ clients) core after log z =
 
 -- a stopped node whose world was loaded, or stayed
 pub loaded_parts : {L : Type 0} (told : L → Option Log) (count : L → ℕ) (since : L → L → Type 0) (firsts : List L) (world world' : Keeping) (readers : List (Reader L))
-    (searchers : List Searcher) (clock : ℕ) (down kept_down down' : Bool) (node : Node) (after : Core) (fate : Fate) (answer : Result ⊤ Unread) →
-    PartsStand told count since firsts world readers searchers clock down (stopped node.core node) → loaded fate node.core ≡ gives answer after →
-    WorldStands world' after node.log → kept_down ≡ down' → PartsStand told count since firsts world' readers searchers clock kept_down (record (restarted node) { core = after; down = down' })
-loaded_parts told count since firsts world world' readers searchers clock down kept_down down' node after fate answer p did stands same =
+    (searchers : List Searcher) (places : List (List ℕ × ℕ)) (clock : ℕ) (down kept_down down' : Bool) (node : Node) (after : Core) (fate : Fate) (answer : Result ⊤ Unread) →
+    PartsStand told count since firsts world readers searchers places clock down (stopped node.core node) → loaded fate node.core ≡ gives answer after →
+    WorldStands world' after node.log → kept_down ≡ down' → PartsStand told count since firsts world' readers searchers places clock kept_down (record (restarted node) { core = after; down = down' })
+loaded_parts told count since firsts world world' readers searchers places clock down kept_down down' node after fate answer p did stands same =
     record {
       world_stands = stands;
       is_log = p.is_log;
@@ -520,6 +529,7 @@ loaded_parts told count since firsts world world' readers searchers clock down k
       indexers = all_idle_over told count readers node.indexers node.core after node.log p.indexers;
       apart = p.apart;
       clients = all_without_over searchers node.clients node.core after node.log p.clients;
+      placed = p.placed;
       later = p.later;
     }
 

@@ -39,7 +39,7 @@ module _ {L : Type 0} (told : L → Option Log) (count : L → ℕ) (since : L �
 
   pub fresh_parts : (logs : List L) (readers : List (Reader L)) (world : Keeping) (core : Core) (log : Log) → AllZip (IsFresh told count) logs readers →
       WorldStands world core log → core.clock ≡ 0 → IsLog log → All (λ l. told l ≡ Some log) logs →
-      PartsStand told count since logs world readers [] 0 false (fresh_node core log (map count logs))
+      PartsStand told count since logs world readers [] [] 0 false (fresh_node core log (map count logs))
   fresh_parts logs readers world core log z w clock is h =
       record {
         world_stands = w;
@@ -49,5 +49,6 @@ module _ {L : Type 0} (told : L → Option Log) (count : L → ℕ) (since : L �
         indexers = fresh_stand logs readers core log z h;
         apart = fresh_apart (map count logs);
         clients = tt;
+        placed = λ name. refl;
         later = fresh_later logs readers z;
       }

@@ -17,6 +17,7 @@ use Rattle.node_run.specs.declared.drive.Accepts.TheVariants as accepts
 use Rattle.node_run.specs.declared.drive.DriveNode.{DriveNode}
 use Rattle.node_run.specs.declared.out_line.OutLine.{OutLine}
 use Rattle.node_run.specs.Lines.{outcome_text}
+use Rattle.node_run.specs.Named.{names_of, HasPlaces}
 use Rattle.node_run.specs.Node.{Node, Line, At, Assign, StepIndexer, RestartIndexer, RestartClient, RestartNode, Open, StepClient, Outcome}
 use Rattle.node_run.specs.Telling.{LineMayTell}
 use Rattle.node_run.specs.Turns.{Luck, Turn, Turned, turned, full_turn, reader_of}
@@ -31,7 +32,7 @@ AllApart (indexer ∷ indexers) = AllByRecursion (HoldApart indexer) indexers ×
 
 -- The parts of a node of the code stand for this one. `firsts` are its logs as they were handed in.
 pub record PartsStand {L : Type 0} (told : L → Option Log) (count : L → ℕ) (since : L → L → Type 0) (firsts : List L)
-    (world : Keeping) (readers : List (Reader L)) (searchers : List Searcher) (clock : ℕ) (is_down : Bool) (node : Node) : Type 0 where
+    (world : Keeping) (readers : List (Reader L)) (searchers : List Searcher) (places : List (List ℕ × ℕ)) (clock : ℕ) (is_down : Bool) (node : Node) : Type 0 where
   pub world_stands : WorldStands world node.core node.log
   pub is_log : IsLog node.log
   pub moment : clock ≡ node.core.clock
@@ -40,6 +41,7 @@ pub record PartsStand {L : Type 0} (told : L → Option Log) (count : L → ℕ)
   pub apart : AllApart node.indexers
   -- in the order in which lines named them
   pub clients : AllZip (λ searcher client. SearcherStands searcher client node.core node.log) searchers node.clients
+  pub placed : HasPlaces places (names_of node.clients)
   pub later : AllZip since firsts (map (λ reader. reader.log) readers)
 
 -- a reader of this log that was started and has done nothing
@@ -50,7 +52,7 @@ IsFresh told count log reader =
 -- a node of the code stands for this one
 abbrev pub NodeStands : {S L : Type 0} → (L → Option Log) → (L → ℕ) → (L → L → Type 0) → List L → DriveNode S L → Node → Type 0
 NodeStands {S} {L} told count since firsts drive node =
-    PartsStand told count since firsts drive.world drive.indexers.items drive.clients.items drive.moment drive.down node
+    PartsStand told count since firsts drive.world drive.indexers.items drive.clients.items drive.places.entries drive.moment drive.down node
 
 -- ---- start
 

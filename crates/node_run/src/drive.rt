@@ -1,6 +1,6 @@
 //! A node that takes the lines of a schedule one at a time.
 
-ghost use Rattle.std.specs.Prelude.{◌++◌, ◌∷◌, [], ◌+◌, vec_capacity, ◌≡◌, ◌<◌, ◌≤◌, ◌^◌, vec_len, length, List, All, map, min, sum, ℕ, IfOk, IfErr, IfSome, IfNone, IsErr, OnOk, OnErr, Some, None, true, false};
+ghost use Rattle.std.specs.Prelude.{◌++◌, ◌∷◌, [], ◌+◌, vec_capacity, ◌≡◌, ◌<◌, ◌≤◌, ◌^◌, vec_len, length, List, All, map, min, sum, ℕ, IfOk, IfErr, IfSome, IfNone, IsErr, OnErr, Some, None, true, false};
 ghost use Rattle.std.specs.List.{AllZip};
 ghost use Rattle.source_log.specs.Log.{Log, IsLog};
 ghost use Rattle.index_world.specs.Calls.{Fault, faulted, no_memory, not_read, no_index};
@@ -17,15 +17,16 @@ ghost use Rattle.node_run.specs.Calm.{log_counts};
 ghost use Rattle.node_run.specs.Fitting.{IsNumbered, IsYes};
 ghost use Rattle.node_run.specs.Lines.{IsWellFormed, AreNames, outcome_text};
 ghost use Rattle.node_run.specs.Logs.{logs_in};
-ghost use Rattle.node_run.specs.Named.{NamedAt, IsUnknown};
+ghost use Rattle.node_run.specs.Named.{place_in, names_of, HasPlaces, IsKnown};
 ghost use Rattle.node_run.specs.Node.{Node};
 ghost use Rattle.node_run.specs.Node as said;
 ghost use Rattle.node_run.specs.Seen.{seen};
 ghost use Rattle.node_run.specs.Standing.{NodeStands, IsFresh, fresh_node, accepts_of, accepts_client, accepts_indexer, DoesLine, DoesMost, LetGo, GivesLogs, GivesStore};
-ghost use Rattle.node_run.specs.Turns.{made_idle, client_named, with_client, quiet, stopped};
+ghost use Rattle.node_run.specs.Turns.{made_idle, quiet, stopped};
 
 use crate::line::Line;
 use crate::logs::Logs;
+use crate::name::Name;
 use crate::out_line::OutLine;
 use byte_fields::{Client, Text};
 use clock_time::ScriptClock;
@@ -35,6 +36,7 @@ use object_store::ObjectStore;
 use root_search::{SearchStep, Searcher};
 use source_log::{Partitions, SourceLog};
 use std::alloc::{AllocError, Global};
+use std::collections::BTreeMap;
 use std::thread::Threads;
 
 /// How many clients an input may name.
@@ -47,6 +49,8 @@ pub struct DriveNode<S: ObjectStore, L: SourceLog> {
     world: World<S, ScriptClock>,
     indexers: Vec<Indexer<L>>,
     clients: Vec<Searcher>,
+    // The place of each client among the searchers.
+    places: BTreeMap<Name, usize>,
     // What the clock tells.
     moment: u64,
     // The last restart of the node failed.
@@ -123,33 +127,42 @@ fn assign<L: SourceLog>(indexer: &mut Indexer<L>, partitions: Partitions) -> Opt
     Some(count)
 }
 
-fn place_of(clients: &[Searcher], client: &Client) -> Option<usize>
-    ensures some { IfSome result (λ place. NamedAt client.now clients.now place) }
-    ensures none { IfNone result (IsUnknown client.now clients.now) }
+// The place of a client's searcher, where the client was named before.
+fn place_of(clients: &[Searcher], places: &BTreeMap<Name, usize>, client: &Client) -> Option<usize>
+    ensures within { IfSome result (λ place. place < length clients.now) }
+    ensures exact { (names : List (List ℕ)) → length names ≡ length clients.now → HasPlaces places.now.entries names →
+        result ≡ place_in client.now names }
 {
-    for (i, searcher) in clients.iter().enumerate() {
-        if searcher.client().is_same(client) {
-            return Some(i);
-        }
+    match places.get(&Name::of(client)) {
+        Some(place) if *place < clients.len() => Some(*place),
+        _ => None,
     }
-    None
 }
 
 // The place of a client's searcher, which begins where the client wasn't named yet.
-fn known(clients: &mut Vec<Searcher>, client: &Client) -> Result<usize, AllocError>
+fn known(
+    clients: &mut Vec<Searcher>,
+    places: &mut BTreeMap<Name, usize>,
+    client: &Client,
+) -> Result<usize, AllocError>
     ensures bound { IfOk result (λ place. place < vec_len clients.new) }
-    ensures place { IfOk result (λ place. NamedAt client.now clients.new.items place) }
-    ensures stands { OnOk result ((models : List Asker) (core : Core) (log : Log) →
+    ensures known { IfOk result (λ place. (models : List Asker) (core : Core) (log : Log) →
         AllZip (λ searcher model. SearcherStands searcher model core log) clients.old.items models →
-        AllZip (λ searcher model. SearcherStands searcher model core log) clients.new.items (with_client (client_named client.now models) models)) }
-    ensures err { OnErr result (clients.new.items ≡ clients.old.items) }
+        HasPlaces places.old.entries (names_of models) →
+        IsKnown client.now clients.new.items places.new.entries models place core log) }
+    ensures clients { OnErr result (clients.new.items ≡ clients.old.items) }
+    ensures places { OnErr result (places.new.entries ≡ places.old.entries) }
 {
-    match place_of(clients.as_slice(), client) {
+    match place_of(clients.as_slice(), places, client) {
         Some(place) => Ok(place),
         None => {
             let place = clients.len();
-            clients.push(Searcher::start(*client))?;
-            Ok(place)
+            clients.reserve(1)?;
+            places.insert(Name::of(client), place)?;
+            match clients.push(Searcher::start(*client)) {
+                Ok(()) => Ok(place),
+                Err(_) => unreachable!(),
+            }
         }
     }
 }
@@ -236,6 +249,7 @@ impl<S: ObjectStore, L: SourceLog> DriveNode<S, L> {
             world,
             indexers,
             clients: Vec::new(alloc),
+            places: BTreeMap::new(alloc),
             moment: 0,
             down: false,
         })
@@ -254,6 +268,7 @@ impl<S: ObjectStore, L: SourceLog> DriveNode<S, L> {
             world,
             indexers,
             clients: _,
+            places: _,
             moment: _,
             down: _,
         } = self;
@@ -278,7 +293,7 @@ impl<S: ObjectStore, L: SourceLog> DriveNode<S, L> {
         ensures { (firsts : List L) (node : Node) → NodeStands L.told L.fault_count L.since firsts self.now node → result ≡ accepts_client client.now node }
     {
         if self.clients.len() as u64 >= MAX_CLIENTS
-            && place_of(self.clients.as_slice(), client).is_none()
+            && place_of(self.clients.as_slice(), &self.places, client).is_none()
         {
             return Accepts::TooManyClients;
         }
@@ -368,7 +383,7 @@ impl<S: ObjectStore, L: SourceLog> DriveNode<S, L> {
         ensures does { (firsts : List L) (node : Node) → NodeStands L.told L.fault_count L.since firsts self.old node →
             DoesMost L.told L.fault_count L.since firsts node (said.StepClient client.now) result self.new }
     {
-        let place = known(&mut self.clients, client)?;
+        let place = known(&mut self.clients, &mut self.places, client)?;
         if self.down {
             return OutLine::client_down(alloc, client);
         }
@@ -386,7 +401,7 @@ impl<S: ObjectStore, L: SourceLog> DriveNode<S, L> {
         ensures does { (firsts : List L) (node : Node) → NodeStands L.told L.fault_count L.since firsts self.old node →
             DoesMost L.told L.fault_count L.since firsts node (said.Open client.now text) result self.new }
     {
-        let place = known(&mut self.clients, client)?;
+        let place = known(&mut self.clients, &mut self.places, client)?;
         match self.clients[place].submit(text) {
             Ok(()) => OutLine::opened(alloc, client),
             Err(_) => OutLine::busy(alloc, client),
@@ -438,7 +453,7 @@ impl<S: ObjectStore, L: SourceLog> DriveNode<S, L> {
         ensures does { (firsts : List L) (node : Node) → NodeStands L.told L.fault_count L.since firsts self.old node →
             DoesMost L.told L.fault_count L.since firsts node (said.RestartClient client.now) result self.new }
     {
-        let place = known(&mut self.clients, client)?;
+        let place = known(&mut self.clients, &mut self.places, client)?;
         self.clients[place].restart();
         OutLine::client_restarted(alloc, client)
     }
@@ -482,7 +497,7 @@ impl<S: ObjectStore, L: SourceLog> DriveNode<S, L> {
     fn quiet_client(&mut self, client: &Client)
         ensures { (firsts : List L) (node : Node) → NodeStands L.told L.fault_count L.since firsts self.old node → NodeStands L.told L.fault_count L.since firsts self.new (quiet (said.RestartClient client.now) node) }
     {
-        if let Some(place) = place_of(self.clients.as_slice(), client) {
+        if let Some(place) = place_of(self.clients.as_slice(), &self.places, client) {
             self.clients[place].restart();
         }
     }

@@ -5,6 +5,7 @@ mod drive;
 pub mod laws;
 mod line;
 mod logs;
+mod name;
 mod out_line;
 mod pieces;
 

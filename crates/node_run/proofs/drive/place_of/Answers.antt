@@ -1,19 +1,13 @@
-use Rattle.std.proofs.Common.{arith, sym, ◌∙◌, subst, add-one}
-use Rattle.node_run.specs.Named.{NotAmongFirst}
-use Rattle.node_run.proofs.Names.{one_more_not, found_at, none_at_all, true_false}
+use Rattle.std.proofs.Common.{◌≡◌, ◌∙◌, List, ℕ, Some, arith, subst, sym}
+use Rattle.std.specs.BTreeMap.{is_at}
+use Rattle.std.specs.Cmp.Lexicographic.{slice_cmp}
+use Rattle.std.specs.Map.{lookup}
+use Rattle.std.specs.Ordering.{nat_cmp}
+use Rattle.node_run.proofs.Places.{place_below}
 use Rattle.node_run.proofs.drive.place_of.Goals as goal
 
-pub returns-then-is_same-clause-some : goal.returns-then-is_same-clause-some
-returns-then-is_same-clause-some c =
-    found_at c.args.client.now c.args.clients.now c.loop-i.i c.index-clients-i.result c.loop-i.invariant (omega arith) c.index-clients-i.is
-    (sym c.client.ensures ∙ c.is_same.ensures.0 c.if-is_same.true)
-
-pub loop-i-preserved : goal.loop-i-preserved
-loop-i-preserved c =
-    subst (λ n. NotAmongFirst c.args.client.now c.args.clients.now n) (sym (add-one c.loop-i.i))
-    (one_more_not c.args.client.now c.args.clients.now c.loop-i.i c.index-clients-i.result c.loop-i.invariant c.index-clients-i.is
-    (λ same. true_false (sym (c.is_same.ensures.1 (c.client.ensures ∙ same)) ∙ c.if-is_same.false)))
-
-pub returns-clause-none : goal.returns-clause-none
-returns-clause-none c =
-    none_at_all c.args.client.now c.args.clients.now c.loop-i.i c.loop-i.invariant (omega (arith, c.loop-i.auto.i-end, c.loop-i-test.false))
+pub returns-in_default-clause-exact : goal.returns-in_default-clause-exact
+returns-in_default-clause-exact c = λ names same has.
+    let found = subst (λ (n : List ℕ). Some c.in-Some.place.now ≡ lookup (is_at (slice_cmp nat_cmp n)) c.args.places.now.entries) c.of.ensures c.in-Some.ensures.value in
+    let below = place_below c.args.client.now names c.in-Some.place.now (sym (found ∙ has c.args.client.now)) in
+    absurd (omega (arith, below, same, c.if-place-clients.false))
