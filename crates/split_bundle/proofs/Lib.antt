@@ -1,0 +1,4 @@
+pub mod Walks
+pub mod Indexes
+pub mod Spelled
+pub mod Ends

@@ -1,0 +1,12 @@
+//! What a split file says: its documents, dictionary, postings, positions and columns, read whole or by its parts.
+#![tactic(auto)]
+
+mod footer;
+mod layout;
+mod placed;
+mod split_error;
+
+pub use footer::Footer;
+pub use layout::Sections;
+pub use placed::{Placed, PlacedList};
+pub use split_error::SplitError;
