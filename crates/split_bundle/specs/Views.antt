@@ -1,5 +1,5 @@
 -- What a footer and the views hold and lend.
-use Rattle.std.specs.Prelude.{◌≡◌, ℕ, List, ◌++◌, length, drop, Result, Ok, Err, ⊤}
+use Rattle.std.specs.Prelude.{◌≡◌, ℕ, ◌-◌, ◌≤◌, List, ◌++◌, length, drop, Result, Ok, Err, nat_lt, if◌then◌else◌, ⊤}
 use Rattle.std.specs.List.{flat_map}
 use Rattle.byte_fields.specs.Spelling.{byte_string}
 use Rattle.split_bundle.specs.declared.footer.Footer.{Footer}
@@ -8,7 +8,7 @@ use Rattle.split_bundle.specs.declared.layout.Table.{Table}
 use Rattle.split_bundle.specs.declared.layout.Layout.{Layout}
 use Rattle.split_bundle.specs.declared.split_error.SplitError.{SplitError}
 use Rattle.split_bundle.specs.declared.split_error.SplitError.TheVariants.{Memory, BadMagic, BadSection, BadVersion, Truncated}
-use Rattle.split_bundle.specs.Files.{Parts, footer_bytes, block_bytes, start_bytes}
+use Rattle.split_bundle.specs.Files.{Parts, file_bytes, footer_bytes, block_bytes, start_bytes}
 use Rattle.split_bundle.specs.Reading.{Held}
 
 -- what a footer holds
@@ -39,3 +39,31 @@ pub record IsFooterOf (p : Parts) (f : Footer) : Type 0 where
   pub bytes : f.bytes ≡ footer_bytes p
   pub layout : IsLayoutOf p f.layout
   pub index : f.index ≡ p.index
+
+-- the end of the file of these parts, which has so many bytes
+pub record IsEndOf (p : Parts) (tail : List ℕ) (size : ℕ) : Type 0 where
+  pub size_is : size ≡ length (file_bytes p)
+  pub within : length tail ≤ size
+  pub tail_is : tail ≡ drop (size - length tail) (file_bytes p)
+
+-- the footer of these parts, or want of memory
+abbrev pub ReadsFooter : Parts → Result Footer SplitError → Type 0
+ReadsFooter p (Ok f) = IsFooterOf p f
+ReadsFooter p (Err (Memory a)) = ⊤
+ReadsFooter p (Err BadMagic) = ⊥
+ReadsFooter p (Err (Truncated at)) = ⊥
+ReadsFooter p (Err (BadSection number)) = ⊥
+ReadsFooter p (Err (BadVersion number)) = ⊥
+
+-- where the missing bytes of a footer begin, or, where less than the trailer is there, those of the trailer
+abbrev pub cut_at : ℕ → ℕ → ℕ → ℕ
+cut_at size there footer = if nat_lt there 12 then size - 12 else size - 12 - footer
+
+-- the bytes from a place on are not there, or want of memory
+abbrev pub ReadsCut : {A : Type 0} → ℕ → Result A SplitError → Type 0
+ReadsCut place (Ok x) = ⊥
+ReadsCut place (Err (Memory a)) = ⊤
+ReadsCut place (Err BadMagic) = ⊥
+ReadsCut place (Err (Truncated at)) = at ≡ place
+ReadsCut place (Err (BadSection number)) = ⊥
+ReadsCut place (Err (BadVersion number)) = ⊥

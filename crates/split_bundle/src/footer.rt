@@ -30,13 +30,31 @@ pub struct Footer {
 }
 
 impl Footer {
-    ghost use Rattle.split_bundle.specs.Views.{held};
+    ghost use Rattle.std.specs.Prelude.{List};
+    ghost use Rattle.doc_value.specs.declared.schema.Schema.{Schema};
+    ghost use Rattle.split_bundle.specs.declared.placed.Placed.{Placed};
+    ghost use Rattle.split_bundle.specs.Files.{Parts, footer_bytes};
+    ghost use Rattle.split_bundle.specs.Splits.{IsSplitOf};
+    ghost use Rattle.split_bundle.specs.Views.{held, IsFooterOf, IsEndOf, ReadsFooter, ReadsCut, cut_at};
     ghost use Rattle.split_bundle.specs.Reading.{footer_of};
 
     /// The footer of a file of `size` bytes that ends with these.
-    #[tactic(auto, unfolding(crate::specs::Reading::footer_of))]
     pub fn read(alloc: Global, tail: &[u8], size: u64) -> Result<Footer, SplitError>
+        // Of a split of documents: its footer, where the bytes have it and the trailer behind it.
+        ensures whole { (s : Schema) (documents : List Placed) (p : Parts) → IsSplitOf s documents p → IsEndOf p tail.now size
+            → length (footer_bytes p) + 12 ≤ length tail.now → ReadsFooter p result }
+        // Where they have not: from where on the file is wanted.
+        ensures cut { (s : Schema) (documents : List Placed) (p : Parts) → IsSplitOf s documents p → IsEndOf p tail.now size
+            → length tail.now < length (footer_bytes p) + 12 → ReadsCut (cut_at size (length tail.now) (length (footer_bytes p))) result }
+        // Over any bytes.
         ensures exact { MayGive held result (footer_of size tail.now) }
+    {
+        Footer::read_whole(alloc, tail, size)
+    }
+
+    #[tactic(auto, unfolding(crate::specs::Reading::footer_of))]
+    fn read_whole(alloc: Global, tail: &[u8], size: u64) -> Result<Footer, SplitError>
+        ensures { MayGive held result (footer_of size tail.now) }
     {
         let bytes = footer_in(tail, size)?;
         let room = size.saturating_sub(TRAILER as u64).saturating_sub(bytes.len() as u64);
