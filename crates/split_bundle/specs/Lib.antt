@@ -5,4 +5,5 @@ pub mod Columns
 pub mod Files
 pub mod Splits
 pub mod Reading
+pub mod Pieces
 pub mod Views

@@ -93,9 +93,8 @@ column_start_at bytes at = do
   Ok (record { number = number.0; start = start.0 }, start.1)
 
 -- where a column ends behind which so many are left: where the next one starts, or behind the last one where the section ends
-abbrev pub column_end : ℕ → ℕ → List ℕ → ℕ → Result ℕ Corrupt
-column_end zero size bytes at = Ok size
-column_end (suc more) size bytes at = column_start_at bytes at >>= λ column. Ok column.0.start
+unfoldable pub column_end : ℕ → ℕ → List ℕ → ℕ → Result ℕ Corrupt
+column_end left size bytes at = if left == 0 then Ok size else (column_start_at bytes at >>= λ column. Ok column.0.start)
 
 -- from where to where the column of a field stands in its section, if so many have it
 unfoldable pub column_among : ℕ → ℕ → ℕ → List ℕ → ℕ → Result (Option (ℕ × ℕ)) Corrupt

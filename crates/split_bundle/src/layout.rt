@@ -2,7 +2,7 @@
 
 ghost use Rattle.std.specs.Prelude.{◌≡◌, ◌≤◌, ◌+◌, length, IfOk};
 ghost use Rattle.byte_fields.specs.Steps.{Gives};
-ghost use Rattle.split_bundle.specs.Reading.{IsWithin, sections_at, entry_behind, entries_behind, table_at, layout_at, total};
+ghost use Rattle.split_bundle.specs.Reading.{IsWithin, sections_at, entry_behind, entries_behind, table_at, layout_at, total, column_start_at, column_end, column_among};
 
 use byte_fields::{Corrupt, take_bytes, take_count, take_text, take_varint};
 
@@ -164,4 +164,57 @@ fn entry_behind(entry: Entry, bytes: &[u8], at: usize) -> Result<usize, Corrupt>
             Ok(next)
         }
     }
+}
+
+// From where to where the column of a field stands in its section of so many bytes, if it has one.
+pub(crate) fn column_range(
+    bytes: &[u8],
+    table: Table,
+    number: u64,
+    size: u64,
+) -> Result<Option<(u64, u64)>, Corrupt>
+    requires { table.at ≤ length bytes.now }
+    ensures { result ≡ column_among table.count number size bytes.now table.at }
+{
+    let mut at = table.at;
+    for passed in 0..table.count {
+        match column_start(bytes, at) {
+            Ok((column, next)) => {
+                if column.number == number {
+                    return match column_end(bytes, next, table.count - passed - 1, size) {
+                        Ok(end) => Ok(Some((column.start, end))),
+                        Err(fault) => Err(fault),
+                    };
+                }
+                at = next;
+            }
+            Err(fault) => return Err(fault),
+        }
+    }
+    Ok(None)
+}
+
+// Where a column ends behind which so many are left.
+#[tactic(auto, unfolding(crate::specs::Reading::column_end))]
+fn column_end(bytes: &[u8], at: usize, left: u64, size: u64) -> Result<u64, Corrupt>
+    requires { at ≤ length bytes.now }
+    ensures { result ≡ column_end left size bytes.now at }
+{
+    if left == 0 {
+        return Ok(size);
+    }
+    let (column, _next) = column_start(bytes, at)?;
+    Ok(column.start)
+}
+
+// A field's number and its column's start at a place, and the place behind them.
+#[tactic(auto, unfolding(crate::specs::Reading::column_start_at))]
+fn column_start(bytes: &[u8], at: usize) -> Result<(ColumnStart, usize), Corrupt>
+    requires { at ≤ length bytes.now }
+    ensures within { IfOk result (λ x. x.1 ≤ length bytes.now) }
+    ensures exact { result ≡ column_start_at bytes.now at }
+{
+    let (number, next) = take_varint(bytes, at)?;
+    let (start, next) = take_varint(bytes, next)?;
+    Ok((ColumnStart { number, start }, next))
 }

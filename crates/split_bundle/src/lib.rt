@@ -3,10 +3,12 @@
 
 mod footer;
 mod layout;
+mod pieces;
 mod placed;
 mod split_error;
 
 pub use footer::Footer;
 pub use layout::Sections;
+pub use pieces::{FilePiece, Pieces};
 pub use placed::{Placed, PlacedList};
 pub use split_error::SplitError;
