@@ -7,3 +7,4 @@ pub mod Splits
 pub mod Reading
 pub mod Pieces
 pub mod Views
+pub mod Lending

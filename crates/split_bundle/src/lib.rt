@@ -3,6 +3,7 @@
 
 mod footer;
 mod layout;
+mod parts;
 mod pieces;
 mod placed;
 mod split_error;
