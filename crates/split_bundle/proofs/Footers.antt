@@ -105,9 +105,9 @@ module _ (s : Schema) (documents : List Placed) (p : Parts) (is : IsSplitOf s do
   unfolding footer_of
   footer_not_there result gives cut = elim (cases_lt (length tail) 12) [
     | inl less ↦
-      let at : cut_at size (length tail) (length (footer_bytes p)) ≡ size - 12 = rw (lt-ltb (length tail) 12 less) refl in
-      rw at (cut_is (size - 12) result (footer_of size tail) gives (rw (trailer_cut tail size less) refl))
+        let at : cut_at size (length tail) (length (footer_bytes p)) ≡ size - 12 = rw (lt-ltb (length tail) 12 less) refl in
+        rw at (cut_is (size - 12) result (footer_of size tail) gives (rw (trailer_cut tail size less) refl))
     | inr more ↦
-      let at : cut_at size (length tail) (length (footer_bytes p)) ≡ size - 12 - length (footer_bytes p) = rw (le-ltb (length tail) 12 more) refl in
-      rw at (cut_is (size - 12 - length (footer_bytes p)) result (footer_of size tail) gives (rw (footer_cut (head ++ sections_bytes p) (footer_bytes p) tail size front short size_is tail_is cut more) refl))
+        let at : cut_at size (length tail) (length (footer_bytes p)) ≡ size - 12 - length (footer_bytes p) = rw (le-ltb (length tail) 12 more) refl in
+        rw at (cut_is (size - 12 - length (footer_bytes p)) result (footer_of size tail) gives (rw (footer_cut (head ++ sections_bytes p) (footer_bytes p) tail size front short size_is tail_is cut more) refl))
   ]

@@ -3,3 +3,8 @@ pub mod Indexes
 pub mod Spelled
 pub mod Ends
 pub mod Footers
+pub mod SectionBytes
+pub mod Lent
+pub mod Infos
+pub mod Tables
+pub mod ColumnsLent

@@ -5,8 +5,8 @@ ghost use Rattle.term_dict.specs.declared.index.BlockStart.{BlockStart};
 ghost use Rattle.byte_fields.specs.Steps.{Gives as Reads};
 ghost use Rattle.split_bundle.specs.Reading.{Gives, MayGive, IsWithin, of_section, footer_in, block_start_at, block_starts_at, total};
 
-use crate::layout::{Layout, Sections, Table, read_layout};
 use crate::SplitError;
+use crate::layout::{Layout, Sections, Table, read_layout};
 use byte_fields::{Bytes, Corrupt, take_bytes, take_eight, take_varint};
 use std::alloc::{AllocError, Global};
 use term_dict::{BlockIndex, BlockStart};
@@ -57,7 +57,9 @@ impl Footer {
         ensures { MayGive held result (footer_of size tail.now) }
     {
         let bytes = footer_in(tail, size)?;
-        let room = size.saturating_sub(TRAILER as u64).saturating_sub(bytes.len() as u64);
+        let room = size
+            .saturating_sub(TRAILER as u64)
+            .saturating_sub(bytes.len() as u64);
         let layout = match read_layout(bytes, room) {
             Ok(layout) => layout,
             Err(_) => return Err(SplitError::BadSection { number: FOOTER }),
@@ -137,7 +139,11 @@ pub(crate) fn footer_in(tail: &[u8], size: u64) -> Result<&[u8], SplitError>
 }
 
 // The first keys and starts of the blocks of a table.
-pub(crate) fn read_index(alloc: Global, bytes: &[u8], table: Table) -> Result<BlockIndex, SplitError>
+pub(crate) fn read_index(
+    alloc: Global,
+    bytes: &[u8],
+    table: Table,
+) -> Result<BlockIndex, SplitError>
     requires { table.at ≤ length bytes.now }
     ensures exact { MayGive (λ i. i) result (of_section 6 (block_starts_at table.count bytes.now table.at)) }
 {

@@ -3,6 +3,7 @@
 
 mod footer;
 mod layout;
+mod part_view;
 mod parts;
 mod pieces;
 mod placed;
@@ -10,6 +11,7 @@ mod split_error;
 
 pub use footer::Footer;
 pub use layout::Sections;
+pub use part_view::PartView;
 pub use pieces::{FilePiece, Pieces};
 pub use placed::{Placed, PlacedList};
 pub use split_error::SplitError;

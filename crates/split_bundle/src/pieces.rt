@@ -4,8 +4,8 @@ ghost use Rattle.std.specs.Prelude.{◌≡◌, ◌<◌, ◌+◌, ◌^◌};
 ghost use Rattle.split_bundle.specs.Reading.{Gives, total};
 ghost use Rattle.split_bundle.specs.Pieces.{Lent, held_in, part_in, section_part, size_of, start_of, number_of};
 
-use crate::layout::Sections;
 use crate::SplitError;
+use crate::layout::Sections;
 use byte_fields::List;
 
 /// Bytes of a file, and the place in the file where they start.
