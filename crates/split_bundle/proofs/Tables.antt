@@ -79,7 +79,7 @@ module _ (documents : List Placed) (bytes : List ℕ) (f : Field) (number size :
   found_later : (g : FastField) (gs : List FastField) (c : ColumnStart) (cs : List ColumnStart) (start at : ℕ) (rest section : List ℕ) → g.number ≢ number → AreColumns documents start (g ∷ gs) (c ∷ cs) section
       → AllByRecursion Small (c ∷ cs) → drop at bytes ≡ flat_map start_bytes (c ∷ cs) ++ rest → start + length section ≡ size
       → ((has : HasColumn documents g section) (next : ℕ) → AreColumns documents (start + length has.column) gs cs has.behind → drop next bytes ≡ flat_map start_bytes cs ++ rest → start + length has.column + length has.behind ≡ size
-        → Found documents f number (start + length has.column) size cs has.behind bytes next)
+      → Found documents f number (start + length has.column) size cs has.behind bytes next)
       → Found documents f number start size (c ∷ cs) section bytes at
   unfolding column_among
   found_later g gs c cs start at rest section other are small e sum later =
@@ -106,7 +106,7 @@ module _ (documents : List Placed) (bytes : List ℕ) (f : Field) (number size :
   suc_case : (b : Bool) (g : Field) (gs : List FastField) (n start at : ℕ) (cs : List ColumnStart) (rest section : List ℕ) → n ≢ number → AreColumns documents start (cond b (record { number = n; field = g } ∷ gs) gs) cs section
       → AllByRecursion Small cs → drop at bytes ≡ flat_map start_bytes cs ++ rest → start + length section ≡ size
       → ((start at : ℕ) (cs : List ColumnStart) (section : List ℕ) → AreColumns documents start gs cs section → AllByRecursion Small cs → drop at bytes ≡ flat_map start_bytes cs ++ rest → start + length section ≡ size
-        → Found documents f number start size cs section bytes at)
+      → Found documents f number start size cs section bytes at)
       → Found documents f number start size cs section bytes at
   suc_case false g gs n start at cs rest section other are small e sum later = later start at cs section are small e sum
   suc_case true g gs n start at [] rest section other are small e sum later = absurd are

@@ -8,3 +8,4 @@ pub mod Reading
 pub mod Pieces
 pub mod Views
 pub mod Lending
+pub mod Examples
