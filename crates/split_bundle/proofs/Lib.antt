@@ -1,0 +1,10 @@
+pub mod Walks
+pub mod Indexes
+pub mod Spelled
+pub mod Ends
+pub mod Footers
+pub mod SectionBytes
+pub mod Lent
+pub mod Infos
+pub mod Tables
+pub mod ColumnsLent

@@ -1,0 +1,12 @@
+use Rattle.std.proofs.Common.{subst, sym, ◌∙◌}
+use Rattle.split_bundle.specs.Lists.{keeps_places, posting_list}
+use Rattle.split_bundle.specs.Lending.{IsListAt}
+use Rattle.split_bundle.proofs.Infos.{info_found}
+use Rattle.split_bundle.proofs.part_view.PartView.postings_at.Goals as goal
+
+pub returns-clause-only : goal.returns-clause-only
+returns-clause-only c s documents p key part found keeps =
+    let same = c.sections-sections.ensures ∙ part.footer.layout.sections in
+    let at = info_found s documents p key c.args.info.now part.is_split found in
+    let here = subst (λ k. IsListAt p c.args.info.now k (posting_list s documents key)) (sym keeps) at in
+    rw (sym c.sections-sections.ensures, sym c.as_slice.ensures) (c.cursor_over.ensures.only p (posting_list s documents key) (rw c.as_slice.ensures part.pieces) same here)

@@ -1,0 +1,11 @@
+pub mod Documents
+pub mod Keys
+pub mod Lists
+pub mod Columns
+pub mod Files
+pub mod Splits
+pub mod Reading
+pub mod Pieces
+pub mod Views
+pub mod Lending
+pub mod Examples

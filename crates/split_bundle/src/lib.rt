@@ -1,0 +1,17 @@
+//! What a split file says: its documents, dictionary, postings, positions and columns, read whole or by its parts.
+#![tactic(auto)]
+
+mod footer;
+mod layout;
+mod part_view;
+mod parts;
+mod pieces;
+mod placed;
+mod split_error;
+
+pub use footer::Footer;
+pub use layout::Sections;
+pub use part_view::PartView;
+pub use pieces::{FilePiece, Pieces};
+pub use placed::{Placed, PlacedList};
+pub use split_error::SplitError;

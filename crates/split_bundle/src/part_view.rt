@@ -1,0 +1,117 @@
+//! A split file of which some pieces are there.
+
+ghost use Rattle.std.specs.Prelude.{◌≡◌, ◌≤◌, ◌<◌, ◌+◌, ◌-◌, ◌*◌, List, ℕ, Some, length, slice_get};
+ghost use Rattle.doc_value.specs.declared.schema.Schema.{Schema};
+ghost use Rattle.term_dict.specs.Bounds.{block_terms};
+ghost use Rattle.term_dict.specs.Terms.{lookup};
+ghost use Rattle.term_postings.specs.Reading.{walk};
+ghost use Rattle.split_bundle.specs.declared.placed.Placed.{Placed};
+ghost use Rattle.split_bundle.specs.Files.{Parts};
+ghost use Rattle.split_bundle.specs.Lists.{keeps_places, posting_list, terms_of};
+ghost use Rattle.split_bundle.specs.Pieces.{start_of};
+ghost use Rattle.split_bundle.specs.Reading.{Gives};
+ghost use Rattle.split_bundle.specs.declared.pieces.Section.TheVariants as sections;
+
+use crate::SplitError;
+use crate::footer::Footer;
+use crate::parts::{block_between, column_of, cursor_over};
+use crate::pieces::{Pieces, Section};
+use doc_value::Schema;
+use fast_fields::Column;
+use term_dict::{Block, TermInfo};
+use term_postings::Cursor;
+
+/// A split file of which some pieces are there. It copies nothing of them.
+#[derive(Drop)]
+pub struct PartView<'a> {
+    pub(crate) footer: Footer,
+    pub(crate) pieces: Pieces<'a>,
+}
+
+impl<'a> PartView<'a> {
+    ghost use Rattle.split_bundle.specs.Lending.{IsPartOf, LendsBlock, LendsCursor, LendsFast, block_in, block_place, cursor_in, column_read, parts_of, start_of_column};
+
+    /// The view of a file with this footer, of which these pieces are there.
+    pub fn gather(footer: Footer, pieces: Pieces<'a>) -> PartView<'a>
+        ensures footer { result.footer ≡ footer }
+        ensures pieces { result.pieces ≡ pieces.entry }
+    {
+        PartView { footer, pieces }
+    }
+
+    /// How many documents the split has.
+    pub fn doc_count(&self) -> u32
+        ensures only { (s : Schema) (documents : List Placed) (p : Parts) → IsPartOf self.now s documents p → result ≡ length documents }
+        ensures exact { result ≡ self.now.footer.layout.docs }
+    {
+        self.footer.doc_count()
+    }
+
+    /// The block of the dictionary with a number.
+    #[tactic(auto, unfolding(crate::specs::Lending::block_in))]
+    pub fn block(&self, number: u32) -> Result<Block<'a>, SplitError>
+        requires { number < length self.now.footer.index }
+        // Of a split of documents: its terms, unless no piece has its bytes.
+        ensures only { (s : Schema) (documents : List Placed) (p : Parts) → IsPartOf self.now s documents p
+            → LendsBlock self.now.pieces (block_place p (terms_of s documents p.keys) number) (block_terms (terms_of s documents p.keys) number) result }
+        // Over any bytes.
+        ensures exact { Gives (λ b. b.bytes.now) result (block_in self.now.footer.layout.sections self.now.pieces self.now.footer.index number) }
+    {
+        let sections = self.footer.sections();
+        match self
+            .footer
+            .index()
+            .place_of(number as usize, sections.dictionary)
+        {
+            Ok((start, end)) => block_between(self.pieces.as_slice(), &sections, start, end),
+            Err(_) => Err(SplitError::BadSection {
+                number: Section::Dictionary.number(),
+            }),
+        }
+    }
+
+    /// A cursor over the documents of a term. `positions` says whether its list has positions.
+    pub fn postings_at(&self, info: &TermInfo, positions: bool) -> Result<Cursor<'a>, SplitError>
+        // Of a split of documents: the posting list of the term's key, unless no piece has its bytes or those of its positions.
+        ensures only { (s : Schema) (documents : List Placed) (p : Parts) (key : List ℕ) → IsPartOf self.now s documents p
+            → lookup key (terms_of s documents p.keys) ≡ Some info.now → positions ≡ keeps_places s key
+            → LendsCursor self.now.footer.layout.sections self.now.pieces info.now positions (posting_list s documents key) result }
+        // Over any bytes.
+        ensures exact { Gives walk result (cursor_in self.now.footer.layout.sections self.now.pieces info.now positions) }
+    {
+        let sections = self.footer.sections();
+        cursor_over(self.pieces.as_slice(), &sections, info, positions)
+    }
+
+    /// The column of the field with a number, which is None exactly where the schema has no fast field of that number.
+    #[tactic(auto, unfolding(crate::specs::Lending::column_read))]
+    pub fn column(&self, schema: &Schema, number: u32) -> Result<Option<Column<'a>>, SplitError>
+        // Of a split of documents: the values of this field, unless no piece has the column's bytes.
+        ensures only { (documents : List Placed) (p : Parts) → IsPartOf self.now schema.now documents p
+            → LendsFast self.now.pieces (start_of sections.Columns self.now.footer.layout.sections + start_of_column number p.column_starts) number documents (slice_get schema.now.fields number) result }
+        // Over any bytes.
+        ensures exact { Gives parts_of result (column_read schema.now self.now.footer.layout.sections self.now.pieces self.now.footer.bytes self.now.footer.layout.columns number) }
+    {
+        if number as usize >= schema.fields.len() {
+            return Ok(None);
+        }
+        let field = schema.fields.at(number as usize);
+        if !field.fast {
+            return Ok(None);
+        }
+        let sections = self.footer.sections();
+        let footer = self.footer.bytes.as_slice();
+        let table = self.footer.layout.columns;
+        match column_of(
+            self.pieces.as_slice(),
+            &sections,
+            footer,
+            table,
+            field,
+            u64::from(number),
+        ) {
+            Ok(column) => Ok(Some(column)),
+            Err(fault) => Err(fault),
+        }
+    }
+}
