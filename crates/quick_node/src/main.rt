@@ -102,6 +102,6 @@ fn main(rt: HostRuntime) -> ExitCode {
 }
 
 #[cfg(test)]
-mod end_tests;
+mod script;
 #[cfg(test)]
 mod tests;

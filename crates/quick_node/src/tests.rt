@@ -1,22 +1,142 @@
+//! Rows of `drive`, from a script, and a table of failing store calls.
+
 use super::new_entry;
-use crate::serving::{Finished, serve, serve_with_logs};
+use crate::script::ROWS;
+use crate::serving::serve_with_logs;
 use byte_fields::{Bytes, MemorySink, MemorySource};
 use clock_time::ScriptClock;
 use meta_journal::meta_key;
 use object_store::{Key, Landing, MemoryStore, ObjectStore};
 use source_checkpoint::Partition;
-use source_log::{FaultyLog, MemoryLog, SourceLog};
-use std::alloc::{AllocError, Global};
+use source_log::{FaultyLog, MemoryLog};
+use std::alloc::Global;
 use std::process::Abort;
+use std::str;
 use std::sync::Wait;
 use std::test::Fail;
 use std::thread::Threads;
 
-const FOX: &str = "{\"body\":\"red fox\"}";
+// A row as far as its script was read.
+#[derive(Drop)]
+struct Row {
+    name: String,
+    store: MemoryStore,
+    logs: Vec<MemoryLog>,
+    words: Vec<String>,
+    schedule: Vec<u8>,
+    expected: Vec<u8>,
+    room: usize,
+    failing_log: Option<u64>,
+    failing_read: Option<u64>,
+    failing_write: Option<u64>,
+}
 
-const RED: &str = "{\"body\":\"red\"}";
+impl Row {
+    fn begin(alloc: Global, name: &str) -> Result<Row, Fail> {
+        Ok(Row {
+            name: String::from_str(alloc, name)?,
+            store: index_store(alloc)?,
+            logs: Vec::new(alloc),
+            words: drive_words(alloc)?,
+            schedule: Vec::new(alloc),
+            expected: Vec::new(alloc),
+            room: 8192,
+            failing_log: None,
+            failing_read: None,
+            failing_write: None,
+        })
+    }
 
-const HEN: &str = "{\"body\":\"red hen\"}";
+    // What a line says of what stands and of what is to fail.
+    fn prepare(&mut self, alloc: Global, asked: &str, rest: &str) -> Result<(), Fail> {
+        match asked {
+            "vacant" => self.store = MemoryStore::vacant(alloc),
+            "object" => make_object(alloc, &mut self.store, rest)?,
+            "log" => self.logs.push(MemoryLog::vacant(alloc))?,
+            "record" => add_record(alloc, &mut self.logs, rest)?,
+            "word" => self.words.push(String::from_str(alloc, rest)?)?,
+            "failkey" => {
+                let (landing, key) = landing_of(rest)?;
+                self.store.fail_key(key_of(key)?, landing)?;
+            }
+            "failcall" => {
+                let (landing, call) = landing_of(rest)?;
+                self.store.fail_call(number_of(call)?, landing)?;
+            }
+            "failread" => self.failing_read = Some(number_of(rest)?),
+            "failwrite" => self.failing_write = Some(number_of(rest)?),
+            "faillog" => self.failing_log = Some(number_of(rest)?),
+            "room" => self.room = number_of(rest)? as usize,
+            _ => self.write(alloc, asked, rest)?,
+        }
+        Ok(())
+    }
+
+    // What a line says of the schedule and of what must be written.
+    fn write(&mut self, alloc: Global, asked: &str, rest: &str) -> Result<(), Fail> {
+        match asked {
+            ">" => add_line(&mut self.schedule, rest)?,
+            "<" => add_line(&mut self.expected, rest)?,
+            ">>" => self.schedule.extend_from_slice(rest.as_bytes())?,
+            "<<" => self.expected.extend_from_slice(rest.as_bytes())?,
+            "long" => {
+                let len = self
+                    .schedule
+                    .len()
+                    .saturating_add(number_of(rest)? as usize);
+                self.schedule.resize(len, b'x')?;
+            }
+            "clients" => {
+                for number in 0..number_of(rest)? {
+                    let name = format!(in alloc; "restart client c{number}")?;
+                    add_line(&mut self.schedule, name.as_str())?;
+                    let name = format!(in alloc; "c{number} restarted")?;
+                    add_line(&mut self.expected, name.as_str())?;
+                }
+            }
+            _ => return Err("no line of a script")?,
+        }
+        Ok(())
+    }
+
+    // Does the command, and compares. What stands then is the store of a second life, which has no log yet.
+    fn run<Rt: Threads + Wait + Sync + Abort>(
+        self,
+        rt: &Rt,
+        alloc: Global,
+        status: u64,
+    ) -> Result<Row, Fail> {
+        let mut input = source_of(alloc, self.schedule.as_slice())?;
+        if let Some(call) = self.failing_read {
+            input.fail_call(call)?;
+        }
+        let mut output = MemorySink::with_room(alloc, self.room)?;
+        if let Some(call) = self.failing_write {
+            output.fail_call(call)?;
+        }
+        let logs = faulty(alloc, self.logs, self.failing_log)?;
+        let log_faults = u64::from(self.failing_log.is_some());
+        let (finished, logs) = serve_with_logs(
+            rt,
+            alloc,
+            self.words.as_slice(),
+            self.store,
+            logs,
+            ScriptClock::at(0),
+            &mut input,
+            &mut output,
+        );
+        let is_right = u64::from(finished.status) == status
+            && output.content().as_slice() == self.expected.as_slice()
+            && finished.log_faults == log_faults
+            && logs.faults() == log_faults;
+        let name = self.name;
+        assert!(rt; is_right, "{name}");
+        let mut next = Row::begin(alloc, name.as_str())?;
+        next.store = finished.store;
+        Ok(next)
+    }
+}
 
 // A store with the one entry that makes an index.
 fn index_store(alloc: Global) -> Result<MemoryStore, Fail> {
@@ -28,281 +148,168 @@ fn index_store(alloc: Global) -> Result<MemoryStore, Fail> {
     Ok(store)
 }
 
-fn log_of(alloc: Global, records: &[(&str, &str)]) -> Result<MemoryLog, Fail> {
-    let mut log = MemoryLog::vacant(alloc);
-    for (name, text) in records {
-        if let Ok(partition) = Partition::from_text(name) {
-            log.push(alloc, &partition, text.as_bytes())?;
-        }
-    }
-    Ok(log)
-}
-
-fn log_a(alloc: Global) -> Result<MemoryLog, Fail> {
-    log_of(alloc, &[("p0", FOX), ("p0", "oops"), ("p0", HEN)])
-}
-
-fn two_logs(alloc: Global, records: &[(&str, &str)]) -> Result<Vec<MemoryLog>, Fail> {
-    let mut logs = Vec::new(alloc);
-    logs.push(log_of(alloc, records)?)?;
-    logs.push(log_of(alloc, records)?)?;
-    Ok(logs)
-}
-
-fn one_log(alloc: Global) -> Result<Vec<MemoryLog>, Fail> {
-    let mut logs = Vec::new(alloc);
-    logs.push(log_a(alloc)?)?;
-    Ok(logs)
+fn drive_words(alloc: Global) -> Result<Vec<String>, Fail> {
+    let mut words = Vec::new(alloc);
+    words.push(String::from_str(alloc, "drive")?)?;
+    Ok(words)
 }
 
 fn key_of(text: &str) -> Result<Key, Fail> {
     Ok(Key::from_text(text).map_err(|_| "no key")?)
 }
 
-// The status, what was written, and the store of one `drive` over this schedule.
-fn drive<Rt: Threads + Wait + Sync, L: SourceLog + Send>(
+fn number_of(text: &str) -> Result<u64, Fail> {
+    Ok(text.parse::<u64>().map_err(|_| "no number")?)
+}
+
+// The two words of a line at their first space.
+fn halves(line: &str) -> (&str, &str) {
+    line.split_once(' ').unwrap_or((line, ""))
+}
+
+// When a create lands, and what stands behind that word.
+fn landing_of(rest: &str) -> Result<(Landing, &str), Fail> {
+    let (word, behind) = halves(rest);
+    let landing = match word {
+        "never" => Landing::Never,
+        "once" => Landing::AtOnce,
+        _ => Landing::AfterCalls(number_of(word)? as u32),
+    };
+    Ok((landing, behind))
+}
+
+fn make_object(alloc: Global, store: &mut MemoryStore, rest: &str) -> Result<(), Fail> {
+    let (key, text) = halves(rest);
+    store
+        .create(alloc, &key_of(key)?, text.as_bytes())
+        .map_err(|_| "no object")?;
+    Ok(())
+}
+
+fn add_record(alloc: Global, logs: &mut Vec<MemoryLog>, rest: &str) -> Result<(), Fail> {
+    let (name, text) = halves(rest);
+    let partition = Partition::from_text(name)?;
+    if let Some(log) = logs.last_mut() {
+        log.push(alloc, &partition, text.as_bytes())?;
+    }
+    Ok(())
+}
+
+fn add_line(text: &mut Vec<u8>, line: &str) -> Result<(), Fail> {
+    text.extend_from_slice(line.as_bytes())?;
+    text.push(b'\n')?;
+    Ok(())
+}
+
+fn source_of(alloc: Global, text: &[u8]) -> Result<MemorySource, Fail> {
+    Ok(MemorySource::from_bytes(Bytes::from_slice(alloc, text)?))
+}
+
+// These logs, of which the first fails its call with a number.
+fn faulty(
+    alloc: Global,
+    logs: Vec<MemoryLog>,
+    failing: Option<u64>,
+) -> Result<Vec<FaultyLog>, Fail> {
+    let mut all = Vec::new(alloc);
+    for log in logs {
+        let mut log = FaultyLog::over(alloc, log);
+        if let Some(call) = failing
+            && all.is_empty()
+        {
+            log.fail_call(call)?;
+        }
+        all.push(log)?;
+    }
+    Ok(all)
+}
+
+#[test]
+fn rows_of_drive(rt: HostRuntime) -> Result<(), Fail> {
+    let alloc = rt.alloc();
+    let mut row = Row::begin(alloc, "none")?;
+    let mut runs = 0u32;
+    for line in ROWS.lines() {
+        let (asked, rest) = halves(line);
+        match asked {
+            "row" => row = Row::begin(alloc, rest)?,
+            "run" => {
+                row = row.run(&rt, alloc, number_of(rest)?)?;
+                runs = runs.saturating_add(1);
+            }
+            "size" => {
+                let (size, key) = halves(rest);
+                let piece = row
+                    .store
+                    .get(alloc, &key_of(key)?, 0, 1000)
+                    .map_err(|_| "no object")?;
+                assert_eq!(rt; piece.size, number_of(size)?);
+            }
+            _ => row.prepare(alloc, asked, rest)?,
+        }
+    }
+    assert_eq!(rt; runs, 33);
+    Ok(())
+}
+
+const SCHEDULE: &str =
+    "at 1000\nindexer 0\nindexer 0\nindexer 0\nindexer 0\nindexer 0\nindexer 0\nindexer 0\nindexer 0\nindexer 0\nindexer 0\nindexer 0\nindexer 0\nindexer 0\nindexer 0\nindexer 0\nindexer 0\nindexer 0\nindexer 0\nindexer 0\nindexer 0\nclient a {\"search\":{\"query\":\"red\"}}\nclient a\nclient a\nclient a\nclient a\nclient a\nclient a\nclient a\nclient a\n";
+
+// The store behind one run of the schedule, and whether its search found both records.
+fn lives<Rt: Threads + Wait + Sync>(
     rt: &Rt,
     alloc: Global,
     store: MemoryStore,
-    logs: Vec<L>,
-    schedule: &str,
-) -> Result<(Finished<MemoryStore>, MemorySink), Fail> {
-    let mut words = Vec::new(alloc);
-    words.push(String::from_str(alloc, "drive")?)?;
-    let mut input = MemorySource::from_bytes(Bytes::from_slice(alloc, schedule.as_bytes())?);
-    let mut output = MemorySink::with_room(alloc, 4096)?;
-    let clock = ScriptClock::at(0);
-    let finished = serve(
+) -> Result<(MemoryStore, bool), Fail> {
+    let mut log = Vec::new(alloc);
+    log.push(MemoryLog::vacant(alloc))?;
+    for text in ["{\"body\":\"red fox\"}", "oops", "{\"body\":\"red hen\"}"] {
+        let rest = format!(in alloc; "p0 {text}")?;
+        add_record(alloc, &mut log, rest.as_str())?;
+    }
+    let mut input = source_of(alloc, SCHEDULE.as_bytes())?;
+    let mut output = MemorySink::with_room(alloc, 8192)?;
+    let (finished, _) = serve_with_logs(
         rt,
         alloc,
-        words.as_slice(),
+        drive_words(alloc)?.as_slice(),
         store,
-        logs,
-        clock,
-        &mut input,
-        &mut output,
-    );
-    Ok((finished, output))
-}
-
-// Answers a schedule over an index whose store has these failing keys, and compares the output.
-fn plays<Rt: Threads + Wait + Sync + Abort>(
-    rt: &Rt,
-    alloc: Global,
-    store: MemoryStore,
-    logs: Vec<MemoryLog>,
-    schedule: &str,
-    expected: &str,
-) -> Result<MemoryStore, Fail> {
-    let (finished, output) = drive(rt, alloc, store, logs, schedule)?;
-    assert_eq!(rt; output.content().as_slice(), expected.as_bytes());
-    Ok(finished.store)
-}
-
-// An index whose store fails the next create of a key.
-fn failing_store(alloc: Global, key: &str, landing: Landing) -> Result<MemoryStore, Fail> {
-    let mut store = index_store(alloc)?;
-    store.fail_key(key_of(key)?, landing)?;
-    Ok(store)
-}
-
-// An index whose store fails the call with a number, the making of the index counted as 1.
-fn failing_call(alloc: Global, number: u64) -> Result<MemoryStore, Fail> {
-    let mut store = index_store(alloc)?;
-    store.fail_call(number, Landing::Never)?;
-    Ok(store)
-}
-
-#[test]
-fn two_hits(rt: HostRuntime) -> Result<(), Fail> {
-    let alloc = rt.alloc();
-    let store = index_store(alloc)?;
-    let logs = one_log(alloc)?;
-    let schedule =
-        "at 1000\nindexer 0\nindexer 0\nindexer 0\nindexer 0\nindexer 0\nindexer 0\nindexer 0\nindexer 0\nclient a {\"search\":{\"query\":\"red\"}}\nclient a\nclient a\nclient a\n";
-    let expected =
-        "at 1000\nindexer 0 checkpoint\nindexer 0 read 3\nindexer 0 staged 1\nindexer 0 uploaded 1\nindexer 0 published 1\nindexer 0 checkpoint\nindexer 0 read 0\nindexer 0 caughtup\na opened\na planned 3 1\na fetched 1\n{\"aggregations\":{},\"client\":\"a\",\"hits\":[{\"body\":\"red fox\"},{\"body\":\"red hen\"}],\"num_hits\":2,\"revision\":3}\n";
-    let mut store = plays(&rt, alloc, store, logs, schedule, expected)?;
-    let key = key_of("splits/00000000000000000001")?;
-    let piece = store.get(alloc, &key, 0, 1000).map_err(|_| "no split")?;
-    assert_eq!(rt; piece.size, 59);
-    Ok(())
-}
-
-#[test]
-fn an_empty_batch_waits(rt: HostRuntime) -> Result<(), Fail> {
-    let alloc = rt.alloc();
-    let store = index_store(alloc)?;
-    let mut logs = Vec::new(alloc);
-    logs.push(log_of(alloc, &[("p2", RED)])?)?;
-    let schedule =
-        "at 1000\nassign 0 p0 p1 p2\nindexer 0\nindexer 0\nat 1060\nindexer 0\nindexer 0\nindexer 0\nindexer 0\nindexer 0\n";
-    let expected =
-        "at 1000\nindexer 0 assigned 3\nindexer 0 checkpoint\nindexer 0 read 0\nat 1060\nindexer 0 read 0\nindexer 0 read 1\nindexer 0 staged 1\nindexer 0 uploaded 1\nindexer 0 published 1\n";
-    let _ = plays(&rt, alloc, store, logs, schedule, expected)?;
-    Ok(())
-}
-
-// The create of a Publish lands in the next life, as that life's first append begins.
-#[test]
-fn a_publish_lands_in_the_next_life(rt: HostRuntime) -> Result<(), Fail> {
-    let alloc = rt.alloc();
-    let store = failing_store(alloc, "meta/00000000000000000002", Landing::AfterCalls(4))?;
-    let schedule = "at 1000\nindexer 0\nindexer 0\nindexer 0\nindexer 0\nindexer 0\n";
-    let expected =
-        "at 1000\nindexer 0 checkpoint\nindexer 0 read 3\nindexer 0 staged 1\nindexer 0 uploaded 1\nindexer 0 storefault 0 1\n";
-    let store = plays(&rt, alloc, store, one_log(alloc)?, schedule, expected)?;
-    let schedule =
-        "at 1000\nindexer 0\nindexer 0\nindexer 0\nindexer 0\nindexer 0\nclient a {\"search\":{\"query\":\"red\"}}\nclient a\nclient a\nclient a\n";
-    let expected =
-        "at 1000\nindexer 0 checkpoint\nindexer 0 read 3\nindexer 0 staged 2\nindexer 0 uploaded 2\nindexer 0 stale p0 3 0\na opened\na planned 4 1\na fetched 1\n{\"aggregations\":{},\"client\":\"a\",\"hits\":[{\"body\":\"red fox\"},{\"body\":\"red hen\"}],\"num_hits\":2,\"revision\":4}\n";
-    let _ = plays(&rt, alloc, store, one_log(alloc)?, schedule, expected)?;
-    Ok(())
-}
-
-#[test]
-fn restarts_and_a_request_that_is_not_built(rt: HostRuntime) -> Result<(), Fail> {
-    let alloc = rt.alloc();
-    let table = [
-        // An indexer restarts.
-        (
-            "at 1000\nindexer 0\nindexer 0\nindexer 0\nindexer 0\nrestart indexer 0\nindexer 0\nindexer 0\nindexer 0\nindexer 0\nindexer 0\n",
-            "at 1000\nindexer 0 checkpoint\nindexer 0 read 3\nindexer 0 staged 1\nindexer 0 uploaded 1\nindexer 0 restarted\nindexer 0 checkpoint\nindexer 0 read 3\nindexer 0 staged 2\nindexer 0 uploaded 2\nindexer 0 published 2\n",
-        ),
-        // A node restarts.
-        (
-            "at 1000\nindexer 0\nindexer 0\nindexer 0\nindexer 0\nrestart node\nindexer 0\nindexer 0\nindexer 0\nindexer 0\nindexer 0\nclient a {\"search\":{\"query\":\"red\"}}\nclient a\nclient a\nclient a\n",
-            "at 1000\nindexer 0 checkpoint\nindexer 0 read 3\nindexer 0 staged 1\nindexer 0 uploaded 1\nnode restarted 2\nindexer 0 checkpoint\nindexer 0 read 3\nindexer 0 staged 2\nindexer 0 uploaded 2\nindexer 0 published 2\na opened\na planned 4 1\na fetched 2\n{\"aggregations\":{},\"client\":\"a\",\"hits\":[{\"body\":\"red fox\"},{\"body\":\"red hen\"}],\"num_hits\":2,\"revision\":4}\n",
-        ),
-        // Two words are not built.
-        (
-            "client a {\"search\":{\"query\":\"red fox\"}}\nclient a\n",
-            "a opened\n{\"client\":\"a\",\"error\":{\"kind\":\"NotBuilt\",\"name\":\"request\"},\"revision\":1}\n",
-        ),
-    ];
-    for (schedule, expected) in &table {
-        let _ = plays(
-            &rt,
-            alloc,
-            index_store(alloc)?,
-            one_log(alloc)?,
-            schedule,
-            expected,
-        )?;
-    }
-    Ok(())
-}
-
-#[test]
-fn two_readers(rt: HostRuntime) -> Result<(), Fail> {
-    let alloc = rt.alloc();
-    let three: &[(&str, &str)] = &[("p0", FOX), ("p0", "oops"), ("p0", HEN)];
-    let two: &[(&str, &str)] = &[("p0", RED), ("p1", RED)];
-    let table = [
-        // A late reader is stale.
-        (
-            three,
-            "at 1000\nindexer 0\nindexer 1\nindexer 0\nindexer 1\nindexer 0\nindexer 1\nindexer 0\nindexer 1\nindexer 0\nindexer 1\nclient a {\"search\":{\"query\":\"red\"}}\nclient a\nclient a\nclient a\n",
-            "at 1000\nindexer 0 checkpoint\nindexer 1 checkpoint\nindexer 0 read 3\nindexer 1 read 3\nindexer 0 staged 1\nindexer 1 staged 2\nindexer 0 uploaded 1\nindexer 1 uploaded 2\nindexer 0 published 1\nindexer 1 stale p0 3 0\na opened\na planned 4 1\na fetched 1\n{\"aggregations\":{},\"client\":\"a\",\"hits\":[{\"body\":\"red fox\"},{\"body\":\"red hen\"}],\"num_hits\":2,\"revision\":4}\n",
-        ),
-        // One stale part.
-        (
-            two,
-            "at 1000\nassign 1 p1\nindexer 0\nindexer 0\nindexer 0\nindexer 1\nindexer 1\nindexer 1\nindexer 1\nindexer 1\nindexer 0\nindexer 0\nindexer 0\nclient a {\"search\":{\"query\":\"red\"}}\nclient a\nclient a\nclient a\n",
-            "at 1000\nindexer 1 assigned 1\nindexer 0 checkpoint\nindexer 0 read 1\nindexer 0 read 1\nindexer 1 checkpoint\nindexer 1 read 1\nindexer 1 staged 1\nindexer 1 uploaded 1\nindexer 1 published 1\nindexer 0 staged 2\nindexer 0 uploaded 2\nindexer 0 stale p1 1 0\na opened\na planned 4 1\na fetched 1\n{\"aggregations\":{},\"client\":\"a\",\"hits\":[{\"body\":\"red\"}],\"num_hits\":1,\"revision\":4}\n",
-        ),
-    ];
-    for (records, schedule, expected) in &table {
-        let logs = two_logs(alloc, records)?;
-        let _ = plays(&rt, alloc, index_store(alloc)?, logs, schedule, expected)?;
-    }
-    Ok(())
-}
-
-#[test]
-fn creates_that_fail(rt: HostRuntime) -> Result<(), Fail> {
-    let alloc = rt.alloc();
-    let table = [
-        // A publish lands.
-        (
-            "meta/00000000000000000002",
-            Landing::AfterCalls(1),
-            "at 1000\nindexer 0\nindexer 0\nindexer 0\nindexer 0\nindexer 0\nindexer 0\nindexer 0\nindexer 0\nclient a {\"search\":{\"query\":\"red\"}}\nclient a\nclient a\nclient a\n",
-            "at 1000\nindexer 0 checkpoint\nindexer 0 read 3\nindexer 0 staged 1\nindexer 0 uploaded 1\nindexer 0 storefault 0 1\nindexer 0 checkpoint\nindexer 0 read 0\nindexer 0 caughtup\na opened\na planned 3 1\na fetched 1\n{\"aggregations\":{},\"client\":\"a\",\"hits\":[{\"body\":\"red fox\"},{\"body\":\"red hen\"}],\"num_hits\":2,\"revision\":3}\n",
-        ),
-        // A publish never lands.
-        (
-            "meta/00000000000000000002",
-            Landing::Never,
-            "at 1000\nindexer 0\nindexer 0\nindexer 0\nindexer 0\nindexer 0\nindexer 0\nindexer 0\nindexer 0\nindexer 0\nindexer 0\nclient a {\"search\":{\"query\":\"red\"}}\nclient a\nclient a\nclient a\n",
-            "at 1000\nindexer 0 checkpoint\nindexer 0 read 3\nindexer 0 staged 1\nindexer 0 uploaded 1\nindexer 0 storefault 0 1\nindexer 0 checkpoint\nindexer 0 read 3\nindexer 0 staged 2\nindexer 0 uploaded 2\nindexer 0 published 2\na opened\na planned 5 1\na fetched 2\n{\"aggregations\":{},\"client\":\"a\",\"hits\":[{\"body\":\"red fox\"},{\"body\":\"red hen\"}],\"num_hits\":2,\"revision\":5}\n",
-        ),
-        // An upload never lands.
-        (
-            "splits/00000000000000000001",
-            Landing::Never,
-            "at 1000\nindexer 0\nindexer 0\nindexer 0\nindexer 0\nindexer 0\nindexer 0\nindexer 0\nindexer 0\nindexer 0\nclient a {\"search\":{\"query\":\"red\"}}\nclient a\nclient a\nclient a\n",
-            "at 1000\nindexer 0 checkpoint\nindexer 0 read 3\nindexer 0 staged 1\nindexer 0 storefault 0 1\nindexer 0 checkpoint\nindexer 0 read 3\nindexer 0 staged 2\nindexer 0 uploaded 2\nindexer 0 published 2\na opened\na planned 4 1\na fetched 2\n{\"aggregations\":{},\"client\":\"a\",\"hits\":[{\"body\":\"red fox\"},{\"body\":\"red hen\"}],\"num_hits\":2,\"revision\":4}\n",
-        ),
-    ];
-    for (key, landing, schedule, expected) in &table {
-        let store = failing_store(alloc, key, *landing)?;
-        let _ = plays(&rt, alloc, store, one_log(alloc)?, schedule, expected)?;
-    }
-    Ok(())
-}
-
-#[test]
-fn calls_that_fail(rt: HostRuntime) -> Result<(), Fail> {
-    let alloc = rt.alloc();
-    let table = [
-        // A fetch fails.
-        (
-            7u64,
-            "at 1000\nindexer 0\nindexer 0\nindexer 0\nindexer 0\nindexer 0\nclient a {\"search\":{\"query\":\"red\"}}\nclient a\nclient a\nclient a {\"search\":{\"query\":\"red\"}}\nclient a\nclient a\nclient a\n",
-            "at 1000\nindexer 0 checkpoint\nindexer 0 read 3\nindexer 0 staged 1\nindexer 0 uploaded 1\nindexer 0 published 1\na opened\na planned 3 1\n{\"client\":\"a\",\"error\":{\"after\":1,\"before\":0,\"kind\":\"StoreFault\"},\"revision\":3}\na opened\na planned 3 1\na fetched 1\n{\"aggregations\":{},\"client\":\"a\",\"hits\":[{\"body\":\"red fox\"},{\"body\":\"red hen\"}],\"num_hits\":2,\"revision\":3}\n",
-        ),
-        // A restart fails.
-        (
-            4,
-            "restart node\nindexer 0\nrestart node\n",
-            "node storefault 0 1\nindexer 0 down\nnode restarted 1\n",
-        ),
-    ];
-    for (number, schedule, expected) in &table {
-        let store = failing_call(alloc, *number)?;
-        let _ = plays(&rt, alloc, store, one_log(alloc)?, schedule, expected)?;
-    }
-    Ok(())
-}
-
-// A log whose call fails is given back with its count.
-#[test]
-fn a_source_fails(rt: HostRuntime) -> Result<(), Fail> {
-    let alloc = rt.alloc();
-    let mut log = FaultyLog::over(alloc, log_a(alloc)?);
-    log.fail_call(1)?;
-    let mut logs = Vec::new(alloc);
-    logs.push(log)?;
-    let mut words = Vec::new(alloc);
-    words.push(String::from_str(alloc, "drive")?)?;
-    let mut input = MemorySource::from_bytes(Bytes::from_slice(alloc, b"indexer 0\n")?);
-    let mut output = MemorySink::with_room(alloc, 4096)?;
-    let (finished, logs) = serve_with_logs(
-        &rt,
-        alloc,
-        words.as_slice(),
-        index_store(alloc)?,
-        logs,
+        faulty(alloc, log, None)?,
         ScriptClock::at(0),
         &mut input,
         &mut output,
     );
-    assert_eq!(rt; finished.log_faults, 1);
-    assert_eq!(rt; logs.faults(), 1);
-    assert_eq!(rt;
-        output.content().as_slice(),
-        b"indexer 0 sourcefault 0 1\n".as_slice()
-    );
+    let has_both = match str::from_utf8(output.content().as_slice()) {
+        Ok(text) => text.contains("\"num_hits\":2,"),
+        Err(_) => false,
+    };
+    Ok((finished.store, has_both))
+}
+
+// Each call of the store fails alone, in each way to land. The same schedule in a next life finds both records.
+#[test]
+fn each_call_fails_alone(rt: HostRuntime) -> Result<(), Fail> {
+    let alloc = rt.alloc();
+    let landings = [
+        Landing::AtOnce,
+        Landing::AfterCalls(1),
+        Landing::AfterCalls(3),
+        Landing::Never,
+    ];
+    let mut failed = 0u32;
+    for number in 2..9u64 {
+        for landing in landings {
+            let mut store = index_store(alloc)?;
+            store.fail_call(number, landing)?;
+            let (store, _) = lives(&rt, alloc, store)?;
+            if store.faults() > 0 {
+                failed = failed.saturating_add(1);
+                let (_, has_both) = lives(&rt, alloc, store)?;
+                assert!(rt; has_both);
+            }
+        }
+    }
+    // In each way: a list and a get at opening, three creates of the indexer, and the search's get.
+    assert_eq!(rt; failed, 24);
     Ok(())
 }
