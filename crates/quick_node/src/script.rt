@@ -570,6 +570,44 @@ record p0 {"body":"red hen"}
 > at 5
 < error 7 corrupt meta/00000000000000000000
 run 7
+row a run of 255 letters is a token, and one of 256 is none
+log
+record p0 {"body":"aaaaaaaaaaaaaaaaaaaaaaaaaaaaaaaaaaaaaaaaaaaaaaaaaaaaaaaaaaaaaaaaaaaaaaaaaaaaaaaaaaaaaaaaaaaaaaaaaaaaaaaaaaaaaaaaaaaaaaaaaaaaaaaaaaaaaaaaaaaaaaaaaaaaaaaaaaaaaaaaaaaaaaaaaaaaaaaaaaaaaaaaaaaaaaaaaaaaaaaaaaaaaaaaaaaaaaaaaaaaaaaaaaaaaaaaaaaaaaaaaaaaaaaaaaaaaaa fox"}
+record p1 {"body":"aaaaaaaaaaaaaaaaaaaaaaaaaaaaaaaaaaaaaaaaaaaaaaaaaaaaaaaaaaaaaaaaaaaaaaaaaaaaaaaaaaaaaaaaaaaaaaaaaaaaaaaaaaaaaaaaaaaaaaaaaaaaaaaaaaaaaaaaaaaaaaaaaaaaaaaaaaaaaaaaaaaaaaaaaaaaaaaaaaaaaaaaaaaaaaaaaaaaaaaaaaaaaaaaaaaaaaaaaaaaaaaaaaaaaaaaaaaaaaaaaaaaaaaaaaaaaaaa fox"}
+> at 1000
+> indexer 0
+> indexer 0
+> indexer 0
+> indexer 0
+> indexer 0
+> indexer 0
+> client a {"search":{"query":"aaaaaaaaaaaaaaaaaaaaaaaaaaaaaaaaaaaaaaaaaaaaaaaaaaaaaaaaaaaaaaaaaaaaaaaaaaaaaaaaaaaaaaaaaaaaaaaaaaaaaaaaaaaaaaaaaaaaaaaaaaaaaaaaaaaaaaaaaaaaaaaaaaaaaaaaaaaaaaaaaaaaaaaaaaaaaaaaaaaaaaaaaaaaaaaaaaaaaaaaaaaaaaaaaaaaaaaaaaaaaaaaaaaaaaaaaaaaaaaaaaaaaaaaaaaaaaa"}}
+> client a
+> client a
+> client a
+< at 1000
+< indexer 0 checkpoint
+< indexer 0 read 1
+< indexer 0 read 1
+< indexer 0 staged 1
+< indexer 0 uploaded 1
+< indexer 0 published 1
+< a opened
+< a planned 3 1
+< a fetched 1
+< {"aggregations":{},"client":"a","hits":[{"body":"aaaaaaaaaaaaaaaaaaaaaaaaaaaaaaaaaaaaaaaaaaaaaaaaaaaaaaaaaaaaaaaaaaaaaaaaaaaaaaaaaaaaaaaaaaaaaaaaaaaaaaaaaaaaaaaaaaaaaaaaaaaaaaaaaaaaaaaaaaaaaaaaaaaaaaaaaaaaaaaaaaaaaaaaaaaaaaaaaaaaaaaaaaaaaaaaaaaaaaaaaaaaaaaaaaaaaaaaaaaaaaaaaaaaaaaaaaaaaaaaaaaaaaaaaaaaaaa fox"}],"num_hits":1,"revision":3}
+run 0
+row requests that are not built
+log
+> client a {"search":{"query":"*"}}
+> client a
+> client a {"delete":{"query":"fox"}}
+> client a
+< a opened
+< {"client":"a","error":{"kind":"NotBuilt","name":"request"},"revision":1}
+< a opened
+< {"client":"a","error":{"kind":"NotBuilt","name":"request"},"revision":1}
+run 0
 row a line over its limit
 log
 record p0 {"body":"red fox"}

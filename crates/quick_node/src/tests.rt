@@ -248,7 +248,7 @@ fn rows_of_drive(rt: HostRuntime) -> Result<(), Fail> {
             _ => row.prepare(alloc, asked, rest)?,
         }
     }
-    assert_eq!(rt; runs, 33);
+    assert_eq!(rt; runs, 35);
     Ok(())
 }
 

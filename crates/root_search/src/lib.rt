@@ -12,6 +12,3 @@ mod searcher;
 pub use outcome::{SearchStep, print_outcome};
 pub use reply::{Hits, Reply, ReplyRefusal, Said, print_reply};
 pub use searcher::{Busy, Searcher};
-
-#[cfg(test)]
-mod tests;
