@@ -6,16 +6,15 @@ pub mod laws;
 mod lines;
 mod running;
 mod serving;
-mod streams;
 mod writing;
 
 use crate::serving::serve;
-use crate::streams::{StdSink, StdSource};
 use byte_fields::Bytes;
 use clock_time::ScriptClock;
 use index_world::logs_config;
 use meta_journal::{Act, Entry, encode_entry, meta_key};
 use object_store::{CreateError, ObjectStore, SteadyStore};
+use real_edge::{StdSink, StdSource};
 use source_checkpoint::Partition;
 use source_log::MemoryLog;
 use std::alloc::{AllocError, Global};
