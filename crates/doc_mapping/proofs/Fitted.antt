@@ -1,6 +1,6 @@
 -- The values of what fits a field, and the refusals of what doesn't.
-use Rattle.std.proofs.Common.{◌≡◌, ℕ, Bool, true, false, List, [], ◌∷◌, ◌++◌, Option, Some, None, Result, Ok, Err, refl, ap, sym, ◌∙◌, subst}
-use Rattle.std.specs.Prelude.{◌||◌, is_some, ℤ, if◌then◌else◌}
+use Rattle.std.proofs.Common.{◌≡◌, ℕ, Bool, false, List, [], ◌∷◌, Option, Some, None, Result, Ok, Err, refl, ap, sym, ◌∙◌}
+use Rattle.std.specs.Prelude.{◌||◌, is_some, ℤ}
 use Rattle.serde_json.specs.Data.{Data, array, Items, item}
 use Rattle.serde_json.specs.Find.{as_null, as_bool, as_str, as_array}
 use Rattle.doc_value.specs.declared.schema.Kind.{Kind}
@@ -10,10 +10,9 @@ use Rattle.doc_value.specs.declared.doc.Value.TheVariants as values
 use Rattle.index_config.specs.declared.config.Formats.{Formats}
 use Rattle.doc_mapping.specs.declared.misfit.Misfit.{Misfit}
 use Rattle.doc_mapping.specs.declared.misfit.Misfit.TheVariants as misfits
-use Rattle.doc_mapping.specs.declared.reject.Reject.{Reject}
 use Rattle.doc_mapping.specs.declared.reject.Reject.TheVariants.{WrongType}
-use Rattle.doc_mapping.specs.Documents.{text_values, i64_values, u64_values, truth_values, date_values, second_of, texts_in, list_values, values_of}
-use Rattle.doc_mapping.specs.Faults.{unless, i64_of, u64_of, all_texts, texts_only, date_fault, kind_fault, value_fault}
+use Rattle.doc_mapping.specs.Documents.{text_values, i64_values, u64_values, truth_values, date_values, texts_in, list_values, values_of}
+use Rattle.doc_mapping.specs.Faults.{unless, i64_of, u64_of, all_texts, texts_only, kind_fault, value_fault}
 use Rattle.doc_mapping.specs.Walk.{refusal_at, Fits, FitsSecond, FitsTexts, IsPlain}
 
 module _ (formats : Formats) (d : Data) (some : as_null d ≡ None) where

@@ -1,4 +1,4 @@
-use Rattle.std.proofs.Common.{length, string_bytes, ap, sym, ◌∙◌, subst, arith, rules}
+use Rattle.std.proofs.Common.{length, string_bytes, ap, sym, ◌∙◌, subst, arith}
 use Rattle.serde_json.specs.View.{view, members_view}
 use Rattle.std.specs.Cmp.{unsigned_Decides}
 use Rattle.doc_value.specs.Documents.{number_of}
