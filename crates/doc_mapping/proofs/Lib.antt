@@ -3,7 +3,6 @@ pub mod Splitting
 pub mod Answering
 pub mod Rising
 pub mod Fitting
-pub mod Fitted
 pub mod Holding
 pub mod Walked
 pub mod Recorded
