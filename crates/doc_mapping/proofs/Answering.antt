@@ -1,17 +1,22 @@
 -- The answer by what the bytes are.
-use Rattle.std.proofs.Common.{◌≡◌, ℕ, ◌≤◌, nat_lt, false, List, length, Option, Result, Ok, Err, refl, sym, subst, arith, inl, inr}
+use Rattle.std.proofs.Common.{◌≡◌, ℕ, ◌≤◌, nat_le, nat_lt, Bool, true, false, List, [], length, Option, Some, None, Result, Ok, Err, refl, ap, sym, ◌∙◌, subst, arith, inl, inr, IsTrue}
+use Rattle.std.specs.Prelude.{MatchOption, unwrap_or}
 use Rattle.std.specs.Result.{MatchResult}
 use Rattle.std.specs.Str.{is_utf8, IsUtf8}
 use Rattle.std.proofs.lemmas.Bool.{cases_Bool}
 use Rattle.std.proofs.lemmas.Bool.Decides.{nat_tests}
 use Rattle.std.proofs.lemmas.Str.{IsUtf8-from_is_utf8, is_utf8-from_IsUtf8}
-use Rattle.serde_json.specs.Data.{Data}
+use Rattle.serde_json.specs.Data.{Data, Members, depth}
+use Rattle.serde_json.specs.Find.{as_object}
 use Rattle.serde_json.specs.Read.{read}
 use Rattle.doc_value.specs.declared.doc.DocField.{DocField}
 use Rattle.index_config.specs.declared.config.IndexConfig.{IndexConfig}
 use Rattle.doc_mapping.specs.declared.reject.Reject.{Reject}
-use Rattle.doc_mapping.specs.declared.reject.Reject.TheVariants.{NotJson}
-use Rattle.doc_mapping.specs.Answer.{answer, read_answer, max_record, IsMemory}
+use Rattle.doc_mapping.specs.declared.reject.Reject.TheVariants.{NotJson, MissingTimestamp}
+use Rattle.doc_mapping.specs.Answer.{answer, read_answer, fitting_answer, timed_answer, lacks_timestamp, max_record, max_levels, IsMemory}
+use Rattle.doc_mapping.specs.Documents.{doc_from}
+use Rattle.doc_mapping.specs.Faults.{inner_fault}
+use Rattle.doc_mapping.proofs.Choices.{inner-object}
 
 short : (bytes : List ℕ) → length bytes ≤ 1048576 → nat_lt max_record (length bytes) ≡ false
 short bytes h = grind (arith, nat_tests)
@@ -34,3 +39,26 @@ pub answered : (result : Result (List DocField) Reject) (x y : Result (List DocF
     → MatchResult result (λ doc. y ≡ Ok doc) (λ refusal. ¬ (IsMemory refusal) → y ≡ Err refusal)
 answered result x y e h =
     subst (λ (z : Result (List DocField) Reject). MatchResult result (λ doc. z ≡ Ok doc) (λ refusal. ¬ (IsMemory refusal) → z ≡ Err refusal)) (sym e) h
+
+-- the answer of an object that nests to few levels
+answer-object : (config : IndexConfig) (d : Data) (ms : Members) → Some ms ≡ as_object d → true ≡ nat_le (depth d) max_levels
+    → read_answer config (Some d) ≡ fitting_answer config d (inner_fault config [] d)
+answer-object config d ms o deep =
+    rw (← o, ← deep) (ap (fitting_answer config d) (sym (inner-object config [] d ms o)))
+
+module _ (config : IndexConfig) (d : Data) (ms : Members) (there : Some ms ≡ as_object d) (deep : true ≡ nat_le (depth d) max_levels)
+    (fits : inner_fault config [] d ≡ None) (doc : List DocField) (made : doc ≡ doc_from 0 config.schema.fields d) where
+  timed : read_answer config (Some d) ≡ timed_answer config.timestamp_field doc
+  timed = answer-object config d ms there deep ∙ ap (fitting_answer config d) fits ∙ ap (timed_answer config.timestamp_field) (sym made)
+
+  pub answer-timed : lacks_timestamp config.timestamp_field doc ≡ false → read_answer config (Some d) ≡ Ok doc
+  answer-timed e = timed ∙ rw e refl
+
+  pub answer-no_time : lacks_timestamp config.timestamp_field doc ≡ true → read_answer config (Some d) ≡ Err MissingTimestamp
+  answer-no_time e = timed ∙ rw e refl
+
+-- the document is what was looked for, or else what was gathered
+pub the_doc : (made parts : List DocField) (regular : Bool) (o : Option (List DocField)) → MatchOption o (IsTrue regular) (λ doc. doc ≡ made)
+    → (IsTrue regular → parts ≡ made) → unwrap_or o parts ≡ made
+the_doc made parts regular None h gathered = gathered h
+the_doc made parts regular (Some doc) h gathered = h

@@ -31,7 +31,7 @@ use Rattle.index_config.specs.declared.config.IndexConfig.{IndexConfig}
 use Rattle.doc_mapping.specs.Documents.{value_at, values_of, found_values, doc_from}
 use Rattle.doc_mapping.specs.Faults.{under, formats_at, has_dot, is_object, first_of, value_fault, field_fault, key_fault, members_fault, inner_fault}
 use Rattle.doc_mapping.specs.Held.{values_at, ArePlain}
-use Rattle.doc_mapping.specs.Walk.{AreRegular, RiseFrom, Enters, HasEntered, LiesAt, IsFree, Brings, Gathers, GoesBy, AreFree, BringAll, GatherAll}
+use Rattle.doc_mapping.specs.Walk.{AreRegular, RiseFrom, Enters, HasEntered, LiesAt, IsFree, Brings, Gathers, GoesBy, AreFree, BringAll, GatherAll, GatherInner}
 use Rattle.doc_mapping.proofs.Holding.{same_key, no_object, number_stands, object_by, object_from, name_first, plain_names, front}
 use Rattle.doc_mapping.proofs.Recorded.{own_order, values_found}
 use Rattle.doc_mapping.proofs.Numbering.{same_parts, doc_rises, values_past}
@@ -395,6 +395,26 @@ module _ (fields : List Field) (d : Data) (old new : List DocField) where
   gathers_within (Err e) place ms o n i h = tt
   gathers_within (Ok fault) place ms o n i h = λ none.
       subst (λ (x : Data). Gathers fields place x old new) (sym (object_of d ms o)) (inner_brings fields place ms old new (sym n) i (h none))
+
+  pub gathers_inner : (r : Result (Option Reject) AllocError) (place : List ℕ) → None ≡ number_of fields place → is_object fields (place ++ 46 ∷ []) ≡ true
+      → IfOk r (λ fault. fault ≡ None → GatherInner fields place (as_object d) old new) → GathersOn r place
+  gathers_inner r place n i h = by (as_object d) refl h
+    where
+      flat : (q : Result (Option Reject) AllocError) → as_object d ≡ None → IfOk q (λ fault. fault ≡ None → new ≡ old) → GathersOn q place
+      flat (Err x) e g = tt
+      flat (Ok fault) e g = λ none. subst (λ (x : List DocField). Gathers fields place d old x) (sym (g none)) (flat_there fields place d old (sym n) e)
+
+      by : (o : Option Members) → as_object d ≡ o → IfOk r (λ fault. fault ≡ None → GatherInner fields place o old new) → GathersOn r place
+      by (Some ms) e g = gathers_within r place ms (sym e) n i g
+      by None e g = flat r e g
+
+-- what is gathered of a record where an object is asked
+pub inner_gathered : (fields : List Field) (d : Data) (ms : Members) (old new : List DocField) → Some ms ≡ as_object d → old ≡ []
+    → GatherInner fields [] (as_object d) old new → AreRegular fields → new ≡ doc_from 0 fields d
+inner_gathered fields d ms old new o e h regular =
+    let inner : GatherAll fields [] ms old new = subst (λ (m : Option Members). GatherInner fields [] m old new) (sym o) h in
+    whole_gathered fields ms new regular (subst (λ (xs : List DocField). GatherAll fields [] ms xs new) e inner)
+    ∙ ap (doc_from 0 fields) (sym (object_of d ms o))
 
 module _ (config : IndexConfig) (path : List ℕ) (d : Data) (number : ℕ) (found_there : Some number ≡ number_of config.schema.fields path) where
   stands : (f : Field) × ((slice_get config.schema.fields number ≡ Some f) × (f.path ≡ path))

@@ -1,33 +1,57 @@
 -- What one walk over a record's keys gathers: for each field the values that stand at its path.
-use Rattle.std.specs.Prelude.{◌≡◌, ◌≢◌, ◌⊎◌, ℕ, suc, false, ◌≤◌, List, [], ◌∷◌, ◌++◌, slice_get, Option, Some, None, ℤ}
-use Rattle.serde_json.specs.Data.{Data, object, Members}
+use Rattle.std.specs.Prelude.{◌≡◌, ◌≢◌, ◌⊎◌, ℕ, suc, true, false, ◌≤◌, List, [], ◌∷◌, ◌++◌, slice_get, Option, Some, None, Result, Ok, Err, ℤ}
+use Rattle.serde_json.specs.Data.{Data, object, Items, Members}
 use Rattle.serde_json.specs.Find.{as_str}
 use Rattle.doc_value.specs.declared.schema.Field.{Field}
 use Rattle.doc_value.specs.declared.schema.Kind.{Kind}
+use Rattle.doc_value.specs.declared.schema.Kind.TheVariants as kinds
 use Rattle.doc_value.specs.declared.doc.Value.{Value}
 use Rattle.doc_value.specs.declared.doc.DocField.{DocField}
 use Rattle.doc_value.specs.Documents.{PathsRise}
 use Rattle.doc_value.specs.Printed.{names_of}
 use Rattle.index_config.specs.Accepted.{BeginPlain}
 use Rattle.index_config.specs.declared.config.Formats.{Formats}
-use Rattle.doc_mapping.specs.Documents.{value_at, second_of, values_of, found_values}
-use Rattle.doc_mapping.specs.Faults.{under, has_dot, i64_of, u64_of, date_fault, value_fault}
+use Rattle.doc_mapping.specs.declared.misfit.Misfit.{Misfit}
+use Rattle.doc_mapping.specs.declared.misfit.Misfit.TheVariants as misfits
+use Rattle.doc_mapping.specs.declared.reject.Reject.{Reject}
+use Rattle.doc_mapping.specs.declared.reject.Reject.TheVariants.{WrongType, BadDate}
+use Rattle.doc_mapping.specs.Documents.{value_at, second_of, texts_in, values_of, found_values}
+use Rattle.doc_mapping.specs.Faults.{under, has_dot, i64_of, u64_of, all_texts, date_fault, value_fault}
 use Rattle.doc_mapping.specs.Held.{values_at}
 
 -- the paths of the fields rise, and none begins with a dot
 abbrev pub AreRegular : List Field → Type 0
 AreRegular fields = PathsRise fields × BeginPlain fields
 
--- the values of what fits a field, and none of what doesn't fit
-abbrev pub Fits : Kind → Formats → Data → Option (List Value) → Type 0
-Fits kind formats d None = (path : List ℕ) → value_fault kind formats path d ≢ None
-Fits kind formats d (Some vs) = ((path : List ℕ) → value_fault kind formats path d ≡ None) × (vs ≡ values_of kind d)
+-- the refusal of a value that doesn't fit, at its path
+abbrev pub refusal_at : List ℕ → Misfit → Reject
+refusal_at path misfits.WrongType = WrongType path
+refusal_at path misfits.BadDate = BadDate path
 
--- the second of what fits a datetime field, and none of what doesn't fit
-abbrev pub FitsSecond : Formats → Data → Option ℤ → Type 0
-FitsSecond formats d None = (path : List ℕ) → date_fault formats path (as_str d) (i64_of d) (u64_of d) ≢ None
-FitsSecond formats d (Some second) =
+-- the values of what fits a field, or its refusal
+abbrev pub Fits : Kind → Formats → Data → Result (List Value) Misfit → Type 0
+Fits kind formats d (Ok vs) = ((path : List ℕ) → value_fault kind formats path d ≡ None) × (vs ≡ values_of kind d)
+Fits kind formats d (Err misfit) = (path : List ℕ) → value_fault kind formats path d ≡ Some (refusal_at path misfit)
+
+-- the second of what fits a datetime field, or its refusal
+abbrev pub FitsSecond : Formats → Data → Result ℤ Misfit → Type 0
+FitsSecond formats d (Ok second) =
     ((path : List ℕ) → date_fault formats path (as_str d) (i64_of d) (u64_of d) ≡ None) × (second_of (as_str d) (i64_of d) ≡ Some second)
+FitsSecond formats d (Err misfit) = (path : List ℕ) → date_fault formats path (as_str d) (i64_of d) (u64_of d) ≡ Some (refusal_at path misfit)
+
+-- the texts of an array of strings, or that it has another item
+abbrev pub FitsTexts : Items → Result (List Value) Misfit → Type 0
+FitsTexts ds (Ok vs) = (all_texts ds ≡ true) × (vs ≡ texts_in ds)
+FitsTexts ds (Err misfit) = (all_texts ds ≡ false) × (misfit ≡ misfits.WrongType)
+
+-- a kind whose values are whole numbers or truth values
+abbrev pub IsPlain : Kind → Type 0
+IsPlain kinds.I64 = Unit {0}
+IsPlain kinds.U64 = Unit {0}
+IsPlain kinds.Bool = Unit {0}
+IsPlain kinds.Text = ⊥
+IsPlain kinds.Datetime = ⊥
+IsPlain kinds.TextList = ⊥
 
 -- a document's parts from a number on: their numbers rise, and each has values
 abbrev pub RiseFrom : ℕ → List DocField → Type 0
@@ -81,3 +105,8 @@ pub record BringAll (fields : List Field) (prefix : List ℕ) (ms : Members) (ol
 
 abbrev pub GatherAll : List Field → List ℕ → Members → List DocField → List DocField → Type 0
 GatherAll fields prefix ms old new = AreRegular fields → RiseFrom 0 old → AreFree fields prefix old → BringAll fields prefix ms old new
+
+-- the same, of a value where an object is asked
+abbrev pub GatherInner : List Field → List ℕ → Option Members → List DocField → List DocField → Type 0
+GatherInner fields path None old new = new ≡ old
+GatherInner fields path (Some ms) old new = GatherAll fields path ms old new

@@ -1,15 +1,15 @@
-ghost use Rattle.std.specs.Prelude.{◌≡◌, Ok, Err, Some, MatchResult, IsTrue, IfOk};
+ghost use Rattle.std.specs.Prelude.{◌≡◌, Ok, Err, Some, MatchResult, MatchOption, IsTrue, IfOk, unwrap_or};
 ghost use Rattle.serde_json.specs.View.{view};
 ghost use Rattle.doc_mapping.specs.Answer.{answer, read_answer, lacks_timestamp, IsMemory};
 ghost use Rattle.doc_mapping.specs.Documents.{doc_from, has_number};
 ghost use Rattle.doc_mapping.specs.Walk.{AreRegular};
 
 use crate::documents::doc_of;
-use crate::faults::are_regular;
+use crate::finder::Finder;
 use crate::levels::is_within;
 use crate::parts::Parts;
 use crate::reject::Reject;
-use crate::walk::members_fault;
+use crate::walk::inner_fault;
 use doc_value::{Doc, Fields};
 use index_config::IndexConfig;
 use serde_json::Value;
@@ -29,17 +29,18 @@ pub fn accept(alloc: Global, config: &IndexConfig, bytes: &[u8]) -> Result<Doc, 
         (λ doc. answer config.now bytes.now ≡ Ok doc)
         (λ refusal. ¬ IsMemory refusal → answer config.now bytes.now ≡ Err refusal) }
 {
-    accept_by(alloc, config, are_regular(&config.schema.fields), bytes)
+    let finder = Finder::for_one(&config.schema.fields);
+    accept_by(alloc, config, &finder, bytes)
 }
 
-/// The same, told whether the fields are regular.
+/// The same, told where fields are looked for first.
 pub fn accept_by(
     alloc: Global,
     config: &IndexConfig,
-    regular: bool,
+    finder: &Finder,
     bytes: &[u8],
 ) -> Result<Doc, Reject>
-    requires rising { IsTrue regular → AreRegular config.now.schema.fields }
+    requires rising { IsTrue finder.now.regular → AreRegular config.now.schema.fields }
     ensures { MatchResult result
         (λ doc. answer config.now bytes.now ≡ Ok doc)
         (λ refusal. ¬ IsMemory refusal → answer config.now bytes.now ≡ Err refusal) }
@@ -51,7 +52,7 @@ pub fn accept_by(
         return Err(Reject::NotJson);
     };
     match Value::from_str(alloc, text) {
-        Ok(value) => accept_value(alloc, config, regular, &value),
+        Ok(value) => accept_value(alloc, config, finder, value),
         Err(error) => {
             if error.is_memory() {
                 Err(Reject::Memory(AllocError))
@@ -65,47 +66,56 @@ pub fn accept_by(
 fn accept_value(
     alloc: Global,
     config: &IndexConfig,
-    regular: bool,
-    value: &Value,
+    finder: &Finder,
+    value: Value,
 ) -> Result<Doc, Reject>
-    requires rising { IsTrue regular → AreRegular config.now.schema.fields }
+    requires rising { IsTrue finder.now.regular → AreRegular config.now.schema.fields }
     ensures { MatchResult result
-        (λ doc. read_answer config.now (Some (view value.now)) ≡ Ok doc)
-        (λ refusal. ¬ IsMemory refusal → read_answer config.now (Some (view value.now)) ≡ Err refusal) }
+        (λ doc. read_answer config.now (Some (view value)) ≡ Ok doc)
+        (λ refusal. ¬ IsMemory refusal → read_answer config.now (Some (view value)) ≡ Err refusal) }
 {
     let Some(map) = value.as_object() else {
         return Err(Reject::NotObject);
     };
-    if !is_within(value, MAX_LEVELS) {
+    let room = map.len().min(config.schema.fields.len());
+    if !is_within(&value, MAX_LEVELS) {
         return Err(Reject::TooDeep);
     }
-    let room = map.len().min(config.schema.fields.len());
+    let looked_for = looked_for(alloc, &config.schema.fields, finder.regular, &value)?;
     let mut parts = Parts::with_capacity(alloc, room)?;
-    if let Some(refusal) = members_fault(alloc, config, regular, "", map, MAX_LEVELS, &mut parts)? {
+    if let Some(refusal) = inner_fault(alloc, config, finder, "", value, MAX_LEVELS, &mut parts)? {
         return Err(refusal);
     }
-    let doc = doc_by(alloc, &config.schema.fields, regular, parts, value)?;
+    let doc = doc_by(looked_for, parts);
     if is_timestamp_missing(config.timestamp_field, &doc) {
         return Err(Reject::MissingTimestamp);
     }
     Ok(doc)
 }
 
-/// The document: the parts that the walk gathered, or where the fields are not regular what is looked for path by path.
-fn doc_by(
+/// Where the fields are not regular, the document that is looked for path by path.
+fn looked_for(
     alloc: Global,
     fields: &Fields,
     regular: bool,
-    parts: Parts,
     value: &Value,
-) -> Result<Doc, AllocError>
-    requires { IsTrue regular → parts.items ≡ doc_from 0 fields.now (view value.now) }
-    ensures { IfOk result (λ doc. doc ≡ doc_from 0 fields.now (view value.now)) }
+) -> Result<Option<Doc>, AllocError>
+    ensures { IfOk result (λ found. MatchOption found (IsTrue regular) (λ doc. doc ≡ doc_from 0 fields.now (view value.now))) }
 {
     if regular {
-        return Ok(Doc::from_vec(parts));
+        return Ok(None);
     }
-    doc_of(alloc, fields, value)
+    Ok(Some(doc_of(alloc, fields, value)?))
+}
+
+/// The document: what was looked for, or else the parts that the walk gathered.
+fn doc_by(looked_for: Option<Doc>, parts: Parts) -> Doc
+    ensures { result ≡ unwrap_or looked_for parts.items }
+{
+    match looked_for {
+        Some(doc) => doc,
+        None => Doc::from_vec(parts),
+    }
 }
 
 fn is_timestamp_missing(timestamp: Option<usize>, doc: &Doc) -> bool

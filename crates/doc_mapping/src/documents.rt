@@ -1,16 +1,13 @@
-ghost use Rattle.std.specs.Prelude.{◌≡◌, ◌++◌, ◌∷◌, [], None, IfOk, OnOk, option_map};
-ghost use Rattle.serde_json.specs.Find.{as_null, as_str, as_array};
+ghost use Rattle.std.specs.Prelude.{◌≡◌, ◌++◌, ◌∷◌, [], IfOk, OnOk, option_map};
+ghost use Rattle.serde_json.specs.Find.{as_str, as_array};
 ghost use Rattle.serde_json.specs.View.{view, items_view};
 ghost use Rattle.doc_value.specs.Printed.{names_of};
 ghost use Rattle.doc_mapping.specs.Faults.{i64_of};
 ghost use Rattle.clock_time.specs.Datetimes.{rfc3339_seconds, unix_seconds};
 ghost use Rattle.doc_mapping.specs.Documents as spec;
-ghost use Rattle.doc_mapping.specs.Walk.{Fits, FitsSecond};
 
-use crate::faults::value_fault;
 use clock_time::{read_rfc3339, read_unix};
 use doc_value::{Doc, DocField, Field, Fields, Kind, Text, Value as DocValue, Values};
-use index_config::Formats;
 use serde_json::Value;
 use std::alloc::{AllocError, Global};
 
@@ -65,74 +62,8 @@ fn value_at<'a>(root: &'a Value, path: &str) -> Option<&'a Value>
     }
 }
 
-/// The values of a value that fits a field, or none where it doesn't; a date is read once.
-pub fn fitting_values(
-    alloc: Global,
-    kind: Kind,
-    formats: Formats,
-    value: &Value,
-) -> Result<Option<Values>, AllocError>
-    ensures { IfOk result (Fits kind formats (view value.now)) }
-{
-    if value.is_null() {
-        return Ok(Some(Values::vacant(alloc)));
-    }
-    match kind {
-        Kind::Datetime => fitting_date(alloc, formats, value),
-        _ => fitting_others(alloc, kind, formats, value),
-    }
-}
-
-fn fitting_others(
-    alloc: Global,
-    kind: Kind,
-    formats: Formats,
-    value: &Value,
-) -> Result<Option<Values>, AllocError>
-    ensures { IfOk result (Fits kind formats (view value.now)) }
-{
-    if value_fault(kind, formats, Text::vacant(alloc), value).is_some() {
-        return Ok(None);
-    }
-    Ok(Some(values_of(alloc, kind, value)?))
-}
-
-fn fitting_date(
-    alloc: Global,
-    formats: Formats,
-    value: &Value,
-) -> Result<Option<Values>, AllocError>
-    requires { as_null (view value.now) ≡ None }
-    ensures { IfOk result (Fits Kind.Datetime formats (view value.now)) }
-{
-    match fitting_second(formats, value) {
-        Some(second) => Ok(Some(one_value(alloc, DocValue::Datetime(second))?)),
-        None => Ok(None),
-    }
-}
-
-/// The second of a text or of a whole number, spelled as the formats take it.
-fn fitting_second(formats: Formats, value: &Value) -> Option<i64>
-    ensures { FitsSecond formats (view value.now) result }
-{
-    if let Some(text) = value.as_str() {
-        return if formats.rfc3339 {
-            second_of_text(text)
-        } else {
-            None
-        };
-    }
-    if !formats.unix {
-        return None;
-    }
-    match value.as_i64() {
-        Some(number) => second_of_number(number),
-        None => None,
-    }
-}
-
 /// One value, in a list with room for no other.
-fn one_value(alloc: Global, value: DocValue) -> Result<Values, AllocError>
+pub fn one_value(alloc: Global, value: DocValue) -> Result<Values, AllocError>
     ensures { IfOk result (λ values. values ≡ value ∷ []) }
 {
     let mut held = Vec::with_capacity(alloc, 1)?;
@@ -141,7 +72,7 @@ fn one_value(alloc: Global, value: DocValue) -> Result<Values, AllocError>
 }
 
 /// The values of a field of this kind.
-fn values_of(alloc: Global, kind: Kind, value: &Value) -> Result<Values, AllocError>
+pub fn values_of(alloc: Global, kind: Kind, value: &Value) -> Result<Values, AllocError>
     ensures { IfOk result (λ values. values ≡ spec.values_of kind (view value.now)) }
 {
     match kind {
@@ -188,13 +119,13 @@ fn second_of(value: &Value) -> Option<i64>
     }
 }
 
-fn second_of_text(text: &str) -> Option<i64>
+pub fn second_of_text(text: &str) -> Option<i64>
     ensures { result ≡ rfc3339_seconds text.now }
 {
     read_rfc3339(text).ok()
 }
 
-fn second_of_number(number: i64) -> Option<i64>
+pub fn second_of_number(number: i64) -> Option<i64>
     ensures { result ≡ unix_seconds number }
 {
     read_unix(number).ok()

@@ -10,104 +10,10 @@ ghost use Rattle.index_config.specs.Accepted.{BeginPlain};
 ghost use Rattle.doc_mapping.specs.Faults as spec;
 ghost use Rattle.doc_mapping.specs.Walk.{AreRegular};
 
-use crate::reject::Reject;
-use clock_time::{read_rfc3339, read_unix};
-use doc_value::{Field, Fields, Kind, Schema, Text};
+use crate::finder::Finder;
+use doc_value::{Field, Fields, Schema};
 use index_config::{FieldFormats, Formats};
-use serde_json::Value;
 use std::cmp::Ordering;
-
-/// A refusal unless a test passes.
-pub fn unless(passes: bool, refusal: Reject) -> Option<Reject>
-    ensures { result ≡ spec.unless passes refusal }
-{
-    if passes { None } else { Some(refusal) }
-}
-
-/// The first refusal of a value where a field of this kind stands.
-pub fn value_fault(kind: Kind, formats: Formats, path: Text, value: &Value) -> Option<Reject>
-    ensures { result ≡ spec.value_fault kind formats path (view value.now) }
-{
-    if value.is_null() {
-        return None;
-    }
-    match kind {
-        Kind::Text => unless(value.is_string(), Reject::WrongType { path }),
-        Kind::I64 => unless(value.is_i64(), Reject::WrongType { path }),
-        Kind::U64 => unless(value.is_u64(), Reject::WrongType { path }),
-        Kind::Bool => unless(value.is_boolean(), Reject::WrongType { path }),
-        Kind::Datetime => date_fault(formats, path, value),
-        Kind::TextList => unless(
-            value.is_string() || is_texts(value),
-            Reject::WrongType { path },
-        ),
-    }
-}
-
-fn date_fault(formats: Formats, path: Text, value: &Value) -> Option<Reject>
-    ensures { result ≡ spec.date_fault formats path (as_str (view value.now)) (spec.i64_of (view value.now)) (spec.u64_of (view value.now)) }
-{
-    if let Some(text) = value.as_str() {
-        return text_fault(formats, path, text);
-    }
-    if formats.unix && (value.is_i64() || value.is_u64()) {
-        number_fault(path, value.as_i64())
-    } else {
-        Some(Reject::WrongType { path })
-    }
-}
-
-fn text_fault(formats: Formats, path: Text, text: &str) -> Option<Reject>
-    ensures { result ≡ spec.date_fault formats path (Some text.now) None None }
-{
-    if formats.rfc3339 {
-        unless(is_date(text), Reject::BadDate { path })
-    } else {
-        Some(Reject::WrongType { path })
-    }
-}
-
-fn number_fault(path: Text, number: Option<i64>) -> Option<Reject>
-    ensures { result ≡ spec.number_fault path number }
-{
-    match number {
-        Some(number) => unless(is_unix(number), Reject::BadDate { path }),
-        None => Some(Reject::BadDate { path }),
-    }
-}
-
-fn is_date(text: &str) -> bool
-    ensures { result ≡ is_some (rfc3339_seconds text.now) }
-{
-    read_rfc3339(text).is_ok()
-}
-
-fn is_unix(number: i64) -> bool
-    ensures { result ≡ is_some (unix_seconds number) }
-{
-    read_unix(number).is_ok()
-}
-
-/// Whether a value is an array of strings.
-fn is_texts(value: &Value) -> bool
-    ensures { result ≡ spec.texts_only (as_array (view value.now)) }
-{
-    match value.as_array() {
-        Some(items) => are_texts(items.as_slice()),
-        None => false,
-    }
-}
-
-fn are_texts(items: &[Value]) -> bool
-    ensures { result ≡ spec.all_texts (items_view items.now) }
-{
-    for item in items {
-        if !item.is_string() {
-            return false;
-        }
-    }
-    true
-}
 
 /// The spellings that a field takes.
 pub fn formats_at(formats: &FieldFormats, number: usize) -> Formats
@@ -209,19 +115,23 @@ pub fn are_regular(fields: &Fields) -> bool
     paths_rise(fields) && begin_plain(fields)
 }
 
-/// The number of the field with this path: where the fields are regular the guess, if it is right, or else found in
-/// logarithmic time.
-pub fn number_of(schema: &Schema, regular: bool, guess: usize, path: &[u8]) -> Option<usize>
-    requires { IsTrue regular → AreRegular schema.now.fields }
+/// The number of the field with this path: where the fields are regular the guess or the finder's, if one is right, or
+/// else found in logarithmic time.
+pub fn number_of(schema: &Schema, finder: &Finder, guess: usize, path: &[u8]) -> Option<usize>
+    requires { IsTrue finder.now.regular → AreRegular schema.now.fields }
     ensures { result ≡ words.number_of schema.now.fields path.now }
 {
-    if regular {
-        if is_at(&schema.fields, guess, path) {
-            return Some(guess);
-        }
-        return schema.number_of(path);
+    if !finder.regular {
+        return first_number_of(schema.fields.as_slice(), path);
     }
-    first_number_of(schema.fields.as_slice(), path)
+    if is_at(&schema.fields, guess, path) {
+        return Some(guess);
+    }
+    let likely = finder.likely(path);
+    if is_at(&schema.fields, likely, path) {
+        return Some(likely);
+    }
+    schema.number_of(path)
 }
 
 /// Whether the field of this number has this path.

@@ -4,11 +4,14 @@
 mod accepting;
 mod documents;
 mod faults;
+mod finder;
 pub mod laws;
 mod levels;
 mod mapping;
+mod misfit;
 mod parts;
 pub mod reject;
+mod taking;
 mod walk;
 
 pub use accepting::{MAX_LEVELS, MAX_RECORD, accept};

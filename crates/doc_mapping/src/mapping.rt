@@ -2,7 +2,7 @@ ghost use Rattle.std.specs.Prelude.{◌≡◌, Ok, Err, MatchResult};
 ghost use Rattle.doc_mapping.specs.Answer.{answer, IsMemory};
 
 use crate::accepting::accept_by;
-use crate::faults::are_regular;
+use crate::finder::Finder;
 use crate::reject::Reject;
 use doc_value::Doc;
 use index_config::IndexConfig;
@@ -13,7 +13,7 @@ use std::marker::Model;
 #[derive(Debug, Drop)]
 pub struct Mapping {
     config: IndexConfig,
-    regular: bool,
+    finder: Finder,
 }
 
 impl Model for Mapping {
@@ -25,15 +25,15 @@ impl Model for Mapping {
 
     ghost view = { λ m. m.config };
 
-    ghost invariant = { λ m. IsTrue m.regular → AreRegular m.config.schema.fields };
+    ghost invariant = { λ m. IsTrue m.finder.regular → AreRegular m.config.schema.fields };
 }
 
 impl Mapping {
     pub fn new(config: IndexConfig) -> Mapping
         ensures { result ≡ config }
     {
-        let regular = are_regular(&config.schema.fields);
-        Mapping { config, regular }
+        let finder = Finder::for_many(&config.schema.fields);
+        Mapping { config, finder }
     }
 
     pub fn config(&self) -> &IndexConfig
@@ -48,6 +48,6 @@ impl Mapping {
             (λ doc. answer self.now bytes.now ≡ Ok doc)
             (λ refusal. ¬ IsMemory refusal → answer self.now bytes.now ≡ Err refusal) }
     {
-        accept_by(alloc, &self.config, self.regular, bytes)
+        accept_by(alloc, &self.config, &self.finder, bytes)
     }
 }

@@ -5,13 +5,15 @@ ghost use Rattle.serde_json.specs.View.{view, members_view};
 ghost use Rattle.doc_mapping.specs.Faults as spec;
 ghost use Rattle.serde_json.specs.Find.{as_object, as_null};
 ghost use Rattle.doc_mapping.specs.declared.reject.Reject.TheVariants.{WrongType};
-ghost use Rattle.doc_mapping.specs.Walk.{AreRegular, GatherAll, Gathers, HasEntered, RiseFrom};
+ghost use Rattle.doc_mapping.specs.Walk.{AreRegular, GatherAll, GatherInner, Gathers, HasEntered, RiseFrom};
 ghost use Rattle.doc_mapping.specs.Held.{values_at};
 
-use crate::documents::fitting_values;
-use crate::faults::{formats_at, is_object, number_of, value_fault};
+use crate::faults::{formats_at, is_object, number_of};
+use crate::finder::Finder;
+use crate::misfit::fitting_values;
 use crate::parts::{Parts, next_number, put};
 use crate::reject::Reject;
+use crate::taking::into_members;
 use doc_value::Text;
 use index_config::{IndexConfig, Mode};
 use serde_json::{Map, Value};
@@ -19,26 +21,26 @@ use std::alloc::{AllocError, Global};
 
 /// The first refusal among the keys of an object with this path; where there is none, the parts have its values.
 #[cycle(walk)]
-pub fn members_fault(
+fn members_fault(
     alloc: Global,
     config: &IndexConfig,
-    regular: bool,
+    finder: &Finder,
     prefix: &str,
-    map: &Map<String, Value>,
+    map: Map<String, Value>,
     levels: usize,
     parts: &mut Parts,
 ) -> Result<Option<Reject>, AllocError>
-    requires rising { IsTrue regular → AreRegular config.now.schema.fields }
-    requires shallow { members_depth (members_view map.now.entries) ≤ levels }
-    ensures fault { IfOk result (λ fault. fault ≡ spec.members_fault config.now prefix.now (members_view map.now.entries)) }
+    requires rising { IsTrue finder.now.regular → AreRegular config.now.schema.fields }
+    requires shallow { members_depth (members_view map.entries) ≤ levels }
+    ensures fault { IfOk result (λ fault. fault ≡ spec.members_fault config.now prefix.now (members_view map.entries)) }
     ensures gathers { IfOk result (λ fault. fault ≡ None →
-        GatherAll config.now.schema.fields prefix.now (members_view map.now.entries) parts.old.items parts.new.items) }
+        GatherAll config.now.schema.fields prefix.now (members_view map.entries) parts.old.items parts.new.items) }
 {
     for (key, value) in map {
         let fault = key_fault(
             alloc,
             config,
-            regular,
+            finder,
             prefix,
             key.as_str(),
             value,
@@ -57,30 +59,30 @@ pub fn members_fault(
 fn key_fault(
     alloc: Global,
     config: &IndexConfig,
-    regular: bool,
+    finder: &Finder,
     prefix: &str,
     key: &str,
-    value: &Value,
+    value: Value,
     levels: usize,
     parts: &mut Parts,
 ) -> Result<Option<Reject>, AllocError>
-    requires rising { IsTrue regular → AreRegular config.now.schema.fields }
-    requires shallow { depth (view value.now) ≤ levels }
+    requires rising { IsTrue finder.now.regular → AreRegular config.now.schema.fields }
+    requires shallow { depth (view value) ≤ levels }
     ensures fault { IfOk result (λ fault. fault ≡
-        spec.key_fault config.now (spec.under prefix.now key.now) key.now (view value.now)
-        (spec.inner_fault config.now (spec.under prefix.now key.now) (view value.now))) }
+        spec.key_fault config.now (spec.under prefix.now key.now) key.now (view value)
+        (spec.inner_fault config.now (spec.under prefix.now key.now) (view value))) }
     ensures dotted { spec.has_dot key.now ≡ true → parts.new.items ≡ parts.old.items }
     ensures gathers { spec.has_dot key.now ≡ false → IfOk result (λ fault. fault ≡ None →
-        Gathers config.now.schema.fields (spec.under prefix.now key.now) (view value.now) parts.old.items parts.new.items) }
+        Gathers config.now.schema.fields (spec.under prefix.now key.now) (view value) parts.old.items parts.new.items) }
 {
     if has_dot(key) {
         return unmapped_key(alloc, config, prefix, key);
     }
     if prefix.is_empty() {
-        return path_fault(alloc, config, regular, key, value, levels, parts);
+        return path_fault(alloc, config, finder, key, value, levels, parts);
     }
     let path = under(alloc, prefix, key)?;
-    path_fault(alloc, config, regular, path.as_str(), value, levels, parts)
+    path_fault(alloc, config, finder, path.as_str(), value, levels, parts)
 }
 
 /// The first refusal of a value at this path, behind a key without a dot.
@@ -88,29 +90,49 @@ fn key_fault(
 fn path_fault(
     alloc: Global,
     config: &IndexConfig,
-    regular: bool,
+    finder: &Finder,
     path: &str,
-    value: &Value,
+    value: Value,
     levels: usize,
     parts: &mut Parts,
 ) -> Result<Option<Reject>, AllocError>
-    requires rising { IsTrue regular → AreRegular config.now.schema.fields }
-    requires shallow { depth (view value.now) ≤ levels }
+    requires rising { IsTrue finder.now.regular → AreRegular config.now.schema.fields }
+    requires shallow { depth (view value) ≤ levels }
     ensures fault { IfOk result (λ fault. fault ≡
-        spec.path_fault config.now path.now (view value.now) (spec.inner_fault config.now path.now (view value.now))
+        spec.path_fault config.now path.now (view value) (spec.inner_fault config.now path.now (view value))
         (words.number_of config.now.schema.fields path.now)) }
     ensures gathers { IfOk result (λ fault. fault ≡ None →
-        Gathers config.now.schema.fields path.now (view value.now) parts.old.items parts.new.items) }
+        Gathers config.now.schema.fields path.now (view value) parts.old.items parts.new.items) }
 {
-    if let Some(number) = number_of(&config.schema, regular, next_number(parts), path.as_bytes()) {
+    if let Some(number) = number_of(&config.schema, finder, next_number(parts), path.as_bytes()) {
         return field_fault(alloc, config, number, path, value, parts);
     }
-    if !lies_above_fields(alloc, config, regular, path)? {
+    if !lies_above_fields(alloc, config, finder.regular, path)? {
         return unmapped_path(alloc, config, path);
     }
-    match value.as_object() {
-        Some(inner) => members_fault(alloc, config, regular, path, inner, levels - 1, parts),
-        None => type_fault(alloc, path, value),
+    inner_fault(alloc, config, finder, path, value, levels, parts)
+}
+
+/// The first refusal of a value where an object is asked.
+#[cycle(walk)]
+pub fn inner_fault(
+    alloc: Global,
+    config: &IndexConfig,
+    finder: &Finder,
+    path: &str,
+    value: Value,
+    levels: usize,
+    parts: &mut Parts,
+) -> Result<Option<Reject>, AllocError>
+    requires rising { IsTrue finder.now.regular → AreRegular config.now.schema.fields }
+    requires shallow { depth (view value) ≤ levels }
+    ensures fault { IfOk result (λ fault. fault ≡ spec.inner_fault config.now path.now (view value)) }
+    ensures gathers { IfOk result (λ fault. fault ≡ None →
+        GatherInner config.now.schema.fields path.now (as_object (view value)) parts.old.items parts.new.items) }
+{
+    match into_members(value) {
+        Ok(inner) => members_fault(alloc, config, finder, path, inner, levels - 1, parts),
+        Err(other) => type_fault(alloc, path, &other),
     }
 }
 
@@ -120,23 +142,23 @@ fn field_fault(
     config: &IndexConfig,
     number: usize,
     path: &str,
-    value: &Value,
+    value: Value,
     parts: &mut Parts,
 ) -> Result<Option<Reject>, AllocError>
     requires { number < length config.now.schema.fields }
     ensures fault { IfOk result (λ fault. fault ≡
-        spec.field_fault config.now path.now (view value.now) number (slice_get config.now.schema.fields number)) }
+        spec.field_fault config.now path.now (view value) number (slice_get config.now.schema.fields number)) }
     ensures enters { IfOk result (λ fault. fault ≡ None → RiseFrom 0 parts.old.items → values_at parts.old.items number ≡ [] →
-        HasEntered config.now.schema.fields number (view value.now) parts.old.items parts.new.items) }
+        HasEntered config.now.schema.fields number (view value) parts.old.items parts.new.items) }
 {
     let kind = config.schema.fields.at(number).kind;
     let formats = formats_at(&config.formats, number);
     match fitting_values(alloc, kind, formats, value)? {
-        Some(values) => {
+        Ok(values) => {
             put(parts, number, values)?;
             Ok(None)
         }
-        None => Ok(value_fault(kind, formats, Text::from_str(alloc, path)?, value)),
+        Err(misfit) => Ok(Some(misfit.refusal(Text::from_str(alloc, path)?))),
     }
 }
 

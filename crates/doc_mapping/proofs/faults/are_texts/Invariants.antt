@@ -1,7 +1,0 @@
-use Rattle.std.proofs.Common.{◌≡◌, drop}
-use Rattle.serde_json.specs.View.{items_view}
-use Rattle.doc_mapping.specs.Faults.{all_texts}
-use Rattle.doc_mapping.proofs.faults.are_texts.Given as goal
-
-abbrev pub invariant-loop-item : goal.invariant-loop-item
-invariant-loop-item l = all_texts (items_view l.items) ≡ all_texts (items_view (drop l.item-index l.items))

@@ -1,0 +1,64 @@
+//! Where the field of a path is looked for first.
+
+ghost use Rattle.std.specs.Prelude.{◌<◌, IsTrue};
+ghost use Rattle.doc_mapping.specs.Walk.{AreRegular};
+
+use crate::faults::are_regular;
+use doc_value::Fields;
+use std::hash::{FoldHasher, Hasher};
+
+/// How many places a finder has: eight times the fields of a schema, so that few share one.
+const PLACES: usize = 2048;
+
+/// Whether fields are regular, and for the hash of a path the number of a field whose path has that hash.
+#[derive(Debug, Drop)]
+pub struct Finder {
+    pub regular: bool,
+    likely: [u8; PLACES],
+}
+
+impl Finder {
+    /// For one record: no number is known.
+    pub fn for_one(fields: &Fields) -> Finder
+        ensures { IsTrue result.regular → AreRegular fields.now }
+    {
+        Finder {
+            regular: are_regular(fields),
+            likely: [0; PLACES],
+        }
+    }
+
+    /// For many records.
+    pub fn for_many(fields: &Fields) -> Finder
+        ensures { IsTrue result.regular → AreRegular fields.now }
+    {
+        Finder {
+            regular: are_regular(fields),
+            likely: numbers_by_place(fields),
+        }
+    }
+
+    /// The number of the last field whose path has this one's place, or 0.
+    pub fn likely(&self, path: &[u8]) -> usize {
+        self.likely[place_of(path)] as usize
+    }
+}
+
+/// The numbers of the first 256 fields at the places of their paths; where two share a place, the later one's.
+fn numbers_by_place(fields: &Fields) -> [u8; PLACES] {
+    let mut numbers = [0; PLACES];
+    for (number, field) in fields.as_slice().iter().enumerate() {
+        if let Ok(number) = u8::try_from(number) {
+            numbers[place_of(field.path.as_slice())] = number;
+        }
+    }
+    numbers
+}
+
+fn place_of(path: &[u8]) -> usize
+    ensures { result < 2048 }
+{
+    let mut hasher = FoldHasher::default();
+    hasher.write(path);
+    (hasher.finish() & 2047) as usize
+}
