@@ -1,6 +1,8 @@
 //! Rows of folders: what is done to a folder of objects and to a folder of logs, a line each, and what comes of it.
 #![tactic(auto)]
 
+ghost use Rattle.std.specs.Prelude.{◌≤◌};
+
 use object_store::{CreateError, GetError, Key, ObjectStore};
 use real_edge::{FileLog, FolderStore};
 use source_checkpoint::Partition;
@@ -116,7 +118,9 @@ fn read<L: SourceLog>(
     partition: &Partition,
     from: u64,
     max: u32,
-) -> Result<String, AllocError> {
+) -> Result<String, AllocError>
+    requires { 1 ≤ max }
+{
     let Ok(records) = log.read(alloc, partition, from, max) else {
         return failed(alloc, log.faults());
     };
