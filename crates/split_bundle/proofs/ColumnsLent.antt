@@ -1,7 +1,6 @@
 -- The column of a fast field is lent.
-use Rattle.std.proofs.Common.{◌≡◌, ℕ, ◌+◌, ◌-◌, ◌≤◌, true, false, List, [], ◌∷◌, ◌++◌, length, take, drop, Option, Some, None, Result, Ok, Err, refl, sym, ap, subst, ◌∙◌, arith, length-append}
+use Rattle.std.proofs.Common.{◌≡◌, ℕ, ◌+◌, ◌-◌, true, List, length, take, drop, Option, Some, Ok, Err, refl, sym, ap, subst, ◌∙◌, arith}
 use Rattle.std.specs.List.{slice_get}
-use Rattle.byte_fields.specs.declared.corrupt.Corrupt.{Corrupt}
 use Rattle.doc_value.specs.declared.schema.Field.{Field}
 use Rattle.doc_value.specs.declared.schema.Schema.{Schema}
 use Rattle.fast_fields.specs.Readers.{IsOf}
@@ -13,9 +12,9 @@ use Rattle.split_bundle.specs.declared.split_error.SplitError.{SplitError}
 use Rattle.split_bundle.specs.Columns.{column_rows}
 use Rattle.split_bundle.specs.Files.{Parts, footer_bytes}
 use Rattle.split_bundle.specs.Reading.{column_among}
-use Rattle.split_bundle.specs.Lending.{IsMissing, IsPartOf, IsColumnAt, LendsFast, start_of_column}
+use Rattle.split_bundle.specs.Lending.{IsMissing, IsPartOf, IsColumnAt, LendsFast, start_of_column, length_of_column}
 use Rattle.split_bundle.proofs.Infos.{piece_behind}
-use Rattle.split_bundle.proofs.Tables.{Found, found_in}
+use Rattle.split_bundle.proofs.Tables.{found_in}
 
 -- where a column was found
 pub record Stands (v : PartView) (documents : List Placed) (p : Parts) (f : Field) (number : ℕ) : Type 0 where
@@ -24,6 +23,7 @@ pub record Stands (v : PartView) (documents : List Placed) (p : Parts) (f : Fiel
   pub among : column_among v.footer.layout.columns.count number v.footer.layout.sections.columns v.footer.bytes v.footer.layout.columns.at ≡ Ok (Some (start, end))
   pub at : IsColumnAt p f.kind (column_rows number documents) start end
   pub start_is : start_of_column number p.column_starts ≡ start
+  pub length_is : length_of_column number (length p.columns) p.column_starts ≡ end - start
 
 pub column_stands : (v : PartView) (s : Schema) (documents : List Placed) (p : Parts) (f : Field) (number : ℕ) → IsPartOf v s documents p → slice_get s.fields number ≡ Some f → f.fast ≡ true → Stands v documents p f number
 column_stands v s documents p f number part here fast =
@@ -44,17 +44,18 @@ column_stands v s documents p f number part here fast =
         bytes_are = ap (λ (n : ℕ). take n (drop (0 + length found.front) p.columns)) width ∙ piece.1;
       };
       start_is = found.start_is;
+      length_is = found.length_is ∙ sym width;
     }
 
-pub ok_lends : (pieces : List FilePiece) (at number : ℕ) (documents : List Placed) (o : Option Field) (f : Field) (column : Column) → o ≡ Some f → f.fast ≡ true → IsOf column (column_rows number documents)
-    → LendsFast pieces at number documents o (Ok (Some column))
-ok_lends pieces at number documents o f column e fast is = rw e (λ slow. absurd cc, λ again. is)
+pub ok_lends : (pieces : List FilePiece) (at len number : ℕ) (documents : List Placed) (o : Option Field) (f : Field) (column : Column) → o ≡ Some f → f.fast ≡ true → IsOf column (column_rows number documents)
+    → LendsFast pieces at len number documents o (Ok (Some column))
+ok_lends pieces at len number documents o f column e fast is = rw e (λ slow. absurd cc, λ again. is)
 
-pub err_lends : (pieces : List FilePiece) (at number : ℕ) (documents : List Placed) (o : Option Field) (f : Field) (e : SplitError) → o ≡ Some f → f.fast ≡ true → (len : ℕ) × IsMissing pieces at len e
-    → LendsFast pieces at number documents o (Err e)
-err_lends pieces at number documents o f e here fast is = rw here (λ slow. absurd cc, λ again. is)
+pub err_lends : (pieces : List FilePiece) (at len number : ℕ) (documents : List Placed) (o : Option Field) (f : Field) (e : SplitError) → o ≡ Some f → f.fast ≡ true → IsMissing pieces at len e
+    → LendsFast pieces at len number documents o (Err e)
+err_lends pieces at len number documents o f e here fast is = rw here (λ slow. absurd cc, λ again. is)
 
 -- the same pieces and the same place
-pub missing_same : (pieces others : List FilePiece) (at other : ℕ) (e : SplitError) → others ≡ pieces → other ≡ at → ((len : ℕ) × IsMissing others other len e) → (len : ℕ) × IsMissing pieces at len e
-missing_same pieces others at other e same place missing =
-    subst (λ (n : ℕ). (len : ℕ) × IsMissing pieces n len e) place (subst (λ (ps : List FilePiece). (len : ℕ) × IsMissing ps other len e) same missing)
+pub missing_same : (pieces others : List FilePiece) (at other len long : ℕ) (e : SplitError) → others ≡ pieces → other ≡ at → long ≡ len → IsMissing others other long e → IsMissing pieces at len e
+missing_same pieces others at other len long e same place width missing =
+    subst (λ (n : ℕ). IsMissing pieces n len e) place (subst (λ (n : ℕ). IsMissing pieces other n e) width (subst (λ (ps : List FilePiece). IsMissing ps other long e) same missing))

@@ -1,12 +1,11 @@
 -- The end of a file: the footer and what stands behind it.
-use Rattle.std.proofs.Common.{◌≡◌, ℕ, zero, suc, ◌+◌, ◌-◌, ◌<◌, ◌≤◌, ◌^◌, List, [], ◌∷◌, ◌++◌, length, take, drop, Result, Ok, Err, refl, sym, ap, subst, ◌∙◌, arith, append_assoc, length-append}
-use Rattle.std.specs.Prelude.{⊤}
-use Rattle.std.specs.List.{slice_index, flat_map, AllByRecursion}
+use Rattle.std.proofs.Common.{◌≡◌, ℕ, ◌+◌, ◌-◌, ◌<◌, ◌≤◌, ◌^◌, List, [], ◌++◌, length, take, drop, Result, Ok, Err, refl, sym, ap, ◌∙◌, arith, append_assoc, length-append}
+use Rattle.std.specs.List.{slice_index}
 use Rattle.std.proofs.lemmas.Bool.{lt-ltb, le-ltb}
-use Rattle.std.proofs.lemmas.List.{length-drop, drop-append-le, take_at}
+use Rattle.std.proofs.lemmas.List.{drop-append-le, take_at}
 use Rattle.std.proofs.lemmas.List.Prefix.{end_rest, at_reads}
 use Rattle.byte_fields.specs.declared.field_error.FieldError.{FieldError}
-use Rattle.byte_fields.specs.Spelling.{varint, byte_string, eight}
+use Rattle.byte_fields.specs.Spelling.{eight}
 use Rattle.byte_fields.specs.Reading.{eight_at}
 use Rattle.byte_fields.proofs.Taken.{eight_again}
 use Rattle.split_bundle.specs.declared.split_error.SplitError.{SplitError}

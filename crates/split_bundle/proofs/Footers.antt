@@ -1,11 +1,10 @@
 -- The footer of a split file is read.
-use Rattle.std.proofs.Common.{◌≡◌, ℕ, zero, suc, ◌+◌, ◌-◌, ◌<◌, ◌≤◌, ◌^◌, List, [], ◌∷◌, ◌++◌, length, take, drop, Result, Ok, Err, refl, sym, ap, subst, ◌∙◌, arith, append_assoc, length-append}
+use Rattle.std.proofs.Common.{◌≡◌, ℕ, ◌+◌, ◌-◌, ◌<◌, ◌≤◌, ◌^◌, List, [], ◌∷◌, ◌++◌, length, drop, Result, Ok, Err, refl, sym, ap, subst, ◌∙◌, arith, append_assoc, length-append}
 use Rattle.std.specs.List.{flat_map, AllByRecursion}
 use Rattle.std.proofs.Common.{inl, inr}
 use Rattle.std.proofs.lemmas.Bool.{cases_lt, lt-ltb, le-ltb}
 use Rattle.byte_fields.specs.declared.corrupt.Corrupt.{Corrupt}
 use Rattle.byte_fields.specs.Spelling.{varint, byte_string, eight}
-use Rattle.byte_fields.specs.Steps.{◌>>=◌, field}
 use Rattle.byte_fields.proofs.Taken.{bytes_again}
 use Rattle.term_dict.specs.declared.index.BlockStart.{BlockStart}
 use Rattle.term_dict.proofs.Areas.{drop_behind}
@@ -15,11 +14,11 @@ use Rattle.split_bundle.specs.declared.layout.Layout.{Layout}
 use Rattle.split_bundle.specs.declared.footer.Footer.{Footer}
 use Rattle.split_bundle.specs.declared.split_error.SplitError.{SplitError}
 use Rattle.split_bundle.specs.declared.split_error.SplitError.TheVariants.{Memory, BadMagic, BadSection, BadVersion, Truncated}
-use Rattle.split_bundle.specs.Files.{Parts, NumbersFit, head, foot, ending, sections_bytes, footer_bytes, file_bytes, block_bytes}
+use Rattle.split_bundle.specs.Files.{Parts, head, foot, ending, sections_bytes, footer_bytes, file_bytes, block_bytes}
 use Rattle.split_bundle.specs.Splits.{IsSplitOf}
-use Rattle.split_bundle.specs.Reading.{Held, MayGive, footer_in, footer_of, layout_at, block_start_at, block_starts_at, total, of_section}
-use Rattle.split_bundle.specs.Views.{held, sections_of, IsTable, IsLayoutOf, IsFooterOf, IsEndOf, ReadsFooter, ReadsCut, cut_at}
-use Rattle.split_bundle.proofs.Spelled.{number_again, fits_in, Laid, layout_again}
+use Rattle.split_bundle.specs.Reading.{Held, MayGive, footer_of, block_start_at, block_starts_at, total}
+use Rattle.split_bundle.specs.Views.{held, sections_of, IsLayoutOf, IsEndOf, ReadsFooter, ReadsCut, cut_at}
+use Rattle.split_bundle.proofs.Spelled.{number_again, fits_in, layout_again}
 use Rattle.split_bundle.proofs.Ends.{footer_found, footer_cut, trailer_cut}
 
 abbrev blocks : List BlockStart → Result (List BlockStart) Corrupt
@@ -53,13 +52,13 @@ length-file p =
 
 -- ---- what is read
 
-abbrev read_held : Held → Result Held SplitError
+abbrev pub read_held : Held → Result Held SplitError
 read_held h = Ok h
 
 held_is : (x y : Held) → read_held x ≡ read_held y → x ≡ y
 held_is x y e = cc
 
-whole_is : (p : Parts) (result : Result Footer SplitError) (read : Result Held SplitError) (l : Layout) → MayGive held result read → read ≡ Ok (record { bytes = footer_bytes p; layout = l; index = p.index }) → IsLayoutOf p l → ReadsFooter p result
+pub whole_is : (p : Parts) (result : Result Footer SplitError) (read : Result Held SplitError) (l : Layout) → MayGive held result read → read ≡ Ok (record { bytes = footer_bytes p; layout = l; index = p.index }) → IsLayoutOf p l → ReadsFooter p result
 whole_is p (Ok f) read l gives is laid =
     let h : Held = record { bytes = footer_bytes p; layout = l; index = p.index } in
     let same : held f ≡ h = held_is (held f) h (sym gives ∙ is) in
@@ -78,6 +77,12 @@ cut_is at (Err (Truncated n)) read gives is = cc
 cut_is at (Err (BadSection n)) read gives is = absurd cc
 cut_is at (Err (BadVersion n)) read gives is = absurd cc
 
+-- what is read where the whole footer is there
+pub record FooterStands (p : Parts) (tail : List ℕ) (size : ℕ) : Type 0 where
+  pub layout : Layout
+  pub is : footer_of size tail ≡ read_held (record { bytes = footer_bytes p; layout = layout; index = p.index })
+  pub laid : IsLayoutOf p layout
+
 module _ (s : Schema) (documents : List Placed) (p : Parts) (is : IsSplitOf s documents p) (tail : List ℕ) (size : ℕ) (ends : IsEndOf p tail size) where
   front : 4 ≤ length (head ++ sections_bytes p)
   front = omega (arith, length-append head (sections_bytes p))
@@ -91,15 +96,20 @@ module _ (s : Schema) (documents : List Placed) (p : Parts) (is : IsSplitOf s do
   tail_is : tail ≡ drop (size - length tail) ((head ++ sections_bytes p) ++ ending (footer_bytes p))
   tail_is = ends.tail_is ∙ ap (λ (l : List ℕ). drop (size - length tail) l) (file_parts p)
 
-  pub footer_read : (result : Result Footer SplitError) → MayGive held result (footer_of size tail) → length (footer_bytes p) + 12 ≤ length tail → ReadsFooter p result
+  pub footer_stands : length (footer_bytes p) + 12 ≤ length tail → FooterStands p tail size
   unfolding footer_of
-  footer_read result gives long =
+  footer_stands long =
       let found = footer_found (head ++ sections_bytes p) (footer_bytes p) tail size front short size_is tail_is long in
       let room : 4 + total (sections_of p) ≡ size - 12 - length (footer_bytes p) = omega (arith, size_is, length-append head (sections_bytes p), length-sections p) in
       let laid = layout_again p (size - 12 - length (footer_bytes p)) is.numbers is.partitions.names short room in
       let b = blocks_again (footer_bytes p) short p.index laid.layout.blocks.at laid.is_layout.blocks.rest is.numbers.block_starts laid.is_layout.blocks.stand in
       let all : block_starts_at laid.layout.blocks.count (footer_bytes p) laid.layout.blocks.at ≡ blocks p.index = ap (λ (n : ℕ). block_starts_at n (footer_bytes p) laid.layout.blocks.at) laid.is_layout.blocks.count ∙ b in
-      whole_is p result (footer_of size tail) laid.layout gives (rw (found, laid.is, all) refl) laid.is_layout
+      record { layout = laid.layout; is = rw (found, laid.is, all) refl; laid = laid.is_layout }
+
+  pub footer_read : (result : Result Footer SplitError) → MayGive held result (footer_of size tail) → length (footer_bytes p) + 12 ≤ length tail → ReadsFooter p result
+  footer_read result gives long =
+      let stands = footer_stands long in
+      whole_is p result (footer_of size tail) stands.layout gives stands.is stands.laid
 
   pub footer_not_there : (result : Result Footer SplitError) → MayGive held result (footer_of size tail) → length tail < length (footer_bytes p) + 12 → ReadsCut (cut_at size (length tail) (length (footer_bytes p))) result
   unfolding footer_of

@@ -1,11 +1,10 @@
 -- What the parts of a split of documents lend.
-use Rattle.std.proofs.Common.{◌≡◌, ◌≢◌, ℕ, ◌+◌, ◌-◌, ◌*◌, ◌≤◌, ◌<◌, Bool, true, false, List, [], ◌∷◌, ◌++◌, length, take, drop, Option, Some, None, Result, Ok, Err, refl, sym, ap, subst, ◌∙◌, inl, inr, ◌⊎◌, arith, length-append}
-use Rattle.std.specs.List.{flat_map, AllByRecursion}
+use Rattle.std.proofs.Common.{◌≡◌, ◌≢◌, ℕ, ◌+◌, ◌-◌, ◌*◌, ◌≤◌, ◌<◌, Bool, true, false, List, [], ◌∷◌, length, take, drop, Option, Some, Result, Ok, Err, refl, sym, ap, subst, ◌∙◌, arith}
+use Rattle.std.specs.List.{AllByRecursion}
 use Rattle.std.proofs.Math.Nat.{pos_of_ne-zero}
-use Rattle.std.proofs.lemmas.List.{length-drop, length-take-le, drop-take, append-nil}
+use Rattle.std.proofs.lemmas.List.{length-drop, length-take-le, drop-take}
 use Rattle.byte_fields.specs.declared.corrupt.Corrupt.{Corrupt}
 use Rattle.term_dict.specs.Reading.{block_of}
-use Rattle.term_dict.specs.Readers.{IsBlock}
 use Rattle.term_dict.specs.Terms.{AreTerms, area}
 use Rattle.term_dict.specs.Bounds.{IsBlockAt, block_terms}
 use Rattle.term_dict.specs.declared.block.Block.{Block}
@@ -15,16 +14,15 @@ use Rattle.split_bundle.specs.declared.pieces.FilePiece.{FilePiece}
 use Rattle.split_bundle.specs.declared.pieces.Section.{Section}
 use Rattle.split_bundle.specs.declared.pieces.Section.TheVariants.{Dictionary, Postings, Positions, Columns}
 use Rattle.split_bundle.specs.declared.split_error.SplitError.{SplitError}
-use Rattle.split_bundle.specs.declared.split_error.SplitError.TheVariants.{Truncated}
 use Rattle.split_bundle.specs.Files.{Parts, file_bytes}
 use Rattle.split_bundle.specs.Views.{sections_of}
 use Rattle.split_bundle.specs.Reading.{Gives, and_then, of_section}
-use Rattle.split_bundle.specs.Pieces.{section_part, held_in, start_of, bytes_of, ArePieces, LendsPart}
+use Rattle.split_bundle.specs.Pieces.{section_part, start_of, bytes_of, ArePieces, LendsPart}
 use Rattle.term_dict.specs.declared.term.TermInfo.{TermInfo}
 use Rattle.doc_value.specs.declared.schema.Kind.{Kind}
 use Rattle.fast_fields.specs.declared.rows.ColumnRow.{ColumnRow}
 use Rattle.term_postings.specs.declared.list.Posting.{Posting}
-use Rattle.term_postings.specs.Postings.{Fits, AreDocuments, list_bytes, position_bytes}
+use Rattle.term_postings.specs.Postings.{Fits, list_bytes, position_bytes}
 use Rattle.split_bundle.specs.declared.layout.Sections.{Sections}
 use Rattle.split_bundle.specs.Lending.{IsMissing, LendsBlock, block_part, places_part, IsListAt, IsColumnAt}
 use Rattle.split_bundle.proofs.SectionBytes.{section_lent}
@@ -79,7 +77,7 @@ part_missing pieces at len bytes e (Err f) lends is size =
     subst (λ (n : ℕ). IsMissing pieces at n e) size (subst (λ (x : SplitError). IsMissing pieces at (length bytes) x) same lends)
 
 module _ (p : Parts) (sections : Sections) (pieces : List FilePiece) (are : ArePieces (file_bytes p) pieces) (same : sections ≡ sections_of p) where
-  lent_of : (section : Section) (from len : ℕ) (bytes : List ℕ) → from + len ≤ length (bytes_of section p) → take len (drop from (bytes_of section p)) ≡ bytes
+  pub lent_of : (section : Section) (from len : ℕ) (bytes : List ℕ) → from + len ≤ length (bytes_of section p) → take len (drop from (bytes_of section p)) ≡ bytes
       → LendsPart pieces (start_of section sections + from) bytes (section_part section sections pieces from len)
   lent_of section from len bytes le is =
       subst (λ (x : Sections). LendsPart pieces (start_of section x + from) bytes (section_part section x pieces from len)) (sym same)

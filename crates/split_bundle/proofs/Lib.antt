@@ -8,3 +8,9 @@ pub mod Lent
 pub mod Infos
 pub mod Tables
 pub mod ColumnsLent
+pub mod DocLoops
+pub mod DocsAgain
+pub mod DocStands
+pub mod DocNames
+pub mod DocsLent
+pub mod WholeFiles

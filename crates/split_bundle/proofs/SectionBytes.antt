@@ -1,5 +1,5 @@
 -- The parts of a file's sections in pieces of it.
-use Rattle.std.proofs.Common.{◌≡◌, ℕ, ◌+◌, ◌-◌, ◌≤◌, Bool, true, false, cond, List, [], ◌∷◌, ◌++◌, length, take, drop, Option, Some, None, Result, Ok, Err, refl, sym, ap, ◌∙◌, inl, inr, ◌⊎◌, arith, append_assoc, length-append}
+use Rattle.std.proofs.Common.{◌≡◌, ℕ, ◌+◌, ◌-◌, ◌≤◌, Bool, true, false, cond, List, [], ◌∷◌, ◌++◌, length, take, drop, Option, Some, None, refl, sym, ap, ◌∙◌, inl, inr, ◌⊎◌, arith, append_assoc, length-append}
 use Rattle.std.proofs.Math.Dec.{ltb}
 use Rattle.std.proofs.Math.Seq.{drop-append-add}
 use Rattle.std.proofs.lemmas.Bool.{ltb-false, le-ltb}
@@ -7,9 +7,7 @@ use Rattle.std.proofs.lemmas.List.{length-drop, length-take-le, drop-append-le, 
 use Rattle.split_bundle.specs.declared.pieces.FilePiece.{FilePiece}
 use Rattle.split_bundle.specs.declared.pieces.Section.{Section}
 use Rattle.split_bundle.specs.declared.pieces.Section.TheVariants.{Documents, Dictionary, Postings, Positions, Columns}
-use Rattle.split_bundle.specs.declared.split_error.SplitError.{SplitError}
-use Rattle.split_bundle.specs.declared.split_error.SplitError.TheVariants.{Truncated}
-use Rattle.split_bundle.specs.Files.{Parts, head, ending, sections_bytes, footer_bytes, file_bytes}
+use Rattle.split_bundle.specs.Files.{Parts, head, ending, footer_bytes, file_bytes}
 use Rattle.split_bundle.specs.Views.{sections_of}
 use Rattle.split_bundle.specs.Pieces.{part_in, or_else, held_in, held_or, section_part, size_of, start_of, bytes_of, IsPieceOf, ArePieces, LendsPart}
 
@@ -96,6 +94,12 @@ within Columns p = record {
   parts = simp append_assoc refl;
   start = omega (arith, length-append head (p.documents ++ (p.dictionary ++ (p.postings ++ p.positions))), length-append p.documents (p.dictionary ++ (p.postings ++ p.positions)), length-append p.dictionary (p.postings ++ p.positions), length-append p.postings p.positions);
 }
+
+-- a section stands in the file
+pub section_within : (section : Section) (p : Parts) → start_of section (sections_of p) + length (bytes_of section p) ≤ length (file_bytes p)
+section_within section p =
+    let w = within section p in
+    omega (arith, ap (λ (l : List ℕ). length l) w.parts, w.start, length-append w.before (bytes_of section p ++ w.behind), length-append (bytes_of section p) w.behind)
 
 pub size_is : (section : Section) (p : Parts) → size_of section (sections_of p) ≡ length (bytes_of section p)
 size_is Documents p = refl

@@ -1,9 +1,7 @@
 -- A footer that is spelled is read.
-use Rattle.std.proofs.Common.{◌≡◌, ℕ, zero, suc, ◌+◌, ◌-◌, ◌<◌, ◌≤◌, ◌^◌, List, [], ◌∷◌, ◌++◌, length, drop, Result, Ok, Err, refl, sym, ap, subst, ◌∙◌, arith, append_assoc, length-append, eq-eqb}
+use Rattle.std.proofs.Common.{◌≡◌, ℕ, ◌+◌, ◌<◌, ◌^◌, List, [], ◌∷◌, ◌++◌, length, drop, Result, Ok, refl, sym, ap, ◌∙◌, arith, append_assoc, length-append, eq-eqb}
 use Rattle.std.specs.List.{flat_map, AllByRecursion}
 use Rattle.std.proofs.lemmas.List.{length-drop, append-nil}
-use Rattle.std.proofs.lemmas.Bool.{lt-ltb}
-use Rattle.std.specs.Str.{IsUtf8}
 use Rattle.source_checkpoint.specs.Names.{IsPartition}
 use Rattle.source_checkpoint.proofs.NameLemmas.{name_is_utf8}
 use Rattle.byte_fields.proofs.Others.{text_again}
@@ -13,8 +11,7 @@ use Rattle.split_bundle.specs.declared.layout.Entry.TheVariants.{Name, Block, Co
 use Rattle.split_bundle.specs.Views.{sections_of, IsTable, IsLayoutOf}
 use Rattle.byte_fields.specs.declared.corrupt.Corrupt.{Corrupt}
 use Rattle.byte_fields.specs.Spelling.{varint, byte_string}
-use Rattle.byte_fields.specs.Steps.{◌>>=◌, field, number_at, count_at, corrupt_at}
-use Rattle.byte_fields.specs.Reading.{varint_at, bytes_at, text_at}
+use Rattle.byte_fields.specs.Steps.{number_at}
 use Rattle.byte_fields.proofs.Taken.{varint_again, bytes_again}
 use Rattle.byte_fields.proofs.Pieces.{count_again}
 use Rattle.term_dict.proofs.Areas.{drop_behind}

@@ -1,9 +1,8 @@
 -- The columns of fast fields, found by the table of their starts.
-use Rattle.std.proofs.Common.{◌≡◌, ◌≢◌, ℕ, zero, suc, ◌+◌, ◌-◌, ◌<◌, ◌≤◌, ◌^◌, Bool, true, false, cond, List, [], ◌∷◌, ◌++◌, length, take, drop, Option, Some, None, Result, Ok, Err, refl, sym, ap, subst, ◌∙◌, arith, append_assoc, length-append, eq-eqb, ne_eqb}
+use Rattle.std.proofs.Common.{◌≡◌, ◌≢◌, ℕ, zero, suc, ◌+◌, ◌<◌, ◌^◌, Bool, true, false, cond, List, [], ◌∷◌, ◌++◌, length, drop, Option, Some, Result, Ok, refl, sym, ap, subst, ◌∙◌, arith, append_assoc, length-append, eq-eqb, ne_eqb}
 use Rattle.std.specs.List.{slice_get, flat_map, AllByRecursion}
 use Rattle.byte_fields.specs.declared.corrupt.Corrupt.{Corrupt}
 use Rattle.byte_fields.specs.Spelling.{varint}
-use Rattle.byte_fields.specs.Steps.{◌>>=◌}
 use Rattle.doc_value.specs.declared.schema.Field.{Field}
 use Rattle.fast_fields.specs.Columns.{IsColumn}
 use Rattle.split_bundle.specs.declared.placed.Placed.{Placed}
@@ -11,8 +10,8 @@ use Rattle.split_bundle.specs.declared.layout.ColumnStart.{ColumnStart}
 use Rattle.split_bundle.specs.Columns.{FastField, fast_from, HasColumn, AreColumns, column_rows}
 use Rattle.split_bundle.specs.Files.{start_bytes}
 use Rattle.split_bundle.specs.Reading.{column_start_at, column_end, column_among}
-use Rattle.split_bundle.specs.Lending.{start_of_column}
-use Rattle.split_bundle.proofs.Spelled.{Again, number_again}
+use Rattle.split_bundle.specs.Lending.{start_of_column, next_start, length_of_column}
+use Rattle.split_bundle.proofs.Spelled.{number_again}
 
 abbrev Small : ColumnStart → Type 0
 Small c = (c.number < 2 ^ 64) × (c.start < 2 ^ 64)
@@ -41,6 +40,7 @@ pub record Found (documents : List Placed) (f : Field) (number start size : ℕ)
   pub is_column : IsColumn f.kind column (column_rows number documents)
   pub among : column_among (length cs) number size bytes at ≡ Ok (Some (start + length front, start + length front + length column))
   pub start_is : start_of_column number cs ≡ start + length front
+  pub length_is : length_of_column number size cs ≡ length column
 
 module _ (documents : List Placed) (bytes : List ℕ) (f : Field) (number size : ℕ) where
   -- where a column ends
@@ -54,6 +54,12 @@ module _ (documents : List Placed) (bytes : List ℕ) (f : Field) (number size :
       let read = start_again bytes at c (flat_map start_bytes cs ++ rest) small.0 (e ∙ append_assoc (start_bytes c) (flat_map start_bytes cs) rest) in
       let some = ne_eqb (length (c ∷ cs)) 0 (λ none. omega (arith, none)) in
       rw (some, read.1) (ap (λ (x : ColumnStart). end_got x.start) are.1)
+
+  next_is : (fs : List FastField) (cs : List ColumnStart) (start : ℕ) (behind : List ℕ) → AreColumns documents start fs cs behind → start + length behind ≡ size → next_start size cs ≡ start
+  next_is [] [] start behind are sum = omega (arith, sum, ap (λ (l : List ℕ). length l) are)
+  next_is [] (c ∷ cs) start behind are sum = absurd are
+  next_is (g ∷ gs) [] start behind are sum = absurd are
+  next_is (g ∷ gs) (c ∷ cs) start behind are sum = ap (λ (x : ColumnStart). x.start) are.1
 
   -- the first entry is the field's
   found_first : (g : FastField) (gs : List FastField) (c : ColumnStart) (cs : List ColumnStart) (start at : ℕ) (rest section : List ℕ) → g.number ≡ number → g.field ≡ f → AreColumns documents start (g ∷ gs) (c ∷ cs) section
@@ -73,6 +79,7 @@ module _ (documents : List Placed) (bytes : List ℕ) (f : Field) (number size :
         is_column = subst (λ (n : ℕ). IsColumn f.kind are.0.column (column_rows n documents)) number_is (subst (λ (x : Field). IsColumn x.kind are.0.column (column_rows g.number documents)) field_is are.0.is_column);
         among = rw (read.1, eq-eqb c.number number here, end) (ap (λ (n : ℕ). place (n, start + length are.0.column)) (there ∙ omega arith) ∙ ap (λ (n : ℕ). place (start + 0, n)) (omega arith));
         start_is = rw (eq-eqb c.number number here) (there ∙ omega arith);
+        length_is = rw (eq-eqb c.number number here) (omega (arith, there, next_is gs cs (start + length are.0.column) are.0.behind are.2 (omega (arith, sum, long))));
       }
 
   -- it is another one's
@@ -96,6 +103,7 @@ module _ (documents : List Placed) (bytes : List ℕ) (f : Field) (number size :
         is_column = l.is_column;
         among = rw (read.1, ne_eqb c.number number apart) (l.among ∙ ap (λ (n : ℕ). place (n, n + length l.column)) shift);
         start_is = rw (ne_eqb c.number number apart) (l.start_is ∙ shift);
+        length_is = rw (ne_eqb c.number number apart) l.length_is;
       }
 
   zero_case : (g : Field) (gs : List FastField) (n start at : ℕ) (cs : List ColumnStart) (rest section : List ℕ) → g ≡ f → number ≡ n → AreColumns documents start (record { number = n; field = g } ∷ gs) cs section

@@ -1,6 +1,5 @@
 -- Entries one behind another.
-use Rattle.std.proofs.Common.{◌≡◌, ℕ, zero, suc, ◌+◌, ◌-◌, ◌<◌, List, Option, Some, None, Result, Ok, Err, true, false, refl, sym, ap, subst, ◌≢◌, ◌∙◌, arith, eq-eqb, ne_eqb}
-use Rattle.std.proofs.Math.Dec.{eqb}
+use Rattle.std.proofs.Common.{◌≡◌, ℕ, suc, ◌+◌, ◌-◌, ◌<◌, List, Option, Some, None, Result, Ok, Err, refl, sym, ap, subst, ◌≢◌, ◌∙◌, arith, eq-eqb, ne_eqb}
 use Rattle.byte_fields.specs.declared.corrupt.Corrupt.{Corrupt}
 use Rattle.byte_fields.specs.Steps.{◌>>=◌}
 use Rattle.split_bundle.specs.declared.layout.Entry.{Entry}

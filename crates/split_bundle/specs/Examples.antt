@@ -5,7 +5,6 @@ use Rattle.byte_fields.specs.Spelling.{varint}
 use Rattle.doc_value.specs.declared.doc.Value.TheVariants as values
 use Rattle.term_dict.specs.Terms.{area}
 use Rattle.term_dict.specs.declared.term.Term.{Term}
-use Rattle.term_dict.specs.declared.index.BlockStart.{BlockStart}
 use Rattle.term_postings.specs.Postings.{list_bytes, position_bytes}
 use Rattle.term_postings.specs.declared.list.Posting.{Posting}
 use Rattle.split_bundle.specs.declared.placed.Placed.{Placed}

@@ -100,6 +100,16 @@ abbrev pub start_of_column : ℕ → List ColumnStart → ℕ
 start_of_column number [] = 0
 start_of_column number (c ∷ cs) = if c.number == number then c.start else start_of_column number cs
 
+-- where the next column starts, or behind the last one where the section ends
+abbrev pub next_start : ℕ → List ColumnStart → ℕ
+next_start size [] = size
+next_start size (c ∷ cs) = c.start
+
+-- how many bytes the column of a field has, in a section of so many
+abbrev pub length_of_column : ℕ → ℕ → List ColumnStart → ℕ
+length_of_column number size [] = 0
+length_of_column number size (c ∷ cs) = if c.number == number then next_start size cs - c.start else length_of_column number size cs
+
 -- ---- a view
 
 -- the list of some documents stands in the sections where the numbers of a term say
@@ -129,22 +139,22 @@ pub record IsPartOf (v : PartView) (s : Schema) (documents : List Placed) (p : P
 abbrev pub block_place : Parts → List Term → ℕ → ℕ
 block_place p terms number = start_of Dictionary (sections_of p) + length (area (take (64 * number) terms))
 
--- a column of these documents, or that no piece has its bytes, which start there
-abbrev pub LendsColumn : List FilePiece → ℕ → List ColumnRow → Result Column SplitError → Type 0
-LendsColumn pieces at rows (Ok column) = IsOf column rows
-LendsColumn pieces at rows (Err e) = (len : ℕ) × IsMissing pieces at len e
+-- a column of these documents, or that no piece has its bytes, so many from there on
+abbrev pub LendsColumn : List FilePiece → ℕ → ℕ → List ColumnRow → Result Column SplitError → Type 0
+LendsColumn pieces at len rows (Ok column) = IsOf column rows
+LendsColumn pieces at len rows (Err e) = IsMissing pieces at len e
 
 -- the same of a column that there is
-abbrev pub LendsSome : List FilePiece → ℕ → List ColumnRow → Result (Option Column) SplitError → Type 0
-LendsSome pieces at rows (Ok (Some column)) = IsOf column rows
-LendsSome pieces at rows (Ok None) = ⊥
-LendsSome pieces at rows (Err e) = (len : ℕ) × IsMissing pieces at len e
+abbrev pub LendsSome : List FilePiece → ℕ → ℕ → List ColumnRow → Result (Option Column) SplitError → Type 0
+LendsSome pieces at len rows (Ok (Some column)) = IsOf column rows
+LendsSome pieces at len rows (Ok None) = ⊥
+LendsSome pieces at len rows (Err e) = IsMissing pieces at len e
 
 -- what is lent of the column of a field that there may be: none of no fast field
-abbrev pub LendsFast : List FilePiece → ℕ → ℕ → List Placed → Option Field → Result (Option Column) SplitError → Type 0
-LendsFast pieces at number documents None result = result ≡ Ok None
-LendsFast pieces at number documents (Some f) result =
-    ((f.fast ≡ false) → result ≡ Ok None) × ((f.fast ≡ true) → LendsSome pieces at (column_rows number documents) result)
+abbrev pub LendsFast : List FilePiece → ℕ → ℕ → ℕ → List Placed → Option Field → Result (Option Column) SplitError → Type 0
+LendsFast pieces at len number documents None result = result ≡ Ok None
+LendsFast pieces at len number documents (Some f) result =
+    ((f.fast ≡ false) → result ≡ Ok None) × ((f.fast ≡ true) → LendsSome pieces at len (column_rows number documents) result)
 
 -- the column of a field of a schema, if it is a fast one
 abbrev pub column_if : Option Field → Result ColumnParts SplitError → Result (Option ColumnParts) SplitError

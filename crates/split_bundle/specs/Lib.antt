@@ -8,4 +8,8 @@ pub mod Reading
 pub mod Pieces
 pub mod Views
 pub mod Lending
+pub mod DocReading
+pub mod DocLending
+pub mod Heads
+pub mod Wholes
 pub mod Examples

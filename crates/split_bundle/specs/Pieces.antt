@@ -1,5 +1,5 @@
 -- Pieces of a file, and the parts of its sections in them.
-use Rattle.std.specs.Prelude.{◌≡◌, ℕ, ◌+◌, ◌-◌, ◌≤◌, List, [], ◌∷◌, ◌++◌, length, take, drop, Option, Some, None, Result, Ok, Err, nat_lt, if◌then◌else◌}
+use Rattle.std.specs.Prelude.{◌≡◌, ℕ, ◌+◌, ◌-◌, List, [], ◌∷◌, ◌++◌, length, take, drop, Option, Some, None, Result, Ok, Err, nat_lt, if◌then◌else◌}
 use Rattle.std.specs.List.{AllByRecursion}
 use Rattle.std.specs.Borrow.{Bor}
 use Rattle.split_bundle.specs.declared.layout.Sections.{Sections}
@@ -8,7 +8,7 @@ use Rattle.split_bundle.specs.declared.pieces.Section.{Section}
 use Rattle.split_bundle.specs.declared.pieces.Section.TheVariants.{Documents, Dictionary, Postings, Positions, Columns}
 use Rattle.split_bundle.specs.declared.split_error.SplitError.{SplitError}
 use Rattle.split_bundle.specs.declared.split_error.SplitError.TheVariants.{BadSection, Truncated}
-use Rattle.split_bundle.specs.Files.{Parts, head}
+use Rattle.split_bundle.specs.Files.{Parts}
 
 -- what is lent, if anything is
 abbrev pub Lent : Option (Bor (List ℕ)) → Option (List ℕ) → Type 0

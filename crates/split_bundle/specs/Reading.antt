@@ -1,5 +1,5 @@
 -- What is read of any bytes, from left to right, up to the first fault that is met.
-use Rattle.std.specs.Prelude.{◌≡◌, ℕ, zero, suc, ◌+◌, ◌-◌, ◌≤◌, ◌++◌, List, length, take, drop, Option, Some, None, Result, Ok, Err, nat_lt, nat_eq, ◌==◌, ◌∷◌, [], slice_index, if◌then◌else◌, ⊤}
+use Rattle.std.specs.Prelude.{◌≡◌, ℕ, zero, suc, ◌+◌, ◌-◌, ◌≤◌, List, length, take, drop, Option, Some, None, Result, Ok, Err, nat_lt, nat_eq, ◌==◌, ◌∷◌, [], slice_index, if◌then◌else◌, ⊤}
 use Rattle.std.specs.List.{starts_with}
 use Rattle.term_dict.specs.declared.index.BlockStart.{BlockStart}
 use Rattle.byte_fields.specs.declared.field_error.FieldError.{FieldError}

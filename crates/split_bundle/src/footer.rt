@@ -4,6 +4,7 @@ ghost use Rattle.std.specs.Prelude.{◌≡◌, ◌≤◌, ◌<◌, ◌+◌, ◌^
 ghost use Rattle.term_dict.specs.declared.index.BlockStart.{BlockStart};
 ghost use Rattle.byte_fields.specs.Steps.{Gives as Reads};
 ghost use Rattle.split_bundle.specs.Reading.{Gives, MayGive, IsWithin, of_section, footer_in, block_start_at, block_starts_at, total};
+ghost use Rattle.split_bundle.specs.Heads.{head_in};
 
 use crate::SplitError;
 use crate::layout::{Layout, Sections, Table, read_layout};
@@ -103,6 +104,26 @@ impl Footer {
     {
         self.layout.sections
     }
+}
+
+// The bytes begin as a split file of this format does.
+#[tactic(auto, unfolding(crate::specs::Heads::head_in))]
+pub(crate) fn check_head(bytes: &[u8]) -> Result<(), SplitError>
+    ensures { Gives (λ u. u) result (head_in bytes.now) }
+{
+    if bytes.len() < 4 {
+        return Err(SplitError::Truncated {
+            at: bytes.len() as u64,
+        });
+    }
+    let version = bytes[3];
+    if !bytes.starts_with(b"QWS") {
+        return Err(SplitError::BadMagic);
+    }
+    if version != VERSION {
+        return Err(SplitError::BadVersion { number: version });
+    }
+    Ok(())
 }
 
 // The footer's bytes in the end of a file.

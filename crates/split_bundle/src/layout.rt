@@ -126,7 +126,12 @@ fn read_table(entry: Entry, bytes: &[u8], at: usize) -> Result<(Table, usize), C
 }
 
 // The place behind so many entries.
-fn entries_behind(entry: Entry, bytes: &[u8], from: usize, count: u64) -> Result<usize, Corrupt>
+pub(crate) fn entries_behind(
+    entry: Entry,
+    bytes: &[u8],
+    from: usize,
+    count: u64,
+) -> Result<usize, Corrupt>
     requires { from ≤ length bytes.now }
     ensures within { IfOk result (λ at. at ≤ length bytes.now) }
     ensures exact { result ≡ entries_behind entry count bytes.now from }

@@ -1,6 +1,7 @@
 //! What a split file says: its documents, dictionary, postings, positions and columns, read whole or by its parts.
 #![tactic(auto)]
 
+mod documents;
 mod footer;
 mod layout;
 mod part_view;

@@ -1,23 +1,27 @@
 //! A split file of which some pieces are there.
 
-ghost use Rattle.std.specs.Prelude.{◌≡◌, ◌≤◌, ◌<◌, ◌+◌, ◌-◌, ◌*◌, List, ℕ, Some, length, slice_get};
+ghost use Rattle.std.specs.Prelude.{◌≡◌, ◌≤◌, ◌<◌, ◌+◌, ◌-◌, ◌*◌, List, ℕ, Some, length, slice_get, IfOk, IsOk};
 ghost use Rattle.doc_value.specs.declared.schema.Schema.{Schema};
 ghost use Rattle.term_dict.specs.Bounds.{block_terms};
 ghost use Rattle.term_dict.specs.Terms.{lookup};
 ghost use Rattle.term_postings.specs.Reading.{walk};
 ghost use Rattle.split_bundle.specs.declared.placed.Placed.{Placed};
-ghost use Rattle.split_bundle.specs.Files.{Parts};
+ghost use Rattle.split_bundle.specs.Files.{Parts, file_bytes};
 ghost use Rattle.split_bundle.specs.Lists.{keeps_places, posting_list, terms_of};
 ghost use Rattle.split_bundle.specs.Pieces.{start_of};
-ghost use Rattle.split_bundle.specs.Reading.{Gives};
+ghost use Rattle.split_bundle.specs.Splits.{IsSplitOf};
+ghost use Rattle.split_bundle.specs.Views.{held};
+ghost use Rattle.split_bundle.specs.Reading.{Gives, MayGive};
 ghost use Rattle.split_bundle.specs.declared.pieces.Section.TheVariants as sections;
 
-use crate::SplitError;
-use crate::footer::Footer;
+use crate::documents::placed_in;
+use crate::footer::{Footer, check_head};
 use crate::parts::{block_between, column_of, cursor_over};
-use crate::pieces::{Pieces, Section};
+use crate::pieces::{FilePiece, Pieces, Section};
+use crate::{Placed, SplitError};
 use doc_value::Schema;
 use fast_fields::Column;
+use std::alloc::Global;
 use term_dict::{Block, TermInfo};
 use term_postings::Cursor;
 
@@ -29,7 +33,11 @@ pub struct PartView<'a> {
 }
 
 impl<'a> PartView<'a> {
-    ghost use Rattle.split_bundle.specs.Lending.{IsPartOf, LendsBlock, LendsCursor, LendsFast, block_in, block_place, cursor_in, column_read, parts_of, start_of_column};
+    ghost use Rattle.split_bundle.specs.Lending.{IsPartOf, LendsBlock, LendsCursor, LendsFast, block_in, block_place, cursor_in, column_read, parts_of, start_of_column, length_of_column};
+    ghost use Rattle.split_bundle.specs.Documents.{placed_bytes};
+    ghost use Rattle.split_bundle.specs.DocReading.{placed_in};
+    ghost use Rattle.split_bundle.specs.DocLending.{IsHeld, LendsPlaced, starts_place, doc_place};
+    ghost use Rattle.split_bundle.specs.Wholes.{whole_of, HasWhole, HaveAll, ReadsWhole, IsThere};
 
     /// The view of a file with this footer, of which these pieces are there.
     pub fn gather(footer: Footer, pieces: Pieces<'a>) -> PartView<'a>
@@ -37,6 +45,39 @@ impl<'a> PartView<'a> {
         ensures pieces { result.pieces ≡ pieces.entry }
     {
         PartView { footer, pieces }
+    }
+
+    /// The view of a whole file.
+    pub fn whole(alloc: Global, bytes: &'a [u8]) -> Result<PartView<'a>, SplitError>
+        // Of a split of documents.
+        ensures only { (s : Schema) (documents : List Placed) (p : Parts) → IsSplitOf s documents p → bytes.now ≡ file_bytes p → ReadsWhole s documents p result }
+        // Its pieces have every part of these bytes.
+        ensures all { IfOk result (λ v. HaveAll bytes.now v.pieces) }
+        // Over any bytes.
+        ensures exact { MayGive (λ v. held v.footer) result (whole_of bytes.now) }
+    {
+        PartView::read_whole(alloc, bytes)
+    }
+
+    #[tactic(auto, unfolding(crate::specs::Wholes::whole_of))]
+    fn read_whole(alloc: Global, bytes: &'a [u8]) -> Result<PartView<'a>, SplitError>
+        ensures pieces { IfOk result (HasWhole bytes.now) }
+        ensures exact { MayGive (λ v. held v.footer) result (whole_of bytes.now) }
+    {
+        check_head(bytes)?;
+        let footer = Footer::read(alloc, bytes, bytes.len() as u64)?;
+        let piece = FilePiece { start: 0, bytes };
+        Ok(PartView {
+            footer,
+            pieces: Pieces::one(alloc, piece)?,
+        })
+    }
+
+    /// What the file's footer says.
+    pub fn footer(&self) -> &Footer
+        ensures { result.now ≡ self.now.footer }
+    {
+        &self.footer
     }
 
     /// How many documents the split has.
@@ -54,6 +95,8 @@ impl<'a> PartView<'a> {
         // Of a split of documents: its terms, unless no piece has its bytes.
         ensures only { (s : Schema) (documents : List Placed) (p : Parts) → IsPartOf self.now s documents p
             → LendsBlock self.now.pieces (block_place p (terms_of s documents p.keys) number) (block_terms (terms_of s documents p.keys) number) result }
+        // Where the pieces have every part.
+        ensures there { (s : Schema) (documents : List Placed) (p : Parts) → IsPartOf self.now s documents p → HaveAll (file_bytes p) self.now.pieces → IsOk result }
         // Over any bytes.
         ensures exact { Gives (λ b. b.bytes.now) result (block_in self.now.footer.layout.sections self.now.pieces self.now.footer.index number) }
     {
@@ -76,6 +119,9 @@ impl<'a> PartView<'a> {
         ensures only { (s : Schema) (documents : List Placed) (p : Parts) (key : List ℕ) → IsPartOf self.now s documents p
             → lookup key (terms_of s documents p.keys) ≡ Some info.now → positions ≡ keeps_places s key
             → LendsCursor self.now.footer.layout.sections self.now.pieces info.now positions (posting_list s documents key) result }
+        // Where the pieces have every part.
+        ensures there { (s : Schema) (documents : List Placed) (p : Parts) (key : List ℕ) → IsPartOf self.now s documents p → HaveAll (file_bytes p) self.now.pieces
+            → lookup key (terms_of s documents p.keys) ≡ Some info.now → positions ≡ keeps_places s key → IsOk result }
         // Over any bytes.
         ensures exact { Gives walk result (cursor_in self.now.footer.layout.sections self.now.pieces info.now positions) }
     {
@@ -88,7 +134,10 @@ impl<'a> PartView<'a> {
     pub fn column(&self, schema: &Schema, number: u32) -> Result<Option<Column<'a>>, SplitError>
         // Of a split of documents: the values of this field, unless no piece has the column's bytes.
         ensures only { (documents : List Placed) (p : Parts) → IsPartOf self.now schema.now documents p
-            → LendsFast self.now.pieces (start_of sections.Columns self.now.footer.layout.sections + start_of_column number p.column_starts) number documents (slice_get schema.now.fields number) result }
+            → LendsFast self.now.pieces (start_of sections.Columns self.now.footer.layout.sections + start_of_column number p.column_starts) (length_of_column number (length p.columns) p.column_starts)
+            number documents (slice_get schema.now.fields number) result }
+        // Where the pieces have every part.
+        ensures there { (documents : List Placed) (p : Parts) → IsPartOf self.now schema.now documents p → HaveAll (file_bytes p) self.now.pieces → IsOk result }
         // Over any bytes.
         ensures exact { Gives parts_of result (column_read schema.now self.now.footer.layout.sections self.now.pieces self.now.footer.bytes self.now.footer.layout.columns number) }
     {
@@ -113,5 +162,23 @@ impl<'a> PartView<'a> {
             Ok(column) => Ok(Some(column)),
             Err(fault) => Err(fault),
         }
+    }
+
+    /// The document with a number, read back from its bytes.
+    pub fn placed(&self, alloc: Global, schema: &Schema, doc: u32) -> Result<Placed, SplitError>
+        requires { doc < self.now.footer.layout.docs }
+        // Of a split of documents: this document, unless no piece has where it starts and ends, or its bytes.
+        ensures only { (documents : List Placed) (p : Parts) (d : Placed) → IsPartOf self.now schema.now documents p → slice_get documents doc ≡ Some d → IsHeld d
+            → LendsPlaced self.now.pieces (starts_place doc) (doc_place p documents doc) (length (placed_bytes p.partitions d)) d result }
+        // Where the pieces have every part.
+        ensures there { (documents : List Placed) (p : Parts) (d : Placed) → IsPartOf self.now schema.now documents p → HaveAll (file_bytes p) self.now.pieces
+            → slice_get documents doc ≡ Some d → IsHeld d → IsThere result }
+        // Over any bytes.
+        ensures exact { MayGive (λ d. d) result (placed_in schema.now.fields self.now.footer.layout self.now.footer.bytes self.now.pieces doc) }
+    {
+        let pieces = self.pieces.as_slice();
+        let footer = self.footer.bytes.as_slice();
+        let layout = &self.footer.layout;
+        placed_in(alloc, pieces, layout, footer, &schema.fields, doc)
     }
 }

@@ -1,6 +1,6 @@
 //! What the sections of a split file lend, from pieces of the file.
 
-ghost use Rattle.std.specs.Prelude.{◌≡◌, ◌≤◌, ◌<◌, ◌+◌, ◌^◌, ℕ, List, Ok, Some, length};
+ghost use Rattle.std.specs.Prelude.{◌≡◌, ◌≤◌, ◌<◌, ◌+◌, ◌-◌, ◌^◌, ℕ, List, Ok, Some, length};
 ghost use Rattle.term_postings.specs.declared.list.Posting.{Posting};
 ghost use Rattle.fast_fields.specs.declared.rows.ColumnRow.{ColumnRow};
 ghost use Rattle.split_bundle.specs.Files.{Parts, file_bytes};
@@ -99,7 +99,7 @@ fn column_between<'a>(
 ) -> Result<Column<'a>, SplitError>
     requires { 4 + total sections.now < 2 ^ 64 }
     ensures only { (p : Parts) (rows : List ColumnRow) → ArePieces (file_bytes p) pieces.now → sections.now ≡ sections_of p → IsColumnAt p field.now.kind rows start end
-        → LendsColumn pieces.now (start_of parts_named.Columns sections.now + start) rows result }
+        → LendsColumn pieces.now (start_of parts_named.Columns sections.now + start) (end - start) rows result }
     ensures exact { Gives parts result (column_part field.now.kind sections.now pieces.now start end) }
 {
     if end < start {
@@ -132,7 +132,7 @@ pub(crate) fn column_of<'a>(
     requires within { table.at ≤ length footer.now }
     ensures only { (p : Parts) (rows : List ColumnRow) (start end : ℕ) → ArePieces (file_bytes p) pieces.now → sections.now ≡ sections_of p → IsColumnAt p field.now.kind rows start end
         → column_among table.count number sections.now.columns footer.now table.at ≡ Ok (Some (start, end))
-        → LendsColumn pieces.now (start_of parts_named.Columns sections.now + start) rows result }
+        → LendsColumn pieces.now (start_of parts_named.Columns sections.now + start) (end - start) rows result }
     ensures exact { Gives parts result (column_in field.now.kind sections.now pieces.now footer.now table number) }
 {
     match column_range(footer, table, number, sections.columns) {

@@ -1,4 +1,4 @@
-use Rattle.std.proofs.Common.{◌++◌, ◌∷◌, [], arith, ap}
+use Rattle.std.proofs.Common.{arith, ap}
 use Rattle.split_bundle.specs.Reading.{block_starts_at, of_section}
 use Rattle.split_bundle.proofs.Indexes.{blocks_end, blocks_more, blocks_fault, blocks_begun}
 use Rattle.split_bundle.proofs.footer.read_index.Goals as goal

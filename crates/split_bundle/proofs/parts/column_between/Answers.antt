@@ -1,4 +1,4 @@
-use Rattle.std.proofs.Common.{◌+◌, ◌-◌, [], length, refl, sym, ◌∙◌}
+use Rattle.std.proofs.Common.{◌≡◌, ◌+◌, ◌-◌, [], length, sym, ◌∙◌, arith}
 use Rattle.std.proofs.lemmas.List.{append-nil}
 use Rattle.split_bundle.specs.Pieces.{section_part, start_of}
 use Rattle.split_bundle.specs.declared.pieces.Section.TheVariants.{Columns}
@@ -23,4 +23,5 @@ pub returns-in-Err-clause-only : goal.returns-in-Err-clause-only
 returns-in-Err-clause-only c p rows are same at =
     let part = section_part Columns c.args.sections.now c.args.pieces.now c.args.start (c.args.end - c.args.start) in
     let lent = column_lent p c.args.sections.now c.args.pieces.now are same c.args.field.now.kind rows c.args.start c.args.end at in
-    (length at.column, part_missing c.args.pieces.now (start_of Columns c.args.sections.now + c.args.start) (length at.column) at.column c.in-Err.fault part lent c.in-Err.ensures.exact refl)
+    let long : length at.column ≡ c.args.end - c.args.start = omega (arith, at.end_is) in
+    part_missing c.args.pieces.now (start_of Columns c.args.sections.now + c.args.start) (c.args.end - c.args.start) at.column c.in-Err.fault part lent c.in-Err.ensures.exact long

@@ -1,0 +1,51 @@
+-- What a split lends of its documents.
+use Rattle.std.specs.Prelude.{◌≡◌, ℕ, ◌+◌, ◌*◌, ◌^◌, ◌<◌, List, length, take, Result, Ok, Err, IsUtf8, ⊤, ◌⊎◌}
+use Rattle.std.specs.List.{AllByRecursion}
+use Rattle.byte_fields.specs.Spelling.{zigzag}
+use Rattle.doc_value.specs.declared.doc.Value.{Value}
+use Rattle.doc_value.specs.declared.doc.Value.TheVariants as values
+use Rattle.doc_value.specs.declared.doc.DocField.{DocField}
+use Rattle.split_bundle.specs.declared.pieces.FilePiece.{FilePiece}
+use Rattle.split_bundle.specs.declared.placed.Placed.{Placed}
+use Rattle.split_bundle.specs.declared.split_error.SplitError.{SplitError}
+use Rattle.split_bundle.specs.declared.split_error.SplitError.TheVariants.{Memory, BadMagic, BadSection, BadVersion, Truncated}
+use Rattle.split_bundle.specs.Documents.{each_in_bytes, joined}
+use Rattle.split_bundle.specs.Files.{Parts}
+use Rattle.split_bundle.specs.Lending.{IsMissing}
+
+-- a text is UTF-8, and a number has 64 bits, as those that a program holds
+abbrev pub IsHeldValue : Value → Type 0
+IsHeldValue (values.Text t) = IsUtf8 t
+IsHeldValue (values.I64 z) = zigzag z < 2 ^ 64
+IsHeldValue (values.U64 n) = n < 2 ^ 64
+IsHeldValue (values.Bool b) = ⊤
+IsHeldValue (values.Datetime z) = zigzag z < 2 ^ 64
+
+abbrev pub AreHeld : List DocField → Type 0
+AreHeld doc = AllByRecursion (λ f. AllByRecursion IsHeldValue f.values) doc
+
+pub record IsHeld (d : Placed) : Type 0 where
+  pub offset : d.offset < 2 ^ 64
+  pub doc : AreHeld d.doc
+
+-- where the start of a document stands in the file, with the next one behind it
+abbrev pub starts_place : ℕ → ℕ
+starts_place number = 4 + 8 * number
+
+-- where the bytes of a document stand in the file
+abbrev pub doc_place : Parts → List Placed → ℕ → ℕ
+doc_place p documents number = 4 + (8 * (length documents + 1) + length (joined (take number (each_in_bytes p.partitions documents))))
+
+-- these bytes of a document, or that no piece has its start and the next one, or its bytes
+abbrev pub LendsDoc : List FilePiece → ℕ → ℕ → List ℕ → Result (List ℕ) SplitError → Type 0
+LendsDoc pieces starts at bytes (Ok found) = found ≡ bytes
+LendsDoc pieces starts at bytes (Err e) = IsMissing pieces starts 16 e ⊎ IsMissing pieces at (length bytes) e
+
+-- this document, or want of memory, or that no piece has its start and the next one, or its bytes
+abbrev pub LendsPlaced : List FilePiece → ℕ → ℕ → ℕ → Placed → Result Placed SplitError → Type 0
+LendsPlaced pieces starts at len d (Ok found) = found ≡ d
+LendsPlaced pieces starts at len d (Err (Memory a)) = ⊤
+LendsPlaced pieces starts at len d (Err BadMagic) = ⊥
+LendsPlaced pieces starts at len d (Err (Truncated place)) = IsMissing pieces starts 16 (Truncated place) ⊎ IsMissing pieces at len (Truncated place)
+LendsPlaced pieces starts at len d (Err (BadSection number)) = ⊥
+LendsPlaced pieces starts at len d (Err (BadVersion number)) = ⊥
