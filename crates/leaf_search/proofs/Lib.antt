@@ -1,0 +1,16 @@
+pub mod WordBits
+pub mod NextBit
+pub mod BitTests
+pub mod KeyTests
+pub mod PlaceKeys
+pub mod PhraseKeys
+pub mod Prefixes
+pub mod Beginnings
+pub mod Presence
+pub mod ValueKeys
+pub mod Numbers
+pub mod Walks
+pub mod SetLemmas
+pub mod Causes
+pub mod Dictionary
+pub mod Steps
