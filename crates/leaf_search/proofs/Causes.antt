@@ -1,5 +1,5 @@
 -- Faults that are handed on.
-use Rattle.std.proofs.Common.{◌≡◌, ℕ, zero, suc, ◌+◌, ◌<◌, ◌⊎◌, inl, inr, Bool, true, List, [], ◌∷◌, length, get_or, Some, None, Result, Ok, Err, IsErrAnd, MatchResult, refl, ap, sym, ◌∙◌, subst, arith}
+use Rattle.std.proofs.Common.{◌≡◌, ℕ, zero, suc, ◌+◌, ◌<◌, ◌⊎◌, inl, inr, Bool, true, List, [], ◌∷◌, length, get_or, Some, None, Result, Ok, Err, IsErrAnd, MatchResult, Vec, refl, ap, sym, ◌∙◌, subst, arith}
 use Rattle.doc_value.specs.declared.schema.Schema.{Schema}
 use Rattle.split_bundle.specs.declared.placed.Placed.{Placed}
 use Rattle.split_bundle.specs.declared.part_view.PartView.{PartView}
@@ -16,7 +16,7 @@ use Rattle.text_tokens.specs.declared.tokens.Token.{Token}
 use Rattle.split_bundle.specs.Pieces.{held_in}
 use Rattle.leaf_search.specs.declared.leaf_error.LeafError.{LeafError}
 use Rattle.leaf_search.specs.declared.leaf_error.LeafError.TheVariants as faults
-use Rattle.leaf_search.specs.Faults.{HasCause, fault_of}
+use Rattle.leaf_search.specs.Faults.{HasCause, IsMemory, fault_of}
 use Rattle.leaf_search.specs.Needed.{AsksKey, AsksKeys, LacksKeys, token_keys, postings_start, positions_start}
 
 -- a cause among some parts is one among more
@@ -60,3 +60,10 @@ module _ (v : PartView) (s : Schema) (ds : List Placed) (p : Parts) where
       → MatchResult r good (LacksKeys v s ds p (key ∷ []))
   cursor_lacks good key info positions fault r found flag h (inl m) = key_lacks good key (postings_start v.footer.layout.sections + info.postings) info.postings_len fault r h m (inr (inl (record { info = info; is_term = found; at_is = refl; len_is = refl })))
   cursor_lacks good key info positions fault r found flag h (inr m) = key_lacks good key (positions_start v.footer.layout.sections + info.positions) info.positions_len fault r h m.1 (inr (inr (record { kept = sym flag ∙ m.0; info = info; is_term = found; at_is = refl; len_is = refl })))
+
+  -- places that were given, or want of memory
+  pub places_given : (Z : Type 0) (r : Result (Vec ℕ Z) LeafError) (left places : List ℕ) (keys : List (List ℕ)) → left ≡ places → MatchResult r (λ v. v.items ≡ left) IsMemory → MatchResult r (λ v. v.items ≡ places) (LacksKeys v s ds p keys)
+  places_given Z (Ok v) left places keys e h = h ∙ e
+  places_given Z (Err (faults.Memory a)) left places keys e h = tt
+  places_given Z (Err (faults.Missing at)) left places keys e h = absurd h
+  places_given Z (Err (faults.Corrupt section)) left places keys e h = absurd h

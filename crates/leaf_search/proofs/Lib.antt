@@ -14,3 +14,5 @@ pub mod SetLemmas
 pub mod Causes
 pub mod Dictionary
 pub mod Steps
+pub mod ListPlaces
+pub mod Runs

@@ -7,6 +7,8 @@ mod laws;
 mod leaf_error;
 mod lists;
 mod lookups;
+mod phrases;
+mod places;
 mod sets;
 mod words;
 
