@@ -1,11 +1,10 @@
 -- Faults that are handed on.
-use Rattle.std.proofs.Common.{◌≡◌, ℕ, zero, suc, ◌+◌, ◌<◌, ◌⊎◌, inl, inr, Bool, true, List, [], ◌∷◌, length, get_or, Some, None, Result, Ok, Err, IsErrAnd, MatchResult, Vec, refl, ap, sym, ◌∙◌, subst, arith}
+use Rattle.std.proofs.Common.{◌≡◌, ℕ, zero, suc, ◌+◌, ◌<◌, ◌⊎◌, inl, inr, Bool, true, List, [], ◌∷◌, length, get_or, Some, Result, Ok, Err, IsErrAnd, MatchResult, Vec, refl, ap, sym, ◌∙◌, subst, arith}
 use Rattle.doc_value.specs.declared.schema.Schema.{Schema}
 use Rattle.split_bundle.specs.declared.placed.Placed.{Placed}
 use Rattle.split_bundle.specs.declared.part_view.PartView.{PartView}
 use Rattle.split_bundle.specs.declared.pieces.FilePiece.{FilePiece}
 use Rattle.split_bundle.specs.declared.split_error.SplitError.{SplitError}
-use Rattle.split_bundle.specs.declared.split_error.SplitError.TheVariants as splits
 use Rattle.split_bundle.specs.Files.{Parts}
 use Rattle.split_bundle.specs.Lending.{IsMissing}
 use Rattle.split_bundle.specs.Lists.{keeps_places, terms_of}
@@ -13,7 +12,6 @@ use Rattle.term_dict.specs.Terms.{lookup}
 use Rattle.term_dict.specs.declared.term.TermInfo.{TermInfo}
 use Rattle.split_bundle.specs.Keys.{field_key}
 use Rattle.text_tokens.specs.declared.tokens.Token.{Token}
-use Rattle.split_bundle.specs.Pieces.{held_in}
 use Rattle.leaf_search.specs.declared.leaf_error.LeafError.{LeafError}
 use Rattle.leaf_search.specs.declared.leaf_error.LeafError.TheVariants as faults
 use Rattle.leaf_search.specs.Faults.{HasCause, IsMemory, fault_of}

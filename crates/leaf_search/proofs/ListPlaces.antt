@@ -1,10 +1,9 @@
 -- The places of a document in a posting list.
-use Rattle.std.proofs.Common.{◌≡◌, ℕ, zero, suc, ◌+◌, ◌-◌, ◌/◌, ◌<◌, ◌≤◌, ◌==◌, ◌≢◌, Bool, true, false, ◌||◌, cond, List, [], ◌∷◌, drop, slice_get, Option, Some, None, Result, Ok, Err, ◌++◌, if◌then◌else◌, nat_lt, refl, ap, sym, ◌∙◌, subst, arith, eq-eqb}
-use Rattle.std.specs.List.{AllByRecursion}
+use Rattle.std.proofs.Common.{◌≡◌, ℕ, zero, suc, ◌+◌, ◌-◌, ◌/◌, ◌<◌, ◌≤◌, Bool, true, false, cond, List, [], ◌∷◌, drop, slice_get, Option, Some, None, Result, Ok, Err, ◌++◌, if◌then◌else◌, nat_lt, refl, ap, sym, ◌∙◌, arith}
 use Rattle.std.proofs.lemmas.Bool.Decides.{nat_tests}
 use Rattle.doc_value.specs.declared.schema.Schema.{Schema}
 use Rattle.term_postings.specs.declared.list.Posting.{Posting}
-use Rattle.term_postings.specs.Cursors.{first_document, first_positions, first_number, from_document}
+use Rattle.term_postings.specs.Cursors.{first_positions, first_number, from_document}
 use Rattle.split_bundle.specs.declared.placed.Placed.{Placed}
 use Rattle.split_bundle.specs.Keys.{keys_of}
 use Rattle.split_bundle.specs.Lists.{has_key, keeps_places, places_of, posted, posting_list}
@@ -17,7 +16,6 @@ use Rattle.split_bundle.specs.Reading.{Gives, and_then}
 use Rattle.split_bundle.specs.declared.layout.Sections.{Sections}
 use Rattle.split_bundle.specs.declared.pieces.FilePiece.{FilePiece}
 use Rattle.split_bundle.specs.declared.split_error.SplitError.{SplitError}
-use Rattle.leaf_search.specs.Sets.{is_in}
 
 at_least : (a b : ℕ) → a ≤ b → nat_lt b a ≡ false
 at_least a b le = grind (arith, nat_tests)

@@ -1,5 +1,5 @@
 -- The places of a field's term among the keys of a document are its places among the tokens of the field's values.
-use Rattle.std.proofs.Common.{◌≡◌, ℕ, zero, suc, ◌+◌, ◌<◌, ◌≤◌, ◌≢◌, Bool, true, false, not, ◌&&◌, ◌||◌, List, [], ◌∷◌, ◌++◌, length, slice_get, Option, Some, None, if◌then◌else◌, refl, ap, sym, ◌∙◌, arith, append-nil}
+use Rattle.std.proofs.Common.{◌≡◌, ℕ, zero, suc, ◌+◌, ◌<◌, ◌≢◌, Bool, true, false, ◌||◌, List, [], ◌∷◌, ◌++◌, slice_get, Some, if◌then◌else◌, refl, ap, sym, ◌∙◌, arith, append-nil}
 use Rattle.std.specs.Str.{bytes_eq}
 use Rattle.doc_value.specs.declared.schema.Field.{Field}
 use Rattle.doc_value.specs.declared.schema.Schema.{Schema}
@@ -10,7 +10,7 @@ use Rattle.text_tokens.specs.declared.tokens.Token.{Token}
 use Rattle.query_ast.specs.FieldTokens.{field_tokens}
 use Rattle.query_ast.specs.Meaning.{values_in, tokens_in, has_token, some_has_token}
 use Rattle.doc_value.specs.Terms.{term_bytes}
-use Rattle.split_bundle.specs.Keys.{Occurrence, field_key, presence_key, value_place, of_tokens, of_value, of_values, of_presence, of_field, of_fields, keys_of}
+use Rattle.split_bundle.specs.Keys.{Occurrence, field_key, value_place, of_tokens, of_value, of_values, of_presence, of_field, of_fields, keys_of}
 use Rattle.split_bundle.specs.Lists.{has_key, places_of}
 use Rattle.leaf_search.specs.Asked.{token_places, term_places, AreTexts}
 use Rattle.leaf_search.proofs.KeyTests.{same_field, other_field, no_presence}

@@ -1,7 +1,7 @@
 -- A prefix stands in the values of a field exactly where some key of the document begins with the prefix's key.
-use Rattle.std.proofs.Common.{◌≡◌, ℕ, zero, suc, ◌+◌, ◌/◌, ◌%◌, ◌<◌, ◌≢◌, ◌⊎◌, inl, inr, Bool, true, false, ◌&&◌, ◌||◌, List, [], ◌∷◌, ◌++◌, nat_eq, slice_get, Option, Some, None, if◌then◌else◌, refl, ap, sym, ◌∙◌, arith}
+use Rattle.std.proofs.Common.{◌≡◌, ℕ, zero, suc, ◌+◌, ◌/◌, ◌%◌, ◌<◌, ◌≢◌, ◌⊎◌, inl, inr, Bool, true, false, ◌||◌, List, [], ◌∷◌, ◌++◌, nat_eq, slice_get, Some, if◌then◌else◌, refl, ap, sym, ◌∙◌, arith}
 use Rattle.std.specs.List.{starts_with}
-use Rattle.std.proofs.lemmas.Bool.{cases_eq, ne_eqb}
+use Rattle.std.proofs.lemmas.Bool.{cases_eq}
 use Rattle.doc_value.specs.declared.schema.Field.{Field}
 use Rattle.doc_value.specs.declared.schema.Schema.{Schema}
 use Rattle.doc_value.specs.declared.doc.Value.{Value}
@@ -9,7 +9,7 @@ use Rattle.doc_value.specs.declared.doc.Value.TheVariants as values
 use Rattle.doc_value.specs.declared.doc.DocField.{DocField}
 use Rattle.text_tokens.specs.declared.tokens.Token.{Token}
 use Rattle.query_ast.specs.FieldTokens.{field_tokens}
-use Rattle.query_ast.specs.Meaning.{values_in, tokens_in, has_prefix, some_has_prefix}
+use Rattle.query_ast.specs.Meaning.{values_in, has_prefix, some_has_prefix}
 use Rattle.doc_value.specs.Terms.{term_bytes}
 use Rattle.split_bundle.specs.Keys.{Occurrence, field_key, presence_key, of_tokens, of_value, of_values, of_presence, of_field, of_fields, keys_of}
 use Rattle.leaf_search.specs.Asked.{AreTexts, begins}

@@ -1,5 +1,5 @@
 -- Steps of the tests for a phrase.
-use Rattle.std.proofs.Common.{◌≡◌, ℕ, zero, suc, ◌+◌, ◌-◌, ◌<◌, ◌≤◌, ◌≢◌, ◌⊎◌, inl, inr, nat_eq, nat_lt, eq-eqb, Bool, true, false, ◌&&◌, ◌||◌, ◌==◌, cond, List, [], ◌∷◌, length, drop, get_or, slice_get, Option, Some, None, refl, ap, sym, ◌∙◌, subst, arith}
+use Rattle.std.proofs.Common.{◌≡◌, ℕ, zero, suc, ◌+◌, ◌-◌, ◌<◌, ◌≤◌, ◌≢◌, ◌⊎◌, inl, inr, nat_eq, nat_lt, eq-eqb, Bool, true, false, ◌&&◌, ◌||◌, ◌==◌, cond, List, [], ◌∷◌, length, drop, get_or, slice_get, Some, refl, ap, sym, ◌∙◌, arith}
 use Rattle.std.specs.List.{AllByRecursion}
 use Rattle.std.proofs.lemmas.Bool.Decides.{nat_tests}
 use Rattle.std.specs.Str.{bytes_eq}
@@ -9,7 +9,7 @@ use Rattle.doc_value.specs.declared.doc.DocField.{DocField}
 use Rattle.doc_value.specs.declared.doc.Value.{Value}
 use Rattle.doc_value.specs.declared.schema.Field.{Field}
 use Rattle.text_tokens.specs.declared.tokens.Token.{Token}
-use Rattle.query_ast.specs.Meaning.{tokens_in, has_token_at, stands_at, stands_at_one, has_phrase, some_has_phrase, first_position, phrase_holds}
+use Rattle.query_ast.specs.Meaning.{tokens_in, has_token_at, stands_at, stands_at_one, some_has_phrase, first_position, phrase_holds}
 use Rattle.split_bundle.specs.declared.placed.Placed.{Placed}
 use Rattle.split_bundle.specs.Keys.{Occurrence, field_key}
 use Rattle.split_bundle.specs.Lists.{has_key, places_of}

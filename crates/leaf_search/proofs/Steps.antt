@@ -1,7 +1,7 @@
 -- Steps over the members of a query and over tokens; the values of a field of texts.
-use Rattle.std.proofs.Common.{◌≡◌, ℕ, zero, suc, ◌+◌, ◌*◌, ◌/◌, ◌%◌, ◌<◌, ◌≤◌, ◌==◌, ◌⊎◌, inl, inr, Bool, true, false, not, ◌&&◌, ◌||◌, List, [], ◌∷◌, length, drop, get_or, slice_get, Option, Some, None, if◌then◌else◌, refl, ap, sym, ◌∙◌, subst, arith}
+use Rattle.std.proofs.Common.{◌≡◌, ℕ, zero, suc, ◌+◌, ◌*◌, ◌/◌, ◌%◌, ◌<◌, ◌≤◌, ◌==◌, Bool, true, false, ◌&&◌, ◌||◌, List, [], ◌∷◌, length, drop, get_or, slice_get, Some, None, if◌then◌else◌, refl, ap, sym, ◌∙◌, arith}
 use Rattle.std.proofs.lemmas.List.{drop_more}
-use Rattle.std.proofs.lemmas.Bool.{cases_eq, eqb-true}
+use Rattle.std.proofs.lemmas.Bool.{eqb-true}
 use Rattle.doc_value.specs.declared.schema.Field.{Field}
 use Rattle.doc_value.specs.declared.schema.Kind.{Kind}
 use Rattle.doc_value.specs.declared.schema.Kind.TheVariants as kinds
@@ -14,7 +14,8 @@ use Rattle.text_tokens.specs.declared.tokens.Token.{Token}
 use Rattle.query_ast.specs.declared.query.Query.{Query, Row_of-Query, end_of-Query, more_of-Query, items-the_row-Query}
 use Rattle.query_ast.specs.Sought.{view, view_row}
 use Rattle.query_ast.specs.Meaning.{meaning, all_hold, some_hold, all_in, some_in, values_in, is_text, each_stands, some_has_token}
-use Rattle.split_bundle.specs.Keys.{field_key}
+use Rattle.std.specs.Option.{option_map_or}
+use Rattle.split_bundle.specs.Keys.{field_key, presence_key}
 use Rattle.split_bundle.specs.Lists.{keeps_places}
 use Rattle.leaf_search.specs.Asked.{AreTexts}
 
@@ -104,3 +105,32 @@ none_behind [] zero le = refl
 none_behind [] (suc i) le = refl
 none_behind (x ∷ xs) zero le = absurd (omega arith)
 none_behind (x ∷ xs) (suc i) le = none_behind xs i (omega arith)
+
+part_kinds : (fields : List Field) (part : DocField) (n : ℕ) (f : Field) → part.number ≡ n → slice_get fields n ≡ Some f → FitsField fields part → AreOfKind f.kind part.values
+part_kinds fields part n f e got fits =
+    let here : slice_get fields part.number ≡ Some f = ap (λ k. slice_get fields k) e ∙ got in
+    (rw here at fits).0
+
+kinds_from : (fields : List Field) (least n : ℕ) (f : Field) (d : List DocField) → slice_get fields n ≡ Some f → FitsFrom fields least d → AreOfKind f.kind (values_in d n)
+kinds_from fields least n f [] got fits = none_of f.kind
+  where
+    none_of : (k : Kind) → AreOfKind k []
+    none_of k = tt
+kinds_from fields least n f (part ∷ parts) got fits = go (part.number == n) refl (kinds_from fields (suc part.number) n f parts got fits.2)
+  where
+    go : (b : Bool) → (part.number == n) ≡ b → AreOfKind f.kind (values_in parts n) → AreOfKind f.kind (if b then part.values else values_in parts n)
+    go true e rest = part_kinds fields part n f (eqb-true part.number n e) got fits.1
+    go false e rest = rest
+
+-- the values of a field are of its kind
+pub kinds_in : (s : Schema) (n : ℕ) (f : Field) (d : List DocField) → slice_get s.fields n ≡ Some f → IsOfSchema s d → AreOfKind f.kind (values_in d n)
+kinds_in s n f d got fits = kinds_from s.fields 0 n f d got fits
+
+past : (fs : List Field) (k : ℕ) → length fs ≤ k → slice_get fs k ≡ None
+past [] k le = refl
+past (f ∷ fs) zero le = absurd (omega arith)
+past (f ∷ fs) (suc k) le = past fs k (omega arith)
+
+-- the list of a presence key has no positions
+pub presence_keeps : (s : Schema) (n : ℕ) → length s.fields ≤ 256 → keeps_places s (presence_key n) ≡ false
+presence_keeps s n few = ap (λ o. option_map_or (λ f. f.positions) o false) (past s.fields 65535 (omega arith))

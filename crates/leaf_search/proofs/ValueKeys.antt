@@ -1,5 +1,5 @@
 -- A value that is no text stands in a document exactly where the document has the value's key.
-use Rattle.std.proofs.Common.{◌≡◌, ℕ, ℤ, pos, negsuc, zero, suc, ◌+◌, ◌-◌, ◌^◌, ◌<◌, ◌≤◌, ◌≢◌, Bool, true, false, ◌&&◌, ◌||◌, ◌==◌, List, [], ◌∷◌, ◌++◌, slice_get, Option, Some, None, int_le, refl, ap, sym, ◌∙◌, arith, nat_eq, w64, eq-eqb}
+use Rattle.std.proofs.Common.{◌≡◌, ℕ, ℤ, pos, negsuc, suc, ◌^◌, ◌<◌, Bool, true, false, ◌&&◌, ◌||◌, ◌==◌, List, [], ◌∷◌, slice_get, Some, int_le, refl, ap, sym, ◌∙◌, arith, w64, eq-eqb}
 use Rattle.std.specs.Str.{bytes_eq}
 use Rattle.std.specs.Int.{to_be_bytes, from_be_bytes}
 use Rattle.std.specs.Int.RustNames.{FitsSigned}
@@ -17,8 +17,8 @@ use Rattle.doc_value.specs.declared.doc.DocField.{DocField}
 use Rattle.doc_value.specs.Documents.{IsOfKind, AreOfKind}
 use Rattle.doc_value.specs.Terms.{term_bytes, turned, truth_byte}
 use Rattle.query_ast.specs.Meaning.{values_in, is_text, same_value, equals_some}
-use Rattle.split_bundle.specs.Keys.{Occurrence, field_key, of_value, of_values, keys_of}
-use Rattle.split_bundle.specs.Lists.{has_key, places_of}
+use Rattle.split_bundle.specs.Keys.{field_key, of_value, of_values, keys_of}
+use Rattle.split_bundle.specs.Lists.{has_key}
 use Rattle.leaf_search.specs.Values.{Has64, AllHave64}
 use Rattle.leaf_search.proofs.KeyTests.{same_field}
 use Rattle.leaf_search.proofs.PhraseKeys.{alike}

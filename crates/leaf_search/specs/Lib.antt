@@ -5,4 +5,3 @@ pub mod Values
 pub mod Sets
 pub mod Faults
 pub mod Needed
-pub mod Requests

@@ -10,6 +10,7 @@ mod lookups;
 mod phrases;
 mod places;
 mod sets;
+mod values;
 mod words;
 
 pub use bits::DocBits;

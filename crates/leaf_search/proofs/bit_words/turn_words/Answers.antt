@@ -1,4 +1,4 @@
-use Rattle.std.proofs.Common.{◌<◌, length, arith}
+use Rattle.std.proofs.Common.{arith}
 use Rattle.leaf_search.proofs.WordBits.{bit_turned}
 use Rattle.leaf_search.proofs.bit_words.turn_words.Goals as goal
 

@@ -1,6 +1,5 @@
-use Rattle.std.proofs.Common.{◌≡◌, ℕ, ◌+◌, ◌<◌, ◌==◌, ◌||◌, true, List, drop, Option, Some, None, Ok, refl, ap, sym, ◌∙◌, subst, arith}
+use Rattle.std.proofs.Common.{◌≡◌, ℕ, ◌+◌, ◌==◌, ◌||◌, true, drop, Option, Some, None, ap, sym, ◌∙◌, subst, arith}
 use Rattle.leaf_search.specs.Bits.{has}
-use Rattle.term_postings.specs.declared.list.Posting.{Posting}
 use Rattle.term_postings.specs.Cursors.{StandsBefore, first_document, first_positions}
 use Rattle.leaf_search.specs.Sets.{is_in}
 use Rattle.leaf_search.proofs.Walks.{first_below, first_there, first_in, drop_one, moved}

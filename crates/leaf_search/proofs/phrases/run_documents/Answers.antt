@@ -1,4 +1,4 @@
-use Rattle.std.proofs.Common.{◌≡◌, ◌∙◌, ◌<◌, ◌⊎◌, inl, inr, List, ℕ, true, false, length, ap, sym, subst, refl, arith}
+use Rattle.std.proofs.Common.{◌∙◌, inl, inr, false, ap, sym, arith}
 use Rattle.std.proofs.lemmas.Bool.{cases_eq}
 use Rattle.split_bundle.specs.Keys.{keys_of}
 use Rattle.leaf_search.specs.Asked.{has_run}

@@ -1,4 +1,4 @@
-use Rattle.std.proofs.Common.{◌≡◌, ◌∙◌, ◌<◌, Bool, true, false, length, sym, arith}
+use Rattle.std.proofs.Common.{◌≡◌, ◌∙◌, ◌<◌, true, false, length, sym, arith}
 use Rattle.split_bundle.specs.Keys.{keys_of}
 use Rattle.leaf_search.specs.Asked.{has_each}
 use Rattle.leaf_search.proofs.Runs.{holds_here, no_run}

@@ -1,4 +1,4 @@
-use Rattle.std.proofs.Common.{◌≡◌, ◌∙◌, ◌+◌, ◌<◌, ◌∷◌, [], Bool, List, ℕ, true, false, length, drop, ap, sym, refl, subst, arith, MatchResult}
+use Rattle.std.proofs.Common.{◌≡◌, ◌∙◌, ◌∷◌, [], Bool, true, ap, subst, arith, MatchResult}
 use Rattle.split_bundle.specs.Keys.{keys_of, field_key}
 use Rattle.split_bundle.specs.Lists.{has_key, keeps_places, places_of}
 use Rattle.leaf_search.specs.Asked.{stands_from_one, has_run}

@@ -1,4 +1,4 @@
-use Rattle.std.proofs.Common.{◌≡◌, ◌∙◌, sym, arith}
+use Rattle.std.proofs.Common.{◌∙◌, arith}
 use Rattle.doc_value.specs.Documents.{IsOfSchema}
 use Rattle.query_ast.specs.Meaning.{each_stands, phrase_holds, values_in}
 use Rattle.split_bundle.specs.Keys.{keys_of}

@@ -1,6 +1,6 @@
-use Rattle.std.proofs.Common.{◌≡◌, ◌∙◌, ◌+◌, ◌||◌, Bool, List, ℕ, true, false, drop, ap, sym, refl, subst, arith}
+use Rattle.std.proofs.Common.{◌≡◌, ◌∙◌, ◌+◌, ◌||◌, drop, ap, sym}
 use Rattle.split_bundle.specs.Keys.{keys_of}
-use Rattle.leaf_search.specs.Asked.{stands_from, stands_from_one}
+use Rattle.leaf_search.specs.Asked.{stands_from_one}
 use Rattle.leaf_search.specs.Needed.{LacksKeys, token_keys}
 use Rattle.leaf_search.proofs.Causes.{handed_on}
 use Rattle.leaf_search.proofs.Runs.{one_step}

@@ -1,4 +1,4 @@
-use Rattle.std.proofs.Common.{◌≡◌, ◌∙◌, ◌+◌, ◌-◌, ◌&&◌, ◌∷◌, [], Bool, List, ℕ, true, false, drop, ap, sym, refl, subst, arith}
+use Rattle.std.proofs.Common.{◌≡◌, ◌∙◌, ◌+◌, ◌-◌, ◌&&◌, ◌∷◌, [], true, drop, ap, sym, subst}
 use Rattle.split_bundle.specs.Keys.{field_key, keys_of}
 use Rattle.split_bundle.specs.Lists.{has_key, keeps_places, places_of}
 use Rattle.leaf_search.specs.Asked.{is_among, stands_from}

@@ -1,4 +1,4 @@
-use Rattle.std.proofs.Common.{◌≡◌, ◌∙◌, ◌∷◌, [], false, true, Some, None, sym}
+use Rattle.std.proofs.Common.{◌≡◌, ◌∙◌, false, true, Some, None, sym}
 use Rattle.term_dict.specs.Terms.{lookup}
 use Rattle.split_bundle.specs.Lists.{terms_of}
 use Rattle.leaf_search.proofs.Dictionary.{no_document, not_here}

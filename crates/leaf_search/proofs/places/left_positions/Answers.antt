@@ -1,5 +1,5 @@
-use Rattle.std.proofs.Common.{◌≡◌, ◌∙◌, ◌+◌, ◌++◌, ◌∷◌, ℕ, List, [], true, Option, Some, None, drop, length, refl, ap, sym, subst, arith, append_assoc, append-nil}
-use Rattle.term_postings.specs.Cursors.{StandsBefore, first_number}
+use Rattle.std.proofs.Common.{◌≡◌, ◌∙◌, ◌+◌, ◌++◌, ◌∷◌, ℕ, [], Some, None, drop, ap, sym, append_assoc, append-nil}
+use Rattle.term_postings.specs.Cursors.{first_number}
 use Rattle.leaf_search.proofs.ListPlaces.{number_taken, none_taken}
 use Rattle.leaf_search.proofs.places.left_positions.Goals as goal
 

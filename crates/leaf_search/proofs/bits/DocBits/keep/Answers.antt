@@ -1,4 +1,4 @@
-use Rattle.std.proofs.Common.{◌≡◌, ℕ, ap, ◌∙◌, nat_eq, length, arith, min}
+use Rattle.std.proofs.Common.{◌≡◌, ap, ◌∙◌, nat_eq, length, arith, min}
 use Rattle.std.proofs.lemmas.List.{with_items_is}
 use Rattle.leaf_search.specs.BitWords.{bit_of}
 use Rattle.leaf_search.proofs.WordBits.{bit_below}

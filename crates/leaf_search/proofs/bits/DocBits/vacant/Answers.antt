@@ -1,4 +1,4 @@
-use Rattle.std.proofs.Common.{◌≡◌, ℕ, nat_eq, replicate, ap, ◌∙◌, arith}
+use Rattle.std.proofs.Common.{nat_eq, ap, ◌∙◌}
 use Rattle.leaf_search.specs.BitWords.{bit_of}
 use Rattle.leaf_search.proofs.WordBits.{bit_zeros}
 use Rattle.leaf_search.proofs.bits.DocBits.vacant.Goals as goal
