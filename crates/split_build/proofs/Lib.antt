@@ -1,1 +1,4 @@
+pub mod SaidLemmas
+pub mod WalkLemmas
+pub mod TokenPlaces
 pub mod DocumentLemmas

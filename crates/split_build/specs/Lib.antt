@@ -1,3 +1,6 @@
 pub mod Bodies
 pub mod Members
 pub mod HeldDocuments
+pub mod Said
+pub mod HeldTerms
+pub mod Walks

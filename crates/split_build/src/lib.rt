@@ -1,10 +1,14 @@
-//! Parts of a split file, written of placed documents that come one after the other.
+//! The parts of a split file, built from placed documents, one after the other.
 #![tactic(auto)]
 
 mod bodies;
 mod build_error;
 mod documents;
+mod occurrences;
+mod terms;
 
 pub use bodies::put_body;
 pub use build_error::BuildError;
 pub use documents::{DocumentLog, Piece};
+pub use occurrences::Walker;
+pub use terms::{KeyList, TermLog};
