@@ -4,3 +4,5 @@ pub mod HeldDocuments
 pub mod Said
 pub mod HeldTerms
 pub mod Walks
+pub mod Grouped
+pub mod WrittenTerms
