@@ -1,0 +1,10 @@
+pub mod SaidLemmas
+pub mod WalkLemmas
+pub mod TokenPlaces
+pub mod DocumentLemmas
+pub mod PostedLemmas
+pub mod PlacesLemmas
+pub mod GroupedLemmas
+pub mod TermLemmas
+pub mod KeysLemmas
+pub mod WrittenLemmas

@@ -1,0 +1,14 @@
+use Rattle.std.proofs.Common.{◌≡◌, ◌∙◌, List, ℕ, ap, subst, length, Some, ◌++◌}
+use Rattle.std.specs.List.{AllByRecursion}
+use Rattle.split_build.proofs.DocumentLemmas.{document_more}
+use Rattle.split_build.proofs.documents.DocumentLog.add.Goals as goal
+
+pub returns : goal.returns
+returns c = λ documents d partition body h.
+    let grown = c.in_ok-name.ensures.grown in
+    document_more c.args.self.now _ documents d _ grown.0 h grown.1
+    (subst (λ (x : List ℕ). AllByRecursion (λ (m : List ℕ). m ≡ x) grown.0) partition grown.2)
+    (c.in_ok-name.ensures.number ∙ ap (λ (x : List ℕ). Some x) partition)
+    (ap (λ (x : List ℕ). length x) body)
+    c.in_ok-push.ensures.items
+    (c.in_ok-extend_from_slice.ensures.items ∙ ap (λ (x : List ℕ). c.args.self.now.bodies.items ++ x) body)

@@ -1,0 +1,6 @@
+use Rattle.std.proofs.Common.{◌≡◌, drop}
+use Rattle.query_ast.specs.Meaning.{values_in}
+use Rattle.split_build.proofs.occurrences.values_in.Given as goal
+
+abbrev pub invariant-loop-part : goal.invariant-loop-part
+invariant-loop-part l = values_in (drop l.part-index l.doc) l.number ≡ values_in l.doc l.number
