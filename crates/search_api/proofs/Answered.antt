@@ -1,5 +1,5 @@
 -- What a request asks of a schema can be answered from its index.
-use Rattle.std.proofs.Common.{◌≡◌, ℕ, ◌&&◌, ◌||◌, Bool, true, false, not, List, Option, Some, None, Result, Ok, Err, refl, subst, if◌then◌else◌, slice_get, is_some}
+use Rattle.std.proofs.Common.{◌≡◌, ℕ, ◌&&◌, ◌||◌, Bool, true, false, not, List, Option, Some, None, Result, Ok, Err, refl, sym, ◌∙◌, subst, if◌then◌else◌, slice_get, is_some}
 use Rattle.std.specs.Option.{IfSome, option_map_or}
 use Rattle.doc_value.specs.declared.facts.TimeRange.{TimeRange}
 use Rattle.doc_value.specs.declared.schema.Field.{Field}
@@ -32,6 +32,9 @@ bind_some : {A B : Type 0} (r : Result A Unanswered) (k : A → Result B Unanswe
 bind_some (Ok x) k y e = (x, refl, e)
 bind_some {A} {B} (Err r) k y e = absurd (let z : ◌≡◌ {A = Result B Unanswered} (Err r) (Ok y) = e in cc)
 
+same_ok : {A : Type 0} (x y : A) → ◌≡◌ {A = Result A Unanswered} (Ok x) (Ok y) → x ≡ y
+same_ok x y e = cc
+
 -- ---- a fast field to sort by
 fast_there : (s : Schema) (n : ℕ) (o : Option Field) → slice_get s.fields n ≡ o → option_map_or (λ f. f.fast) o false ≡ true → HasField s n (λ f. f.fast ≡ true)
 fast_there s n None h e = absurd (let y : false ≡ true = e in cc)
@@ -41,7 +44,7 @@ sorted_by : (s : Schema) (path : List ℕ) (sort : SortField) (b : Bool) → b �
     → (if b then Ok (Some sort) else Err (Refused (NotFast path))) ≡ Ok given → IfSome given (λ by. HasField s by.field (λ f. f.fast ≡ true))
 sorted_by s path sort true h given e =
     subst (λ (o : Option SortField). IfSome o (λ by. HasField s by.field (λ f. f.fast ≡ true)))
-    (let y : ◌≡◌ {A = Result (Option SortField) Unanswered} (Ok (Some sort)) (Ok given) = e in cc)
+    (same_ok (Some sort) given e)
     (fast_there s sort.field (slice_get s.fields sort.field) refl (sym h))
 sorted_by s path sort false h given e = absurd (let y : ◌≡◌ {A = Result (Option SortField) Unanswered} (Err (Refused (NotFast path))) (Ok given) = e in cc)
 
@@ -50,23 +53,20 @@ sort_can : (s : Schema) (asked : Option SortBy) (named given : Option SortField)
 sort_can s (Some asked) (Some sort) given h e = sorted_by s asked.path sort (is_fast s.fields sort.field) refl given e
 sort_can s (Some asked) None given h e =
     subst (λ (o : Option SortField). IfSome o (λ by. HasField s by.field (λ f. f.fast ≡ true)))
-    (let y : ◌≡◌ {A = Result (Option SortField) Unanswered} (Ok None) (Ok given) = e in cc) tt
+    (same_ok None given e) tt
 sort_can s None named given h e =
     subst (λ (o : Option SortField). IfSome o (λ by. HasField s by.field (λ f. f.fast ≡ true)))
-    (let y : ◌≡◌ {A = Result (Option SortField) Unanswered} (Ok None) (Ok named) = h in let z : ◌≡◌ {A = Result (Option SortField) Unanswered} (Ok named) (Ok given) = e in cc) tt
+    (same_ok None named h ∙ same_ok named given e) tt
 
 -- ---- a timestamp field
-timed_ok : (times given : TimeRange) → ◌≡◌ {A = Result TimeRange Unanswered} (Ok times) (Ok given) → times ≡ given
-timed_ok times given e = cc
-
 timed_by : (a b c : Bool) (times given : TimeRange) → (if (a || b) && not c then Err (Refused NoTimestampField) else Ok times) ≡ Ok given
     → (times ≡ given) × (a ≡ true → c ≡ true) × (b ≡ true → c ≡ true)
-timed_by true b true times given e = (timed_ok times given e, λ h. refl, λ h. refl)
-timed_by false true true times given e = (timed_ok times given e, λ h. refl, λ h. refl)
-timed_by false false true times given e = (timed_ok times given e, λ h. refl, λ h. refl)
+timed_by true b true times given e = (same_ok times given e, λ h. refl, λ h. refl)
+timed_by false true true times given e = (same_ok times given e, λ h. refl, λ h. refl)
+timed_by false false true times given e = (same_ok times given e, λ h. refl, λ h. refl)
 timed_by true b false times given e = absurd (let y : ◌≡◌ {A = Result TimeRange Unanswered} (Err (Refused NoTimestampField)) (Ok given) = e in cc)
 timed_by false true false times given e = absurd (let y : ◌≡◌ {A = Result TimeRange Unanswered} (Err (Refused NoTimestampField)) (Ok given) = e in cc)
-timed_by false false false times given e = (timed_ok times given e, λ h. absurd (let y : false ≡ true = h in cc), λ h. absurd (let y : false ≡ true = h in cc))
+timed_by false false false times given e = (same_ok times given e, λ h. absurd (let y : false ≡ true = h in cc), λ h. absurd (let y : false ≡ true = h in cc))
 
 timed_can : (s : Schema) (times given : TimeRange) → timed s times ≡ Ok given → AreTimed s given
 timed_can s times given e =
@@ -87,14 +87,14 @@ counted_can s asked aggs given h e = go (first_refusal s.fields aggs) refl e
     go : (o : Option AggError) → first_refusal s.fields aggs ≡ o → unless_refused aggs o ≡ Ok given → AreCounted s given
     go None n k =
         let within = aggs_within s.fields asked aggs h in
-        subst (λ (xs : List NamedAgg). AreCounted s xs) (let y : ◌≡◌ {A = Result (List NamedAgg) Unanswered} (Ok aggs) (Ok given) = k in cc)
+        subst (λ (xs : List NamedAgg). AreCounted s xs) (same_ok aggs given k)
         (record { over = within; none = n; intervals = have_intervals s.fields aggs within n })
     go (Some error) n k = absurd (let y : ◌≡◌ {A = Result (List NamedAgg) Unanswered} (Err (of_aggs error)) (Ok given) = k in cc)
 
 -- ---- requests
 -- what a search asks over a schema
 pub search_can : (s : Schema) (defaults : List ℕ) (asked : SearchRequest) (search : Search) → search_in s defaults asked ≡ Ok search → IsAnswerable s search
-  unfolding search_in
+unfolding search_in
 search_can s defaults asked search e =
     let a = bind_some (searched s.fields defaults asked.selection.fields) _ search e in
     let b = bind_some (sort_of s.fields asked.sort_by) _ search a.2 in
@@ -114,7 +114,7 @@ search_can s defaults asked search e =
     })
 
 pub delete_can : (s : Schema) (defaults : List ℕ) (asked : Selection) (deletion : Deletion) → delete_in s defaults asked ≡ Ok deletion → AreTimed s deletion.times
-  unfolding delete_in
+unfolding delete_in
 delete_can s defaults asked deletion e =
     let a = bind_some (searched s.fields defaults asked.fields) _ deletion e in
     let t = bind_some (timed s asked.times) _ deletion a.2 in

@@ -113,6 +113,9 @@ bind_some : {A B : Type 0} (r : Result A QueryError) (k : A → Result B QueryEr
 bind_some (Ok x) k y e = (x, refl, e)
 bind_some {A} {B} (Err r) k y e = absurd (let z : ◌≡◌ {A = Result B QueryError} (Err r) (Ok y) = e in cc)
 
+same_ok : {A : Type 0} (x y : A) → ◌≡◌ {A = Result A QueryError} (Ok x) (Ok y) → x ≡ y
+same_ok x y e = cc
+
 -- ---- clauses and queries
 module _ (s : Schema) (defaults text : List ℕ) where
   after_can : (a : Asking) (ns : List ℕ) → all_indexed s.fields ns ≡ true → first_bad s.fields text a ns ≡ None → first_unplaced s.fields text a ns ≡ None
@@ -126,9 +129,9 @@ module _ (s : Schema) (defaults text : List ℕ) where
 
   over_can : (qs : Soughts) (at : ℕ) (q : Sought) → CanAskEach s qs → over_fields qs at ≡ Ok q → CanAsk s q
   over_can no_more at q h e = absurd (let y : ◌≡◌ {A = Result Sought QueryError} (Err (refusals.NoDefaultField at)) (Ok q) = e in cc)
-  over_can (more p no_more) at q h e = subst (λ (q : Sought). CanAsk s q) (let y : ◌≡◌ {A = Result Sought QueryError} (Ok p) (Ok q) = e in cc) h.0
+  over_can (more p no_more) at q h e = subst (λ (q : Sought). CanAsk s q) (same_ok p q e) h.0
   over_can (more p (more r ps)) at q h e =
-      subst (λ (q : Sought). CanAsk s q) (let y : ◌≡◌ {A = Result Sought QueryError} (Ok (sought.Or (more p (more r ps)))) (Ok q) = e in cc) h
+      subst (λ (q : Sought). CanAsk s q) (same_ok (sought.Or (more p (more r ps))) q e) h
 
   clause_can : (a : Asking) (at : ℕ) (ns : List ℕ) (q : Sought) → clause_of s.fields text a at ns ≡ Ok q → CanAsk s q
   clause_can a at ns q e = go (all_indexed s.fields ns) refl (first_bad s.fields text a ns) refl (first_unplaced s.fields text a ns) refl
@@ -149,7 +152,7 @@ module _ (s : Schema) (defaults text : List ℕ) where
       go (Some n) h =
           let y : clause_of s.fields text a (first_byte a p.from) (n ∷ []) ≡ Ok q = rw h at e in
           clause_can a (first_byte a p.from) (n ∷ []) q y
-  leaf_can None asks.Any q e = subst (λ (q : Sought). CanAsk s q) (let y : ◌≡◌ {A = Result Sought QueryError} (Ok sought.All) (Ok q) = e in cc) tt
+  leaf_can None asks.Any q e = subst (λ (q : Sought). CanAsk s q) (same_ok sought.All q e) tt
   leaf_can None a q e = clause_can a (first_byte a 0) defaults q e
 
   mutual
@@ -170,7 +173,7 @@ module _ (s : Schema) (defaults text : List ℕ) where
         subst (λ (q : Sought). CanAsk s q) (let z : sought.Or p.0 ≡ q = cc in z) (each_can ts p.0 p.1)
 
     each_can : (ts : Trees) (qs : Soughts) → resolve_each s.fields defaults text ts ≡ Ok qs → CanAskEach s qs
-    each_can no_trees qs e = subst (λ (qs : Soughts). CanAskEach s qs) (let y : ◌≡◌ {A = Result Soughts QueryError} (Ok no_more) (Ok qs) = e in cc) tt
+    each_can no_trees qs e = subst (λ (qs : Soughts). CanAskEach s qs) (same_ok no_more qs e) tt
     each_can (behind ts t) qs e =
         let a = bind_some (resolve_each s.fields defaults text ts) (λ qs. resolve s.fields defaults text t >>= λ q. Ok (and_then qs q)) qs e in
         let b = bind_some (resolve s.fields defaults text t) (λ q. Ok (and_then a.0 q)) qs a.2 in
