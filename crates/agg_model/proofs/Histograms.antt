@@ -47,17 +47,17 @@ spread_span (e ∷ es) first n f =
     rw (length_span e.0 (unsigned_abs (last_step e.0 es -ℤ e.0) + 1)) (ap (λ z. span z (unsigned_abs (last_step e.0 es -ℤ e.0) + 1)) low)
 
 -- each step from the least to the greatest begins near 0
-pub span_near : (number : ℕ) (interval : ℤ) (es : List (ℤ × ℕ)) (first : ℤ) (n : ℕ) → IsStrictlySortedBy int_cmp (keys_of es)
-    → ((z : ℤ) → IfSome (lookup (int_eq z) es) (IsStep number interval z)) → slice_get es 0 ≡ Some (first, n)
+pub span_near : (number : ℕ) (interval offset : ℤ) (es : List (ℤ × ℕ)) (first : ℤ) (n : ℕ) → IsStrictlySortedBy int_cmp (keys_of es)
+    → ((z : ℤ) → IfSome (lookup (int_eq z) es) (IsStep number interval offset z)) → slice_get es 0 ≡ Some (first, n)
     → (k : ℕ) → k < length (spread es) → unsigned_abs ((first +ℤ pos k) *ℤ interval) < 2 ^ 98
-span_near number interval [] first n sorted near f k l = absurd (none-some (first, n) f)
-span_near number interval (e ∷ es) first n sorted near f k l =
+span_near number interval offset [] first n sorted near f k l = absurd (none-some (first, n) f)
+span_near number interval offset (e ∷ es) first n sorted near f k l =
     let low : e.0 ≡ first = ap (λ (p : ℤ × ℕ). p.0) (same_Some e (first, n) f) in
     let rise = rising_keys (keys_of (e ∷ es)) sorted in
     let top : e.0 ≤ℤ last_step e.0 es = last_above e.0 es rise.0 rise.1 in
     let last = last_found e.0 e.1 es rise in
-    let near_last = MatchOption-at_some (Unit {0}) (IsStep number interval (last_step e.0 es)) last.0 last.1 (near (last_step e.0 es)) in
-    let near_first = MatchOption-at_some (Unit {0}) (IsStep number interval e.0) e.1 (ap (λ b. cond b (Some e.1) (lookup (int_eq e.0) es)) ((Decides-int_eq e.0 e.0).1 refl)) (near e.0) in
+    let near_last = MatchOption-at_some (Unit {0}) (IsStep number interval offset (last_step e.0 es)) last.0 last.1 (near (last_step e.0 es)) in
+    let near_first = MatchOption-at_some (Unit {0}) (IsStep number interval offset e.0) e.1 (ap (λ b. cond b (Some e.1) (lookup (int_eq e.0) es)) ((Decides-int_eq e.0 e.0).1 refl)) (near e.0) in
     let many : k < unsigned_abs (last_step e.0 es -ℤ e.0) + 1 = rw length_span at l in
     let gap = difference (last_step e.0 es) e.0 top in
-    rw (← low) (near_between e.0 (e.0 +ℤ pos k) (last_step e.0 es) interval (2 ^ 98) (omega (arith, ints)) (omega (arith, ints)) near_first.near near_last.near)
+    rw (← low) (near_between e.0 (e.0 +ℤ pos k) (last_step e.0 es) interval (2 ^ 98) (omega (arith, ints)) (omega (arith, ints)) near_first.place.near near_last.place.near)

@@ -1,5 +1,6 @@
 pub mod Entries
 pub mod Histograms
+pub mod Intervals
 pub mod Listing
 pub mod Order
 pub mod Parts

@@ -8,7 +8,7 @@ use Rattle.std.specs.List.{AllZip, All}
 use Rattle.std.specs.Option.{IfSome}
 use Rattle.doc_value.specs.declared.doc.DocField.{DocField}
 use Rattle.agg_model.specs.Counting.{Slot, slot_of, has_value, lies_in}
-use Rattle.agg_model.specs.Partials.{IsVacant, IsPart, IsTally, IsStep, HasRoom, CountsFor, IsCollected, AreCollected, IsMerged, AreMerged, tally_at, tallied, in_step, interval_of}
+use Rattle.agg_model.specs.Partials.{IsVacant, IsPart, IsTally, IsStep, HasRoom, CountsFor, IsCollected, AreCollected, IsMerged, AreMerged, tally_at, tallied, in_step, interval_of, offset_of}
 use Rattle.agg_model.specs.Tallies.{merged, step_sum}
 use Rattle.agg_model.specs.declared.counts.Counts.{Counts}
 use Rattle.agg_model.specs.declared.request.Agg.{Agg}
@@ -135,11 +135,12 @@ merged_count (Some a) None = sym (add-zero a.count)
 merged_count None (Some b) = sym (zero-add b.count)
 merged_count (Some a) (Some b) = refl
 
-summed_step : (n m : ℕ) (interval step : ℤ) (a b : Option ℕ) → IfSome a (IsStep n interval step) → IfSome b (IsStep m interval step) → IfSome (step_sum a b) (IsStep (n + m) interval step)
-summed_step n m interval step None None h k = tt
-summed_step n m interval step (Some a) None h k = record { some = h.some; most = omega arith; near = h.near; close = h.close }
-summed_step n m interval step None (Some b) h k = record { some = omega arith; most = omega arith; near = k.near; close = k.close }
-summed_step n m interval step (Some a) (Some b) h k = record { some = omega arith; most = omega arith; near = h.near; close = h.close }
+summed_step : (n m : ℕ) (interval offset step : ℤ) (a b : Option ℕ) → IfSome a (IsStep n interval offset step) → IfSome b (IsStep m interval offset step)
+    → IfSome (step_sum a b) (IsStep (n + m) interval offset step)
+summed_step n m interval offset step None None h k = tt
+summed_step n m interval offset step (Some a) None h k = record { some = h.some; most = omega arith; place = h.place }
+summed_step n m interval offset step None (Some b) h k = record { some = omega arith; most = omega arith; place = k.place }
+summed_step n m interval offset step (Some a) (Some b) h k = record { some = omega arith; most = omega arith; place = h.place }
 
 summed_count : (a b : Option ℕ) → unwrap_or (step_sum a b) 0 ≡ unwrap_or a 0 + unwrap_or b 0
 summed_count None None = refl
@@ -150,7 +151,7 @@ summed_count (Some a) (Some b) = refl
 merged_part : (n m : ℕ) (agg : Agg) (mine yours new : Counts) → IsPart n agg mine → IsPart m agg yours → IsMerged mine yours new → IsPart (n + m) agg new
 merged_part n m agg mine yours new h k e = record {
   tallies = λ slot. rw (e.tallies slot) (merged_tally n m slot (tally_at mine slot) (tally_at yours slot) (h.tallies slot) (k.tallies slot));
-  steps = λ step. rw (e.steps step) (summed_step n m (interval_of agg) step (in_step mine step) (in_step yours step) (h.steps step) (k.steps step));
+  steps = λ step. rw (e.steps step) (summed_step n m (interval_of agg) (offset_of agg) step (in_step mine step) (in_step yours step) (h.steps step) (k.steps step));
 }
 
 merged_counts : (agg : Agg) (mine yours new : Counts) (ds es : List (List DocField)) → IsMerged mine yours new → CountsFor agg mine ds → CountsFor agg yours es → CountsFor agg new (ds ++ es)

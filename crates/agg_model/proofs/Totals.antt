@@ -38,12 +38,12 @@ have_all (x ∷ xs) (y ∷ ys) ds long h z =
 -- of the first i aggregations it is known how many buckets they have
 pub record AreShownBelow (request : List NamedAgg) (parts : List Counts) (many i : ℕ) : Type 0 where
   pub sum : many + total_shown (drop i request) (drop i parts) ≡ total_shown request parts
-  pub few : many ≤ i * 2 ^ 100
+  pub few : many ≤ i * 2 ^ 66
   pub has : (k : ℕ) (d : NamedAgg) (e : Counts) → k < i → (ds : List (List DocField)) → CountsFor (get_or request k d).agg (get_or parts k e) ds
       → HasBuckets (get_or request k d).agg ds (shown_in (get_or request k d).agg (get_or parts k e))
 
 pub shown_more : (request : List NamedAgg) (parts : List Counts) (many i own : ℕ) (named : NamedAgg) (part : Counts) → i < length request → length parts ≡ length request
-    → named ≡ get_or request i named → part ≡ get_or parts i part → AreShownBelow request parts many i → own ≡ shown_in named.agg part → own < 2 ^ 100
+    → named ≡ get_or request i named → part ≡ get_or parts i part → AreShownBelow request parts many i → own ≡ shown_in named.agg part → own ≤ 2 ^ 66
     → ((ds : List (List DocField)) → CountsFor named.agg part ds → HasBuckets named.agg ds (shown_in named.agg part))
     → AreShownBelow request parts (many + own) (i + 1)
 shown_more request parts many i own named part within long is at before same small has = record {

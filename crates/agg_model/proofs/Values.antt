@@ -72,8 +72,8 @@ pub terms_collected : (documents field size : ℕ) (doc : List DocField) (old ne
 terms_collected documents field size doc old new more before = record {
   part = record {
     tallies = λ slot. rw (more.tallies slot) (part_at slot (list_any (λ v. same_slot (slot_of v) slot) (values_in doc field)) (tally_at old slot) (more.slots slot) (before.tallies slot));
-    steps = λ step. subst (λ s. IfSome (get int_cmp s step) (IsStep (documents + 1) (pos 1) step)) (sym more.steps)
-        (IfSome_then (in_step old step) (before.steps step) (λ n s. record { some = s.some; most = omega arith; near = s.near; close = s.close }));
+    steps = λ step. subst (λ s. IfSome (get int_cmp s step) (IsStep (documents + 1) (pos 1) (pos 0) step)) (sym more.steps)
+        (IfSome_then (in_step old step) (before.steps step) (λ n s. record { some = s.some; most = omega arith; place = s.place }));
   };
   counts = λ ds h value. rw (more.tallies (slot_of value), sum_by_push (λ d. cond (has_value field value d) 1 0) ds doc)
       (count_at (slot_of value) (has_value field value doc) (tally_at old (slot_of value)) (before.tallies (slot_of value)) (value_count field ds value) (h value));

@@ -1,5 +1,6 @@
 -- Which aggregations are refused.
-use Rattle.std.specs.Prelude.{◌≡◌, ℕ, Bool, true, false, ◌&&◌, List, [], ◌∷◌, Option, Some, None, slice_get, if◌then◌else◌, pos, int_le}
+use Rattle.std.specs.Prelude.{◌≡◌, ℕ, Bool, true, false, ◌&&◌, List, [], ◌∷◌, Option, Some, None, slice_get, if◌then◌else◌, pos, int_le, ◌≤ℤ◌}
+use Rattle.std.specs.List.{All}
 use Rattle.std.specs.Option.{option_or, option_and_then}
 use Rattle.doc_value.specs.declared.schema.Field.{Field}
 use Rattle.doc_value.specs.declared.schema.Kind.{Kind}
@@ -27,9 +28,18 @@ takes (Terms field size) f = f.fast
 takes (Histogram field interval offset least dated) f = f.fast && has_steps dated f.kind
 
 -- its interval is at least 1
+abbrev pub HasInterval : Agg → Type 0
+HasInterval (Terms field size) = Unit {0}
+HasInterval (Histogram field interval offset least dated) = pos 1 ≤ℤ interval
+
+-- the same as a test
 abbrev pub has_interval : Agg → Bool
 has_interval (Terms field size) = true
 has_interval (Histogram field interval offset least dated) = int_le (pos 1) interval
+
+-- each interval of a request is at least 1
+abbrev pub HaveIntervals : List NamedAgg → Type 0
+HaveIntervals request = All (λ named. HasInterval named.agg) request
 
 -- why an aggregation is refused over its field
 abbrev pub refusal_over : NamedAgg → Field → Option AggError

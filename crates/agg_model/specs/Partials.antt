@@ -1,15 +1,15 @@
 -- Which documents a partial stands for, and what is known of every partial.
-use Rattle.std.specs.Prelude.{◌≡◌, ℕ, ◌++◌, ◌+◌, ◌^◌, ◌<◌, ◌≤◌, Bool, true, List, [], ◌∷◌, length, Option, Some, None, if◌then◌else◌, ℤ, pos, ◌*ℤ◌, ◌≤ℤ◌}
+use Rattle.std.specs.Prelude.{◌≡◌, ℕ, ◌++◌, ◌+◌, ◌^◌, ◌<◌, ◌≤◌, Bool, true, List, [], ◌∷◌, length, Option, Some, None, if◌then◌else◌, ℤ, pos, ◌*ℤ◌}
 use Rattle.std.specs.HashMap as hash
 use Rattle.std.specs.BTreeMap as tree
 use Rattle.std.specs.Int.RustNames.{unsigned_abs, FitsSigned}
 use Rattle.std.specs.Int.{w64}
-use Rattle.std.specs.List.{AllZip, All, list_any, slice_index_or}
+use Rattle.std.specs.List.{AllZip, list_any, slice_index_or}
 use Rattle.std.specs.Option.{IfSome, option_map_or, unwrap_or}
 use Rattle.std.specs.Ordering.{int_eq, int_cmp}
 use Rattle.doc_value.specs.declared.doc.Value.{Value}
 use Rattle.doc_value.specs.declared.doc.DocField.{DocField}
-use Rattle.agg_model.specs.Counting.{Slot, text, signed, unsigned, truth, datetime, slot_of, same_slot, truth_number, value_count, step_count}
+use Rattle.agg_model.specs.Counting.{Slot, text, signed, unsigned, truth, datetime, slot_of, same_slot, truth_number, step_of, value_count, step_count}
 use Rattle.agg_model.specs.Tallies.{raised, merged, HaveRoom, step_sum}
 use Rattle.agg_model.specs.declared.request.Agg.{Agg}
 use Rattle.agg_model.specs.declared.request.Agg.TheVariants.{Terms, Histogram}
@@ -53,26 +53,6 @@ pub record StandsFor (request : List NamedAgg) (partial : Partial) (documents : 
   pub many : partial.documents ≡ length documents
   pub parts : AllZip (λ named counts. CountsFor named.agg counts documents) request partial.parts.items
 
--- an interval of at least 1 and an offset, both of less than 2^96 in size: more than a request can name
-pub record IsScale (interval offset : ℤ) : Type 0 where
-  pub some : pos 1 ≤ℤ interval
-  pub fine : unsigned_abs interval < 2 ^ 96
-  pub near : unsigned_abs offset < 2 ^ 96
-
--- an aggregation's numbers are small enough
-abbrev pub IsNarrow : Agg → Type 0
-IsNarrow (Terms field size) = Unit {0}
-IsNarrow (Histogram field interval offset least dated) = IsScale interval offset
-
--- a request has at most so many aggregations
-abbrev pub most_aggregations : ℕ
-most_aggregations = 16
-
--- at most 16 aggregations, each interval at least 1, and no interval or offset too wide
-pub record IsAsked (request : List NamedAgg) : Type 0 where
-  pub few : length request ≤ most_aggregations
-  pub narrow : All (λ named. IsNarrow named.agg) request
-
 -- a tally of some of the first so many documents
 pub record IsTally (number : ℕ) (slot : Slot) (tally : Tally) : Type 0 where
   pub fits : IsSlotOfValue slot
@@ -80,21 +60,30 @@ pub record IsTally (number : ℕ) (slot : Slot) (tally : Tally) : Type 0 where
   pub most : tally.count ≤ number
   pub last : tally.last ≤ number
 
--- a step with some of so many documents, which begins within 2^98
-pub record IsStep (number : ℕ) (interval step : ℤ) (count : ℕ) : Type 0 where
-  pub some : 0 < count
-  pub most : count ≤ number
+-- a step in which some whole number of 64 bits lies; its number and its place on the scale are small
+pub record IsNear (interval offset step : ℤ) : Type 0 where
   pub near : unsigned_abs (step *ℤ interval) < 2 ^ 98
   pub close : unsigned_abs step < 2 ^ 98
+  pub whole : (z : ℤ) × (unsigned_abs z ≤ 2 ^ 64) × (step ≡ step_of interval offset z)
+
+-- a step with some of so many documents
+pub record IsStep (number : ℕ) (interval offset step : ℤ) (count : ℕ) : Type 0 where
+  pub some : 0 < count
+  pub most : count ≤ number
+  pub place : IsNear interval offset step
 
 abbrev pub interval_of : Agg → ℤ
 interval_of (Terms field size) = pos 1
 interval_of (Histogram field interval offset least dated) = interval
 
+abbrev pub offset_of : Agg → ℤ
+offset_of (Terms field size) = pos 0
+offset_of (Histogram field interval offset least dated) = offset
+
 -- a part of so many documents
 pub record IsPart (number : ℕ) (agg : Agg) (counts : Counts) : Type 0 where
   pub tallies : (slot : Slot) → IfSome (tally_at counts slot) (IsTally number slot)
-  pub steps : (step : ℤ) → IfSome (in_step counts step) (IsStep number (interval_of agg) step)
+  pub steps : (step : ℤ) → IfSome (in_step counts step) (IsStep number (interval_of agg) (offset_of agg) step)
 
 -- a partial of the request
 pub record IsPartialOf (request : List NamedAgg) (partial : Partial) : Type 0 where
@@ -130,10 +119,6 @@ pub record IsStepRaised (step : ℤ) (old new : Counts) : Type 0 where
   pub steps : (other : ℤ) → in_step new other
       ≡ (if int_eq step other then Some (unwrap_or (in_step old step) 0 + 1) else in_step old other)
   pub tallies : (slot : Slot) → tally_at new slot ≡ tally_at old slot
-
--- the step's number and its place on the scale are small
-abbrev pub IsNear : ℤ → ℤ → Type 0
-IsNear interval step = (unsigned_abs (step *ℤ interval) < 2 ^ 98) × (unsigned_abs step < 2 ^ 98)
 
 -- how many documents a partial counts
 abbrev pub documents_in : Partial → ℕ

@@ -2,7 +2,7 @@
 
 ghost use Rattle.std.specs.Prelude.{◌≡◌, ◌<◌, length, None, IfErr, OnOk};
 ghost use Rattle.std.specs.List.{All};
-ghost use Rattle.agg_model.specs.Checking.{field_of, has_steps, takes, has_interval, refusal_of, first_refusal, IsGiven};
+ghost use Rattle.agg_model.specs.Checking.{field_of, has_steps, takes, has_interval, HaveIntervals, refusal_of, first_refusal, IsGiven};
 
 use crate::agg_error::AggError;
 use crate::request::{Agg, AggRequest, NamedAgg};
@@ -36,7 +36,7 @@ fn has_interval(agg: &Agg) -> bool
 {
     match agg {
         Agg::Terms { .. } => true,
-        Agg::Histogram { interval, .. } => *interval >= 1,
+        Agg::Histogram { interval, .. } => interval.whole() >= 1,
     }
 }
 
@@ -69,6 +69,7 @@ pub fn check_aggs(alloc: Global, schema: &Schema, request: &AggRequest) -> Resul
     requires { All (λ named. field_of named.agg < length schema.now.fields) request.now }
     ensures ok { OnOk result (first_refusal schema.now.fields request.now ≡ None) }
     ensures err { IfErr result (IsGiven (first_refusal schema.now.fields request.now)) }
+    ensures intervals { OnOk result (HaveIntervals request.now) }
 {
     for named in request.as_slice() {
         check_one(alloc, schema, named)?;

@@ -1,12 +1,14 @@
 //! What one more document counts.
 
-ghost use Rattle.std.specs.Prelude.{◌≡◌, ◌+◌, ◌^◌, ◌<◌, ◌≤◌, IfSome, OnOk};
+ghost use Rattle.std.specs.Prelude.{◌≡◌, ◌+◌, ◌^◌, ◌<◌, ◌≤◌, IfSome, OnOk, pos, ◌≤ℤ◌};
 ghost use Rattle.std.specs.Int.RustNames.{unsigned_abs};
 ghost use Rattle.std.specs.Option.{option_map};
+ghost use Rattle.agg_model.specs.Checking.{HasInterval};
 ghost use Rattle.agg_model.specs.Counting.{values_in, whole, step_of, first_whole};
-ghost use Rattle.agg_model.specs.Partials.{IsNarrow, IsNear, IsScale, IsPart, IsCollected};
+ghost use Rattle.agg_model.specs.Partials.{IsNear, IsPart, IsCollected};
 
 use crate::counts::Counts;
+use crate::distance::Distance;
 use crate::request::{Agg, DocValues};
 use doc_value::Value;
 use std::alloc::{AllocError, Global};
@@ -37,20 +39,20 @@ fn whole(value: &Value) -> Option<i128>
 }
 
 // The number of the step in which a whole number lies.
-fn step_of(interval: i128, offset: i128, whole: i128) -> i128
-    requires scale { IsScale interval offset }
+fn step_of(interval: Distance, offset: Distance, whole: i128) -> i128
+    requires some { pos 1 ≤ℤ interval }
     requires small { unsigned_abs whole ≤ 2 ^ 64 }
     ensures value { result ≡ step_of interval offset whole }
-    ensures near { IsNear interval result }
+    ensures near { IsNear interval offset result }
 {
-    (whole - offset).div_euclid(interval)
+    (whole - offset.whole()).div_euclid(interval.whole())
 }
 
 // The step of the document's first value of the field.
-fn first_step(doc: &DocValues, field: u32, interval: i128, offset: i128) -> Option<i128>
-    requires { IsScale interval offset }
+fn first_step(doc: &DocValues, field: u32, interval: Distance, offset: Distance) -> Option<i128>
+    requires { pos 1 ≤ℤ interval }
     ensures value { result ≡ option_map (step_of interval offset) (first_whole field doc.now) }
-    ensures near { IfSome result (IsNear interval) }
+    ensures near { IfSome result (IsNear interval offset) }
 {
     let first = values_of(doc, field).first()?;
     let whole = whole(first)?;
@@ -65,7 +67,7 @@ pub fn collect_part(
     doc: &DocValues,
     documents: u64,
 ) -> Result<(), AllocError>
-    requires narrow { IsNarrow agg.now }
+    requires interval { HasInterval agg.now }
     requires few { documents + 1 < 2 ^ 62 }
     requires part { IsPart documents agg.now counts.old }
     ensures { OnOk result (IsCollected documents doc.now agg.now counts.old counts.new) }

@@ -1,14 +1,14 @@
 //! What a partial answers.
 
-ghost use Rattle.std.specs.Prelude.{◌≡◌, ℕ, ◌+◌, ◌<◌, ◌≤◌, ◌^◌, ◌*◌, ℤ, List, map, length, unwrap_or, IfOk, IfSome, IfErr};
-ghost use Rattle.std.specs.List.{All, AllZip};
+ghost use Rattle.std.specs.Prelude.{◌≡◌, ℕ, ◌+◌, ◌<◌, ◌≤◌, ◌^◌, ◌*◌, ℤ, pos, ◌≤ℤ◌, List, map, length, unwrap_or, IfOk, IfSome, IfErr};
+ghost use Rattle.std.specs.List.{AllZip};
 ghost use Rattle.std.specs.BTreeMap.{get, IsOrdered};
 ghost use Rattle.std.specs.Ordering.{int_cmp};
-ghost use Rattle.std.specs.Int.RustNames.{unsigned_abs};
 ghost use Rattle.doc_value.specs.declared.doc.DocField.{DocField};
 ghost use Rattle.agg_model.specs.Answers.{IsAnswerOf, IsHistogramAnswer, HasBuckets, HaveBuckets, AreAnswersOf, IsFinished, step_bucket, most_buckets};
+ghost use Rattle.agg_model.specs.Checking.{HasInterval, HaveIntervals};
 ghost use Rattle.agg_model.specs.Listed.{AreUnique, all_listed};
-ghost use Rattle.agg_model.specs.Partials.{IsAsked, IsNarrow, IsScale, IsPart, IsStep, IsPartialOf, StandsFor, CountsFor, most_aggregations};
+ghost use Rattle.agg_model.specs.Partials.{IsNear, IsPart, IsStep, IsPartialOf, StandsFor, CountsFor};
 ghost use Rattle.agg_model.specs.Spans.{spread, steps_with, steps_shown, shown_in, total_shown};
 
 use crate::agg_error::AggError;
@@ -28,7 +28,7 @@ pub const MOST_BUCKETS: u128 = 65_000;
 // How many values a part counts.
 fn values_of(counts: &Counts) -> u128
     ensures many { result ≡ length (all_listed counts.now) }
-    ensures few { result < 2 ^ 100 }
+    ensures few { result ≤ 2 ^ 66 }
     ensures unique { AreUnique counts.now }
 {
     let signed = counts.signed.len() as u128;
@@ -40,9 +40,9 @@ fn values_of(counts: &Counts) -> u128
 
 // How many steps lie from the least to the greatest.
 fn spread_of(steps: &StepCounts) -> u128
-    requires { (z : ℤ) → IfSome (get int_cmp steps.now z) (λ _. unsigned_abs z < 2 ^ 98) }
+    requires { (interval : ℤ) × (offset : ℤ) × (pos 1 ≤ℤ interval) × ((z : ℤ) → IfSome (get int_cmp steps.now z) (λ _. IsNear interval offset z)) }
     ensures many { result ≡ length (spread steps.now.entries) }
-    ensures few { result < 2 ^ 100 }
+    ensures few { result ≤ 2 ^ 66 }
     ensures ordered { IsOrdered int_cmp steps.now }
 {
     if steps.len() == 0 {
@@ -57,7 +57,7 @@ fn spread_of(steps: &StepCounts) -> u128
 // How many steps have at least this count.
 fn frequent_of(steps: &StepCounts, least: u32) -> u128
     ensures many { result ≡ length (steps_with least steps.now.entries) }
-    ensures few { result < 2 ^ 100 }
+    ensures few { result ≤ 2 ^ 66 }
     ensures ordered { IsOrdered int_cmp steps.now }
 {
     let mut many = 0u128;
@@ -71,8 +71,8 @@ fn frequent_of(steps: &StepCounts, least: u32) -> u128
 
 // Every step from the least to the greatest, of which there are at most so many that 64 bits count them.
 fn all_steps(alloc: Global, scale: &Scale, steps: &StepCounts) -> Result<Buckets, AllocError>
-    requires scale { IsScale scale.now.interval scale.now.offset }
-    requires near { (number : ℕ) × ((z : ℤ) → IfSome (get int_cmp steps.now z) (IsStep number scale.now.interval z)) }
+    requires some { pos 1 ≤ℤ scale.now.interval }
+    requires near { (number : ℕ) × ((z : ℤ) → IfSome (get int_cmp steps.now z) (IsStep number scale.now.interval scale.now.offset z)) }
     requires few { length (spread steps.now.entries) ≤ most_buckets }
     requires ordered { IsOrdered int_cmp steps.now }
     ensures { IfOk result (λ buckets. buckets ≡ map (step_bucket scale.now.interval scale.now.offset (λ s. unwrap_or (get int_cmp steps.now s) 0)) (spread steps.now.entries)) }
@@ -90,8 +90,8 @@ fn histogram_answer(
     least: u32,
     steps: &StepCounts,
 ) -> Result<AggAnswer, AllocError>
-    requires scale { IsScale scale.now.interval scale.now.offset }
-    requires near { (number : ℕ) × ((z : ℤ) → IfSome (get int_cmp steps.now z) (IsStep number scale.now.interval z)) }
+    requires some { pos 1 ≤ℤ scale.now.interval }
+    requires near { (number : ℕ) × ((z : ℤ) → IfSome (get int_cmp steps.now z) (IsStep number scale.now.interval scale.now.offset z)) }
     requires few { length (steps_shown least steps.now.entries) ≤ most_buckets }
     ensures { IfOk result (λ r. (count : ℤ → ℕ) → ((z : ℤ) → unwrap_or (get int_cmp steps.now z) 0 ≡ count z)
         → IsHistogramAnswer scale.now.interval scale.now.offset least count r) }
@@ -111,7 +111,7 @@ fn histogram_answer(
 
 // The answer of one aggregation.
 fn answer(alloc: Global, agg: &Agg, counts: &Counts) -> Result<AggAnswer, AllocError>
-    requires narrow { IsNarrow agg.now }
+    requires interval { HasInterval agg.now }
     requires part { (number : ℕ) × IsPart number agg.now counts.now }
     requires few { shown_in agg.now counts.now ≤ most_buckets }
     ensures { IfOk result (λ r. (ds : List (List DocField)) → CountsFor agg.now counts.now ds → IsAnswerOf agg.now ds r) }
@@ -135,9 +135,10 @@ fn answer(alloc: Global, agg: &Agg, counts: &Counts) -> Result<AggAnswer, AllocE
 
 // How many buckets an aggregation shows.
 fn shown(agg: &Agg, counts: &Counts) -> u128
-    requires { (number : ℕ) × IsPart number agg.now counts.now }
+    requires interval { HasInterval agg.now }
+    requires part { (number : ℕ) × IsPart number agg.now counts.now }
     ensures many { result ≡ shown_in agg.now counts.now }
-    ensures few { result < 2 ^ 100 }
+    ensures few { result ≤ 2 ^ 66 }
     ensures has { (ds : List (List DocField)) → CountsFor agg.now counts.now ds → HasBuckets agg.now ds (shown_in agg.now counts.now) }
 {
     match agg {
@@ -152,7 +153,7 @@ fn shown(agg: &Agg, counts: &Counts) -> u128
 
 // How many buckets all aggregations show.
 fn shown_in_all(request: &[NamedAgg], parts: &Vec<Counts>) -> u128
-    requires few { length request.now ≤ most_aggregations }
+    requires intervals { HaveIntervals request.now }
     requires parts { (number : ℕ) × AllZip (λ named counts. IsPart number named.agg counts) request.now parts.now.items }
     ensures many { result ≡ total_shown request.now parts.now.items }
     ensures have { (ds : List (List DocField)) → AllZip (λ named counts. CountsFor named.agg counts ds) request.now parts.now.items
@@ -170,7 +171,7 @@ fn answers(
     request: &[NamedAgg],
     parts: &Vec<Counts>,
 ) -> Result<AggResult, AllocError>
-    requires narrow { All (λ named. IsNarrow named.agg) request.now }
+    requires intervals { HaveIntervals request.now }
     requires parts { (number : ℕ) × AllZip (λ named counts. IsPart number named.agg counts) request.now parts.now.items }
     requires few { total_shown request.now parts.now.items ≤ most_buckets }
     ensures { IfOk result (λ r. (ds : List (List DocField)) → AllZip (λ named counts. CountsFor named.agg counts ds) request.now parts.now.items
@@ -190,7 +191,7 @@ fn answers(
 /// The answers to a request over the documents for which the partial stands. More than 65,000 buckets in all aggregations are
 /// TooManyBuckets with their number, which is counted and not walked.
 pub fn finish(alloc: Global, request: &AggRequest, partial: &Partial) -> Result<AggResult, AggError>
-    requires asked { IsAsked request.now }
+    requires intervals { HaveIntervals request.now }
     requires partial { IsPartialOf request.now partial.now }
     ensures { (documents : List (List DocField)) → StandsFor request.now partial.now documents → IsFinished request.now documents result }
 {

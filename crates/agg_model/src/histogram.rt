@@ -5,28 +5,27 @@ ghost use Rattle.std.specs.BTreeMap.{get};
 ghost use Rattle.std.specs.Ordering.{int_cmp};
 ghost use Rattle.std.specs.Int.RustNames.{unsigned_abs};
 ghost use Rattle.agg_model.specs.Answers.{step_bucket};
-ghost use Rattle.agg_model.specs.Partials.{IsScale};
 ghost use Rattle.agg_model.specs.Spans.{span, steps_with};
 
 use crate::answer::{Bucket, Buckets, Key};
+use crate::distance::Distance;
 use crate::tallies::StepCounts;
 use std::alloc::{AllocError, Global};
 
 /// Where the steps of a histogram begin: at `offset` and then at each `interval`.
 #[derive(Clone, Copy, Debug)]
 pub struct Scale {
-    pub interval: i128,
-    pub offset: i128,
+    pub interval: Distance,
+    pub offset: Distance,
 }
 
 // The bucket of a step.
 fn step_bucket(scale: &Scale, step: &i128, count: u64) -> Bucket
-    requires scale { IsScale scale.now.interval scale.now.offset }
-    requires near { unsigned_abs (step.now *ℤ scale.now.interval) < 2 ^ 98 }
+    requires { unsigned_abs (step.now *ℤ scale.now.interval) < 2 ^ 98 }
     ensures { result ≡ step_bucket scale.now.interval scale.now.offset (λ _. count) step.now }
 {
     Bucket {
-        key: Key::Step(*step * scale.interval + scale.offset),
+        key: Key::Step(*step * scale.interval.whole() + scale.offset.whole()),
         count,
     }
 }
@@ -47,7 +46,6 @@ pub fn every_step(
     first: &i128,
     many: u64,
 ) -> Result<Buckets, AllocError>
-    requires scale { IsScale scale.now.interval scale.now.offset }
     requires close { unsigned_abs first.now < 2 ^ 98 }
     requires near { (k : ℕ) → k < many → unsigned_abs ((first.now +ℤ pos k) *ℤ scale.now.interval) < 2 ^ 98 }
     ensures { IfOk result (λ buckets. buckets ≡ map (step_bucket scale.now.interval scale.now.offset (λ s. unwrap_or (get int_cmp steps.now s) 0)) (span first.now many)) }
@@ -68,8 +66,7 @@ pub fn frequent_steps(
     steps: &StepCounts,
     least: u32,
 ) -> Result<Buckets, AllocError>
-    requires scale { IsScale scale.now.interval scale.now.offset }
-    requires near { (z : ℤ) → IfSome (get int_cmp steps.now z) (λ _. unsigned_abs (z *ℤ scale.now.interval) < 2 ^ 98) }
+    requires { (z : ℤ) → IfSome (get int_cmp steps.now z) (λ _. unsigned_abs (z *ℤ scale.now.interval) < 2 ^ 98) }
     ensures { IfOk result (λ buckets. buckets ≡ map (λ e. step_bucket scale.now.interval scale.now.offset (λ _. e.1) e.0) (filter (λ e. nat_le least e.1) steps.now.entries)) }
 {
     let mut buckets = Buckets::vacant(alloc);

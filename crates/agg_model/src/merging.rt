@@ -3,7 +3,7 @@
 ghost use Rattle.std.specs.Prelude.{◌≡◌, ◌+◌, ◌^◌, ◌<◌, ◌++◌, List, OnOk, length};
 ghost use Rattle.std.specs.List.{All};
 ghost use Rattle.doc_value.specs.declared.doc.DocField.{DocField};
-ghost use Rattle.agg_model.specs.Partials.{IsAsked, HasRoom, AreMerged, IsPartialOf, StandsFor, documents_in};
+ghost use Rattle.agg_model.specs.Partials.{HasRoom, AreMerged, IsPartialOf, StandsFor, documents_in};
 
 use crate::counts::Counts;
 use crate::partial::Partial;
@@ -29,7 +29,6 @@ pub fn merge_partials(
     into: &mut Partial,
     other: &Partial,
 ) -> Result<(), AllocError>
-    requires asked { IsAsked request.now }
     requires mine { IsPartialOf request.now into.old }
     requires yours { IsPartialOf request.now other.now }
     requires room { documents_in into.old + documents_in other.now < 2 ^ 62 }

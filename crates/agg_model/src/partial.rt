@@ -1,9 +1,10 @@
 //! What some documents count, in a form that is collected and merged.
 
 ghost use Rattle.std.specs.Prelude.{◌≡◌, ◌+◌, ◌^◌, ◌<◌, ◌∷◌, [], ◌++◌, List, IfOk, OnOk};
-ghost use Rattle.std.specs.List.{All, AllZip};
+ghost use Rattle.std.specs.List.{AllZip};
 ghost use Rattle.doc_value.specs.declared.doc.DocField.{DocField};
-ghost use Rattle.agg_model.specs.Partials.{IsAsked, IsNarrow, IsPart, AreCollected, IsPartialOf, StandsFor, documents_in};
+ghost use Rattle.agg_model.specs.Checking.{HaveIntervals};
+ghost use Rattle.agg_model.specs.Partials.{IsPart, AreCollected, IsPartialOf, StandsFor, documents_in};
 
 use crate::collecting::collect_part;
 use crate::counts::Counts;
@@ -39,7 +40,7 @@ fn collect_parts(
     doc: &DocValues,
     documents: u64,
 ) -> Result<(), AllocError>
-    requires narrow { All (λ named. IsNarrow named.agg) request.now }
+    requires intervals { HaveIntervals request.now }
     requires few { documents + 1 < 2 ^ 62 }
     requires parts { AllZip (λ named counts. IsPart documents named.agg counts) request.now parts.old.items }
     ensures { OnOk result (AreCollected documents doc.now request.now parts.old.items parts.new.items) }
@@ -57,7 +58,7 @@ pub fn collect_one(
     partial: &mut Partial,
     doc: &DocValues,
 ) -> Result<(), AllocError>
-    requires asked { IsAsked request.now }
+    requires intervals { HaveIntervals request.now }
     requires partial { IsPartialOf request.now partial.old }
     requires room { documents_in partial.old + 1 < 2 ^ 62 }
     ensures partial { OnOk result (IsPartialOf request.now partial.new) }

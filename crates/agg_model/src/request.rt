@@ -1,5 +1,6 @@
 //! What is asked of documents.
 
+use crate::distance::Distance;
 use doc_value::{Doc, List, Replica, Text};
 use std::alloc::{AllocError, Global};
 
@@ -16,8 +17,8 @@ pub enum Agg {
     /// count.
     Histogram {
         field: u32,
-        interval: i128,
-        offset: i128,
+        interval: Distance,
+        offset: Distance,
         min_doc_count: u32,
         dated: bool,
     },

@@ -1,23 +1,15 @@
+//! Requests, documents and schemas.
+
 ghost use Rattle.std.specs.Prelude.{◌≡◌, ◌<◌, IfOk, length};
 ghost use Rattle.std.specs.List.{All};
 ghost use Rattle.agg_model.specs.Checking.{field_of};
-ghost use Rattle.agg_model.specs.Partials.{IsAsked, IsNarrow};
 
 use agg_model::{Agg, AggRequest, DocValues, NamedAgg};
 use doc_value::{DocField, Field, Fields, Kind, Schema, Text, Tokenizer, Value, Values};
 use std::alloc::{AllocError, Global};
 
-/// A request of one aggregation of field 0.
-pub fn request(alloc: Global, agg: Agg) -> Result<AggRequest, AllocError>
-    requires { IsNarrow agg }
-    ensures { IfOk result IsAsked }
-{
-    let name = Text::from_str(alloc, "a")?;
-    AggRequest::one(alloc, NamedAgg { name, agg })
-}
-
 /// A request of one aggregation of field 0, which may be refused.
-pub fn request_of(alloc: Global, agg: Agg) -> Result<AggRequest, AllocError>
+pub fn request(alloc: Global, agg: Agg) -> Result<AggRequest, AllocError>
     requires { field_of agg < 1 }
     ensures { IfOk result (λ r. All (λ named. field_of named.agg < 1) r) }
 {

@@ -1,102 +1,167 @@
+//! What is read and resolved of a request.
+
+use crate::requests::{over_logs, refused};
 use crate::schemas::logs;
-use agg_model::Agg;
+use agg_model::{Agg, NamedAgg};
+use doc_value::Text;
 use query_reader::print_query;
 use search_api::{
-    AggShape, Deletion, Request, Resolved, SearchAsk, SearchRequest, Unanswered, read_request,
-    resolve,
+    AggShape, AskedAgg, Deletion, Paths, Request, Resolved, SearchAsk, SearchRequest, Selection,
+    read_request,
 };
-use std::alloc::Global;
-use std::test::Fail;
+use std::alloc::{AllocError, Global};
 
-const TIMED: &str =
-    r#"{"search":{"query":"a","search_field":"body,level","start_timestamp":-5,"end_timestamp":7}}"#;
-
-const COUNTED: &str =
-    r#"{"search":{"query":"body:a b OR NOT level:x","start_offset":3,"max_hits":4,"sort_by":"-size","aggs":{"t":{"terms":{"field":"level"}},"d":{"date_histogram":{"field":"ts","fixed_interval":"1h","offset":"-90s","min_doc_count":1}}}}}"#;
-
-fn read_search(alloc: Global, text: &str) -> Result<Option<SearchRequest>, Fail> {
-    match read_request(alloc, text.as_bytes())? {
-        Request::Search(search) => Ok(Some(search)),
-        Request::Delete(_) => Ok(None),
+/// What a request is without a schema.
+pub fn read(alloc: Global, text: &str) -> Result<String, AllocError> {
+    match read_request(alloc, text.as_bytes()) {
+        Ok(Request::Search(search)) => search_shown(alloc, &search),
+        Ok(Request::Delete(selection)) => selected(alloc, &selection),
+        Err(error) => format!(in alloc; "{error}"),
     }
 }
 
-#[test]
-fn a_search_is_read(rt: HostRuntime) -> Result<(), Fail> {
-    let search = read_search(rt.alloc(), TIMED)?.ok_or("a delete")?;
-    assert!(rt; search.start_offset == 0 && search.max_hits == 20);
-    assert!(rt; search.sort_by.is_none() && search.aggs.is_empty());
-    let selection = search.selection;
-    assert!(rt; selection.query.as_str() == "a");
-    assert!(rt; selection.times.start == Some(-5));
-    assert!(rt; selection.times.end == Some(7));
-    let paths = selection.fields.ok_or("none")?;
-    assert!(rt; paths.len() == 2);
-    assert!(rt; paths.at(1).as_str() == "level");
-    Ok(())
+fn search_shown(alloc: Global, search: &SearchRequest) -> Result<String, AllocError> {
+    let mut shown = selected(alloc, &search.selection)?;
+    shown.push_str(page(alloc, search.start_offset, search.max_hits)?.as_str())?;
+    if let Some(sort) = &search.sort_by {
+        let order = order(sort.descending);
+        let path = sort.path.as_str();
+        shown.push_str(format!(in alloc; "; {order} {path}")?.as_str())?;
+    }
+    for asked in search.aggs.as_slice() {
+        shown.push_str(agg_asked(alloc, asked)?.as_str())?;
+    }
+    Ok(shown)
 }
 
-#[test]
-fn what_is_counted_is_read(rt: HostRuntime) -> Result<(), Fail> {
-    let search = read_search(rt.alloc(), COUNTED)?.ok_or("a delete")?;
-    assert!(rt; search.start_offset == 3 && search.max_hits == 4);
-    let sort = search.sort_by.ok_or("none")?;
-    assert!(rt; sort.path.as_str() == "size" && sort.descending);
-    assert!(rt; search.aggs.len() == 2);
-    let dated = search.aggs.at(0);
-    assert!(rt; dated.name.as_str() == "d" && dated.path.as_str() == "ts");
-    assert!(rt;
-        matches!(
-            dated.shape,
-            AggShape::Histogram {
-                interval: 3600,
-                offset: -90,
-                min_doc_count: 1,
-                dated: true
-            }
-        )
-    );
-    assert!(rt; matches!(search.aggs.at(1).shape, AggShape::Terms { size: 10 }));
-    Ok(())
+fn page(alloc: Global, start_offset: u32, max_hits: u32) -> Result<String, AllocError> {
+    format!(in alloc; "; from {start_offset}, show {max_hits}")
 }
 
-fn resolved(alloc: Global, text: &str) -> Result<Resolved, Unanswered> {
-    let request = read_request(alloc, text.as_bytes())?;
-    resolve(alloc, &logs(alloc)?, &[0], &request)
+fn order(descending: bool) -> &'static str {
+    if descending { "falling" } else { "rising" }
 }
 
-fn search_ask(alloc: Global, text: &str) -> Result<Option<SearchAsk>, Fail> {
-    match resolved(alloc, text)? {
-        Resolved::Search(search) => Ok(Some(search)),
-        Resolved::Delete(_) => Ok(None),
+/// The query's text, the fields of a clause without one, and the times.
+fn selected(alloc: Global, selection: &Selection) -> Result<String, AllocError> {
+    let mut shown = String::from_str(alloc, selection.query.as_str())?;
+    if let Some(paths) = &selection.fields {
+        shown.push_str(searched(alloc, paths)?.as_str())?;
+    }
+    if let Some(start) = selection.times.start {
+        shown.push_str(format!(in alloc; "; since {start}")?.as_str())?;
+    }
+    if let Some(end) = selection.times.end {
+        shown.push_str(format!(in alloc; "; before {end}")?.as_str())?;
+    }
+    Ok(shown)
+}
+
+fn searched(alloc: Global, paths: &Paths) -> Result<String, AllocError> {
+    let mut shown = String::from_str(alloc, "; in")?;
+    let mut between = " ";
+    for path in paths.as_slice() {
+        shown.push_str(between)?;
+        shown.push_str(path.as_str())?;
+        between = ", ";
+    }
+    Ok(shown)
+}
+
+fn agg_asked(alloc: Global, asked: &AskedAgg) -> Result<String, AllocError> {
+    let over = asked.path.as_str();
+    match asked.shape {
+        AggShape::Terms { size } => first_terms(alloc, &asked.name, over, size),
+        AggShape::Histogram {
+            interval,
+            offset,
+            min_doc_count,
+            dated,
+        } => {
+            let scale = (interval.whole(), offset.whole());
+            in_steps(alloc, &asked.name, over, scale, min_doc_count, dated)
+        }
     }
 }
 
-fn deletion(alloc: Global, text: &str) -> Result<Option<Deletion>, Fail> {
-    match resolved(alloc, text)? {
-        Resolved::Search(_) => Ok(None),
-        Resolved::Delete(deletion) => Ok(Some(deletion)),
+fn first_terms(alloc: Global, name: &Text, over: &str, size: u32) -> Result<String, AllocError> {
+    let name = name.as_str();
+    format!(in alloc; "; {name} over {over}, the first {size}")
+}
+
+fn in_steps(
+    alloc: Global,
+    name: &Text,
+    over: &str,
+    scale: (i128, i128),
+    least: u32,
+    dated: bool,
+) -> Result<String, AllocError> {
+    let name = name.as_str();
+    let (interval, offset) = scale;
+    let dated = if dated { ", dated" } else { "" };
+    format!(in alloc;
+        "; {name} over {over} in steps of {interval} from {offset} by at least {least}{dated}"
+    )
+}
+
+/// What a request is over the schema.
+pub fn resolved(alloc: Global, text: &str) -> Result<String, AllocError> {
+    match over_logs(alloc, text.as_bytes()) {
+        Ok(Resolved::Search(search)) => ask_shown(alloc, &search),
+        Ok(Resolved::Delete(deletion)) => deletion_shown(alloc, &deletion),
+        Err(reason) => refused(alloc, reason),
     }
 }
 
-#[test]
-fn a_search_has_fields_by_number(rt: HostRuntime) -> Result<(), Fail> {
-    let search = search_ask(rt.alloc(), COUNTED)?.ok_or("a delete")?;
-    let query = print_query(rt.alloc(), &logs(rt.alloc())?, &search.query)?;
-    assert!(rt; query.as_str() == "(body:a AND body:b) OR NOT level:x");
-    let sort = search.sort.ok_or("none")?;
-    assert!(rt; sort.field == 2 && sort.descending);
-    assert!(rt; search.aggs.len() == 2);
-    assert!(rt; matches!(search.aggs.at(1).agg, Agg::Terms { field: 1, size: 10 }));
-    Ok(())
+fn ask_shown(alloc: Global, search: &SearchAsk) -> Result<String, AllocError> {
+    let printed = print_query(alloc, &logs(alloc)?, &search.query)?;
+    let mut shown = String::from_str(alloc, printed.as_str())?;
+    shown.push_str(page(alloc, search.start_offset, search.max_hits)?.as_str())?;
+    if let Some(sort) = search.sort {
+        let order = order(sort.descending);
+        let field = sort.field;
+        shown.push_str(format!(in alloc; "; {order} field {field}")?.as_str())?;
+    }
+    for named in search.aggs.as_slice() {
+        shown.push_str(agg_shown(alloc, named)?.as_str())?;
+    }
+    Ok(shown)
 }
 
-#[test]
-fn a_delete_has_the_default_fields(rt: HostRuntime) -> Result<(), Fail> {
-    let deletion = deletion(rt.alloc(), r#"{"delete":{"query":"fox"}}"#)?.ok_or("a search")?;
-    assert!(rt; deletion.text.as_str() == "fox");
-    assert!(rt; deletion.fields.len() == 1);
-    assert!(rt; deletion.fields.at(0).as_str() == "body");
-    assert!(rt; deletion.times.start.is_none() && deletion.times.end.is_none());
-    Ok(())
+fn agg_shown(alloc: Global, named: &NamedAgg) -> Result<String, AllocError> {
+    match named.agg {
+        Agg::Terms { field, size } => {
+            let over = format!(in alloc; "field {field}")?;
+            first_terms(alloc, &named.name, over.as_str(), size)
+        }
+        Agg::Histogram {
+            field,
+            interval,
+            offset,
+            min_doc_count,
+            dated,
+        } => {
+            let over = format!(in alloc; "field {field}")?;
+            let scale = (interval.whole(), offset.whole());
+            in_steps(
+                alloc,
+                &named.name,
+                over.as_str(),
+                scale,
+                min_doc_count,
+                dated,
+            )
+        }
+    }
+}
+
+fn deletion_shown(alloc: Global, deletion: &Deletion) -> Result<String, AllocError> {
+    let mut shown = String::from_str(alloc, "delete ")?;
+    shown.push_str(deletion.text.as_str())?;
+    shown.push_str(searched(alloc, &deletion.fields)?.as_str())?;
+    if deletion.times.start.is_some() || deletion.times.end.is_some() {
+        shown.push_str("; timed")?;
+    }
+    Ok(shown)
 }

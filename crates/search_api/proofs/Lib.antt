@@ -8,3 +8,5 @@ pub mod Texts
 pub mod Objects
 pub mod Numbered
 pub mod Within
+pub mod Askable
+pub mod Answered

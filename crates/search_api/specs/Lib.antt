@@ -1,4 +1,5 @@
 pub mod Aggregations
+pub mod Answerable
 pub mod Answers
 pub mod Intervals
 pub mod Keys

@@ -9,6 +9,7 @@ use crate::intervals::{seconds_of, signed_seconds};
 use crate::kinds::{count_at, needed_text, needed_whole, text_at, whole_at, wrong_kind};
 use crate::request::{AggShape, AskedAgg, AskedAggs};
 use crate::request_error::RequestError;
+use agg_model::Distance;
 use doc_value::Text;
 use serde_json::{Map, Value};
 use std::alloc::Global;
@@ -40,19 +41,19 @@ fn histogram_shape(alloc: Global, object: &Value) -> Result<AggShape, RequestErr
     let least = count_at(alloc, object, "min_doc_count", 0, u32::MAX)?;
     Ok(AggShape::Histogram {
         interval,
-        offset: offset.unwrap_or(0),
+        offset: offset.unwrap_or(Distance::new(0)),
         min_doc_count: least.unwrap_or(0),
         dated: false,
     })
 }
 
 /// The offset of a dated histogram, 0 where none is given.
-fn offset_of(text: Option<Text>) -> Option<i128>
+fn offset_of(text: Option<Text>) -> Option<Distance>
     ensures { result ≡ spec.offset_of text }
 {
     match text {
         Some(text) => signed_seconds(text.as_slice()),
-        None => Some(0),
+        None => Some(Distance::new(0)),
     }
 }
 
@@ -64,15 +65,15 @@ fn dated_shape(interval: &Text, offset: Option<Text>, min_doc_count: u32) -> Agg
         && let Some(offset) = offset_of(offset)
     {
         return AggShape::Histogram {
-            interval: seconds as i128,
+            interval: Distance::new(seconds as i128),
             offset,
             min_doc_count,
             dated: true,
         };
     }
     AggShape::Histogram {
-        interval: 0,
-        offset: 0,
+        interval: Distance::new(0),
+        offset: Distance::new(0),
         min_doc_count,
         dated: true,
     }

@@ -3,6 +3,8 @@
 ghost use Rattle.std.specs.Prelude.{◌≡◌, ◌^◌, ◌<◌, IfSome, nat_lt, if◌then◌else◌, Some, None, option_map, pos, neg_ℤ};
 ghost use Rattle.search_api.specs.Intervals as spec;
 
+use agg_model::Distance;
+
 fn is_digit(byte: u8) -> bool
     ensures { result ≡ spec.is_digit byte }
 {
@@ -89,26 +91,26 @@ pub fn seconds_of(text: &[u8]) -> Option<u128>
     }
 }
 
-fn positive(text: &[u8]) -> Option<i128>
+fn positive(text: &[u8]) -> Option<Distance>
     ensures { result ≡ option_map pos (spec.seconds_of text.now) }
 {
     match seconds_of(text) {
-        Some(seconds) => Some(seconds as i128),
+        Some(seconds) => Some(Distance::new(seconds as i128)),
         None => None,
     }
 }
 
-fn negative(text: &[u8]) -> Option<i128>
+fn negative(text: &[u8]) -> Option<Distance>
     ensures { result ≡ option_map (λ n. neg_ℤ (pos n)) (spec.seconds_of text.now) }
 {
     match seconds_of(text) {
-        Some(seconds) => Some(-(seconds as i128)),
+        Some(seconds) => Some(Distance::new(-(seconds as i128))),
         None => None,
     }
 }
 
 /// The same with a sign before it, or none.
-pub fn signed_seconds(text: &[u8]) -> Option<i128>
+pub fn signed_seconds(text: &[u8]) -> Option<Distance>
     ensures { result ≡ spec.signed_seconds text.now }
 {
     match text {

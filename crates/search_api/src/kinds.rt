@@ -9,6 +9,7 @@ ghost use Rattle.search_api.specs.Kinds as spec;
 
 use crate::request::Paths;
 use crate::request_error::RequestError;
+use agg_model::Distance;
 use doc_value::Text;
 use serde_json::Value;
 use std::alloc::{AllocError, Global};
@@ -111,20 +112,20 @@ pub fn count_at(
     }
 }
 
-fn whole_of(value: &Value) -> Option<i128>
+fn whole_of(value: &Value) -> Option<Distance>
     ensures { result ≡ spec.whole_of (view value.now) }
 {
     if let Some(number) = value.as_i64() {
-        return Some(i128::from(number));
+        return Some(Distance::from(number));
     }
     match value.as_u64() {
-        Some(number) => Some(i128::from(number)),
+        Some(number) => Some(Distance::from(number)),
         None => None,
     }
 }
 
 /// A whole number of 64 bits, with a sign or without.
-pub fn whole_at(alloc: Global, object: &Value, key: &str) -> Result<Option<i128>, RequestError>
+pub fn whole_at(alloc: Global, object: &Value, key: &str) -> Result<Option<Distance>, RequestError>
     ensures { Gives (spec.at key.now spec.whole_of (view object.now)) result }
 {
     let Some(value) = object.get(key) else {
@@ -136,7 +137,7 @@ pub fn whole_at(alloc: Global, object: &Value, key: &str) -> Result<Option<i128>
     }
 }
 
-pub fn needed_whole(alloc: Global, object: &Value, key: &str) -> Result<i128, RequestError>
+pub fn needed_whole(alloc: Global, object: &Value, key: &str) -> Result<Distance, RequestError>
     ensures { Gives (spec.needed key.now spec.whole_of (view object.now)) result }
 {
     match whole_at(alloc, object, key)? {

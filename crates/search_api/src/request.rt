@@ -1,3 +1,4 @@
+use agg_model::Distance;
 use doc_value::{List, Text, TimeRange};
 
 /// Paths of fields, in the order in which they were given.
@@ -31,8 +32,8 @@ pub enum AggShape {
     /// Values by intervals, in the field's unit, or in seconds where it is dated. The interval 0 stands for one that
     /// can't be: 0 itself, or that of a dated histogram whose interval or offset isn't spelled as one.
     Histogram {
-        interval: i128,
-        offset: i128,
+        interval: Distance,
+        offset: Distance,
         min_doc_count: u32,
         dated: bool,
     },

@@ -8,6 +8,7 @@ ghost use Rattle.search_api.specs.declared.reply.Refusal.TheVariants as refusals
 ghost use Rattle.search_api.specs.declared.unanswered.Unanswered.TheVariants as reasons;
 ghost use Rattle.query_ast.specs.Sought as sought;
 ghost use Rattle.search_api.specs.Unanswered.{WantsMemory, Shows};
+ghost use Rattle.search_api.specs.Answerable.{CanAnswer};
 ghost use Rattle.search_api.specs.Resolved as spec;
 ghost use Rattle.search_api.specs.Same.{same};
 ghost use Rattle.doc_value.specs.Documents.{number_of};
@@ -351,7 +352,9 @@ pub fn resolve(
     defaults: &[usize],
     request: &Request,
 ) -> Result<Resolved, Unanswered>
-    ensures { Shows spec.view (spec.resolved schema.now defaults.now request.now) result }
+    ensures resolved { Shows spec.view (spec.resolved schema.now defaults.now request.now) result }
+    // What it gives can be answered from the index of the schema.
+    ensures answerable { IfOk result (λ asked. CanAnswer schema.now (spec.view asked)) }
 {
     match request {
         Request::Search(asked) => {

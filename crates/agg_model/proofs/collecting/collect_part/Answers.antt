@@ -8,11 +8,9 @@ use mir.Syntax.{w128}
 
 pub returns-in_ok-raise_step-in-Histogram : goal.returns-in_ok-raise_step-in-Histogram
 returns-in_ok-raise_step-in-Histogram c =
-    let fi : FitsSigned w128 c.in-Histogram.interval = search rules in
-    let fo : FitsSigned w128 c.in-Histogram.offset = search rules in
     let fs : FitsSigned w128 c.in-Some.step = search rules in
-    let first = rw (to_z-of_z w128 c.in-Histogram.interval fi, to_z-of_z w128 c.in-Histogram.offset fo) at c.in-Some.ensures.value in
-    let near = rw (to_z-of_z w128 c.in-Histogram.interval fi) at c.in-Some.ensures.near in
+    let first = c.in-Some.ensures.value in
+    let near = c.in-Some.ensures.near in
     let raised = rw (to_z-of_z w128 c.in-Some.step fs) at c.in_ok-raise_step-in-Histogram.ensures in
     record {
       part = step_part c.args.documents c.args.agg.now c.in-Some.step c.args.counts.now c.raise_step.new.self (rw c.in-Histogram.is near) raised c.requires.part;

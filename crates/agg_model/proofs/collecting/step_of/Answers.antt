@@ -1,13 +1,14 @@
-use Rattle.std.proofs.Common.{arith, rules}
-use mir.Syntax.{w128}
-use Rattle.std.proofs.lemmas.Int.{to_z-of_z, ints}
-use Rattle.std.specs.Int.RustNames.{FitsSigned}
-use Rattle.agg_model.proofs.Steps.{near_quotient}
+use Rattle.std.proofs.Common.{◌≡◌, rules}
+use Rattle.agg_model.specs.Counting.{step_of}
+use Rattle.agg_model.proofs.Steps.{near_step}
 use Rattle.agg_model.proofs.collecting.step_of.Goals as goal
+use mir.Syntax.{w128}
+use mir.Val.{to_z, of_z}
 
 -- the quotient of a small number
 pub returns-clause-near : goal.returns-clause-near
 returns-clause-near c =
-    let fits : FitsSigned w128 c.div_euclid.result = search rules in
-    rw (to_z-of_z w128 c.div_euclid.result fits, c.div_euclid.ensures, to_z-of_z w128 c.args.interval c.ranges.interval)
-    (near_quotient _ c.args.interval c.requires.scale.some c.requires.scale.fine (omega (arith, ints)))
+    let same : to_z w128 (of_z w128 c.div_euclid.result) ≡ step_of c.args.interval c.args.offset c.args.whole = search rules in
+    let fine = rw c.whole-2.ensures.value at c.whole-2.ensures.near in
+    let close = rw c.whole.ensures.value at c.whole.ensures.near in
+    rw same (near_step c.args.interval c.args.offset c.args.whole c.requires.some fine close c.requires.small)

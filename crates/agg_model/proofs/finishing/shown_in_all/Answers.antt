@@ -11,8 +11,8 @@ index-requires c =
     let long : length c.args.parts.now.items ≡ length c.args.request.now = all_zip_long (λ (n : NamedAgg) (p : Counts). IsPart c.requires.parts.0 n.agg p) _ _ c.requires.parts.1 in
     omega (arith, c.args.parts.now.ok)
 
-pub shown-many-requires : goal.shown-many-requires
-shown-many-requires c = (
+pub shown-many-requires-clause-part : goal.shown-many-requires-clause-part
+shown-many-requires-clause-part c = (
   c.requires.parts.0,
   part_at c.requires.parts.0 c.args.request.now c.args.parts.now.items c.args.parts.now.items c.loop-i.i c.index-request-i.result c.index.result.now (omega arith) c.index-request-i.is c.requires.parts.1 refl c.index.ensures,
 )

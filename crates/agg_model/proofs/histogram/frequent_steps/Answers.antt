@@ -10,12 +10,12 @@ use Rattle.agg_model.specs.Answers.{step_bucket}
 use Rattle.agg_model.proofs.Shown.{kept_push}
 use Rattle.agg_model.proofs.histogram.frequent_steps.Goals as goal
 
-pub step_bucket-requires-clause-near : goal.step_bucket-requires-clause-near
-step_bucket-requires-clause-near c =
+pub step_bucket-requires : goal.step_bucket-requires
+step_bucket-requires c =
     let found : get int_cmp c.args.steps.now c.in-Some.step.now ≡ Some c.in-Some.count.now =
     All-turn deref_pair (λ e. get int_cmp c.args.steps.now e.0 ≡ Some e.1) _ _ _ _ _ _ _ c.iter-step-items.ensures.found
     (c.into_iter-step-iterator.ensures.into_iter_gives ∙ c.iter-step-items.ensures.rest) c.loop-step.yielded_by c.in-Some.is c.next.ensures.steps in
-    MatchOption-at_some (Unit {0}) (λ (n : ℕ). unsigned_abs (c.in-Some.step.now *ℤ c.args.scale.now.interval) < 2 ^ 98) c.in-Some.count.now found (c.requires.near c.in-Some.step.now)
+    MatchOption-at_some (Unit {0}) (λ (n : ℕ). unsigned_abs (c.in-Some.step.now *ℤ c.args.scale.now.interval) < 2 ^ 98) c.in-Some.count.now found (c.requires c.in-Some.step.now)
 
 pub loop-step-preserved-in-Continue-1 : goal.loop-step-preserved-in-Continue-1
 loop-step-preserved-in-Continue-1 c =
