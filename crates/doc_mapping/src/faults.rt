@@ -117,6 +117,7 @@ pub fn are_regular(fields: &Fields) -> bool
 
 /// The number of the field with this path: where the fields are regular the guess or the finder's, if one is right, or
 /// else found in logarithmic time.
+#[inline(always)]
 pub fn number_of(schema: &Schema, finder: &Finder, guess: usize, path: &[u8]) -> Option<usize>
     requires { IsTrue finder.now.regular → AreRegular schema.now.fields }
     ensures { result ≡ words.number_of schema.now.fields path.now }

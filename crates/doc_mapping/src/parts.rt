@@ -9,6 +9,7 @@ use std::alloc::AllocError;
 pub type Parts = Vec<DocField>;
 
 /// Puts the values of one more field at its place; where there are none, nothing.
+#[inline(always)]
 pub fn put(parts: &mut Parts, number: usize, values: Values) -> Result<(), AllocError>
     ensures { OnOk result (RiseFrom 0 parts.old.items → values_at parts.old.items number ≡ [] → Enters number values parts.old.items parts.new.items) }
 {

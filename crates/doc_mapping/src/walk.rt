@@ -87,6 +87,7 @@ fn key_fault(
 
 /// The first refusal of a value at this path, behind a key without a dot.
 #[cycle(walk)]
+#[inline(always)]
 fn path_fault(
     alloc: Global,
     config: &IndexConfig,
@@ -137,6 +138,7 @@ pub fn inner_fault(
 }
 
 /// The first refusal of a value at the path of this field; where it fits, the parts have its values.
+#[inline(always)]
 fn field_fault(
     alloc: Global,
     config: &IndexConfig,
