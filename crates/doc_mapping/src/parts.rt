@@ -24,6 +24,7 @@ pub fn put(parts: &mut Parts, number: usize, values: Values) -> Result<(), Alloc
 }
 
 /// Puts a part at a place, which is mostly the end.
+#[inline(always)]
 fn enter(parts: &mut Parts, place: usize, part: DocField) -> Result<(), AllocError>
     requires { place ≤ vec_len parts.old }
     ensures { OnOk result (parts.new.items ≡ insert parts.old.items place part) }
