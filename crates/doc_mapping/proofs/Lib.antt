@@ -4,6 +4,7 @@ pub mod Answering
 pub mod Rising
 pub mod Fitting
 pub mod Holding
+pub mod Flat
 pub mod Walked
 pub mod Recorded
 pub mod Numbering

@@ -23,6 +23,10 @@ use Rattle.doc_mapping.specs.Held.{values_at}
 abbrev pub AreRegular : List Field → Type 0
 AreRegular fields = PathsRise fields × BeginPlain fields
 
+-- no path of a field has a dot
+abbrev pub AreFlat : List Field → Type 0
+AreFlat fields = (n : ℕ) (f : Field) → slice_get fields n ≡ Some f → has_dot f.path ≡ false
+
 -- the refusal of a value that doesn't fit, at its path
 abbrev pub refusal_at : List ℕ → Misfit → Reject
 refusal_at path misfits.WrongType = WrongType path

@@ -2,7 +2,7 @@ ghost use Rattle.std.specs.Prelude.{◌≡◌, Ok, Err, Some, MatchResult, Match
 ghost use Rattle.serde_json.specs.View.{view};
 ghost use Rattle.doc_mapping.specs.Answer.{answer, read_answer, lacks_timestamp, IsMemory};
 ghost use Rattle.doc_mapping.specs.Documents.{doc_from, has_number};
-ghost use Rattle.doc_mapping.specs.Walk.{AreRegular};
+ghost use Rattle.doc_mapping.specs.Walk.{AreFlat, AreRegular};
 
 use crate::documents::doc_of;
 use crate::finder::Finder;
@@ -41,6 +41,7 @@ pub fn accept_by(
     bytes: &[u8],
 ) -> Result<Doc, Reject>
     requires rising { IsTrue finder.now.regular → AreRegular config.now.schema.fields }
+    requires flat { IsTrue finder.now.flat → AreFlat config.now.schema.fields }
     ensures { MatchResult result
         (λ doc. answer config.now bytes.now ≡ Ok doc)
         (λ refusal. ¬ IsMemory refusal → answer config.now bytes.now ≡ Err refusal) }
@@ -70,6 +71,7 @@ fn accept_value(
     value: Value,
 ) -> Result<Doc, Reject>
     requires rising { IsTrue finder.now.regular → AreRegular config.now.schema.fields }
+    requires flat { IsTrue finder.now.flat → AreFlat config.now.schema.fields }
     ensures { MatchResult result
         (λ doc. read_answer config.now (Some (view value)) ≡ Ok doc)
         (λ refusal. ¬ IsMemory refusal → read_answer config.now (Some (view value)) ≡ Err refusal) }

@@ -63,6 +63,7 @@ fn value_at<'a>(root: &'a Value, path: &str) -> Option<&'a Value>
 }
 
 /// One value, in a list with room for no other.
+#[inline(always)]
 pub fn one_value(alloc: Global, value: DocValue) -> Result<Values, AllocError>
     ensures { IfOk result (λ values. values ≡ value ∷ []) }
 {

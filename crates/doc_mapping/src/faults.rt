@@ -8,7 +8,7 @@ ghost use Rattle.doc_value.specs.Documents as words;
 ghost use Rattle.doc_value.specs.Documents.{PathsRise};
 ghost use Rattle.index_config.specs.Accepted.{BeginPlain};
 ghost use Rattle.doc_mapping.specs.Faults as spec;
-ghost use Rattle.doc_mapping.specs.Walk.{AreRegular};
+ghost use Rattle.doc_mapping.specs.Walk.{AreFlat, AreRegular};
 
 use crate::finder::Finder;
 use doc_value::{Field, Fields, Schema};
@@ -115,8 +115,29 @@ pub fn are_regular(fields: &Fields) -> bool
     paths_rise(fields) && begin_plain(fields)
 }
 
+/// Whether no path has a dot.
+pub fn are_flat(fields: &Fields) -> bool
+    ensures flat { IsTrue result → AreFlat fields.now }
+    ensures only { AreFlat fields.now → IsTrue result }
+{
+    for field in fields.as_slice() {
+        if has_dot(field.path.as_slice()) {
+            return false;
+        }
+    }
+    true
+}
+
+/// A dot in a key is none between names.
+pub fn has_dot(key: &[u8]) -> bool
+    ensures { result ≡ spec.has_dot key.now }
+{
+    key.contains(&b'.')
+}
+
 /// The number of the field with this path: where the fields are regular the guess or the finder's, if one is right, or
 /// else found in logarithmic time.
+#[inline(always)]
 pub fn number_of(schema: &Schema, finder: &Finder, guess: usize, path: &[u8]) -> Option<usize>
     requires { IsTrue finder.now.regular → AreRegular schema.now.fields }
     ensures { result ≡ words.number_of schema.now.fields path.now }

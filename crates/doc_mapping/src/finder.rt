@@ -1,39 +1,44 @@
 //! Where the field of a path is looked for first.
 
 ghost use Rattle.std.specs.Prelude.{◌<◌, IsTrue};
-ghost use Rattle.doc_mapping.specs.Walk.{AreRegular};
+ghost use Rattle.doc_mapping.specs.Walk.{AreFlat, AreRegular};
 
-use crate::faults::are_regular;
+use crate::faults::{are_flat, are_regular};
 use doc_value::Fields;
 use std::hash::{FoldHasher, Hasher};
 
 /// How many places a finder has: eight times the fields of a schema, so that few share one.
 const PLACES: usize = 2048;
 
-/// Whether fields are regular, and for the hash of a path the number of a field whose path has that hash.
+/// Whether fields are regular, whether none of their paths has a dot, and for the hash of a path the number of a field whose path has that hash.
 #[derive(Debug, Drop)]
 pub struct Finder {
     pub regular: bool,
+    pub flat: bool,
     likely: [u8; PLACES],
 }
 
 impl Finder {
-    /// For one record: no number is known.
+    /// For one record: no number is known, and no path is looked at for dots.
     pub fn for_one(fields: &Fields) -> Finder
-        ensures { IsTrue result.regular → AreRegular fields.now }
+        ensures regular { IsTrue result.regular → AreRegular fields.now }
+        ensures flat { IsTrue result.flat → AreFlat fields.now }
     {
         Finder {
             regular: are_regular(fields),
+            flat: false,
             likely: [0; PLACES],
         }
     }
 
     /// For many records.
     pub fn for_many(fields: &Fields) -> Finder
-        ensures { IsTrue result.regular → AreRegular fields.now }
+        ensures regular { IsTrue result.regular → AreRegular fields.now }
+        ensures flat { IsTrue result.flat → AreFlat fields.now }
     {
         Finder {
             regular: are_regular(fields),
+            flat: are_flat(fields),
             likely: numbers_by_place(fields),
         }
     }

@@ -18,14 +18,14 @@ pub struct Mapping {
 
 impl Model for Mapping {
     ghost use Rattle.std.specs.Prelude.{IsTrue};
-    ghost use Rattle.doc_mapping.specs.Walk.{AreRegular};
+    ghost use Rattle.doc_mapping.specs.Walk.{AreFlat, AreRegular};
     ghost use Rattle.index_config.specs.declared.config.IndexConfig.{IndexConfig};
 
     ghost Value = { IndexConfig };
 
     ghost view = { λ m. m.config };
 
-    ghost invariant = { λ m. IsTrue m.finder.regular → AreRegular m.config.schema.fields };
+    ghost invariant = { λ m. (IsTrue m.finder.regular → AreRegular m.config.schema.fields) × (IsTrue m.finder.flat → AreFlat m.config.schema.fields) };
 }
 
 impl Mapping {

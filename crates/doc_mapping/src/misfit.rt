@@ -33,6 +33,7 @@ impl Misfit {
 }
 
 /// The values of a value that fits a field, or why it doesn't; texts are moved, and a date is read once.
+#[inline(always)]
 pub fn fitting_values(
     alloc: Global,
     kind: Kind,
@@ -54,6 +55,7 @@ pub fn fitting_values(
     }
 }
 
+#[inline(always)]
 fn fitting_text(
     alloc: Global,
     formats: Formats,

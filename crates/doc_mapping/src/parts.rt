@@ -9,6 +9,7 @@ use std::alloc::AllocError;
 pub type Parts = Vec<DocField>;
 
 /// Puts the values of one more field at its place; where there are none, nothing.
+#[inline(always)]
 pub fn put(parts: &mut Parts, number: usize, values: Values) -> Result<(), AllocError>
     ensures { OnOk result (RiseFrom 0 parts.old.items → values_at parts.old.items number ≡ [] → Enters number values parts.old.items parts.new.items) }
 {
@@ -23,6 +24,7 @@ pub fn put(parts: &mut Parts, number: usize, values: Values) -> Result<(), Alloc
 }
 
 /// Puts a part at a place, which is mostly the end.
+#[inline(always)]
 fn enter(parts: &mut Parts, place: usize, part: DocField) -> Result<(), AllocError>
     requires { place ≤ vec_len parts.old }
     ensures { OnOk result (parts.new.items ≡ insert parts.old.items place part) }

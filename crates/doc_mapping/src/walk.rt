@@ -5,10 +5,10 @@ ghost use Rattle.serde_json.specs.View.{view, members_view};
 ghost use Rattle.doc_mapping.specs.Faults as spec;
 ghost use Rattle.serde_json.specs.Find.{as_object, as_null};
 ghost use Rattle.doc_mapping.specs.declared.reject.Reject.TheVariants.{WrongType};
-ghost use Rattle.doc_mapping.specs.Walk.{AreRegular, GatherAll, GatherInner, Gathers, HasEntered, RiseFrom};
+ghost use Rattle.doc_mapping.specs.Walk.{AreFlat, AreRegular, GatherAll, GatherInner, Gathers, HasEntered, RiseFrom};
 ghost use Rattle.doc_mapping.specs.Held.{values_at};
 
-use crate::faults::{formats_at, is_object, number_of};
+use crate::faults::{formats_at, has_dot, is_object, number_of};
 use crate::finder::Finder;
 use crate::misfit::fitting_values;
 use crate::parts::{Parts, next_number, put};
@@ -31,6 +31,7 @@ fn members_fault(
     parts: &mut Parts,
 ) -> Result<Option<Reject>, AllocError>
     requires rising { IsTrue finder.now.regular → AreRegular config.now.schema.fields }
+    requires flat { IsTrue finder.now.flat → AreFlat config.now.schema.fields }
     requires shallow { members_depth (members_view map.entries) ≤ levels }
     ensures fault { IfOk result (λ fault. fault ≡ spec.members_fault config.now prefix.now (members_view map.entries)) }
     ensures gathers { IfOk result (λ fault. fault ≡ None →
@@ -67,6 +68,7 @@ fn key_fault(
     parts: &mut Parts,
 ) -> Result<Option<Reject>, AllocError>
     requires rising { IsTrue finder.now.regular → AreRegular config.now.schema.fields }
+    requires flat { IsTrue finder.now.flat → AreFlat config.now.schema.fields }
     requires shallow { depth (view value) ≤ levels }
     ensures fault { IfOk result (λ fault. fault ≡
         spec.key_fault config.now (spec.under prefix.now key.now) key.now (view value)
@@ -75,7 +77,10 @@ fn key_fault(
     ensures gathers { spec.has_dot key.now ≡ false → IfOk result (λ fault. fault ≡ None →
         Gathers config.now.schema.fields (spec.under prefix.now key.now) (view value) parts.old.items parts.new.items) }
 {
-    if has_dot(key) {
+    if is_of_flat_record(finder, prefix) {
+        return flat_fault(alloc, config, finder, key, value, parts);
+    }
+    if has_dot(key.as_bytes()) {
         return unmapped_key(alloc, config, prefix, key);
     }
     if prefix.is_empty() {
@@ -83,6 +88,37 @@ fn key_fault(
     }
     let path = under(alloc, prefix, key)?;
     path_fault(alloc, config, finder, path.as_str(), value, levels, parts)
+}
+
+/// The first refusal of a record's key where no field's path has a dot: the key is a field's path, or none begins so.
+fn flat_fault(
+    alloc: Global,
+    config: &IndexConfig,
+    finder: &Finder,
+    key: &str,
+    value: Value,
+    parts: &mut Parts,
+) -> Result<Option<Reject>, AllocError>
+    requires rising { IsTrue finder.now.regular → AreRegular config.now.schema.fields }
+    requires flat { AreFlat config.now.schema.fields }
+    ensures fault { IfOk result (λ fault. fault ≡
+        spec.key_fault config.now key.now key.now (view value) (spec.inner_fault config.now key.now (view value))) }
+    ensures dotted { spec.has_dot key.now ≡ true → parts.new.items ≡ parts.old.items }
+    ensures gathers { spec.has_dot key.now ≡ false → IfOk result (λ fault. fault ≡ None →
+        Gathers config.now.schema.fields key.now (view value) parts.old.items parts.new.items) }
+{
+    match number_of(&config.schema, finder, next_number(parts), key.as_bytes()) {
+        Some(number) => field_fault(alloc, config, number, key, value, parts),
+        None => unmapped_path(alloc, config, key),
+    }
+}
+
+/// Whether a key in the object with this path is a record's, and no field's path has a dot.
+fn is_of_flat_record(finder: &Finder, prefix: &str) -> bool
+    ensures flat { IsTrue result → IsTrue finder.now.flat }
+    ensures outermost { IsTrue result → prefix.now ≡ [] }
+{
+    finder.flat && prefix.is_empty()
 }
 
 /// The first refusal of a value at this path, behind a key without a dot.
@@ -97,6 +133,7 @@ fn path_fault(
     parts: &mut Parts,
 ) -> Result<Option<Reject>, AllocError>
     requires rising { IsTrue finder.now.regular → AreRegular config.now.schema.fields }
+    requires flat { IsTrue finder.now.flat → AreFlat config.now.schema.fields }
     requires shallow { depth (view value) ≤ levels }
     ensures fault { IfOk result (λ fault. fault ≡
         spec.path_fault config.now path.now (view value) (spec.inner_fault config.now path.now (view value))
@@ -125,6 +162,7 @@ pub fn inner_fault(
     parts: &mut Parts,
 ) -> Result<Option<Reject>, AllocError>
     requires rising { IsTrue finder.now.regular → AreRegular config.now.schema.fields }
+    requires flat { IsTrue finder.now.flat → AreFlat config.now.schema.fields }
     requires shallow { depth (view value) ≤ levels }
     ensures fault { IfOk result (λ fault. fault ≡ spec.inner_fault config.now path.now (view value)) }
     ensures gathers { IfOk result (λ fault. fault ≡ None →
@@ -137,6 +175,7 @@ pub fn inner_fault(
 }
 
 /// The first refusal of a value at the path of this field; where it fits, the parts have its values.
+#[inline(always)]
 fn field_fault(
     alloc: Global,
     config: &IndexConfig,
@@ -222,13 +261,6 @@ fn lies_above_fields(
 {
     let start = joined(alloc, path, "")?;
     Ok(is_object(&config.schema.fields, regular, start.as_slice()))
-}
-
-/// A dot in a key is none between names.
-fn has_dot(key: &str) -> bool
-    ensures { result ≡ spec.has_dot key.now }
-{
-    key.as_bytes().contains(&b'.')
 }
 
 /// The path of a key in an object with this path; the record itself has the empty path.
