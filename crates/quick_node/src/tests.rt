@@ -106,31 +106,42 @@ impl Row {
         alloc: Global,
         status: u64,
     ) -> Result<Row, Fail> {
-        let mut input = source_of(alloc, self.schedule.as_slice())?;
-        if let Some(call) = self.failing_read {
+        let Row {
+            name,
+            store,
+            logs,
+            words,
+            schedule,
+            expected,
+            room,
+            failing_log,
+            failing_read,
+            failing_write,
+        } = self;
+        let mut input = source_of(alloc, schedule.as_slice())?;
+        if let Some(call) = failing_read {
             input.fail_call(call)?;
         }
-        let mut output = MemorySink::with_room(alloc, self.room)?;
-        if let Some(call) = self.failing_write {
+        let mut output = MemorySink::with_room(alloc, room)?;
+        if let Some(call) = failing_write {
             output.fail_call(call)?;
         }
-        let logs = faulty(alloc, self.logs, self.failing_log)?;
-        let log_faults = u64::from(self.failing_log.is_some());
+        let logs = faulty(alloc, logs, failing_log)?;
+        let log_faults = u64::from(failing_log.is_some());
         let (finished, logs) = serve_with_logs(
             rt,
             alloc,
-            self.words.as_slice(),
-            self.store,
+            words.as_slice(),
+            store,
             logs,
             ScriptClock::at(0),
             &mut input,
             &mut output,
         );
         let is_right = u64::from(finished.status) == status
-            && output.content().as_slice() == self.expected.as_slice()
+            && output.content().as_slice() == expected.as_slice()
             && finished.log_faults == log_faults
             && logs.faults() == log_faults;
-        let name = self.name;
         assert!(rt; is_right, "{name}");
         let mut next = Row::begin(alloc, name.as_str())?;
         next.store = finished.store;
@@ -173,7 +184,7 @@ fn landing_of(rest: &str) -> Result<(Landing, &str), Fail> {
     let landing = match word {
         "never" => Landing::Never,
         "once" => Landing::AtOnce,
-        _ => Landing::AfterCalls(number_of(word)? as u32),
+        _ => Landing::AfterCalls(word.parse::<u32>().map_err(|_| "no number")?),
     };
     Ok((landing, behind))
 }
