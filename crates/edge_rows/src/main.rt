@@ -1,4 +1,5 @@
-//! Rows of folders: what is done to a folder of objects and to a folder of logs, a line each, and what comes of it.
+//! Rows of folders: what is done to a folder of objects and to a folder of logs, a line each, and what comes of it. The
+//! program's word is the number of its files beside, 0 without one.
 #![tactic(auto)]
 
 ghost use Rattle.std.specs.Prelude.{◌≤◌};
@@ -9,7 +10,7 @@ use source_checkpoint::Partition;
 use source_log::SourceLog;
 use std::alloc::{AllocError, Global};
 use std::fs::{self, Files};
-use std::io;
+use std::{env, io};
 
 // The text of an answer: these words, or `-` where there are none.
 fn joined(alloc: Global, words: &[String]) -> Result<String, AllocError> {
@@ -178,7 +179,9 @@ fn laid<F: Files>(files: &F, alloc: Global, asked: &str, rest: &str) -> io::Resu
 
 fn main(rt: HostRuntime) -> io::Result<()> {
     let alloc = rt.alloc();
-    let mut store = FolderStore::over(alloc, &rt, "store", 7)?;
+    let word = env::args(&rt)?.nth(1);
+    let writer = number(word.as_deref());
+    let mut store = FolderStore::over(alloc, &rt, "store", writer)?;
     let mut log = FileLog::over(alloc, &rt, "logs")?;
     for line in rt.lines(alloc) {
         let line = line?;
