@@ -9,7 +9,7 @@ use crate::finder::Finder;
 use crate::levels::is_within;
 use crate::parts::Parts;
 use crate::reject::Reject;
-use crate::walk::inner_fault;
+use crate::walk::record_fault;
 use doc_value::{Doc, Fields};
 use index_config::IndexConfig;
 use serde_json::Value;
@@ -85,7 +85,7 @@ fn accept_value(
     }
     let looked_for = looked_for(alloc, &config.schema.fields, finder.regular, &value)?;
     let mut parts = Parts::with_capacity(alloc, room)?;
-    if let Some(refusal) = inner_fault(alloc, config, finder, "", value, MAX_LEVELS, &mut parts)? {
+    if let Some(refusal) = record_fault(alloc, config, finder, value, &mut parts)? {
         return Err(refusal);
     }
     let doc = doc_by(looked_for, parts);

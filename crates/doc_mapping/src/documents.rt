@@ -68,7 +68,7 @@ pub fn one_value(alloc: Global, value: DocValue) -> Result<Values, AllocError>
     ensures { IfOk result (λ values. values ≡ value ∷ []) }
 {
     let mut held = Vec::with_capacity(alloc, 1)?;
-    held.push(value)?;
+    held.push_reserved(value);
     Ok(Values::from_vec(held))
 }
 

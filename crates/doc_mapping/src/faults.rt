@@ -152,6 +152,19 @@ pub fn number_of(schema: &Schema, finder: &Finder, guess: usize, path: &[u8]) ->
     if is_at(&schema.fields, likely, path) {
         return Some(likely);
     }
+    unlikely_number_of(schema, finder, path)
+}
+
+/// The same where the finder's first number is not right.
+#[inline(never)]
+fn unlikely_number_of(schema: &Schema, finder: &Finder, path: &[u8]) -> Option<usize>
+    requires { PathsRise schema.now.fields }
+    ensures { result ≡ words.number_of schema.now.fields path.now }
+{
+    let likely = finder.less_likely(path);
+    if is_at(&schema.fields, likely, path) {
+        return Some(likely);
+    }
     schema.number_of(path)
 }
 

@@ -43,18 +43,28 @@ impl Finder {
         }
     }
 
-    /// The number of the last field whose path has this one's place, or 0.
+    /// The number that stands at a path's first place, or 0.
     pub fn likely(&self, path: &[u8]) -> usize {
         self.likely[place_of(path)] as usize
     }
+
+    /// The number that stands at a path's second place, or 0.
+    pub fn less_likely(&self, path: &[u8]) -> usize {
+        self.likely[place_of(path) ^ 1] as usize
+    }
 }
 
-/// The numbers of the first 256 fields at the places of their paths; where two share a place, the later one's.
+/// The numbers of the first 256 fields, each at the first place of its path or, where that one is taken, at the second.
 fn numbers_by_place(fields: &Fields) -> [u8; PLACES] {
     let mut numbers = [0; PLACES];
     for (number, field) in fields.as_slice().iter().enumerate() {
         if let Ok(number) = u8::try_from(number) {
-            numbers[place_of(field.path.as_slice())] = number;
+            let place = place_of(field.path.as_slice());
+            if numbers[place] == 0 {
+                numbers[place] = number;
+            } else {
+                numbers[place ^ 1] = number;
+            }
         }
     }
     numbers

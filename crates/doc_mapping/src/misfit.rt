@@ -1,6 +1,6 @@
 //! The values of a value that fits a field, or why it doesn't fit.
 
-ghost use Rattle.std.specs.Prelude.{◌≡◌, ◌∷◌, [], None, IfOk};
+ghost use Rattle.std.specs.Prelude.{◌≡◌, ◌∷◌, [], None, Ok, IfOk, MatchResult};
 ghost use Rattle.serde_json.specs.Find.{as_null};
 ghost use Rattle.serde_json.specs.View.{view, items_view};
 ghost use Rattle.doc_mapping.specs.Walk.{Fits, FitsSecond, FitsTexts, IsPlain, refusal_at};
@@ -55,6 +55,47 @@ pub fn fitting_values(
     }
 }
 
+/// The one value of a value that fits a field of a kind with one value, or else the value, which may fit as well.
+#[inline(always)]
+pub fn single_value(kind: Kind, formats: Formats, value: Value) -> Result<DocValue, Value>
+    ensures { MatchResult result (λ single. Fits kind formats (view value) (Ok (single ∷ []))) (λ other. other ≡ value) }
+{
+    if value.is_null() {
+        return Err(value);
+    }
+    match kind {
+        Kind::Text => single_text(formats, value),
+        Kind::I64 => match value.as_i64() {
+            Some(number) => Ok(DocValue::I64(number)),
+            None => Err(value),
+        },
+        Kind::U64 => match value.as_u64() {
+            Some(number) => Ok(DocValue::U64(number)),
+            None => Err(value),
+        },
+        Kind::Bool => match value.as_bool() {
+            Some(truth) => Ok(DocValue::Bool(truth)),
+            None => Err(value),
+        },
+        Kind::Datetime => match fitting_second(formats, &value) {
+            Ok(second) => Ok(DocValue::Datetime(second)),
+            Err(_) => Err(value),
+        },
+        Kind::TextList => Err(value),
+    }
+}
+
+#[inline(always)]
+fn single_text(formats: Formats, value: Value) -> Result<DocValue, Value>
+    requires { as_null (view value) ≡ None }
+    ensures { MatchResult result (λ single. Fits Kind.Text formats (view value) (Ok (single ∷ []))) (λ other. other ≡ value) }
+{
+    match into_text(value) {
+        Ok(text) => Ok(DocValue::Text(text)),
+        Err(other) => Err(other),
+    }
+}
+
 #[inline(always)]
 fn fitting_text(
     alloc: Global,
@@ -65,8 +106,8 @@ fn fitting_text(
     ensures { IfOk result (Fits Kind.Text formats (view value)) }
 {
     match into_text(value) {
-        Some(text) => Ok(Ok(one_value(alloc, DocValue::Text(text))?)),
-        None => Ok(Err(Misfit::WrongType)),
+        Ok(text) => Ok(Ok(one_value(alloc, DocValue::Text(text))?)),
+        Err(_) => Ok(Err(Misfit::WrongType)),
     }
 }
 
@@ -91,8 +132,8 @@ fn fitting_texts(alloc: Global, items: Vec<Value>) -> Result<Result<Values, Misf
     let mut texts = Vec::with_capacity(alloc, items.len())?;
     for item in items {
         match into_text(item) {
-            Some(text) => texts.push(DocValue::Text(text))?,
-            None => return Ok(Err(Misfit::WrongType)),
+            Ok(text) => texts.push(DocValue::Text(text))?,
+            Err(_) => return Ok(Err(Misfit::WrongType)),
         }
     }
     Ok(Ok(Values::from_vec(texts)))

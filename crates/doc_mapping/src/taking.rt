@@ -1,6 +1,6 @@
 //! A value taken apart: its text, items or members are moved out of it.
 
-ghost use Rattle.std.specs.Prelude.{◌≡◌, None, MatchResult};
+ghost use Rattle.std.specs.Prelude.{◌≡◌, Some, None, MatchResult};
 ghost use Rattle.serde_json.specs.Data.{array, object};
 ghost use Rattle.serde_json.specs.Find.{as_str, as_array, as_object};
 ghost use Rattle.serde_json.specs.View.{view, items_view, members_view};
@@ -8,14 +8,16 @@ ghost use Rattle.serde_json.specs.View.{view, items_view, members_view};
 use doc_value::Text;
 use serde_json::{Map, Value};
 
-/// The text of a string.
-pub fn into_text(value: Value) -> Option<Text>
-    ensures { result ≡ as_str (view value) }
+/// The text of a string, or else the value.
+#[inline(always)]
+pub fn into_text(value: Value) -> Result<Text, Value>
+    ensures { MatchResult result
+        (λ text. as_str (view value) ≡ Some text)
+        (λ other. (other ≡ value) × (as_str (view other) ≡ None)) }
 {
-    if let Value::String(text) = value {
-        Some(Text::from_string(text))
-    } else {
-        None
+    match value {
+        Value::String(text) => Ok(Text::from_string(text)),
+        other => Err(other),
     }
 }
 

@@ -8,9 +8,11 @@ ghost use Rattle.doc_mapping.specs.declared.reject.Reject.TheVariants.{WrongType
 ghost use Rattle.doc_mapping.specs.Walk.{AreFlat, AreRegular, GatherAll, GatherInner, Gathers, HasEntered, RiseFrom};
 ghost use Rattle.doc_mapping.specs.Held.{values_at};
 
+use crate::accepting::MAX_LEVELS;
+use crate::documents::one_value;
 use crate::faults::{formats_at, has_dot, is_object, number_of};
 use crate::finder::Finder;
-use crate::misfit::fitting_values;
+use crate::misfit::{fitting_values, single_value};
 use crate::parts::{Parts, next_number, put};
 use crate::reject::Reject;
 use crate::taking::into_members;
@@ -18,6 +20,77 @@ use doc_value::Text;
 use index_config::{IndexConfig, Mode};
 use serde_json::{Map, Value};
 use std::alloc::{AllocError, Global};
+
+/// The first refusal of a record; where there is none, the parts have its values.
+pub fn record_fault(
+    alloc: Global,
+    config: &IndexConfig,
+    finder: &Finder,
+    root: Value,
+    parts: &mut Parts,
+) -> Result<Option<Reject>, AllocError>
+    requires rising { IsTrue finder.now.regular → AreRegular config.now.schema.fields }
+    requires flat { IsTrue finder.now.flat → AreFlat config.now.schema.fields }
+    requires shallow { depth (view root) ≤ 32 }
+    ensures fault { IfOk result (λ fault. fault ≡ spec.inner_fault config.now [] (view root)) }
+    ensures gathers { IfOk result (λ fault. fault ≡ None →
+        GatherInner config.now.schema.fields [] (as_object (view root)) parts.old.items parts.new.items) }
+{
+    if !finder.flat {
+        return inner_fault(alloc, config, finder, "", root, MAX_LEVELS, parts);
+    }
+    match into_members(root) {
+        Ok(map) => flat_faults(alloc, config, finder, map, parts),
+        Err(other) => type_fault(alloc, "", &other),
+    }
+}
+
+/// The first refusal among a record's keys where no field's path has a dot; where there is none, the parts have its values.
+fn flat_faults(
+    alloc: Global,
+    config: &IndexConfig,
+    finder: &Finder,
+    map: Map<String, Value>,
+    parts: &mut Parts,
+) -> Result<Option<Reject>, AllocError>
+    requires rising { IsTrue finder.now.regular → AreRegular config.now.schema.fields }
+    requires flat { AreFlat config.now.schema.fields }
+    ensures fault { IfOk result (λ fault. fault ≡ spec.members_fault config.now [] (members_view map.entries)) }
+    ensures gathers { IfOk result (λ fault. fault ≡ None →
+        GatherAll config.now.schema.fields [] (members_view map.entries) parts.old.items parts.new.items) }
+{
+    for (key, value) in map {
+        let fault = flat_fault(alloc, config, finder, key.as_str(), value, parts)?;
+        if fault.is_some() {
+            return Ok(fault);
+        }
+    }
+    Ok(None)
+}
+
+/// The first refusal of a record's key where no field's path has a dot: the key is a field's path, or none begins so.
+#[inline(always)]
+fn flat_fault(
+    alloc: Global,
+    config: &IndexConfig,
+    finder: &Finder,
+    key: &str,
+    value: Value,
+    parts: &mut Parts,
+) -> Result<Option<Reject>, AllocError>
+    requires rising { IsTrue finder.now.regular → AreRegular config.now.schema.fields }
+    requires flat { AreFlat config.now.schema.fields }
+    ensures fault { IfOk result (λ fault. fault ≡
+        spec.key_fault config.now key.now key.now (view value) (spec.inner_fault config.now key.now (view value))) }
+    ensures dotted { spec.has_dot key.now ≡ true → parts.new.items ≡ parts.old.items }
+    ensures gathers { spec.has_dot key.now ≡ false → IfOk result (λ fault. fault ≡ None →
+        Gathers config.now.schema.fields key.now (view value) parts.old.items parts.new.items) }
+{
+    match number_of(&config.schema, finder, next_number(parts), key.as_bytes()) {
+        Some(number) => field_fault(alloc, config, number, key, value, parts),
+        None => unmapped_path(alloc, config, key),
+    }
+}
 
 /// The first refusal among the keys of an object with this path; where there is none, the parts have its values.
 #[cycle(walk)]
@@ -31,7 +104,6 @@ fn members_fault(
     parts: &mut Parts,
 ) -> Result<Option<Reject>, AllocError>
     requires rising { IsTrue finder.now.regular → AreRegular config.now.schema.fields }
-    requires flat { IsTrue finder.now.flat → AreFlat config.now.schema.fields }
     requires shallow { members_depth (members_view map.entries) ≤ levels }
     ensures fault { IfOk result (λ fault. fault ≡ spec.members_fault config.now prefix.now (members_view map.entries)) }
     ensures gathers { IfOk result (λ fault. fault ≡ None →
@@ -68,7 +140,6 @@ fn key_fault(
     parts: &mut Parts,
 ) -> Result<Option<Reject>, AllocError>
     requires rising { IsTrue finder.now.regular → AreRegular config.now.schema.fields }
-    requires flat { IsTrue finder.now.flat → AreFlat config.now.schema.fields }
     requires shallow { depth (view value) ≤ levels }
     ensures fault { IfOk result (λ fault. fault ≡
         spec.key_fault config.now (spec.under prefix.now key.now) key.now (view value)
@@ -77,9 +148,6 @@ fn key_fault(
     ensures gathers { spec.has_dot key.now ≡ false → IfOk result (λ fault. fault ≡ None →
         Gathers config.now.schema.fields (spec.under prefix.now key.now) (view value) parts.old.items parts.new.items) }
 {
-    if is_of_flat_record(finder, prefix) {
-        return flat_fault(alloc, config, finder, key, value, parts);
-    }
     if has_dot(key.as_bytes()) {
         return unmapped_key(alloc, config, prefix, key);
     }
@@ -88,37 +156,6 @@ fn key_fault(
     }
     let path = under(alloc, prefix, key)?;
     path_fault(alloc, config, finder, path.as_str(), value, levels, parts)
-}
-
-/// The first refusal of a record's key where no field's path has a dot: the key is a field's path, or none begins so.
-fn flat_fault(
-    alloc: Global,
-    config: &IndexConfig,
-    finder: &Finder,
-    key: &str,
-    value: Value,
-    parts: &mut Parts,
-) -> Result<Option<Reject>, AllocError>
-    requires rising { IsTrue finder.now.regular → AreRegular config.now.schema.fields }
-    requires flat { AreFlat config.now.schema.fields }
-    ensures fault { IfOk result (λ fault. fault ≡
-        spec.key_fault config.now key.now key.now (view value) (spec.inner_fault config.now key.now (view value))) }
-    ensures dotted { spec.has_dot key.now ≡ true → parts.new.items ≡ parts.old.items }
-    ensures gathers { spec.has_dot key.now ≡ false → IfOk result (λ fault. fault ≡ None →
-        Gathers config.now.schema.fields key.now (view value) parts.old.items parts.new.items) }
-{
-    match number_of(&config.schema, finder, next_number(parts), key.as_bytes()) {
-        Some(number) => field_fault(alloc, config, number, key, value, parts),
-        None => unmapped_path(alloc, config, key),
-    }
-}
-
-/// Whether a key in the object with this path is a record's, and no field's path has a dot.
-fn is_of_flat_record(finder: &Finder, prefix: &str) -> bool
-    ensures flat { IsTrue result → IsTrue finder.now.flat }
-    ensures outermost { IsTrue result → prefix.now ≡ [] }
-{
-    finder.flat && prefix.is_empty()
 }
 
 /// The first refusal of a value at this path, behind a key without a dot.
@@ -133,7 +170,6 @@ fn path_fault(
     parts: &mut Parts,
 ) -> Result<Option<Reject>, AllocError>
     requires rising { IsTrue finder.now.regular → AreRegular config.now.schema.fields }
-    requires flat { IsTrue finder.now.flat → AreFlat config.now.schema.fields }
     requires shallow { depth (view value) ≤ levels }
     ensures fault { IfOk result (λ fault. fault ≡
         spec.path_fault config.now path.now (view value) (spec.inner_fault config.now path.now (view value))
@@ -152,7 +188,7 @@ fn path_fault(
 
 /// The first refusal of a value where an object is asked.
 #[cycle(walk)]
-pub fn inner_fault(
+fn inner_fault(
     alloc: Global,
     config: &IndexConfig,
     finder: &Finder,
@@ -162,7 +198,6 @@ pub fn inner_fault(
     parts: &mut Parts,
 ) -> Result<Option<Reject>, AllocError>
     requires rising { IsTrue finder.now.regular → AreRegular config.now.schema.fields }
-    requires flat { IsTrue finder.now.flat → AreFlat config.now.schema.fields }
     requires shallow { depth (view value) ≤ levels }
     ensures fault { IfOk result (λ fault. fault ≡ spec.inner_fault config.now path.now (view value)) }
     ensures gathers { IfOk result (λ fault. fault ≡ None →
@@ -174,9 +209,37 @@ pub fn inner_fault(
     }
 }
 
-/// The first refusal of a value at the path of this field; where it fits, the parts have its values.
+/// The first refusal of a value at the path of this field; where it fits, the parts have its values. One value, as
+/// most fields have, is put at once.
 #[inline(always)]
 fn field_fault(
+    alloc: Global,
+    config: &IndexConfig,
+    number: usize,
+    path: &str,
+    value: Value,
+    parts: &mut Parts,
+) -> Result<Option<Reject>, AllocError>
+    requires { number < length config.now.schema.fields }
+    ensures fault { IfOk result (λ fault. fault ≡
+        spec.field_fault config.now path.now (view value) number (slice_get config.now.schema.fields number)) }
+    ensures enters { IfOk result (λ fault. fault ≡ None → RiseFrom 0 parts.old.items → values_at parts.old.items number ≡ [] →
+        HasEntered config.now.schema.fields number (view value) parts.old.items parts.new.items) }
+{
+    let kind = config.schema.fields.at(number).kind;
+    let formats = formats_at(&config.formats, number);
+    match single_value(kind, formats, value) {
+        Ok(single) => {
+            put(parts, number, one_value(alloc, single)?)?;
+            Ok(None)
+        }
+        Err(other) => kind_fault(alloc, config, number, path, other, parts),
+    }
+}
+
+/// The same of a value of any kind.
+#[inline(never)]
+fn kind_fault(
     alloc: Global,
     config: &IndexConfig,
     number: usize,

@@ -5,12 +5,6 @@ use Rattle.doc_value.specs.Documents.{number_of}
 use Rattle.doc_mapping.proofs.Gathering.{MayLeave, none_left, StandsAt, begun, moved, nothing_there, empty_under, gathers_on, gathers_as, gathers_inner, number_within, field_gathers, distinct_by}
 use Rattle.doc_mapping.proofs.walk.+walk.Goals as goal
 
-pub key_fault-returns-then-is_of_flat_record-clause-gathers :
-    goal.key_fault-returns-then-is_of_flat_record-clause-gathers
-key_fault-returns-then-is_of_flat_record-clause-gathers t c = λ plain.
-    gathers_on c.args.config.now.schema.fields (view c.args.value) c.args.parts.now.items c.flat_fault.new.parts.items c.flat_fault.result c.args.key.now _
-    (empty_under c.args.prefix.now c.args.key.now (ap length (c.is_of_flat_record.ensures.outermost c.if-is_of_flat_record.true))) (c.flat_fault.ensures.gathers plain)
-
 pub key_fault-returns-then-is_empty-clause-gathers :
     goal.key_fault-returns-then-is_empty-clause-gathers
 key_fault-returns-then-is_empty-clause-gathers t c = λ plain.
