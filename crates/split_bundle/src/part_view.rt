@@ -36,7 +36,7 @@ impl<'a> PartView<'a> {
     ghost use Rattle.split_bundle.specs.Lending.{IsPartOf, LendsBlock, LendsCursor, LendsFast, block_in, block_place, cursor_in, column_read, parts_of, start_of_column, length_of_column};
     ghost use Rattle.split_bundle.specs.Documents.{placed_bytes};
     ghost use Rattle.split_bundle.specs.DocReading.{placed_in};
-    ghost use Rattle.split_bundle.specs.DocLending.{IsHeld, LendsPlaced, starts_place, doc_place};
+    ghost use Rattle.split_bundle.specs.DocLending.{LendsPlaced, starts_place, doc_place};
     ghost use Rattle.split_bundle.specs.Wholes.{whole_of, HasWhole, HaveAll, ReadsWhole, IsThere};
 
     /// The view of a file with this footer, of which these pieces are there.
@@ -168,11 +168,11 @@ impl<'a> PartView<'a> {
     pub fn placed(&self, alloc: Global, schema: &Schema, doc: u32) -> Result<Placed, SplitError>
         requires { doc < self.now.footer.layout.docs }
         // Of a split of documents: this document, unless no piece has where it starts and ends, or its bytes.
-        ensures only { (documents : List Placed) (p : Parts) (d : Placed) → IsPartOf self.now schema.now documents p → slice_get documents doc ≡ Some d → IsHeld d
+        ensures only { (documents : List Placed) (p : Parts) (d : Placed) → IsPartOf self.now schema.now documents p → slice_get documents doc ≡ Some d
             → LendsPlaced self.now.pieces (starts_place doc) (doc_place p documents doc) (length (placed_bytes p.partitions d)) d result }
         // Where the pieces have every part.
         ensures there { (documents : List Placed) (p : Parts) (d : Placed) → IsPartOf self.now schema.now documents p → HaveAll (file_bytes p) self.now.pieces
-            → slice_get documents doc ≡ Some d → IsHeld d → IsThere result }
+            → slice_get documents doc ≡ Some d → IsThere result }
         // Over any bytes.
         ensures exact { MayGive (λ d. d) result (placed_in schema.now.fields self.now.footer.layout self.now.footer.bytes self.now.pieces doc) }
     {
