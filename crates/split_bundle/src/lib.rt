@@ -11,8 +11,8 @@ mod placed;
 mod split_error;
 
 pub use footer::Footer;
-pub use layout::Sections;
+pub use layout::{ColumnStart, Sections};
 pub use part_view::PartView;
-pub use pieces::{FilePiece, Pieces};
+pub use pieces::{FilePiece, Pieces, Section};
 pub use placed::{Placed, PlacedList};
 pub use split_error::SplitError;

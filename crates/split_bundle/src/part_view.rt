@@ -1,6 +1,6 @@
 //! A split file of which some pieces are there.
 
-ghost use Rattle.std.specs.Prelude.{◌≡◌, ◌≤◌, ◌<◌, ◌+◌, ◌-◌, ◌*◌, List, ℕ, Some, length, slice_get, IfOk, IsOk};
+ghost use Rattle.std.specs.Prelude.{◌≡◌, ◌≤◌, ◌<◌, ◌+◌, ◌-◌, ◌*◌, ◌^◌, List, ℕ, Some, length, slice_get, IfOk, IsOk};
 ghost use Rattle.doc_value.specs.declared.schema.Schema.{Schema};
 ghost use Rattle.term_dict.specs.Bounds.{block_terms};
 ghost use Rattle.term_dict.specs.Terms.{lookup};
@@ -16,13 +16,13 @@ ghost use Rattle.split_bundle.specs.declared.pieces.Section.TheVariants as secti
 
 use crate::documents::placed_in;
 use crate::footer::{Footer, check_head};
-use crate::parts::{block_between, column_of, cursor_over};
+use crate::parts::{block_between, column_of, cursor_over, documents_over};
 use crate::pieces::{FilePiece, Pieces, Section};
 use crate::{Placed, SplitError};
 use doc_value::Schema;
 use fast_fields::Column;
 use std::alloc::Global;
-use term_dict::{Block, TermInfo};
+use term_dict::{Block, BlockIndex, TermInfo};
 use term_postings::Cursor;
 
 /// A split file of which some pieces are there. It copies nothing of them.
@@ -33,7 +33,7 @@ pub struct PartView<'a> {
 }
 
 impl<'a> PartView<'a> {
-    ghost use Rattle.split_bundle.specs.Lending.{IsPartOf, LendsBlock, LendsCursor, LendsFast, block_in, block_place, cursor_in, column_read, parts_of, start_of_column, length_of_column};
+    ghost use Rattle.split_bundle.specs.Lending.{IsPartOf, LendsBlock, LendsCursor, LendsDocuments, LendsFast, block_in, block_place, cursor_in, documents_in, column_read, parts_of, start_of_column, length_of_column};
     ghost use Rattle.split_bundle.specs.Documents.{placed_bytes};
     ghost use Rattle.split_bundle.specs.DocReading.{placed_in};
     ghost use Rattle.split_bundle.specs.DocLending.{LendsPlaced, starts_place, doc_place};
@@ -78,6 +78,16 @@ impl<'a> PartView<'a> {
         ensures { result.now ≡ self.now.footer }
     {
         &self.footer
+    }
+
+    /// The first keys of the dictionary's blocks, and where these start.
+    pub fn index(&self) -> &BlockIndex
+        // Of a split of documents: the index of its dictionary, which a number of 32 bits counts.
+        ensures only { (s : Schema) (documents : List Placed) (p : Parts) → IsPartOf self.now s documents p → result.now ≡ p.index }
+        ensures few { (s : Schema) (documents : List Placed) (p : Parts) → IsPartOf self.now s documents p → length result.now < 2 ^ 32 }
+        ensures exact { result.now ≡ self.now.footer.index }
+    {
+        self.footer.index()
     }
 
     /// How many documents the split has.
@@ -127,6 +137,22 @@ impl<'a> PartView<'a> {
     {
         let sections = self.footer.sections();
         cursor_over(self.pieces.as_slice(), &sections, info, positions)
+    }
+
+    /// A cursor over the documents of a term that gives no positions. `positions` says whether its list has positions.
+    pub fn documents_at(&self, info: &TermInfo, positions: bool) -> Result<Cursor<'a>, SplitError>
+        // Of a split of documents: the posting list of the term's key, unless no piece has its bytes. Positions are not asked for.
+        ensures only { (s : Schema) (documents : List Placed) (p : Parts) (key : List ℕ) → IsPartOf self.now s documents p
+            → lookup key (terms_of s documents p.keys) ≡ Some info.now → positions ≡ keeps_places s key
+            → LendsDocuments self.now.footer.layout.sections self.now.pieces info.now (posting_list s documents key) result }
+        // Where the pieces have every part.
+        ensures there { (s : Schema) (documents : List Placed) (p : Parts) (key : List ℕ) → IsPartOf self.now s documents p → HaveAll (file_bytes p) self.now.pieces
+            → lookup key (terms_of s documents p.keys) ≡ Some info.now → positions ≡ keeps_places s key → IsOk result }
+        // Over any bytes.
+        ensures exact { Gives walk result (documents_in self.now.footer.layout.sections self.now.pieces info.now positions) }
+    {
+        let sections = self.footer.sections();
+        documents_over(self.pieces.as_slice(), &sections, info, positions)
     }
 
     /// The column of the field with a number, which is None exactly where the schema has no fast field of that number.

@@ -10,7 +10,7 @@ ghost use Rattle.split_bundle.specs.declared.pieces.Section.TheVariants as parts
 ghost use Rattle.term_postings.specs.Reading.{walk};
 ghost use Rattle.fast_fields.specs.Readers.{parts};
 ghost use Rattle.split_bundle.specs.Reading.{Gives, total, column_among};
-ghost use Rattle.split_bundle.specs.Lending.{block_part, places_part, cursor_in, column_part, column_in, LendsCursor, LendsColumn, IsListAt, IsColumnAt};
+ghost use Rattle.split_bundle.specs.Lending.{block_part, places_part, cursor_in, documents_in, column_part, column_in, LendsCursor, LendsDocuments, LendsColumn, IsListAt, IsColumnAt};
 
 use crate::SplitError;
 use crate::footer::FOOTER;
@@ -84,6 +84,26 @@ pub(crate) fn cursor_over<'a>(
             Ok(places) => Ok(Cursor::over(lists, places, info.docs, positions)),
             Err(fault) => Err(fault),
         },
+        Err(fault) => Err(fault),
+    }
+}
+
+// A cursor over the list of a term, which gives no positions. `counted` says whether the list counts them.
+#[tactic(auto, unfolding(crate::specs::Lending::documents_in))]
+pub(crate) fn documents_over<'a>(
+    pieces: &[FilePiece<'a>],
+    sections: &Sections,
+    info: &TermInfo,
+    counted: bool,
+) -> Result<Cursor<'a>, SplitError>
+    requires { 4 + total sections.now < 2 ^ 64 }
+    ensures only { (p : Parts) (list : List Posting) → ArePieces (file_bytes p) pieces.now → sections.now ≡ sections_of p → IsListAt p info.now counted list
+        → LendsDocuments sections.now pieces.now info.now list result }
+    ensures exact { Gives walk result (documents_in sections.now pieces.now info.now counted) }
+{
+    let (at, len) = (info.postings, info.postings_len);
+    match section_part(pieces, sections, Section::Postings, at, len) {
+        Ok(lists) => Ok(Cursor::over(lists, &[], info.docs, counted)),
         Err(fault) => Err(fault),
     }
 }
