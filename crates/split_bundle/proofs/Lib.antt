@@ -17,3 +17,5 @@ pub mod WholeFiles
 pub mod TokenPlaces
 pub mod Light
 pub mod KeyCounts
+pub mod ViewsLent
+pub mod DictLent

@@ -16,7 +16,7 @@ ghost use Rattle.split_bundle.specs.declared.pieces.Section.TheVariants as secti
 
 use crate::documents::placed_in;
 use crate::footer::{Footer, check_head};
-use crate::parts::{block_between, column_of, cursor_over, documents_over};
+use crate::parts::{block_between, cursor_over, documents_over, fast_column};
 use crate::pieces::{FilePiece, Pieces, Section};
 use crate::{Placed, SplitError};
 use doc_value::Schema;
@@ -156,7 +156,6 @@ impl<'a> PartView<'a> {
     }
 
     /// The column of the field with a number, which is None exactly where the schema has no fast field of that number.
-    #[tactic(auto, unfolding(crate::specs::Lending::column_read))]
     pub fn column(&self, schema: &Schema, number: u32) -> Result<Option<Column<'a>>, SplitError>
         // Of a split of documents: the values of this field, unless no piece has the column's bytes.
         ensures only { (documents : List Placed) (p : Parts) → IsPartOf self.now schema.now documents p
@@ -167,27 +166,9 @@ impl<'a> PartView<'a> {
         // Over any bytes.
         ensures exact { Gives parts_of result (column_read schema.now self.now.footer.layout.sections self.now.pieces self.now.footer.bytes self.now.footer.layout.columns number) }
     {
-        if number as usize >= schema.fields.len() {
-            return Ok(None);
-        }
-        let field = schema.fields.at(number as usize);
-        if !field.fast {
-            return Ok(None);
-        }
-        let sections = self.footer.sections();
+        let pieces = self.pieces.as_slice();
         let footer = self.footer.bytes.as_slice();
-        let table = self.footer.layout.columns;
-        match column_of(
-            self.pieces.as_slice(),
-            &sections,
-            footer,
-            table,
-            field,
-            u64::from(number),
-        ) {
-            Ok(column) => Ok(Some(column)),
-            Err(fault) => Err(fault),
-        }
+        fast_column(pieces, &self.footer.layout, footer, schema, number)
     }
 
     /// The document with a number, read back from its bytes.
