@@ -1,5 +1,5 @@
 -- The whole dictionary is lent.
-use Rattle.std.proofs.Common.{◌≡◌, ℕ, ◌+◌, ◌≤◌, List, length, take, drop, Result, Ok, Err, refl, ap, ◌∙◌, arith}
+use Rattle.std.proofs.Common.{◌≡◌, ℕ, ◌+◌, List, length, Err, refl, ap, arith}
 use Rattle.std.proofs.lemmas.List.{take_all}
 use Rattle.split_bundle.specs.declared.layout.Sections.{Sections}
 use Rattle.split_bundle.specs.declared.pieces.FilePiece.{FilePiece}

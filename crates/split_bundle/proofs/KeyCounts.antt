@@ -1,6 +1,6 @@
 -- How many keys documents say, and how many blocks a split's dictionary has.
-use Rattle.std.proofs.Common.{◌≡◌, ℕ, suc, ◌+◌, ◌/◌, ◌<◌, ◌≤◌, ◌^◌, Bool, true, false, cond, ◌||◌, List, [], ◌∷◌, ◌++◌, length, refl, sym, ap, subst, ◌∙◌, arith, length-append}
-use Rattle.std.specs.Prelude.{◌==◌, Contains, IsTrue, if◌then◌else◌}
+use Rattle.std.proofs.Common.{◌≡◌, ℕ, suc, ◌+◌, ◌<◌, ◌≤◌, ◌^◌, Bool, true, false, ◌||◌, List, [], ◌∷◌, ◌++◌, length, refl, sym, ap, subst, ◌∙◌, arith, length-append}
+use Rattle.std.specs.Prelude.{◌==◌, Contains, if◌then◌else◌}
 use Rattle.std.specs.List.{flat_map, AllByRecursion}
 use Rattle.std.specs.Str.{bytes_eq}
 use Rattle.std.proofs.lemmas.Bool.{eqb-true}
@@ -19,12 +19,12 @@ use Rattle.term_dict.proofs.Areas.{varint_some}
 use Rattle.byte_fields.specs.Spelling.{varint}
 use Rattle.split_bundle.specs.declared.part_view.PartView.{PartView}
 use Rattle.split_bundle.specs.declared.placed.Placed.{Placed}
-use Rattle.split_bundle.specs.Documents.{value_bytes, field_bytes, weight, total_weight}
+use Rattle.split_bundle.specs.Documents.{value_bytes, field_bytes, total_weight}
 use Rattle.split_bundle.specs.Files.{Parts}
 use Rattle.split_bundle.specs.Keys.{Occurrence, of_tokens, of_value, of_values, of_presence, of_field, of_fields, keys_of}
 use Rattle.split_bundle.specs.Lending.{IsPartOf}
-use Rattle.split_bundle.specs.Lists.{has_key, stands_in, list_of, places_in, terms_from, terms_of}
-use Rattle.split_bundle.specs.Splits.{AreKeys, AreRising, IsSplitOf}
+use Rattle.split_bundle.specs.Lists.{has_key, stands_in, list_of, places_in, terms_from}
+use Rattle.split_bundle.specs.Splits.{AreKeys, AreRising}
 use Rattle.split_bundle.proofs.DocsAgain.{value_some}
 use Rattle.split_bundle.proofs.Light.{bytes_in, field_long, doc_light}
 use Rattle.split_bundle.proofs.TokenPlaces.{tokens_few}

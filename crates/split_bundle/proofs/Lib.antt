@@ -19,3 +19,4 @@ pub mod Light
 pub mod KeyCounts
 pub mod ViewsLent
 pub mod DictLent
+pub mod DocsFit

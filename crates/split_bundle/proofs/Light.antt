@@ -19,7 +19,7 @@ use Rattle.split_bundle.proofs.TokenPlaces.{AreBelow, tokens_below}
 
 -- ---- of many documents
 
-weighs : (documents : List Placed) → 257 * length documents ≤ total_weight documents
+pub weighs : (documents : List Placed) → 257 * length documents ≤ total_weight documents
 weighs [] = omega arith
 weighs (d ∷ ds) = omega (arith, weighs ds)
 
@@ -46,7 +46,7 @@ field_long f =
       length-append (varint (length f.values)) (flat_map value_bytes f.values),
     )
 
-values_within : (doc : List DocField) (n : ℕ) → bytes_in (values_in doc n) ≤ length (flat_map field_bytes doc)
+pub values_within : (doc : List DocField) (n : ℕ) → bytes_in (values_in doc n) ≤ length (flat_map field_bytes doc)
 values_within [] n = omega arith
 values_within (f ∷ fs) n = by (f.number == n) refl (values_within fs n)
   where
@@ -91,7 +91,7 @@ all_to : {X : Type 0} (P Q : X → Type 0) (xs : List X) → ((x : X) → P x �
 all_to P Q [] to all = tt
 all_to P Q (x ∷ xs) to all = (to x all.0, all_to P Q xs to all.1)
 
-are_light : (d : Placed) (n : ℕ) → weight d ≤ max_weight → AreLight (values_in d.doc n)
+pub are_light : (d : Placed) (n : ℕ) → weight d ≤ max_weight → AreLight (values_in d.doc n)
 are_light d n le =
     let less = values_light d n le in
     record { few = omega (arith, less, many value_bytes value_some (values_in d.doc n)); short = short_texts (values_in d.doc n) less }

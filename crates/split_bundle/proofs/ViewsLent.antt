@@ -1,8 +1,7 @@
 -- What the view of a whole file lends of a split of documents.
-use Rattle.std.proofs.Common.{◌≡◌, ℕ, ◌+◌, ◌≤◌, ◌<◌, Bool, true, false, List, [], ◌∷◌, length, Option, Some, None, Result, Ok, Err, refl, sym, ap, subst, ◌∙◌, arith, inl, inr}
+use Rattle.std.proofs.Common.{◌≡◌, ℕ, ◌+◌, ◌≤◌, Bool, true, false, List, [], length, Option, Some, None, Result, Ok, Err, refl, sym, ap, subst, ◌∙◌, arith, inl, inr}
 use Rattle.std.specs.Prelude.{IfOk, IsOk, IsOkAnd}
 use Rattle.std.specs.Borrow.{Bor}
-use Rattle.std.specs.List.{slice_get}
 use Rattle.doc_value.specs.declared.schema.Field.{Field}
 use Rattle.doc_value.specs.declared.schema.Schema.{Schema}
 use Rattle.byte_fields.specs.declared.corrupt.Corrupt.{Corrupt}
@@ -25,12 +24,12 @@ use Rattle.split_bundle.specs.Splits.{IsSplitOf}
 use Rattle.split_bundle.specs.Views.{IsLayoutOf}
 use Rattle.split_bundle.specs.Reading.{Laid, Gives, MayGive, of_section, laid_in, block_starts_at}
 use Rattle.split_bundle.specs.Pieces.{ArePieces}
-use Rattle.split_bundle.specs.Lending.{IsMissing, LendsCursor, LendsDocuments, LendsFast, LendsSome}
+use Rattle.split_bundle.specs.Lending.{LendsCursor, LendsDocuments, LendsFast, LendsSome}
 use Rattle.split_bundle.specs.DocLending.{LendsDoc, LendsPlaced}
 use Rattle.split_bundle.specs.SplitReading.{IsLaidOut}
-use Rattle.split_bundle.specs.Wholes.{HaveAll, IsWholePiece, IsThere}
+use Rattle.split_bundle.specs.Wholes.{HaveAll, IsWholePiece}
 use Rattle.split_bundle.specs.SplitViews.{IsViewOf, ReadsIndex, ReadsPlaced, GivesColumn, GivesFast, split_of, laid, whole_piece, pieces_of}
-use Rattle.split_bundle.proofs.Footers.{LaidStands, laid_stands, index_again, length-file}
+use Rattle.split_bundle.proofs.Footers.{laid_stands, index_again, length-file}
 use Rattle.split_bundle.proofs.WholeFiles.{head_of_file, all_held, whole_pieces, whole_ends, never_missing, placed_there}
 
 -- ---- the file is one piece

@@ -1,5 +1,5 @@
 -- Documents as programs hold them.
-use Rattle.std.specs.Prelude.{ℕ, ◌*◌, ◌^◌, ◌<◌, List, IsUtf8, ⊤}
+use Rattle.std.specs.Prelude.{◌^◌, ◌<◌, List, IsUtf8, ⊤}
 use Rattle.std.specs.List.{AllByRecursion}
 use Rattle.byte_fields.specs.Spelling.{zigzag}
 use Rattle.doc_value.specs.declared.doc.Value.{Value}

@@ -2,6 +2,7 @@
 
 ghost use Rattle.std.specs.Prelude.{◌≡◌, ◌≤◌, ◌<◌, ◌+◌, ◌-◌, ◌*◌, ◌^◌, List, ℕ, Some, length, slice_get, IfOk, IsOk};
 ghost use Rattle.doc_value.specs.declared.schema.Schema.{Schema};
+ghost use Rattle.doc_value.specs.Documents.{IsOfSchema};
 ghost use Rattle.term_dict.specs.Bounds.{block_terms};
 ghost use Rattle.term_dict.specs.Terms.{lookup};
 ghost use Rattle.term_postings.specs.Reading.{walk};
@@ -180,7 +181,8 @@ impl<'a> PartView<'a> {
         // Where the pieces have every part.
         ensures there { (documents : List Placed) (p : Parts) (d : Placed) → IsPartOf self.now schema.now documents p → HaveAll (file_bytes p) self.now.pieces
             → slice_get documents doc ≡ Some d → IsThere result }
-        // Over any bytes.
+        // Over any bytes: a document of the schema, or a fault.
+        ensures of_schema { IfOk result (λ d. IsOfSchema schema.now d.doc) }
         ensures exact { MayGive (λ d. d) result (placed_in schema.now.fields self.now.footer.layout self.now.footer.bytes self.now.pieces doc) }
     {
         let pieces = self.pieces.as_slice();

@@ -1,7 +1,8 @@
 //! A split file whose bytes are all there, read in place.
 
-ghost use Rattle.std.specs.Prelude.{◌≡◌, ◌≤◌, ◌<◌, ◌+◌, ◌^◌, List, ℕ, Some, length, slice_get, IsOkAnd, true, false, []};
+ghost use Rattle.std.specs.Prelude.{◌≡◌, ◌≤◌, ◌<◌, ◌+◌, ◌^◌, List, ℕ, Some, length, slice_get, IfOk, IsOkAnd, true, false, []};
 ghost use Rattle.doc_value.specs.declared.schema.Schema.{Schema};
+ghost use Rattle.doc_value.specs.Documents.{IsOfSchema};
 ghost use Rattle.term_dict.specs.declared.index.BlockStart.{BlockStart};
 ghost use Rattle.term_dict.specs.Terms.{lookup};
 ghost use Rattle.term_dict.specs.Readers.{IsOver};
@@ -132,7 +133,8 @@ impl<'a> SplitView<'a> {
         requires { doc < self.now.layout.docs }
         // Of a split of documents: this document, or want of memory.
         ensures only { (documents : List Placed) (p : Parts) (d : Placed) → IsViewOf self.now schema.now documents p → slice_get documents doc ≡ Some d → ReadsPlaced d result }
-        // Over any bytes.
+        // Over any bytes: a document of the schema, or a fault.
+        ensures of_schema { IfOk result (λ d. IsOfSchema schema.now d.doc) }
         ensures exact { MayGive (λ d. d) result (placed_in schema.now.fields self.now.layout self.now.footer.now (pieces_of self.now) doc) }
     {
         let pieces = [self.piece()];

@@ -1,4 +1,3 @@
-use Rattle.std.proofs.Common.{subst, sym, ap, ◌∙◌, ◌∷◌, []}
 use Rattle.split_bundle.specs.Lists.{terms_of}
 use Rattle.split_bundle.proofs.ViewsLent.{pieces_are, all_there}
 use Rattle.split_bundle.proofs.split_view.SplitView.dict.Goals as goal
