@@ -22,9 +22,10 @@ use Rattle.split_bundle.specs.Columns.{column_rows}
 use Rattle.split_bundle.specs.Files.{Parts, file_bytes, footer_bytes}
 use Rattle.split_bundle.specs.Splits.{IsSplitOf}
 use Rattle.split_bundle.specs.Views.{IsLayoutOf}
-use Rattle.split_bundle.specs.Reading.{Laid, Gives, MayGive, of_section, laid_in, block_starts_at}
+use Rattle.split_bundle.specs.Reading.{Laid, Gives, MayGive, and_then, of_section, laid_in, block_starts_at}
 use Rattle.split_bundle.specs.Pieces.{ArePieces}
 use Rattle.split_bundle.specs.Lending.{LendsCursor, LendsDocuments, LendsFast, LendsSome}
+use Rattle.split_bundle.specs.DocReading.{weight_in}
 use Rattle.split_bundle.specs.DocLending.{LendsDoc, LendsPlaced}
 use Rattle.split_bundle.specs.SplitReading.{IsLaidOut}
 use Rattle.split_bundle.specs.Wholes.{HaveAll, IsWholePiece}
@@ -78,6 +79,16 @@ doc_given file pieces starts at bytes (Ok found) (Ok b) starts_within within all
 doc_given file pieces starts at bytes (Ok found) (Err e) starts_within within all lends gives = absurd cc
 doc_given file pieces starts at bytes (Err e) r starts_within within all (inl missing) gives = absurd (never_missing file pieces starts 16 e all starts_within missing)
 doc_given file pieces starts at bytes (Err e) r starts_within within all (inr missing) gives = absurd (never_missing file pieces at (length bytes) e all within missing)
+
+abbrev got_weight : ℕ → Result ℕ SplitError
+got_weight n = Ok n
+
+-- its weight
+pub weight_given : (file : List ℕ) (pieces : List FilePiece) (starts at weight : ℕ) (bytes : List ℕ) (part : Result (List ℕ) SplitError) → starts + 16 ≤ length file → at + length bytes ≤ length file
+    → HaveAll file pieces → LendsDoc pieces starts at bytes part → weight_in bytes ≡ Ok weight → and_then part (λ found. of_section 1 (weight_in found)) ≡ got_weight weight
+weight_given file pieces starts at weight bytes (Ok found) starts_within within all lends is = ap (λ (l : List ℕ). of_section 1 (weight_in l)) lends ∙ ap (λ (x : Result ℕ Corrupt). of_section 1 x) is
+weight_given file pieces starts at weight bytes (Err e) starts_within within all (inl missing) is = absurd (never_missing file pieces starts 16 e all starts_within missing)
+weight_given file pieces starts at weight bytes (Err e) starts_within within all (inr missing) is = absurd (never_missing file pieces at (length bytes) e all within missing)
 
 pub placed_given : (file : List ℕ) (pieces : List FilePiece) (starts at len : ℕ) (d : Placed) (r : Result Placed SplitError) → starts + 16 ≤ length file → at + len ≤ length file → HaveAll file pieces
     → LendsPlaced pieces starts at len d r → ReadsPlaced d r

@@ -1,6 +1,6 @@
 //! A split file whose bytes are all there, read in place.
 
-ghost use Rattle.std.specs.Prelude.{◌≡◌, ◌≤◌, ◌<◌, ◌+◌, ◌^◌, List, ℕ, Some, length, slice_get, IfOk, IsOkAnd, true, false, []};
+ghost use Rattle.std.specs.Prelude.{◌≡◌, ◌≤◌, ◌<◌, ◌+◌, ◌^◌, List, ℕ, Some, length, slice_get, IfOk, IsOkAnd, Ok, true, false, []};
 ghost use Rattle.doc_value.specs.declared.schema.Schema.{Schema};
 ghost use Rattle.doc_value.specs.Documents.{IsOfSchema};
 ghost use Rattle.term_dict.specs.declared.index.BlockStart.{BlockStart};
@@ -9,12 +9,12 @@ ghost use Rattle.term_dict.specs.Readers.{IsOver};
 ghost use Rattle.term_postings.specs.Cursors.{StandsBefore};
 ghost use Rattle.term_postings.specs.Reading.{walk};
 ghost use Rattle.split_bundle.specs.declared.placed.Placed.{Placed};
-ghost use Rattle.split_bundle.specs.Documents.{placed_bytes};
+ghost use Rattle.split_bundle.specs.Documents.{placed_bytes, weight};
 ghost use Rattle.split_bundle.specs.Files.{Parts};
 ghost use Rattle.split_bundle.specs.Lists.{keeps_places, posting_list, terms_of};
 ghost use Rattle.split_bundle.specs.Reading.{Gives, MayGive, IsWithin, total, of_section, block_starts_at};
 
-use crate::documents::{doc_part, placed_in};
+use crate::documents::{doc_part, placed_in, weight_of};
 use crate::footer::read_index;
 use crate::layout::Layout;
 use crate::parts::{cursor_over, dict_over, documents_over, fast_column};
@@ -38,7 +38,7 @@ pub struct SplitView<'a> {
 
 impl<'a> SplitView<'a> {
     ghost use Rattle.split_bundle.specs.Lending.{cursor_in, documents_in, column_read, parts_of};
-    ghost use Rattle.split_bundle.specs.DocReading.{doc_part, placed_in};
+    ghost use Rattle.split_bundle.specs.DocReading.{doc_part, weight_of, placed_in};
     ghost use Rattle.split_bundle.specs.SplitReading.{dict_read};
     ghost use Rattle.split_bundle.specs.SplitViews.{IsViewOf, ReadsIndex, ReadsPlaced, GivesFast, whole_piece, pieces_of};
 
@@ -126,6 +126,17 @@ impl<'a> SplitView<'a> {
         ensures exact { Gives (λ b. b.now) result (doc_part self.now.layout (pieces_of self.now) doc) }
     {
         doc_part(&[self.piece()], &self.layout, doc)
+    }
+
+    /// What the document with a number weighs, by the length of its bytes.
+    pub fn doc_weight(&self, doc: u32) -> Result<u64, SplitError>
+        requires { doc < self.now.layout.docs }
+        // Of a split of documents: the weight of this document.
+        ensures only { (s : Schema) (documents : List Placed) (p : Parts) (d : Placed) → IsViewOf self.now s documents p → slice_get documents doc ≡ Some d → result ≡ Ok (weight d) }
+        // Over any bytes.
+        ensures exact { result ≡ weight_of self.now.layout (pieces_of self.now) doc }
+    {
+        weight_of(&[self.piece()], &self.layout, doc)
     }
 
     /// The document with a number, read back from its bytes.
