@@ -1,5 +1,5 @@
 -- What is read of a document's bytes, from left to right, up to the first fault that is met.
-use Rattle.std.specs.Prelude.{◌≡◌, ℕ, zero, suc, ◌+◌, ◌-◌, ◌*◌, Bool, ◌&&◌, List, [], ◌∷◌, length, Option, Some, None, Result, Ok, Err, nat_lt, nat_le, ◌==◌, slice_get, ⊤, if◌then◌else◌}
+use Rattle.std.specs.Prelude.{◌≡◌, ℕ, zero, suc, ◌+◌, ◌-◌, ◌*◌, ◌^◌, min, Bool, ◌&&◌, List, [], ◌∷◌, length, Option, Some, None, Result, Ok, Err, nat_lt, nat_le, ◌==◌, slice_get, ⊤, if◌then◌else◌}
 use Rattle.std.specs.List.{list_all}
 use Rattle.byte_fields.specs.declared.corrupt.Corrupt.{Corrupt}
 use Rattle.byte_fields.specs.Steps.{◌>>=◌, corrupt_at, field, number_at}
@@ -129,6 +129,14 @@ unfoldable pub doc_part : Layout → List FilePiece → ℕ → Result (List ℕ
 doc_part layout pieces number =
     and_then (section_part Documents layout.sections pieces (8 * number) 16) (λ starts. and_then (of_section 1 (bounds_in starts))
     (λ bounds. section_part Documents layout.sections pieces (8 * (layout.docs + 1) + bounds.0) (bounds.1 - bounds.0)))
+
+-- what a document of these bytes weighs: what stands behind the place of its partition, and 257, as far as 64 bits count
+unfoldable pub weight_in : List ℕ → Result ℕ Corrupt
+weight_in bytes = number_at bytes 0 >>= λ place. Ok (min (length bytes - place.1 + 257) (2 ^ 64 - 1))
+
+-- what the document with a number weighs
+unfoldable pub weight_of : Layout → List FilePiece → ℕ → Result ℕ SplitError
+weight_of layout pieces number = and_then (doc_part layout pieces number) (λ bytes. of_section 1 (weight_in bytes))
 
 -- the document with a number
 unfoldable pub placed_in : List Field → Layout → List ℕ → List FilePiece → ℕ → Result Placed SplitError

@@ -1,5 +1,5 @@
 -- The documents of a split in bytes.
-use Rattle.std.specs.Prelude.{ℕ, suc, ◌+◌, Bool, List, [], ◌∷◌, ◌++◌, length, if◌then◌else◌}
+use Rattle.std.specs.Prelude.{ℕ, suc, ◌+◌, List, [], ◌∷◌, ◌++◌, length, if◌then◌else◌}
 use Rattle.std.specs.List.{flat_map}
 use Rattle.std.specs.Str.{bytes_eq}
 use Rattle.byte_fields.specs.Spelling.{varint, signed, byte_string, flag, eight}
@@ -36,6 +36,11 @@ placed_bytes partitions p = varint (place_among partitions p.partition) ++ (vari
 -- a document's weight: its length, with the partition's place counted as one byte, and 256
 abbrev pub weight : Placed → ℕ
 weight p = 1 + length (varint p.offset ++ doc_bytes p.doc) + 256
+
+-- what documents weigh together
+abbrev pub total_weight : List Placed → ℕ
+total_weight [] = 0
+total_weight (p ∷ ps) = weight p + total_weight ps
 
 -- where each document starts behind a place, and where the last one ends
 abbrev pub starts : ℕ → List (List ℕ) → List ℕ

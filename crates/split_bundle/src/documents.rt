@@ -3,7 +3,7 @@
 ghost use Rattle.std.specs.Prelude.{◌≡◌, ◌≤◌, ◌<◌, ◌+◌, ◌*◌, ◌^◌, length, IfOk};
 ghost use Rattle.byte_fields.specs.Steps.{Gives as Reads};
 ghost use Rattle.split_bundle.specs.Reading.{Gives, MayGive, IsWithin, of_section, total};
-ghost use Rattle.split_bundle.specs.DocReading.{MayRead, text_value_at, value_at, values_at, may_have, kind_at, doc_field_at, doc_fields_at, stored_in, bounds_in, name_at, partition_in, doc_part, placed_in};
+ghost use Rattle.split_bundle.specs.DocReading.{MayRead, text_value_at, value_at, values_at, may_have, kind_at, doc_field_at, doc_fields_at, stored_in, bounds_in, name_at, partition_in, doc_part, weight_in, weight_of, placed_in};
 
 use crate::footer::FOOTER;
 use crate::layout::{Entry, Layout, Table, entries_behind};
@@ -15,6 +15,9 @@ use byte_fields::{
 use doc_value::{Doc, DocField, Fields, Kind, Text, Value, Values};
 use source_checkpoint::Partition;
 use std::alloc::{AllocError, Global};
+
+// What a document weighs beside its bytes behind the place of its partition: one byte for that place, and 256.
+const WEIGHT_BESIDE: u64 = 257;
 
 /// Why a document was not read.
 #[derive(Debug, Drop)]
@@ -313,6 +316,35 @@ pub(crate) fn doc_part<'a>(
             let from = area.saturating_add(start);
             section_part(pieces, sections, Section::Documents, from, end - start)
         }
+        Err(_fault) => Err(SplitError::BadSection {
+            number: Section::Documents.number(),
+        }),
+    }
+}
+
+// What a document of these bytes weighs.
+#[tactic(auto, unfolding(crate::specs::DocReading::weight_in))]
+fn weight_in(bytes: &[u8]) -> Result<u64, Corrupt>
+    ensures { result ≡ weight_in bytes.now }
+{
+    let (_place, behind) = take_varint(bytes, 0)?;
+    let len = (bytes.len() - behind) as u64;
+    Ok(len.saturating_add(WEIGHT_BESIDE))
+}
+
+// What the document with a number weighs.
+#[tactic(auto, unfolding(crate::specs::DocReading::weight_of))]
+pub(crate) fn weight_of(
+    pieces: &[FilePiece<'_>],
+    layout: &Layout,
+    number: u32,
+) -> Result<u64, SplitError>
+    requires { 4 + total layout.now.sections < 2 ^ 64 }
+    ensures { result ≡ weight_of layout.now pieces.now number }
+{
+    let bytes = doc_part(pieces, layout, number)?;
+    match weight_in(bytes) {
+        Ok(weight) => Ok(weight),
         Err(_fault) => Err(SplitError::BadSection {
             number: Section::Documents.number(),
         }),

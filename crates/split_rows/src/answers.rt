@@ -1,5 +1,6 @@
 //! What is asked of a file, and the answers.
 
+use crate::whole::{counted, whole};
 use doc_value::{Schema, Value};
 use split_bundle::{Footer, PartView, Placed, SplitError};
 use std::alloc::{AllocError, Global};
@@ -15,9 +16,13 @@ pub fn answer(
     if let Some(word) = line.strip_prefix("word ") {
         return told(alloc, word_in(alloc, file, word));
     }
+    if let Some(word) = line.strip_prefix("count ") {
+        return told(alloc, counted(alloc, file, word));
+    }
     match line {
         "read" => told(alloc, parts(alloc, file)),
         "documents" => told(alloc, documents(alloc, schema, file)),
+        "whole" => told(alloc, whole(alloc, schema, file)),
         "level" => told(alloc, level(alloc, schema, file)),
         "cuts" => cuts(alloc, file),
         "flips" => flips(alloc, schema, file),

@@ -4,6 +4,7 @@
 mod answers;
 mod digits;
 mod fields;
+mod whole;
 
 use std::io;
 

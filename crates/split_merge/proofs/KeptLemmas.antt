@@ -1,0 +1,142 @@
+-- Places that rise, and documents that are kept one after the other.
+use Rattle.std.proofs.Common.{◌≡◌, ℕ, zero, suc, ◌+◌, ◌<◌, ◌≤◌, Bool, true, false, ◌||◌, List, [], ◌∷◌, ◌++◌, length, drop, Option, Some, None, Err, refl, sym, ap, subst, ◌∙◌, arith, append_assoc, length-append, eq-eqb}
+use Rattle.std.specs.Prelude.{◌==◌, slice_get, if◌then◌else◌}
+use Rattle.std.specs.List.{AllByRecursion}
+use Rattle.std.proofs.lemmas.Bool.{ne_eqb}
+use Rattle.doc_value.specs.declared.schema.Schema.{Schema}
+use Rattle.split_bundle.specs.declared.placed.Placed.{Placed}
+use Rattle.split_bundle.specs.declared.split_view.SplitView.{SplitView}
+use Rattle.split_bundle.specs.declared.split_error.SplitError.{SplitError}
+use Rattle.split_bundle.specs.declared.split_error.SplitError.TheVariants as split
+use Rattle.split_merge.specs.Merging.{HasCause, IsWant, ReadsAll, fault_of}
+use Rattle.split_merge.specs.Keeping.{is_named, kept_from, joined, RiseFrom, ViewsSplit, AreViewsOf}
+
+-- ---- places
+
+-- a place before places that rise is not one of them
+pub named_ahead : (least place : ℕ) (ps : List ℕ) → RiseFrom least ps → place < least → is_named place ps ≡ false
+named_ahead least place [] rise lt = refl
+named_ahead least place (p ∷ ps) rise lt =
+    let apart : p ≡ place → ⊥ = λ e. absurd (omega (arith, e, rise.0)) in
+    rw (ne_eqb p place apart) (named_ahead (suc p) place ps rise.1 (omega (arith, rise.0)))
+
+pub rise_weaker : (a b : ℕ) (ps : List ℕ) → a ≤ b → RiseFrom b ps → RiseFrom a ps
+rise_weaker a b [] le rise = tt
+rise_weaker a b (p ∷ ps) le rise = (omega (arith, rise.0), rise.1)
+
+-- the first of some places is that of the next document
+module _ (place first : ℕ) (places behind : List ℕ) (is : places ≡ first ∷ behind) (rise : RiseFrom place places) where
+  here : RiseFrom place (first ∷ behind)
+  here = subst (RiseFrom place) is rise
+
+  pub first_named : first ≡ place → true ≡ is_named place places
+  first_named e = rw (is, eq-eqb first place e) refl
+
+  pub first_rise : first ≡ place → RiseFrom (place + 1) behind
+  first_rise e = let next : suc first ≡ place + 1 = omega (arith, e) in subst (λ (n : ℕ). RiseFrom n behind) next here.1
+
+  pub first_same : first ≡ place → (m : ℕ) → place < m → is_named m behind ≡ is_named m places
+  first_same e m lt = let apart : first ≡ m → ⊥ = λ same. absurd (omega (arith, e, same)) in rw (is, ne_eqb first m apart) refl
+
+  pub other_named : (first ≡ place → ⊥) → false ≡ is_named place places
+  other_named apart = rw (is, ne_eqb first place apart) (sym (named_ahead (suc first) place behind here.1 (omega (arith, here.0))))
+
+  pub other_rise : (first ≡ place → ⊥) → RiseFrom (place + 1) places
+  other_rise apart = subst (RiseFrom (place + 1)) (sym is) (omega (arith, here.0, apart), here.1)
+
+-- ---- documents
+
+-- the same places from one on
+pub kept_same : (place : ℕ) (a b : List ℕ) (ds : List Placed) → ((m : ℕ) → place ≤ m → is_named m a ≡ is_named m b) → kept_from place a ds ≡ kept_from place b ds
+kept_same place a b [] same = refl
+kept_same place a b (d ∷ ds) same = rw (same place (omega arith), kept_same (suc place) a b ds (λ m le. same m (omega arith))) refl
+
+pub kept_append : (place : ℕ) (dropped : List ℕ) (xs ys : List Placed) → kept_from place dropped (xs ++ ys) ≡ kept_from place dropped xs ++ kept_from (place + length xs) dropped ys
+kept_append place dropped [] ys = let none : place ≡ place + 0 = omega arith in ap (λ (n : ℕ). kept_from n dropped ys) none
+kept_append place dropped (x ∷ xs) ys =
+    by (is_named place dropped) (kept_append (suc place) dropped xs ys ∙ ap (λ (n : ℕ). kept_from (suc place) dropped xs ++ kept_from n dropped ys) next)
+  where
+    next : suc place + length xs ≡ place + length (x ∷ xs)
+    next = omega arith
+
+    by : (b : Bool) → kept_from (suc place) dropped (xs ++ ys) ≡ kept_from (suc place) dropped xs ++ kept_from (place + length (x ∷ xs)) dropped ys
+        → (if b then kept_from (suc place) dropped (xs ++ ys) else x ∷ kept_from (suc place) dropped (xs ++ ys))
+        ≡ (if b then kept_from (suc place) dropped xs else x ∷ kept_from (suc place) dropped xs) ++ kept_from (place + length (x ∷ xs)) dropped ys
+    by true rest = rest
+    by false rest = ap (λ (l : List Placed). x ∷ l) rest
+
+-- a document more was taken, or dropped
+pub kept_step : (place : ℕ) (rest behind : List ℕ) (named : Bool) (before now whole ds : List Placed) (d : Placed) → named ≡ is_named place rest → ((m : ℕ) → place < m → is_named m behind ≡ is_named m rest)
+    → now ≡ before ++ (if named then [] else d ∷ []) → before ++ kept_from place rest (d ∷ ds) ≡ whole → now ++ kept_from (place + 1) behind ds ≡ whole
+kept_step place rest behind named before now whole ds d is same now_is so_far =
+    let next : place + 1 ≡ suc place = omega arith in
+    let later : kept_from (place + 1) behind ds ≡ kept_from (suc place) rest ds = ap (λ (n : ℕ). kept_from n behind ds) next ∙ kept_same (suc place) behind rest ds (λ m le. same m (omega arith)) in
+    ap (λ (l : List Placed). l ++ kept_from (place + 1) behind ds) now_is ∙ ap (λ (l : List Placed). (before ++ (if named then [] else d ∷ [])) ++ l) later
+    ∙ by named (ap (λ (b : Bool). before ++ (if b then kept_from (suc place) rest ds else d ∷ kept_from (suc place) rest ds)) is ∙ so_far)
+  where
+    by : (b : Bool) → before ++ (if b then kept_from (suc place) rest ds else d ∷ kept_from (suc place) rest ds) ≡ whole → (before ++ (if b then [] else d ∷ [])) ++ kept_from (suc place) rest ds ≡ whole
+    by true e = append_assoc before [] (kept_from (suc place) rest ds) ∙ e
+    by false e = append_assoc before (d ∷ []) (kept_from (suc place) rest ds) ∙ e
+
+-- the documents of a split more were taken
+pub view_step : (place after : ℕ) (rest behind : List ℕ) (before now whole ds more : List Placed) → after ≡ place + length ds → ((m : ℕ) → after < m + 1 → is_named m behind ≡ is_named m rest)
+    → now ≡ before ++ kept_from place rest ds → before ++ kept_from place rest (ds ++ more) ≡ whole → now ++ kept_from after behind more ≡ whole
+view_step place after rest behind before now whole ds more after_is same now_is so_far =
+    let later : kept_from after behind more ≡ kept_from (place + length ds) rest more = kept_same after behind rest more (λ m le. same m (omega arith)) ∙ ap (λ (n : ℕ). kept_from n rest more) after_is in
+    ap (λ (l : List Placed). l ++ kept_from after behind more) now_is ∙ ap (λ (l : List Placed). (before ++ kept_from place rest ds) ++ l) later
+    ∙ append_assoc before (kept_from place rest ds) (kept_from (place + length ds) rest more) ∙ ap (λ (l : List Placed). before ++ l) (sym (kept_append place rest ds more)) ∙ so_far
+
+-- the element at a place, and those behind it
+pub drop_at : {X : Type 0} (xs : List X) (i : ℕ) → i < length xs → (x : X) × (slice_get xs i ≡ Some x) × (drop i xs ≡ x ∷ drop (i + 1) xs)
+drop_at [] i lt = absurd (omega arith)
+drop_at (x ∷ xs) zero lt = (x, refl, refl)
+drop_at (x ∷ xs) (suc i) lt = let more = drop_at xs i (omega arith) in let next : suc i + 1 ≡ suc (i + 1) = omega arith in (more.0, more.1, more.2 ∙ ap (λ (n : ℕ). more.0 ∷ drop n (x ∷ xs)) (sym next))
+
+-- ---- views
+
+-- what stands at a place among the views
+pub record AtView (s : Schema) (v : SplitView) (lists : List (List Placed)) (i : ℕ) : Type 0 where
+  pub documents : List Placed
+  pub views : ViewsSplit s v documents
+  pub parts : drop i lists ≡ documents ∷ drop (i + 1) lists
+
+some_is : (x y : SplitView) → ◌≡◌ {A = Option SplitView} (Some x) (Some y) → x ≡ y
+some_is x y e = cc
+
+pub at_view : (s : Schema) (vs : List SplitView) (lists : List (List Placed)) (i : ℕ) (v : SplitView) → AreViewsOf s vs lists → slice_get vs i ≡ Some v → AtView s v lists i
+at_view s [] lists i v are is = absurd cc
+at_view s (w ∷ vs) [] i v are is = absurd are
+at_view s (w ∷ vs) (ds ∷ dss) zero v are is = record { documents = ds; views = subst (λ (x : SplitView). ViewsSplit s x ds) (some_is w v is) are.0; parts = refl }
+at_view s (w ∷ vs) (ds ∷ dss) (suc i) v are is =
+    let more = at_view s vs dss i v are.1 is in
+    let next : suc i + 1 ≡ suc (i + 1) = omega arith in
+    record { documents = more.documents; views = more.views; parts = more.parts ∙ ap (λ (n : ℕ). more.documents ∷ drop n (ds ∷ dss)) (sym next) }
+
+pub views_end : (s : Schema) (vs : List SplitView) (lists : List (List Placed)) (i : ℕ) → AreViewsOf s vs lists → i ≡ length vs → drop i lists ≡ []
+views_end s [] [] i are e = let none : i ≡ 0 = e in rw none refl
+views_end s [] (ds ∷ dss) i are e = absurd are
+views_end s (w ∷ vs) [] i are e = absurd are
+views_end s (w ∷ vs) (ds ∷ dss) i are e = ap (λ (n : ℕ). drop n (ds ∷ dss)) e ∙ views_end s vs dss (length vs) are.1 refl
+
+-- ---- each is of the schema
+
+pub all_push : {X : Type 0} (P : X → Type 0) (xs : List X) (x : X) → AllByRecursion P xs → P x → AllByRecursion P (xs ++ x ∷ [])
+all_push P [] x all here = (here, tt)
+all_push P (y ∷ ys) x all here = (all.0, all_push P ys x all.1 here)
+
+-- ---- faults
+
+pub fault_reads : (documents : List Placed) (number : ℕ) (e : SplitError) → IsWant e → ReadsAll documents (Err (fault_of number e))
+fault_reads documents number (split.Memory a) want = tt
+fault_reads documents number split.BadMagic want = want
+fault_reads documents number (split.Truncated at) want = want
+fault_reads documents number (split.BadSection section) want = want
+fault_reads documents number (split.BadVersion version) want = want
+
+-- a fault of a view that is of a split of documents is want of memory
+pub fault_cause : (s : Schema) (views : List SplitView) (number : ℕ) (v : SplitView) (e : SplitError) → slice_get views number ≡ Some v → ((documents : List Placed) → ViewsSplit s v documents → IsWant e) → HasCause s views (fault_of number e)
+fault_cause s views number v (split.Memory a) is only = tt
+fault_cause s views number v split.BadMagic is only = record { view = v; is_there = is; is_none = only }
+fault_cause s views number v (split.Truncated at) is only = record { view = v; is_there = is; is_none = only }
+fault_cause s views number v (split.BadSection section) is only = record { view = v; is_there = is; is_none = only }
+fault_cause s views number v (split.BadVersion version) is only = record { view = v; is_there = is; is_none = only }

@@ -1,0 +1,14 @@
+use Rattle.std.proofs.Common.{◌≡◌, ℕ, ◌+◌, ◌*◌, ◌≤◌, ◌<◌, ◌^◌, List, ◌++◌, drop}
+use Rattle.std.specs.List.{AllByRecursion}
+use Rattle.doc_value.specs.Documents.{IsOfSchema}
+use Rattle.split_bundle.specs.declared.placed.Placed.{Placed}
+use Rattle.split_merge.specs.Keeping.{is_named, kept_from, kept, joined, RiseFrom, AreViewsOf}
+use Rattle.split_merge.proofs.keeping.kept_documents.Given as goal
+
+abbrev pub invariant-loop-number : goal.invariant-loop-number
+invariant-loop-number l = record {
+  room : l.first ≤ l.number * 2 ^ 32;
+  rise : RiseFrom l.first l.rest;
+  only : (lists : List (List Placed)) → AreViewsOf l.schema l.views lists → l.list ++ kept_from l.first l.rest (joined (drop l.number lists)) ≡ kept l.dropped (joined lists);
+  of_schema : AllByRecursion (λ d. IsOfSchema l.schema d.doc) l.list;
+}

@@ -1,0 +1,52 @@
+-- What merging gives, and why it gives none.
+use Rattle.std.specs.Prelude.{◌≡◌, ℕ, List, Option, Some, Result, Ok, Err, slice_get, ⊤}
+use Rattle.doc_value.specs.declared.schema.Schema.{Schema}
+use Rattle.split_bundle.specs.declared.placed.Placed.{Placed}
+use Rattle.split_bundle.specs.declared.split_error.SplitError.{SplitError}
+use Rattle.split_bundle.specs.declared.split_error.SplitError.TheVariants as split
+use Rattle.split_bundle.specs.declared.split_view.SplitView.{SplitView}
+use Rattle.split_merge.specs.declared.merge_error.MergeError.{MergeError}
+use Rattle.split_merge.specs.declared.merge_error.MergeError.TheVariants.{Memory, Split, Build}
+use Rattle.split_merge.specs.Keeping.{ViewsSplit}
+
+-- want of memory
+abbrev pub IsWant : SplitError → Type 0
+IsWant (split.Memory a) = ⊤
+IsWant split.BadMagic = ⊥
+IsWant (split.Truncated at) = ⊥
+IsWant (split.BadSection section) = ⊥
+IsWant (split.BadVersion version) = ⊥
+
+-- what a fault of the view with a number is to the merge
+abbrev pub fault_of : ℕ → SplitError → MergeError
+fault_of number (split.Memory a) = Memory a
+fault_of number split.BadMagic = Split number split.BadMagic
+fault_of number (split.Truncated at) = Split number (split.Truncated at)
+fault_of number (split.BadSection section) = Split number (split.BadSection section)
+fault_of number (split.BadVersion version) = Split number (split.BadVersion version)
+
+-- these documents were read, or memory was wanting
+abbrev pub ReadsAll : List Placed → Result (List Placed) MergeError → Type 0
+ReadsAll documents (Ok found) = found ≡ documents
+ReadsAll documents (Err (Memory a)) = ⊤
+ReadsAll documents (Err (Split view e)) = ⊥
+ReadsAll documents (Err (Build e)) = ⊥
+
+-- some view is of no split of documents, and its bytes have a fault
+pub record IsFaulty (s : Schema) (views : List SplitView) (number : ℕ) : Type 0 where
+  pub view : SplitView
+  pub is_there : slice_get views number ≡ Some view
+  pub is_none : (documents : List Placed) → ViewsSplit s view documents → ⊥
+
+abbrev pub HasFault : Schema → List SplitView → ℕ → SplitError → Type 0
+HasFault s views number (split.Memory a) = ⊥
+HasFault s views number split.BadMagic = IsFaulty s views number
+HasFault s views number (split.Truncated at) = IsFaulty s views number
+HasFault s views number (split.BadSection section) = IsFaulty s views number
+HasFault s views number (split.BadVersion version) = IsFaulty s views number
+
+-- a split is named only where it is of no documents
+abbrev pub HasCause : Schema → List SplitView → MergeError → Type 0
+HasCause s views (Memory a) = ⊤
+HasCause s views (Split number e) = HasFault s views number e
+HasCause s views (Build e) = ⊤

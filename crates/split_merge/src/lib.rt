@@ -1,0 +1,7 @@
+//! A split made of splits: their documents one behind another, without those that are dropped.
+#![tactic(auto)]
+
+mod keeping;
+mod merge_error;
+
+pub use merge_error::MergeError;
