@@ -1,6 +1,5 @@
 pub mod SaidLemmas
 pub mod WalkLemmas
-pub mod TokenPlaces
 pub mod DocumentLemmas
 pub mod PostedLemmas
 pub mod PlacesLemmas

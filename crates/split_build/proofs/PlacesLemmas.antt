@@ -22,7 +22,7 @@ use Rattle.split_bundle.specs.Keys.{Occurrence, field_key, presence_key, value_p
 use Rattle.split_bundle.specs.Lists.{places_of, keeps_places}
 use Rattle.split_build.specs.Walks.{IsShort, AreShort, IsShortDoc}
 use Rattle.split_build.proofs.SaidLemmas.{eq_false}
-use Rattle.split_build.proofs.TokenPlaces.{TokensRise, AreBelow, tokens_rise, tokens_below}
+use Rattle.split_bundle.proofs.TokenPlaces.{TokensRise, AreBelow, tokens_rise, tokens_below}
 
 -- numbers from a first one on and below a last one, each above the one before
 abbrev pub RiseWithin : ℕ → ℕ → List ℕ → Type 0

@@ -21,7 +21,7 @@ use Rattle.split_bundle.specs.declared.documents.Stored.{Stored}
 use Rattle.split_bundle.specs.declared.placed.Placed.{Placed}
 use Rattle.split_bundle.specs.Documents.{value_bytes, field_bytes, place_among, placed_bytes}
 use Rattle.split_bundle.specs.DocReading.{text_value_at, value_at, values_at, may_have, kind_at, doc_field_at, doc_fields_at, stored_in}
-use Rattle.split_bundle.specs.DocLending.{IsHeldValue, AreHeld, IsHeld}
+use Rattle.split_bundle.specs.Held.{IsHeldValue, AreHeld, IsHeld}
 use Rattle.split_bundle.proofs.Spelled.{number_again, fits_in}
 
 -- ---- a value
@@ -52,7 +52,7 @@ module _ (bytes : List ℕ) (short : length bytes < 2 ^ 64) (at : ℕ) (rest : L
   value_again kinds.Datetime (values.Datetime z) is held e = rw (signed_again bytes at z rest held e) refl
   value_again kind v is held e = absurd is
 
-value_some : (v : Value) → 0 < length (value_bytes v)
+pub value_some : (v : Value) → 0 < length (value_bytes v)
 value_some (values.Text t) = omega (arith, varint_some (length t), length-append (varint (length t)) t)
 value_some (values.I64 z) = varint_some (zigzag z)
 value_some (values.U64 n) = varint_some n
@@ -60,7 +60,7 @@ value_some (values.Bool b) = omega (arith, length-flag b)
 value_some (values.Datetime z) = varint_some (zigzag z)
 
 -- items that each have bytes are not more than these
-many : {X : Type 0} (spelled : X → List ℕ) → ((x : X) → 0 < length (spelled x)) → (xs : List X) → length xs ≤ length (flat_map spelled xs)
+pub many : {X : Type 0} (spelled : X → List ℕ) → ((x : X) → 0 < length (spelled x)) → (xs : List X) → length xs ≤ length (flat_map spelled xs)
 many spelled some [] = omega arith
 many spelled some (x ∷ xs) = omega (arith, some x, many spelled some xs, length-append (spelled x) (flat_map spelled xs))
 

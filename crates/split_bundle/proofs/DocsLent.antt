@@ -26,7 +26,8 @@ use Rattle.split_bundle.specs.Reading.{MayGive, and_then, of_section}
 use Rattle.split_bundle.specs.Pieces.{section_part, size_of, ArePieces, LendsPart}
 use Rattle.split_bundle.specs.Lending.{IsMissing}
 use Rattle.split_bundle.specs.DocReading.{bounds_in, stored_in, partition_in, doc_part, placed_in}
-use Rattle.split_bundle.specs.DocLending.{IsHeld, LendsDoc, LendsPlaced, starts_place, doc_place}
+use Rattle.split_bundle.specs.Held.{IsHeld}
+use Rattle.split_bundle.specs.DocLending.{LendsDoc, LendsPlaced, starts_place, doc_place}
 use Rattle.split_bundle.proofs.Lent.{lent_of}
 use Rattle.split_bundle.proofs.SectionBytes.{section_within}
 use Rattle.split_bundle.proofs.Footers.{length-file}
@@ -121,7 +122,7 @@ placed_by : (pieces : List FilePiece) (starts at : ℕ) (bytes : List ℕ) (d : 
 placed_by pieces starts at bytes d read (Ok found) lends all r gives = gives_ok pieces starts at (length bytes) d r (read found) (ap read lends ∙ all) gives
 placed_by pieces starts at bytes d read (Err e) lends all r gives = gives_missing pieces starts at (length bytes) d e r lends gives
 
-all_at : {X : Type 0} (P : X → Type 0) (xs : List X) (number : ℕ) (x : X) → AllByRecursion P xs → slice_get xs number ≡ Some x → P x
+pub all_at : {X : Type 0} (P : X → Type 0) (xs : List X) (number : ℕ) (x : X) → AllByRecursion P xs → slice_get xs number ≡ Some x → P x
 all_at P [] number x all here = absurd cc
 all_at P (y ∷ ys) zero x all here = subst P (some_is y x here) all.0
 all_at P (y ∷ ys) (suc k) x all here = all_at P ys k x all.1 here
@@ -175,18 +176,19 @@ module _ (s : Schema) (documents : List Placed) (p : Parts) (is : IsSplitOf s do
   abbrev read : List ℕ → List ℕ → Result Placed SplitError
   read footer found = and_then (of_section 1 (stored_in s.fields found)) (λ stored. and_then (partition_in footer layout.partitions stored.place) (λ name. Ok (record { partition = name; offset = stored.offset; doc = stored.doc })))
 
-  doc_read : IsHeld d → read (footer_bytes p) bytes ≡ got_placed d
-  doc_read held =
+  doc_read : read (footer_bytes p) bytes ≡ got_placed d
+  doc_read =
       let among = partition_stands documents p.partitions number d is.partitions here in
       let place : place_among p.partitions d.partition < 2 ^ 64 = omega (arith, slice_get_within p.partitions (place_among p.partitions d.partition) d.partition among, is.numbers.partitions) in
       let of_schema = all_at (λ (x : Placed). IsOfSchema s x.doc) documents number d is.are_documents.of_schema here in
+      let held = all_at IsHeld documents number d is.are_documents.held here in
       let stored = stored_again s p.partitions d is.are_documents.schema of_schema held place (omega (arith, fits)) in
       let short : length (footer_bytes p) < 2 ^ 64 = omega (arith, length-file p, is.size) in
       let name = partition_again (footer_bytes p) short layout.partitions p.partitions (place_among p.partitions d.partition) d.partition laid.partitions is.partitions.names among in
       rw (stored, name) refl
 
-  pub placed_lent : (footer : List ℕ) → footer ≡ footer_bytes p → IsHeld d → (r : Result Placed SplitError) → MayGive {X = Placed} (λ x. x) r (placed_in s.fields layout footer pieces number)
+  pub placed_lent : (footer : List ℕ) → footer ≡ footer_bytes p → (r : Result Placed SplitError) → MayGive {X = Placed} (λ x. x) r (placed_in s.fields layout footer pieces number)
       → LendsPlaced pieces (starts_place number) (doc_place p documents number) (length bytes) d r
   unfolding placed_in
-  placed_lent footer same held r gives =
-      placed_by pieces (starts_place number) (doc_place p documents number) bytes d (read footer) (doc_part layout pieces number) doc_lent (ap (λ (l : List ℕ). read l bytes) same ∙ doc_read held) r gives
+  placed_lent footer same r gives =
+      placed_by pieces (starts_place number) (doc_place p documents number) bytes d (read footer) (doc_part layout pieces number) doc_lent (ap (λ (l : List ℕ). read l bytes) same ∙ doc_read) r gives

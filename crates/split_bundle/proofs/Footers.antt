@@ -16,12 +16,12 @@ use Rattle.split_bundle.specs.declared.split_error.SplitError.{SplitError}
 use Rattle.split_bundle.specs.declared.split_error.SplitError.TheVariants.{Memory, BadMagic, BadSection, BadVersion, Truncated}
 use Rattle.split_bundle.specs.Files.{Parts, head, foot, ending, sections_bytes, footer_bytes, file_bytes, block_bytes}
 use Rattle.split_bundle.specs.Splits.{IsSplitOf}
-use Rattle.split_bundle.specs.Reading.{Held, MayGive, footer_of, block_start_at, block_starts_at, total}
+use Rattle.split_bundle.specs.Reading.{Held, Laid, MayGive, laid_in, footer_of, block_start_at, block_starts_at, total}
 use Rattle.split_bundle.specs.Views.{held, sections_of, IsLayoutOf, IsEndOf, ReadsFooter, ReadsCut, cut_at}
 use Rattle.split_bundle.proofs.Spelled.{number_again, fits_in, layout_again}
 use Rattle.split_bundle.proofs.Ends.{footer_found, footer_cut, trailer_cut}
 
-abbrev blocks : List BlockStart → Result (List BlockStart) Corrupt
+abbrev pub blocks : List BlockStart → Result (List BlockStart) Corrupt
 blocks bs = Ok bs
 
 -- the blocks of a footer are read again
@@ -77,6 +77,15 @@ cut_is at (Err (Truncated n)) read gives is = cc
 cut_is at (Err (BadSection n)) read gives is = absurd cc
 cut_is at (Err (BadVersion n)) read gives is = absurd cc
 
+abbrev got_laid : Laid → Result Laid SplitError
+got_laid l = Ok l
+
+-- the footer is found, with what it says
+pub record LaidStands (p : Parts) (tail : List ℕ) (size : ℕ) : Type 0 where
+  pub layout : Layout
+  pub is : laid_in size tail ≡ got_laid (record { bytes = footer_bytes p; layout = layout })
+  pub is_layout : IsLayoutOf p layout
+
 -- what is read where the whole footer is there
 pub record FooterStands (p : Parts) (tail : List ℕ) (size : ℕ) : Type 0 where
   pub layout : Layout
@@ -96,15 +105,27 @@ module _ (s : Schema) (documents : List Placed) (p : Parts) (is : IsSplitOf s do
   tail_is : tail ≡ drop (size - length tail) ((head ++ sections_bytes p) ++ ending (footer_bytes p))
   tail_is = ends.tail_is ∙ ap (λ (l : List ℕ). drop (size - length tail) l) (file_parts p)
 
-  pub footer_stands : length (footer_bytes p) + 12 ≤ length tail → FooterStands p tail size
-  unfolding footer_of
-  footer_stands long =
+  -- the footer in the end that has it, before its blocks are read
+  pub laid_stands : length (footer_bytes p) + 12 ≤ length tail → LaidStands p tail size
+  unfolding laid_in
+  laid_stands long =
       let found = footer_found (head ++ sections_bytes p) (footer_bytes p) tail size front short size_is tail_is long in
       let room : 4 + total (sections_of p) ≡ size - 12 - length (footer_bytes p) = omega (arith, size_is, length-append head (sections_bytes p), length-sections p) in
       let laid = layout_again p (size - 12 - length (footer_bytes p)) is.numbers is.partitions.names short room in
-      let b = blocks_again (footer_bytes p) short p.index laid.layout.blocks.at laid.is_layout.blocks.rest is.numbers.block_starts laid.is_layout.blocks.stand in
-      let all : block_starts_at laid.layout.blocks.count (footer_bytes p) laid.layout.blocks.at ≡ blocks p.index = ap (λ (n : ℕ). block_starts_at n (footer_bytes p) laid.layout.blocks.at) laid.is_layout.blocks.count ∙ b in
-      record { layout = laid.layout; is = rw (found, laid.is, all) refl; laid = laid.is_layout }
+      record { layout = laid.layout; is = rw (found, laid.is) refl; is_layout = laid.is_layout }
+
+  -- its blocks are read
+  pub index_again : (layout : Layout) → IsLayoutOf p layout → block_starts_at layout.blocks.count (footer_bytes p) layout.blocks.at ≡ blocks p.index
+  index_again layout is_layout =
+      ap (λ (n : ℕ). block_starts_at n (footer_bytes p) layout.blocks.at) is_layout.blocks.count
+      ∙ blocks_again (footer_bytes p) short p.index layout.blocks.at is_layout.blocks.rest is.numbers.block_starts is_layout.blocks.stand
+
+  pub footer_stands : length (footer_bytes p) + 12 ≤ length tail → FooterStands p tail size
+  unfolding footer_of
+  footer_stands long =
+      let laid = laid_stands long in
+      let all = index_again laid.layout laid.is_layout in
+      record { layout = laid.layout; is = rw (laid.is, all) refl; laid = laid.is_layout }
 
   pub footer_read : (result : Result Footer SplitError) → MayGive held result (footer_of size tail) → length (footer_bytes p) + 12 ≤ length tail → ReadsFooter p result
   footer_read result gives long =
@@ -112,7 +133,7 @@ module _ (s : Schema) (documents : List Placed) (p : Parts) (is : IsSplitOf s do
       whole_is p result (footer_of size tail) stands.layout gives stands.is stands.laid
 
   pub footer_not_there : (result : Result Footer SplitError) → MayGive held result (footer_of size tail) → length tail < length (footer_bytes p) + 12 → ReadsCut (cut_at size (length tail) (length (footer_bytes p))) result
-  unfolding footer_of
+  unfolding footer_of laid_in
   footer_not_there result gives cut = elim (cases_lt (length tail) 12) [
     | inl less ↦
         let at : cut_at size (length tail) (length (footer_bytes p)) ≡ size - 12 = rw (lt-ltb (length tail) 12 less) refl in

@@ -27,7 +27,7 @@ use Rattle.split_bundle.specs.declared.layout.Sections.{Sections}
 use Rattle.split_bundle.specs.Lending.{IsMissing, LendsBlock, block_part, places_part, IsListAt, IsColumnAt}
 use Rattle.split_bundle.proofs.SectionBytes.{section_lent}
 
-abbrev bytes_got : List ℕ → Result (List ℕ) SplitError
+abbrev pub bytes_got : List ℕ → Result (List ℕ) SplitError
 bytes_got l = Ok l
 
 got_is : (x y : List ℕ) → bytes_got x ≡ bytes_got y → x ≡ y

@@ -14,3 +14,8 @@ pub mod DocStands
 pub mod DocNames
 pub mod DocsLent
 pub mod WholeFiles
+pub mod TokenPlaces
+pub mod Light
+pub mod KeyCounts
+pub mod ViewsLent
+pub mod DictLent

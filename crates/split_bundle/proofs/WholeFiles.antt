@@ -27,7 +27,7 @@ use Rattle.split_bundle.specs.Splits.{IsSplitOf}
 use Rattle.split_bundle.specs.Views.{held, sections_of, IsEndOf}
 use Rattle.split_bundle.specs.Reading.{MayGive, footer_of}
 use Rattle.split_bundle.specs.Pieces.{part_in, start_of, ArePieces}
-use Rattle.split_bundle.specs.Lending.{IsMissing, IsListAt, IsColumnAt, LendsBlock, LendsCursor}
+use Rattle.split_bundle.specs.Lending.{IsMissing, IsListAt, IsColumnAt, LendsBlock, LendsCursor, LendsDocuments}
 use Rattle.split_bundle.specs.DocLending.{LendsPlaced}
 use Rattle.split_bundle.specs.Heads.{head_in}
 use Rattle.split_bundle.specs.Wholes.{whole_of, HaveAll, IsWholePiece, HasWhole, ReadsWhole, IsThere}
@@ -126,6 +126,13 @@ cursor_there p sections pieces info positions list (Err e) same at all lends =
       | inl missing ↦ absurd (never_missing (file_bytes p) pieces (start_of Postings sections + info.postings) info.postings_len e all lists missing)
       | inr missing ↦ absurd (never_missing (file_bytes p) pieces (start_of Positions sections + info.positions) info.positions_len e all places missing.1)
     ]
+
+pub documents_there : (p : Parts) (sections : Sections) (pieces : List FilePiece) (info : TermInfo) (positions : Bool) (list : List Posting) (r : Result Cursor SplitError) → sections ≡ sections_of p → IsListAt p info positions list
+    → HaveAll (file_bytes p) pieces → LendsDocuments sections pieces info list r → IsOk r
+documents_there p sections pieces info positions list (Ok c) same at all lends = refl
+documents_there p sections pieces info positions list (Err e) same at all lends =
+    let lists : start_of Postings sections + info.postings + info.postings_len ≤ length (file_bytes p) = rw same (omega (arith, section_within Postings p, at.postings_within)) in
+    absurd (never_missing (file_bytes p) pieces (start_of Postings sections + info.postings) info.postings_len e all lists lends)
 
 pub placed_there : (file : List ℕ) (pieces : List FilePiece) (starts at len : ℕ) (d : Placed) (r : Result Placed SplitError) → starts + 16 ≤ length file → at + len ≤ length file → HaveAll file pieces
     → LendsPlaced pieces starts at len d r → IsThere r

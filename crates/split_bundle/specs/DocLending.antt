@@ -1,10 +1,5 @@
 -- What a split lends of its documents.
-use Rattle.std.specs.Prelude.{◌≡◌, ℕ, ◌+◌, ◌*◌, ◌^◌, ◌<◌, List, length, take, Result, Ok, Err, IsUtf8, ⊤, ◌⊎◌}
-use Rattle.std.specs.List.{AllByRecursion}
-use Rattle.byte_fields.specs.Spelling.{zigzag}
-use Rattle.doc_value.specs.declared.doc.Value.{Value}
-use Rattle.doc_value.specs.declared.doc.Value.TheVariants as values
-use Rattle.doc_value.specs.declared.doc.DocField.{DocField}
+use Rattle.std.specs.Prelude.{◌≡◌, ℕ, ◌+◌, ◌*◌, List, length, take, Result, Ok, Err, ⊤, ◌⊎◌}
 use Rattle.split_bundle.specs.declared.pieces.FilePiece.{FilePiece}
 use Rattle.split_bundle.specs.declared.placed.Placed.{Placed}
 use Rattle.split_bundle.specs.declared.split_error.SplitError.{SplitError}
@@ -12,21 +7,6 @@ use Rattle.split_bundle.specs.declared.split_error.SplitError.TheVariants.{Memor
 use Rattle.split_bundle.specs.Documents.{each_in_bytes, joined}
 use Rattle.split_bundle.specs.Files.{Parts}
 use Rattle.split_bundle.specs.Lending.{IsMissing}
-
--- a text is UTF-8, and a number has 64 bits, as those that a program holds
-abbrev pub IsHeldValue : Value → Type 0
-IsHeldValue (values.Text t) = IsUtf8 t
-IsHeldValue (values.I64 z) = zigzag z < 2 ^ 64
-IsHeldValue (values.U64 n) = n < 2 ^ 64
-IsHeldValue (values.Bool b) = ⊤
-IsHeldValue (values.Datetime z) = zigzag z < 2 ^ 64
-
-abbrev pub AreHeld : List DocField → Type 0
-AreHeld doc = AllByRecursion (λ f. AllByRecursion IsHeldValue f.values) doc
-
-pub record IsHeld (d : Placed) : Type 0 where
-  pub offset : d.offset < 2 ^ 64
-  pub doc : AreHeld d.doc
 
 -- where the start of a document stands in the file, with the next one behind it
 abbrev pub starts_place : ℕ → ℕ

@@ -37,6 +37,11 @@ placed_bytes partitions p = varint (place_among partitions p.partition) ++ (vari
 abbrev pub weight : Placed → ℕ
 weight p = 1 + length (varint p.offset ++ doc_bytes p.doc) + 256
 
+-- what documents weigh together
+abbrev pub total_weight : List Placed → ℕ
+total_weight [] = 0
+total_weight (p ∷ ps) = weight p + total_weight ps
+
 -- where each document starts behind a place, and where the last one ends
 abbrev pub starts : ℕ → List (List ℕ) → List ℕ
 starts at [] = at ∷ []

@@ -77,6 +77,16 @@ LendsCursor sections pieces info positions list (Err e) =
     IsMissing pieces (start_of Postings sections + info.postings) info.postings_len e
     ⊎ ((positions ≡ true) × IsMissing pieces (start_of Positions sections + info.positions) info.positions_len e)
 
+-- a cursor over the list of a term, without its positions
+unfoldable pub documents_in : Sections → List FilePiece → TermInfo → Bool → Result Walk SplitError
+documents_in sections pieces info counted =
+    and_then (section_part Postings sections pieces info.postings info.postings_len) (λ lists. Ok (over_of lists [] info.docs counted))
+
+-- a cursor before these documents that gives no positions, or that no piece has the list's bytes
+abbrev pub LendsDocuments : Sections → List FilePiece → TermInfo → List Posting → Result Cursor SplitError → Type 0
+LendsDocuments sections pieces info list (Ok c) = StandsBefore false c list []
+LendsDocuments sections pieces info list (Err e) = IsMissing pieces (start_of Postings sections + info.postings) info.postings_len e
+
 -- ---- a column
 
 -- the column from a place of the section to another

@@ -1,4 +1,5 @@
 pub mod Documents
+pub mod Held
 pub mod Keys
 pub mod Lists
 pub mod Columns
@@ -8,8 +9,10 @@ pub mod Reading
 pub mod Pieces
 pub mod Views
 pub mod Lending
+pub mod SplitReading
 pub mod DocReading
 pub mod DocLending
 pub mod Heads
 pub mod Wholes
+pub mod SplitViews
 pub mod Examples

@@ -146,6 +146,16 @@ footer_in size tail =
     (if slice_index tail (length tail - 1) == 2 then footer_by size tail (eight_at tail (length tail - 12)) else Err (BadVersion (slice_index tail (length tail - 1))))
     else Err BadMagic
 
+-- a footer, and what it says
+pub record Laid : Type 0 where
+  pub bytes : List ℕ
+  pub layout : Layout
+
+-- the same in the end of a file of so many bytes
+unfoldable pub laid_in : ℕ → List ℕ → Result Laid SplitError
+laid_in size tail =
+    and_then (footer_in size tail) (λ bytes. and_then (of_section 6 (layout_at (size - 12 - length bytes) bytes)) (λ layout. Ok (record { bytes = bytes; layout = layout })))
+
 -- what a footer holds
 pub record Held : Type 0 where
   pub bytes : List ℕ
@@ -155,5 +165,5 @@ pub record Held : Type 0 where
 -- the footer in the end of a file of so many bytes
 unfoldable pub footer_of : ℕ → List ℕ → Result Held SplitError
 footer_of size tail =
-    and_then (footer_in size tail) (λ bytes. and_then (of_section 6 (layout_at (size - 12 - length bytes) bytes))
-    (λ layout. and_then (of_section 6 (block_starts_at layout.blocks.count bytes layout.blocks.at)) (λ index. Ok (record { bytes = bytes; layout = layout; index = index }))))
+    and_then (laid_in size tail) (λ laid. and_then (of_section 6 (block_starts_at laid.layout.blocks.count laid.bytes laid.layout.blocks.at))
+    (λ index. Ok (record { bytes = laid.bytes; layout = laid.layout; index = index })))

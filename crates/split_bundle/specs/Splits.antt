@@ -1,5 +1,5 @@
 -- The bytes are a split of these documents.
-use Rattle.std.specs.Prelude.{◌≡◌, ℕ, ◌^◌, ◌<◌, ◌↔◌, IsTrue, true, List, [], ◌∷◌, length, map, Contains, ⊤}
+use Rattle.std.specs.Prelude.{◌≡◌, ℕ, ◌^◌, ◌<◌, ◌≤◌, ◌↔◌, IsTrue, true, List, [], ◌∷◌, length, map, Contains, ⊤}
 use Rattle.std.specs.List.{flat_map, AllByRecursion}
 use Rattle.doc_value.specs.declared.schema.Schema.{Schema}
 use Rattle.doc_value.specs.Documents.{IsSchema, IsOfSchema}
@@ -8,7 +8,8 @@ use Rattle.term_dict.specs.Keys.{is_below}
 use Rattle.term_dict.specs.Terms.{IsDict}
 use Rattle.term_postings.specs.Postings.{AreDocuments}
 use Rattle.split_bundle.specs.declared.placed.Placed.{Placed}
-use Rattle.split_bundle.specs.Documents.{documents_section}
+use Rattle.split_bundle.specs.Documents.{documents_section, total_weight}
+use Rattle.split_bundle.specs.Held.{IsHeld}
 use Rattle.split_bundle.specs.Lists.{keeps_places, posting_list, stands_in, list_of, places_in, terms_of}
 use Rattle.split_bundle.specs.Columns.{AreColumns, fast_fields}
 use Rattle.split_bundle.specs.Files.{Parts, NumbersFit, file_bytes}
@@ -33,11 +34,16 @@ pub record AreKeys (s : Schema) (documents : List Placed) (keys : List (List ℕ
   pub rising : AreRising keys
   pub exact : (key : List ℕ) → Contains keys key ↔ IsTrue (stands_in s key documents)
 
--- documents that a split can hold: of the schema, and fewer than 2 ^ 32
+-- the documents of a split weigh at most so much together
+abbrev pub max_weight : ℕ
+max_weight = 268435456
+
+-- documents that a split can hold: of the schema, as programs hold them, and not too heavy together
 pub record AreDocumentsOf (s : Schema) (documents : List Placed) : Type 0 where
   pub schema : IsSchema s
   pub of_schema : AllByRecursion (λ d. IsOfSchema s d.doc) documents
-  pub few : length documents < 2 ^ 32
+  pub held : AllByRecursion IsHeld documents
+  pub light : total_weight documents ≤ max_weight
 
 -- A split is made of these parts: its documents, and exactly the dictionary, the postings, the positions and the columns of
 -- their tokens and values.

@@ -3,7 +3,7 @@
 ghost use Rattle.std.specs.Prelude.{◌≡◌, ◌≤◌, ◌<◌, ◌+◌, ◌^◌, ℕ, length, IfOk};
 ghost use Rattle.term_dict.specs.declared.index.BlockStart.{BlockStart};
 ghost use Rattle.byte_fields.specs.Steps.{Gives as Reads};
-ghost use Rattle.split_bundle.specs.Reading.{Gives, MayGive, IsWithin, of_section, footer_in, block_start_at, block_starts_at, total};
+ghost use Rattle.split_bundle.specs.Reading.{Gives, MayGive, IsWithin, of_section, Laid, laid_in, footer_in, block_start_at, block_starts_at, total};
 ghost use Rattle.split_bundle.specs.Heads.{head_in};
 
 use crate::SplitError;
@@ -19,6 +19,13 @@ pub(crate) const TRAILER: usize = 12;
 pub(crate) const FOOTER: u8 = 6;
 
 const VERSION: u8 = 2;
+
+/// A footer as it stands in a file, and what it says.
+#[derive(Clone, Copy)]
+pub(crate) struct LaidFooter<'a> {
+    pub bytes: &'a [u8],
+    pub layout: Layout,
+}
 
 /// What the footer of a split file says.
 #[derive(Debug, Drop)]
@@ -57,14 +64,7 @@ impl Footer {
     fn read_whole(alloc: Global, tail: &[u8], size: u64) -> Result<Footer, SplitError>
         ensures { MayGive held result (footer_of size tail.now) }
     {
-        let bytes = footer_in(tail, size)?;
-        let room = size
-            .saturating_sub(TRAILER as u64)
-            .saturating_sub(bytes.len() as u64);
-        let layout = match read_layout(bytes, room) {
-            Ok(layout) => layout,
-            Err(_) => return Err(SplitError::BadSection { number: FOOTER }),
-        };
+        let LaidFooter { bytes, layout } = lay_out(tail, size)?;
         let index = read_index(alloc, bytes, layout.blocks)?;
         Ok(Footer {
             bytes: Bytes::from_slice(alloc, bytes)?,
@@ -124,6 +124,23 @@ pub(crate) fn check_head(bytes: &[u8]) -> Result<(), SplitError>
         return Err(SplitError::BadVersion { number: version });
     }
     Ok(())
+}
+
+// The footer in the end of a file of so many bytes.
+#[tactic(auto, unfolding(crate::specs::Reading::laid_in))]
+pub(crate) fn lay_out(tail: &[u8], size: u64) -> Result<LaidFooter<'_>, SplitError>
+    ensures within { IfOk result (λ l. IsWithin l.bytes.now l.layout) }
+    ensures room { IfOk result (λ l. 4 + total l.layout.sections < 2 ^ 64) }
+    ensures exact { Gives {Y = Laid} (λ l. record { bytes = l.bytes.now; layout = l.layout }) result (laid_in size tail.now) }
+{
+    let bytes = footer_in(tail, size)?;
+    let room = size
+        .saturating_sub(TRAILER as u64)
+        .saturating_sub(bytes.len() as u64);
+    match read_layout(bytes, room) {
+        Ok(layout) => Ok(LaidFooter { bytes, layout }),
+        Err(_) => Err(SplitError::BadSection { number: FOOTER }),
+    }
 }
 
 // The footer's bytes in the end of a file.

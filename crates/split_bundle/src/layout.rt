@@ -36,7 +36,7 @@ pub(crate) struct Table {
 
 /// A fast field's number, and where its column starts in the section of columns.
 #[derive(Clone, Copy, Debug)]
-pub(crate) struct ColumnStart {
+pub struct ColumnStart {
     pub number: u64,
     pub start: u64,
 }

@@ -9,10 +9,14 @@ mod parts;
 mod pieces;
 mod placed;
 mod split_error;
+mod split_view;
+mod whole;
 
 pub use footer::Footer;
-pub use layout::Sections;
+pub use layout::{ColumnStart, Sections};
 pub use part_view::PartView;
-pub use pieces::{FilePiece, Pieces};
+pub use pieces::{FilePiece, Pieces, Section};
 pub use placed::{Placed, PlacedList};
 pub use split_error::SplitError;
+pub use split_view::SplitView;
+pub use whole::read_split;

@@ -1,6 +1,6 @@
 //! A split file of which some pieces are there.
 
-ghost use Rattle.std.specs.Prelude.{◌≡◌, ◌≤◌, ◌<◌, ◌+◌, ◌-◌, ◌*◌, List, ℕ, Some, length, slice_get, IfOk, IsOk};
+ghost use Rattle.std.specs.Prelude.{◌≡◌, ◌≤◌, ◌<◌, ◌+◌, ◌-◌, ◌*◌, ◌^◌, List, ℕ, Some, length, slice_get, IfOk, IsOk};
 ghost use Rattle.doc_value.specs.declared.schema.Schema.{Schema};
 ghost use Rattle.term_dict.specs.Bounds.{block_terms};
 ghost use Rattle.term_dict.specs.Terms.{lookup};
@@ -16,13 +16,13 @@ ghost use Rattle.split_bundle.specs.declared.pieces.Section.TheVariants as secti
 
 use crate::documents::placed_in;
 use crate::footer::{Footer, check_head};
-use crate::parts::{block_between, column_of, cursor_over};
+use crate::parts::{block_between, cursor_over, documents_over, fast_column};
 use crate::pieces::{FilePiece, Pieces, Section};
 use crate::{Placed, SplitError};
 use doc_value::Schema;
 use fast_fields::Column;
 use std::alloc::Global;
-use term_dict::{Block, TermInfo};
+use term_dict::{Block, BlockIndex, TermInfo};
 use term_postings::Cursor;
 
 /// A split file of which some pieces are there. It copies nothing of them.
@@ -33,10 +33,10 @@ pub struct PartView<'a> {
 }
 
 impl<'a> PartView<'a> {
-    ghost use Rattle.split_bundle.specs.Lending.{IsPartOf, LendsBlock, LendsCursor, LendsFast, block_in, block_place, cursor_in, column_read, parts_of, start_of_column, length_of_column};
+    ghost use Rattle.split_bundle.specs.Lending.{IsPartOf, LendsBlock, LendsCursor, LendsDocuments, LendsFast, block_in, block_place, cursor_in, documents_in, column_read, parts_of, start_of_column, length_of_column};
     ghost use Rattle.split_bundle.specs.Documents.{placed_bytes};
     ghost use Rattle.split_bundle.specs.DocReading.{placed_in};
-    ghost use Rattle.split_bundle.specs.DocLending.{IsHeld, LendsPlaced, starts_place, doc_place};
+    ghost use Rattle.split_bundle.specs.DocLending.{LendsPlaced, starts_place, doc_place};
     ghost use Rattle.split_bundle.specs.Wholes.{whole_of, HasWhole, HaveAll, ReadsWhole, IsThere};
 
     /// The view of a file with this footer, of which these pieces are there.
@@ -78,6 +78,16 @@ impl<'a> PartView<'a> {
         ensures { result.now ≡ self.now.footer }
     {
         &self.footer
+    }
+
+    /// The first keys of the dictionary's blocks, and where these start.
+    pub fn index(&self) -> &BlockIndex
+        // Of a split of documents: the index of its dictionary, which a number of 32 bits counts.
+        ensures only { (s : Schema) (documents : List Placed) (p : Parts) → IsPartOf self.now s documents p → result.now ≡ p.index }
+        ensures few { (s : Schema) (documents : List Placed) (p : Parts) → IsPartOf self.now s documents p → length result.now < 2 ^ 32 }
+        ensures exact { result.now ≡ self.now.footer.index }
+    {
+        self.footer.index()
     }
 
     /// How many documents the split has.
@@ -129,8 +139,23 @@ impl<'a> PartView<'a> {
         cursor_over(self.pieces.as_slice(), &sections, info, positions)
     }
 
+    /// A cursor over the documents of a term that gives no positions. `positions` says whether its list has positions.
+    pub fn documents_at(&self, info: &TermInfo, positions: bool) -> Result<Cursor<'a>, SplitError>
+        // Of a split of documents: the posting list of the term's key, unless no piece has its bytes. Positions are not asked for.
+        ensures only { (s : Schema) (documents : List Placed) (p : Parts) (key : List ℕ) → IsPartOf self.now s documents p
+            → lookup key (terms_of s documents p.keys) ≡ Some info.now → positions ≡ keeps_places s key
+            → LendsDocuments self.now.footer.layout.sections self.now.pieces info.now (posting_list s documents key) result }
+        // Where the pieces have every part.
+        ensures there { (s : Schema) (documents : List Placed) (p : Parts) (key : List ℕ) → IsPartOf self.now s documents p → HaveAll (file_bytes p) self.now.pieces
+            → lookup key (terms_of s documents p.keys) ≡ Some info.now → positions ≡ keeps_places s key → IsOk result }
+        // Over any bytes.
+        ensures exact { Gives walk result (documents_in self.now.footer.layout.sections self.now.pieces info.now positions) }
+    {
+        let sections = self.footer.sections();
+        documents_over(self.pieces.as_slice(), &sections, info, positions)
+    }
+
     /// The column of the field with a number, which is None exactly where the schema has no fast field of that number.
-    #[tactic(auto, unfolding(crate::specs::Lending::column_read))]
     pub fn column(&self, schema: &Schema, number: u32) -> Result<Option<Column<'a>>, SplitError>
         // Of a split of documents: the values of this field, unless no piece has the column's bytes.
         ensures only { (documents : List Placed) (p : Parts) → IsPartOf self.now schema.now documents p
@@ -141,38 +166,20 @@ impl<'a> PartView<'a> {
         // Over any bytes.
         ensures exact { Gives parts_of result (column_read schema.now self.now.footer.layout.sections self.now.pieces self.now.footer.bytes self.now.footer.layout.columns number) }
     {
-        if number as usize >= schema.fields.len() {
-            return Ok(None);
-        }
-        let field = schema.fields.at(number as usize);
-        if !field.fast {
-            return Ok(None);
-        }
-        let sections = self.footer.sections();
+        let pieces = self.pieces.as_slice();
         let footer = self.footer.bytes.as_slice();
-        let table = self.footer.layout.columns;
-        match column_of(
-            self.pieces.as_slice(),
-            &sections,
-            footer,
-            table,
-            field,
-            u64::from(number),
-        ) {
-            Ok(column) => Ok(Some(column)),
-            Err(fault) => Err(fault),
-        }
+        fast_column(pieces, &self.footer.layout, footer, schema, number)
     }
 
     /// The document with a number, read back from its bytes.
     pub fn placed(&self, alloc: Global, schema: &Schema, doc: u32) -> Result<Placed, SplitError>
         requires { doc < self.now.footer.layout.docs }
         // Of a split of documents: this document, unless no piece has where it starts and ends, or its bytes.
-        ensures only { (documents : List Placed) (p : Parts) (d : Placed) → IsPartOf self.now schema.now documents p → slice_get documents doc ≡ Some d → IsHeld d
+        ensures only { (documents : List Placed) (p : Parts) (d : Placed) → IsPartOf self.now schema.now documents p → slice_get documents doc ≡ Some d
             → LendsPlaced self.now.pieces (starts_place doc) (doc_place p documents doc) (length (placed_bytes p.partitions d)) d result }
         // Where the pieces have every part.
         ensures there { (documents : List Placed) (p : Parts) (d : Placed) → IsPartOf self.now schema.now documents p → HaveAll (file_bytes p) self.now.pieces
-            → slice_get documents doc ≡ Some d → IsHeld d → IsThere result }
+            → slice_get documents doc ≡ Some d → IsThere result }
         // Over any bytes.
         ensures exact { MayGive (λ d. d) result (placed_in schema.now.fields self.now.footer.layout self.now.footer.bytes self.now.pieces doc) }
     {

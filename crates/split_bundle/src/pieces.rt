@@ -20,7 +20,7 @@ pub type Pieces<'a> = List<FilePiece<'a>>;
 
 /// The five sections of a split file.
 #[derive(Clone, Copy, Debug)]
-pub(crate) enum Section {
+pub enum Section {
     Documents,
     Dictionary,
     Postings,
@@ -29,7 +29,8 @@ pub(crate) enum Section {
 }
 
 impl Section {
-    pub(crate) fn number(self) -> u8
+    /// Its number: 1 documents, 2 dictionary, 3 postings, 4 positions, 5 columns.
+    pub fn number(self) -> u8
         ensures { result ≡ number_of self }
     {
         match self {

@@ -5,7 +5,7 @@ use Rattle.doc_value.specs.declared.doc.Value.TheVariants as values
 use Rattle.text_tokens.specs.declared.tokens.Token.{Token}
 use Rattle.query_ast.specs.FieldTokens.{field_tokens}
 use Rattle.split_build.specs.Walks.{IsShort}
-use Rattle.split_build.proofs.TokenPlaces.{tokens_below}
+use Rattle.split_bundle.proofs.TokenPlaces.{tokens_below}
 use Rattle.split_build.proofs.occurrences.Walker.add_value.Goals as goal
 
 pub add_tokens-requires-clause-positions : goal.add_tokens-requires-clause-positions

@@ -1,32 +1,10 @@
-use Rattle.std.proofs.Common.{◌≡◌, ℕ, ◌+◌, ◌-◌, true, length, sym, ap, ◌∙◌}
-use Rattle.split_bundle.specs.declared.layout.Sections.{Sections}
-use Rattle.split_bundle.specs.declared.pieces.Section.TheVariants.{Columns}
-use Rattle.split_bundle.specs.Pieces.{start_of}
-use Rattle.split_bundle.specs.Columns.{column_rows}
-use Rattle.split_bundle.specs.Lending.{start_of_column, length_of_column}
-use Rattle.split_bundle.proofs.ColumnsLent.{column_stands, ok_lends, err_lends, missing_same}
-use Rattle.split_bundle.proofs.WholeFiles.{column_not_missing}
+use Rattle.std.proofs.Common.{sym, ◌∙◌}
 use Rattle.split_bundle.proofs.part_view.PartView.column.Goals as goal
 
-pub returns-in-Ok-clause-only : goal.returns-in-Ok-clause-only
-returns-in-Ok-clause-only c documents p part =
-    let fast : c.at-field.result.now.fast ≡ true = c.if-not-field.false in
-    let here = column_stands c.args.self.now c.args.schema.now documents p c.at-field.result.now c.args.number part c.at-field.ensures fast in
-    let is = c.in-Ok.ensures.only p (column_rows c.args.number documents) here.start here.end (rw c.as_slice.ensures part.pieces) (c.sections-sections.ensures ∙ part.footer.layout.sections) here.at (rw (c.from.ensures, c.sections-sections.ensures, c.as_slice-footer.ensures) here.among) in
-    ok_lends c.args.self.now.pieces (start_of Columns c.args.self.now.footer.layout.sections + start_of_column c.args.number p.column_starts) (length_of_column c.args.number (length p.columns) p.column_starts) c.args.number documents _ c.at-field.result.now c.in-Ok.column c.at-field.ensures fast is
+pub returns-clause-only : goal.returns-clause-only
+returns-clause-only c documents p part =
+    rw (sym c.as_slice-pieces.ensures) (c.fast_column.ensures.only documents p part.is_split (record { layout_is = part.footer.layout; footer_is = c.as_slice-footer.ensures ∙ part.footer.bytes; are_pieces = rw c.as_slice-pieces.ensures part.pieces }))
 
-pub returns-in-Err-clause-only : goal.returns-in-Err-clause-only
-returns-in-Err-clause-only c documents p part =
-    let fast : c.at-field.result.now.fast ≡ true = c.if-not-field.false in
-    let here = column_stands c.args.self.now c.args.schema.now documents p c.at-field.result.now c.args.number part c.at-field.ensures fast in
-    let missing = c.in-Err.ensures.only p (column_rows c.args.number documents) here.start here.end (rw c.as_slice.ensures part.pieces) (c.sections-sections.ensures ∙ part.footer.layout.sections) here.at (rw (c.from.ensures, c.sections-sections.ensures, c.as_slice-footer.ensures) here.among) in
-    err_lends c.args.self.now.pieces (start_of Columns c.args.self.now.footer.layout.sections + start_of_column c.args.number p.column_starts) (length_of_column c.args.number (length p.columns) p.column_starts) c.args.number documents _ c.at-field.result.now c.in-Err.fault c.at-field.ensures fast
-    (missing_same c.args.self.now.pieces c.as_slice.result.now (start_of Columns c.args.self.now.footer.layout.sections + start_of_column c.args.number p.column_starts) (start_of Columns c.sections-sections.result + here.start) (length_of_column c.args.number (length p.columns) p.column_starts) (here.end - here.start) c.in-Err.fault c.as_slice.ensures
-    (ap (λ (x : Sections). start_of Columns x + here.start) c.sections-sections.ensures ∙ ap (λ (n : ℕ). start_of Columns c.args.self.now.footer.layout.sections + n) (sym here.start_is)) (sym here.length_is) missing)
-
-pub returns-in-Err-clause-there : goal.returns-in-Err-clause-there
-returns-in-Err-clause-there c documents p part all =
-    let fast : c.at-field.result.now.fast ≡ true = c.if-not-field.false in
-    let here = column_stands c.args.self.now c.args.schema.now documents p c.at-field.result.now c.args.number part c.at-field.ensures fast in
-    let missing = c.in-Err.ensures.only p (column_rows c.args.number documents) here.start here.end (rw c.as_slice.ensures part.pieces) (c.sections-sections.ensures ∙ part.footer.layout.sections) here.at (rw (c.from.ensures, c.sections-sections.ensures, c.as_slice-footer.ensures) here.among) in
-    absurd (column_not_missing p c.sections-sections.result c.as_slice.result.now (column_rows c.args.number documents) c.at-field.result.now.kind here.start here.end c.in-Err.fault (c.sections-sections.ensures ∙ part.footer.layout.sections) here.at (rw c.as_slice.ensures all) missing)
+pub returns-clause-there : goal.returns-clause-there
+returns-clause-there c documents p part all =
+    c.fast_column.ensures.there documents p part.is_split (record { layout_is = part.footer.layout; footer_is = c.as_slice-footer.ensures ∙ part.footer.bytes; are_pieces = rw c.as_slice-pieces.ensures part.pieces }) (rw c.as_slice-pieces.ensures all)

@@ -1,4 +1,4 @@
--- The positions of the tokens of a text rise, and are below the text's length.
+-- The positions of the tokens of a text rise, and are below the text's length. How many tokens there are.
 use Rattle.std.proofs.Common.{◌≡◌, ℕ, zero, suc, ◌+◌, ◌<◌, ◌≤◌, ◌^◌, ◌*◌, ◌-◌, Bool, true, false, cond, List, [], ◌∷◌, ◌++◌, length, refl, sym, ap, subst, arith}
 use Rattle.std.specs.Prelude.{◌==◌, encode_utf8, option_to_list, Option, Some, None, nat_le, if◌then◌else◌}
 use Rattle.std.specs.List.{AllByRecursion}
@@ -102,3 +102,29 @@ tokens_below f text limit lt = by f.tokenizer
     by Raw = raw (nat_le (length text) max_token) refl
     by Whitespace = cut_below Blanks
     by Default = cut_below Words
+
+-- a run gives one token, or none
+numbered_few : (cut : Cut) (n : ℕ) (runs : List Run) → length (numbered cut n runs) ≤ length runs
+numbered_few cut n [] = omega arith
+numbered_few Blanks n (run ∷ runs) = omega (arith, numbered_few Blanks (suc n) runs)
+numbered_few Words n (run ∷ runs) = by (nat_le (length run.text) max_token) refl (numbered_few Words (suc n) runs)
+  where
+    by : (b : Bool) → nat_le (length run.text) max_token ≡ b → length (numbered Words (suc n) runs) ≤ length runs → length (numbered Words n (run ∷ runs)) ≤ length (run ∷ runs)
+    by true is rest = rw is (omega (arith, rest))
+    by false is rest = rw is (omega (arith, rest))
+
+-- a text has at most one token a byte, and the empty text at most one
+pub tokens_few : (f : Field) (text : List ℕ) → length (field_tokens f text) ≤ length text + 1
+tokens_few f text = by f.tokenizer
+  where
+    cut_few : (cut : Cut) → length (numbered cut 0 (runs_from cut 0 (chars text))) ≤ length text + 1
+    cut_few cut = omega (arith, numbered_few cut 0 (runs_from cut 0 (chars text)), runs_few cut 0 (chars text), chars_few text)
+
+    raw : (b : Bool) → nat_le (length text) max_token ≡ b → length (raw_tokens text) ≤ length text + 1
+    raw true is = rw is (omega arith)
+    raw false is = rw is (omega arith)
+
+    by : (t : Tokenizer) → length (tokens_by t text) ≤ length text + 1
+    by Raw = raw (nat_le (length text) max_token) refl
+    by Whitespace = cut_few Blanks
+    by Default = cut_few Words
