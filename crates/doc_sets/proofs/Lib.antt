@@ -23,3 +23,5 @@ pub mod TermWalks
 pub mod WalkSteps
 pub mod PhraseTokens
 pub mod TextLaws
+pub mod Searched
+pub mod WithinFile

@@ -1,5 +1,5 @@
 -- Sets that grow along a walk.
-use Rattle.std.proofs.Common.{◌≡◌, ℕ, zero, suc, ◌+◌, ◌-◌, ◌<◌, ◌≤◌, ◌⊎◌, inl, inr, Bool, true, false, ◌&&◌, ◌||◌, List, [], ◌∷◌, length, drop, nat_eq, Some, None, Option, Result, Ok, Err, IsOk, MatchResult, refl, ap, sym, ◌∙◌, subst, arith}
+use Rattle.std.proofs.Common.{◌≡◌, ℕ, zero, suc, ◌+◌, ◌-◌, ◌<◌, ◌≤◌, ◌⊎◌, inl, inr, Bool, true, false, ◌&&◌, ◌||◌, List, [], ◌∷◌, length, drop, filter, nat_eq, Some, None, Option, Result, Ok, Err, IsOk, MatchResult, refl, ap, sym, ◌∙◌, subst, arith}
 use Rattle.std.specs.List.{AllByRecursion, starts_with}
 use Rattle.std.specs.Borrow.{Bor}
 use Rattle.doc_value.specs.declared.doc.DocField.{DocField}
@@ -7,14 +7,15 @@ use Rattle.doc_value.specs.declared.schema.Schema.{Schema}
 use Rattle.byte_fields.specs.declared.corrupt.Corrupt.{Corrupt}
 use Rattle.term_dict.specs.declared.term.Term.{Term}
 use Rattle.term_dict.specs.declared.term.TermInfo.{TermInfo}
-use Rattle.term_dict.specs.Bounds.{AreBlocks}
+use Rattle.term_dict.specs.Bounds.{AreBlocks, joined}
 use Rattle.term_dict.specs.Keys.{is_below}
 use Rattle.term_dict.specs.Lent.{GivesFirst}
+use Rattle.term_dict.specs.Terms.{lookup}
 use Rattle.split_bundle.specs.declared.placed.Placed.{Placed}
 use Rattle.split_bundle.specs.declared.part_view.PartView.{PartView}
 use Rattle.split_bundle.specs.Files.{Parts}
-use Rattle.split_bundle.specs.Keys.{keys_of}
-use Rattle.split_bundle.specs.Lists.{has_key, posting_list, terms_of}
+use Rattle.split_bundle.specs.Keys.{Occurrence, keys_of}
+use Rattle.split_bundle.specs.Lists.{has_key, keeps_places, posting_list, terms_of}
 use Rattle.doc_sets.specs.declared.bits.DocBits.{DocBits}
 use Rattle.doc_sets.specs.declared.leaf_error.LeafError.{LeafError}
 use Rattle.doc_sets.specs.declared.wanted.Wanted.{Wanted}
@@ -22,7 +23,7 @@ use Rattle.doc_sets.specs.Bits.{has}
 use Rattle.doc_sets.specs.Faults.{HasCause}
 use Rattle.doc_sets.specs.Needed.{AsksKey, AsksKeys, LacksKeys}
 use Rattle.doc_sets.specs.Sets.{holds_at, is_in, IsSetOf}
-use Rattle.doc_sets.specs.Walks.{takes, has_some_of, begun_in, AsksIf, AsksTerms, AsksBlock, AsksWalk}
+use Rattle.doc_sets.specs.Walks.{takes, has_some_of, begun_in, IsListed, AsksIf, AsksTerms, AsksBlock, AsksWalk}
 use Rattle.doc_sets.proofs.Causes.{cause_wider}
 use Rattle.doc_sets.proofs.Numbers.{holds_or, holds_same, holds_false, in_posting_list}
 
@@ -109,19 +110,37 @@ pub record IsGiven (lent : List Term) (key : List ℕ) (info : TermInfo) : Type 
   pub key_is : key ≡ first.key
   pub info_is : info ≡ first.info
 
-pub given : (lent : List Term) (r : Result (Option (Bor (List ℕ) × TermInfo)) Corrupt) (x : Bor (List ℕ) × TermInfo) → r ≡ Ok (Some x) → GivesFirst lent r → IsGiven lent x.0.now x.1
-given lent r x e h = go lent (subst (GivesFirst lent) e h)
+pub given : (lent : List Term) (o : Option (Bor (List ℕ) × TermInfo)) (x : Bor (List ℕ) × TermInfo) → o ≡ Some x → GivesFirst lent (Ok o) → IsGiven lent x.0.now x.1
+given lent o x e h = go lent (subst (λ y. GivesFirst lent (Ok y)) e h)
   where
     go : (lent : List Term) → GivesFirst lent (Ok (Some x)) → IsGiven lent x.0.now x.1
     go [] g = absurd g
     go (t ∷ ts) g = record { first = t; rest = ts; lent_is = refl; key_is = g.0; info_is = g.1 }
 
-pub none_given : (lent : List Term) (r : Result (Option (Bor (List ℕ) × TermInfo)) Corrupt) → r ≡ Ok None → GivesFirst lent r → lent ≡ []
-none_given lent r e h = go lent (subst (GivesFirst lent) e h)
+pub none_given : (lent : List Term) (o : Option (Bor (List ℕ) × TermInfo)) → o ≡ None → GivesFirst lent (Ok o) → lent ≡ []
+none_given lent o e h = go lent (subst (λ y. GivesFirst lent (Ok y)) e h)
   where
     go : (lent : List Term) → GivesFirst lent (Ok None) → lent ≡ []
     go [] g = refl
     go (t ∷ ts) g = absurd g
+
+-- no term more
+pub none_more : (w : Wanted) (a : Bool) (ts : List Term) (os : List Occurrence) → ts ≡ [] → a ≡ a || has_some_of w ts os
+none_more w a ts os e = sym (ap (λ l. a || has_some_of w l os) e ∙ or_false a)
+
+-- no block more
+pub walk_over : (w : Wanted) (a : Bool) (prefix : List ℕ) (terms : List Term) (number left : ℕ) (os : List Occurrence) → left ≡ 0 → a ≡ a || has_some_of w (joined (filter (λ t. starts_with nat_eq t.key prefix)) terms number left) os
+walk_over w a prefix terms number left os e = sym (ap (λ n. a || has_some_of w (joined (filter (λ t. starts_with nat_eq t.key prefix)) terms number n) os) e ∙ or_false a)
+
+-- the facts of a term are those of its key and its numbers
+pub listed_as : (s : Schema) (ds : List Placed) (p : Parts) (positions : Bool) (t : Term) (key : List ℕ) (info : TermInfo) → key ≡ t.key → info ≡ t.info → IsListed s ds p positions t
+    → (lookup key (terms_of s ds p.keys) ≡ Some info) × (positions ≡ keeps_places s key)
+listed_as s ds p positions t key info same alike h = (ap (λ k. lookup k (terms_of s ds p.keys)) same ∙ (h.0 ∙ ap Some (sym alike)), h.1 ∙ sym (ap (keeps_places s) same))
+
+pub drop_twice : (ts : List Term) (i : ℕ) → drop 1 (drop i ts) ≡ drop (i + 1) ts
+drop_twice ts zero = refl
+drop_twice [] (suc i) = let s : i + 1 ≡ suc i = omega arith in let t : suc i + 1 ≡ suc (i + 1) = omega arith in sym (ap (λ n. drop n []) t)
+drop_twice (t ∷ ts) (suc i) = let s : suc (i + 1) ≡ suc i + 1 = omega arith in drop_twice ts i ∙ ap (λ n. drop n (t ∷ ts)) s
 
 pub drop_next : (ts : List Term) (i : ℕ) (t : Term) (rest : List Term) → drop i ts ≡ t ∷ rest → (drop (i + 1) ts ≡ rest) × (i + 1 ≤ length ts)
 drop_next [] zero t rest e = absurd (cc)

@@ -119,15 +119,12 @@ fn add_block(
         → MatchResult result (λ u. IsSetOf (λ d. test d || has_some_of wanted (begun_in prefix.now (terms_of s documents p.keys) number) (keys_of s d)) documents bits.new)
         (HasCause (AsksBlock part.now s documents p prefix.now wanted number) part.now.pieces) }
 {
-    let number = match u32::try_from(number) {
-        Ok(number) => number,
-        Err(_) => {
-            return Err(LeafError::Corrupt {
-                section: DICTIONARY,
-            });
-        }
-    };
-    let block = part.block(number)?;
+    if number > u32::MAX as usize {
+        return Err(LeafError::Corrupt {
+            section: DICTIONARY,
+        });
+    }
+    let block = part.block(number as u32)?;
     match block.prefix_range(prefix) {
         Ok(terms) => add_terms(part, bits, terms, wanted, positions),
         Err(_) => Err(LeafError::Corrupt {

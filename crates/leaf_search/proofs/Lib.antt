@@ -1,2 +1,3 @@
 pub mod QuerySteps
-pub mod NumberLists
+pub mod QueryWithin
+pub mod NumberSteps

@@ -11,10 +11,9 @@ ghost use Rattle.doc_sets.specs.Needed.{IsSearched};
 ghost use Rattle.doc_sets.specs.Sets.{IsSetOf};
 ghost use Rattle.leaf_search.specs.Asks.{AsksQuery, AsksEach};
 
+use crate::fields::{with_prefix, with_quoted, with_some, with_value, with_word, within_range};
 use doc_sets::{
-    DocBits, LeafError, add_other, all_documents, keep_both, no_documents, prefix_documents,
-    present_documents, quoted_documents, range_documents, some_documents, take_others,
-    word_documents,
+    DocBits, LeafError, add_other, all_documents, keep_both, no_documents, take_others,
 };
 use doc_value::Schema;
 use query_ast::Query;
@@ -24,7 +23,7 @@ use term_dict::BlockIndex;
 
 // The documents that match a query.
 #[cycle(evaluate)]
-pub(crate) fn matching(
+pub fn matching(
     alloc: Global,
     index: &BlockIndex,
     part: &PartView,
@@ -40,30 +39,22 @@ pub(crate) fn matching(
     match query {
         Query::All => Ok(all_documents(alloc, part)?),
         Query::Nothing => Ok(no_documents(alloc, part)?),
-        Query::Word { field, text } => match schema.fields.as_slice().get(*field) {
-            Some(f) => word_documents(alloc, index, part, *field, f, text.as_str()),
-            None => Ok(no_documents(alloc, part)?),
-        },
-        Query::Quoted { field, text } => match schema.fields.as_slice().get(*field) {
-            Some(f) => quoted_documents(alloc, index, part, *field, f, text.as_str()),
-            None => Ok(no_documents(alloc, part)?),
-        },
-        Query::Prefix { field, text } => match schema.fields.as_slice().get(*field) {
-            Some(f) => prefix_documents(alloc, index, part, *field, f, text.as_str()),
-            None => Ok(no_documents(alloc, part)?),
-        },
-        Query::Exists { field } => match schema.fields.as_slice().get(*field) {
-            Some(_f) => present_documents(alloc, index, part, *field),
-            None => Ok(no_documents(alloc, part)?),
-        },
-        Query::Range { field, low, high } => match schema.fields.as_slice().get(*field) {
-            Some(f) => range_documents(alloc, index, part, *field, f, low, high),
-            None => Ok(no_documents(alloc, part)?),
-        },
-        Query::AnyOf { field, items } => match schema.fields.as_slice().get(*field) {
-            Some(f) => some_documents(alloc, index, part, *field, f, items.as_slice()),
-            None => Ok(no_documents(alloc, part)?),
-        },
+        Query::Word { field, text } => {
+            with_word(alloc, index, part, schema, *field, text.as_str())
+        }
+        Query::Quoted { field, text } => {
+            with_quoted(alloc, index, part, schema, *field, text.as_str())
+        }
+        Query::Prefix { field, text } => {
+            with_prefix(alloc, index, part, schema, *field, text.as_str())
+        }
+        Query::Exists { field } => with_value(alloc, index, part, schema, *field),
+        Query::Range { field, low, high } => {
+            within_range(alloc, index, part, schema, *field, low, high)
+        }
+        Query::AnyOf { field, items } => {
+            with_some(alloc, index, part, schema, *field, items.as_slice())
+        }
         Query::Not(inner) => {
             let mut bits = matching(alloc, index, part, schema, inner)?;
             take_others(&mut bits);

@@ -2,11 +2,9 @@
 #![tactic(auto)]
 
 mod evaluate;
-mod leaf_answer;
+mod fields;
 mod numbers;
-mod request;
-mod timed;
 
 pub use doc_sets::LeafError;
-pub use leaf_answer::leaf;
-pub use request::{LeafAnswer, LeafRequest};
+pub use evaluate::matching;
+pub use numbers::numbers_in;

@@ -16,8 +16,7 @@ all_matching-loop-each-preserved t c = record {
   only = λ documents p is can.
       let i = c.loop-each.invariant.only documents p is can in
       let s = c.args.schema.now in
-      let x = c.each-item.result in
-      (
+      let x = c.each-item.result in (
         λ d. i.0 d && meaning s d (view x),
         c.keep_both.ensures.only i.0 (λ d. meaning s d (view x)) documents i.1 (c.in_ok-other.ensures.only documents p is (can_at s x c.args.parts.now c.loop-each.each-index c.loop-each-test.true c.each-item.is can)),
         λ d. all_step s d x c.args.parts.now c.loop-each.each-index (i.0 d) c.loop-each-test.true c.each-item.is ∙ i.2 d,
@@ -30,8 +29,7 @@ some_matching-loop-each-preserved t c = record {
   only = λ documents p is can.
       let i = c.loop-each.invariant.only documents p is can in
       let s = c.args.schema.now in
-      let x = c.each-item.result in
-      (
+      let x = c.each-item.result in (
         λ d. i.0 d || meaning s d (view x),
         c.add_other.ensures.only i.0 (λ d. meaning s d (view x)) documents i.1 (c.in_ok-other.ensures.only documents p is (can_at s x c.args.parts.now c.loop-each.each-index c.loop-each-test.true c.each-item.is can)),
         λ d. some_step s d x c.args.parts.now c.loop-each.each-index (i.0 d) c.loop-each-test.true c.each-item.is ∙ i.2 d,
