@@ -9,7 +9,7 @@ use Rattle.query_ast.specs.declared.query.Query.{Query, Row_of-Query, end_of-Que
 use Rattle.query_ast.specs.Sought.{Sought, Soughts, no_more, more, view, view_row, view_all}
 use Rattle.query_ast.specs.Meaning.{meaning, all_hold, some_hold, asks}
 use Rattle.query_ast.specs.Queries.{HasField}
-use Rattle.search_api.specs.Answerable.{CanAsk, CanAskEach}
+use Rattle.leaf_search.specs.Askable.{CanAsk, CanAskEach}
 use Rattle.split_bundle.specs.declared.placed.Placed.{Placed}
 use Rattle.split_bundle.specs.declared.part_view.PartView.{PartView}
 use Rattle.split_bundle.specs.declared.pieces.FilePiece.{FilePiece}
@@ -18,9 +18,6 @@ use Rattle.doc_sets.specs.declared.bits.DocBits.{DocBits}
 use Rattle.doc_sets.specs.declared.leaf_error.LeafError.{LeafError}
 use Rattle.doc_sets.specs.Faults.{HasCause}
 use Rattle.doc_sets.specs.Sets.{IsSetOf}
-use Rattle.doc_sets.specs.Texts.{CanPlaceEach}
-use Rattle.search_api.specs.Answerable as searches
-use Rattle.query_ast.specs.declared.query.Item.{Item}
 use Rattle.leaf_search.specs.Asks.{AsksQuery, AsksEach}
 
 pub row_all : {n : _} (k : Row_of-Query n) → view_row k ≡ view_all (items-the_row-Query n k)
@@ -80,8 +77,3 @@ at_any_field s n f ds pieces r test A got h = subst (λ o. MatchResult r (IsSetO
 pub of_query : (v : PartView) (s : Schema) (ds : List Placed) (p : Parts) (r : Result DocBits LeafError) (q w : Sought) → q ≡ w
     → MatchResult r (IsSetOf (λ d. meaning s d w) ds) (HasCause (AsksQuery v s ds p w) v.pieces) → MatchResult r (IsSetOf (λ d. meaning s d q) ds) (HasCause (AsksQuery v s ds p q) v.pieces)
 of_query v s ds p r q w e h = subst (λ y. MatchResult r (IsSetOf (λ d. meaning s d y) ds) (HasCause (AsksQuery v s ds p y) v.pieces)) (sym e) h
-
--- what a search says of members is what the sets ask
-pub can_each : (f : Field) (items : List Item) → searches.CanPlaceEach items f → CanPlaceEach f items
-can_each f [] h = tt
-can_each f (item ∷ items) h = (h.0, can_each f items h.1)

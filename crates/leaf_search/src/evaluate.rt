@@ -3,7 +3,7 @@
 ghost use Rattle.std.specs.Prelude.{◌≡◌, ◌≤◌, length, List, IfOk, MatchResult};
 ghost use Rattle.query_ast.specs.Meaning.{meaning, all_hold, some_hold};
 ghost use Rattle.query_ast.specs.Sought.{view, view_all};
-ghost use Rattle.search_api.specs.Answerable.{CanAsk, CanAskEach};
+ghost use Rattle.leaf_search.specs.Askable.{CanAsk, CanAskEach};
 ghost use Rattle.split_bundle.specs.declared.placed.Placed.{Placed};
 ghost use Rattle.split_bundle.specs.Files.{Parts};
 ghost use Rattle.doc_sets.specs.Faults.{HasCause};
@@ -23,7 +23,7 @@ use term_dict::BlockIndex;
 
 // The documents that match a query.
 #[cycle(evaluate)]
-pub fn matching(
+pub(crate) fn matching(
     alloc: Global,
     index: &BlockIndex,
     part: &PartView,

@@ -3,8 +3,11 @@
 
 mod evaluate;
 mod fields;
+mod leaf_answer;
 mod numbers;
+mod request;
+mod timed;
 
 pub use doc_sets::LeafError;
-pub use evaluate::matching;
-pub use numbers::numbers_in;
+pub use leaf_answer::leaf;
+pub use request::{LeafAnswer, LeafRequest};

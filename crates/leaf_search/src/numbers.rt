@@ -20,7 +20,7 @@ fn push_if(numbers: &mut Vec<u32>, number: u32, holds: bool) -> Result<(), Alloc
 }
 
 // The numbers that a set has.
-pub fn numbers_in(alloc: Global, bits: &DocBits) -> Result<Vec<u32>, AllocError>
+pub(crate) fn numbers_in(alloc: Global, bits: &DocBits) -> Result<Vec<u32>, AllocError>
     ensures below { IfOk result (λ ns. All (λ n. n < bits.now.size) ns.items) }
     ensures only { (test : List DocField → Bool) (documents : List Placed) → IsSetOf test documents bits.now → IfOk result (λ ns. ns.items ≡ numbers_of test documents) }
 {
