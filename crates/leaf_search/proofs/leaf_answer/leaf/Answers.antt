@@ -1,4 +1,4 @@
-use Rattle.std.proofs.Common.{◌≡◌, ◌∙◌, ◌&&◌, inl, inr, List, ℕ, [], Bool, Ok, Err, ap, sym, subst}
+use Rattle.std.proofs.Common.{◌≡◌, ◌∙◌, ◌&&◌, length, inl, inr, List, ℕ, [], Bool, Ok, Err, ap, sym, subst}
 use Rattle.doc_value.specs.declared.doc.DocField.{DocField}
 use Rattle.query_ast.specs.Meaning.{meaning}
 use Rattle.query_ast.specs.Sought.{view}
@@ -97,7 +97,7 @@ returns-clause-only c = λ documents p part ask.
     let matched = c.in_ok-matched.ensures.only test documents (c.in_ok-bits.ensures.only documents p (searched v s documents p part) ask.query) in
     let numbers = c.in_ok-numbers.ensures.only documents p test part matched in
     is_answer s r documents (record { count = c.len.result; hits = c.in_ok-hits.hits; partial = c.in_ok-partial.partial }) c.in_ok-numbers.numbers.items c.as_slice.result.now c.as_slice-2.result.now numbers
-    c.as_slice.ensures.value c.as_slice-2.ensures.value c.len.ensures (c.in_ok-hits.ensures.only documents p part ask.order) (c.in_ok-partial.ensures.only documents p part (over_fast s r.aggs ask.aggs))
+    c.as_slice.ensures.value c.as_slice-2.ensures.value (c.len.ensures ∙ (sym c.as_slice.ensures.len ∙ ap length c.as_slice.ensures.value)) (c.in_ok-hits.ensures.only documents p part ask.order) (c.in_ok-partial.ensures.only documents p part (over_fast s r.aggs ask.aggs))
 
 pub returns-clause-there : goal.returns-clause-there
 returns-clause-there c = λ documents p part all ask.
@@ -108,4 +108,4 @@ returns-clause-there c = λ documents p part all ask.
     let matched = c.in_ok-matched.ensures.only test documents (c.in_ok-bits.ensures.only documents p (searched v s documents p part) ask.query) in
     let numbers = c.in_ok-numbers.ensures.only documents p test part matched in
     is_answer s r documents (record { count = c.len.result; hits = c.in_ok-hits.hits; partial = c.in_ok-partial.partial }) c.in_ok-numbers.numbers.items c.as_slice.result.now c.as_slice-2.result.now numbers
-    c.as_slice.ensures.value c.as_slice-2.ensures.value c.len.ensures (c.in_ok-hits.ensures.only documents p part ask.order) (c.in_ok-partial.ensures.only documents p part (over_fast s r.aggs ask.aggs))
+    c.as_slice.ensures.value c.as_slice-2.ensures.value (c.len.ensures ∙ (sym c.as_slice.ensures.len ∙ ap length c.as_slice.ensures.value)) (c.in_ok-hits.ensures.only documents p part ask.order) (c.in_ok-partial.ensures.only documents p part (over_fast s r.aggs ask.aggs))
