@@ -1,7 +1,4 @@
-pub mod BitWords
-pub mod Bits
-pub mod Asked
-pub mod Values
-pub mod Sets
-pub mod Faults
-pub mod Needed
+pub mod Askable
+pub mod Asks
+pub mod Numbers
+pub mod Answers

@@ -1,21 +1,13 @@
 //! The answer of one split to a search, from its dictionary, its lists and its columns.
 #![tactic(auto)]
 
-mod bit_words;
-mod bits;
-mod laws;
-mod leaf_error;
-mod lists;
-mod lookups;
-mod phrases;
-mod places;
-mod sets;
-mod values;
-mod words;
+mod evaluate;
+mod fields;
+mod leaf_answer;
+mod numbers;
+mod request;
+mod timed;
 
-pub use bits::DocBits;
-pub use laws::{
-    each_by_keys, phrase_by_keys, prefix_by_dictionary, prefix_by_keys, presence_by_keys,
-    value_by_keys, word_by_keys,
-};
-pub use leaf_error::LeafError;
+pub use doc_sets::LeafError;
+pub use leaf_answer::leaf;
+pub use request::{LeafAnswer, LeafRequest};
