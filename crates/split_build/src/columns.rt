@@ -19,11 +19,11 @@ pub struct ColumnLog {
 fn copies_of(alloc: Global, values: &[Value]) -> Result<Values, AllocError>
     ensures { IfOk result (λ copies. copies ≡ values.now) }
 {
-    let mut copies = Values::vacant(alloc);
+    let mut copies = Vec::with_capacity(alloc, values.len())?;
     for value in values {
         copies.push(value.copy(alloc)?)?;
     }
-    Ok(copies)
+    Ok(Values::from_vec(copies))
 }
 
 impl ColumnLog {

@@ -43,10 +43,10 @@ pub(crate) fn write_parts(
     ensures count { IfOk result (λ f. f.docs ≡ count) }
     ensures parts { (ds : List Placed) → AreLogs schema.now ds documents terms columns.items → IfOk result (ArePartsOf schema.now ds) }
 {
-    let partitions = documents.partitions(alloc)?;
-    let documents = section_of(alloc, documents, &partitions)?;
     let terms = write_terms(alloc, schema, terms)?;
     let columns = write_columns(alloc, schema, &columns)?;
+    let partitions = documents.partitions(alloc)?;
+    let documents = section_of(alloc, documents, &partitions)?;
     Ok(FileParts {
         docs: count,
         documents,

@@ -13,7 +13,7 @@ write_terms-requires c =
 pub returns-clause-parts : goal.returns-clause-parts
 returns-clause-parts c = λ ds h. record {
   partitions = c.in_ok-partitions.ensures ds h.bodies;
-  documents_are = c.in_ok-documents.ensures ds h.bodies ∙ ap (λ (l : List (List ℕ)). documents_section l ds) c.deref.ensures.value;
+  documents_are = c.in_ok-documents.ensures ds h.bodies ∙ ap (λ (l : List (List ℕ)). documents_section l ds) c.deref-2.ensures.value;
   terms = c.in_ok-terms.ensures ds (record { can = can_be_listed c.args.schema.now ds h.are_documents; said = h.said });
-  columns = c.in_ok-columns.ensures ds h.are_documents (subst (λ (l : List ColumnLog). HasColumns ds (fast_fields c.args.schema.now) l) (sym c.deref-2.ensures.value) h.columns_are);
+  columns = c.in_ok-columns.ensures ds h.are_documents (subst (λ (l : List ColumnLog). HasColumns ds (fast_fields c.args.schema.now) l) (sym c.deref.ensures.value) h.columns_are);
 }
