@@ -1,5 +1,5 @@
 -- Faults that are handed on.
-use Rattle.std.proofs.Common.{◌≡◌, ℕ, List, Option, Some, Result, Ok, Err, IsErrAnd, MatchResult, Contains, length, slice_get, refl, sym, subst, inl, inr}
+use Rattle.std.proofs.Common.{◌≡◌, ℕ, List, Some, Result, Ok, Err, IsErrAnd, MatchResult, Contains, length, slice_get, refl, sym, subst, inl, inr}
 use Rattle.split_bundle.specs.declared.pieces.FilePiece.{FilePiece}
 use Rattle.split_bundle.specs.declared.split_error.SplitError.{SplitError}
 use Rattle.split_bundle.specs.declared.split_error.SplitError.TheVariants.{Memory, BadMagic, BadSection, BadVersion, Truncated}
@@ -9,7 +9,7 @@ use Rattle.split_bundle.specs.DocLending.{LendsPlaced, doc_place, starts_place}
 use Rattle.split_bundle.specs.Documents.{placed_bytes}
 use Rattle.split_bundle.specs.Files.{Parts}
 use Rattle.split_bundle.specs.Lending.{IsMissing}
-use Rattle.doc_tallies.specs.Causes.{AsksHits, HasCause}
+use Rattle.doc_tallies.specs.Causes.{AsksDocuments, HasCause}
 
 -- a cause among some parts is one among more
 pub cause_wider : (A B : ℕ → ℕ → Type 0) (pieces : List FilePiece) (e : SplitError) → ((at len : ℕ) → A at len → B at len) → HasCause A pieces e → HasCause B pieces e
@@ -29,13 +29,18 @@ handed_on good P (Ok x) e h cause = absurd h
 handed_on good P (Err y) e h cause = subst P (sym h) cause
 
 -- a document that is asked for lacks a part
-pub placed_lacks : (v : PartView) (p : Parts) (documents : List Placed) (field : Option ℕ) (numbers : List ℕ) (n : ℕ) (d : Placed) (e : SplitError) → Contains numbers n → slice_get documents n ≡ Some d
-    → LendsPlaced v.pieces (starts_place n) (doc_place p documents n) (length (placed_bytes p.partitions d)) d (Err e) → HasCause (AsksHits v p documents field numbers) v.pieces e
-placed_lacks v p documents field numbers n d (Memory a) among got h = tt
-placed_lacks v p documents field numbers n d BadMagic among got h = absurd h
-placed_lacks v p documents field numbers n d (Truncated at) among got (inl h) =
-    missing (AsksHits v p documents field numbers) v.pieces (starts_place n) 16 (Truncated at) h (inr (record { number = n; among = among; document = inl (refl, refl) }))
-placed_lacks v p documents field numbers n d (Truncated at) among got (inr h) =
-    missing (AsksHits v p documents field numbers) v.pieces (doc_place p documents n) (length (placed_bytes p.partitions d)) (Truncated at) h (inr (record { number = n; among = among; document = inr (d, got, refl, refl) }))
-placed_lacks v p documents field numbers n d (BadSection number) among got h = absurd h
-placed_lacks v p documents field numbers n d (BadVersion number) among got h = absurd h
+pub placed_lacks : (v : PartView) (p : Parts) (documents : List Placed) (numbers : List ℕ) (n : ℕ) (d : Placed) (e : SplitError) → Contains numbers n → slice_get documents n ≡ Some d
+    → LendsPlaced v.pieces (starts_place n) (doc_place p documents n) (length (placed_bytes p.partitions d)) d (Err e) → HasCause (AsksDocuments p documents numbers) v.pieces e
+placed_lacks v p documents numbers n d (Memory a) among got h = tt
+placed_lacks v p documents numbers n d BadMagic among got h = absurd h
+placed_lacks v p documents numbers n d (Truncated at) among got (inl h) =
+    missing (AsksDocuments p documents numbers) v.pieces (starts_place n) 16 (Truncated at) h (record { number = n; among = among; document = inl (refl, refl) })
+placed_lacks v p documents numbers n d (Truncated at) among got (inr h) =
+    missing (AsksDocuments p documents numbers) v.pieces (doc_place p documents n) (length (placed_bytes p.partitions d)) (Truncated at) h (record { number = n; among = among; document = inr (d, got, refl, refl) })
+placed_lacks v p documents numbers n d (BadSection number) among got h = absurd h
+placed_lacks v p documents numbers n d (BadVersion number) among got h = absurd h
+
+-- another answer and another cause of the same result
+pub result_wider : {X : Type 0} (P Q : X → Type 0) (C D : SplitError → Type 0) (r : Result X SplitError) → ((x : X) → P x → Q x) → ((e : SplitError) → C e → D e) → MatchResult r P C → MatchResult r Q D
+result_wider P Q C D (Ok x) good bad h = good x h
+result_wider P Q C D (Err e) good bad h = bad e h

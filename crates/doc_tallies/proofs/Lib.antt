@@ -7,3 +7,5 @@ pub mod Faults
 pub mod PickedLists
 pub mod Counted
 pub mod HitOrders
+pub mod Parting
+pub mod RankOrders

@@ -5,3 +5,4 @@ pub mod Times
 pub mod Firsts
 pub mod Orders
 pub mod AggColumns
+pub mod Ranks

@@ -6,13 +6,15 @@ ghost use Rattle.split_bundle.specs.declared.placed.Placed.{Placed};
 ghost use Rattle.split_bundle.specs.Files.{Parts, file_bytes};
 ghost use Rattle.split_bundle.specs.Lending.{IsPartOf};
 ghost use Rattle.split_bundle.specs.Wholes.{HaveAll, IsThere};
-ghost use Rattle.doc_tallies.specs.Causes.{AsksHits, HasCause};
+ghost use Rattle.doc_tallies.specs.Causes.{AsksDocuments, AsksHits, HasCause};
 ghost use Rattle.doc_tallies.specs.Firsts.{put_last_by};
 ghost use Rattle.doc_tallies.specs.Orders.{IsSortable, firsts, sort_field};
 ghost use Rattle.doc_tallies.specs.Orders as orders;
 ghost use Rattle.doc_tallies.specs.Picked.{AllBelow, picked};
+ghost use Rattle.doc_tallies.specs.Ranks.{IsSortOf};
 
 use crate::HitOrder;
+use crate::near::{SortColumn, near_numbers, open_sort};
 use crate::order::comes_before;
 use doc_value::Schema;
 use split_bundle::{PartView, Placed, PlacedList, SplitError};
@@ -46,6 +48,52 @@ fn keep(
     Ok(())
 }
 
+// The first so many of the documents of these numbers, each of which is read.
+fn hits_among(
+    alloc: Global,
+    schema: &Schema,
+    view: &PartView<'_>,
+    order: Option<HitOrder>,
+    wanted: usize,
+    numbers: &[u32],
+) -> Result<PlacedList, SplitError>
+    requires { AllBelow view.now.footer.layout.docs numbers.now }
+    ensures only { (documents : List Placed) (p : Parts) → IsPartOf view.now schema.now documents p
+        → MatchResult result (λ hits. hits ≡ firsts wanted order (picked numbers.now documents)) (HasCause (AsksDocuments p documents numbers.now) view.now.pieces) }
+    ensures there { (documents : List Placed) (p : Parts) → IsPartOf view.now schema.now documents p → HaveAll (file_bytes p) view.now.pieces → IsThere result }
+{
+    let mut kept = Vec::new(alloc);
+    for number in numbers {
+        match view.placed(alloc, schema, *number) {
+            Ok(hit) => keep(order, wanted, &mut kept, hit)?,
+            Err(fault) => return Err(fault),
+        }
+    }
+    Ok(PlacedList::from_vec(kept))
+}
+
+// The same by those that the column by which they are sorted tells, if it does.
+fn sorted_hits(
+    alloc: Global,
+    schema: &Schema,
+    view: &PartView<'_>,
+    order: Option<HitOrder>,
+    sort: &Option<SortColumn<'_>>,
+    wanted: usize,
+    numbers: &[u32],
+) -> Result<PlacedList, SplitError>
+    requires { AllBelow view.now.footer.layout.docs numbers.now }
+    ensures only { (documents : List Placed) (p : Parts) → IsPartOf view.now schema.now documents p → IsSortOf schema.now documents order sort.now
+        → MatchResult result (λ hits. hits ≡ firsts wanted order (picked numbers.now documents)) (HasCause (AsksDocuments p documents numbers.now) view.now.pieces) }
+    ensures there { (documents : List Placed) (p : Parts) → IsPartOf view.now schema.now documents p → HaveAll (file_bytes p) view.now.pieces → IsThere result }
+{
+    match near_numbers(alloc, sort, wanted, numbers) {
+        Ok(Some(near)) => hits_among(alloc, schema, view, order, wanted, near.as_slice()),
+        Ok(None) => hits_among(alloc, schema, view, order, wanted, numbers),
+        Err(refused) => Err(SplitError::Memory(refused)),
+    }
+}
+
 /// The first so many of the documents of these numbers, in order. Where none are wanted nothing is read. It answers Truncated where no
 /// piece has the column by which they are sorted, or a document of one of the numbers.
 pub fn first_hits(
@@ -65,15 +113,14 @@ pub fn first_hits(
     // Where none are wanted.
     ensures none { wanted ≡ 0 → result ≡ Ok [] }
 {
-    let mut kept = Vec::new(alloc);
     if wanted == 0 {
-        return Ok(PlacedList::from_vec(kept));
+        return Ok(PlacedList::vacant(alloc));
     }
-    for number in numbers {
-        match view.placed(alloc, schema, *number) {
-            Ok(hit) => keep(order, wanted, &mut kept, hit)?,
-            Err(fault) => return Err(fault),
-        }
+    match open_sort(schema, view, order) {
+        Ok(sort) => match sorted_hits(alloc, schema, view, order, &sort, wanted, numbers) {
+            Ok(hits) => Ok(hits),
+            Err(fault) => Err(fault),
+        },
+        Err(fault) => Err(fault),
     }
-    Ok(PlacedList::from_vec(kept))
 }

@@ -6,6 +6,7 @@ mod field_column;
 mod hit_order;
 mod hits;
 mod laws;
+mod near;
 mod order;
 mod partials;
 mod times;

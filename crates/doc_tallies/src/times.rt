@@ -56,7 +56,7 @@ fn lies_in(column: &Column<'_>, times: TimeRange, number: u32) -> bool
 }
 
 // Adds a number that is to be kept.
-fn push_if(numbers: &mut Vec<u32>, number: u32, kept: bool) -> Result<(), AllocError>
+pub(crate) fn push_if(numbers: &mut Vec<u32>, number: u32, kept: bool) -> Result<(), AllocError>
     ensures { OnOk result (numbers.new.items ≡ numbers.old.items ++ (if kept then number ∷ [] else [])) }
 {
     if kept {

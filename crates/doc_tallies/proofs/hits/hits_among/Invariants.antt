@@ -4,7 +4,7 @@ use Rattle.split_bundle.specs.Lending.{IsPartOf}
 use Rattle.split_bundle.specs.declared.placed.Placed.{Placed}
 use Rattle.doc_tallies.specs.Orders.{firsts}
 use Rattle.doc_tallies.specs.Picked.{picked}
-use Rattle.doc_tallies.proofs.hits.first_hits.Given as goal
+use Rattle.doc_tallies.proofs.hits.hits_among.Given as goal
 
 abbrev pub invariant-loop-number : goal.invariant-loop-number
 invariant-loop-number l =
