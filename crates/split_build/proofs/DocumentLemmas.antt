@@ -1,12 +1,12 @@
 -- Documents in bytes, one after the other.
 use Rattle.std.proofs.Common.{◌≡◌, ℕ, zero, suc, ◌+◌, ◌<◌, ◌≤◌, List, [], ◌∷◌, ◌++◌, map, length, take, drop, get_or, Some, refl, sym, ◌∙◌, ap, subst, arith, append_assoc, length-append, inl, inr}
-use Rattle.std.specs.Prelude.{slice_get, ◌⊎◌}
+use Rattle.std.specs.Prelude.{slice_get}
 use Rattle.std.specs.List.{AllByRecursion, flat_map}
 use Rattle.std.proofs.lemmas.List.{append-nil}
 use Rattle.std.proofs.lemmas.Option.{slice_get_within}
 use Rattle.byte_fields.specs.Spelling.{varint, eight}
 use Rattle.split_bundle.specs.declared.placed.Placed.{Placed}
-use Rattle.split_bundle.specs.Documents.{place_among, placed_bytes, starts, each_in_bytes, joined, section_of, documents_section}
+use Rattle.split_bundle.specs.Documents.{place_among, placed_bytes, starts, each_in_bytes, joined, documents_section}
 use Rattle.split_bundle.specs.Splits.{names_of}
 use Rattle.split_build.specs.declared.documents.Piece.{Piece}
 use Rattle.split_build.specs.declared.documents.DocumentLog.{DocumentLog}
@@ -42,12 +42,12 @@ names_push : (ds : List Placed) (d : Placed) → names_of (ds ++ d ∷ []) ≡ n
 names_push [] d = refl
 names_push (x ∷ xs) d = ap (λ (l : List (List ℕ)). x.partition ∷ l) (names_push xs d)
 
-among_more : (ns : List (List ℕ)) (p x : List ℕ) → IsAmong ns x → IsAmong (ns ++ p ∷ []) x
+pub among_more : (ns : List (List ℕ)) (p x : List ℕ) → IsAmong ns x → IsAmong (ns ++ p ∷ []) x
 among_more [] p x h = absurd h
 among_more (n ∷ ns) p x (inl same) = inl same
 among_more (n ∷ ns) p x (inr later) = inr (among_more ns p x later)
 
-among_end : (ns : List (List ℕ)) (p : List ℕ) → IsAmong (ns ++ p ∷ []) p
+pub among_end : (ns : List (List ℕ)) (p : List ℕ) → IsAmong (ns ++ p ∷ []) p
 among_end [] p = inl refl
 among_end (n ∷ ns) p = inr (among_end ns p)
 

@@ -1,7 +1,7 @@
 -- Occurrences grouped run by run.
-use Rattle.std.proofs.Common.{◌≡◌, ℕ, suc, ◌+◌, ◌-◌, ◌<◌, ◌≤◌, Bool, true, false, List, [], ◌∷◌, ◌++◌, length, take, drop, refl, sym, ◌∙◌, ap, subst, arith, eq-eqb, append_assoc, length-drop}
+use Rattle.std.proofs.Common.{◌≡◌, ℕ, suc, ◌-◌, Bool, true, false, List, [], ◌∷◌, ◌++◌, length, take, drop, refl, sym, ◌∙◌, ap, subst, arith, eq-eqb, append_assoc, length-drop}
 use Rattle.std.specs.Prelude.{◌==◌, if◌then◌else◌}
-use Rattle.std.proofs.lemmas.Bool.{ne_eqb, eqb-true}
+use Rattle.std.proofs.lemmas.Bool.{eqb-true}
 use Rattle.term_postings.specs.declared.list.Posting.{Posting}
 use Rattle.split_build.specs.Grouped.{onto, grouped, run_of}
 

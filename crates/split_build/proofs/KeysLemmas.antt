@@ -1,6 +1,6 @@
 -- Which keys occur, and sorted keys.
-use Rattle.std.proofs.Common.{◌≡◌, ℕ, zero, suc, ◌+◌, ◌<◌, Bool, true, false, List, [], ◌∷◌, ◌++◌, map, length, get_or, refl, sym, ◌∙◌, ap, subst, arith, inl, inr, length-append}
-use Rattle.std.specs.Prelude.{◌||◌, ◌⊎◌, ◌↔◌, Contains, IsTrue, Vec, if◌then◌else◌, All}
+use Rattle.std.proofs.Common.{◌≡◌, ℕ, zero, suc, ◌+◌, ◌<◌, Bool, true, false, List, [], ◌∷◌, ◌++◌, map, length, get_or, refl, ◌∙◌, ap, subst, arith, inl, inr}
+use Rattle.std.specs.Prelude.{◌↔◌, Contains, IsTrue, Vec}
 use Rattle.std.specs.List.{AllByRecursion, IsDistinct}
 use Rattle.std.specs.List.Sorted.{IsSorted, IsPermutation}
 use Rattle.std.specs.Map.{keys_of}
@@ -16,9 +16,8 @@ use Rattle.doc_value.specs.declared.schema.Schema.{Schema}
 use Rattle.split_bundle.specs.declared.placed.Placed.{Placed}
 use Rattle.split_bundle.specs.Keys.{Occurrence, keys_of as occurrences_of}
 use Rattle.split_bundle.specs.Lists.{has_key, stands_in}
-use Rattle.split_bundle.specs.Splits.{AreRising, AreKeys}
+use Rattle.split_bundle.specs.Splits.{AreRising}
 use Rattle.fast_fields.proofs.Below.{below_then, neither_below}
-use Rattle.split_build.specs.declared.terms.KeyList.{KeyList}
 use Rattle.split_build.specs.Said.{Said, in_document, said_from, with_key}
 use Rattle.split_build.specs.HeldTerms.{HoldsKey, keys_in}
 use Rattle.split_build.specs.Members.{IsAmong}
@@ -102,7 +101,7 @@ exact_keys s ds es each all key =
 
 -- ---- sorted
 
-above_all : (x y : List ℕ) (ks : List (List ℕ)) → is_below x y ≡ true → AllByRecursion (λ u. is_below y u ≡ true) ks → AllByRecursion (λ u. is_below x u ≡ true) ks
+pub above_all : (x y : List ℕ) (ks : List (List ℕ)) → is_below x y ≡ true → AllByRecursion (λ u. is_below y u ≡ true) ks → AllByRecursion (λ u. is_below x u ≡ true) ks
 above_all x y [] lt h = tt
 above_all x y (k ∷ ks) lt h = (below_then x y k lt h.0, above_all x y ks lt h.1)
 

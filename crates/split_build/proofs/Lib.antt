@@ -7,3 +7,15 @@ pub mod GroupedLemmas
 pub mod TermLemmas
 pub mod KeysLemmas
 pub mod WrittenLemmas
+pub mod OnWay
+pub mod RisingLemmas
+pub mod TagLemmas
+pub mod TimesLemmas
+pub mod Zipped
+pub mod PartitionLemmas
+pub mod RowLemmas
+pub mod ColumnLemmas
+pub mod BuiltLemmas
+pub mod TakenLemmas
+pub mod FileLemmas
+pub mod BuilderLemmas

@@ -1,5 +1,5 @@
 -- The places of a key in a document rise.
-use Rattle.std.proofs.Common.{◌≡◌, ℕ, zero, suc, ◌+◌, ◌-◌, ◌*◌, ◌/◌, ◌%◌, ◌^◌, ◌<◌, ◌≤◌, Bool, true, false, List, [], ◌∷◌, ◌++◌, length, Option, Some, None, refl, sym, ◌∙◌, ap, subst, arith, inl, inr}
+use Rattle.std.proofs.Common.{◌≡◌, ℕ, suc, ◌+◌, ◌*◌, ◌/◌, ◌%◌, ◌^◌, ◌<◌, ◌≤◌, Bool, true, false, List, [], ◌∷◌, ◌++◌, Option, Some, None, refl, sym, ◌∙◌, ap, subst, arith, inl, inr}
 use Rattle.std.specs.Prelude.{slice_get, ◌⊎◌, if◌then◌else◌}
 use Rattle.std.specs.List.{AllByRecursion}
 use Rattle.std.specs.Str.{bytes_eq}
@@ -20,7 +20,7 @@ use Rattle.query_ast.specs.FieldTokens.{field_tokens}
 use Rattle.query_ast.specs.Meaning.{values_in}
 use Rattle.split_bundle.specs.Keys.{Occurrence, field_key, presence_key, value_place, of_tokens, of_value, of_values, of_presence, of_field, of_fields, keys_of}
 use Rattle.split_bundle.specs.Lists.{places_of, keeps_places}
-use Rattle.split_build.specs.Walks.{IsShort, AreShort, IsShortDoc}
+use Rattle.split_build.specs.Walks.{IsShort, IsShortDoc}
 use Rattle.split_build.proofs.SaidLemmas.{eq_false}
 use Rattle.split_bundle.proofs.TokenPlaces.{TokensRise, AreBelow, tokens_rise, tokens_below}
 

@@ -1,5 +1,5 @@
 -- Occurrences that are added piece by piece.
-use Rattle.std.proofs.Common.{◌≡◌, ℕ, zero, suc, ◌+◌, ◌*◌, ◌/◌, ◌%◌, ◌<◌, ◌^◌, Bool, true, false, List, length, [], ◌∷◌, ◌++◌, drop, Option, Some, None, refl, sym, ◌∙◌, ap, subst, arith, append_assoc}
+use Rattle.std.proofs.Common.{◌≡◌, ℕ, zero, suc, ◌+◌, ◌*◌, ◌/◌, ◌%◌, Bool, true, false, List, length, [], ◌∷◌, ◌++◌, drop, Option, Some, None, refl, sym, ◌∙◌, ap, subst, arith, append_assoc}
 use Rattle.std.specs.Prelude.{slice_get, OnOk, Result, Ok, Err, ◌==◌}
 use Rattle.std.specs.Option.{option_map_or}
 use Rattle.std.proofs.Math.Nat.{mod-add-div}
@@ -13,7 +13,6 @@ use Rattle.doc_value.specs.Terms.{term_bytes}
 use Rattle.query_ast.specs.Meaning.{values_in}
 use Rattle.split_bundle.specs.Keys.{Occurrence, field_key, presence_key, value_place, of_value, of_values, of_field, of_fields}
 use Rattle.std.proofs.lemmas.List.{append-nil}
-use Rattle.std.specs.List.{AllByRecursion}
 use Rattle.doc_value.specs.declared.schema.Schema.{Schema}
 use Rattle.split_bundle.specs.Lists.{keeps_places}
 use Rattle.split_build.specs.declared.terms.TermLog.{TermLog}

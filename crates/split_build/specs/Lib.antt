@@ -6,3 +6,12 @@ pub mod HeldTerms
 pub mod Walks
 pub mod Grouped
 pub mod WrittenTerms
+pub mod Times
+pub mod Tags
+pub mod HeldTags
+pub mod HeldColumns
+pub mod Filed
+pub mod Facts
+pub mod Limits
+pub mod Builders
+pub mod Sections

@@ -1,5 +1,5 @@
 -- The dictionary, the postings and the positions of keys, as far as they are written.
-use Rattle.std.specs.Prelude.{◌≡◌, ℕ, ◌^◌, ◌<◌, true, List, [], ◌∷◌, map, length, Vec}
+use Rattle.std.specs.Prelude.{◌≡◌, ℕ, ◌^◌, ◌<◌, List, map, length}
 use Rattle.std.specs.List.{flat_map, AllByRecursion}
 use Rattle.doc_value.specs.declared.schema.Schema.{Schema}
 use Rattle.doc_value.specs.Documents.{IsSchema}

@@ -5,7 +5,9 @@ ghost use Rattle.std.specs.List.{AllByRecursion, insert};
 ghost use Rattle.split_bundle.specs.declared.placed.Placed.{Placed};
 ghost use Rattle.split_bundle.specs.Documents.{place_among, documents_section};
 ghost use Rattle.split_build.specs.Bodies.{body_of};
-ghost use Rattle.split_build.specs.HeldDocuments.{HasDocuments, with_name, with_names};
+ghost use Rattle.split_bundle.specs.Splits.{ArePartitions};
+ghost use Rattle.source_checkpoint.specs.Names.{IsPartition};
+ghost use Rattle.split_build.specs.HeldDocuments.{HasDocuments, with_name};
 
 use byte_fields::{put_eight, put_varint};
 use source_checkpoint::Partition;
@@ -67,13 +69,15 @@ impl DocumentLog {
         Ok(())
     }
 
-    /// The partitions in the order of their bytes.
+    /// The partitions that have a document, in the order of their bytes.
     pub fn partitions(&self, alloc: Global) -> Result<Vec<Partition>, AllocError>
-        ensures { IfOk result (λ sorted. sorted.items ≡ with_names [] self.now.names.items) }
+        ensures { (documents : List Placed) → HasDocuments self.now documents → IfOk result (λ sorted. ArePartitions documents sorted.items) }
     {
         let mut sorted = Vec::new(alloc);
-        for name in &self.names {
+        let mut rest = self.names.as_slice();
+        while let Some((name, behind)) = rest.split_first() {
             insert_name(&mut sorted, name)?;
+            rest = behind;
         }
         Ok(sorted)
     }
@@ -106,12 +110,12 @@ impl DocumentLog {
 }
 
 // Where a name belongs among these, or none where it stands there.
-fn place_for(names: &[Partition], name: &Partition) -> Option<usize>
+fn place_for(names: &[Partition], name: &[u8]) -> Option<usize>
     ensures { MatchOption result (with_name name.now names.now ≡ names.now)
         (λ place. (place ≤ length names.now) × (with_name name.now names.now ≡ insert names.now place name.now)) }
 {
     for (i, other) in names.iter().enumerate() {
-        match name.compare(other) {
+        match name.cmp(other.as_bytes()) {
             Ordering::Less => return Some(i),
             Ordering::Equal => return None,
             Ordering::Greater => {}
@@ -122,9 +126,10 @@ fn place_for(names: &[Partition], name: &Partition) -> Option<usize>
 
 // Puts a name at its place in the order of the bytes, where it isn't there yet.
 fn insert_name(names: &mut Vec<Partition>, name: &Partition) -> Result<(), AllocError>
-    ensures { OnOk result (names.new.items ≡ with_name name.now names.old.items) }
+    ensures put { OnOk result (names.new.items ≡ with_name name.now names.old.items) }
+    ensures good { IsPartition name.now }
 {
-    if let Some(place) = place_for(names.as_slice(), name) {
+    if let Some(place) = place_for(names.as_slice(), name.as_bytes()) {
         names.insert(place, *name)?;
     }
     Ok(())

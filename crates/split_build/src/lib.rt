@@ -1,16 +1,32 @@
-//! The parts of a split file, built from placed documents, one after the other.
+//! A split file and its facts, built from placed documents, one after the other or from a list of them.
 #![tactic(auto)]
 
 mod bodies;
 mod build_error;
+mod builder;
+mod building;
+mod column_parts;
+mod columns;
 mod documents;
+mod file;
 mod occurrences;
+mod sections;
+mod tag_parts;
+mod tags;
 mod term_parts;
 mod terms;
+mod times;
+mod weights;
 
 pub use bodies::put_body;
 pub use build_error::BuildError;
+pub use builder::{Builder, BuiltSplit};
+pub use building::build;
+pub use column_parts::ColumnSection;
+pub use columns::ColumnLog;
 pub use documents::{DocumentLog, Piece};
+pub use file::FileParts;
 pub use occurrences::Walker;
+pub use tags::TagLog;
 pub use term_parts::{TermParts, write_terms};
 pub use terms::{KeyList, TermLog};

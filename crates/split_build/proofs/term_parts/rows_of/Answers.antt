@@ -1,4 +1,4 @@
-use Rattle.std.proofs.Common.{◌≡◌, ◌∙◌, ◌++◌, ◌∷◌, [], List, ℕ, ap}
+use Rattle.std.proofs.Common.{◌∙◌, List, ap}
 use Rattle.std.proofs.lemmas.List.{map_push}
 use Rattle.term_postings.specs.declared.list.Row.{Row}
 use Rattle.term_postings.specs.Rows.{lent, lent_one}

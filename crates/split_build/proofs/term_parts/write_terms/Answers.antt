@@ -4,7 +4,7 @@ use Rattle.std.proofs.lemmas.List.{append-nil, length-map}
 use Rattle.split_bundle.specs.Splits.{AreRising}
 use Rattle.split_build.specs.Said.{said_from}
 use Rattle.split_build.specs.HeldTerms.{HoldsKey, keys_in}
-use Rattle.split_build.specs.WrittenTerms.{IsListOf, CanBeListed}
+use Rattle.split_build.specs.WrittenTerms.{IsListOf}
 use Rattle.split_build.proofs.SaidLemmas.{Entry}
 use Rattle.split_build.proofs.TermLemmas.{front_rises}
 use Rattle.split_build.proofs.KeysLemmas.{each_again, all_again, sorted_rise, exact_keys, list_of_entry}

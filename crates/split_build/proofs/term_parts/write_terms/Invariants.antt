@@ -1,7 +1,6 @@
 use Rattle.std.proofs.Common.{◌≡◌, ◌++◌, List, ℕ}
 use Rattle.std.specs.List.{AllByRecursion}
 use Rattle.split_bundle.specs.declared.placed.Placed.{Placed}
-use Rattle.split_bundle.specs.Splits.{AreRising}
 use Rattle.split_build.specs.Said.{said_from}
 use Rattle.split_build.specs.HeldTerms.{HoldsKey, keys_in}
 use Rattle.split_build.specs.WrittenTerms.{HasWritten, IsLogOf}

@@ -1,4 +1,4 @@
-use Rattle.std.proofs.Common.{◌≡◌, ◌∙◌, ◌+◌, ℕ, List, ap, subst, length, arith}
+use Rattle.std.proofs.Common.{◌∙◌, List, ap, subst, length, arith}
 use Rattle.doc_value.specs.declared.doc.Value.{Value}
 use Rattle.doc_value.specs.declared.schema.Field.{Field}
 use Rattle.split_bundle.specs.Keys.{of_field}

@@ -1,4 +1,4 @@
-use Rattle.std.proofs.Common.{◌≡◌, ℕ, ◌+◌, ◌≤◌, drop, length}
+use Rattle.std.proofs.Common.{◌≡◌, ◌+◌, drop, length}
 use Rattle.split_bundle.specs.Keys.{of_fields}
 use Rattle.split_build.specs.Said.{in_document}
 use Rattle.split_build.proofs.WalkLemmas.{Walked}

@@ -1,4 +1,4 @@
-use Rattle.std.proofs.Common.{◌≡◌, ◌∙◌, ℕ, List, [], ◌∷◌, refl, sym, subst}
+use Rattle.std.proofs.Common.{◌≡◌, ◌∙◌, List, [], ◌∷◌, refl, sym, subst}
 use Rattle.std.specs.Prelude.{OnOk}
 use Rattle.split_bundle.specs.Keys.{presence_key, of_values}
 use Rattle.split_build.specs.Said.{Said, in_document}

@@ -1,7 +1,7 @@
-use Rattle.std.proofs.Common.{◌≡◌, ◌∙◌, ℕ, List, [], ◌∷◌, OnOk, ap, sym, subst}
+use Rattle.std.proofs.Common.{◌≡◌, ◌∙◌, ℕ, List, OnOk, ap, sym, subst}
 use Rattle.doc_value.specs.Terms.{term_bytes}
-use Rattle.split_bundle.specs.Keys.{field_key, value_place, of_value}
-use Rattle.split_build.specs.Said.{Said, in_document}
+use Rattle.split_bundle.specs.Keys.{field_key, value_place}
+use Rattle.split_build.specs.Said.{Said}
 use Rattle.split_build.specs.Walks.{Adds}
 use Rattle.split_build.proofs.WalkLemmas.{other_value_is, adds_said_ok}
 use Rattle.split_build.proofs.occurrences.Walker.add_term.Goals as goal

@@ -1,9 +1,9 @@
-use Rattle.std.proofs.Common.{◌≡◌, ◌∙◌, ◌<◌, ◌^◌, ℕ, List, [], ◌∷◌, ap, sym, subst, length}
+use Rattle.std.proofs.Common.{◌≡◌, ◌∙◌, ◌<◌, ◌^◌, ℕ, List, [], ◌∷◌, ap, subst}
 use Rattle.std.specs.List.{AllByRecursion}
 use Rattle.std.proofs.lemmas.List.{nil_from_length}
 use Rattle.text_tokens.specs.declared.tokens.Token.{Token}
 use Rattle.split_bundle.specs.Keys.{field_key, value_place, of_tokens}
-use Rattle.split_build.specs.Said.{Said, in_document}
+use Rattle.split_build.specs.Said.{in_document}
 use Rattle.split_build.proofs.WalkLemmas.{walked_step, walked_end, adds_said}
 use Rattle.split_build.proofs.occurrences.Walker.add_tokens.Goals as goal
 

@@ -1,9 +1,9 @@
-use Rattle.std.proofs.Common.{◌≡◌, ◌∙◌, ◌<◌, ◌+◌, ◌^◌, ℕ, List, [], ◌∷◌, ap, sym, subst, length, arith}
+use Rattle.std.proofs.Common.{List, ap, subst, length, arith}
 use Rattle.std.specs.List.{AllByRecursion}
 use Rattle.std.proofs.lemmas.List.{nil_from_length}
 use Rattle.doc_value.specs.declared.doc.Value.{Value}
-use Rattle.split_bundle.specs.Keys.{of_value, of_values}
-use Rattle.split_build.specs.Said.{Said, in_document}
+use Rattle.split_bundle.specs.Keys.{of_values}
+use Rattle.split_build.specs.Said.{in_document}
 use Rattle.split_build.specs.Walks.{IsShort}
 use Rattle.split_build.proofs.WalkLemmas.{values_step, walked_end}
 use Rattle.split_build.proofs.occurrences.Walker.add_values.Goals as goal

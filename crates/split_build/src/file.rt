@@ -1,0 +1,137 @@
+//! The footer of a split file, and the file.
+
+ghost use Rattle.std.specs.Prelude.{◌≡◌, ◌++◌, ◌∷◌, [], ◌^◌, ◌<◌, ℕ, List, length, IfOk, OnOk};
+ghost use Rattle.std.specs.List.{AllByRecursion};
+ghost use Rattle.source_checkpoint.specs.Names.{IsPartition};
+ghost use Rattle.split_bundle.specs.Files.{partitions_bytes, index_bytes, starts_bytes, lengths_bytes, sections_bytes};
+
+use crate::column_parts::ColumnSection;
+use crate::term_parts::TermParts;
+use byte_fields::{put_bytes, put_eight, put_varint};
+use source_checkpoint::Partition;
+use split_bundle::ColumnStart;
+use std::alloc::{AllocError, Global};
+use term_dict::BlockIndex;
+
+/// What a split file is made of.
+#[derive(Drop)]
+pub struct FileParts {
+    pub docs: u32,
+    pub documents: Vec<u8>,
+    pub terms: TermParts,
+    pub columns: ColumnSection,
+    pub partitions: Vec<Partition>,
+}
+
+// A count, and so many texts.
+fn put_partitions(out: &mut Vec<u8>, names: &[Partition]) -> Result<(), AllocError>
+    ensures bytes { OnOk result (out.new.items ≡ out.old.items ++ partitions_bytes names.now) }
+    ensures names { OnOk result (AllByRecursion IsPartition names.now) }
+{
+    put_varint(out, names.len() as u64)?;
+    let mut rest = names;
+    while let Some((name, behind)) = rest.split_first() {
+        put_bytes(out, name.as_bytes())?;
+        rest = behind;
+    }
+    Ok(())
+}
+
+// A count, and of each block the first key and the start.
+fn put_index(out: &mut Vec<u8>, index: &BlockIndex) -> Result<(), AllocError>
+    ensures bytes { OnOk result (out.new.items ≡ out.old.items ++ index_bytes index.now) }
+    ensures starts { OnOk result (AllByRecursion (λ b. b.start < 2 ^ 64) index.now) }
+    ensures count { length index.now < 2 ^ 64 }
+{
+    put_varint(out, index.len() as u64)?;
+    for number in 0..index.len() {
+        let block = index.at(number);
+        put_bytes(out, block.first.as_slice())?;
+        put_varint(out, block.start)?;
+    }
+    Ok(())
+}
+
+// A count, and of each fast field the number and the start.
+fn put_starts(out: &mut Vec<u8>, starts: &[ColumnStart]) -> Result<(), AllocError>
+    ensures bytes { OnOk result (out.new.items ≡ out.old.items ++ starts_bytes starts.now) }
+    ensures numbers { OnOk result (AllByRecursion (λ c. (c.number < 2 ^ 64) × (c.start < 2 ^ 64)) starts.now) }
+{
+    put_varint(out, starts.len() as u64)?;
+    let mut rest = starts;
+    while let Some((column, behind)) = rest.split_first() {
+        put_varint(out, column.number)?;
+        put_varint(out, column.start)?;
+        rest = behind;
+    }
+    Ok(())
+}
+
+impl FileParts {
+    ghost use Rattle.split_build.specs.Filed.{IsFileOf, IsFooterPut, LengthsFit, parts_of};
+
+    // The lengths of the sections.
+    fn put_lengths(&self, out: &mut Vec<u8>) -> Result<(), AllocError>
+        ensures bytes { (keys : List (List ℕ)) → OnOk result (out.new.items ≡ out.old.items ++ lengths_bytes (parts_of self.now keys)) }
+        ensures fit { (keys : List (List ℕ)) → OnOk result (LengthsFit (parts_of self.now keys)) }
+    {
+        put_varint(out, self.documents.len() as u64)?;
+        put_varint(out, self.terms.dictionary.len() as u64)?;
+        put_varint(out, self.terms.postings.len() as u64)?;
+        put_varint(out, self.terms.positions.len() as u64)?;
+        put_varint(out, self.columns.bytes.len() as u64)?;
+        Ok(())
+    }
+
+    fn put_footer(&self, out: &mut Vec<u8>) -> Result<(), AllocError>
+        ensures { (keys : List (List ℕ)) → self.now.terms.count ≡ length keys → OnOk result (IsFooterPut out.old.items out.new.items (parts_of self.now keys)) }
+    {
+        put_varint(out, u64::from(self.docs))?;
+        self.put_lengths(out)?;
+        put_partitions(out, &self.partitions)?;
+        put_varint(out, self.terms.count)?;
+        put_index(out, &self.terms.index)?;
+        put_starts(out, &self.columns.starts)?;
+        Ok(())
+    }
+
+    // The sections one behind the other.
+    fn put_sections(&self, out: &mut Vec<u8>) -> Result<(), AllocError>
+        ensures { (keys : List (List ℕ)) → OnOk result (out.new.items ≡ out.old.items ++ sections_bytes (parts_of self.now keys)) }
+    {
+        out.extend_from_slice(&self.documents)?;
+        out.extend_from_slice(self.terms.dictionary.as_slice())?;
+        out.extend_from_slice(&self.terms.postings)?;
+        out.extend_from_slice(&self.terms.positions)?;
+        out.extend_from_slice(&self.columns.bytes)?;
+        Ok(())
+    }
+
+    // How many bytes the sections have.
+    fn size(&self) -> usize {
+        self.documents
+            .len()
+            .saturating_add(self.terms.dictionary.len())
+            .saturating_add(self.terms.postings.len())
+            .saturating_add(self.terms.positions.len())
+            .saturating_add(self.columns.bytes.len())
+    }
+
+    /// The file of these parts, for which room is made once.
+    pub(crate) fn write_file(&self, alloc: Global) -> Result<Vec<u8>, AllocError>
+        ensures { (keys : List (List ℕ)) → self.now.terms.count ≡ length keys → IfOk result (λ file. IsFileOf (parts_of self.now keys) file.items) }
+    {
+        let mut footer = Vec::new(alloc);
+        self.put_footer(&mut footer)?;
+        let mut out = Vec::with_capacity(
+            alloc,
+            self.size().saturating_add(footer.len()).saturating_add(16),
+        )?;
+        out.extend_from_slice(&[0x51, 0x57, 0x53, 2])?;
+        self.put_sections(&mut out)?;
+        out.extend_from_slice(&footer)?;
+        put_eight(&mut out, footer.len() as u64)?;
+        out.extend_from_slice(&[0x51, 0x57, 0x46, 2])?;
+        Ok(out)
+    }
+}
