@@ -7,6 +7,11 @@ use Rattle.split_bundle.specs.declared.split_error.SplitError.TheVariants as spl
 use Rattle.split_bundle.specs.declared.split_view.SplitView.{SplitView}
 use Rattle.split_merge.specs.declared.merge_error.MergeError.{MergeError}
 use Rattle.split_merge.specs.declared.merge_error.MergeError.TheVariants.{Memory, Split, Build}
+use Rattle.split_build.specs.declared.build_error.BuildError.{BuildError}
+use Rattle.split_build.specs.declared.build_error.BuildError.TheVariants as build
+use Rattle.split_build.specs.declared.builder.BuiltSplit.{BuiltSplit}
+use Rattle.split_build.specs.Builders.{IsBuilt}
+use Rattle.split_build.specs.Limits.{MakeNone}
 use Rattle.split_merge.specs.Keeping.{ViewsSplit}
 
 -- want of memory
@@ -50,3 +55,18 @@ abbrev pub HasCause : Schema → List SplitView → MergeError → Type 0
 HasCause s views (Memory a) = ⊤
 HasCause s views (Split number e) = HasFault s views number e
 HasCause s views (Build e) = ⊤
+
+-- what a refusal of the builder is to the merge
+abbrev pub refusal_of : BuildError → MergeError
+refusal_of (build.Memory a) = Memory a
+refusal_of (build.TooManyDocs count) = Build (build.TooManyDocs count)
+refusal_of (build.TooLarge weight) = Build (build.TooLarge weight)
+
+-- the split of these documents, or want of memory, or that they pass the limits of a split
+abbrev pub Merges : Schema → List Placed → Result BuiltSplit MergeError → Type 0
+Merges s documents (Ok built) = IsBuilt s documents built
+Merges s documents (Err (Memory a)) = ⊤
+Merges s documents (Err (Split number e)) = ⊥
+Merges s documents (Err (Build (build.Memory a))) = ⊥
+Merges s documents (Err (Build (build.TooManyDocs count))) = MakeNone documents (build.TooManyDocs count)
+Merges s documents (Err (Build (build.TooLarge weight))) = MakeNone documents (build.TooLarge weight)

@@ -3,5 +3,7 @@
 
 mod keeping;
 mod merge_error;
+mod merging;
 
 pub use merge_error::MergeError;
+pub use merging::merge;
