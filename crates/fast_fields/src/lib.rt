@@ -16,3 +16,4 @@ pub use entries::{Entry, turned};
 pub use in_step::InStep;
 pub use rows::{ColumnList, ColumnRow};
 pub use text_walk::TextWalk;
+pub use texts::{distinct, ordinal};

@@ -50,8 +50,8 @@ fn gather_row<'a>(all: &mut Vec<&'a str>, values: &'a [Value]) -> Result<(), All
     Ok(())
 }
 
-// Those of the texts that stand behind the one taken last.
-fn distinct<'a>(alloc: Global, sorted: &[&'a str]) -> Result<Vec<&'a str>, AllocError>
+/// The distinct ones of sorted texts.
+pub fn distinct<'a>(alloc: Global, sorted: &[&'a str]) -> Result<Vec<&'a str>, AllocError>
     requires { IsSorted (λ x y. slice_cmp nat_cmp x.now y.now) sorted.now }
     ensures texts { (cs : List Cell) → All (IsCellText cs) sorted.now → IfOk result (λ v. AreTexts cs (texts_in v.items)) }
     ensures each { (t : List ℕ) → Contains (texts_in sorted.now) t → IfOk result (λ v. Contains (texts_in v.items) t) }
@@ -81,8 +81,8 @@ fn is_below(text: &str, other: &str) -> bool
     text.as_bytes().cmp(other.as_bytes()) == Ordering::Less
 }
 
-// The place of a text among rising ones, of which it is one.
-pub(crate) fn ordinal(texts: &[&str], text: &str) -> u64
+/// The place of a text among rising ones, of which it is one.
+pub fn ordinal(texts: &[&str], text: &str) -> u64
     requires rise { TextsRise (texts_in texts.now) }
     requires among { Contains (texts_in texts.now) text.now }
     ensures { slice_get (texts_in texts.now) result ≡ Some text.now }

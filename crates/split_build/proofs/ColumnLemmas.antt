@@ -6,14 +6,13 @@ use Rattle.std.proofs.lemmas.List.{append-nil}
 use Rattle.std.proofs.lemmas.Option.{slice_get_within}
 use Rattle.doc_value.specs.declared.schema.Field.{Field}
 use Rattle.doc_value.specs.declared.schema.Schema.{Schema}
-use Rattle.fast_fields.specs.declared.rows.ColumnRow.{ColumnRow}
-use Rattle.fast_fields.specs.Columns.{AreRows, IsColumn}
+use Rattle.fast_fields.specs.Columns.{IsColumn, cells}
 use Rattle.split_bundle.specs.declared.layout.ColumnStart.{ColumnStart}
 use Rattle.split_bundle.specs.declared.placed.Placed.{Placed}
 use Rattle.split_bundle.specs.Columns.{AreColumns, FastField, fast_from, fast_fields, column_rows}
 use Rattle.split_bundle.specs.Splits.{AreDocumentsOf}
 use Rattle.split_build.specs.declared.columns.ColumnLog.{ColumnLog}
-use Rattle.split_build.specs.HeldColumns.{HasRows, HasColumns}
+use Rattle.split_build.specs.HeldColumns.{CanWrite, HasColumns, HasRows, IsPut}
 use Rattle.split_build.proofs.RowLemmas.{can_encode}
 
 -- ---- a column more
@@ -92,18 +91,19 @@ same_field s ds starts bytes log behind field n got =
     let same : Some n.f.field ≡ Some field = sym n.at ∙ sym (ap (λ (i : ℕ). slice_get s.fields i) n.log_is.number) ∙ got in
     cc
 
-pub can_write : (s : Schema) (ds : List Placed) (starts : List ColumnStart) (bytes : List ℕ) (log : ColumnLog) (behind : List ColumnLog) (field : Field) → AreDocumentsOf s ds → IsNext s ds starts bytes log behind
-    → slice_get s.fields log.number ≡ Some field → AreRows field.kind log.rows
+pub can_write : (s : Schema) (ds : List Placed) (starts : List ColumnStart) (bytes : List ℕ) (log : ColumnLog) (behind : List ColumnLog) (field : Field) → AreDocumentsOf s ds → (n : IsNext s ds starts bytes log behind)
+    → slice_get s.fields log.number ≡ Some field → CanWrite field.kind log (cells (column_rows n.f.number ds))
 can_write s ds starts bytes log behind field are n got =
-    let same = same_field s ds starts bytes log behind field n got in
-    subst (λ (g : Field). AreRows g.kind log.rows) same (subst (λ (rows : List ColumnRow). AreRows n.f.field.kind rows) (sym n.log_is.rows) (can_encode s n.f.number n.f.field ds n.at are))
+    let rows = can_encode s n.f.number n.f.field ds n.at are in
+    subst (λ (g : Field). CanWrite g.kind log (cells (column_rows n.f.number ds))) (same_field s ds starts bytes log behind field n got)
+    (record { document = length ds; cells_are = n.log_is.cells_are; of_kind = rows.of_kind; few = rows.few })
 
-pub written_one : (s : Schema) (ds : List Placed) (starts : List ColumnStart) (bytes : List ℕ) (log : ColumnLog) (behind : List ColumnLog) (field : Field) (column more_bytes : List ℕ) (more_starts : List ColumnStart) → IsNext s ds starts bytes log behind
-    → slice_get s.fields log.number ≡ Some field → IsColumn field.kind column log.rows → more_starts ≡ starts ++ record { number = log.number; start = length bytes } ∷ [] → more_bytes ≡ bytes ++ column → AreWritten s ds more_starts more_bytes behind
-written_one s ds starts bytes log behind field column more_bytes more_starts n got is starts_are bytes_are =
+pub written_one : (s : Schema) (ds : List Placed) (starts : List ColumnStart) (bytes : List ℕ) (log : ColumnLog) (behind : List ColumnLog) (field : Field) (more_bytes : List ℕ) (more_starts : List ColumnStart) (n : IsNext s ds starts bytes log behind)
+    → slice_get s.fields log.number ≡ Some field → IsPut field.kind (cells (column_rows n.f.number ds)) bytes more_bytes → more_starts ≡ starts ++ record { number = log.number; start = length bytes } ∷ [] → AreWritten s ds more_starts more_bytes behind
+written_one s ds starts bytes log behind field more_bytes more_starts n got put starts_are =
     let same = same_field s ds starts bytes log behind field n got in
-    let here : IsColumn n.f.field.kind column (column_rows n.f.number ds) = subst (λ (g : Field). IsColumn g.kind column (column_rows n.f.number ds)) (sym same) (subst (λ (rows : List ColumnRow). IsColumn field.kind column rows) n.log_is.rows is) in
-    let more = columns_more ds 0 n.done starts bytes n.f column n.columns here in
+    let here : IsColumn n.f.field.kind put.column (column_rows n.f.number ds) = subst (λ (g : Field). IsColumn g.kind put.column (column_rows n.f.number ds)) (sym same) (put.is_column (column_rows n.f.number ds) refl) in
+    let more = columns_more ds 0 n.done starts bytes n.f put.column n.columns here in
     let first : 0 + length bytes ≡ length bytes = omega arith in
     let starts_same : starts ++ record { number = n.f.number; start = 0 + length bytes } ∷ [] ≡ more_starts =
     ap (λ (i : ℕ). starts ++ record { number = n.f.number; start = i } ∷ []) first ∙ ap (λ (i : ℕ). starts ++ record { number = i; start = length bytes } ∷ []) (sym n.log_is.number) ∙ sym starts_are in
@@ -112,7 +112,7 @@ written_one s ds starts bytes log behind field column more_bytes more_starts n g
       left = n.left;
       whole = append_assoc n.done (n.f ∷ []) n.left ∙ n.whole;
       there = n.there;
-      columns = subst (λ (l : List ℕ). AreColumns ds 0 (n.done ++ n.f ∷ []) more_starts l) (sym bytes_are) (subst (λ (cs : List ColumnStart). AreColumns ds 0 (n.done ++ n.f ∷ []) cs (bytes ++ column)) starts_same more);
+      columns = subst (λ (l : List ℕ). AreColumns ds 0 (n.done ++ n.f ∷ []) more_starts l) (sym put.after_is) (subst (λ (cs : List ColumnStart). AreColumns ds 0 (n.done ++ n.f ∷ []) cs (bytes ++ put.column)) starts_same more);
       logs_are = n.logs_are;
     }
 

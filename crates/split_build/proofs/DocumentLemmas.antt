@@ -16,7 +16,7 @@ use Rattle.split_build.specs.HeldDocuments.{ArePieces, HasDocuments}
 
 -- ---- one more document
 
-get_more : (ns more : List (List ℕ)) (i : ℕ) (x : List ℕ) → slice_get ns i ≡ Some x → slice_get (ns ++ more) i ≡ Some x
+pub get_more : (ns more : List (List ℕ)) (i : ℕ) (x : List ℕ) → slice_get ns i ≡ Some x → slice_get (ns ++ more) i ≡ Some x
 get_more [] more i x e = absurd cc
 get_more (n ∷ ns) more zero x e = e
 get_more (n ∷ ns) more (suc i) x e = get_more ns more i x e

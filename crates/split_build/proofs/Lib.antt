@@ -19,3 +19,4 @@ pub mod BuiltLemmas
 pub mod TakenLemmas
 pub mod FileLemmas
 pub mod BuilderLemmas
+pub mod CellLemmas

@@ -13,11 +13,9 @@ use Rattle.query_ast.specs.Meaning.{values_in}
 use Rattle.fast_fields.specs.declared.rows.ColumnRow.{ColumnRow}
 use Rattle.fast_fields.specs.Columns.{AreRows, RowsRise, Cell, cells, cells_of}
 use Rattle.split_bundle.specs.declared.placed.Placed.{Placed}
-use Rattle.split_bundle.specs.Columns.{FastField, row_of, rows_from, column_rows}
+use Rattle.split_bundle.specs.Columns.{row_of, rows_from, column_rows}
 use Rattle.split_bundle.specs.Documents.{value_bytes, weight, total_weight}
 use Rattle.split_bundle.specs.Splits.{AreDocumentsOf}
-use Rattle.split_build.specs.declared.columns.ColumnLog.{ColumnLog}
-use Rattle.split_build.specs.HeldColumns.{HasRows}
 use Rattle.split_bundle.proofs.DocsAgain.{value_some, many}
 use Rattle.split_bundle.proofs.Light.{values_within, doc_light}
 
@@ -112,13 +110,4 @@ can_encode s n f ds got are = record {
   some = none_vacant n 0 ds;
   of_kind = of_kind f.kind n 0 ds (all_kinds s n f ds got are.of_schema);
   few = omega (arith, cells_few n 0 ds, are.light);
-}
-
-pub rows_with : (ds : List Placed) (d : Placed) (f : FastField) (old new : ColumnLog) (document : ℕ) (doc : List DocField) → document ≡ length ds → doc ≡ d.doc → new.number ≡ old.number → new.rows ≡ old.rows ++ row_of document (values_in doc old.number) → HasRows ds f old
-    → HasRows (ds ++ d ∷ []) f new
-rows_with ds d f old new document doc count doc_is number rows h = record {
-  number = number ∙ h.number;
-  rows =
-      rows ∙ ap (λ (rs : List ColumnRow). rs ++ row_of document (values_in doc old.number)) h.rows ∙ ap (λ (n : ℕ). column_rows f.number ds ++ row_of document (values_in doc n)) h.number
-      ∙ ap (λ (i : ℕ). column_rows f.number ds ++ row_of i (values_in doc f.number)) count ∙ ap (λ (x : List DocField). column_rows f.number ds ++ row_of (length ds) (values_in x f.number)) doc_is ∙ sym (column_more f.number ds d);
 }

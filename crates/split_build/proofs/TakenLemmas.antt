@@ -32,7 +32,7 @@ weight_more (x ∷ xs) d = omega (arith, weight_more xs d)
 pub body_weighs : (d : Placed) (body : List ℕ) → body ≡ body_of d → weight d ≡ 257 + length body
 body_weighs d body is = omega (arith, ap (λ (l : List ℕ). length l) is)
 
-all_push : {X : Type 0} (P : X → Type 0) (xs : List X) (x : X) → AllByRecursion P xs → P x → AllByRecursion P (xs ++ x ∷ [])
+pub all_push : {X : Type 0} (P : X → Type 0) (xs : List X) (x : X) → AllByRecursion P xs → P x → AllByRecursion P (xs ++ x ∷ [])
 all_push P [] x h p = (p, tt)
 all_push P (y ∷ ys) x h p = (h.0, all_push P ys x h.1 p)
 

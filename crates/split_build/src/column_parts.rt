@@ -8,9 +8,9 @@ ghost use Rattle.split_bundle.specs.Columns.{AreColumns, fast_fields};
 ghost use Rattle.split_bundle.specs.Splits.{AreDocumentsOf};
 ghost use Rattle.split_build.specs.HeldColumns.{HasColumns};
 
+use crate::column_texts::put_log;
 use crate::columns::ColumnLog;
 use doc_value::Schema;
-use fast_fields::encode_column;
 use split_bundle::{ColumnStart, Placed};
 use std::alloc::{AllocError, Global};
 
@@ -69,12 +69,11 @@ pub(crate) fn write_columns(
     let mut starts = Vec::new(alloc);
     let mut rest = logs;
     while let Some((log, behind)) = rest.split_first() {
-        let column = encode_column(alloc, schema.fields.at(log.number), &log.rows)?;
         starts.push(ColumnStart {
             number: log.number as u64,
             start: bytes.len() as u64,
         })?;
-        bytes.extend_from_slice(column.as_slice())?;
+        put_log(alloc, &mut bytes, schema.fields.at(log.number), log)?;
         rest = behind;
     }
     Ok(ColumnSection { bytes, starts })

@@ -1,43 +1,74 @@
-//! The values of fast fields as documents come, and the section of columns.
+//! The values of a fast field as documents come.
 
-ghost use Rattle.std.specs.Prelude.{◌≡◌, ◌++◌, [], IfOk, OnOk};
+ghost use Rattle.std.specs.Prelude.{◌≡◌, ◌++◌, ◌∷◌, [], ℕ, List, IfOk, OnOk, Some, slice_get};
+ghost use Rattle.std.specs.List.{AllByRecursion};
 ghost use Rattle.query_ast.specs.Meaning.{values_in};
-ghost use Rattle.split_bundle.specs.Columns.{row_of};
+ghost use Rattle.fast_fields.specs.Columns.{Cell, cells_of};
+ghost use Rattle.split_build.specs.HeldColumns.{HasCells, IsNumbered, texts_of};
 
 use crate::occurrences::values_in;
-use doc_value::{DocField, Replica, Value, Values};
-use fast_fields::{ColumnList, ColumnRow};
+use doc_value::{DocField, Value};
+use fast_fields::{Entry, turned};
+use indexmap::IndexSet;
 use std::alloc::{AllocError, Global};
 
-/// The values of a fast field so far.
+/// The values of a fast field so far: a document and a number for each. The number of a text is its place among the
+/// distinct ones in the order of first sight.
 #[derive(Drop)]
 pub struct ColumnLog {
     pub number: usize,
-    pub rows: ColumnList,
+    pub texts: IndexSet<String>,
+    pub entries: Vec<Entry>,
 }
 
-fn copies_of(alloc: Global, values: &[Value]) -> Result<Values, AllocError>
-    ensures { IfOk result (λ copies. copies ≡ values.now) }
+// The place of a text among these, behind which it is put where it is none of them.
+fn place_of(alloc: Global, texts: &mut IndexSet<String>, text: &str) -> Result<usize, AllocError>
+    ensures grown { OnOk result ((more : List (List ℕ)) × (texts_of texts.new.keys ≡ texts_of texts.old.keys ++ more) × AllByRecursion (λ t. t ≡ text.now) more) }
+    ensures place { IfOk result (λ n. slice_get (texts_of texts.new.keys) n ≡ Some text.now) }
 {
-    let mut copies = Vec::with_capacity(alloc, values.len())?;
-    for value in values {
-        copies.push(value.copy(alloc)?)?;
+    let (place, _added) = texts.insert_full(String::from_str(alloc, text)?)?;
+    Ok(place)
+}
+
+// The number of a value. A text is put among the others.
+fn number_of(alloc: Global, texts: &mut IndexSet<String>, value: &Value) -> Result<u64, AllocError>
+    ensures { IfOk result (IsNumbered (texts_of texts.old.keys) (texts_of texts.new.keys) value.now) }
+{
+    match value {
+        Value::Text(text) => {
+            let place = place_of(alloc, texts, text.as_str())?;
+            Ok(place as u64)
+        }
+        Value::I64(number) => Ok(turned(*number)),
+        Value::U64(number) => Ok(*number),
+        Value::Bool(truth) => Ok(u64::from(*truth)),
+        Value::Datetime(seconds) => Ok(turned(*seconds)),
     }
-    Ok(Values::from_vec(copies))
 }
 
 impl ColumnLog {
     pub(crate) fn vacant(alloc: Global, number: usize) -> ColumnLog
         ensures number { result.number ≡ number }
-        ensures rows { result.rows ≡ [] }
+        ensures cells { HasCells (texts_of result.texts.keys) 0 [] result.entries.items }
     {
         ColumnLog {
             number,
-            rows: ColumnList::vacant(alloc),
+            texts: IndexSet::new(alloc),
+            entries: Vec::new(alloc),
         }
     }
 
-    /// Adds a document, if it has values of the field. After an `Err` nothing is said of what is held.
+    fn add_value(&mut self, alloc: Global, document: u32, value: &Value) -> Result<(), AllocError>
+        ensures number { self.new.number ≡ self.old.number }
+        ensures cells { (cs : List Cell) → HasCells (texts_of self.old.texts.keys) document cs self.old.entries.items
+            → OnOk result (HasCells (texts_of self.new.texts.keys) document (cs ++ record { document = document; value = value.now } ∷ []) self.new.entries.items) }
+    {
+        let number = number_of(alloc, &mut self.texts, value)?;
+        self.entries.push(Entry { document, number })?;
+        Ok(())
+    }
+
+    /// Adds a document's values of the field. After an `Err` nothing is said of what is held.
     pub(crate) fn add(
         &mut self,
         alloc: Global,
@@ -45,13 +76,14 @@ impl ColumnLog {
         doc: &[DocField],
     ) -> Result<(), AllocError>
         ensures number { self.new.number ≡ self.old.number }
-        ensures rows { OnOk result (self.new.rows ≡ self.old.rows ++ row_of document (values_in doc.now self.old.number)) }
+        ensures cells { (cs : List Cell) → HasCells (texts_of self.old.texts.keys) document cs self.old.entries.items
+            → OnOk result (HasCells (texts_of self.new.texts.keys) document (cs ++ cells_of document (values_in doc.now self.old.number)) self.new.entries.items) }
     {
-        let values = values_in(doc, self.number);
-        if values.is_empty() {
-            return Ok(());
+        let mut rest = values_in(doc, self.number);
+        while let Some((value, behind)) = rest.split_first() {
+            self.add_value(alloc, document, value)?;
+            rest = behind;
         }
-        let values = copies_of(alloc, values)?;
-        self.rows.push(ColumnRow { document, values })
+        Ok(())
     }
 }

@@ -6,6 +6,7 @@ mod build_error;
 mod builder;
 mod building;
 mod column_parts;
+mod column_texts;
 mod columns;
 mod documents;
 mod file;

@@ -19,7 +19,7 @@ loop-field-preserved c =
       logs = elim c.if-field.branch [
         | then-field+in_ok-push w ↦
             let log = w.vacant.result in
-            let rows : HasRows [] (record { number = c.loop-field.number; field = c.in-Some.field.now }) w.vacant.result = record { number = w.vacant.ensures.number; rows = w.vacant.ensures.rows } in
+            let rows : HasRows [] (record { number = c.loop-field.number; field = c.in-Some.field.now }) w.vacant.result = record { number = w.vacant.ensures.number; cells_are = w.vacant.ensures.cells } in
             subst (λ (v : Vec ColumnLog Global). IsOnWay {X = FastField} (λ fs. HasColumns [] fs v.items) (fast_from (c.loop-field.number + 1) c.in-Some.behind.now) (fast_fields c.args.schema.now)) (sym w.logs-is)
             (go_on (λ (fs : List FastField). HasColumns [] fs c.loop-field.logs.items) (λ (fs : List FastField). HasColumns [] fs w.push.new.self.items) (fast_from c.loop-field.number c.loop-field.rest.now) (record { number = c.loop-field.number; field = c.in-Some.field.now } ∷ []) (fast_from (c.loop-field.number + 1) c.in-Some.behind.now) (fast_fields c.args.schema.now)
             (fast_yes c.loop-field.number (c.loop-field.number + 1) c.in-Some.field.now c.loop-field.rest.now c.in-Some.behind.now c.in-Some.ensures.cases.0 w.if-field.true next)

@@ -1,6 +1,8 @@
 use Rattle.std.proofs.Common.{◌≡◌, ◌∙◌, ◌++◌, ◌∷◌, [], List, ℕ, ap, sym, subst, length, arith}
 use Rattle.std.proofs.lemmas.List.{nil_from_length}
 use Rattle.split_bundle.specs.declared.layout.ColumnStart.{ColumnStart}
+use Rattle.fast_fields.specs.Columns.{cells}
+use Rattle.split_bundle.specs.Columns.{column_rows}
 use Rattle.split_build.proofs.ColumnLemmas.{AreWritten, none_written, next_of, log_within, can_write, written_one, all_written}
 use Rattle.split_build.proofs.column_parts.write_columns.Goals as goal
 
@@ -15,19 +17,19 @@ at-requires c =
     let next = next_of c.args.schema.now ds c.loop-log.starts.items c.loop-log.bytes.items c.loop-log.rest.now c.in-Some.log.now c.in-Some.behind.now c.in-Some.ensures.cases.0 (c.loop-log.invariant ds c.requires.1 c.requires.2) in
     log_within c.args.schema.now ds c.loop-log.starts.items c.loop-log.bytes.items c.in-Some.log.now c.in-Some.behind.now next
 
-pub encode_column-requires : goal.encode_column-requires
-encode_column-requires c =
+pub put_log-requires : goal.put_log-requires
+put_log-requires c =
     let ds = c.requires.0 in
     let next = next_of c.args.schema.now ds c.loop-log.starts.items c.loop-log.bytes.items c.loop-log.rest.now c.in-Some.log.now c.in-Some.behind.now c.in-Some.ensures.cases.0 (c.loop-log.invariant ds c.requires.1 c.requires.2) in
-    can_write c.args.schema.now ds c.loop-log.starts.items c.loop-log.bytes.items c.in-Some.log.now c.in-Some.behind.now c.at.result.now c.requires.1 next c.at.ensures
+    (cells (column_rows next.f.number ds), can_write c.args.schema.now ds c.loop-log.starts.items c.loop-log.bytes.items c.in-Some.log.now c.in-Some.behind.now c.at.result.now c.requires.1 next c.at.ensures)
 
 pub loop-log-preserved : goal.loop-log-preserved
 loop-log-preserved c = λ ds are h.
     let next = next_of c.args.schema.now ds c.loop-log.starts.items c.loop-log.bytes.items c.loop-log.rest.now c.in-Some.log.now c.in-Some.behind.now c.in-Some.ensures.cases.0 (c.loop-log.invariant ds are h) in
     let size : c.len.result ≡ length c.loop-log.bytes.items = omega (arith, c.len.ensures, c.loop-log.bytes.ok.0) in
-    written_one c.args.schema.now ds c.loop-log.starts.items c.loop-log.bytes.items c.in-Some.log.now c.in-Some.behind.now c.at.result.now c.in_ok-column.column c.extend_from_slice.new.self.items c.push.new.self.items next c.at.ensures c.in_ok-column.ensures
+    written_one c.args.schema.now ds c.loop-log.starts.items c.loop-log.bytes.items c.in-Some.log.now c.in-Some.behind.now c.at.result.now c.put_log.new.out.items c.push.new.self.items next c.at.ensures
+    (c.in_ok-put_log.ensures (cells (column_rows next.f.number ds)) (can_write c.args.schema.now ds c.loop-log.starts.items c.loop-log.bytes.items c.in-Some.log.now c.in-Some.behind.now c.at.result.now are next c.at.ensures))
     (c.in_ok-push.ensures.items ∙ ap (λ (n : ℕ). c.loop-log.starts.items ++ record { number = c.in-Some.log.now.number; start = n } ∷ []) size)
-    (c.in_ok-extend_from_slice.ensures.items ∙ ap (λ (l : List ℕ). c.loop-log.bytes.items ++ l) c.as_slice.ensures)
 
 pub returns : goal.returns
 returns c = λ ds are h.
