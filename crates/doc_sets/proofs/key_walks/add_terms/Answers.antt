@@ -49,8 +49,7 @@ loop-taken-preserved c = record {
       let i = c.loop-taken.invariant.only s documents p lent test is lends listed set in
       let known = listed_as s documents p c.args.positions g.first c.in-Ok-Some.key.now c.in-Ok-Some.info g.key_is g.info_is (first_listed (IsListed s documents p c.args.positions) lent c.loop-taken.taken g.first g.rest g.lent_is listed) in
       let added = c.in_ok-add_if_wanted-in-Ok-Some.ensures.only s documents p i.0 is known.0 known.1 i.1 in
-      let key = c.in-Ok-Some.key.now in
-      (
+      let key = c.in-Ok-Some.key.now in (
         λ d. i.0 d || (takes w key && has_key key (keys_of s d)),
         added,
         λ d. ap (λ k. (i.0 d || (takes w k && has_key k (keys_of s d))) || has_some_of w (drop (c.loop-taken.taken + 1) lent) (keys_of s d)) g.key_is

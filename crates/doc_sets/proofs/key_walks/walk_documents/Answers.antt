@@ -41,8 +41,7 @@ loop-number-preserved c = record {
       let n = c.loop-number.number in
       let end = c.blocks_with-blocks.result.end in
       let i = c.loop-number.invariant.only s documents p is kept in
-      let left : end - n ≡ suc (end - (n + 1)) = omega (arith, c.loop-number-test.true) in
-      (
+      let left : end - n ≡ suc (end - (n + 1)) = omega (arith, c.loop-number-test.true) in (
         λ d. i.0 d || has_some_of w (begun_in prefix terms n) (keys_of s d),
         c.in_ok-add_block.ensures.only s documents p i.0 is kept i.1,
         λ d. block_step w (i.0 d) prefix terms n (end - n) (end - (n + 1)) (keys_of s d) left ∙ i.2 d,
@@ -62,4 +61,4 @@ returns-clause-only c = λ s documents p is kept.
     let none : end - c.loop-number.number ≡ 0 = omega (arith, c.loop-number-test.false) in
     set_same (λ d. (key : List ℕ) → has_key key (keys_of s d.doc) ≡ true → is_listed key p.keys ≡ true) c.loop-number.bits i.0 (λ d. such (is_walked prefix w) (keys_of s d)) documents (all_listed s documents p.keys is.part.is_split.keys)
     (λ d listed. walk_over w (i.0 d.doc) prefix terms c.loop-number.number (end - c.loop-number.number) (keys_of s d.doc) none ∙ (i.2 d.doc
-        ∙ (sym (ap (λ (ts : List Term). has_some_of w ts (keys_of s d.doc)) all) ∙ walk_is_such s documents prefix w p.keys (keys_of s d.doc) listed))) i.1
+    ∙ (sym (ap (λ (ts : List Term). has_some_of w ts (keys_of s d.doc)) all) ∙ walk_is_such s documents prefix w p.keys (keys_of s d.doc) listed))) i.1

@@ -16,8 +16,7 @@ loop-item-preserved c = record {
       let i = c.loop-item.invariant.only s documents p is got on can in
       let f = c.args.field.now in
       let n = c.args.number in
-      let x = c.item-item.result in
-      (
+      let x = c.item-item.result in (
         λ d. i.0 d || item_holds f (values_in d n) x,
         c.add_other.ensures.only i.0 (λ d. item_holds f (values_in d n) x) documents i.1 (c.in_ok-other.ensures.only s documents p is got on (can_item f c.loop-item.item-index x c.args.items.now c.loop-item-test.true c.item-item.is can)),
         λ d. item_step f (values_in d n) x c.args.items.now c.loop-item.item-index (i.0 d) c.loop-item-test.true c.item-item.is ∙ i.2 d,
