@@ -6,11 +6,7 @@ use std::alloc::{AllocError, Global};
 use term_postings::Cursor;
 
 // How many documents there are, how many bytes each has, and its partition and offset as they are read back.
-pub fn whole(
-    alloc: Global,
-    schema: &Schema,
-    file: &[u8],
-) -> Result<String, SplitError> {
+pub fn whole(alloc: Global, schema: &Schema, file: &[u8]) -> Result<String, SplitError> {
     let view = read_split(file)?;
     let docs = view.doc_count();
     let mut out = format!(in alloc; "{docs} documents")?;
