@@ -1,0 +1,93 @@
+//! What is asked, and the answers.
+
+ghost use Rattle.std.specs.Prelude.{IfOk};
+ghost use Rattle.std.specs.List.{AllByRecursion};
+ghost use Rattle.doc_value.specs.Documents.{IsSchema, IsOfSchema};
+
+use crate::configs::config_text;
+use crate::records::{config_of, documents_of, repeated};
+use crate::shown::{digits, facts, file, postings};
+use index_config::IndexConfig;
+use split_build::{BuildError, Builder, BuiltSplit, build};
+use split_bundle::PlacedList;
+use std::alloc::{AllocError, Global};
+
+// The file in digits that a builder makes of the documents one by one.
+fn one_by_one(
+    alloc: Global,
+    config: &IndexConfig,
+    documents: &PlacedList,
+) -> Result<String, BuildError>
+    requires schema { IsSchema config.now.schema }
+    requires documents { AllByRecursion (λ d. IsOfSchema config.now.schema d.doc) documents.now }
+{
+    let mut builder = Builder::vacant(alloc, &config.schema)?;
+    let mut rest = documents.as_slice();
+    while let Some((placed, behind)) = rest.split_first() {
+        builder.add(alloc, placed)?;
+        rest = behind;
+    }
+    let split = builder.finish(alloc)?;
+    Ok(digits(alloc, split.bytes.as_slice())?)
+}
+
+fn shown(alloc: Global, question: &str, split: &BuiltSplit) -> Result<String, AllocError> {
+    match question {
+        "file" => file(alloc, split),
+        "facts" => facts(alloc, &split.facts),
+        _ => postings(alloc, split),
+    }
+}
+
+// What is told of the split of these documents.
+fn told(
+    alloc: Global,
+    question: &str,
+    config: &IndexConfig,
+    documents: &PlacedList,
+) -> Result<String, BuildError>
+    requires schema { IsSchema config.now.schema }
+    requires documents { AllByRecursion (λ d. IsOfSchema config.now.schema d.doc) documents.now }
+{
+    if question == "one" {
+        return one_by_one(alloc, config, documents);
+    }
+    let split = build(alloc, &config.schema, documents)?;
+    Ok(shown(alloc, question, &split)?)
+}
+
+// An answer, or why there is none.
+fn answered(alloc: Global, answer: Result<String, BuildError>) -> Result<String, AllocError> {
+    match answer {
+        Ok(text) => Ok(text),
+        Err(BuildError::Memory(refused)) => Err(refused),
+        Err(fault) => format!(in alloc; "{fault}"),
+    }
+}
+
+// The documents of a line's end: `N times RECORD`, or documents with `|` between.
+fn documents_in(alloc: Global, config: &IndexConfig, text: &str) -> Result<PlacedList, AllocError>
+    ensures { IfOk result (λ list. AllByRecursion (λ d. IsOfSchema config.now.schema d.doc) list) }
+{
+    if let Some((count, record)) = text.split_once(" times ") {
+        let count = count.parse::<u64>().unwrap_or(0);
+        return repeated(alloc, config, count, record);
+    }
+    documents_of(alloc, config, text)
+}
+
+/// The answer to a line: a question, a configuration's name, and documents.
+pub fn answer(alloc: Global, line: &str) -> Result<String, AllocError> {
+    let Some((question, rest)) = line.split_once(' ') else {
+        return String::from_str(alloc, "what?");
+    };
+    let (name, text) = match rest.split_once(' ') {
+        Some(parts) => parts,
+        None => (rest, ""),
+    };
+    let Some(config) = config_of(alloc, config_text(name))? else {
+        return String::from_str(alloc, "no configuration");
+    };
+    let documents = documents_in(alloc, &config, text)?;
+    answered(alloc, told(alloc, question, &config, &documents))
+}
