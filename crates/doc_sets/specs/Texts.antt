@@ -1,0 +1,33 @@
+-- Which keys are asked of for a text.
+use Rattle.std.specs.Prelude.{◌≡◌, ℕ, ◌<◌, Bool, true, List, [], ◌∷◌, ◌++◌, length, Option, Some, None, if◌then◌else◌}
+use Rattle.doc_value.specs.declared.schema.Field.{Field}
+use Rattle.doc_value.specs.declared.doc.Value.{Value}
+use Rattle.doc_value.specs.Terms.{term_bytes}
+use Rattle.query_ast.specs.FieldTokens.{field_tokens}
+use Rattle.query_ast.specs.Meaning.{is_text}
+use Rattle.query_ast.specs.Spelled.{spelled}
+use Rattle.query_ast.specs.declared.query.Item.{Item}
+use Rattle.split_bundle.specs.Keys.{field_key}
+use Rattle.doc_sets.specs.Needed.{token_keys}
+
+-- the key of a value, if there is one
+abbrev pub value_keys : ℕ → Option Value → List (List ℕ)
+value_keys number None = []
+value_keys number (Some v) = field_key number (term_bytes v) ∷ []
+
+-- the keys of the tokens of a text, or of the value that it spells
+abbrev pub text_keys : Field → ℕ → List ℕ → List (List ℕ)
+text_keys f number text = if is_text f.kind then token_keys number (field_tokens f text) else value_keys number (spelled f.kind text)
+
+abbrev pub item_keys : Field → ℕ → List Item → List (List ℕ)
+item_keys f number [] = []
+item_keys f number (item ∷ items) = text_keys f number item.text ++ item_keys f number items
+
+-- a quoted text of several tokens is looked for by their places, which a field of texts has to keep
+abbrev pub CanPlace : Field → List ℕ → Type 0
+CanPlace f text = is_text f.kind ≡ true → 1 < length (field_tokens f text) → f.positions ≡ true
+
+-- the same of each quoted one of some members
+abbrev pub CanPlaceEach : Field → List Item → Type 0
+CanPlaceEach f [] = Unit {0}
+CanPlaceEach f (item ∷ items) = (item.quoted ≡ true → CanPlace f item.text) × CanPlaceEach f items

@@ -1,8 +1,0 @@
-use Rattle.std.proofs.Common.{◌≡◌, ℕ, ◌<◌, ◌≤◌, get_or, bit_and}
-use Rattle.leaf_search.proofs.bit_words.and_words.Given as goal
-
-abbrev pub invariant-loop-i : goal.invariant-loop-i
-invariant-loop-i l = record {
-  before : (j : ℕ) → j < l.i → get_or l.words j 0 ≡ bit_and (get_or l.fn.words j 0) (get_or l.others j 0);
-  rest : (j : ℕ) → l.i ≤ j → get_or l.words j 0 ≡ get_or l.fn.words j 0;
-}

@@ -1,6 +1,0 @@
-use Rattle.std.proofs.Common.{arith}
-use Rattle.leaf_search.proofs.WordBits.{bit_turned}
-use Rattle.leaf_search.proofs.bit_words.turn_words.Goals as goal
-
-pub returns : goal.returns
-returns c = λ k lt. bit_turned c.loop-word.words c.args.words.now k (c.loop-word.invariant.before _ (omega arith)) (c.loop-word.invariant.fits _ (omega arith))

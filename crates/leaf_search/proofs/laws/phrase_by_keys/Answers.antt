@@ -1,5 +1,0 @@
-use Rattle.leaf_search.proofs.PhraseKeys.{run_is_phrase}
-use Rattle.leaf_search.proofs.laws.phrase_by_keys.Goals as goal
-
-pub returns : goal.returns
-returns c = run_is_phrase

@@ -1,5 +1,0 @@
-use Rattle.leaf_search.proofs.Presence.{presence_is_key}
-use Rattle.leaf_search.proofs.laws.presence_by_keys.Goals as goal
-
-pub returns : goal.returns
-returns c = presence_is_key

@@ -1,6 +1,0 @@
-use Rattle.std.proofs.Common.{◌≡◌, drop}
-use Rattle.leaf_search.specs.Asked.{are_close}
-use Rattle.leaf_search.proofs.phrases.are_close.Given as goal
-
-abbrev pub invariant-loop-token : goal.invariant-loop-token
-invariant-loop-token l = are_close l.from (drop l.token-index l.phrase) ≡ are_close l.from l.phrase

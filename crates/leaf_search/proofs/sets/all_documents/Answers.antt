@@ -1,5 +1,0 @@
-use Rattle.leaf_search.proofs.SetLemmas.{all_set}
-use Rattle.leaf_search.proofs.sets.all_documents.Goals as goal
-
-pub returns-clause-only : goal.returns-clause-only
-returns-clause-only c = λ s documents p is. all_set c.filled.result c.doc_count.result documents (c.doc_count.ensures.only s documents p is.part) c.filled.ensures.size c.filled.ensures.all

@@ -1,8 +1,0 @@
--- A set of numbers below a size.
-use Rattle.std.specs.Prelude.{ℕ, Bool, nat_eq}
-use Rattle.leaf_search.specs.BitWords.{bit_of}
-use Rattle.leaf_search.specs.declared.bits.DocBits.{DocBits}
-
--- whether a set has a number
-abbrev pub has : DocBits → ℕ → Bool
-has b k = nat_eq (bit_of b.words.items k) 1
