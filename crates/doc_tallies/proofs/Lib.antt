@@ -1,0 +1,9 @@
+pub mod Owned
+pub mod FieldValues
+pub mod Putting
+pub mod Taken
+pub mod TimeValues
+pub mod Faults
+pub mod PickedLists
+pub mod Counted
+pub mod HitOrders

@@ -1,0 +1,6 @@
+use Rattle.std.proofs.Common.{◌≡◌, drop}
+use Rattle.query_ast.specs.Meaning.{values_in}
+use Rattle.doc_tallies.proofs.order.values_of.Given as goal
+
+abbrev pub invariant-loop-part : goal.invariant-loop-part
+invariant-loop-part l = values_in l.doc l.field ≡ values_in (drop l.part-index l.part-items) l.field

@@ -1,0 +1,18 @@
+//! What columns and documents say of some documents of a split: aggregations, times and the first hits.
+#![tactic(auto)]
+
+mod column_values;
+mod field_column;
+mod hit_order;
+mod hits;
+mod laws;
+mod order;
+mod partials;
+mod times;
+
+pub use hit_order::HitOrder;
+pub use hits::first_hits;
+pub use laws::merged_firsts;
+pub use order::comes_before;
+pub use partials::partial_of;
+pub use times::within_times;
