@@ -1,0 +1,5 @@
+pub mod QuerySteps
+pub mod QueryWithin
+pub mod NumberLists
+pub mod LeafSteps
+pub mod Counted

@@ -1,0 +1,4 @@
+pub mod Askable
+pub mod Asks
+pub mod Numbers
+pub mod Answers

@@ -1,0 +1,59 @@
+//! The answer of one split.
+
+ghost use Rattle.std.specs.Prelude.{◌≡◌, ◌≤◌, length, List, IfOk, MatchResult};
+ghost use Rattle.agg_model.specs.Checking.{HaveIntervals};
+ghost use Rattle.agg_model.specs.Partials.{IsPartialOf};
+ghost use Rattle.split_bundle.specs.declared.placed.Placed.{Placed};
+ghost use Rattle.split_bundle.specs.Files.{Parts, file_bytes};
+ghost use Rattle.split_bundle.specs.Lending.{IsPartOf};
+ghost use Rattle.split_bundle.specs.Wholes.{HaveAll};
+ghost use Rattle.doc_sets.specs.Faults.{HasCause, IsMemory};
+ghost use Rattle.leaf_search.specs.Answers.{AsksLeaf, IsAnswerOf, IsAsked};
+
+use crate::evaluate::matching;
+use crate::numbers::numbers_in;
+use crate::request::{LeafAnswer, LeafRequest};
+use crate::timed::timed_numbers;
+use doc_sets::LeafError;
+use doc_tallies::{first_hits, partial_of};
+use doc_value::Schema;
+use split_bundle::PartView;
+use std::alloc::Global;
+
+/// What a split answers to a request, by its dictionary, its lists and its columns, and by its documents where hits are wanted.
+pub fn leaf(
+    alloc: Global,
+    schema: &Schema,
+    request: &LeafRequest,
+    view: &PartView,
+) -> Result<LeafAnswer, LeafError>
+    requires fields { length schema.now.fields ≤ 256 }
+    requires intervals { HaveIntervals request.now.aggs }
+    // Of a split of documents: their answer, or want of memory, or that no piece has a part which the request asks for.
+    ensures only { (documents : List Placed) (p : Parts) → IsPartOf view.now schema.now documents p → IsAsked schema.now request.now
+        → MatchResult result (IsAnswerOf schema.now request.now documents) (HasCause (AsksLeaf view.now schema.now documents p request.now) view.now.pieces) }
+    // Where the pieces have every part of the file: their answer, or want of memory.
+    ensures there { (documents : List Placed) (p : Parts) → IsPartOf view.now schema.now documents p → HaveAll (file_bytes p) view.now.pieces → IsAsked schema.now request.now
+        → MatchResult result (IsAnswerOf schema.now request.now documents) IsMemory }
+    // Over any bytes.
+    ensures partial { IfOk result (λ a. IsPartialOf request.now.aggs a.partial) }
+{
+    let index = view.footer().index();
+    let bits = matching(alloc, index, view, schema, &request.query)?;
+    let matched = numbers_in(alloc, &bits)?;
+    let numbers = timed_numbers(alloc, schema, view, request.times, matched)?;
+    let partial = partial_of(alloc, schema, view, &request.aggs, numbers.as_slice())?;
+    let hits = first_hits(
+        alloc,
+        schema,
+        view,
+        request.order,
+        request.wanted,
+        numbers.as_slice(),
+    )?;
+    Ok(LeafAnswer {
+        count: numbers.len() as u64,
+        hits,
+        partial,
+    })
+}
