@@ -1,5 +1,5 @@
 -- Parts of an answer put together.
-use Rattle.std.proofs.Common.{◌≡◌, ℕ, zero, suc, ◌+◌, ◌<◌, ◌&&◌, ◌||◌, Bool, true, false, cond, List, [], ◌∷◌, length, filter, None, Result, Ok, Err, MatchResult, IsErrAnd, refl, ap, sym, ◌∙◌, subst, arith}
+use Rattle.std.proofs.Common.{◌≡◌, ℕ, zero, suc, ◌<◌, ◌&&◌, ◌||◌, Bool, true, false, cond, List, [], ◌∷◌, length, filter, Result, Ok, Err, MatchResult, IsErrAnd, refl, ap, sym, ◌∙◌, subst, arith}
 use Rattle.doc_value.specs.declared.schema.Schema.{Schema}
 use Rattle.doc_value.specs.declared.doc.DocField.{DocField}
 use Rattle.doc_value.specs.declared.facts.TimeRange.{TimeRange}
@@ -10,7 +10,6 @@ use Rattle.split_bundle.specs.declared.split_error.SplitError.{SplitError}
 use Rattle.split_bundle.specs.declared.split_error.SplitError.TheVariants as splits
 use Rattle.split_bundle.specs.Wholes.{IsThere}
 use Rattle.doc_sets.specs.declared.leaf_error.LeafError.{LeafError}
-use Rattle.doc_sets.specs.declared.leaf_error.LeafError.TheVariants as faults
 use Rattle.doc_sets.specs.Faults.{HasCause, IsMemory, fault_of}
 use Rattle.doc_tallies.specs.Causes as tallies
 use Rattle.agg_model.specs.Partials.{StandsFor}

@@ -1,12 +1,12 @@
 -- Steps over the members of a query, and what is known of the field that is asked.
-use Rattle.std.proofs.Common.{◌≡◌, ℕ, zero, suc, ◌+◌, ◌<◌, ◌≤◌, ◌⊎◌, inl, inr, Bool, true, false, ◌&&◌, ◌||◌, List, [], ◌∷◌, length, drop, get_or, slice_get, Option, Some, None, Result, MatchResult, MatchOption, refl, ap, sym, ◌∙◌, subst, arith}
+use Rattle.std.proofs.Common.{◌≡◌, ℕ, zero, suc, ◌+◌, ◌<◌, inl, inr, Bool, true, false, ◌&&◌, ◌||◌, List, [], ◌∷◌, length, drop, get_or, slice_get, Some, None, Result, MatchResult, MatchOption, refl, ap, sym, ◌∙◌, subst, arith}
 use Rattle.std.specs.Option.{option_map_or}
 use Rattle.std.proofs.lemmas.List.{drop_more}
 use Rattle.doc_value.specs.declared.schema.Field.{Field}
 use Rattle.doc_value.specs.declared.schema.Schema.{Schema}
 use Rattle.doc_value.specs.declared.doc.DocField.{DocField}
 use Rattle.query_ast.specs.declared.query.Query.{Query, Row_of-Query, end_of-Query, more_of-Query, items-the_row-Query}
-use Rattle.query_ast.specs.Sought.{Sought, Soughts, no_more, more, view, view_row, view_all}
+use Rattle.query_ast.specs.Sought.{Sought, more, view, view_row, view_all}
 use Rattle.query_ast.specs.Meaning.{meaning, all_hold, some_hold, asks}
 use Rattle.query_ast.specs.Queries.{HasField}
 use Rattle.leaf_search.specs.Askable.{CanAsk, CanAskEach}

@@ -1,5 +1,5 @@
 -- Which parts of a split a query asks for.
-use Rattle.std.specs.Prelude.{◌≡◌, ℕ, ◌⊎◌, List, [], ◌∷◌}
+use Rattle.std.specs.Prelude.{ℕ, ◌⊎◌, List, [], ◌∷◌}
 use Rattle.doc_value.specs.declared.schema.Schema.{Schema}
 use Rattle.query_ast.specs.FieldTokens.{prefix_text}
 use Rattle.query_ast.specs.Queries.{HasField}

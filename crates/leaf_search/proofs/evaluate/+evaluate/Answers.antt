@@ -1,5 +1,4 @@
-use Rattle.std.proofs.Common.{rules, ◌≡◌, ◌∙◌, ◌&&◌, ◌||◌, sym, ap, subst, List}
-use Rattle.doc_value.specs.declared.doc.DocField.{DocField}
+use Rattle.std.proofs.Common.{rules, ◌≡◌, ◌∙◌, ◌&&◌, ◌||◌, sym, ap, subst}
 use Rattle.query_ast.specs.declared.query.Query.{the_lemmas}
 use Rattle.query_ast.specs.Meaning.{meaning, all_hold, some_hold}
 use Rattle.query_ast.specs.Sought.{And, Or, view, view_all}

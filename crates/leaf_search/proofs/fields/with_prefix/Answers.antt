@@ -1,10 +1,9 @@
-use Rattle.std.proofs.Common.{◌≡◌, ◌∷◌, [], true, Some, None, slice_get}
+use Rattle.std.proofs.Common.{◌≡◌, true, Some, slice_get}
 use Rattle.query_ast.specs.Meaning.{is_text, some_has_prefix, values_in}
 use Rattle.query_ast.specs.FieldTokens.{prefix_text}
 use Rattle.split_bundle.specs.Keys.{field_key}
 use Rattle.doc_sets.specs.Walks.{AsksWalk}
 use Rattle.doc_sets.specs.declared.wanted.Wanted.TheVariants.{Each}
-use Rattle.doc_sets.specs.Needed.{AsksKeys}
 use Rattle.leaf_search.proofs.QuerySteps.{at_field, field_fact, no_field}
 use Rattle.leaf_search.proofs.fields.with_prefix.Goals as goal
 

@@ -1,4 +1,4 @@
-use Rattle.std.proofs.Common.{◌≡◌, ◌∷◌, [], true, Some, None, slice_get}
+use Rattle.std.proofs.Common.{◌≡◌, true, Some, slice_get}
 use Rattle.query_ast.specs.Meaning.{quoted_holds, values_in}
 use Rattle.doc_sets.specs.Texts.{CanPlace}
 use Rattle.doc_sets.specs.Texts.{text_keys}

@@ -1,4 +1,4 @@
-use Rattle.std.proofs.Common.{◌≡◌, ◌∷◌, [], true, Some, None, slice_get}
+use Rattle.std.proofs.Common.{◌≡◌, true, Some, slice_get}
 use Rattle.query_ast.specs.Meaning.{some_item_holds, values_in}
 use Rattle.doc_sets.specs.Texts.{CanPlaceEach}
 use Rattle.doc_sets.specs.Texts.{item_keys}

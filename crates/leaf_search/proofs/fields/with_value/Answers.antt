@@ -1,6 +1,4 @@
-use Rattle.std.proofs.Common.{◌≡◌, ◌∷◌, [], true, Some, None, slice_get}
-use Rattle.query_ast.specs.Meaning.{is_there, values_in}
-use Rattle.doc_sets.specs.Needed.{AsksKeys}
+use Rattle.std.proofs.Common.{◌≡◌, true, Some, slice_get}
 use Rattle.leaf_search.proofs.QuerySteps.{field_fact, no_field}
 use Rattle.leaf_search.proofs.fields.with_value.Goals as goal
 

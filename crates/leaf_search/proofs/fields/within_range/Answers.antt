@@ -1,10 +1,9 @@
-use Rattle.std.proofs.Common.{◌≡◌, ◌∷◌, [], true, Some, None, slice_get}
+use Rattle.std.proofs.Common.{◌≡◌, [], true, Some, slice_get}
 use Rattle.query_ast.specs.Meaning.{between, values_in}
 use Rattle.query_ast.specs.Queries.{has_order}
 use Rattle.split_bundle.specs.Keys.{field_key}
 use Rattle.doc_sets.specs.Walks.{AsksWalk, range_of}
 use Rattle.doc_sets.specs.declared.wanted.Wanted.TheVariants.{Within}
-use Rattle.doc_sets.specs.Needed.{AsksKeys}
 use Rattle.leaf_search.proofs.QuerySteps.{at_any_field, field_fact, no_field}
 use Rattle.leaf_search.proofs.fields.within_range.Goals as goal
 

@@ -1,4 +1,4 @@
-use Rattle.std.proofs.Common.{◌≡◌, ◌∙◌, ◌&&◌, length, inl, inr, List, ℕ, [], Bool, Ok, Err, ap, sym, subst}
+use Rattle.std.proofs.Common.{◌∙◌, length, inl, inr, List, ℕ, Bool, ap, sym, subst}
 use Rattle.doc_value.specs.declared.doc.DocField.{DocField}
 use Rattle.query_ast.specs.Meaning.{meaning}
 use Rattle.query_ast.specs.Sought.{view}
@@ -10,9 +10,8 @@ use Rattle.doc_sets.proofs.WithinFile.{only_memory}
 use Rattle.doc_tallies.specs.AggColumns.{AsksFields}
 use Rattle.doc_tallies.specs.Causes.{AsksHits}
 use Rattle.doc_tallies.specs.Orders.{sort_field}
-use Rattle.leaf_search.specs.Answers.{AsksLeaf, AsksTimes, IsAnswerOf, passes}
+use Rattle.leaf_search.specs.Answers.{AsksLeaf, AsksTimes, IsAnswerOf}
 use Rattle.leaf_search.specs.Asks.{AsksQuery}
-use Rattle.leaf_search.specs.Numbers.{numbers_of}
 use Rattle.leaf_search.proofs.Counted.{over_fast}
 use Rattle.leaf_search.proofs.LeafSteps.{faulted, handed, is_answer, positive, there_memory}
 use Rattle.leaf_search.proofs.QueryWithin.{query_within}

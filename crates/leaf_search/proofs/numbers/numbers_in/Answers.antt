@@ -1,4 +1,4 @@
-use Rattle.std.proofs.Common.{◌≡◌, ◌<◌, ◌∙◌, ◌++◌, ◌+◌, List, ℕ, ap, sym, subst, drop, length, arith}
+use Rattle.std.proofs.Common.{◌<◌, ◌∙◌, ◌++◌, ◌+◌, List, ℕ, ap, sym, subst, drop, length, arith}
 use Rattle.std.specs.List.{All}
 use Rattle.doc_sets.proofs.Runs.{holds_here, there}
 use Rattle.leaf_search.specs.Numbers.{numbers_from}

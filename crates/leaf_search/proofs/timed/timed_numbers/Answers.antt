@@ -1,4 +1,4 @@
-use Rattle.std.proofs.Common.{◌≡◌, ◌<◌, ◌∙◌, ◌&&◌, Bool, List, ℕ, ap, sym, subst}
+use Rattle.std.proofs.Common.{◌≡◌, ◌<◌, ◌∙◌, ◌&&◌, List, ℕ, sym, subst}
 use Rattle.std.specs.List.{All}
 use Rattle.query_ast.specs.Meaning.{within_times}
 use Rattle.leaf_search.specs.Answers.{AsksTimes}
