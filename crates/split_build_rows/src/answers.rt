@@ -5,6 +5,7 @@ ghost use Rattle.std.specs.List.{AllByRecursion};
 ghost use Rattle.doc_value.specs.Documents.{IsSchema, IsOfSchema};
 
 use crate::configs::config_text;
+use crate::merged::merged;
 use crate::records::{config_of, documents_of, repeated};
 use crate::shown::{digits, facts, file, postings};
 use index_config::IndexConfig;
@@ -53,7 +54,11 @@ fn told(
         return one_by_one(alloc, config, documents);
     }
     let split = build(alloc, &config.schema, documents)?;
-    Ok(shown(alloc, question, &split)?)
+    match question {
+        "alone" => Ok(merged(alloc, &config.schema, &split, false)?),
+        "twice" => Ok(merged(alloc, &config.schema, &split, true)?),
+        _ => Ok(shown(alloc, question, &split)?),
+    }
 }
 
 // An answer, or why there is none.

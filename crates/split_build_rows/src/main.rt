@@ -1,8 +1,10 @@
-//! Rows of splits that are built: each line of the input names a configuration and records, and asks something of their split.
+//! Rows of splits that are built: each line of the input names a configuration and records, and asks something of their split, or of
+//! what it is merged to.
 #![tactic(auto)]
 
 mod answers;
 mod configs;
+mod merged;
 mod records;
 mod shown;
 
