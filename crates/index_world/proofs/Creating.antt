@@ -57,7 +57,7 @@ pub own_file : (kept : State) (core : Core) (log : Log) (own : Own) → IsWorld 
 own_file kept core log (owns.Stage delta facts) w may none = tt
 own_file kept core log (owns.Publish number) w may none =
     let j = journal_is_history core none in
-    made_is_publishable kept core.history log number may.delta may.facts may.bytes (subst (λ es. HasStaged es number may.delta may.facts) j may.staged) may.made
+    made_is_publishable kept core.history log number may.delta may.facts may.bytes may.config (subst (λ es. configuration es ≡ Some may.config) j may.configured) (subst (λ es. HasStaged es number may.delta may.facts) j may.staged) may.made
     (subst (λ es. IsUploaded kept es number may.bytes) j (uploaded-of kept core number may.bytes w.stands_for may.uploaded))
 
 pub may_append_is : (act : Act) (core : Core) → IsOk (answer_behind core.history (entry_of act core)) → length core.history < max_entries → may_append act core ≡ Ok tt

@@ -10,6 +10,8 @@ pub mod Journals
 pub mod Numbers
 pub mod StoreChanges
 pub mod InHand
+pub mod Asking
+pub mod Configured
 pub mod Entering
 pub mod Indexing
 pub mod WholeIndex
@@ -20,7 +22,6 @@ pub mod WorldCalls
 pub mod JournalCalls
 pub mod Transactions
 pub mod Transacting
-pub mod Asking
 pub mod InCore
 pub mod FileCalls
 pub mod Opening

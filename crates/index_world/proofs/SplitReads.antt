@@ -158,7 +158,7 @@ pub record NextField (bytes : List ℕ) (all : List DocField) (rest : List ℕ) 
   pub stands : drop next bytes ≡ varint field.number ++ (varint 1 ++ (byte_string text ++ (fields_spelled more ++ rest)))
 
 -- a document has at most as many fields as the schema
-pub few_fields : (least : ℕ) (doc : List DocField) → least ≤ 2 → AreFields least doc → length doc + least ≤ 2
+pub few_fields : (least : ℕ) (doc : List DocField) → least ≤ 256 → AreFields least doc → length doc + least ≤ 256
 few_fields least [] le are = omega arith
 few_fields least (field ∷ more) le are = omega (arith, are.0, are.1, few_fields (suc field.number) more (omega (arith, are.1)) are.3)
 

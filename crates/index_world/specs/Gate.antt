@@ -1,5 +1,6 @@
 -- What the calls of a gate to a world say.
 use Rattle.std.specs.Prelude.{◌≡◌, ◌+◌, ◌<◌, true, ℕ, List, [], length, map, filter, nat_lt, Option, Result, Ok, Err, ⊤}
+use Rattle.index_config.specs.declared.config.IndexConfig.{IndexConfig}
 use Rattle.object_store.specs.Store.{State, IsPieceOf}
 use Rattle.meta_journal.specs.declared.entry.Act.{Act}
 use Rattle.meta_journal.specs.declared.entry.Act.TheVariants.{Stage, Publish}
@@ -22,7 +23,7 @@ use Rattle.index_world.specs.declared.tokens.Staged.{Staged}
 use Rattle.index_world.specs.declared.tokens.Uploaded.{Uploaded}
 use Rattle.index_world.specs.declared.world_error.WorldError.{WorldError}
 use Rattle.index_world.specs.declared.world_error.WorldError.TheVariants as errors
-use Rattle.index_world.specs.Core.{Core, journal_of, IsUnusedIn, IsUploadedIn, HasStagedIn}
+use Rattle.index_world.specs.Core.{Core, journal_of, IsConfigured, IsUnusedIn, IsUploadedIn, HasStagedIn}
 use Rattle.index_world.specs.Index.{has_staged, IsMade}
 use Rattle.index_world.specs.Calls.{Fate, Gives, gives, Trouble, faulted, no_memory, store_fault, is_foreign, is_full, Unmade, refused, troubled, appended}
 use Rattle.index_world.specs.World.{IsWorld, IsTimely, GoesOn}
@@ -112,13 +113,15 @@ pub record WasUploaded (number : ℕ) (bytes : List ℕ) (given : Uploaded) (cor
 abbrev pub publish_call : ℕ → Fate → Core → Gives Unmade ⊤
 publish_call number fate core = appended fate (λ c. Publish number) core
 
--- an uploaded number in hand, whose file was made from the log
+-- an uploaded number in hand, whose file was made from the log under the index's configuration
 pub record IsPublishable (log : Log) (core : Core) (number : ℕ) : Type 0 where
+  pub config : IndexConfig
+  pub configured : IsConfigured config core
   pub delta : List Part
   pub facts : RowFacts
   pub bytes : List ℕ
   pub staged : HasStagedIn core number delta facts
-  pub made : IsMade log delta facts bytes
+  pub made : IsMade config log delta facts bytes
   pub uploaded : IsUploadedIn core number bytes
 
 abbrev pub IsRevision : ℕ → Core → Type 0

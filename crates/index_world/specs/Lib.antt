@@ -1,6 +1,6 @@
 pub mod Config
+pub mod Configuration
 pub mod Accepted
-pub mod Accepting
 pub mod Tokens
 pub mod Words
 pub mod Seen

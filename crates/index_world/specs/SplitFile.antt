@@ -9,7 +9,8 @@ use Rattle.doc_value.specs.declared.doc.Value.{Value}
 use Rattle.doc_value.specs.declared.doc.Value.TheVariants.{Text, I64, U64, Bool as Boolean, Datetime}
 use Rattle.source_checkpoint.specs.Names.{IsPartition}
 use Rattle.byte_fields.specs.Spelling.{varint, byte_string}
-use Rattle.index_world.specs.Accepted.{fields}
+use Rattle.doc_value.specs.Documents.{max_fields}
+use Rattle.index_config.specs.declared.config.IndexConfig.{IndexConfig}
 
 -- a number in so many bytes, the low one first
 abbrev pub little_endian : ℕ → ℕ → List ℕ
@@ -88,11 +89,11 @@ unfoldable pub split_file : List Placed → List ℕ
 split_file documents =
     (81 ∷ 87 ∷ 83 ∷ 0 ∷ []) ++ varint (length documents) ++ section_of (partitions_of documents) (documents_spelled documents)
 
--- a field has one text; the numbers rise from the least one on, and stay below the schema's length
+-- a field has one text; the numbers rise from the least one on, and are those of a schema's fields
 abbrev pub AreFields : ℕ → List DocField → Type 0
 AreFields least [] = ⊤
 AreFields least (field ∷ more) =
-    (least < suc field.number) × (field.number < length fields) × ((text : List ℕ) × (field.values ≡ Text text ∷ []) × IsUtf8 text) × AreFields (suc field.number) more
+    (least < suc field.number) × (field.number < max_fields) × ((text : List ℕ) × (field.values ≡ Text text ∷ []) × IsUtf8 text) × AreFields (suc field.number) more
 
 -- a document of the schema, at a place of a log
 pub record IsPlaced (placed : Placed) : Type 0 where
@@ -104,6 +105,10 @@ pub record IsPlaced (placed : Placed) : Type 0 where
 pub record IsSplit (bytes : List ℕ) (documents : List Placed) : Type 0 where
   pub placed : AllByRecursion IsPlaced documents
   pub spelled : bytes ≡ split_file documents
+
+-- THE FORM OF FILES: the file of these documents under a configuration. All else speaks of files by this word alone.
+abbrev pub file_of : IndexConfig → List Placed → List ℕ
+file_of config documents = split_file documents
 
 abbrev pub max_documents : ℕ
 max_documents = 16777216

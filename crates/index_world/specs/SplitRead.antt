@@ -5,7 +5,7 @@ use Rattle.std.specs.Ordering.{nat_cmp}
 use Rattle.std.specs.declared.cmp.Ordering.TheVariants.{Less}
 use Rattle.doc_value.specs.declared.doc.DocField.{DocField}
 use Rattle.doc_value.specs.declared.doc.Value.TheVariants.{Text}
-use Rattle.index_world.specs.Accepted.{fields}
+use Rattle.doc_value.specs.Documents.{max_fields}
 use Rattle.index_world.specs.declared.split_reading.SplitError.{SplitError}
 use Rattle.index_world.specs.declared.split_reading.SplitError.TheVariants.{Memory, BadMagic, Truncated, BadSection, BadVersion}
 
@@ -33,4 +33,4 @@ Rise last (name ∷ names) = IsBehind last name × Rise (Some name) names
 
 -- a field of the schema with one text
 abbrev pub IsField : ℕ → DocField → List ℕ → Type 0
-IsField least field text = (least < suc field.number) × (field.number < length fields) × (field.values ≡ Text text ∷ []) × IsUtf8 text
+IsField least field text = (least < suc field.number) × (field.number < max_fields) × (field.values ≡ Text text ∷ []) × IsUtf8 text

@@ -8,6 +8,7 @@ use crate::steady::SteadyClock;
 use crate::tokens::{Marks, Plan, Staged, Uploaded};
 use crate::world::World;
 use crate::world_error::WorldError;
+use index_config::IndexConfig;
 use object_store::{ObjectStore, Piece};
 use source_checkpoint::Delta;
 use split_states::RowFacts;
@@ -45,6 +46,10 @@ impl<'a, S: ObjectStore, C: SteadyClock> Gate for Direct<'a, S, C> {
     ghost is_sound = { λ direct core log w. record { kept = w.kept; world = w.world; timely = w.timely; opened = w.opened } };
 
     ghost none_between = { λ core. refl };
+
+    fn config(&self) -> &IndexConfig {
+        self.world.config()
+    }
 
     fn checkpoints(&mut self, alloc: Global) -> Result<Marks, WorldError> {
         self.world.checkpoints(alloc)
@@ -104,6 +109,10 @@ impl<S: ObjectStore, C: SteadyClock> Gate for World<S, C> {
     ghost is_sound = { λ world core log w. record { kept = w.kept; world = w.world; timely = w.timely; opened = w.opened } };
 
     ghost none_between = { λ core. refl };
+
+    fn config(&self) -> &IndexConfig {
+        self.config()
+    }
 
     fn checkpoints(&mut self, alloc: Global) -> Result<Marks, WorldError> {
         self.checkpoints(alloc)

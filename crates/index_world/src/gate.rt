@@ -4,13 +4,14 @@ ghost use Rattle.std.specs.Prelude.{◌≡◌, ◌<◌, ◌^◌, ℕ, List, IfOk
 ghost use Rattle.meta_journal.specs.Spelling.{CanSpellFacts};
 ghost use Rattle.source_log.specs.Log.{Log};
 ghost use Rattle.index_world.specs.Calls.{asked, looked, asked_and_looked, fetched, upload_made};
-ghost use Rattle.index_world.specs.Core.{Core, IsUnusedIn, IsUploadedIn};
+ghost use Rattle.index_world.specs.Core.{Core, IsConfigured, IsUnusedIn, IsUploadedIn};
 ghost use Rattle.index_world.specs.Gate.{Does, IsSoundCore, IsTrouble, IsUnmade, AreMarks, IsMoment, stage_call, WasStaged, WasUploaded, publish_call, IsPublishable, IsRevision, IsPlan, IsPieceGiven};
 ghost use Rattle.index_world.specs.declared.planning.PlanRow.{PlanRow};
 
 use crate::planning::Choice;
 use crate::tokens::{Marks, Plan, Staged, Uploaded};
 use crate::world_error::WorldError;
+use index_config::IndexConfig;
 use object_store::Piece;
 use source_checkpoint::Delta;
 use split_states::RowFacts;
@@ -23,6 +24,10 @@ pub trait Gate {
 
     /// What other actors may do before the turn of a call.
     ghost Between: { Core → Core → Type 0 };
+
+    /// The configuration of the index, which stays. It is no event.
+    fn config(&self) -> &IndexConfig
+        ensures { (core : Core) (log : Log) → Stands self.now core log → IsConfigured result.now core };
 
     /// The checkpoints, the last opstamp and the revision.
     fn checkpoints(&mut self, alloc: Global) -> Result<Marks, WorldError>

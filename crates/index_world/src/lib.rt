@@ -6,7 +6,6 @@ mod config;
 mod direct;
 mod gate;
 pub mod laws;
-mod levels;
 mod life;
 mod own;
 mod placed;

@@ -17,8 +17,8 @@ use std::alloc::{AllocError, Global};
 use std::cmp::Ordering;
 use thiserror::Error;
 
-// The fields of the one configuration are texts, with these numbers.
-const FIELD_COUNT: u64 = 2;
+// How many fields a schema has at most.
+const FIELD_COUNT: u64 = 256;
 
 /// Why bytes are no split file.
 #[derive(Debug, Drop, Error)]

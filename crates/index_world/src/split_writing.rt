@@ -3,6 +3,7 @@
 ghost use Rattle.std.specs.Prelude.{◌≡◌, ◌≤◌, ◌<◌, ◌+◌, ◌^◌, ◌∷◌, ◌++◌, ◌↔◌, [], Some, ℕ, List, length, map, min, MatchOption, IsTrue, IfOk, OnOk};
 ghost use Rattle.std.specs.List.{insert};
 ghost use Rattle.byte_fields.specs.Spelling.{varint, byte_string};
+ghost use Rattle.index_config.specs.declared.config.IndexConfig.{IndexConfig};
 ghost use Rattle.meta_journal.specs.Spelling.{CanSpellFacts};
 ghost use Rattle.index_world.specs.Index.{most, facts_of};
 ghost use Rattle.sha2.specs.Sha256.{sha256};
@@ -273,7 +274,7 @@ fn file_of(
 pub fn build(alloc: Global, documents: &PlacedList) -> Result<BuiltSplit, AllocError>
     ensures bytes { IfOk result (λ split. split.bytes ≡ spec.split_file documents.now) }
     // The weight of so many documents as fit in memory is below this.
-    ensures facts { IfOk result (λ split. spec.weight documents.now < 2 ^ 64 → split.facts ≡ facts_of documents.now 0) }
+    ensures facts { (config : IndexConfig) → IfOk result (λ split. spec.weight documents.now < 2 ^ 64 → split.facts ≡ facts_of config documents.now 0) }
     ensures can { IfOk result (λ split. CanSpellFacts split.facts) }
 {
     let names = names_of(alloc, documents.as_slice())?;

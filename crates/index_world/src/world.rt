@@ -7,7 +7,8 @@ ghost use Rattle.meta_journal.specs.Spelling.{CanSpellFacts};
 ghost use Rattle.object_store.specs.Store.{State, WhereTold};
 ghost use Rattle.source_log.specs.Log.{Log};
 ghost use Rattle.index_world.specs.Calls.{asked, asked_moment, looked, asked_and_looked, fetched, upload_made};
-ghost use Rattle.index_world.specs.Core.{Core, IsUnusedIn, IsUploadedIn};
+ghost use Rattle.index_world.specs.Configuration.{index_of};
+ghost use Rattle.index_world.specs.Core.{Core, IsConfigured, IsUnusedIn, IsUploadedIn};
 ghost use Rattle.index_world.specs.Gate.{Does, NoneBetween, IsTrouble, IsUnmade, AreMarks, IsMoment, stage_call, WasStaged, WasUploaded, publish_call, IsPublishable, IsRevision, IsPlan, IsPieceGiven};
 ghost use Rattle.index_world.specs.Loading.{LoadsWorld, LoadsNone, LoadsAnew};
 ghost use Rattle.index_world.specs.Taking.{IsFaultBetween};
@@ -22,6 +23,7 @@ use crate::steady::SteadyClock;
 use crate::taking::{create_error, get_error, open};
 use crate::tokens::{Marks, Plan, Staged, Uploaded};
 use crate::world_error::WorldError;
+use index_config::IndexConfig;
 use meta_journal::split_key;
 use meta_store::Meta;
 use object_store::{ObjectStore, Piece};
@@ -141,6 +143,14 @@ impl<S: ObjectStore, C: SteadyClock> World<S, C> {
         ensures { result.now.state ≡ self.now.meta }
     {
         &self.life.meta
+    }
+
+    /// The configuration of the index.
+    pub fn config(&self) -> &IndexConfig
+        ensures said { index_of self.now.meta.config ≡ Some result.now }
+        ensures step { (core : Core) (log : Log) → WorldStands self.now core log → IsConfigured result.now core }
+    {
+        self.life.config()
     }
 
     /// From here on no call asks the clock, and the moment changes only by an entry that is taken in.

@@ -12,8 +12,11 @@ use Rattle.source_log.specs.declared.log.ReadError.TheVariants as errors
 use Rattle.meta_store.specs.History.{history}
 use Rattle.meta_store.specs.State.{checkpoints_of}
 use Rattle.index_world.specs.Calls.{Fate, calm_fate, Trouble, gives, risen, looked, asked}
-use Rattle.index_world.specs.Core.{Core, last_count}
+use Rattle.index_world.specs.Core.{Core, last_count, journal_of, IsConfigured}
+use Rattle.index_config.specs.declared.config.IndexConfig.{IndexConfig}
+use Rattle.index_world.specs.Configuration.{configuration, config_or}
 use Rattle.index_world.specs.World.{GoesOn}
+use Rattle.index_world.proofs.Configured.{configured_is}
 use Rattle.index_world.specs.Gate.{Does, Says, IsTrouble, IsMoment, AreMarks}
 use Rattle.indexing_run.specs.declared.batch.Batch.{Batch as HeldBatch}
 use Rattle.indexing_run.specs.declared.batch.NextRead.{NextRead}
@@ -197,10 +200,10 @@ module _ {L W : Type 0} (tells : L → Option Log) (count : L → ℕ) (Stands :
         ends_called (reading batch) idle held result a.mid a.behind (log_luck false (now - indexer.log_faults) false a.fate true) None a.passed
         (ap (or_short true) (read_did (log_luck false (now - indexer.log_faults) false a.fate true) refl)) answer refl h a.stands a.goes
 
-    module _ (l : IsLog log) (b : IsBatch log batch) (records : Records) (slice : IsSliceOf (records_of log mark.partition) mark.at (read_limit batch.count) records) where
+    module _ (l : IsLog log) (b : IsBatch log batch) (k : IsConfigured batch.config core) (records : Records) (slice : IsSliceOf (records_of log mark.partition) mark.at (read_limit batch.count) records) where
       read_batch : Batch
       read_batch =
-          batch_after batch mark rest (taken_from mark.partition mark.at (take (read_limit batch.count) (drop mark.at (records_of log mark.partition))) (start_of batch))
+          batch_after batch mark rest (taken_from batch.config mark.partition mark.at (take (read_limit batch.count) (drop mark.at (records_of log mark.partition))) (start_of batch))
           (nat_le (length (drop mark.at (records_of log mark.partition))) (read_limit batch.count)) a.behind.moment
 
       end_is : records.end ≡ nat_le (length (drop mark.at (records_of log mark.partition))) (read_limit batch.count)
@@ -212,27 +215,27 @@ module _ {L W : Type 0} (tells : L → Option Log) (count : L → ℕ) (Stands :
       read_is : batch_read batch mark rest records moment ≡ read_batch
       unfolding read_batch
       read_is =
-          ap (λ rs. batch_after batch mark rest (taken_from mark.partition mark.at rs (start_of batch)) records.end moment) slice.list_is
-          ∙ ap (λ e. batch_after batch mark rest (taken_from mark.partition mark.at (take (read_limit batch.count) (drop mark.at (records_of log mark.partition))) (start_of batch)) e moment) end_is
-          ∙ ap (batch_after batch mark rest (taken_from mark.partition mark.at (take (read_limit batch.count) (drop mark.at (records_of log mark.partition))) (start_of batch))
+          ap (λ rs. batch_after batch mark rest (taken_from batch.config mark.partition mark.at rs (start_of batch)) records.end moment) slice.list_is
+          ∙ ap (λ e. batch_after batch mark rest (taken_from batch.config mark.partition mark.at (take (read_limit batch.count) (drop mark.at (records_of log mark.partition))) (start_of batch)) e moment) end_is
+          ∙ ap (batch_after batch mark rest (taken_from batch.config mark.partition mark.at (take (read_limit batch.count) (drop mark.at (records_of log mark.partition))) (start_of batch))
           (nat_le (length (drop mark.at (records_of log mark.partition))) (read_limit batch.count))) a.is
 
       batch_stays : IsBatch log read_batch
       unfolding read_batch
       batch_stays =
           let q = subst (λ marks. IsQueue batch.parts marks) queue b.queue in
-          read_keeps log batch mark rest l b (taken_from mark.partition mark.at (slice_of log batch mark) (start_of batch))
-          (nat_le (length (drop mark.at (records_of log mark.partition))) (read_limit batch.count)) q.0 q.1 q.2 (read_taken light log batch mark l b closed) a.behind.moment
+          read_keeps log batch mark rest l b (taken_from batch.config mark.partition mark.at (slice_of log batch mark) (start_of batch))
+          (nat_le (length (drop mark.at (records_of log mark.partition))) (read_limit batch.count)) q.0 q.1 q.2 (read_taken log batch mark (light batch.config (configured_is (journal_of core) batch.config k)) l b closed) a.behind.moment
 
-      pub reads_some : (n : ℕ) (held : HeldBatch) → n ≡ (taken_from mark.partition mark.at records.list (start_of batch)).count → BatchStands held (batch_read batch mark rest records moment) →
+      pub reads_some : (n : ℕ) (held : HeldBatch) → n ≡ (taken_from batch.config mark.partition mark.at records.list (start_of batch)).count → BatchStands held (batch_read batch mark rest records moment) →
           StepsAs tells count Stands Between (Ok (said.Read n)) (record indexer { place = reading batch }) core log (record next { place = places.Reading held }) caller
       unfolding read_batch
       reads_some n held taken h =
           ends_called (reading batch) (reading read_batch) (places.Reading held) (Ok (said.Read n)) a.mid a.behind (log_luck false (now - indexer.log_faults) false a.fate false)
-          (Some (outcomes.Read (taken_from mark.partition mark.at (take (read_limit batch.count) (drop mark.at (records_of log mark.partition))) (start_of batch)).count)) a.passed
+          (Some (outcomes.Read (taken_from batch.config mark.partition mark.at (take (read_limit batch.count) (drop mark.at (records_of log mark.partition))) (start_of batch)).count)) a.passed
           (read_did (log_luck false (now - indexer.log_faults) false a.fate false) refl)
-          (ap (λ rs. outcomes.Read (taken_from mark.partition mark.at rs (start_of batch)).count) (sym slice.list_is) ∙ ap outcomes.Read (sym taken)) refl
-          (read_batch, refl, subst (BatchStands held) read_is h, batch_stays) a.stands a.goes
+          (ap (λ rs. outcomes.Read (taken_from batch.config mark.partition mark.at rs (start_of batch)).count) (sym slice.list_is) ∙ ap outcomes.Read (sym taken)) refl
+          (read_batch, refl, subst (BatchStands held) read_is h, batch_stays, a.goes.keeps.configured batch.config k) a.stands a.goes
 
 -- ---- the moment was not told
 
@@ -377,22 +380,27 @@ module _ {L W : Type 0} (tells : L → Option Log) (count : L → ℕ) (Stands :
         by (Err e) did w = absurd w
 
     -- a batch begins
-    pub begins : (held : HeldBatch) (marks : Marks) → IsLog log → BatchStands held (fresh_batch (marks_at marks.checkpoints.items names)) →
+    pub begins : (config : IndexConfig) (held : HeldBatch) (marks : Marks) → IsLog log → ((after : Core) → Stands caller after log → IsConfigured config after) →
+        BatchStands held (fresh_batch config (marks_at marks.checkpoints.items names)) →
         Does Stands Between None looked IsTrouble AreMarks (Ok marks) core log caller →
         StepsAs tells count Stands Between (Ok said.Checkpoint) (record indexer { place = idle }) core log (record next { place = places.Reading held }) caller
-    begins held marks l b d = by d.answer d.did d.says
+    begins config held marks l here b d = by d.answer d.did d.says
       where
         by : (a : Result ⊤ Trouble) → looked d.fate d.mid ≡ gives a d.after → Says IsTrouble AreMarks (Ok marks) a d.after →
             StepsAs tells count Stands Between (Ok said.Checkpoint) (record indexer { place = idle }) core log (record next { place = places.Reading held }) caller
         by (Ok done) did w =
-            ends_named (reading (fresh_batch (marks_at (checkpoints_of (history d.after.history)) (partitions_for indexer.assignment log)))) (places.Reading held) (Ok said.Checkpoint) d.mid d.after
+            let k : IsConfigured config d.after = here d.after d.stands in
+            let same : config ≡ config_or (configuration (journal_of d.after)) = ap config_or (sym k) in
+            ends_named (reading (fresh_batch (config_or (configuration (journal_of d.after))) (marks_at (checkpoints_of (history d.after.history)) (partitions_for indexer.assignment log)))) (places.Reading held) (Ok said.Checkpoint) d.mid d.after
             (log_luck false (now - indexer.log_faults) false d.fate false) (Some outcomes.Checkpoint) d.passed
             (idle_did d.fate false d.mid ∙ ap (checkpoints_given log (record indexer { place = idle; log_faults = now })) did) refl refl (
-              fresh_batch (marks_at (checkpoints_of (history d.after.history)) (partitions_for indexer.assignment log)),
+              fresh_batch (config_or (configuration (journal_of d.after))) (marks_at (checkpoints_of (history d.after.history)) (partitions_for indexer.assignment log)),
               refl,
-              subst (λ names. BatchStands held (fresh_batch (marks_at (checkpoints_of (history d.after.history)) names))) names_are
-                  (subst (λ checkpoints. BatchStands held (fresh_batch (marks_at checkpoints names))) w.checkpoints b),
-              fresh_is_batch log (checkpoints_of (history d.after.history)) (partitions_for indexer.assignment log) (assigned_apart log indexer.assignment l s.assigned),
+              subst (λ names. BatchStands held (fresh_batch (config_or (configuration (journal_of d.after))) (marks_at (checkpoints_of (history d.after.history)) names))) names_are
+                  (subst (λ checkpoints. BatchStands held (fresh_batch (config_or (configuration (journal_of d.after))) (marks_at checkpoints names))) w.checkpoints
+                  (subst (λ (c : IndexConfig). BatchStands held (fresh_batch c (marks_at marks.checkpoints.items names))) same b)),
+              fresh_is_batch (config_or (configuration (journal_of d.after))) log (checkpoints_of (history d.after.history)) (partitions_for indexer.assignment log) (assigned_apart log indexer.assignment l s.assigned),
+              subst (λ (c : IndexConfig). IsConfigured c d.after) same k,
             )
             d.stands d.goes_on
         by (Err e) did w = absurd w

@@ -8,12 +8,12 @@ use Rattle.source_log.specs.Log.{Log}
 use Rattle.split_states.specs.declared.facts.RowFacts.{RowFacts}
 use Rattle.meta_store.specs.History.{history, last_number}
 use Rattle.index_world.specs.Calls.{Fate, calm_fate, Trouble, Unmade, gives, upload_made}
-use Rattle.index_world.specs.Core.{Core, IsUploadedIn}
+use Rattle.index_world.specs.Core.{Core, IsConfigured, IsUploadedIn}
 use Rattle.index_world.specs.Gate.{Does, Says, IsTrouble, IsUnmade, WasStaged, WasUploaded, IsStagedIn, IsRevision, stage_call, publish_call}
 use Rattle.index_world.specs.Config.{docs_target}
 use Rattle.index_world.specs.Index.{most, facts_of}
 use Rattle.index_world.specs.declared.placed.Placed.{Placed}
-use Rattle.index_world.specs.SplitFile.{split_file, weight, max_weight}
+use Rattle.index_world.specs.SplitFile.{file_of, weight, max_weight}
 use Rattle.index_world.specs.World.{GoesOn}
 use Rattle.index_world.specs.declared.tokens.Staged.{Staged}
 use Rattle.index_world.specs.declared.tokens.Uploaded.{Uploaded}
@@ -45,7 +45,7 @@ goes_nowhere one core =
       grown = ([], sym (append-nil core.history));
       faults = omega arith;
       moment = omega arith;
-      keeps = record { unused = λ n o u. u; uploaded = λ n b u. u; staged = λ n d f s. s };
+      keeps = record { configured = λ config e. e; unused = λ n o u. u; uploaded = λ n b u. u; staged = λ n d f s. s };
     }
 
 -- what keeps each number keeps all but one
@@ -55,7 +55,7 @@ goes_but one core after g =
       grown = g.grown;
       faults = g.faults;
       moment = g.moment;
-      keeps = record { unused = λ n o u. g.keeps.unused n tt u; uploaded = g.keeps.uploaded; staged = g.keeps.staged };
+      keeps = record { configured = g.keeps.configured; unused = λ n o u. g.keeps.unused n tt u; uploaded = g.keeps.uploaded; staged = g.keeps.staged };
     }
 
 pub idle_stays : (log : Log) (core after : Core) (kept : HeldPlace) → PlaceStands log core kept idle → PlaceStands log after kept idle
@@ -122,11 +122,11 @@ module _ {L W : Type 0} (tells : L → Option Log) (count : L → ℕ) (Stands :
 
   -- ---- an upload
 
-  module _ (held : Held) (number : ℕ) (bytes : List ℕ) (same : number ≡ held.number) (file : bytes ≡ split_file held.documents) where
+  module _ (held : Held) (number : ℕ) (bytes : List ℕ) (same : number ≡ held.number) (file : bytes ≡ file_of held.config held.documents) where
     upload_did : (fate : Fate) (mid after : Core) (a : Result ⊤ Trouble) → upload_made fate number bytes mid ≡ gives a after →
         step_indexer (by_world fate) log (record indexer { place = staged held }) mid ≡ upload_by a held (record indexer { place = staged held }) after
     upload_did fate mid after a did =
-        ap (λ n. upload_given held (record indexer { place = staged held }) (upload_made fate n (split_file held.documents) mid)) (sym same)
+        ap (λ n. upload_given held (record indexer { place = staged held }) (upload_made fate n (file_of held.config held.documents) mid)) (sym same)
         ∙ ap (λ bs. upload_given held (record indexer { place = staged held }) (upload_made fate number bs mid)) (sym file)
         ∙ ap (upload_given held (record indexer { place = staged held })) did
 
@@ -152,7 +152,7 @@ module _ {L W : Type 0} (tells : L → Option Log) (count : L → ℕ) (Stands :
                 refl,
                 w.same ∙ same,
                 uploaded_is_held log core d.after held (Some number) d.goes_on.keeps h
-                    (subst (λ n. IsUploadedIn d.after n (split_file held.documents)) same (subst (λ bs. IsUploadedIn d.after number bs) file w.in_hand)),
+                    (subst (λ n. IsUploadedIn d.after n (file_of held.config held.documents)) same (subst (λ bs. IsUploadedIn d.after number bs) file w.in_hand)),
               );
               gate = d.stands;
               goes_on = subst (λ n. GoesOn (Some n) core d.after) same d.goes_on;
@@ -209,10 +209,10 @@ module _ {L W : Type 0} (tells : L → Option Log) (count : L → ℕ) (Stands :
             ∙ ap (λ f. stage_given batch (record indexer { place = reading batch }) (stage_call delta f fate mid)) (sym noted)
             ∙ ap (stage_given batch (record indexer { place = reading batch })) did
 
-        pub stages : (token : Staged) (bytes : List ℕ) → bytes ≡ split_file batch.documents → IsBatch log batch →
+        pub stages : (token : Staged) (bytes : List ℕ) → bytes ≡ file_of batch.config batch.documents → IsBatch log batch → IsConfigured batch.config core →
             Does Stands Between None (stage_call delta facts) IsUnmade (WasStaged core delta facts) (Ok token) core log caller →
             StepsAs tells count Stands Between (Ok (said.Staged token.number)) (record indexer { place = reading batch }) core log (record reader { place = places.Staged token bytes }) caller
-        stages token bytes file made d = by d.answer d.did d.says
+        stages token bytes file made k d = by d.answer d.did d.says
           where
             by : (a : Result ⊤ Unmade) → stage_call delta facts d.fate d.mid ≡ gives a d.after → Says IsUnmade (WasStaged core delta facts) (Ok token) a d.after →
                 StepsAs tells count Stands Between (Ok (said.Staged token.number)) (record indexer { place = reading batch }) core log (record reader { place = places.Staged token bytes }) caller
@@ -231,7 +231,7 @@ module _ {L W : Type 0} (tells : L → Option Log) (count : L → ℕ) (Stands :
                     refl,
                     w.number,
                     file,
-                    staged_is_held log d.after batch (last_number (history d.after.history)) made
+                    staged_is_held log d.after batch (last_number (history d.after.history)) made (d.goes_on.keeps.configured batch.config k)
                         (subst (λ n. IsStagedIn batch.parts (batch_facts batch) d.after n) w.number
                         (subst (λ f. IsStagedIn batch.parts f d.after token.number) noted (subst (λ p. IsStagedIn p facts d.after token.number) parts w.in_hand))),
                   );
@@ -279,19 +279,19 @@ weighs_few batch documents d few = subst (λ docs. weight docs < 2 ^ 64) (sym d)
 abbrev with_rejected : ℕ → RowFacts → RowFacts
 with_rejected n facts = record facts { rejected = n }
 
-pub staged_facts : (batch : Batch) (documents : List Placed) (built given : RowFacts) (count rejected : ℕ) → documents ≡ batch.documents → count ≡ batch.count → built ≡ facts_of documents 0 → rejected ≡ count - built.docs →
+pub staged_facts : (batch : Batch) (documents : List Placed) (built given : RowFacts) (count rejected : ℕ) → documents ≡ batch.documents → count ≡ batch.count → built ≡ facts_of batch.config documents 0 → rejected ≡ count - built.docs →
     given ≡ record built { rejected = rejected } → batch.count ≤ docs_target → given ≡ batch_facts batch
 staged_facts batch documents built given count rejected d c b r g few =
-    g ∙ as_built ∙ as_kept ∙ ap (λ docs. facts_of docs (batch.count - length docs)) d
+    g ∙ as_built ∙ as_kept ∙ ap (λ docs. facts_of batch.config docs (batch.count - length docs)) d
   where
     kept : rejected ≡ min (batch.count - length documents) most
     kept = let docs = ap (λ f. f.docs) b in omega (arith, r, c, docs, few)
 
-    as_built : record built { rejected = rejected } ≡ record (facts_of documents 0) { rejected = rejected }
+    as_built : record built { rejected = rejected } ≡ record (facts_of batch.config documents 0) { rejected = rejected }
     as_built = ap (with_rejected rejected) b
 
-    as_kept : record (facts_of documents 0) { rejected = rejected } ≡ facts_of documents (batch.count - length documents)
-    as_kept = ap (λ n. with_rejected n (facts_of documents 0)) kept
+    as_kept : record (facts_of batch.config documents 0) { rejected = rejected } ≡ facts_of batch.config documents (batch.count - length documents)
+    as_kept = ap (λ n. with_rejected n (facts_of batch.config documents 0)) kept
 
 -- ---- a whole step
 

@@ -2,6 +2,7 @@
 use Rattle.std.proofs.Common.{◌≡◌, ℕ, suc, ◌+◌, ◌≤◌, min, List, [], ◌∷◌, ◌++◌, refl, sym, ap, ◌∙◌, subst, false, length, arith, nat_lt, Ok, Err, Result, Option, Some, None}
 use Rattle.std.specs.Result.{OnOk}
 use Rattle.doc_value.specs.declared.doc.DocField.{DocField}
+use Rattle.index_config.specs.declared.config.IndexConfig.{IndexConfig}
 use Rattle.index_world.specs.Accepted.{accepted}
 use Rattle.index_world.specs.Index.{most}
 use Rattle.index_world.specs.SplitFile.{weight, weight_of}
@@ -31,10 +32,10 @@ weighs_one documents x held given now h g n = let s = weight-snoc documents x in
     sums : (a b ab : ℕ) → ab ≡ a + b → held ≡ min a most → given ≡ min b most → now ≡ min (held + given) most → now ≡ min ab most
     sums a b ab s h g n = omega (arith, s, h, g, n)
 
-pub takes_one : (name : List ℕ) (offset n : ℕ) (bytes : List ℕ) (doc : List DocField) (documents after : List Placed) (held given now : ℕ) →
-    accepted bytes ≡ Some doc → held ≡ kept_weight documents → given ≡ min (weight_of (placed_at name offset doc)) most → now ≡ min (held + given) most → after ≡ documents ++ placed_at name offset doc ∷ [] →
-    (now ≡ kept_weight after) × (with_record name offset (accepted bytes) (taken_so_far n documents) ≡ taken_so_far (suc n) after)
-takes_one name offset n bytes doc documents after held given now e h g w a = (
+pub takes_one : (config : IndexConfig) (name : List ℕ) (offset n : ℕ) (bytes : List ℕ) (doc : List DocField) (documents after : List Placed) (held given now : ℕ) →
+    accepted config bytes ≡ Some doc → held ≡ kept_weight documents → given ≡ min (weight_of (placed_at name offset doc)) most → now ≡ min (held + given) most → after ≡ documents ++ placed_at name offset doc ∷ [] →
+    (now ≡ kept_weight after) × (with_record name offset (accepted config bytes) (taken_so_far n documents) ≡ taken_so_far (suc n) after)
+takes_one config name offset n bytes doc documents after held given now e h g w a = (
   weighs_one documents (placed_at name offset doc) held given now h g w ∙ ap kept_weight (sym a),
   ap (λ d. with_record name offset d (taken_so_far n documents)) e
       ∙ ap (λ w. record { count = suc n; documents = documents ++ placed_at name offset doc ∷ []; weight = w; heavy = nat_lt max_batch_weight w }) (sym (weight-snoc documents (placed_at name offset doc)))
@@ -55,7 +56,7 @@ start_is : (batch : Batch) → weight batch.documents ≤ max_batch_weight → t
 start_is batch calm = ap (λ b. record { count = 0; documents = batch.documents; weight = weight batch.documents; heavy = b }) (not_heavy (weight batch.documents) calm)
 
 module _ (batch : Batch) (mark : Checkpoint) (rest : List Checkpoint) (records : Records) (now n : ℕ) (held after : HeldBatch) (b : BatchStands held batch) (r : ReadsOn batch mark rest records)
-    (within : n ≤ length records.list) (kept : after.weight ≡ kept_weight after.documents) (parts : after.parts.items ≡ parts_after n held.parts.items mark.partition mark.at)
+    (within : n ≤ length records.list) (config : after.mapping ≡ held.mapping) (kept : after.weight ≡ kept_weight after.documents) (parts : after.parts.items ≡ parts_after n held.parts.items mark.partition mark.at)
     (queue : left_of after.queue ≡ queue_after records.end mark n rest) (count : after.count ≡ min (held.count + n) most) (since : ℕ) (first : since ≡ first_moment batch.first_read now)
     (first_read : after.first_read ≡ Some since) (closed : after.closed ≡ is_closed (left_of after.queue) after.count (nat_lt max_batch_weight after.weight) since now) where
   count_is : after.count ≡ batch.count + n
@@ -67,6 +68,7 @@ module _ (batch : Batch) (mark : Checkpoint) (rest : List Checkpoint) (records :
   after_stands : BatchStands after (batch_after batch mark rest (taken_so_far n after.documents) records.end now)
   after_stands =
       record {
+        config = config ∙ b.config;
         queue = queue;
         parts = parts ∙ ap (λ ps. parts_after n ps mark.partition mark.at) b.parts;
         documents = refl;
@@ -79,15 +81,16 @@ module _ (batch : Batch) (mark : Checkpoint) (rest : List Checkpoint) (records :
             ∙ ap (λ s. is_closed (queue_after records.end mark n rest) (batch.count + n) (nat_lt max_batch_weight (weight after.documents)) s now) first;
       }
 
-  pub takes_read : taken_from mark.partition mark.at records.list (taken_so_far 0 held.documents) ≡ taken_so_far n after.documents →
-      (n ≡ (taken_from mark.partition mark.at records.list (start_of batch)).count) × BatchStands after (batch_read batch mark rest records now)
+  pub takes_read : taken_from held.mapping mark.partition mark.at records.list (taken_so_far 0 held.documents) ≡ taken_so_far n after.documents →
+      (n ≡ (taken_from batch.config mark.partition mark.at records.list (start_of batch)).count) × BatchStands after (batch_read batch mark rest records now)
   takes_read took = (
     sym (ap (λ t. t.count) is),
     subst (λ t. BatchStands after (batch_after batch mark rest t records.end now)) (sym is) after_stands,
   )
     where
-      is : taken_from mark.partition mark.at records.list (start_of batch) ≡ taken_so_far n after.documents
-      is = ap (taken_from mark.partition mark.at records.list) (sym (start_is batch r.calm)) ∙ ap (λ d. taken_from mark.partition mark.at records.list (taken_so_far 0 d)) (sym b.documents) ∙ took
+      is : taken_from batch.config mark.partition mark.at records.list (start_of batch) ≡ taken_so_far n after.documents
+      is = ap (taken_from batch.config mark.partition mark.at records.list) (sym (start_is batch r.calm)) ∙ ap (λ d. taken_from batch.config mark.partition mark.at records.list (taken_so_far 0 d)) (sym b.documents)
+          ∙ ap (λ (c : IndexConfig). taken_from c mark.partition mark.at records.list (taken_so_far 0 held.documents)) (sym b.config) ∙ took
 
 -- a read of the first mark goes on where the parts end
 pub follows_here : (held parts : List Part) (name : List ℕ) (mark : Checkpoint) (from : ℕ) → held ≡ parts → name ≡ mark.partition → from ≡ mark.at → Follows parts mark →

@@ -42,9 +42,9 @@ IsQueue parts (mark ∷ rest) = Follows parts mark × AreOthers mark.partition r
 abbrev pub EndWithin : Log → List Part → Type 0
 EndWithin log parts = AllByRecursion (λ part. part.to ≤ length (records_of log part.partition)) parts
 
--- the batch has the accepted records of its parts, and keeps a split's limits
+-- the batch has the accepted records of its parts under its configuration, and keeps a split's limits
 pub record IsBatch (log : Log) (batch : Batch) : Type 0 where
-  pub documents : batch.documents ≡ accepted_in log batch.parts
+  pub documents : batch.documents ≡ accepted_in batch.config log batch.parts
   pub ends : EndWithin log batch.parts
   pub count : record_count batch.parts ≡ batch.count
   pub less : length batch.documents ≤ batch.count

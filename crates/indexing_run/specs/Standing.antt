@@ -10,11 +10,11 @@ use Rattle.source_log.specs.declared.lists.Records.{Records}
 use Rattle.index_world.specs.Config.{docs_target}
 use Rattle.index_world.specs.declared.placed.Placed.{Placed}
 use Rattle.index_world.specs.Calls.{Fault, faulted}
-use Rattle.index_world.specs.Core.{Core, journal_of}
+use Rattle.index_world.specs.Core.{Core, journal_of, IsConfigured}
 use Rattle.index_world.specs.Gate.{IsTrouble}
 use Rattle.index_world.specs.Index.{has_staged, most}
 use Rattle.index_world.specs.Saying.{refusal_words, error_words}
-use Rattle.index_world.specs.SplitFile.{weight, split_file}
+use Rattle.index_world.specs.SplitFile.{weight, file_of}
 use Rattle.index_world.specs.World.{GoesOn}
 use Rattle.indexing_run.specs.declared.batch.Batch.{Batch as HeldBatch}
 use Rattle.indexing_run.specs.declared.batch.NextRead.{NextRead}
@@ -82,6 +82,7 @@ taken_so_far count documents =
     record { count = count; documents = documents; weight = weight documents; heavy = nat_lt max_batch_weight (weight documents) }
 
 pub record BatchStands (held : HeldBatch) (batch : Batch) : Type 0 where
+  pub config : held.mapping ≡ batch.config
   pub queue : left_of held.queue ≡ batch.queue
   pub parts : held.parts.items ≡ batch.parts
   pub documents : held.documents ≡ batch.documents
@@ -105,15 +106,15 @@ pub record ReadsOn (batch : Batch) (mark : Mark) (rest : List Mark) (records : R
 -- the batch behind such a read at a moment
 abbrev pub batch_read : Batch → Mark → List Mark → Records → ℕ → Batch
 batch_read batch mark rest records now =
-    batch_after batch mark rest (taken_from mark.partition mark.at records.list (start_of batch)) records.end now
+    batch_after batch mark rest (taken_from batch.config mark.partition mark.at records.list (start_of batch)) records.end now
 
 -- what is held is what the place says, made of the log and in hand
 abbrev pub PlaceStands : Log → Core → HeldPlace → Place → Type 0
 PlaceStands log core places.Idle place = place ≡ idle
 PlaceStands log core (places.Reading held) place =
-    (batch : Batch) × (place ≡ reading batch) × BatchStands held batch × IsBatch log batch
+    (batch : Batch) × (place ≡ reading batch) × BatchStands held batch × IsBatch log batch × IsConfigured batch.config core
 PlaceStands log core (places.Staged token bytes) place =
-    (held : Held) × (place ≡ staged held) × (token.number ≡ held.number) × (bytes ≡ split_file held.documents) × IsStagedHeld log core held
+    (held : Held) × (place ≡ staged held) × (token.number ≡ held.number) × (bytes ≡ file_of held.config held.documents) × IsStagedHeld log core held
 PlaceStands log core (places.Uploaded token) place =
     (held : Held) × (place ≡ uploaded held) × (token.number ≡ held.number) × IsUploadedHeld log core held
 

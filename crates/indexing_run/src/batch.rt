@@ -11,6 +11,8 @@ ghost use Rattle.indexing_run.specs.Standing.{left_of, kept_weight, taken_so_far
 
 use crate::queue::Queue;
 use byte_fields::Bytes;
+use doc_mapping::Mapping;
+use index_config::IndexConfig;
 use index_world::{Marks, Placed, PlacedList, accept, weight_of};
 use source_checkpoint::{Part, Partition};
 use source_log::{Partitions, Records};
@@ -36,6 +38,7 @@ pub struct NextRead {
 /// The records of a batch.
 #[derive(Drop)]
 pub struct Batch {
+    mapping: Mapping,
     queue: Queue,
     pub parts: Vec<Part>,
     pub documents: PlacedList,
@@ -85,9 +88,10 @@ fn extend_taken(
     extend(parts, partition, from, from + taken)
 }
 
-// Takes the record at an offset: a document where it is accepted.
+// Takes the record at an offset: a document where the mapping accepts it.
 fn take_record(
     alloc: Global,
+    mapping: &Mapping,
     partition: &Partition,
     offset: u64,
     bytes: &Bytes,
@@ -95,9 +99,9 @@ fn take_record(
     weight: &mut u64,
 ) -> Result<(), AllocError>
     ensures { (n : ℕ) → weight.old ≡ kept_weight documents.old → OnOk result ((weight.new ≡ kept_weight documents.new)
-        × (with_record partition.now offset (accepted bytes.now) (taken_so_far n documents.old) ≡ taken_so_far (suc n) documents.new)) }
+        × (with_record partition.now offset (accepted mapping.now bytes.now) (taken_so_far n documents.old) ≡ taken_so_far (suc n) documents.new)) }
 {
-    let Some(doc) = accept(alloc, bytes.as_slice())? else {
+    let Some(doc) = accept(alloc, mapping, bytes.as_slice())? else {
         return Ok(());
     };
     let placed = Placed {
@@ -112,6 +116,7 @@ fn take_record(
 // The records one after another, up to the one with which the batch is too heavy. Gives how many were taken.
 fn take_records(
     alloc: Global,
+    mapping: &Mapping,
     partition: &Partition,
     from: u64,
     records: &[Bytes],
@@ -121,25 +126,31 @@ fn take_records(
     requires { from + length records.now < 2 ^ 64 }
     ensures within { IfOk result (λ taken. taken ≤ length records.now) }
     ensures taken { weight.old ≡ kept_weight documents.old → IfOk result (λ taken. (weight.new ≡ kept_weight documents.new)
-        × (taken_from partition.now from records.now (taken_so_far 0 documents.old) ≡ taken_so_far taken documents.new)) }
+        × (taken_from mapping.now partition.now from records.now (taken_so_far 0 documents.old) ≡ taken_so_far taken documents.new)) }
 {
     for (i, record) in records.iter().enumerate() {
         if *weight > MAX_WEIGHT {
             return Ok(i as u64);
         }
-        take_record(alloc, partition, from + i as u64, record, documents, weight)?;
+        take_record(alloc, mapping, partition, from + i as u64, record, documents, weight)?;
     }
     Ok(records.len() as u64)
 }
 
 impl Batch {
-    /// An empty batch of these partitions, from the checkpoints on.
-    pub fn begin(alloc: Global, names: &Partitions, marks: &Marks) -> Result<Batch, AllocError>
-        ensures { IfOk result (λ batch. BatchStands batch (fresh_batch (marks_at marks.now.checkpoints.items names.now))) }
+    /// An empty batch of these partitions under the index's configuration, from the checkpoints on.
+    pub fn begin(
+        alloc: Global,
+        config: IndexConfig,
+        names: &Partitions,
+        marks: &Marks,
+    ) -> Result<Batch, AllocError>
+        ensures { IfOk result (λ batch. BatchStands batch (fresh_batch config (marks_at marks.now.checkpoints.items names.now))) }
     {
         let queue = Queue::from_marks(alloc, names, marks)?;
         let closed = queue.is_empty();
         Ok(Batch {
+            mapping: Mapping::new(config),
             queue,
             parts: Vec::new(alloc),
             documents: PlacedList::vacant(alloc),
@@ -189,12 +200,13 @@ impl Batch {
         requires moment { now < 2 ^ 62 }
         ensures { (batch : Made) (mark : Checkpoint) (rest : List Checkpoint) → BatchStands self.old batch →
             ReadsOn batch mark rest records.now → partition.now ≡ mark.partition → from ≡ mark.at →
-            IfOk result (λ count. (count ≡ (taken_from mark.partition mark.at records.now.list (start_of batch)).count)
+            IfOk result (λ count. (count ≡ (taken_from batch.config mark.partition mark.at records.now.list (start_of batch)).count)
             × BatchStands self.new (batch_read batch mark rest records.now now)) }
     {
         let mut weight = self.weight;
         let taken = take_records(
             alloc,
+            &self.mapping,
             partition,
             from,
             records.list.as_slice(),

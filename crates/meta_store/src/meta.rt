@@ -199,18 +199,20 @@ impl Meta {
         }
         match &self.config {
             None => check_first(&entry.act, reading),
-            Some(config) => self.check_act(reading, config.settings, entry.moment, &entry.act),
+            Some(config) => {
+                self.check_act(reading, &config.settings, entry.moment, &entry.act)
+            }
         }
     }
 
     fn check_act(
         &self,
         reading: Reading,
-        settings: Settings,
+        settings: &Settings,
         moment: u64,
         act: &Act,
     ) -> Result<Reading, Refusal>
-        ensures { result ≡ handed reading (answer_behind reading settings self.now.state moment act.now) }
+        ensures { result ≡ handed reading (answer_behind reading settings.now self.now.state moment act.now) }
     {
         match act {
             Act::Fence => Ok(reading),
@@ -227,11 +229,11 @@ impl Meta {
             Act::Task { opstamp, .. } => self.check_task(*opstamp, reading),
             Act::MarkStaged { numbers } => hand_back(
                 reading,
-                self.check_marked(numbers, moment, settings.staged_grace),
+                self.check_marked(numbers, moment, settings.index.staged_grace),
             ),
             Act::Remove { numbers } => hand_back(
                 reading,
-                self.check_removed(numbers, moment, settings.deletion_grace),
+                self.check_removed(numbers, moment, settings.index.deletion_grace),
             ),
             Act::Retire { numbers } => {
                 hand_back(
