@@ -59,7 +59,8 @@ pub configured-more : (entries : List Entry) (entry : Entry) → Legal reads (hi
 configured-more entries entry l a config e =
     subst (λ (h : History). index_of (config_of reads h) ≡ Some config) (sym (history-snoc entries entry)) (stays (history entries) entry.moment entry.act config a.1 e)
 
-legal_front : (h : History) (es : List Entry) → Legal reads (fold ◌▸◌ h es) → Legal reads h
+-- the history before is legal
+pub legal_front : (h : History) (es : List Entry) → Legal reads (fold ◌▸◌ h es) → Legal reads h
 legal_front h [] l = l
 legal_front h (e ∷ es) l = (legal_front (h ▸ e) es l).0
 

@@ -219,7 +219,7 @@ index-vacant log =
         within = omega arith;
         no_other = λ key meta stands. absurd (true_is_false (sym stands ∙ ap is_some (finmap.get-empty (slice_cmp nat_cmp) key)));
         checkpoints = λ name. omega arith;
-        rows = tt;
+        rows = λ config is. tt;
         split_keys = λ key split stands. absurd (true_is_false (sym stands ∙ ap is_some (finmap.get-empty (slice_cmp nat_cmp) key)));
         late_keys = tt;
       };
