@@ -5,3 +5,7 @@ pub mod Texts
 pub mod Entries
 pub mod Whole
 pub mod Recorded
+pub mod Lexed
+pub mod Parsed
+pub mod Cut
+pub mod Sized

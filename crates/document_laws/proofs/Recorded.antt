@@ -109,15 +109,15 @@ apart_two f g d l s t = (
 
 -- ---- the fields of the document
 
-abbrev StandFrom : List Field → ℕ → List Field → Type 0
+abbrev pub StandFrom : List Field → ℕ → List Field → Type 0
 StandFrom whole n fields = (m : ℕ) (f : Field) → slice_get fields m ≡ Some f → slice_get whole (n + m) ≡ Some f
 
-stand_next : (whole : List Field) (n : ℕ) (f : Field) (fs : List Field) → StandFrom whole n (f ∷ fs) → StandFrom whole (suc n) fs
+pub stand_next : (whole : List Field) (n : ℕ) (f : Field) (fs : List Field) → StandFrom whole n (f ∷ fs) → StandFrom whole (suc n) fs
 stand_next whole n f fs h m g e =
     let next : n + suc m ≡ suc n + m = omega arith in
     subst (λ (i : ℕ). slice_get whole i ≡ Some g) next (h (suc m) g e)
 
-stands_here : (whole : List Field) (n : ℕ) (f : Field) (fs : List Field) → StandFrom whole n (f ∷ fs) → slice_get whole n ≡ Some f
+pub stands_here : (whole : List Field) (n : ℕ) (f : Field) (fs : List Field) → StandFrom whole n (f ∷ fs) → slice_get whole n ≡ Some f
 stands_here whole n f fs h =
     let here : n + 0 ≡ n = omega arith in
     subst (λ (i : ℕ). slice_get whole i ≡ Some f) here (h 0 f refl)
@@ -205,8 +205,8 @@ all_short whole d n (f ∷ fs) at l = go (found_values f.kind (value_at (names_o
 
 -- ---- the document of a record
 
-abbrev IsFrom : IndexConfig → List DocField → Type 0
-IsFrom config doc = (d : Data) × (depth d ≤ 32) × (doc_from 0 config.schema.fields d ≡ doc)
+abbrev pub IsFrom : IndexConfig → Option Data → List DocField → Type 0
+IsFrom config o doc = (d : Data) × (o ≡ Some d) × (depth d ≤ 32) × (doc_from 0 config.schema.fields d ≡ doc)
 
 timed_same : (config : IndexConfig) (made doc : List DocField) → timed_answer config.timestamp_field made ≡ Ok doc → made ≡ doc
 timed_same config made doc e =
@@ -219,37 +219,37 @@ fitting_same : (config : IndexConfig) (d : Data) (fault : Option Reject) (doc : 
 fitting_same config d None doc e = timed_same config (doc_from 0 config.schema.fields d) doc e
 fitting_same config d (Some refusal) doc e = absurd (cc)
 
-object_from : (config : IndexConfig) (d : Data) (o : Option Members) (doc : List DocField) → object_answer config d o ≡ Ok doc → IsFrom config doc
+object_from : (config : IndexConfig) (d : Data) (o : Option Members) (doc : List DocField) → object_answer config d o ≡ Ok doc → IsFrom config (Some d) doc
 object_from config d None doc e = absurd (cc)
 object_from config d (Some members) doc e =
     elim (cases_Bool (nat_le (depth d) max_levels)) [
-      | inl within ↦ (d, leb-true (depth d) max_levels within, fitting_same config d (members_fault config [] members) doc (rw within at e))
+      | inl within ↦ (d, refl, leb-true (depth d) max_levels within, fitting_same config d (members_fault config [] members) doc (rw within at e))
       | inr deep ↦ absurd (let refused = rw deep at e in cc)
     ]
 
-read_from : (config : IndexConfig) (o : Option Data) (doc : List DocField) → read_answer config o ≡ Ok doc → IsFrom config doc
+read_from : (config : IndexConfig) (o : Option Data) (doc : List DocField) → read_answer config o ≡ Ok doc → IsFrom config o doc
 read_from config None doc e = absurd (cc)
 read_from config (Some d) doc e = object_from config d (as_object d) doc e
 
-made_from : (config : IndexConfig) (bytes : List ℕ) (doc : List DocField) → answer config bytes ≡ Ok doc → IsFrom config doc
+pub made_from : (config : IndexConfig) (bytes : List ℕ) (doc : List DocField) → answer config bytes ≡ Ok doc → IsFrom config (value_of bytes) doc
 made_from config bytes doc e =
     elim (cases_Bool (nat_lt max_record (length bytes))) [
       | inl long ↦ absurd (let refused = rw long at e in cc)
       | inr short ↦ read_from config (value_of bytes) doc (rw short at e)
     ]
 
-same_place : (fields : List Field) → StandFrom fields 0 fields
+pub same_place : (fields : List Field) → StandFrom fields 0 fields
 same_place fields m f e = let same : 0 + m ≡ m = omega arith in rw same e
 
-record_apart : (config : IndexConfig) (bytes : List ℕ) (doc : List DocField) → PathsRise config.schema.fields → answer config bytes ≡ Ok doc → AllApart (paths_of config.schema.fields doc)
+pub record_apart : (config : IndexConfig) (bytes : List ℕ) (doc : List DocField) → PathsRise config.schema.fields → answer config bytes ≡ Ok doc → AllApart (paths_of config.schema.fields doc)
 record_apart config bytes doc r e =
     let m = made_from config bytes doc e in
-    subst (λ (x : List DocField). AllApart (paths_of config.schema.fields x)) m.2 (all_apart config.schema.fields m.0 0 config.schema.fields (same_place config.schema.fields) r)
+    subst (λ (x : List DocField). AllApart (paths_of config.schema.fields x)) m.3 (all_apart config.schema.fields m.0 0 config.schema.fields (same_place config.schema.fields) r)
 
 record_short : (config : IndexConfig) (bytes : List ℕ) (doc : List DocField) → answer config bytes ≡ Ok doc → AreShort (paths_of config.schema.fields doc)
 record_short config bytes doc e =
     let m = made_from config bytes doc e in
-    subst (λ (x : List DocField). AreShort (paths_of config.schema.fields x)) m.2 (all_short config.schema.fields m.0 0 config.schema.fields (same_place config.schema.fields) m.1)
+    subst (λ (x : List DocField). AreShort (paths_of config.schema.fields x)) m.3 (all_short config.schema.fields m.0 0 config.schema.fields (same_place config.schema.fields) m.2)
 
 pub record_rises : (config : IndexConfig) (bytes : List ℕ) (doc : List DocField) → PathsRise config.schema.fields → answer config bytes ≡ Ok doc → HasNumbers doc → HasRisingKeys (printed_doc config.schema doc)
 record_rises config bytes doc r e numbers = rising config.schema doc (accepted-fits config bytes doc e) (record_apart config bytes doc r e) numbers

@@ -1,6 +1,6 @@
 // Laws of printed documents, over the definitions alone.
 
-ghost use Rattle.std.specs.Prelude.{◌≡◌, ℕ, List, Ok};
+ghost use Rattle.std.specs.Prelude.{◌≡◌, ◌≤◌, ℕ, List, length, Ok};
 ghost use Rattle.doc_mapping.specs.Answer.{answer};
 ghost use Rattle.doc_value.specs.Documents.{IsOfSchema, PathsRise};
 ghost use Rattle.doc_value.specs.Printed.{printed_doc};
@@ -8,6 +8,7 @@ ghost use Rattle.doc_value.specs.declared.doc.DocField.{DocField};
 ghost use Rattle.doc_value.specs.declared.schema.Schema.{Schema};
 ghost use Rattle.index_config.specs.declared.config.IndexConfig.{IndexConfig};
 ghost use Rattle.document_laws.specs.ReadBack.{AllApart, AreShort, HasNumbers, HasRisingKeys, ReadsBack, paths_of};
+ghost use Rattle.document_laws.specs.Sizes.{doc_size};
 
 /// What is printed of a document of a schema, where no two of its fields have one path and none lies in another.
 pub fn printing_laws()
@@ -27,4 +28,7 @@ pub fn record_laws()
     // It reads back.
     ensures back { (config : IndexConfig) (bytes : List ℕ) (doc : List DocField) → PathsRise config.schema.fields → answer config bytes ≡ Ok doc →
         HasNumbers doc → ReadsBack config.schema doc }
+    // Its texts are together no longer than the record.
+    ensures size { (config : IndexConfig) (bytes : List ℕ) (doc : List DocField) → PathsRise config.schema.fields → answer config bytes ≡ Ok doc →
+        doc_size doc ≤ length bytes }
 {}
