@@ -100,26 +100,26 @@ tails_apart n ns ms a = (λ h. a.0 (refl, h), λ h. a.1 (refl, h))
 pub cut_other : (ns ms : List (List ℕ)) (d : Data) → AreApart ns ms → value_at ms (cut ns d) ≡ value_at ms d
 cut_other [] ms d a = absurd (a.0 tt)
 cut_other (n ∷ ns) [] d a = absurd (a.1 tt)
-cut_other (n ∷ ns) (m ∷ ms) (object os) a = go (slice_cmp nat_cmp n m) refl
+cut_other (n ∷ ns) (m ∷ ms) (object os) a = go (slice_cmp nat_cmp n m) refl (λ y b. cut_other ns ms y b)
   where
-    same : n ≡ m → value_at (m ∷ ms) (object (change n (cut ns) os)) ≡ value_at (m ∷ ms) (object os)
-    same e = subst (λ (k : List ℕ). AreApart (n ∷ ns) (k ∷ ms) → value_at (k ∷ ms) (object (change n (cut ns) os)) ≡ value_at (k ∷ ms) (object os)) e one a
-      where
-        inner : AreApart ns ms → (o : Option Data) → option_and_then (value_at ms) (option_map (cut ns) o) ≡ option_and_then (value_at ms) o
-        inner b None = refl
-        inner b (Some y) = cut_other ns ms y b
+    inner : AreApart ns ms → ((y : Data) → AreApart ns ms → value_at ms (cut ns y) ≡ value_at ms y) → (o : Option Data) → option_and_then (value_at ms) (option_map (cut ns) o) ≡ option_and_then (value_at ms) o
+    inner b again None = refl
+    inner b again (Some y) = again y b
 
-        one : AreApart (n ∷ ns) (n ∷ ms) → value_at (n ∷ ms) (object (change n (cut ns) os)) ≡ value_at (n ∷ ms) (object os)
-        one b = ap (option_and_then (value_at ms)) (get_changed n (cut ns) os) ∙ inner (tails_apart n ns ms b) (get_member n os)
+    one : ((y : Data) → AreApart ns ms → value_at ms (cut ns y) ≡ value_at ms y) → AreApart (n ∷ ns) (n ∷ ms) → value_at (n ∷ ms) (object (change n (cut ns) os)) ≡ value_at (n ∷ ms) (object os)
+    one again b = ap (option_and_then (value_at ms)) (get_changed n (cut ns) os) ∙ inner (tails_apart n ns ms b) again (get_member n os)
+
+    same : n ≡ m → ((y : Data) → AreApart ns ms → value_at ms (cut ns y) ≡ value_at ms y) → value_at (m ∷ ms) (object (change n (cut ns) os)) ≡ value_at (m ∷ ms) (object os)
+    same e again = subst (λ (k : List ℕ). AreApart (n ∷ ns) (k ∷ ms) → value_at (k ∷ ms) (object (change n (cut ns) os)) ≡ value_at (k ∷ ms) (object os)) e (one again) a
 
     differs : (o : Ordering) → slice_cmp nat_cmp n m ≡ o → (o ≡ Equal → ⊥) → value_at (m ∷ ms) (object (change n (cut ns) os)) ≡ value_at (m ∷ ms) (object os)
-    differs o h no =
-        ap (option_and_then (value_at ms)) (get_unchanged n m (cut ns) os (λ e. no (sym h ∙ ap (slice_cmp nat_cmp n) (sym e) ∙ equal-key n)))
+    differs o h never =
+        ap (option_and_then (value_at ms)) (get_unchanged n m (cut ns) os (λ e. never (sym h ∙ ap (slice_cmp nat_cmp n) (sym e) ∙ equal-key n)))
 
-    go : (o : Ordering) → slice_cmp nat_cmp n m ≡ o → value_at (m ∷ ms) (object (change n (cut ns) os)) ≡ value_at (m ∷ ms) (object os)
-    go Less h = differs Less h (λ e. absurd cc)
-    go Equal h = same (same-key n m h)
-    go Greater h = differs Greater h (λ e. absurd cc)
+    go : (o : Ordering) → slice_cmp nat_cmp n m ≡ o → ((y : Data) → AreApart ns ms → value_at ms (cut ns y) ≡ value_at ms y) → value_at (m ∷ ms) (object (change n (cut ns) os)) ≡ value_at (m ∷ ms) (object os)
+    go Less h again = differs Less h (λ e. absurd cc)
+    go Equal h again = same (same-key n m h) again
+    go Greater h again = differs Greater h (λ e. absurd cc)
 cut_other (n ∷ ns) (m ∷ ms) null a = refl
 cut_other (n ∷ ns) (m ∷ ms) (boolean b) a = refl
 cut_other (n ∷ ns) (m ∷ ms) (number x) a = refl

@@ -254,13 +254,13 @@ punctuated after_value (token t ∷ ls) = placed (lexemes_size ls) after_value t
 punctuated after_comma (token t ∷ ls) = placed (lexemes_size ls) after_comma t (begins_colon ls) (λ next. punctuate next ls) (λ next. punctuated next ls)
 punctuated after_key (token t ∷ ls) = placed (lexemes_size ls) after_key t (begins_colon ls) (λ next. punctuate next ls) (λ next. punctuated next ls)
 punctuated fresh (comma ∷ ls) = omega arith
-punctuated after_value (comma ∷ ls) = punctuated after_comma ls
+punctuated after_value (comma ∷ ls) = omega (arith, punctuated after_comma ls)
 punctuated after_comma (comma ∷ ls) = omega arith
 punctuated after_key (comma ∷ ls) = omega arith
 punctuated fresh (colon ∷ ls) = omega arith
 punctuated after_value (colon ∷ ls) = omega arith
 punctuated after_comma (colon ∷ ls) = omega arith
-punctuated after_key (colon ∷ ls) = punctuated fresh ls
+punctuated after_key (colon ∷ ls) = omega (arith, punctuated fresh ls)
 
 pub tokens_short : (text : List ℕ) → tokens_size (tokens text) ≤ length text
 tokens_short text =

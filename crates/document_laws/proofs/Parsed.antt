@@ -133,9 +133,9 @@ members_sized one v (suc n) ts =
 
 value_sized_with : (a : List Token → Option (json.Items × List Token)) (o : List Token → Option (json.Members × List Token)) → IsSized json_items_size a → IsSized json_members_size o → IsSized json_size (value_with a o)
 value_sized_with a o ha ho [] = tt
-value_sized_with a o ha ho (Token.begin_object ∷ ts) = mapped json_members_size json_size (tokens_size ts) (tokens_size ts) json.object (o ts) (λ ms. omega arith) (ho ts)
+value_sized_with a o ha ho (Token.begin_object ∷ ts) = mapped json_members_size json_size (tokens_size ts) (tokens_size (Token.begin_object ∷ ts)) json.object (o ts) (λ ms. omega arith) (ho ts)
 value_sized_with a o ha ho (Token.end_object ∷ ts) = tt
-value_sized_with a o ha ho (Token.begin_array ∷ ts) = mapped json_items_size json_size (tokens_size ts) (tokens_size ts) json.array (a ts) (λ js. omega arith) (ha ts)
+value_sized_with a o ha ho (Token.begin_array ∷ ts) = mapped json_items_size json_size (tokens_size ts) (tokens_size (Token.begin_array ∷ ts)) json.array (a ts) (λ js. omega arith) (ha ts)
 value_sized_with a o ha ho (Token.end_array ∷ ts) = tt
 value_sized_with a o ha ho (Token.key s ∷ ts) = tt
 value_sized_with a o ha ho (Token.string s ∷ ts) = omega arith

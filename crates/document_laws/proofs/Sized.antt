@@ -41,7 +41,7 @@ date_none None = refl
 date_none (Some s) = refl
 
 values-append : (vs ws : List Value) → values_size (vs ++ ws) ≡ values_size vs + values_size ws
-values-append [] ws = refl
+values-append [] ws = omega arith
 values-append (v ∷ vs) ws = let again = values-append vs ws in omega (arith, again)
 
 text_size : (d : Data) → values_size (text_values (as_str d)) ≤ data_size d
