@@ -8,7 +8,7 @@ use Rattle.std.specs.declared.cmp.Ordering.TheVariants.{Less, Equal, Greater}
 use Rattle.serde_json.specs.Data.{Data, null, boolean, number, string, array, object, Members, no_members, member}
 use Rattle.serde_json.specs.Find.{get_member}
 use Rattle.doc_mapping.specs.Documents.{value_at}
-use Rattle.document_laws.specs.ReadBack.{IsFront, AreApart}
+use Rattle.document_laws.specs.ReadBack.{AreApart}
 use Rattle.document_laws.proofs.Keys.{same-key, equal-key}
 use Rattle.document_laws.proofs.Parsed.{data_size, members_size}
 

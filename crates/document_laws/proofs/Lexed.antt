@@ -1,14 +1,10 @@
 -- The texts of what JSON reads as are together no longer than the JSON.
-use Rattle.std.proofs.Common.{◌≡◌, ℕ, zero, suc, ◌+◌, ◌≤◌, Bool, true, false, cond, ◌&&◌, ◌==◌, nat_lt, nat_eq, eqb-true, List, [], ◌∷◌, length, drop, Option, Some, None, refl, sym, ap, ◌∙◌, subst, arith, inl, inr}
+use Rattle.std.proofs.Common.{◌≡◌, ℕ, zero, suc, ◌+◌, ◌≤◌, Bool, true, false, cond, ◌&&◌, ◌==◌, nat_lt, nat_eq, eqb-true, List, [], ◌∷◌, length, drop, Option, Some, None, refl, sym, ◌∙◌, subst, arith, inl, inr}
 use Rattle.std.proofs.lemmas.Bool.{cases_Bool}
 use Rattle.std.proofs.lemmas.List.{length-append}
-use Rattle.std.specs.Prelude.{⊤, option_map, option_and_then}
+use Rattle.std.specs.Prelude.{⊤, option_and_then}
 use Rattle.std.specs.List.{starts_with}
 use Rattle.std.specs.Char.{encode_utf8, is_digit}
-use Rattle.std.specs.Ordering.{nat_cmp, match_ordering}
-use Rattle.std.specs.Cmp.Lexicographic.{slice_cmp}
-use Rattle.std.specs.declared.cmp.Ordering.{Ordering}
-use Rattle.std.specs.declared.cmp.Ordering.TheVariants.{Less, Equal, Greater}
 use Rattle.json.specs.Ascii as ascii
 use Rattle.json.specs.Text.{code_unit, short_escape, is_high_surrogate, is_low_surrogate, surrogate_pair, Within, plain, after_backslash, after_u, after_high, prepend, content}
 use Rattle.json.specs.Token.{Token}
@@ -110,9 +106,9 @@ unfolding code_unit
 unit_passed n f a b c d xs h =
     elim (cases_Bool (is_digit a 16 && is_digit b 16 && is_digit c 16 && is_digit d 16)) [
       | inl e ↦
-        let all = four (is_digit a 16) (is_digit b 16) (is_digit c 16) (is_digit d 16) e in
-        let over : lex in_string (a ∷ b ∷ c ∷ d ∷ xs) ≡ lex in_string xs = digit_passed a (b ∷ c ∷ d ∷ xs) all.0 ∙ digit_passed b (c ∷ d ∷ xs) all.1 ∙ digit_passed c (d ∷ xs) all.2 ∙ digit_passed d xs all.3 in
-        rw over (then n (lexemes_size (lex in_string xs)) f (code_unit a b c d) h)
+          let all = four (is_digit a 16) (is_digit b 16) (is_digit c 16) (is_digit d 16) e in
+          let over : lex in_string (a ∷ b ∷ c ∷ d ∷ xs) ≡ lex in_string xs = digit_passed a (b ∷ c ∷ d ∷ xs) all.0 ∙ digit_passed b (c ∷ d ∷ xs) all.1 ∙ digit_passed c (d ∷ xs) all.2 ∙ digit_passed d xs all.3 in
+          rw over (then n (lexemes_size (lex in_string xs)) f (code_unit a b c d) h)
       | inr e ↦ rw e tt
     ]
 
@@ -123,7 +119,7 @@ unfolding lex
 second_passed n f s u a b c d xs h =
     elim (cases_Bool (s == ascii.backslash)) [
       | inl e ↦ let same : s ≡ ascii.backslash = eqb-true s ascii.backslash e in
-        rw same (both n _ (u == ascii.lower_u) (option_and_then f (code_unit a b c d)) None (unit_passed n f a b c d xs h) tt)
+          rw same (both n _ (u == ascii.lower_u) (option_and_then f (code_unit a b c d)) None (unit_passed n f a b c d xs h) tt)
       | inr e ↦ rw e tt
     ]
 
