@@ -26,7 +26,7 @@ IsBehind r s = (slice_cmp nat_cmp r.partition s.partition ≡ Less) ⊎ ((s.part
 turned : (a b : List ℕ) (o : Ordering) → slice_cmp nat_cmp a b ≡ o → slice_cmp nat_cmp b a ≡ ordering_reverse o
 turned a b o e = nat_list_cmp_total.antisymm b a ∙ ap ordering_reverse e
 
-one_name : (a b : List ℕ) → slice_cmp nat_cmp a b ≡ Equal → a ≡ b
+pub one_name : (a b : List ℕ) → slice_cmp nat_cmp a b ≡ Equal → a ≡ b
 one_name a b e = same_partition a b (sym (is_eq-slice_cmp a b) ∙ ap is_eq e)
 
 over : (a b : ℕ) → nat_lt b a ≡ false → (b == a) ≡ false → a < b

@@ -5,6 +5,7 @@ pub mod Distinct
 pub mod Moves
 pub mod Retiring
 pub mod Joined
+mod Rising
 pub mod Sound
 pub mod Seen
 pub mod Current

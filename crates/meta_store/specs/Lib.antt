@@ -5,6 +5,7 @@ pub mod Tasks
 pub mod Ledgers
 pub mod Rows
 pub mod Retired
+pub mod Rising
 pub mod Lying
 pub mod State
 pub mod Room

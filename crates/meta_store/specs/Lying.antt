@@ -2,8 +2,8 @@
 use Rattle.std.specs.Prelude.{◌≡◌, List, ◌∷◌}
 use Rattle.source_checkpoint.specs.declared.delta.Part.{Part}
 use Rattle.meta_store.specs.Retired.{with_range}
-use Rattle.meta_store.specs.declared.spans.Lies.{Lies}
-use Rattle.meta_store.specs.declared.spans.Lies.TheVariants.{Before, EndsThere, BeginsThere, Behind}
+use Rattle.meta_store.specs.declared.retired.Lies.{Lies}
+use Rattle.meta_store.specs.declared.retired.Lies.TheVariants.{Before, EndsThere, BeginsThere, Behind}
 
 -- what becomes of the list that begins with the kept one
 abbrev pub LiesSo : Lies → Part → Part → Type 0

@@ -6,6 +6,7 @@ pub mod config;
 pub mod laws;
 pub mod meta;
 pub mod refusal;
+mod retired;
 mod spans;
 
 pub use config::{Config, Reading, Settings};

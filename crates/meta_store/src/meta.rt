@@ -21,13 +21,14 @@ use crate::checks::{
 };
 use crate::config::{Config, Reading, Settings};
 use crate::refusal::Refusal;
-use crate::spans::{admit_row, count_left, fill_spans, join_retired, reserve_retired, span_count};
+use crate::retired::Retired;
+use crate::spans::{admit_row, count_left, fill_spans, span_count};
 use byte_fields::Bytes;
 use delete_tasks::{Task, Tasks};
 use doc_value::TimeRange;
 use meta_journal::{Act, Entry};
 use query_ast::Query;
-use source_checkpoint::{Delta, Ledger, Part, Partition, Span, Spans};
+use source_checkpoint::{Delta, Ledger, Partition, Span, Spans};
 use split_states::{
     Numbers, Row, RowFacts, RowState, Rows, StateRefusal, may_publish, may_raise, may_replace,
 };
@@ -47,7 +48,7 @@ pub struct Meta {
     span_count: usize,
     checkpoints: Ledger,
     rows: Rows,
-    retired: Vec<Part>,
+    retired: Retired,
     spare: Vec<Span>,
 }
 
@@ -74,12 +75,12 @@ impl Model for Meta {
         span_count = m.span_count;
         checkpoints = m.checkpoints.list;
         rows = m.rows.list;
-        retired = m.retired.items;
+        retired = m.retired.list;
       };
       checkpoint_room = m.checkpoints.spare;
       row_room = m.rows.spare;
       task_room = m.tasks.spare;
-      retired_room = vec_capacity m.retired - vec_len m.retired;
+      retired_room = m.retired.spare;
       spare = m.spare.items;
       spare_room = vec_capacity m.spare;
     } };
@@ -124,7 +125,7 @@ impl Meta {
             span_count: 0,
             checkpoints: Ledger::vacant(alloc),
             rows: Rows::vacant(alloc),
-            retired: Vec::new(alloc),
+            retired: Retired::vacant(alloc),
             spare: Vec::new(alloc),
         }
     }
@@ -329,7 +330,7 @@ impl Meta {
             Act::Replace { old, .. } => self.reserve_replace(old),
             Act::Task { .. } => self.tasks.reserve(),
             Act::Retire { numbers } => {
-                reserve_retired(&mut self.retired, &self.rows, numbers.as_slice())
+                self.retired.reserve(&self.rows, numbers.as_slice())
             }
             Act::Fence
             | Act::Create { .. }
@@ -533,7 +534,7 @@ impl Meta {
         requires few { self.old.state.revision + 2 < 2 ^ 64 }
         ensures { (reading : Said) → self.new.state ≡ after reading (at moment (Act.Retire numbers.now)) self.old.state }
     {
-        join_retired(&mut self.retired, &self.rows, numbers.as_slice());
+        self.retired.join(&self.rows, numbers.as_slice());
         self.span_count = count_left(self.span_count, &self.rows, numbers.as_slice());
         self.rows.mark(numbers, moment);
         self.moment = self.moment.max(moment);

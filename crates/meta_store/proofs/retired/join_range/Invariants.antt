@@ -1,6 +1,6 @@
 use Rattle.std.proofs.Common.{◌≡◌, ◌≤◌, ◌-◌, ◌++◌, take, drop, vec_len, vec_capacity}
 use Rattle.meta_store.specs.Retired.{with_range}
-use Rattle.meta_store.proofs.spans.join_range.Given as goal
+use Rattle.meta_store.proofs.retired.join_range.Given as goal
 
 -- the ranges that were passed stand before what is left
 abbrev pub invariant-places : goal.invariant-places

@@ -1,7 +1,7 @@
 use Rattle.std.proofs.Common.{◌≡◌, ◌≤◌, ◌+◌, length, map, drop, vec_len, vec_capacity}
 use Rattle.source_checkpoint.specs.Deltas.{range_of}
 use Rattle.meta_store.specs.Retired.{with_ranges}
-use Rattle.meta_store.proofs.spans.join_ranges.Given as goal
+use Rattle.meta_store.proofs.retired.join_spans.Given as goal
 
 abbrev pub invariant-loop-span : goal.invariant-loop-span
 invariant-loop-span l = record {

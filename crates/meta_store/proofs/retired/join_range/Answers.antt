@@ -1,7 +1,7 @@
 use Rattle.std.proofs.Common.{◌∙◌, sym, subst, arith}
 use Rattle.meta_store.specs.Lying.{LiesSo}
 use Rattle.meta_store.proofs.Retiring.{begins_there}
-use Rattle.meta_store.proofs.spans.join_range.Goals as goal
+use Rattle.meta_store.proofs.retired.join_range.Goals as goal
 
 pub returns-in-BeginsThere-clause-items : goal.returns-in-BeginsThere-clause-items
 returns-in-BeginsThere-clause-items c =

@@ -2,7 +2,7 @@ use Rattle.std.proofs.Common.{◌≡◌, ◌≤◌, ◌+◌, length, map, drop, 
 use Rattle.source_checkpoint.specs.Deltas.{range_of}
 use Rattle.split_states.specs.Rows.{joined_spans}
 use Rattle.meta_store.specs.Retired.{with_ranges}
-use Rattle.meta_store.proofs.spans.join_retired.Given as goal
+use Rattle.meta_store.proofs.retired.join_rows.Given as goal
 
 abbrev pub invariant-loop-number : goal.invariant-loop-number
 invariant-loop-number l = record {

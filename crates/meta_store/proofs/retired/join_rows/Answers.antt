@@ -4,7 +4,7 @@ use Rattle.source_checkpoint.specs.Deltas.{range_of}
 use Rattle.split_states.specs.Rows.{row_spans}
 use Rattle.meta_store.specs.Retired.{with_ranges}
 use Rattle.meta_store.proofs.Retiring.{retired_next, spans_long}
-use Rattle.meta_store.proofs.spans.join_retired.Goals as goal
+use Rattle.meta_store.proofs.retired.join_rows.Goals as goal
 
 pub loop-number-preserved : goal.loop-number-preserved
 loop-number-preserved c =
