@@ -10,6 +10,10 @@ use std::str;
 pub const STRICT: &str =
     "index_id='all'\n[doc_mapping]\nmode='strict'\nfield_mappings=[{name='body',type='text'},{name='count',type='u64'},{name='done',type='bool'},{name='list',type='array<text>'},{name='number',type='i64'},{name='o',type='object',field_mappings=[{name='w',type='i64'},{name='p',type='object',field_mappings=[{name='w',type='text'}]}]},{name='spelled',type='datetime',input_formats=['rfc3339']},{name='ts',type='datetime'},{name='unix',type='datetime',input_formats=['unix_timestamp']}]";
 
+/// A text and a raw text, in mode strict.
+pub const FIRST: &str =
+    "version = '0.9'\nindex_id = 'logs'\n[doc_mapping]\nmode = 'strict'\n[[doc_mapping.field_mappings]]\nname = 'body'\ntype = 'text'\nrecord = 'position'\n[[doc_mapping.field_mappings]]\nname = 'level'\ntype = 'text'\ntokenizer = 'raw'\nfast = true\n[indexing_settings.merge_policy]\ntype = 'stable_log'\nmin_level_num_docs = 100\nmerge_factor = 2\nmax_merge_factor = 4\n[search_settings]\ndefault_search_fields = ['body']\n[upkeep]\nstaged_grace_secs = 200\ndeletion_grace_secs = 100";
+
 /// A timestamp field, in mode lenient.
 pub const TIMED: &str =
     "index_id='timed'\n[doc_mapping]\nmode='lenient'\ntimestamp_field='ts'\nfield_mappings=[{name='number',type='i64'},{name='ts',type='datetime',fast=true}]";
