@@ -37,7 +37,7 @@ first_same x y xs ys rx ry c d = elim (first_or y ys x c) [
   ]
 ]
 
-rest_in : (x y : List ℕ) (xs ys : List (List ℕ)) → x ≡ y → AllByRecursion (λ u. is_below x u ≡ true) xs → ((t : List ℕ) → Contains (x ∷ xs) t → Contains (y ∷ ys) t) → (t : List ℕ) → Contains xs t → Contains ys t
+pub rest_in : (x y : List ℕ) (xs ys : List (List ℕ)) → x ≡ y → AllByRecursion (λ u. is_below x u ≡ true) xs → ((t : List ℕ) → Contains (x ∷ xs) t → Contains (y ∷ ys) t) → (t : List ℕ) → Contains xs t → Contains ys t
 rest_in x y xs ys same above to t c = elim (first_or y ys t (to t (later x xs t c))) [
   | inl is ↦ absurd (below_itself x (subst (λ (u : List ℕ). is_below x u ≡ true) (sym (same ∙ is)) (all_in (λ u. is_below x u ≡ true) xs t above c)))
   | inr there ↦ there

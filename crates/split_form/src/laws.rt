@@ -30,3 +30,11 @@ pub fn file_laws()
     // Bytes that are a split of documents are the file of these documents.
     ensures { (s : Schema) (bytes : List ℕ) (documents : List Placed) → IsSplit s bytes documents → AllByRecursion (λ b. b < 256) bytes → bytes ≡ file_of s documents }
 {}
+
+/// These bytes are the file of whatever documents they are a split of.
+pub fn file_is_one(bytes: &[u8])
+    ensures { (s : Schema) (documents : List Placed) → IsSplit s bytes.now documents → bytes.now ≡ file_of s documents }
+{
+    // read, so that each byte is known to be below 256
+    let _bytes = bytes;
+}

@@ -3,4 +3,4 @@
 
 mod laws;
 
-pub use laws::{file_laws, keys_laws, sorted_laws};
+pub use laws::{file_is_one, file_laws, keys_laws, sorted_laws};
