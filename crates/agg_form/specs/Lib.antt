@@ -1,0 +1,5 @@
+pub mod Ordered
+pub mod Terms
+pub mod Steps
+pub mod Finished
+pub mod Examples
