@@ -1,11 +1,12 @@
 //! What a document says: its keys, each with its places.
 
-ghost use Rattle.std.specs.Prelude.{◌≡◌, ◌<◌, ◌^◌, ℕ, List, [], IfOk, OnOk, length, false};
+ghost use Rattle.std.specs.Prelude.{◌≡◌, ◌<◌, ◌^◌, ◌++◌, ℕ, List, [], IfOk, OnOk, length, false};
 ghost use Rattle.std.specs.List.{AllByRecursion};
 ghost use Rattle.std.specs.Str.{IsAscii};
 ghost use Rattle.doc_value.specs.declared.schema.Field.{Field};
 ghost use Rattle.doc_value.specs.declared.schema.Schema.{Schema};
 ghost use Rattle.doc_value.specs.Documents.{IsSchema};
+ghost use Rattle.doc_value.specs.Terms.{term_bytes};
 ghost use Rattle.query_ast.specs.FieldTokens.{field_tokens};
 ghost use Rattle.query_ast.specs.Meaning.{values_in};
 ghost use Rattle.split_bundle.specs.Keys.{field_key, presence_key, value_place, of_tokens, of_value, of_values, of_field, keys_of};
@@ -16,7 +17,7 @@ ghost use Rattle.split_build.specs.Words.{letter_of, next_position, next_word, o
 ghost use Rattle.text_tokens.specs.Tokens.{default_tokens, raw_tokens};
 
 use crate::terms::TermLog;
-use doc_value::{DocField, Field, Schema, Tokenizer, Value, term_bytes};
+use doc_value::{DocField, Field, Schema, Tokenizer, Value, turned};
 use query_ast::tokens_of;
 use std::alloc::{AllocError, Global};
 use text_tokens::Token;
@@ -45,6 +46,22 @@ fn put_key(key: &mut Vec<u8>, number: usize, term: &[u8]) -> Result<(), AllocErr
     key.push((number / 256) as u8)?;
     key.push((number % 256) as u8)?;
     key.extend_from_slice(term)
+}
+
+// Puts the term of a value behind what is in a buffer.
+fn put_term(key: &mut Vec<u8>, value: &Value) -> Result<(), AllocError>
+    ensures { OnOk result (key.new.items ≡ key.old.items ++ term_bytes value.now) }
+{
+    match value {
+        Value::Text(text) => key.extend_from_slice(text.as_slice()),
+        Value::I64(number) => key.extend_from_slice(&turned(*number).to_be_bytes()),
+        Value::U64(number) => key.extend_from_slice(&number.to_be_bytes()),
+        Value::Bool(truth) => {
+            key.push(u8::from(*truth))?;
+            Ok(())
+        }
+        Value::Datetime(seconds) => key.extend_from_slice(&turned(*seconds).to_be_bytes()),
+    }
 }
 
 // The key of the documents that have a value of a field.
@@ -311,8 +328,8 @@ impl Walker {
         requires other { (text : List ℕ) → value.now ≡ Value.Text text → ⊥ }
         ensures { (s : Schema) (f : Field) → IsKept s number kept → OnOk result (Adds terms.old terms.new s (in_document document (of_value f number place value.now))) }
     {
-        let term = term_bytes(self.alloc, value)?;
-        put_key(&mut self.key, number, term.as_slice())?;
+        put_key(&mut self.key, number, &[])?;
+        put_term(&mut self.key, value)?;
         terms.add(self.alloc, &self.key, kept, document, place_of(place, 0))
     }
 
