@@ -16,8 +16,7 @@ use Rattle.split_bundle.specs.Splits.{AreDocumentsOf, IsSplit, max_weight}
 use Rattle.split_bundle.proofs.Light.{weighs}
 use Rattle.split_build.specs.declared.builder.Builder.{Builder}
 use Rattle.split_build.specs.declared.builder.BuiltSplit.{BuiltSplit}
-use Rattle.split_build.specs.declared.build_error.BuildError.{BuildError}
-use Rattle.split_build.specs.declared.build_error.BuildError.TheVariants.{Memory, TooManyDocs, TooLarge}
+use Rattle.split_build.specs.declared.build_error.BuildError.TheVariants.{TooManyDocs, TooLarge}
 use Rattle.split_build.specs.declared.file.FileParts.{FileParts}
 use Rattle.split_build.specs.Bodies.{body_of}
 use Rattle.split_build.specs.Builders.{HasTaken, CanTake, IsBuilt}
@@ -26,7 +25,7 @@ use Rattle.split_build.specs.HeldColumns.{HasColumns}
 use Rattle.split_build.specs.HeldDocuments.{HasDocuments}
 use Rattle.split_build.specs.HeldTags.{HasTags}
 use Rattle.split_build.specs.HeldTerms.{HasSaid}
-use Rattle.split_build.specs.Limits.{AreWithin, MakeNone, max_documents}
+use Rattle.split_build.specs.Limits.{MakeNone, max_documents}
 use Rattle.split_build.specs.Said.{Said, in_document, said_from}
 use Rattle.split_build.specs.Sections.{AreLogs, ArePartsOf}
 use Rattle.split_build.specs.Tags.{AreTagsOf, tag_numbers}
@@ -125,10 +124,10 @@ total_within : (xs ys : List Placed) → total_weight (xs ++ ys) ≡ total_weigh
 total_within [] ys = omega arith
 total_within (x ∷ xs) ys = omega (arith, total_within xs ys)
 
--- where all documents are within the limits, those up to one of them are not beyond
-pub none_within : (documents done behind : List Placed) (d : Placed) (e : BuildError) → AreWithin documents → done ++ (d ∷ behind) ≡ documents → MakeNone (done ++ d ∷ []) e → MakeNone documents e
-none_within documents done behind d (Memory a) within is h = tt
-none_within documents done behind d (TooManyDocs count) within is h =
-    absurd (omega (arith, h.0, within.few, ap (λ (xs : List Placed). length xs) is, length-append done (d ∷ behind), length-append done (d ∷ [])))
-none_within documents done behind d (TooLarge n) within is h =
-    absurd (omega (arith, h.1, within.light, ap (λ (xs : List Placed). total_weight xs) is, total_within done (d ∷ behind), total_within done (d ∷ [])))
+-- where the first of some documents weigh too much, all of them do
+pub heavy_front : (front behind documents : List Placed) (n : ℕ) → front ++ behind ≡ documents → MakeNone front (TooLarge n) → max_weight < total_weight documents
+heavy_front front behind documents n is h = omega (arith, h.1, ap (λ (xs : List Placed). total_weight xs) is, total_within front behind)
+
+-- the first of documents that are not too many are not too many
+pub few_front : (front behind documents : List Placed) (count : ℕ) → length documents ≤ max_documents → front ++ behind ≡ documents → MakeNone front (TooManyDocs count) → ⊥
+few_front front behind documents count few is h = absurd (omega (arith, h.0, few, ap (λ (xs : List Placed). length xs) is, length-append front behind))

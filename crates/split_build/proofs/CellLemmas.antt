@@ -1,9 +1,10 @@
 -- Values of a field as they are taken: their entries, and the texts in the order of first sight.
 use Rattle.std.proofs.Common.{◌≡◌, ℕ, zero, suc, ◌<◌, ◌≤◌, ◌^◌, Bool, true, false, List, [], ◌∷◌, ◌++◌, map, length, get_or, refl, sym, ◌∙◌, ap, subst, arith, append_assoc, length-append, inl}
-use Rattle.std.specs.Prelude.{slice_get, Some, IsUtf8, Contains, All}
+use Rattle.std.specs.Prelude.{slice_get, position, Some, IsUtf8, Contains, All}
 use Rattle.std.specs.List.{AllByRecursion, AllZip}
 use Rattle.std.proofs.lemmas.List.{append-nil, length-map, map_push}
-use Rattle.std.proofs.lemmas.Option.{slice_get_within}
+use Rattle.std.proofs.lemmas.List.Quantifiers.{position-Some}
+use Rattle.std.proofs.lemmas.Option.{slice_get_within, slice_get-get_or}
 use Rattle.doc_value.specs.declared.schema.Kind.{Kind}
 use Rattle.doc_value.specs.declared.schema.Kind.TheVariants as kinds
 use Rattle.doc_value.specs.declared.doc.Value.{Value}
@@ -298,6 +299,16 @@ get_text (x ∷ xs) (suc n) k e = get_text xs n k e
 
 pub text_stored : (ks : List (String Global)) (k other : String Global) (t : List ℕ) (n : ℕ) → string_bytes k ≡ t → slice_get ks n ≡ Some other → string_eq k other ≡ true → slice_get (texts_of ks) n ≡ Some t
 text_stored ks k other t n text at same = get_text ks n other at ∙ ap (λ (m : List ℕ). Some m) (sym (eq_same (string_bytes k) (string_bytes other) same) ∙ text)
+
+found_by : (test : String Global → Bool) (ks : List (String Global)) (t : List ℕ) (n : ℕ) (d : String Global) → ((k : String Global) → test k ≡ true → t ≡ string_bytes k) → position test ks ≡ Some n → slice_get (texts_of ks) n ≡ Some t
+found_by test ks t n d same is =
+    let there = position-Some test ks n d is in
+    get_text ks n (get_or ks n d) (slice_get-get_or ks n d there.0) ∙ ap (λ (m : List ℕ). Some m) (sym (same (get_or ks n d) there.1))
+
+-- the place that a text has among some
+pub text_found : (test : String Global → Bool) (ks : List (String Global)) (t : List ℕ) (n : ℕ) → ((k : String Global) → test k ≡ true → t ≡ string_bytes k) → position test ks ≡ Some n → slice_get (texts_of ks) n ≡ Some t
+text_found test [] t n same is = absurd cc
+text_found test (k ∷ ks) t n same is = found_by test (k ∷ ks) t n k same is
 
 pub numbered_text : (before after more : List (List ℕ)) (v : Value) (t : List ℕ) (n : ℕ) → v ≡ values.Text t → IsUtf8 t → after ≡ before ++ more → AllByRecursion (λ m. m ≡ t) more → slice_get after n ≡ Some t → n < 2 ^ 64 → IsNumbered before after v n
 numbered_text before after more v t n is utf8 grown same at small = record {

@@ -1,15 +1,8 @@
 -- Which keys occur, and sorted keys.
-use Rattle.std.proofs.Common.{◌≡◌, ℕ, zero, suc, ◌+◌, ◌<◌, Bool, true, false, List, [], ◌∷◌, ◌++◌, map, length, get_or, refl, ◌∙◌, ap, subst, arith, inl, inr}
-use Rattle.std.specs.Prelude.{◌↔◌, Contains, IsTrue, Vec}
+use Rattle.std.proofs.Common.{◌≡◌, ℕ, zero, suc, ◌<◌, Bool, true, false, List, [], ◌∷◌, ◌++◌, map, length, get_or, refl, ◌∙◌, ap, subst, arith, inl, inr}
+use Rattle.std.specs.Prelude.{◌↔◌, Contains, IsTrue}
 use Rattle.std.specs.List.{AllByRecursion, IsDistinct}
-use Rattle.std.specs.List.Sorted.{IsSorted, IsPermutation}
-use Rattle.std.specs.Map.{keys_of}
-use Rattle.std.specs.Ordering.{nat_cmp}
 use Rattle.std.specs.Str.{bytes_eq}
-use Rattle.std.specs.Cmp.Lexicographic.{slice_cmp}
-use Rattle.std.specs.declared.alloc.Global.{Global}
-use Rattle.std.proofs.lemmas.List.Sorted.{All-permutation, Contains-permutation, IsPermutation-map}
-use Rattle.std.proofs.lemmas.List.Elements.{All-from_recursion, recursion_from_All}
 use Rattle.std.proofs.lemmas.Map.Keys.{IsDistinct-head, IsDistinct-tail}
 use Rattle.term_dict.specs.Keys.{is_below}
 use Rattle.doc_value.specs.declared.schema.Schema.{Schema}
@@ -19,10 +12,8 @@ use Rattle.split_bundle.specs.Lists.{has_key, stands_in}
 use Rattle.split_bundle.specs.Splits.{AreRising}
 use Rattle.fast_fields.proofs.Below.{below_then, neither_below}
 use Rattle.split_build.specs.Said.{Said, in_document, said_from, with_key}
-use Rattle.split_build.specs.HeldTerms.{HoldsKey, keys_in}
 use Rattle.split_build.specs.Members.{IsAmong}
-use Rattle.split_build.specs.WrittenTerms.{CanBeListed, IsListOf}
-use Rattle.split_build.proofs.SaidLemmas.{Entry, same_keys, eq_same, false_ne}
+use Rattle.split_build.proofs.SaidLemmas.{eq_same, false_ne}
 use Rattle.split_build.proofs.PostedLemmas.{with_key-append}
 
 -- ---- membership
@@ -88,16 +79,27 @@ stands_among s ks key n (d ∷ ds) h e =
     by true is later = some_among ks key n (occurrences_of s d.doc) is (front_all (λ (o : Said). IsAmong ks o.key) (in_document n (occurrences_of s d.doc)) (said_from s (suc n) ds) h)
     by false is later = later (rw is at e)
 
--- each of these keys occurs
-each_stands : (s : Schema) (ds : List Placed) (es : List Entry) → AllByRecursion (HoldsKey s (said_from s 0 ds)) es → (key : List ℕ) → IsAmong (keys_in es) key → stands_in s key ds ≡ true
-each_stands s ds [] h key among = absurd among
-each_stands s ds (e ∷ es) h key (inl same) = subst (λ (k : List ℕ). stands_in s k ds ≡ true) same (occurs_stands s e.0.items 0 ds h.0.some)
-each_stands s ds (e ∷ es) h key (inr later) = each_stands s ds es h.1 key later
+-- a key that was said occurs
+said_some : (key : List ℕ) (log : List Said) → IsAmong (map (λ (o : Said). o.key) log) key → 0 < length (with_key key log)
+said_some key [] h = absurd h
+said_some key (o ∷ os) h = by (bytes_eq o.key key) refl h (said_some key os)
+  where
+    by : (b : Bool) → bytes_eq o.key key ≡ b → IsAmong (map (λ (p : Said). p.key) (o ∷ os)) key → (IsAmong (map (λ (p : Said). p.key) os) key → 0 < length (with_key key os)) → 0 < length (with_key key (o ∷ os))
+    by true is among rest = rw is (omega arith)
+    by false is (inl same) rest = absurd (false_ne o.key key is same)
+    by false is (inr later) rest = rw is (rest later)
 
-pub exact_keys : (s : Schema) (ds : List Placed) (es : List Entry) → AllByRecursion (HoldsKey s (said_from s 0 ds)) es → AllByRecursion (λ o. IsAmong (keys_in es) o.key) (said_from s 0 ds)
-    → (key : List ℕ) → Contains (keys_in es) key ↔ IsTrue (stands_in s key ds)
-exact_keys s ds es each all key =
-    (λ c. each_stands s ds es each key (among_contains (keys_in es) key c), λ e. contains_among (keys_in es) key (stands_among s (keys_in es) key 0 ds all e))
+-- keys that all were said, and that are all of those that were
+pub exact_keys : (s : Schema) (ds : List Placed) (ks : List (List ℕ)) → AllByRecursion (IsAmong (map (λ o. o.key) (said_from s 0 ds))) ks → AllByRecursion (λ o. IsAmong ks o.key) (said_from s 0 ds) → (key : List ℕ) → IsAmong ks key ↔ IsTrue (stands_in s key ds)
+exact_keys s ds ks used all key = (
+  λ among. occurs_stands s key 0 ds (said_some key (said_from s 0 ds) (each_of (IsAmong (map (λ (o : Said). o.key) (said_from s 0 ds))) ks key used among)),
+  λ stands. stands_among s ks key 0 ds all stands,
+)
+  where
+    each_of : (P : List ℕ → Type 0) (ks : List (List ℕ)) (key : List ℕ) → AllByRecursion P ks → IsAmong ks key → P key
+    each_of P [] key h among = absurd among
+    each_of P (k ∷ ks) key h (inl same) = subst P same h.0
+    each_of P (k ∷ ks) key h (inr later) = each_of P ks key h.1 later
 
 -- ---- sorted
 
@@ -111,49 +113,15 @@ AreInOrder [] = Unit {0}
 AreInOrder (x ∷ []) = Unit {0}
 AreInOrder (x ∷ y ∷ ys) = (is_below y x ≡ false) × AreInOrder (y ∷ ys)
 
-rising_of : (ks : List (Vec ℕ Global)) → AreInOrder (map (λ k. k.items) ks) → IsDistinct same_keys ks → AreRising (map (λ k. k.items) ks)
+pub rising_of : (ks : List (List ℕ)) → AreInOrder ks → IsDistinct bytes_eq ks → AreRising ks
 rising_of [] order apart = tt
 rising_of (x ∷ []) order apart = (tt, tt)
 rising_of (x ∷ y ∷ ys) order apart =
-    let rest = rising_of (y ∷ ys) order.1 (IsDistinct-tail same_keys x (y ∷ ys) apart) in
-    let head = IsDistinct-head same_keys x (y ∷ ys) apart in
-    let lt : is_below x.items y.items ≡ true = below (is_below x.items y.items) refl order.0 head.0 in
-    ((lt, above_all x.items y.items (map (λ (k : Vec ℕ Global). k.items) ys) lt rest.0), rest)
+    let rest = rising_of (y ∷ ys) order.1 (IsDistinct-tail bytes_eq x (y ∷ ys) apart) in
+    let head = IsDistinct-head bytes_eq x (y ∷ ys) apart in
+    let lt : is_below x y ≡ true = below (is_below x y) refl order.0 head.0 in
+    ((lt, above_all x y ys lt rest.0), rest)
   where
-    below : (b : Bool) → is_below x.items y.items ≡ b → is_below y.items x.items ≡ false → bytes_eq x.items y.items ≡ false → is_below x.items y.items ≡ true
+    below : (b : Bool) → is_below x y ≡ b → is_below y x ≡ false → bytes_eq x y ≡ false → is_below x y ≡ true
     below true is not differ = is
-    below false is not differ = absurd (false_ne x.items y.items differ (neither_below x.items y.items is not))
-
-in_order : (ks : List (Vec ℕ Global)) → IsSorted (λ x y. slice_cmp nat_cmp x.items y.items) ks → AreInOrder (map (λ k. k.items) ks)
-in_order [] h = tt
-in_order (x ∷ []) h = tt
-in_order (x ∷ y ∷ ys) h = (
-  h 0 x (omega arith) (omega arith),
-  in_order (y ∷ ys) (λ k d a b.
-      (let next : suc k + 1 ≡ suc (k + 1) = omega arith in
-      subst (λ (n : ℕ). is_below (get_or (x ∷ y ∷ ys) n d).items (get_or (y ∷ ys) k d).items ≡ false) next (h (suc k) d (omega (arith, a)) (omega (arith, b))))),
-)
-
-keys_items : (es : List Entry) → map (λ (k : Vec ℕ Global). k.items) (keys_of es) ≡ keys_in es
-keys_items [] = refl
-keys_items (e ∷ es) = ap (λ (l : List (List ℕ)). e.0.items ∷ l) (keys_items es)
-
-pub sorted_rise : (es : List Entry) → IsSorted (λ x y. slice_cmp nat_cmp x.items y.items) (keys_of es) → IsDistinct same_keys (keys_of es) → AreRising (keys_in es)
-sorted_rise es sorted apart = subst (λ (l : List (List ℕ)). AreRising l) (keys_items es) (rising_of (keys_of es) (in_order (keys_of es) sorted) apart)
-
--- ---- in another order
-
-pub each_again : (s : Schema) (log : List Said) (es fs : List Entry) → IsPermutation es fs → AllByRecursion (HoldsKey s log) es → AllByRecursion (HoldsKey s log) fs
-each_again s log es fs same h = recursion_from_All (HoldsKey s log) fs (All-permutation (HoldsKey s log) es fs same (All-from_recursion (HoldsKey s log) es h))
-
-among_again : (es fs : List Entry) → IsPermutation es fs → (key : List ℕ) → IsAmong (keys_in es) key → IsAmong (keys_in fs) key
-among_again es fs same key h =
-    among_contains (keys_in fs) key (Contains-permutation (keys_in es) (keys_in fs) key (IsPermutation-map (λ (e : Entry). e.0.items) es fs same) (contains_among (keys_in es) key h))
-
-pub all_again : (es fs : List Entry) → IsPermutation es fs → (log : List Said) → AllByRecursion (λ o. IsAmong (keys_in es) o.key) log → AllByRecursion (λ o. IsAmong (keys_in fs) o.key) log
-all_again es fs same [] h = tt
-all_again es fs same (o ∷ os) h = (among_again es fs same o.key h.0, all_again es fs same os h.1)
-
--- the list of an entry
-pub list_of_entry : (s : Schema) (ds : List Placed) (e : Entry) → CanBeListed s ds → HoldsKey s (said_from s 0 ds) e → IsListOf s ds e.0.items e.1
-list_of_entry s ds e can h = record { can = can; documents_are = h.documents; places_are = h.places }
+    below false is not differ = absurd (false_ne x y differ (neither_below x y is not))

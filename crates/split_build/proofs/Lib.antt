@@ -8,6 +8,12 @@ pub mod TermLemmas
 pub mod KeysLemmas
 pub mod WrittenLemmas
 pub mod OnWay
+pub mod GatheredLemmas
+pub mod KeyGroupLemmas
+pub mod OrderLemmas
+pub mod GroupWriting
+pub mod WordLemmas
+pub mod WordWalks
 pub mod RisingLemmas
 pub mod TagLemmas
 pub mod TimesLemmas

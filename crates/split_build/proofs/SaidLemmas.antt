@@ -1,32 +1,31 @@
--- How the lists of keys change with an occurrence more.
-use Rattle.std.proofs.Common.{◌≡◌, ℕ, ◌<◌, Bool, true, false, cond, List, [], ◌∷◌, ◌++◌, map, length, Some, None, refl, sym, ◌∙◌, ap, subst, arith, inl, inr, length-append}
-use Rattle.std.specs.Prelude.{Vec, if◌then◌else◌}
-use Rattle.std.specs.List.{AllByRecursion, IsDistinct}
-use Rattle.std.specs.Map.{keys_of, lookup, set_value}
+-- Equal texts, and how the occurrences of keys change with one more.
+use Rattle.std.proofs.Common.{◌≡◌, ℕ, zero, suc, Bool, true, false, cond, List, [], ◌∷◌, ◌++◌, map, get_or, Some, refl, sym, ◌∙◌, ap, subst, inl, inr}
+use Rattle.std.specs.Prelude.{Vec, Result, Ok, Err, IfOk, OnOk, slice_get, position, if◌then◌else◌}
+use Rattle.std.specs.Bool.{beq}
+use Rattle.std.specs.List.{AllByRecursion, AllZip, list_any}
 use Rattle.std.specs.Str.{bytes_eq}
 use Rattle.std.specs.declared.alloc.Global.{Global}
-use Rattle.std.proofs.lemmas.List.{map_push}
-use Rattle.std.proofs.lemmas.Map.Keys.{IsDistinct-head, IsDistinct-tail}
+use Rattle.std.proofs.lemmas.List.{append-nil, map_push}
+use Rattle.std.proofs.lemmas.List.Quantifiers.{position-Some}
+use Rattle.std.proofs.lemmas.Option.{slice_get-get_or}
 use Rattle.std.proofs.lemmas.Slice.Eq.{bytes_eq-Decides}
+use Rattle.indexmap.specs.IndexSet.{insert_key}
 use Rattle.doc_value.specs.declared.schema.Schema.{Schema}
 use Rattle.split_bundle.specs.Lists.{keeps_places}
-use Rattle.split_build.specs.declared.terms.KeyList.{KeyList}
-use Rattle.split_build.specs.Said.{Said, with_key, places_kept}
-use Rattle.indexmap.specs.IndexMap.{insert_entry}
+use Rattle.split_build.specs.declared.terms.Occurrences.{Occurrences}
 use Rattle.split_build.specs.declared.terms.TermLog.{TermLog}
-use Rattle.split_build.specs.HeldTerms.{HoldsKey, HasSaid, keys_in}
+use Rattle.split_build.specs.Said.{Said, places_kept}
+use Rattle.split_build.specs.HeldKeys.{key_bytes}
+use Rattle.split_build.specs.HeldTerms.{said_with, IsNumberOf, HasOccurrences, HasSaid}
 use Rattle.split_build.specs.Members.{IsAmong}
+use Rattle.split_build.proofs.Zipped.{zip_push}
 
-abbrev pub Entry : Type 0
-Entry = Vec ℕ Global × KeyList
-
-abbrev pub is_key : List ℕ → Vec ℕ Global → Bool
-is_key key k = bytes_eq key k.items
+-- ---- equal texts
 
 abbrev pub same_keys : Vec ℕ Global → Vec ℕ Global → Bool
 same_keys a b = bytes_eq a.items b.items
 
-eq_itself : (a : List ℕ) → bytes_eq a a ≡ true
+pub eq_itself : (a : List ℕ) → bytes_eq a a ≡ true
 eq_itself a = (bytes_eq-Decides a a).1 refl
 
 pub eq_same : (a b : List ℕ) → bytes_eq a b ≡ true → a ≡ b
@@ -47,122 +46,94 @@ false_ne a b e same =
 pub flipped : (a b : List ℕ) → bytes_eq a b ≡ false → bytes_eq b a ≡ false
 flipped a b e = eq_false b a (λ same. false_ne a b e (sym same))
 
--- ---- the occurrences of a key, with one more
+-- ---- keys
 
-cond_push : (b : Bool) (x o : Said) (l : List Said) → cond b (x ∷ (l ++ o ∷ [])) (l ++ o ∷ []) ≡ cond b (x ∷ l) l ++ o ∷ []
-cond_push true x o l = refl
-cond_push false x o l = refl
+pub get_more : (ks more : List (List ℕ)) (i : ℕ) (x : List ℕ) → slice_get ks i ≡ Some x → slice_get (ks ++ more) i ≡ Some x
+get_more [] more i x e = absurd cc
+get_more (k ∷ ks) more zero x e = e
+get_more (k ∷ ks) more (suc i) x e = get_more ks more i x e
 
-pub with_key-other : (key : List ℕ) (log : List Said) (o : Said) → bytes_eq o.key key ≡ false → with_key key (log ++ o ∷ []) ≡ with_key key log
-with_key-other key [] o e = rw e refl
-with_key-other key (x ∷ xs) o e = ap (λ (l : List Said). cond (bytes_eq x.key key) (x ∷ l) l) (with_key-other key xs o e)
+pub keys_inserted : (old new : List (Vec ℕ Global)) (k : Vec ℕ Global) (key : List ℕ) → k.items ≡ key → new ≡ insert_key same_keys old k → (more : List (List ℕ)) × (key_bytes new ≡ key_bytes old ++ more) × AllByRecursion (λ m. m ≡ key) more
+keys_inserted old new k key text is = by (list_any (same_keys k) old) refl
+  where
+    by : (b : Bool) → list_any (same_keys k) old ≡ b → (more : List (List ℕ)) × (key_bytes new ≡ key_bytes old ++ more) × AllByRecursion (λ m. m ≡ key) more
+    by true there = ([], ap key_bytes (is ∙ ap (λ (b : Bool). if b then old else old ++ k ∷ []) there) ∙ sym (append-nil (key_bytes old)), tt)
+    by false there = (
+      key ∷ [],
+      ap key_bytes (is ∙ ap (λ (b : Bool). if b then old else old ++ k ∷ []) there) ∙ map_push (λ (v : Vec ℕ Global). v.items) old k ∙ ap (λ (m : List ℕ). key_bytes old ++ m ∷ []) text,
+      (refl, tt),
+    )
 
-pub with_key-same : (key : List ℕ) (log : List Said) (o : Said) → bytes_eq o.key key ≡ true → with_key key (log ++ o ∷ []) ≡ with_key key log ++ o ∷ []
-with_key-same key [] o e = rw e refl
-with_key-same key (x ∷ xs) o e =
-    ap (λ (l : List Said). cond (bytes_eq x.key key) (x ∷ l) l) (with_key-same key xs o e) ∙ cond_push (bytes_eq x.key key) x o (with_key key xs)
+get_key : (ks : List (Vec ℕ Global)) (n : ℕ) (k : Vec ℕ Global) → slice_get ks n ≡ Some k → slice_get (key_bytes ks) n ≡ Some k.items
+get_key [] n k e = absurd cc
+get_key (x ∷ xs) zero k e = let same : x ≡ k = cc in ap (λ (v : Vec ℕ Global). Some v.items) same
+get_key (x ∷ xs) (suc n) k e = get_key xs n k e
+
+pub key_stored : (ks : List (Vec ℕ Global)) (k other : Vec ℕ Global) (key : List ℕ) (n : ℕ) → k.items ≡ key → slice_get ks n ≡ Some other → same_keys k other ≡ true → slice_get (key_bytes ks) n ≡ Some key
+key_stored ks k other key n text at same = get_key ks n other at ∙ ap (λ (m : List ℕ). Some m) (sym (eq_same k.items other.items same) ∙ text)
+
+found_by : (ks : List (Vec ℕ Global)) (key : List ℕ) (n : ℕ) (d : Vec ℕ Global) → position (λ (k : Vec ℕ Global). bytes_eq key k.items) ks ≡ Some n → slice_get (key_bytes ks) n ≡ Some key
+found_by ks key n d is =
+    let there = position-Some (λ (k : Vec ℕ Global). bytes_eq key k.items) ks n d is in
+    get_key ks n (get_or ks n d) (slice_get-get_or ks n d there.0) ∙ ap (λ (m : List ℕ). Some m) (sym (eq_same key (get_or ks n d).items there.1))
+
+pub key_found : (ks : List (Vec ℕ Global)) (key : List ℕ) (n : ℕ) → position (λ (k : Vec ℕ Global). bytes_eq key k.items) ks ≡ Some n → slice_get (key_bytes ks) n ≡ Some key
+key_found [] key n is = absurd cc
+key_found (k ∷ ks) key n is = found_by (k ∷ ks) key n k is
+
+-- ---- of an `Ok`
+
+pub on_ok : {X E : Type 0} (r : Result X E) (P : Type 0) → P → OnOk r P
+on_ok (Ok x) P p = p
+on_ok (Err e) P p = tt
+
+pub narrowed : {E : Type 0} (r : Result ℕ E) (number : ℕ) (P : ℕ → Type 0) → IfOk r (λ n. n ≡ number) → P number → IfOk r P
+narrowed (Ok n) number P is p = subst P (sym is) p
+narrowed (Err e) number P is p = tt
+
+pub on_three : {X E : Type 0} (r : Result X E) (A B C D : Type 0) → OnOk r A → OnOk r B → OnOk r C → (A → B → C → D) → OnOk r D
+on_three (Ok x) A B C D a b c to = to a b c
+on_three (Err e) A B C D a b c to = tt
+
+-- ---- an occurrence more
 
 pub places_push : (kept : Bool) (os : List Said) (o : Said) → places_kept kept (os ++ o ∷ []) ≡ (if kept then places_kept kept os ++ o.place ∷ [] else places_kept kept os)
 places_push true os o = map_push (λ (p : Said). p.place) os o
 places_push false os o = refl
 
--- ---- the list of a key, with an occurrence more
+zip_wide : (ks more : List (List ℕ)) (os : List Said) (ns : List ℕ) → AllZip (IsNumberOf ks) os ns → AllZip (IsNumberOf (ks ++ more)) os ns
+zip_wide ks more [] [] h = tt
+zip_wide ks more [] (n ∷ ns) h = absurd h
+zip_wide ks more (o ∷ os) [] h = absurd h
+zip_wide ks more (o ∷ os) (n ∷ ns) h = (get_more ks more n o.key h.0, zip_wide ks more os ns h.1)
 
-holds_other : (s : Schema) (log : List Said) (o : Said) (e : Entry) → bytes_eq o.key e.0.items ≡ false → HoldsKey s log e → HoldsKey s (log ++ o ∷ []) e
-holds_other s log o e other h =
-    let is = sym (with_key-other e.0.items log o other) in
-    record {
-      some = subst (λ (l : List Said). 0 < length l) is h.some;
-      documents = h.documents ∙ ap (λ (l : List Said). map (λ (p : Said). p.document) l) is;
-      places = h.places ∙ ap (λ (l : List Said). places_kept (keeps_places s e.0.items) l) is;
-    }
+said_push : (kept : Bool) (s : Schema) (log : List Said) (o : Said) → said_with kept s (log ++ o ∷ []) ≡ (if beq (keeps_places s o.key) kept then said_with kept s log ++ o ∷ [] else said_with kept s log)
+said_push kept s [] o = refl
+said_push kept s (x ∷ xs) o = by (beq (keeps_places s x.key) kept) (beq (keeps_places s o.key) kept) (said_push kept s xs o)
+  where
+    by : (a b : Bool) → said_with kept s (xs ++ o ∷ []) ≡ cond b (said_with kept s xs ++ o ∷ []) (said_with kept s xs)
+        → cond a (x ∷ said_with kept s (xs ++ o ∷ [])) (said_with kept s (xs ++ o ∷ [])) ≡ cond b (cond a (x ∷ said_with kept s xs) (said_with kept s xs) ++ o ∷ []) (cond a (x ∷ said_with kept s xs) (said_with kept s xs))
+    by true true ih = ap (λ (l : List Said). x ∷ l) ih
+    by true false ih = ap (λ (l : List Said). x ∷ l) ih
+    by false true ih = ih
+    by false false ih = ih
 
--- a list with a document more, and with a place more where they are kept
-pub record IsPushed (kept : Bool) (o : Said) (l m : KeyList) : Type 0 where
+-- the occurrences stay, and keys may have come
+wide : (ks more : List (List ℕ)) (kept : Bool) (os : List Said) (l : Occurrences) → HasOccurrences ks kept os l → HasOccurrences (ks ++ more) kept os l
+wide ks more kept os l h = record { numbers = zip_wide ks more os l.numbers.items h.numbers; documents = h.documents; places = h.places }
+
+-- one came behind the others
+pub record IsPushed (kept : Bool) (number : ℕ) (o : Said) (l m : Occurrences) : Type 0 where
+  pub numbers : m.numbers.items ≡ l.numbers.items ++ number ∷ []
   pub documents : m.documents.items ≡ l.documents.items ++ o.document ∷ []
   pub places : m.places.items ≡ (if kept then l.places.items ++ o.place ∷ [] else l.places.items)
 
-holds_same : (s : Schema) (log : List Said) (o : Said) (k : Vec ℕ Global) (l m : KeyList) → bytes_eq o.key k.items ≡ true → l.documents.items ≡ map (λ (p : Said). p.document) (with_key k.items log)
-    → l.places.items ≡ places_kept (keeps_places s k.items) (with_key k.items log) → IsPushed (keeps_places s k.items) o l m → HoldsKey s (log ++ o ∷ []) (k, m)
-holds_same s log o k l m same documents places h =
-    let is = with_key-same k.items log o same in
-    record {
-      some = rw is (omega (arith, length-append (with_key k.items log) (o ∷ [])));
-      documents = h.documents ∙ ap (λ (ds : List ℕ). ds ++ o.document ∷ []) documents ∙ sym (map_push (λ (p : Said). p.document) (with_key k.items log) o) ∙ ap (λ (os : List Said). map (λ (p : Said). p.document) os) (sym is);
-      places = h.places ∙ ap (λ (ps : List ℕ). if keeps_places s k.items then ps ++ o.place ∷ [] else ps) places ∙ sym (places_push (keeps_places s k.items) (with_key k.items log) o)
-          ∙ ap (λ (os : List Said). places_kept (keeps_places s k.items) os) (sym is);
-    }
-
--- ---- all lists
-
-others_hold : (s : Schema) (log : List Said) (o : Said) (es : List Entry) → AllByRecursion (λ e. bytes_eq o.key e.0.items ≡ false) es → AllByRecursion (HoldsKey s log) es → AllByRecursion (HoldsKey s (log ++ o ∷ [])) es
-others_hold s log o [] ne h = tt
-others_hold s log o (e ∷ es) ne h = (holds_other s log o e ne.0 h.0, others_hold s log o es ne.1 h.1)
-
--- the keys behind one that is the key are others
-others_of : (key : List ℕ) (k : Vec ℕ Global) (es : List Entry) → bytes_eq key k.items ≡ true → AllByRecursion (λ y. same_keys k y ≡ false) (keys_of es) → AllByRecursion (λ (e : Entry). bytes_eq key e.0.items ≡ false) es
-others_of key k [] e h = tt
-others_of key k (x ∷ xs) e h = (subst (λ (a : List ℕ). bytes_eq a x.0.items ≡ false) (sym (eq_same key k.items e)) h.0, others_of key k xs e h.1)
-
-pub keys_set : (key : List ℕ) (es : List Entry) (m : KeyList) → keys_in (set_value (is_key key) es m) ≡ keys_in es
-keys_set key [] m = refl
-keys_set key (e ∷ es) m = by (bytes_eq key e.0.items) refl (keys_set key es m)
-  where
-    by : (b : Bool) → bytes_eq key e.0.items ≡ b → keys_in (set_value (is_key key) es m) ≡ keys_in es → keys_in (set_value (is_key key) (e ∷ es) m) ≡ keys_in (e ∷ es)
-    by true is ih = rw is refl
-    by false is ih = rw is (ap (λ (ks : List (List ℕ)). e.0.items ∷ ks) ih)
-
-pub each_set : (s : Schema) (log : List Said) (o : Said) (es : List Entry) (l m : KeyList) → IsDistinct same_keys (keys_of es) → lookup (is_key o.key) es ≡ Some l → IsPushed (keeps_places s o.key) o l m
-    → AllByRecursion (HoldsKey s log) es → AllByRecursion (HoldsKey s (log ++ o ∷ [])) (set_value (is_key o.key) es m)
-each_set s log o [] l m apart there pushed h = absurd cc
-each_set s log o (e ∷ es) l m apart there pushed h =
-    by (bytes_eq o.key e.0.items) refl (λ later. each_set s log o es l m (IsDistinct-tail same_keys e.0 (keys_of es) apart) later pushed h.1)
-  where
-    by : (b : Bool) → bytes_eq o.key e.0.items ≡ b → (lookup (is_key o.key) es ≡ Some l → AllByRecursion (HoldsKey s (log ++ o ∷ [])) (set_value (is_key o.key) es m))
-        → AllByRecursion (HoldsKey s (log ++ o ∷ [])) (set_value (is_key o.key) (e ∷ es) m)
-    by true is rest =
-        let found : e.1 ≡ l = let some : Some e.1 ≡ Some l = rw is at there in cc in
-        let key : o.key ≡ e.0.items = eq_same o.key e.0.items is in
-        let here : HoldsKey s (log ++ o ∷ []) (e.0, m) =
-        holds_same s log o e.0 l m is (ap (λ (x : KeyList). x.documents.items) (sym found) ∙ h.0.documents) (ap (λ (x : KeyList). x.places.items) (sym found) ∙ h.0.places)
-        (subst (λ (a : List ℕ). IsPushed (keeps_places s a) o l m) key pushed) in
-        let behind = others_hold s log o es (others_of o.key e.0 es is (IsDistinct-head same_keys e.0 (keys_of es) apart)) h.1 in
-        rw is (here, behind)
-    by false is rest =
-        let later : lookup (is_key o.key) es ≡ Some l = rw is at there in
-        rw is (holds_other s log o e is h.0, rest later)
-
--- ---- which keys have lists
-
-pub found_among : (key : List ℕ) (es : List Entry) (l : KeyList) → lookup (is_key key) es ≡ Some l → IsAmong (keys_in es) key
-found_among key [] l e = absurd cc
-found_among key (x ∷ xs) l e = by (bytes_eq key x.0.items) refl (found_among key xs l)
-  where
-    by : (b : Bool) → bytes_eq key x.0.items ≡ b → (lookup (is_key key) xs ≡ Some l → IsAmong (keys_in xs) key) → IsAmong (keys_in (x ∷ xs)) key
-    by true is rest = inl (sym (eq_same key x.0.items is))
-    by false is rest = inr (rest (rw is at e))
-
-pub absent_apart : (key : List ℕ) (es : List Entry) → lookup (is_key key) es ≡ None → AllByRecursion (λ (e : Entry). bytes_eq key e.0.items ≡ false) es
-absent_apart key [] e = tt
-absent_apart key (x ∷ xs) e = by (bytes_eq key x.0.items) refl (absent_apart key xs)
-  where
-    by : (b : Bool) → bytes_eq key x.0.items ≡ b → (lookup (is_key key) xs ≡ None → AllByRecursion (λ (y : Entry). bytes_eq key y.0.items ≡ false) xs) → AllByRecursion (λ (y : Entry). bytes_eq key y.0.items ≡ false) (x ∷ xs)
-    by true is rest =
-        let wrong : Some x.1 ≡ None = rw is at e in
-        absurd cc
-    by false is rest = (is, rest (rw is at e))
-
-apart_absent : (key : List ℕ) (es : List Entry) → AllByRecursion (λ (e : Entry). bytes_eq key e.0.items ≡ false) es → IsAmong (keys_in es) key → ⊥
-apart_absent key [] h among = among
-apart_absent key (x ∷ xs) h (inl same) = false_ne key x.0.items h.0 (sym same)
-apart_absent key (x ∷ xs) h (inr later) = apart_absent key xs h.1 later
-
--- a key without a list does not occur
-pub absent_none : (key : List ℕ) (ks : List (List ℕ)) (log : List Said) → (IsAmong ks key → ⊥) → AllByRecursion (λ o. IsAmong ks o.key) log → with_key key log ≡ []
-absent_none key ks [] not h = refl
-absent_none key ks (x ∷ xs) not h =
-    let other : bytes_eq x.key key ≡ false = eq_false x.key key (λ same. not (subst (λ (k : List ℕ). IsAmong ks k) same h.0)) in
-    rw other (absent_none key ks xs not h.1)
+pushed : (ks : List (List ℕ)) (kept : Bool) (number : ℕ) (o : Said) (os : List Said) (l m : Occurrences) → slice_get ks number ≡ Some o.key → IsPushed kept number o l m → HasOccurrences ks kept os l → HasOccurrences ks kept (os ++ o ∷ []) m
+pushed ks kept number o os l m at p h = record {
+  numbers = subst (λ (ns : List ℕ). AllZip (IsNumberOf ks) (os ++ o ∷ []) ns) (sym p.numbers) (zip_push (IsNumberOf ks) os l.numbers.items o number h.numbers at);
+  documents = p.documents ∙ ap (λ (ds : List ℕ). ds ++ o.document ∷ []) h.documents ∙ sym (map_push (λ (q : Said). q.document) os o);
+  places = p.places ∙ ap (λ (ps : List ℕ). if kept then ps ++ o.place ∷ [] else ps) h.places ∙ sym (places_push kept os o);
+}
 
 among_left : (ks more : List (List ℕ)) (key : List ℕ) → IsAmong ks key → IsAmong (ks ++ more) key
 among_left [] more key h = absurd h
@@ -173,77 +144,68 @@ among_last : (ks : List (List ℕ)) (key : List ℕ) → IsAmong (ks ++ key ∷ 
 among_last [] key = inl refl
 among_last (k ∷ ks) key = inr (among_last ks key)
 
-keys_push : (es : List Entry) (k : Vec ℕ Global) (m : KeyList) → keys_in (es ++ (k, m) ∷ []) ≡ keys_in es ++ k.items ∷ []
-keys_push [] k m = refl
-keys_push (e ∷ es) k m = ap (λ (ks : List (List ℕ)). e.0.items ∷ ks) (keys_push es k m)
+used_still : (said : List (List ℕ)) (key : List ℕ) (ks : List (List ℕ)) → AllByRecursion (IsAmong said) ks → AllByRecursion (IsAmong (said ++ key ∷ [])) ks
+used_still said key [] h = tt
+used_still said key (k ∷ ks) h = (among_left said (key ∷ []) k h.0, used_still said key ks h.1)
 
-all_push : (ks : List (List ℕ)) (log : List Said) (o : Said) → AllByRecursion (λ p. IsAmong ks p.key) log → IsAmong ks o.key → AllByRecursion (λ p. IsAmong ks p.key) (log ++ o ∷ [])
-all_push ks [] o h p = (p, tt)
-all_push ks (x ∷ xs) o h p = (h.0, all_push ks xs o h.1 p)
+used_new : (said : List (List ℕ)) (key : List ℕ) (ks : List (List ℕ)) → AllByRecursion (λ m. m ≡ key) ks → AllByRecursion (IsAmong (said ++ key ∷ [])) ks
+used_new said key [] h = tt
+used_new said key (k ∷ ks) h = (subst (λ (x : List ℕ). IsAmong (said ++ key ∷ []) x) (sym h.0) (among_last said key), used_new said key ks h.1)
 
-all_more : (ks more : List (List ℕ)) (log : List Said) → AllByRecursion (λ p. IsAmong ks p.key) log → AllByRecursion (λ p. IsAmong (ks ++ more) p.key) log
-all_more ks more [] h = tt
-all_more ks more (x ∷ xs) h = (among_left ks more x.key h.0, all_more ks more xs h.1)
+used_join : (P : List ℕ → Type 0) (xs ys : List (List ℕ)) → AllByRecursion P xs → AllByRecursion P ys → AllByRecursion P (xs ++ ys)
+used_join P [] ys h k = k
+used_join P (x ∷ xs) ys h k = (h.0, used_join P xs ys h.1 k)
 
-pub all_set : (o : Said) (es : List Entry) (l m : KeyList) (log : List Said) → lookup (is_key o.key) es ≡ Some l → AllByRecursion (λ p. IsAmong (keys_in es) p.key) log
-    → AllByRecursion (λ p. IsAmong (keys_in (set_value (is_key o.key) es m)) p.key) (log ++ o ∷ [])
-all_set o es l m log there h =
-    subst (λ (ks : List (List ℕ)). AllByRecursion (λ (p : Said). IsAmong ks p.key) (log ++ o ∷ [])) (sym (keys_set o.key es m)) (all_push (keys_in es) log o h (found_among o.key es l there))
+abbrev said_keys : List Said → List (List ℕ)
+said_keys log = map (λ (p : Said). p.key) log
 
-pub all_insert : (o : Said) (es : List Entry) (k : Vec ℕ Global) (m : KeyList) (log : List Said) → k.items ≡ o.key → AllByRecursion (λ p. IsAmong (keys_in es) p.key) log
-    → AllByRecursion (λ p. IsAmong (keys_in (es ++ (k, m) ∷ [])) p.key) (log ++ o ∷ [])
-all_insert o es k m log is h =
-    subst (λ (ks : List (List ℕ)). AllByRecursion (λ (p : Said). IsAmong ks p.key) (log ++ o ∷ [])) (sym (keys_push es k m))
-    (all_push (keys_in es ++ k.items ∷ []) log o (all_more (keys_in es) (k.items ∷ []) log h) (subst (λ (a : List ℕ). IsAmong (keys_in es ++ k.items ∷ []) a) is (among_last (keys_in es) k.items)))
+used_more : (log : List Said) (o : Said) (ks more new : List (List ℕ)) → new ≡ ks ++ more → AllByRecursion (λ m. m ≡ o.key) more → AllByRecursion (IsAmong (said_keys log)) ks → AllByRecursion (IsAmong (said_keys (log ++ o ∷ []))) new
+used_more log o ks more new is each h =
+    subst (λ (said : List (List ℕ)). AllByRecursion (IsAmong said) new) (sym (map_push (λ (p : Said). p.key) log o))
+    (subst (λ (l : List (List ℕ)). AllByRecursion (IsAmong (said_keys log ++ o.key ∷ [])) l) (sym is)
+    (used_join (IsAmong (said_keys log ++ o.key ∷ [])) ks more (used_still (said_keys log) o.key ks h) (used_new (said_keys log) o.key more each)))
 
-push_all : (P : Entry → Type 0) (es : List Entry) (e : Entry) → AllByRecursion P es → P e → AllByRecursion P (es ++ e ∷ [])
-push_all P [] e h p = (p, tt)
-push_all P (x ∷ xs) e h p = (h.0, push_all P xs e h.1 p)
+-- what came to the keys
+abbrev pub Comes : List (List ℕ) → List (List ℕ) → List ℕ → Type 0
+Comes old new key = (more : List (List ℕ)) × (new ≡ old ++ more) × AllByRecursion (λ m. m ≡ key) more
 
-pub each_insert : (s : Schema) (log : List Said) (o : Said) (es : List Entry) (k : Vec ℕ Global) (l m : KeyList) → lookup (is_key o.key) es ≡ None → k.items ≡ o.key → l.documents.items ≡ [] → l.places.items ≡ []
-    → IsPushed (keeps_places s o.key) o l m → AllByRecursion (λ p. IsAmong (keys_in es) p.key) log → AllByRecursion (HoldsKey s log) es → AllByRecursion (HoldsKey s (log ++ o ∷ [])) (es ++ (k, m) ∷ [])
-each_insert s log o es k l m none is documents places pushed all h =
-    let apart = absent_apart o.key es none in
-    let empty : with_key k.items log ≡ [] = ap (λ (a : List ℕ). with_key a log) is ∙ absent_none o.key (keys_in es) log (apart_absent o.key es apart) all in
-    let here : HoldsKey s (log ++ o ∷ []) (k, m) =
-    holds_same s log o k l m (subst (λ (a : List ℕ). bytes_eq o.key a ≡ true) (sym is) (eq_itself o.key)) (documents ∙ ap (λ (os : List Said). map (λ (p : Said). p.document) os) (sym empty))
-    (places ∙ sym (ap (λ (os : List Said). places_kept (keeps_places s k.items) os) empty ∙ no_places (keeps_places s k.items))) (subst (λ (a : List ℕ). IsPushed (keeps_places s a) o l m) (sym is) pushed) in
-    push_all (HoldsKey s (log ++ o ∷ [])) es (k, m) (others_hold s log o es apart h) here
+again : (old new : List (List ℕ)) (key : List ℕ) (kept : Bool) (os : List Said) (l : Occurrences) → Comes old new key → HasOccurrences old kept os l → HasOccurrences new kept os l
+again old new key kept os l c h = subst (λ (ks : List (List ℕ)). HasOccurrences ks kept os l) (sym c.1) (wide old c.0 kept os l h)
+
+here : (kept : Bool) (s : Schema) (log : List Said) (o : Said) → kept ≡ keeps_places s o.key → said_with kept s (log ++ o ∷ []) ≡ said_with kept s log ++ o ∷ []
+here kept s log o is =
+    let yes : beq (keeps_places s o.key) kept ≡ true = ap (λ (b : Bool). beq b kept) (sym is) ∙ same kept in
+    said_push kept s log o ∙ rw yes refl
   where
-    no_places : (b : Bool) → places_kept b [] ≡ []
-    no_places true = refl
-    no_places false = refl
+    same : (b : Bool) → beq b b ≡ true
+    same true = refl
+    same false = refl
 
--- ---- an occurrence more
+elsewhere : (kept other : Bool) (s : Schema) (log : List Said) (o : Said) → beq kept other ≡ false → kept ≡ keeps_places s o.key → said_with other s (log ++ o ∷ []) ≡ said_with other s log
+elsewhere kept other s log o apart is =
+    let no : beq (keeps_places s o.key) other ≡ false = ap (λ (b : Bool). beq b other) (sym is) ∙ apart in
+    said_push other s log o ∙ rw no refl
 
-pub said_set : (s : Schema) (log : List Said) (o : Said) (kept : Bool) (old new : TermLog) (l m : KeyList) → kept ≡ keeps_places s o.key → IsDistinct same_keys (keys_of old.lists.entries) → Some l ≡ lookup (is_key o.key) old.lists.entries
-    → m.documents.items ≡ l.documents.items ++ o.document ∷ [] → m.places.items ≡ (if kept then l.places.items ++ o.place ∷ [] else l.places.items) → new.lists.entries ≡ set_value (is_key o.key) old.lists.entries m
-    → HasSaid old s log → HasSaid new s (log ++ o ∷ [])
-said_set s log o kept old new l m kept_is apart there documents places is h =
-    let pushed : IsPushed (keeps_places s o.key) o l m = record { documents = documents; places = places ∙ ap (λ (b : Bool). if b then l.places.items ++ o.place ∷ [] else l.places.items) kept_is } in
+pub added_placed : (s : Schema) (log : List Said) (o : Said) (kept : Bool) (number : ℕ) (old new : TermLog) → kept ≡ true → kept ≡ keeps_places s o.key → Comes (key_bytes old.keys.keys) (key_bytes new.keys.keys) o.key → slice_get (key_bytes new.keys.keys) number ≡ Some o.key
+    → IsPushed true number o old.placed new.placed → new.plain ≡ old.plain → HasSaid old s log → HasSaid new s (log ++ o ∷ [])
+added_placed s log o kept number old new on is comes at p same h =
+    let kept_is : true ≡ keeps_places s o.key = sym on ∙ is in
     record {
-      each = subst (λ (es : List Entry). AllByRecursion (HoldsKey s (log ++ o ∷ [])) es) (sym is) (each_set s log o old.lists.entries l m apart (sym there) pushed h.each);
-      all = subst (λ (es : List Entry). AllByRecursion (λ (p : Said). IsAmong (keys_in es) p.key) (log ++ o ∷ [])) (sym is) (all_set o old.lists.entries l m log (sym there) h.all);
+      placed = subst (λ (os : List Said). HasOccurrences (key_bytes new.keys.keys) true os new.placed) (sym (here true s log o kept_is))
+          (pushed (key_bytes new.keys.keys) true number o (said_with true s log) old.placed new.placed at p (again (key_bytes old.keys.keys) (key_bytes new.keys.keys) o.key true (said_with true s log) old.placed comes h.placed));
+      plain = subst (λ (os : List Said). HasOccurrences (key_bytes new.keys.keys) false os new.plain) (sym (elsewhere true false s log o refl kept_is))
+          (subst (λ (l : Occurrences). HasOccurrences (key_bytes new.keys.keys) false (said_with false s log) l) (sym same) (again (key_bytes old.keys.keys) (key_bytes new.keys.keys) o.key false (said_with false s log) old.plain comes h.plain));
+      used = used_more log o (key_bytes old.keys.keys) comes.0 (key_bytes new.keys.keys) comes.1 comes.2 h.used;
     }
 
-insert_new : (es : List Entry) (k : Vec ℕ Global) (m : KeyList) → AllByRecursion (λ (e : Entry). bytes_eq k.items e.0.items ≡ false) es → insert_entry same_keys es k m ≡ es ++ (k, m) ∷ []
-insert_new [] k m h = refl
-insert_new (e ∷ es) k m h = rw h.0 (ap (λ (l : List Entry). e ∷ l) (insert_new es k m h.1))
-
-pub said_insert : (s : Schema) (log : List Said) (o : Said) (kept : Bool) (old new : TermLog) (k : Vec ℕ Global) (l m : KeyList) → kept ≡ keeps_places s o.key → None ≡ lookup (is_key o.key) old.lists.entries → k.items ≡ o.key
-    → l.documents.items ≡ [] → l.places.items ≡ [] → m.documents.items ≡ l.documents.items ++ o.document ∷ [] → m.places.items ≡ (if kept then l.places.items ++ o.place ∷ [] else l.places.items)
-    → new.lists.entries ≡ insert_entry same_keys old.lists.entries k m → HasSaid old s log → HasSaid new s (log ++ o ∷ [])
-said_insert s log o kept old new k l m kept_is none key no_documents no_places documents places is h =
-    let pushed : IsPushed (keeps_places s o.key) o l m = record { documents = documents; places = places ∙ ap (λ (b : Bool). if b then l.places.items ++ o.place ∷ [] else l.places.items) kept_is } in
-    let apart = subst (λ (a : List ℕ). AllByRecursion (λ (e : Entry). bytes_eq a e.0.items ≡ false) old.lists.entries) (sym key) (absent_apart o.key old.lists.entries (sym none)) in
-    let entries : new.lists.entries ≡ old.lists.entries ++ (k, m) ∷ [] = is ∙ insert_new old.lists.entries k m apart in
+pub added_plain : (s : Schema) (log : List Said) (o : Said) (kept : Bool) (number : ℕ) (old new : TermLog) → kept ≡ false → kept ≡ keeps_places s o.key → Comes (key_bytes old.keys.keys) (key_bytes new.keys.keys) o.key → slice_get (key_bytes new.keys.keys) number ≡ Some o.key
+    → IsPushed false number o old.plain new.plain → new.placed ≡ old.placed → HasSaid old s log → HasSaid new s (log ++ o ∷ [])
+added_plain s log o kept number old new off is comes at p same h =
+    let kept_is : false ≡ keeps_places s o.key = sym off ∙ is in
     record {
-      each =
-          subst (λ (es : List Entry). AllByRecursion (HoldsKey s (log ++ o ∷ [])) es) (sym entries)
-          (each_insert s log o old.lists.entries k l m (sym none) key no_documents no_places pushed h.all h.each);
-      all = subst (λ (es : List Entry). AllByRecursion (λ (p : Said). IsAmong (keys_in es) p.key) (log ++ o ∷ [])) (sym entries) (all_insert o old.lists.entries k m log key h.all);
+      placed = subst (λ (os : List Said). HasOccurrences (key_bytes new.keys.keys) true os new.placed) (sym (elsewhere false true s log o refl kept_is))
+          (subst (λ (l : Occurrences). HasOccurrences (key_bytes new.keys.keys) true (said_with true s log) l) (sym same) (again (key_bytes old.keys.keys) (key_bytes new.keys.keys) o.key true (said_with true s log) old.placed comes h.placed));
+      plain = subst (λ (os : List Said). HasOccurrences (key_bytes new.keys.keys) false os new.plain) (sym (here false s log o kept_is))
+          (pushed (key_bytes new.keys.keys) false number o (said_with false s log) old.plain new.plain at p (again (key_bytes old.keys.keys) (key_bytes new.keys.keys) o.key false (said_with false s log) old.plain comes h.plain));
+      used = used_more log o (key_bytes old.keys.keys) comes.0 (key_bytes new.keys.keys) comes.1 comes.2 h.used;
     }
-
--- a map that was lent and not changed
-pub put_again : (old mid : TermLog) (xs : List Entry) (k : Vec ℕ Global) (m : KeyList) → mid ≡ old → xs ≡ insert_entry same_keys mid.lists.entries k m → xs ≡ insert_entry same_keys old.lists.entries k m
-put_again old mid xs k m e is = is ∙ ap (λ (t : TermLog). insert_entry same_keys t.lists.entries k m) e

@@ -14,7 +14,6 @@ use Rattle.split_bundle.specs.declared.placed.Placed.{Placed}
 use Rattle.split_bundle.specs.Keys.{keys_of}
 use Rattle.split_bundle.specs.Lists.{has_key, places_of, keeps_places, posted, posting_list, list_of, places_in, term_of, terms_from, terms_of}
 use Rattle.split_bundle.specs.Splits.{AreRising}
-use Rattle.split_build.specs.declared.terms.KeyList.{KeyList}
 use Rattle.split_build.specs.Said.{Said, said_from, with_key, places_kept}
 use Rattle.split_build.specs.Grouped.{grouped}
 use Rattle.split_build.specs.Walks.{IsShortDoc}
@@ -24,18 +23,17 @@ use Rattle.split_build.proofs.PlacesLemmas.{places_rise}
 
 -- ---- the list of a key
 
-pub list_posted : (s : Schema) (ds : List Placed) (key : List ℕ) (l : KeyList) → IsListOf s ds key l → grouped (keeps_places s key) l.documents.items l.places.items ≡ posting_list s ds key
-list_posted s ds key l h =
-    let os = with_key key (said_from s 0 ds) in
-    ap (λ (ns : List ℕ). grouped (keeps_places s key) ns l.places.items) h.documents_are ∙ ap (λ (ps : List ℕ). grouped (keeps_places s key) (map (λ (o : Said). o.document) (with_key key (said_from s 0 ds))) ps) h.places_are
+pub list_posted : (s : Schema) (ds : List Placed) (key numbers places : List ℕ) → IsListOf s ds key numbers places → grouped (keeps_places s key) numbers places ≡ posting_list s ds key
+list_posted s ds key numbers places h =
+    ap (λ (ns : List ℕ). grouped (keeps_places s key) ns places) h.documents_are ∙ ap (λ (ps : List ℕ). grouped (keeps_places s key) (map (λ (o : Said). o.document) (with_key key (said_from s 0 ds))) ps) h.places_are
     ∙ grouped-said (keeps_places s key) (with_key key (said_from s 0 ds)) ∙ grouped-posted s key 0 ds
 
 sizes : (os : List Said) → length (map (λ (o : Said). o.place) os) ≡ length (map (λ (o : Said). o.document) os)
 sizes [] = refl
 sizes (o ∷ os) = omega (arith, sizes os)
 
-pub list_sizes : (s : Schema) (ds : List Placed) (key : List ℕ) (l : KeyList) → IsListOf s ds key l → keeps_places s key ≡ true → length l.places.items ≡ length l.documents.items
-list_sizes s ds key l h kept =
+pub list_sizes : (s : Schema) (ds : List Placed) (key numbers places : List ℕ) → IsListOf s ds key numbers places → keeps_places s key ≡ true → length places ≡ length numbers
+list_sizes s ds key numbers places h kept =
     let os = with_key key (said_from s 0 ds) in
     ap (λ (ps : List ℕ). length ps) (h.places_are ∙ ap (λ (b : Bool). places_kept b (with_key key (said_from s 0 ds))) kept) ∙ sizes (with_key key (said_from s 0 ds)) ∙ ap (λ (ns : List ℕ). length ns) (sym h.documents_are)
 
@@ -111,7 +109,5 @@ front_rises [] ys h = tt
 front_rises (x ∷ xs) ys h = (front_all (λ u. is_below x u ≡ true) xs ys h.0, front_rises xs ys h.1)
 
 -- the rows of a list are its key's posting list
-pub rows_posted : (s : Schema) (ds : List Placed) (key : List ℕ) (l : KeyList) (kept : Bool) (ns places : List ℕ) (rows : List Posting) → IsListOf s ds key l → kept ≡ keeps_places s key → ns ≡ l.documents.items → places ≡ l.places.items
-    → rows ≡ grouped kept ns places → rows ≡ posting_list s ds key
-rows_posted s ds key l kept ns places rows h kept_is ns_are places_are is =
-    is ∙ ap (λ (b : Bool). grouped b ns places) kept_is ∙ ap (λ (x : List ℕ). grouped (keeps_places s key) x places) ns_are ∙ ap (λ (x : List ℕ). grouped (keeps_places s key) l.documents.items x) places_are ∙ list_posted s ds key l h
+pub rows_posted : (s : Schema) (ds : List Placed) (key numbers places : List ℕ) (kept : Bool) (rows : List Posting) → IsListOf s ds key numbers places → kept ≡ keeps_places s key → rows ≡ grouped kept numbers places → rows ≡ posting_list s ds key
+rows_posted s ds key numbers places kept rows h kept_is is = is ∙ ap (λ (b : Bool). grouped b numbers places) kept_is ∙ list_posted s ds key numbers places h

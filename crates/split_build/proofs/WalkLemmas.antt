@@ -66,7 +66,7 @@ other_value_is f number place d (values.U64 n) other = refl
 other_value_is f number place d (values.Bool b) other = refl
 other_value_is f number place d (values.Datetime z) other = refl
 
-in_document-append : (d : ℕ) (xs ys : List Occurrence) → in_document d (xs ++ ys) ≡ in_document d xs ++ in_document d ys
+pub in_document-append : (d : ℕ) (xs ys : List Occurrence) → in_document d (xs ++ ys) ≡ in_document d xs ++ in_document d ys
 in_document-append d [] ys = refl
 in_document-append d (x ∷ xs) ys = ap (λ (l : List Said). record { key = x.key; document = d; place = x.place } ∷ l) (in_document-append d xs ys)
 

@@ -1,24 +1,31 @@
--- The lists of keys, as far as documents were taken.
-use Rattle.std.specs.Prelude.{◌≡◌, ℕ, ◌<◌, List, map, length, Vec}
-use Rattle.std.specs.List.{AllByRecursion}
-use Rattle.std.specs.declared.alloc.Global.{Global}
+-- The occurrences of keys, as far as documents were taken.
+use Rattle.std.specs.Prelude.{◌≡◌, ℕ, Bool, true, false, List, Some, map, filter, slice_get}
+use Rattle.std.specs.Bool.{beq}
+use Rattle.std.specs.List.{AllByRecursion, AllZip}
 use Rattle.doc_value.specs.declared.schema.Schema.{Schema}
 use Rattle.split_bundle.specs.Lists.{keeps_places}
-use Rattle.split_build.specs.declared.terms.KeyList.{KeyList}
+use Rattle.split_build.specs.declared.terms.Occurrences.{Occurrences}
 use Rattle.split_build.specs.declared.terms.TermLog.{TermLog}
-use Rattle.split_build.specs.Said.{Said, with_key, places_kept}
+use Rattle.split_build.specs.HeldKeys.{key_bytes}
+use Rattle.split_build.specs.Said.{Said, places_kept}
 use Rattle.split_build.specs.Members.{IsAmong}
 
--- a list has the documents of a key's occurrences and, where they are kept, the places
-pub record HoldsKey (s : Schema) (log : List Said) (e : Vec ℕ Global × KeyList) : Type 0 where
-  pub some : 0 < length (with_key e.0.items log)
-  pub documents : e.1.documents.items ≡ map (λ o. o.document) (with_key e.0.items log)
-  pub places : e.1.places.items ≡ places_kept (keeps_places s e.0.items) (with_key e.0.items log)
+-- the occurrences whose places are kept, or those whose places are not
+abbrev pub said_with : Bool → Schema → List Said → List Said
+said_with kept s log = filter (λ o. beq (keeps_places s o.key) kept) log
 
-abbrev pub keys_in : List (Vec ℕ Global × KeyList) → List (List ℕ)
-keys_in es = map (λ e. e.0.items) es
+-- a number is that of an occurrence's key among the keys
+abbrev pub IsNumberOf : List (List ℕ) → Said → ℕ → Type 0
+IsNumberOf keys o n = slice_get keys n ≡ Some o.key
 
--- each key that occurs has its list, and each list a key that occurs
+-- these occurrences, each by the number of its key, with their places where they are kept
+pub record HasOccurrences (keys : List (List ℕ)) (kept : Bool) (os : List Said) (l : Occurrences) : Type 0 where
+  pub numbers : AllZip (IsNumberOf keys) os l.numbers.items
+  pub documents : l.documents.items ≡ map (λ o. o.document) os
+  pub places : l.places.items ≡ places_kept kept os
+
+-- what was said, and the keys that occur there
 pub record HasSaid (t : TermLog) (s : Schema) (log : List Said) : Type 0 where
-  pub each : AllByRecursion (HoldsKey s log) t.lists.entries
-  pub all : AllByRecursion (λ o. IsAmong (keys_in t.lists.entries) o.key) log
+  pub placed : HasOccurrences (key_bytes t.keys.keys) true (said_with true s log) t.placed
+  pub plain : HasOccurrences (key_bytes t.keys.keys) false (said_with false s log) t.plain
+  pub used : AllByRecursion (IsAmong (map (λ o. o.key) log)) (key_bytes t.keys.keys)

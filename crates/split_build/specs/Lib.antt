@@ -2,8 +2,12 @@ pub mod Bodies
 pub mod Members
 pub mod HeldDocuments
 pub mod Said
+pub mod HeldKeys
 pub mod HeldTerms
+pub mod Gathered
+pub mod KeyGroups
 pub mod Walks
+pub mod Words
 pub mod Grouped
 pub mod WrittenTerms
 pub mod Times

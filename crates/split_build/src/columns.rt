@@ -26,6 +26,9 @@ fn place_of(alloc: Global, texts: &mut IndexSet<String>, text: &str) -> Result<u
     ensures grown { OnOk result ((more : List (List ℕ)) × (texts_of texts.new.keys ≡ texts_of texts.old.keys ++ more) × AllByRecursion (λ t. t ≡ text.now) more) }
     ensures place { IfOk result (λ n. slice_get (texts_of texts.new.keys) n ≡ Some text.now) }
 {
+    if let Some(place) = texts.get_index_of(text) {
+        return Ok(place);
+    }
     let (place, _added) = texts.insert_full(String::from_str(alloc, text)?)?;
     Ok(place)
 }

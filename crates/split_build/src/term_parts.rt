@@ -7,9 +7,12 @@ ghost use Rattle.split_bundle.specs.Splits.{AreRising};
 ghost use Rattle.term_postings.specs.Rows.{lent};
 ghost use Rattle.split_bundle.specs.Lists.{keeps_places};
 ghost use Rattle.split_build.specs.Grouped.{grouped, run_of};
-ghost use Rattle.split_build.specs.WrittenTerms.{AreTermParts, IsLogOf, HasWritten, IsListOf};
+ghost use Rattle.split_build.specs.HeldKeys.{key_bytes};
+ghost use Rattle.split_build.specs.WrittenTerms.{AreGrouped, AreTermParts, IsLogOf, HasWritten, IsListOf};
 
-use crate::terms::{KeyList, TermLog};
+use crate::key_groups::{KeyGroups, groups_of};
+use crate::key_order::in_order;
+use crate::terms::TermLog;
 use byte_fields::Bytes;
 use doc_value::Schema;
 use std::alloc::{AllocError, Global};
@@ -117,14 +120,15 @@ impl TermWriter {
         alloc: Global,
         schema: &Schema,
         key: &[u8],
-        list: &KeyList,
+        documents: &[u32],
+        places: &[u64],
     ) -> Result<(), AllocError>
-        requires { (documents : List Placed) × IsListOf schema.now documents key.now list.now }
-        ensures { (documents : List Placed) (keys : List (List ℕ)) → IsListOf schema.now documents key.now list.now → AreRising (keys ++ key.now ∷ [])
-            → HasWritten self.old schema.now documents keys → OnOk result (HasWritten self.new schema.now documents (keys ++ key.now ∷ [])) }
+        requires { (ds : List Placed) × IsListOf schema.now ds key.now documents.now places.now }
+        ensures { (ds : List Placed) (keys : List (List ℕ)) → IsListOf schema.now ds key.now documents.now places.now → AreRising (keys ++ key.now ∷ [])
+            → HasWritten self.old schema.now ds keys → OnOk result (HasWritten self.new schema.now ds (keys ++ key.now ∷ [])) }
     {
         let kept = keeps_places(schema, key);
-        let rows = rows_of(alloc, kept, &list.documents, &list.places)?;
+        let rows = rows_of(alloc, kept, documents, places)?;
         let postings = self.postings.len();
         let positions = self.positions.len();
         append_postings(alloc, &rows, kept, &mut self.postings, &mut self.positions)?;
@@ -140,19 +144,31 @@ impl TermWriter {
     }
 }
 
-/// The parts of a split that the keys of the documents make.
-pub fn write_terms(
+// The occurrences of a key whose places are kept, or not.
+fn groups_for<'a>(kept: bool, placed: &'a KeyGroups, plain: &'a KeyGroups) -> &'a KeyGroups
+    ensures { result.now ≡ (if kept then placed.now else plain.now) }
+{
+    if kept { placed } else { plain }
+}
+
+// The parts of a split that these keys make, whose occurrences stand together.
+fn write_groups(
     alloc: Global,
     schema: &Schema,
-    mut log: TermLog,
+    keys: &[Vec<u8>],
+    placed: &KeyGroups,
+    plain: &KeyGroups,
 ) -> Result<TermParts, AllocError>
-    requires { (documents : List Placed) × IsLogOf log schema.now documents }
-    ensures { (documents : List Placed) → IsLogOf log schema.now documents → IfOk result (AreTermParts schema.now documents) }
+    requires { (documents : List Placed) × AreGrouped schema.now documents (key_bytes keys.now) placed.now plain.now }
+    ensures { (documents : List Placed) → AreGrouped schema.now documents (key_bytes keys.now) placed.now plain.now → IfOk result (AreTermParts schema.now documents) }
 {
-    log.lists.sort_keys()?;
+    let order = in_order(alloc, keys)?;
     let mut writer = TermWriter::vacant(alloc);
-    for (key, list) in log.lists.iter() {
-        writer.write(alloc, schema, key, list)?;
+    for i in 0..order.len() {
+        let (key, number) = order[i];
+        let kept = keeps_places(schema, key);
+        let (documents, places) = groups_for(kept, placed, plain).of_key(kept, number);
+        writer.write(alloc, schema, key, documents, places)?;
     }
     let TermWriter {
         dictionary,
@@ -161,10 +177,25 @@ pub fn write_terms(
     } = writer;
     let (dictionary, index) = dictionary.finish();
     Ok(TermParts {
-        count: log.lists.len() as u64,
+        count: order.len() as u64,
         dictionary,
         index,
         postings,
         positions,
     })
+}
+
+/// The parts of a split that the keys of the documents make.
+pub fn write_terms(alloc: Global, schema: &Schema, log: TermLog) -> Result<TermParts, AllocError>
+    requires { (documents : List Placed) × IsLogOf log schema.now documents }
+    ensures { (documents : List Placed) → IsLogOf log schema.now documents → IfOk result (AreTermParts schema.now documents) }
+{
+    let TermLog {
+        keys,
+        placed,
+        plain,
+    } = log;
+    let plain = groups_of(alloc, keys.len(), false, plain)?;
+    let placed = groups_of(alloc, keys.len(), true, placed)?;
+    write_groups(alloc, schema, keys.as_slice(), &placed, &plain)
 }

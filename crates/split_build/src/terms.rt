@@ -1,34 +1,42 @@
-//! The keys of the documents taken so far, each with its documents and places.
+//! The occurrences of keys in the documents taken so far.
 
-ghost use Rattle.std.specs.Prelude.{◌≡◌, ◌∷◌, ◌++◌, [], OnOk, if◌then◌else◌};
+ghost use Rattle.std.specs.Prelude.{◌≡◌, ◌∷◌, ◌++◌, [], ℕ, List, Some, IfOk, OnOk, slice_get, if◌then◌else◌};
+ghost use Rattle.std.specs.List.{AllByRecursion};
 ghost use Rattle.doc_value.specs.declared.schema.Schema.{Schema};
 ghost use Rattle.split_bundle.specs.Lists.{keeps_places};
+ghost use Rattle.split_build.specs.HeldKeys.{key_bytes};
 
-use indexmap::IndexMap;
+use indexmap::IndexSet;
 use std::alloc::{AllocError, Global};
 
-/// Where a key stands: a document for each occurrence, and, where they are kept, the places in the documents.
+/// Occurrences in the order of documents: of each the number of its key and the document, and, where they are kept, the
+/// place in the document.
 #[derive(Drop)]
-pub struct KeyList {
+pub struct Occurrences {
+    pub numbers: Vec<u32>,
     pub documents: Vec<u32>,
     pub places: Vec<u64>,
 }
 
-impl KeyList {
-    fn vacant(alloc: Global) -> KeyList
+impl Occurrences {
+    fn vacant(alloc: Global) -> Occurrences
+        ensures numbers { result.numbers.items ≡ [] }
         ensures documents { result.documents.items ≡ [] }
         ensures places { result.places.items ≡ [] }
     {
-        KeyList {
+        Occurrences {
+            numbers: Vec::new(alloc),
             documents: Vec::new(alloc),
             places: Vec::new(alloc),
         }
     }
 
-    fn push(&mut self, kept: bool, document: u32, place: u64) -> Result<(), AllocError>
+    fn push(&mut self, kept: bool, number: u32, document: u32, place: u64) -> Result<(), AllocError>
+        ensures numbers { OnOk result (self.new.numbers.items ≡ self.old.numbers.items ++ number ∷ []) }
         ensures documents { OnOk result (self.new.documents.items ≡ self.old.documents.items ++ document ∷ []) }
         ensures places { OnOk result (self.new.places.items ≡ (if kept then self.old.places.items ++ place ∷ [] else self.old.places.items)) }
     {
+        self.numbers.push(number)?;
         self.documents.push(document)?;
         if kept {
             self.places.push(place)?;
@@ -37,10 +45,34 @@ impl KeyList {
     }
 }
 
-/// Each key that occurs, with its list.
+/// Each key that occurs, in the order of first sight, and where: the occurrences whose places are kept, and the others.
 #[derive(Drop)]
 pub struct TermLog {
-    pub lists: IndexMap<Vec<u8>, KeyList>,
+    pub keys: IndexSet<Vec<u8>>,
+    pub placed: Occurrences,
+    pub plain: Occurrences,
+}
+
+// A number in 32 bits. There is no room for more keys.
+fn narrow(number: usize) -> Result<u32, AllocError>
+    ensures { IfOk result (λ n. n ≡ number) }
+{
+    match u32::try_from(number) {
+        Ok(narrow) => Ok(narrow),
+        Err(_) => Err(AllocError),
+    }
+}
+
+// The number of a key among these, behind which it is put where it is none of them.
+fn number_of(alloc: Global, keys: &mut IndexSet<Vec<u8>>, key: &[u8]) -> Result<u32, AllocError>
+    ensures grown { OnOk result ((more : List (List ℕ)) × (key_bytes keys.new.keys ≡ key_bytes keys.old.keys ++ more) × AllByRecursion (λ k. k ≡ key.now) more) }
+    ensures number { IfOk result (λ n. slice_get (key_bytes keys.new.keys) n ≡ Some key.now) }
+{
+    if let Some(number) = keys.get_index_of(key) {
+        return narrow(number);
+    }
+    let (number, _added) = keys.insert_full(Vec::from_slice(alloc, key)?)?;
+    narrow(number)
 }
 
 impl TermLog {
@@ -51,7 +83,9 @@ impl TermLog {
         ensures { (s : Schema) → HasSaid result s [] }
     {
         TermLog {
-            lists: IndexMap::new(alloc),
+            keys: IndexSet::new(alloc),
+            placed: Occurrences::vacant(alloc),
+            plain: Occurrences::vacant(alloc),
         }
     }
 
@@ -67,13 +101,11 @@ impl TermLog {
         ensures { (s : Schema) → kept ≡ keeps_places s key.now
             → OnOk result (Adds self.old self.new s (record { key = key.now; document = document; place = place } ∷ [])) }
     {
-        if let Some(list) = self.lists.get_mut(key) {
-            list.push(kept, document, place)?;
-            return Ok(());
+        let number = number_of(alloc, &mut self.keys, key)?;
+        if kept {
+            self.placed.push(true, number, document, place)
+        } else {
+            self.plain.push(false, number, document, place)
         }
-        let mut list = KeyList::vacant(alloc);
-        list.push(kept, document, place)?;
-        self.lists.insert(Vec::from_slice(alloc, key)?, list)?;
-        Ok(())
     }
 }

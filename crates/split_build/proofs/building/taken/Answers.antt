@@ -1,12 +1,11 @@
-use Rattle.std.proofs.Common.{◌≡◌, ◌∙◌, ◌++◌, ◌∷◌, [], List, ap, sym, subst}
+use Rattle.std.proofs.Common.{◌≡◌, ◌∙◌, ◌++◌, ◌∷◌, [], List, ap, sym, subst, append_assoc}
 use Rattle.std.specs.List.{AllByRecursion}
 use Rattle.std.proofs.lemmas.List.{nil_from_length}
-use Rattle.std.proofs.lemmas.Result.{err_from_is_err_and}
 use Rattle.doc_value.specs.Documents.{IsOfSchema}
 use Rattle.split_bundle.specs.declared.placed.Placed.{Placed}
 use Rattle.split_build.specs.Builders.{HasTaken}
 use Rattle.split_build.proofs.OnWay.{begin, go_on, arrive}
-use Rattle.split_build.proofs.BuilderLemmas.{all_behind, none_within}
+use Rattle.split_build.proofs.BuilderLemmas.{all_behind}
 use Rattle.split_build.proofs.building.taken.Goals as goal
 
 pub loop-placed-init : goal.loop-placed-init
@@ -27,16 +26,15 @@ loop-placed-preserved c =
     let all = all_behind (λ (d : Placed). IsOfSchema c.args.schema.now d.doc) inv.done (c.in-Some.placed.now ∷ c.in-Some.behind.now)
     (subst (λ (xs : List Placed). AllByRecursion (λ (d : Placed). IsOfSchema c.args.schema.now d.doc) xs) (sym whole) c.requires.documents) in
     go_on (HasTaken c.loop-placed.builder c.args.schema.now) (HasTaken c.add.new.self c.args.schema.now) c.loop-placed.rest.now (c.in-Some.placed.now ∷ []) c.in-Some.behind.now c.args.documents.now c.in-Some.ensures.cases.0
-    (λ done h. c.in_ok-add.ensures c.args.schema.now done h all.0) inv
+    (λ done h. c.in-Ok.ensures c.args.schema.now done h all.0) inv
 
 pub returns : goal.returns
 returns c = arrive (HasTaken c.loop-placed.builder c.args.schema.now) c.loop-placed.rest.now c.args.documents.now (nil_from_length c.loop-placed.rest.now c.in_default.ensures.cases) c.loop-placed.invariant
 
-pub returns-in_err-add : goal.returns-in_err-add
-returns-in_err-add c =
+pub returns-in-Err : goal.returns-in-Err
+returns-in-Err c =
     let inv = c.loop-placed.invariant in
     let whole : inv.done ++ (c.in-Some.placed.now ∷ c.in-Some.behind.now) ≡ c.args.documents.now = ap (λ (xs : List Placed). inv.done ++ xs) (sym c.in-Some.ensures.cases.0) ∙ inv.whole_is in
     let all = all_behind (λ (d : Placed). IsOfSchema c.args.schema.now d.doc) inv.done (c.in-Some.placed.now ∷ c.in-Some.behind.now)
     (subst (λ (xs : List Placed). AllByRecursion (λ (d : Placed). IsOfSchema c.args.schema.now d.doc) xs) (sym whole) c.requires.documents) in
-    let p = err_from_is_err_and c.from_residual-in_err-add.result c.from_residual-in_err-add.ensures.1 in
-    rw (p.1, p.2) (none_within c.args.documents.now inv.done c.in-Some.behind.now c.in-Some.placed.now c.in_err-add.field-0.0 c.requires.within whole (c.in_err-add.ensures c.args.schema.now inv.done inv.holds all.0).0)
+    c.refusal_of.ensures (inv.done ++ c.in-Some.placed.now ∷ []) c.in-Some.behind.now (append_assoc inv.done (c.in-Some.placed.now ∷ []) c.in-Some.behind.now ∙ whole) (c.in-Err.ensures c.args.schema.now inv.done inv.holds all.0).0

@@ -1,5 +1,12 @@
-use Rattle.split_build.proofs.CellLemmas.{texts_inserted, text_stored}
+use Rattle.std.proofs.Common.{sym}
+use Rattle.std.specs.Prelude.{string_bytes}
+use Rattle.split_build.proofs.CellLemmas.{text_found, texts_inserted, text_stored}
+use Rattle.split_build.proofs.SaidLemmas.{eq_same}
 use Rattle.split_build.proofs.columns.place_of.Goals as goal
+
+pub returns-in-Some-clause-place : goal.returns-in-Some-clause-place
+returns-in-Some-clause-place c =
+    text_found _ c.args.texts.now.keys c.args.text.now c.in-Some.place (λ k e. eq_same c.args.text.now (string_bytes k) e) (sym c.in-Some.ensures.index)
 
 pub returns-clause-grown : goal.returns-clause-grown
 returns-clause-grown c =

@@ -1,11 +1,19 @@
-use Rattle.std.proofs.Common.{◌∙◌, List, ap, subst, length, arith}
+use Rattle.std.proofs.Common.{◌∙◌, List, ap, subst, sym, length, arith}
 use Rattle.doc_value.specs.declared.doc.Value.{Value}
 use Rattle.doc_value.specs.declared.schema.Field.{Field}
-use Rattle.split_bundle.specs.Keys.{of_field}
+use Rattle.split_bundle.specs.Keys.{of_field, of_fields}
 use Rattle.split_build.specs.Said.{in_document}
 use Rattle.split_build.specs.Walks.{Adds}
-use Rattle.split_build.proofs.WalkLemmas.{fields_step, field_drop, field_here, field_kept, presence_none}
+use Rattle.split_build.proofs.WalkLemmas.{Walked, walked_start, fields_step, field_drop, field_here, field_kept, presence_none}
 use Rattle.split_build.proofs.occurrences.Walker.add_document.Goals as goal
+
+pub loop-field-init : goal.loop-field-init
+loop-field-init c = record {
+  left = sym c.as_slice-rest.ensures;
+  count = omega (arith, ap (λ (fs : List Field). length fs) c.as_slice-rest.ensures);
+  walked = subst (λ (fs : List Field). Walked c.args.terms.now c.args.terms.now c.args.schema.now (in_document c.args.document (of_fields fs 0 c.args.doc.now)) (in_document c.args.document (of_fields c.args.schema.now.fields 0 c.args.doc.now)))
+      (sym c.as_slice-rest.ensures) (walked_start c.args.terms.now c.args.schema.now (in_document c.args.document (of_fields c.args.schema.now.fields 0 c.args.doc.now)));
+}
 
 pub loop-field-preserved : goal.loop-field-preserved
 loop-field-preserved c =

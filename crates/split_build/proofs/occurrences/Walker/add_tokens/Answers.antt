@@ -4,8 +4,11 @@ use Rattle.std.proofs.lemmas.List.{nil_from_length}
 use Rattle.text_tokens.specs.declared.tokens.Token.{Token}
 use Rattle.split_bundle.specs.Keys.{field_key, value_place, of_tokens}
 use Rattle.split_build.specs.Said.{in_document}
-use Rattle.split_build.proofs.WalkLemmas.{walked_step, walked_end, adds_said}
+use Rattle.split_build.proofs.WalkLemmas.{walked_start, walked_step, walked_end, adds_said}
 use Rattle.split_build.proofs.occurrences.Walker.add_tokens.Goals as goal
+
+pub loop-token-init : goal.loop-token-init
+loop-token-init c = record { positions = c.requires.positions; walked = λ s kept. walked_start c.args.terms.now s (in_document c.args.document (of_tokens c.args.number c.args.value c.args.tokens.now)) }
 
 pub loop-token-preserved : goal.loop-token-preserved
 loop-token-preserved c =

@@ -5,8 +5,15 @@ use Rattle.doc_value.specs.declared.doc.Value.{Value}
 use Rattle.split_bundle.specs.Keys.{of_values}
 use Rattle.split_build.specs.Said.{in_document}
 use Rattle.split_build.specs.Walks.{IsShort}
-use Rattle.split_build.proofs.WalkLemmas.{values_step, walked_end}
+use Rattle.split_build.proofs.WalkLemmas.{values_step, walked_start, walked_end}
 use Rattle.split_build.proofs.occurrences.Walker.add_values.Goals as goal
+
+pub loop-value-init : goal.loop-value-init
+loop-value-init c = record {
+  few = omega (arith, c.requires.short.few);
+  short = c.requires.short.each;
+  walked = λ s kept. walked_start c.args.terms.now s (in_document c.args.document (of_values c.args.field.now c.args.number 0 c.args.values.now));
+}
 
 pub loop-value-preserved : goal.loop-value-preserved
 loop-value-preserved c =

@@ -12,21 +12,18 @@ use Rattle.split_build.proofs.term_parts.TermWriter.write.Goals as goal
 
 pub append_postings-requires-clause-documents : goal.append_postings-requires-clause-documents
 append_postings-requires-clause-documents c =
-    let posted = ap (λ (l : List Row). lent l) c.deref-3.ensures.value ∙ rows_posted c.args.schema.now c.requires.0 c.args.key.now c.args.list.now c.keeps_places-kept.result c.deref.result.now c.deref-2.result.now (lent c.in_ok-rows.rows.items) c.requires.1
-    c.keeps_places-kept.ensures c.deref.ensures.value c.deref-2.ensures.value c.in_ok-rows.ensures in
+    let posted = ap (λ (l : List Row). lent l) c.deref.ensures.value ∙ rows_posted c.args.schema.now c.requires.0 c.args.key.now c.args.documents.now c.args.places.now c.keeps_places-kept.result (lent c.in_ok-rows.rows.items) c.requires.1 c.keeps_places-kept.ensures c.in_ok-rows.ensures in
     subst (λ (ps : List Posting). NumbersRise (documents ps)) (sym posted) (list_rises c.args.schema.now c.requires.0 c.args.key.now)
 
 pub append_postings-requires-clause-each : goal.append_postings-requires-clause-each
 append_postings-requires-clause-each c =
-    let posted = ap (λ (l : List Row). lent l) c.deref-3.ensures.value ∙ rows_posted c.args.schema.now c.requires.0 c.args.key.now c.args.list.now c.keeps_places-kept.result c.deref.result.now c.deref-2.result.now (lent c.in_ok-rows.rows.items) c.requires.1
-    c.keeps_places-kept.ensures c.deref.ensures.value c.deref-2.ensures.value c.in_ok-rows.ensures in
-    subst (λ (b : Bool). CanPost b (lent c.deref-3.result.now)) (sym c.keeps_places-kept.ensures)
+    let posted = ap (λ (l : List Row). lent l) c.deref.ensures.value ∙ rows_posted c.args.schema.now c.requires.0 c.args.key.now c.args.documents.now c.args.places.now c.keeps_places-kept.result (lent c.in_ok-rows.rows.items) c.requires.1 c.keeps_places-kept.ensures c.in_ok-rows.ensures in
+    subst (λ (b : Bool). CanPost b (lent c.deref.result.now)) (sym c.keeps_places-kept.ensures)
     (subst (λ (ps : List Posting). CanPost (keeps_places c.args.schema.now c.args.key.now) ps) (sym posted) (list_posts c.args.schema.now c.requires.0 c.args.key.now c.requires.1.can))
 
 pub overflow_cast-info : goal.overflow_cast-info
 overflow_cast-info c =
-    let posted = rows_posted c.args.schema.now c.requires.0 c.args.key.now c.args.list.now c.keeps_places-kept.result c.deref.result.now c.deref-2.result.now (lent c.in_ok-rows.rows.items) c.requires.1
-    c.keeps_places-kept.ensures c.deref.ensures.value c.deref-2.ensures.value c.in_ok-rows.ensures in
+    let posted = rows_posted c.args.schema.now c.requires.0 c.args.key.now c.args.documents.now c.args.places.now c.keeps_places-kept.result (lent c.in_ok-rows.rows.items) c.requires.1 c.keeps_places-kept.ensures c.in_ok-rows.ensures in
     let few = list_few c.args.schema.now c.requires.0 c.args.key.now c.requires.1.can in
     let count : length (lent c.in_ok-rows.rows.items) ≡ length (posting_list c.args.schema.now c.requires.0 c.args.key.now) = ap (λ (ps : List Posting). length ps) posted in
     let rows : length (lent c.in_ok-rows.rows.items) ≡ length c.in_ok-rows.rows.items = length-map c.in_ok-rows.rows.items lent_one in
@@ -34,12 +31,11 @@ overflow_cast-info c =
 
 pub returns : goal.returns
 returns c = λ ds keys h rise w.
-    let posted = rows_posted c.args.schema.now ds c.args.key.now c.args.list.now c.keeps_places-kept.result c.deref.result.now c.deref-2.result.now (lent c.in_ok-rows.rows.items) h
-    c.keeps_places-kept.ensures c.deref.ensures.value c.deref-2.ensures.value c.in_ok-rows.ensures in
+    let posted = rows_posted c.args.schema.now ds c.args.key.now c.args.documents.now c.args.places.now c.keeps_places-kept.result (lent c.in_ok-rows.rows.items) h c.keeps_places-kept.ensures c.in_ok-rows.ensures in
     let count : length (lent c.in_ok-rows.rows.items) ≡ length (posting_list c.args.schema.now ds c.args.key.now) = ap (λ (ps : List Posting). length ps) posted in
     let rows : length (lent c.in_ok-rows.rows.items) ≡ length c.in_ok-rows.rows.items = length-map c.in_ok-rows.rows.items lent_one in
-    let l = listed c.args.schema.now ds c.args.key.now c.keeps_places-kept.result (lent c.deref-3.result.now) c.args.self.now.postings.items c.args.self.now.positions.items c.append_postings.new.postings.items c.append_postings.new.places.items
-    c.keeps_places-kept.ensures (ap (λ (x : List Row). lent x) c.deref-3.ensures.value ∙ posted) c.in_ok-append_postings.ensures in
+    let l = listed c.args.schema.now ds c.args.key.now c.keeps_places-kept.result (lent c.deref.result.now) c.args.self.now.postings.items c.args.self.now.positions.items c.append_postings.new.postings.items c.append_postings.new.places.items
+    c.keeps_places-kept.ensures (ap (λ (x : List Row). lent x) c.deref.ensures.value ∙ posted) c.in_ok-append_postings.ensures in
     let info : TermInfo = record { docs = c.len.result; postings = c.len-postings.result; postings_len = c.len-2.result - c.len-postings.result; positions = c.len-positions.result; positions_len = c.len-3.result - c.len-positions.result } in
     let i : IsInfo c.args.schema.now ds c.args.key.now (record { docs = c.len.result; postings = c.len-postings.result; postings_len = c.len-2.result - c.len-postings.result; positions = c.len-positions.result; positions_len = c.len-3.result - c.len-positions.result })
     c.args.self.now.postings.items c.args.self.now.positions.items c.append_postings.new.postings.items c.append_postings.new.places.items = record {

@@ -1,17 +1,17 @@
-use Rattle.std.proofs.Common.{◌≡◌}
-use Rattle.split_build.specs.declared.terms.TermLog.{TermLog}
-use Rattle.split_build.proofs.SaidLemmas.{said_set, said_insert, put_again}
+use Rattle.std.proofs.Common.{refl}
+use Rattle.split_build.proofs.SaidLemmas.{added_placed, added_plain, on_three}
 use Rattle.split_build.proofs.terms.TermLog.add.Goals as goal
 
-pub returns-in-Some : goal.returns-in-Some
-returns-in-Some c = λ s kept log h.
-    said_set s log (record { key = c.args.key.now; document = c.args.document; place = c.args.place }) c.args.kept c.args.self.now _ c.in-Some.list.now c.push.new.self kept c.in-Some.ensures.unique c.in-Some.ensures.value
-    c.in_ok-push.ensures.documents c.in_ok-push.ensures.places (c.get_mut.follows.holds c.push.new.self).0 h
+pub returns-then-kept : goal.returns-then-kept
+returns-then-kept c = λ s kept.
+    on_three c.push.result _ _ _ _ c.push.ensures.numbers c.push.ensures.documents c.push.ensures.places (λ numbers documents places log h.
+    added_placed s log (record { key = c.args.key.now; document = c.args.document; place = c.args.place }) c.args.kept c.in_ok-number.number c.args.self.now
+    (record { keys = c.number_of.new.keys; placed = c.push.new.self; plain = c.args.self.now.plain }) c.if-kept.true kept c.in_ok-number.ensures.grown c.in_ok-number.ensures.number
+    (record { numbers = numbers; documents = documents; places = places }) refl h)
 
-pub returns : goal.returns
-returns c = λ s kept log h.
-    let lent : TermLog = record { lists = c.get_mut.follows.lender-at-none } in
-    let same : lent ≡ c.args.self.now = λ j. record { lists = c.get_mut.follows.holds-at-none j } in
-    said_insert s log (record { key = c.args.key.now; document = c.args.document; place = c.args.place }) c.args.kept c.args.self.now _ c.in_ok-from_slice.field-0 c.vacant-list.result c.push-2.new.self kept
-    c.in_default.ensures.value c.in_ok-from_slice.ensures.items c.vacant-list.ensures.documents c.vacant-list.ensures.places c.in_ok-push-2.ensures.documents c.in_ok-push-2.ensures.places
-    (put_again c.args.self.now (record { lists = c.get_mut.follows.lender-at-none }) _ c.in_ok-from_slice.field-0 c.push-2.new.self same c.in_ok-insert.ensures.entries) h
+pub returns-else-kept : goal.returns-else-kept
+returns-else-kept c = λ s kept.
+    on_three c.push-else-kept.result _ _ _ _ c.push-else-kept.ensures.numbers c.push-else-kept.ensures.documents c.push-else-kept.ensures.places (λ numbers documents places log h.
+    added_plain s log (record { key = c.args.key.now; document = c.args.document; place = c.args.place }) c.args.kept c.in_ok-number.number c.args.self.now
+    (record { keys = c.number_of.new.keys; placed = c.args.self.now.placed; plain = c.push-else-kept.new.self }) c.if-kept.false kept c.in_ok-number.ensures.grown c.in_ok-number.ensures.number
+    (record { numbers = numbers; documents = documents; places = places }) refl h)
