@@ -9,3 +9,7 @@ pub mod Counted
 pub mod HitOrders
 pub mod Parting
 pub mod RankOrders
+pub mod MarkValues
+pub mod Classing
+pub mod Copied
+pub mod Regrouped

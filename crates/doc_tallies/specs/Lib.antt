@@ -6,3 +6,5 @@ pub mod Firsts
 pub mod Orders
 pub mod AggColumns
 pub mod Ranks
+pub mod Marks
+pub mod Classes

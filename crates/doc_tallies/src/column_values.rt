@@ -11,6 +11,7 @@ ghost use Rattle.query_ast.specs.Meaning.{values_in};
 ghost use Rattle.split_bundle.specs.Columns.{column_rows};
 ghost use Rattle.split_bundle.specs.Held.{IsHeldValue};
 ghost use Rattle.split_bundle.specs.declared.placed.Placed.{Placed};
+ghost use Rattle.doc_tallies.specs.Marks.{unturned};
 
 use crate::field_column::FieldColumn;
 use doc_value::{Kind, Text, Value, Values};
@@ -19,7 +20,8 @@ use std::alloc::{AllocError, Global};
 
 // The signed number of which this is the turned one.
 pub(crate) fn signed(number: u64) -> i64
-    ensures { (z : ℤ) → number ≡ turned z → zigzag z < 2 ^ 64 → result ≡ z }
+    ensures only { (z : ℤ) → number ≡ turned z → zigzag z < 2 ^ 64 → result ≡ z }
+    ensures value { result ≡ unturned number }
 {
     if number >= 1 << 63 {
         return (number - (1 << 63)) as i64;

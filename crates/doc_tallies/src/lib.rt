@@ -1,6 +1,7 @@
 //! What columns and documents say of some documents of a split: aggregations, times and the first hits.
 #![tactic(auto)]
 
+mod classes;
 mod column_values;
 mod field_column;
 mod hit_order;
@@ -9,6 +10,7 @@ mod laws;
 mod near;
 mod order;
 mod partials;
+mod repeats;
 mod times;
 
 pub use hit_order::HitOrder;

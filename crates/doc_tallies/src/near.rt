@@ -67,6 +67,21 @@ fn is_near(descending: bool, bar: u64, rank: Option<u64>) -> bool
     }
 }
 
+// Keeps a number where it is one of the least so many.
+fn keep_least(best: &mut BinaryHeap<u64>, wanted: usize, rank: u64) -> Result<(), AllocError> {
+    if best.len() < wanted {
+        best.push(rank)?;
+        return Ok(());
+    }
+    match best.peek() {
+        Some(greatest) if rank < *greatest => {}
+        _ => return Ok(()),
+    }
+    best.push(rank)?;
+    let _ = best.pop();
+    Ok(())
+}
+
 // A number that so many documents reach, if so many have one: the last of the first so many numbers.
 fn bar_of(
     alloc: Global,
@@ -77,10 +92,8 @@ fn bar_of(
     let mut best: BinaryHeap<u64> = BinaryHeap::new(alloc);
     for number in numbers {
         if let Some(rank) = sort.field.column.value_at(*number) {
-            best.push(if sort.descending { !rank } else { rank })?;
-            if best.len() > wanted {
-                let _ = best.pop();
-            }
+            let rank = if sort.descending { !rank } else { rank };
+            keep_least(&mut best, wanted, rank)?;
         }
     }
     if best.len() < wanted {

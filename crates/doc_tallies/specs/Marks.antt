@@ -1,0 +1,41 @@
+-- What tells documents apart for an aggregation, by their numbers in a column.
+use Rattle.std.specs.Prelude.{ℕ, ℤ, pos, negsuc, ◌-◌, nat_lt, List, Option, if◌then◌else◌}
+use Rattle.std.specs.Option.{option_map}
+use Rattle.doc_value.specs.declared.schema.Kind.{Kind}
+use Rattle.doc_value.specs.declared.schema.Kind.TheVariants as kinds
+use Rattle.agg_model.specs.Counting.{step_of}
+use Rattle.agg_model.specs.declared.request.Agg.{Agg}
+use Rattle.agg_model.specs.declared.request.Agg.TheVariants.{Terms, Histogram}
+use Rattle.fast_fields.specs.Readers.{first_number}
+use Rattle.fast_fields.specs.declared.entries.Entry.{Entry}
+
+-- the signed number of which this is the turned one
+abbrev pub unturned : ℕ → ℤ
+unturned n = if nat_lt n 9223372036854775808 then negsuc (9223372036854775807 - n) else pos (n - 9223372036854775808)
+
+-- the whole number for which a number of a column stands; that of a text is its place among the texts
+abbrev pub whole_number : Kind → ℕ → ℤ
+whole_number kinds.Text n = pos n
+whole_number kinds.TextList n = pos n
+whole_number kinds.I64 n = unturned n
+whole_number kinds.U64 n = pos n
+whole_number kinds.Bool n = pos n
+whole_number kinds.Datetime n = unturned n
+
+-- what a number of a column counts for: itself, or the step in which it lies
+abbrev pub mark_of : Agg → Kind → ℕ → ℤ
+mark_of (Terms field size) kind n = pos n
+mark_of (Histogram field interval offset least dated) kind n = step_of interval offset (whole_number kind n)
+
+-- what a document counts for, if it has a value
+abbrev pub mark_at : Agg → Kind → List Entry → ℕ → Option ℤ
+mark_at agg kind entries n = option_map (mark_of agg kind) (first_number n entries)
+
+-- a kind of which a document has at most one value
+abbrev pub IsSingle : Kind → Type 0
+IsSingle kinds.Text = Unit {0}
+IsSingle kinds.TextList = ⊥
+IsSingle kinds.I64 = Unit {0}
+IsSingle kinds.U64 = Unit {0}
+IsSingle kinds.Bool = Unit {0}
+IsSingle kinds.Datetime = Unit {0}

@@ -1,0 +1,173 @@
+//! Classes of documents that count alike for an aggregation.
+
+ghost use Rattle.std.specs.Prelude.{◌≡◌, ◌<◌, ◌+◌, ◌^◌, ◌≤◌, ◌↔◌, ℕ, ℤ, pos, ◌≤ℤ◌, List, Option, IfOk, IfSome, IsTrue, length, vec_len};
+ghost use Rattle.std.specs.Bool.{OnTrue};
+ghost use Rattle.std.specs.Int.{int_div_euclid};
+ghost use Rattle.std.specs.Int.RustNames.{unsigned_abs};
+ghost use Rattle.std.specs.List.{All};
+ghost use Rattle.agg_model.specs.Checking.{HasInterval};
+ghost use Rattle.agg_model.specs.Counting as counting;
+ghost use Rattle.fast_fields.specs.Readers.{Holds};
+ghost use Rattle.fast_fields.specs.declared.entries.Entry.{Entry};
+ghost use Rattle.doc_tallies.specs.Classes.{AreClasses, IsCounted, class_sum};
+ghost use Rattle.doc_tallies.specs.Marks as marks;
+ghost use Rattle.doc_tallies.specs.Picked.{AllBelow};
+
+use crate::column_values::signed;
+use crate::field_column::FieldColumn;
+use agg_model::{Agg, Distance};
+use doc_value::Kind;
+use std::alloc::{AllocError, Global};
+
+/// How many documents count alike, by what they count for, and the number of one of them.
+#[derive(Clone, Copy, Debug)]
+pub(crate) struct Class {
+    pub mark: Option<i128>,
+    pub count: u64,
+    pub sample: u32,
+}
+
+// How many classes there are at most.
+const PLACES: usize = 16_384;
+
+// The whole number for which a number of a column of a kind stands.
+fn whole_number(kind: Kind, number: u64) -> i128
+    ensures value { result ≡ marks.whole_number kind number }
+    ensures small { unsigned_abs result ≤ 2 ^ 64 }
+{
+    match kind {
+        Kind::I64 | Kind::Datetime => i128::from(signed(number)),
+        Kind::Text | Kind::TextList | Kind::U64 | Kind::Bool => i128::from(number),
+    }
+}
+
+// The quotient of numbers that have 64 bits each, which is found faster than that of others.
+fn small_quotient(from: i128, interval: i128) -> Option<i128>
+    requires { pos 1 ≤ℤ interval }
+    ensures { IfSome result (λ step. step ≡ int_div_euclid from interval) }
+{
+    let Ok(from) = i64::try_from(from) else {
+        return None;
+    };
+    let Ok(interval) = i64::try_from(interval) else {
+        return None;
+    };
+    Some(i128::from(from.div_euclid(interval)))
+}
+
+// The number of the step in which a whole number lies.
+fn step_of(interval: Distance, offset: Distance, whole: i128) -> i128
+    requires some { pos 1 ≤ℤ interval }
+    requires small { unsigned_abs whole ≤ 2 ^ 64 }
+    ensures { result ≡ counting.step_of interval offset whole }
+{
+    let from = whole - offset.whole();
+    let interval = interval.whole();
+    match small_quotient(from, interval) {
+        Some(step) => step,
+        None => from.div_euclid(interval),
+    }
+}
+
+// What a number of a column counts for: itself, or the step in which it lies.
+fn mark_of(agg: &Agg, kind: Kind, number: u64) -> i128
+    requires { HasInterval agg.now }
+    ensures { result ≡ marks.mark_of agg.now kind number }
+{
+    match agg {
+        Agg::Terms { .. } => i128::from(number),
+        Agg::Histogram {
+            interval,
+            offset,
+            ..
+        } => step_of(*interval, *offset, whole_number(kind, number)),
+    }
+}
+
+// What a document counts for, if it has a value.
+fn mark_at(agg: &Agg, field: &FieldColumn<'_>, document: u32) -> Option<i128>
+    requires { HasInterval agg.now }
+    ensures { (texts : List (List ℕ)) (entries : List Entry) → Holds field.now.column texts entries → result ≡ marks.mark_at agg.now field.now.kind entries document }
+{
+    match field.column.value_at(document) {
+        Some(number) => Some(mark_of(agg, field.kind, number)),
+        None => None,
+    }
+}
+
+fn is_same(a: Option<i128>, b: Option<i128>) -> bool
+    ensures { IsTrue result ↔ (a ≡ b) }
+{
+    match (a, b) {
+        (None, None) => true,
+        (Some(a), Some(b)) => a == b,
+        (None, Some(_)) | (Some(_), None) => false,
+    }
+}
+
+// Where the class of a mark stands, if it stands anywhere.
+fn place_of(mark: Option<i128>) -> usize
+    ensures { result < PLACES }
+{
+    match mark {
+        Some(mark) => mark.rem_euclid(PLACES as i128) as usize,
+        None => 0,
+    }
+}
+
+// Counts a document in the class of its mark. It answers false where another class stands there.
+fn count_one(classes: &mut Vec<Class>, mark: Option<i128>, document: u32) -> bool
+    requires { vec_len classes.old ≡ PLACES }
+    ensures len { vec_len classes.new ≡ PLACES }
+    ensures counted { OnTrue result (IsCounted mark document classes.old.items classes.new.items) }
+{
+    let place = place_of(mark);
+    let class = classes[place];
+    if class.count == u64::MAX || class.count != 0 && !is_same(class.mark, mark) {
+        return false;
+    }
+    classes[place] = Class {
+        mark,
+        count: class.count + 1,
+        sample: document,
+    };
+    true
+}
+
+// Classes that have no documents.
+fn no_classes(alloc: Global) -> Result<Vec<Class>, AllocError>
+    ensures len { IfOk result (λ classes. vec_len classes ≡ PLACES) }
+    ensures none { IfOk result (λ classes. All (λ c. c.count ≡ 0) classes.items) }
+{
+    let mut classes = Vec::with_capacity(alloc, PLACES)?;
+    for _place in 0..PLACES {
+        classes.push(Class {
+            mark: None,
+            count: 0,
+            sample: 0,
+        })?;
+    }
+    Ok(classes)
+}
+
+// Some documents in classes of those that count alike by a column, if there is room for all classes.
+pub(crate) fn classes_of(
+    alloc: Global,
+    agg: &Agg,
+    field: &FieldColumn<'_>,
+    numbers: &[u32],
+) -> Result<Option<Vec<Class>>, AllocError>
+    requires { HasInterval agg.now }
+    ensures only { (texts : List (List ℕ)) (entries : List Entry) (bound : ℕ) → Holds field.now.column texts entries → AllBelow bound numbers.now
+        → IfOk result (λ o. IfSome o (λ classes. AreClasses agg.now field.now.kind entries bound numbers.now classes.items)) }
+    ensures total { IfOk result (λ o. IfSome o (λ classes. class_sum classes.items ≡ length numbers.now)) }
+{
+    let mut classes = no_classes(alloc)?;
+    for number in numbers {
+        let mark = mark_at(agg, field, *number);
+        if !count_one(&mut classes, mark, *number) {
+            return Ok(None);
+        }
+    }
+    Ok(Some(classes))
+}
