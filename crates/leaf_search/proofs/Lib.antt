@@ -1,5 +1,8 @@
 pub mod QuerySteps
-pub mod QueryWithin
 pub mod NumberLists
 pub mod LeafSteps
 pub mod Counted
+pub mod KeyCounts
+pub mod RangeLists
+pub mod BlockParts
+pub mod ListParts

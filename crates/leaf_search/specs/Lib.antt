@@ -1,4 +1,6 @@
 pub mod Askable
 pub mod Asks
+pub mod Counts
 pub mod Numbers
 pub mod Answers
+pub mod FileRanges

@@ -8,8 +8,11 @@ ghost use Rattle.split_bundle.specs.Files.{Parts, file_bytes};
 ghost use Rattle.split_bundle.specs.Lending.{IsPartOf};
 ghost use Rattle.split_bundle.specs.Wholes.{HaveAll};
 ghost use Rattle.doc_sets.specs.Faults.{HasCause, IsMemory};
-ghost use Rattle.leaf_search.specs.Answers.{AsksLeaf, IsAnswerOf, IsAsked};
+ghost use Rattle.query_ast.specs.Sought.{view as query_view};
+ghost use Rattle.leaf_search.specs.Answers.{AsksLeaf, AsksWith, IsAnswerOf, IsAsked};
+ghost use Rattle.leaf_search.specs.Asks.{lookups_of};
 
+use crate::counted::{counted, counted_key};
 use crate::evaluate::matching;
 use crate::numbers::numbers_in;
 use crate::request::{LeafAnswer, LeafRequest};
@@ -36,6 +39,28 @@ pub fn leaf(
     ensures there { (documents : List Placed) (p : Parts) → IsPartOf view.now schema.now documents p → HaveAll (file_bytes p) view.now.pieces → IsAsked schema.now request.now
         → MatchResult result (IsAnswerOf schema.now request.now documents) IsMemory }
     // Over any bytes.
+    ensures partial { IfOk result (λ a. IsPartialOf request.now.aggs a.partial) }
+{
+    match counted_key(alloc, schema, request)? {
+        Some(key) => counted(alloc, request, view, key.as_slice()),
+        None => evaluated(alloc, schema, request, view),
+    }
+}
+
+// The answer by the set of the documents that match the query.
+fn evaluated(
+    alloc: Global,
+    schema: &Schema,
+    request: &LeafRequest,
+    view: &PartView,
+) -> Result<LeafAnswer, LeafError>
+    requires fields { length schema.now.fields ≤ 256 }
+    requires intervals { HaveIntervals request.now.aggs }
+    ensures only { (documents : List Placed) (p : Parts) → IsPartOf view.now schema.now documents p → IsAsked schema.now request.now
+        → MatchResult result (IsAnswerOf schema.now request.now documents)
+        (HasCause (AsksWith view.now schema.now documents p request.now (lookups_of schema.now (query_view request.now.query))) view.now.pieces) }
+    ensures there { (documents : List Placed) (p : Parts) → IsPartOf view.now schema.now documents p → HaveAll (file_bytes p) view.now.pieces → IsAsked schema.now request.now
+        → MatchResult result (IsAnswerOf schema.now request.now documents) IsMemory }
     ensures partial { IfOk result (λ a. IsPartialOf request.now.aggs a.partial) }
 {
     let index = view.footer().index();

@@ -2,13 +2,13 @@ use Rattle.std.proofs.Common.{rules, ◌≡◌, ◌∙◌, ◌&&◌, ◌||◌, s
 use Rattle.query_ast.specs.declared.query.Query.{the_lemmas}
 use Rattle.query_ast.specs.Meaning.{meaning, all_hold, some_hold}
 use Rattle.query_ast.specs.Sought.{And, Or, view, view_all}
-use Rattle.doc_sets.specs.Faults.{HasCause}
+use Rattle.doc_sets.specs.Asking.{AsksLookups, LacksLookups}
 use Rattle.doc_sets.specs.Sets.{IsSetOf}
 use Rattle.doc_sets.proofs.Causes.{cause_wider, handed_on}
 use Rattle.doc_sets.proofs.Steps.{and_true, none_behind, or_false}
 use Rattle.doc_sets.proofs.WalkSteps.{set_alike}
 use Rattle.leaf_search.specs.Askable.{CanAsk}
-use Rattle.leaf_search.specs.Asks.{AsksQuery, AsksEach}
+use Rattle.leaf_search.specs.Asks.{lookups_of, lookups_of_each}
 use Rattle.leaf_search.proofs.QuerySteps.{row_all, all_step, some_step, can_at, asked_at, of_query}
 use Rattle.leaf_search.proofs.evaluate.+evaluate.Goals as goal
 
@@ -47,8 +47,8 @@ all_matching-returns-in_err-other-clause-only t c = λ documents p is can.
     let e = c.in_err-other.field-0.0 in
     let lt = c.loop-each-test.true in
     let cause = c.in_err-other.ensures.only documents p is (can_at s x qs c.loop-each.each-index lt c.each-item.is can) in
-    handed_on (IsSetOf (λ d. all_hold s d (view_all qs)) documents) (HasCause (AsksEach v s documents p (view_all qs)) v.pieces) c.from_residual-in_err-other.result e c.from_residual-in_err-other.ensures.1
-    (cause_wider (AsksQuery v s documents p (view x)) (AsksEach v s documents p (view_all qs)) v.pieces e (asked_at v s documents p x qs c.loop-each.each-index lt c.each-item.is) cause)
+    handed_on (IsSetOf (λ d. all_hold s d (view_all qs)) documents) (LacksLookups v s documents p (lookups_of_each s (view_all qs))) c.from_residual-in_err-other.result e c.from_residual-in_err-other.ensures.1
+    (cause_wider (AsksLookups v s documents p (lookups_of s (view x))) (AsksLookups v s documents p (lookups_of_each s (view_all qs))) v.pieces e (asked_at v s documents p x qs c.loop-each.each-index lt c.each-item.is) cause)
 
 pub some_matching-returns-in_err-other-clause-only : goal.some_matching-returns-in_err-other-clause-only
 some_matching-returns-in_err-other-clause-only t c = λ documents p is can.
@@ -59,8 +59,8 @@ some_matching-returns-in_err-other-clause-only t c = λ documents p is can.
     let e = c.in_err-other.field-0.0 in
     let lt = c.loop-each-test.true in
     let cause = c.in_err-other.ensures.only documents p is (can_at s x qs c.loop-each.each-index lt c.each-item.is can) in
-    handed_on (IsSetOf (λ d. some_hold s d (view_all qs)) documents) (HasCause (AsksEach v s documents p (view_all qs)) v.pieces) c.from_residual-in_err-other.result e c.from_residual-in_err-other.ensures.1
-    (cause_wider (AsksQuery v s documents p (view x)) (AsksEach v s documents p (view_all qs)) v.pieces e (asked_at v s documents p x qs c.loop-each.each-index lt c.each-item.is) cause)
+    handed_on (IsSetOf (λ d. some_hold s d (view_all qs)) documents) (LacksLookups v s documents p (lookups_of_each s (view_all qs))) c.from_residual-in_err-other.result e c.from_residual-in_err-other.ensures.1
+    (cause_wider (AsksLookups v s documents p (lookups_of s (view x))) (AsksLookups v s documents p (lookups_of_each s (view_all qs))) v.pieces e (asked_at v s documents p x qs c.loop-each.each-index lt c.each-item.is) cause)
 
 pub all_matching-returns-clause-only : goal.all_matching-returns-clause-only
 all_matching-returns-clause-only t c = λ documents p is can.
