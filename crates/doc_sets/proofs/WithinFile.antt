@@ -30,7 +30,7 @@ take_area (suc m) [] = omega arith
 take_area (suc m) (t ∷ ts) = let h = take_area m ts in omega (arith, h, length-append (term_bytes t) (area (take m ts)), length-append (term_bytes t) (area ts))
 
 -- some terms behind others are within their area
-area_within : (k m : ℕ) (ts : List Term) → length (area (take k ts)) + length (area (take m (drop k ts))) ≤ length (area ts)
+pub area_within : (k m : ℕ) (ts : List Term) → length (area (take k ts)) + length (area (take m (drop k ts))) ≤ length (area ts)
 area_within zero m ts = let h = take_area m ts in omega (arith, h)
 area_within (suc k) m [] = let h = take_area m [] in omega (arith, h)
 area_within (suc k) m (t ∷ ts) = let h = area_within k m ts in omega (arith, h, length-append (term_bytes t) (area (take k ts)), length-append (term_bytes t) (area ts))

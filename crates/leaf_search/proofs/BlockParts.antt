@@ -11,7 +11,7 @@ use Rattle.term_dict.specs.declared.index.BlockStart.{BlockStart}
 use Rattle.term_dict.specs.declared.term.Term.{Term}
 use Rattle.term_dict.proofs.Orders.{at_most_below, below_not, below_then}
 use Rattle.term_dict.proofs.Ranges.{behind_prefix}
-use Rattle.term_dict.proofs.Starts.{block_at, get_some}
+use Rattle.term_dict.proofs.Starts.{block_at, get_some, starts_within}
 use Rattle.split_bundle.specs.declared.layout.Sections.{Sections}
 use Rattle.split_bundle.specs.declared.placed.Placed.{Placed}
 use Rattle.split_bundle.specs.declared.part_view.PartView.{PartView}
@@ -48,7 +48,7 @@ firsts_rise : (bytes : List ℕ) (index : List BlockStart) (terms : List Term) (
 firsts_rise bytes index terms m n x y dict gm gn lt =
     let a = block_at bytes index terms m x dict gm in
     let b = block_at bytes index terms n y dict gn in
-    subst (λ (k : List ℕ). is_below k y.first ≡ true) (sym a.2.0) (subst (λ (k : List ℕ). is_below a.0.key k ≡ true) (sym b.2.0) (rising_at terms (64 * m) (64 * n) a.0 b.0 dict.are_terms.rising a.1 b.1 (omega (arith, lt))))
+    subst (λ (k : List ℕ). is_below k y.first ≡ true) (sym a.2) (subst (λ (k : List ℕ). is_below a.0.key k ≡ true) (sym b.2) (rising_at terms (64 * m) (64 * n) a.0 b.0 dict.are_terms.rising a.1 b.1 (omega (arith, lt))))
 
 -- ---- how many blocks stand in front
 
@@ -141,10 +141,11 @@ module _ (v : PartView) (s : Schema) (ds : List Placed) (p : Parts) (part : IsPa
       let len : length (drop start (take end p.dictionary)) ≡ length (area (block_terms terms number)) = ap length b.bytes_are in
       let first = length-drop start (take end p.dictionary) in
       let second = length-take end p.dictionary in
+      let whole : length p.dictionary ≡ length (area terms) = ap length part.is_split.dictionary.area_is in
       record {
         start_is = omega (arith, documents, b.start_is);
         len_is = omega (arith, len, first, second, b.within);
-        fits = omega (arith, documents, len, first, second, b.within, section_within Dictionary p, part.is_split.size);
+        fits = omega (arith, documents, len, first, second, b.start_is, b.within, starts_within (64 * number) terms, whole, section_within Dictionary p, part.is_split.size);
       }
 
   pub block_named : (number start end at len : ℕ) (old new : List FileRange) → IsPlaced number start end → at ≡ 4 + v.footer.layout.sections.documents + start → len ≡ end - start → AddsParts (At at len) old new → AddsParts (IsBlock s ds p number) old new
@@ -169,6 +170,9 @@ module _ (v : PartView) (s : Schema) (ds : List Placed) (p : Parts) (part : IsPa
       let none : Option ℕ = None in
       let bad : Some h.number ≡ none = one_number p.dictionary index terms key (Some h.number) None dict h.is_block is in
       cc)
+
+  pub same_number : (key : List ℕ) (number : Option ℕ) (at len : ℕ) → IsBlockOf index key number → (b : IsBlockFor v s ds p key at len) → number ≡ Some b.number
+  same_number key number at len is b = one_number p.dictionary index terms key number (Some b.number) dict is b.is_block
 
   -- ---- the blocks of a walk
 

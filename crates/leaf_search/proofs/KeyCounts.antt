@@ -42,7 +42,7 @@ use Rattle.doc_tallies.specs.Picked.{docs_of}
 use Rattle.leaf_search.specs.Answers.{AsksLeaf, AsksWith, found, passes, IsAnswerOf, IsAsked}
 use Rattle.leaf_search.specs.Asks.{lookups_of}
 use Rattle.leaf_search.specs.Askable.{CanAsk}
-use Rattle.leaf_search.specs.Counts.{counted_key, one_key, only_counts}
+use Rattle.leaf_search.specs.Counts.{counted_key, one_key, only_counts, request_lookups}
 use Rattle.leaf_search.specs.declared.request.LeafAnswer.{LeafAnswer}
 use Rattle.leaf_search.specs.declared.request.LeafRequest.{LeafRequest}
 use Rattle.leaf_search.proofs.QuerySteps.{field_fact}
@@ -206,6 +206,9 @@ is_counted s r ds key a docs few ask c count hits documents partial =
 -- ---- what is asked for
 
 module _ (v : PartView) (s : Schema) (ds : List Placed) (p : Parts) (r : LeafRequest) where
+  pub counted_lookups : (key : List ℕ) → counted_key s r ≡ some key → request_lookups s r ≡ Count key ∷ []
+  counted_lookups key same = ap (λ (o : Option (List ℕ)). option_map_or (λ k. Count k ∷ []) o (lookups_of s (view r.query))) same
+
   pub counted_cause : (key : List ℕ) (e : LeafError) → counted_key s r ≡ some key → HasCause (IsBlockFor v s ds p key) v.pieces e → HasCause (AsksLeaf v s ds p r) v.pieces e
   counted_cause key e same cause =
       subst (λ (o : Option (List ℕ)). HasCause (AsksWith v s ds p r (option_map_or (λ k. Count k ∷ []) o (lookups_of s (view r.query)))) v.pieces e) (sym same)

@@ -6,3 +6,7 @@ pub mod KeyCounts
 pub mod RangeLists
 pub mod BlockParts
 pub mod ListParts
+pub mod ColumnParts
+pub mod Suffices
+pub mod ReadBounds
+pub mod ColumnNames

@@ -1,10 +1,10 @@
 -- The lists that a dictionary gives are those that are asked for.
-use Rattle.std.proofs.Common.{◌≡◌, ℕ, zero, suc, ◌+◌, ◌<◌, ◌≤◌, ◌^◌, ◌⊎◌, inl, inr, Bool, true, false, ◌||◌, List, [], ◌∷◌, length, drop, get_or, nat_eq, Option, Some, None, Result, Ok, Err, IsErrAnd, MatchResult, OnOk, refl, ap, sym, ◌∙◌, subst, arith}
+use Rattle.std.proofs.Common.{◌≡◌, ℕ, zero, suc, ◌+◌, ◌*◌, ◌<◌, ◌≤◌, ◌^◌, ◌⊎◌, inl, inr, Bool, true, false, ◌||◌, List, [], ◌∷◌, length, drop, get_or, nat_eq, Option, Some, None, Result, Ok, Err, IsErrAnd, MatchResult, OnOk, refl, ap, sym, ◌∙◌, subst, arith}
 use Rattle.std.specs.List.{AllByRecursion, starts_with}
 use Rattle.std.proofs.lemmas.Bool.{cases_eq}
 use Rattle.std.proofs.lemmas.List.{drop_more}
 use Rattle.doc_value.specs.declared.schema.Schema.{Schema}
-use Rattle.term_dict.specs.Bounds.{AreBlocks}
+use Rattle.term_dict.specs.Bounds.{AreBlocks, block_terms}
 use Rattle.term_dict.specs.Keys.{is_below}
 use Rattle.term_dict.specs.Terms.{lookup}
 use Rattle.term_dict.specs.declared.term.Term.{Term}
@@ -28,6 +28,8 @@ use Rattle.doc_sets.specs.Faults.{HasCause, IsMemory}
 use Rattle.doc_sets.specs.Needed.{ArePlacesFor, IsListFor, postings_start, positions_start}
 use Rattle.doc_sets.specs.Walks.{AsksIf, AsksTerms, AsksWalkBlock, AsksWalkList, IsBlock, IsWalked, begun_in, takes}
 use Rattle.doc_sets.proofs.Causes.{cause_wider}
+use Rattle.doc_sets.proofs.TermWalks.{all_drop, all_filter, all_found, all_map, all_take}
+use Rattle.doc_sets.proofs.WalkSteps.{first_listed}
 use Rattle.leaf_search.specs.FileRanges.{AddsParts}
 use Rattle.leaf_search.specs.declared.file_ranges.FileRange.{FileRange}
 use Rattle.leaf_search.proofs.BlockParts.{same_walk}
@@ -122,6 +124,18 @@ module _ (v : PartView) (s : Schema) (ds : List Placed) (p : Parts) where
 
   pub unwanted_named : (w : Wanted) (key : List ℕ) (rs : List FileRange) → takes w key ≡ false → AddsParts (AsksIf v s ds p w key) rs rs
   unwanted_named w key rs is = none_added (AsksIf v s ds p w key) rs (λ a n h. let bad : false ≡ true = sym is ∙ h.0 in cc)
+
+  pub begun_found : IsPartOf v s ds p → (prefix : List ℕ) (number : ℕ) → AllByRecursion (λ u. lookup u.key terms ≡ Some u.info) (begun_in prefix terms number)
+  begun_found part prefix number =
+      all_map (λ u. (lookup u.key terms ≡ Some u.info) × (starts_with nat_eq u.key prefix ≡ true)) (λ u. lookup u.key terms ≡ Some u.info) (begun_in prefix terms number) (λ u h. h.0)
+      (all_filter (λ u. lookup u.key terms ≡ Some u.info) (λ u. starts_with nat_eq u.key prefix) (block_terms terms number)
+      (all_take (λ u. lookup u.key terms ≡ Some u.info) 64 (drop (64 * number) terms) (all_drop (λ u. lookup u.key terms ≡ Some u.info) (64 * number) terms (all_found terms part.is_split.dictionary.are_terms.rising))))
+
+  -- the dictionary has the term that a range gave at its key
+  pub term_found : (lent : List Term) (i : ℕ) (t : Term) (rest : List Term) (key : List ℕ) (info : TermInfo) → drop i lent ≡ t ∷ rest → key ≡ t.key → info ≡ t.info → AllByRecursion (λ u. lookup u.key terms ≡ Some u.info) lent
+      → lookup key terms ≡ Some info
+  term_found lent i t rest key info here same alike listed =
+      ap (λ k. lookup k terms) same ∙ (first_listed (λ u. lookup u.key terms ≡ Some u.info) lent i t rest here listed ∙ ap Some (sym alike))
 
   pub term_named : (w : Wanted) (lent : List Term) (i : ℕ) (t : Term) (rest : List Term) (key : List ℕ) (old middle new : List FileRange) → drop i lent ≡ t ∷ rest → drop (i + 1) lent ≡ rest → key ≡ t.key
       → AddsParts (AsksIf v s ds p w key) old middle → AddsParts (AsksTerms v s ds p w (drop (i + 1) lent)) middle new → AddsParts (AsksTerms v s ds p w (drop i lent)) old new

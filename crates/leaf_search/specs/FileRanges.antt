@@ -1,5 +1,5 @@
 -- Ranges of a file, and the parts that they are of.
-use Rattle.std.specs.Prelude.{◌≡◌, ℕ, ◌+◌, ◌<◌, ◌≤◌, ◌⊎◌, List, [], ◌∷◌}
+use Rattle.std.specs.Prelude.{◌≡◌, ℕ, ◌+◌, ◌<◌, ◌≤◌, ◌⊎◌, List, [], ◌∷◌, sum_by}
 use Rattle.std.specs.List.{AllByRecursion}
 use Rattle.leaf_search.specs.declared.file_ranges.FileRange.{FileRange}
 
@@ -28,6 +28,10 @@ AreApart (r ∷ rs) = AllByRecursion (λ next. r.start + r.len < next.start) rs 
 -- no range starts behind a place
 abbrev pub StartUpTo : ℕ → List FileRange → Type 0
 StartUpTo place rs = AllByRecursion (λ r. r.start ≤ place) rs
+
+-- how many bytes some ranges have together
+abbrev pub total : List FileRange → ℕ
+total rs = sum_by (λ r. r.len) rs
 
 -- a range was put in behind others or joined to the last of them
 pub record Puts (range : FileRange) (old new : List FileRange) : Type 0 where

@@ -4,3 +4,4 @@ pub mod Counts
 pub mod Numbers
 pub mod Answers
 pub mod FileRanges
+pub mod Needs

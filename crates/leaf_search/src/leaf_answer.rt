@@ -11,8 +11,11 @@ ghost use Rattle.doc_sets.specs.Faults.{HasCause, IsMemory};
 ghost use Rattle.query_ast.specs.Sought.{view as query_view};
 ghost use Rattle.leaf_search.specs.Answers.{AsksLeaf, AsksWith, IsAnswerOf, IsAsked};
 ghost use Rattle.leaf_search.specs.Asks.{lookups_of};
+ghost use Rattle.leaf_search.specs.FileRanges.{AreRangesOf};
+ghost use Rattle.leaf_search.specs.Needs.{AreHeld, NeedsBlocks, NeedsLists};
+ghost use Rattle.leaf_search.specs.declared.file_ranges.FileRange.{FileRange};
 
-use crate::counted::{counted, counted_key};
+use crate::token_counts::{counted, counted_key};
 use crate::evaluate::matching;
 use crate::numbers::numbers_in;
 use crate::request::{LeafAnswer, LeafRequest};
@@ -38,6 +41,10 @@ pub fn leaf(
     // Where the pieces have every part of the file: their answer, or want of memory.
     ensures there { (documents : List Placed) (p : Parts) → IsPartOf view.now schema.now documents p → HaveAll (file_bytes p) view.now.pieces → IsAsked schema.now request.now
         → MatchResult result (IsAnswerOf schema.now request.now documents) IsMemory }
+    // Where a piece holds each range that the request needs: their answer, or want of memory.
+    ensures needed { (documents : List Placed) (p : Parts) (blocks lists : List FileRange) → IsPartOf view.now schema.now documents p → IsAsked schema.now request.now
+        → AreRangesOf (NeedsBlocks view.now schema.now documents p request.now) blocks → AreRangesOf (NeedsLists view.now schema.now documents p request.now) lists
+        → AreHeld view.now.pieces blocks → AreHeld view.now.pieces lists → MatchResult result (IsAnswerOf schema.now request.now documents) IsMemory }
     // Over any bytes.
     ensures partial { IfOk result (λ a. IsPartialOf request.now.aggs a.partial) }
 {

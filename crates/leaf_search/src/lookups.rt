@@ -6,7 +6,7 @@ ghost use Rattle.query_ast.specs.Sought as sought;
 ghost use Rattle.leaf_search.specs.Asks.{lookups_of, lookups_of_each};
 ghost use Rattle.leaf_search.specs.Counts as counts;
 
-use crate::counted::counted_key;
+use crate::token_counts::counted_key;
 use crate::fields::field_at;
 use crate::request::LeafRequest;
 use doc_sets::{

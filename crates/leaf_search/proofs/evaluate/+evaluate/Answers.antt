@@ -1,7 +1,7 @@
 use Rattle.std.proofs.Common.{rules, ◌≡◌, ◌∙◌, ◌&&◌, ◌||◌, sym, ap, subst}
 use Rattle.query_ast.specs.declared.query.Query.{the_lemmas}
 use Rattle.query_ast.specs.Meaning.{meaning, all_hold, some_hold}
-use Rattle.query_ast.specs.Sought.{And, Or, view, view_all}
+use Rattle.query_ast.specs.Sought.{And, Or, Prefix, Range, view, view_all}
 use Rattle.doc_sets.specs.Asking.{AsksLookups, LacksLookups}
 use Rattle.doc_sets.specs.Sets.{IsSetOf}
 use Rattle.doc_sets.proofs.Causes.{cause_wider, handed_on}
@@ -98,3 +98,18 @@ matching-returns-in-Or-clause-only t c = λ documents p is can.
     let s = c.args.schema.now in
     let same : view c.args.query.now ≡ Or (view_all c.as_slice-in-Or.result.now) = search (rules, row_all, the_lemmas) in
     of_query c.args.part.now s documents p c.some_matching.result (view c.args.query.now) (Or (view_all c.as_slice-in-Or.result.now)) same (c.some_matching.ensures.only documents p is (subst (CanAsk s) same can))
+
+pub matching-returns-in-Prefix-clause-only : goal.matching-returns-in-Prefix-clause-only
+matching-returns-in-Prefix-clause-only t c = λ documents p is can.
+    let s = c.args.schema.now in
+    let n = c.in-Prefix.field in
+    let text = c.as_str-in-Prefix.result.now in
+    let same : view c.args.query.now ≡ Prefix n text = ap view c.in-Prefix.is ∙ ap (λ u. Prefix n u) (sym c.as_str-in-Prefix.ensures) in
+    of_query c.args.part.now s documents p c.with_prefix.result (view c.args.query.now) (Prefix n text) same (c.with_prefix.ensures.only documents p is (subst (CanAsk s) same can))
+
+pub matching-returns-in-Range-clause-only : goal.matching-returns-in-Range-clause-only
+matching-returns-in-Range-clause-only t c = λ documents p is can.
+    let s = c.args.schema.now in
+    let w = Range c.in-Range.field c.in-Range.low c.in-Range.high in
+    let same : view c.args.query.now ≡ w = ap view c.in-Range.is in
+    of_query c.args.part.now s documents p c.within_range.result (view c.args.query.now) w same (c.within_range.ensures.only documents p is (subst (CanAsk s) same can))

@@ -1,4 +1,4 @@
-use Rattle.std.proofs.Common.{◌≡◌, ◌∙◌, ◌×◌, [], List, ℕ, Option, Some, None, IfOk, length, ap, sym, subst}
+use Rattle.std.proofs.Common.{◌≡◌, ◌∙◌, [], List, ℕ, Option, Some, None, IfOk, length, ap, sym, subst}
 use Rattle.agg_model.specs.Partials.{IsPartialOf, documents_in}
 use Rattle.split_bundle.specs.Lists.{posting_list}
 use Rattle.doc_sets.specs.Faults.{HasCause, IsMemory}
@@ -7,6 +7,7 @@ use Rattle.doc_sets.proofs.Searched.{searched}
 use Rattle.leaf_search.specs.Answers.{AsksLeaf, IsAnswerOf}
 use Rattle.leaf_search.specs.Counts.{counted_key}
 use Rattle.leaf_search.proofs.KeyCounts.{block_memory, by_parts, counted_cause, counts, is_counted, uncounted}
+use Rattle.leaf_search.proofs.Suffices.{needed_result}
 use Rattle.leaf_search.proofs.leaf_answer.leaf.Goals as goal
 
 pub returns-in-Some-clause-only : goal.returns-in-Some-clause-only
@@ -49,3 +50,13 @@ returns-in-None-clause-only c = λ documents p part ask.
     let none = c.in-None.is in
     let is : counted_key s r ≡ None = cc in
     uncounted c.args.view.now s documents p r (IsAnswerOf s r documents) c.evaluated.result is (c.evaluated.ensures.only documents p part ask)
+
+pub returns-in-Some-clause-needed : goal.returns-in-Some-clause-needed
+returns-in-Some-clause-needed c = λ documents p blocks lists part ask b l held_blocks held_lists.
+    needed_result c.args.view.now c.args.schema.now documents p part (IsAnswerOf c.args.schema.now c.args.request.now documents) c.counted.result c.args.request.now blocks lists b l held_blocks held_lists
+    (returns-in-Some-clause-only c documents p part ask)
+
+pub returns-in-None-clause-needed : goal.returns-in-None-clause-needed
+returns-in-None-clause-needed c = λ documents p blocks lists part ask b l held_blocks held_lists.
+    needed_result c.args.view.now c.args.schema.now documents p part (IsAnswerOf c.args.schema.now c.args.request.now documents) c.evaluated.result c.args.request.now blocks lists b l held_blocks held_lists
+    (returns-in-None-clause-only c documents p part ask)

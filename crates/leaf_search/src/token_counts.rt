@@ -92,7 +92,7 @@ fn partial_of_many(alloc: Global, aggs: &AggRequest, count: u32) -> Result<Parti
 {
     let mut partial = vacant_partial(alloc, aggs)?;
     let doc = DocValues::vacant(alloc);
-    for _taken in 0..count {
+    for taken in 0..count {
         collect_one(alloc, aggs, &mut partial, &doc)?;
     }
     Ok(partial)
