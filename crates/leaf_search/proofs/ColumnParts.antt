@@ -90,6 +90,10 @@ module _ (ds : List Placed) (size : ℕ) where
     pub next : (g : Field) → slice_get fs i ≡ Some g → g.fast ≡ true → start_of_column (k + j) cs + length_of_column (k + j) size cs ≡ start_of_column (k + i) cs
     pub last : length fs ≤ i → start_of_column (k + j) cs + length_of_column (k + j) size cs ≡ size
 
+  -- the same of each list of columns of these fields
+  abbrev Deeper : List Field → ℕ → ℕ → ℕ → Type 0
+  Deeper fs k j i = (from : ℕ) (rest : List ColumnStart) (left : List ℕ) → AreColumns ds from (fast_from k fs) rest left → from + length left ≡ size → EndsAt fs k j i rest
+
   pub column_ends : (fs : List Field) (k start j i : ℕ) (f : Field) (cs : List ColumnStart) (bytes : List ℕ) → AreColumns ds start (fast_from k fs) cs bytes → start + length bytes ≡ size → slice_get fs j ≡ Some f → f.fast ≡ true → j < i
       → ((n : ℕ) (g : Field) → j < n → n < i → slice_get fs n ≡ Some g → g.fast ≡ false) → EndsAt fs k j i cs
   column_ends [] k start j i f cs bytes are all got fast lt slow = absurd (cc)
@@ -123,18 +127,17 @@ module _ (ds : List Placed) (size : ℕ) where
                 let e : next_start size rest ≡ size = ap (next_start size) none in
                 omega (arith, a, b, e, all);
           })
-  column_ends (x ∷ xs) k start (suc j) (suc i) f cs bytes are all got fast lt slow = go (x.fast) refl cs are
+  column_ends (x ∷ xs) k start (suc j) (suc i) f cs bytes are all got fast lt slow =
+      go (x.fast) refl cs are
+      (λ from rest left these long. column_ends xs (suc k) from j i f rest left these long got fast (omega (arith, lt)) (λ n g low high there. slow (suc n) g (omega (arith, low)) (omega (arith, high)) there))
     where
-      deeper : (start : ℕ) (cs : List ColumnStart) (bytes : List ℕ) → AreColumns ds start (fast_from (suc k) xs) cs bytes → start + length bytes ≡ size → EndsAt xs (suc k) j i cs
-      deeper start cs bytes are all = column_ends xs (suc k) start j i f cs bytes are all got fast (omega (arith, lt)) (λ n g from until there. slow (suc n) g (omega (arith, from)) (omega (arith, until)) there)
-
-      shifted : (cs : List ColumnStart) → EndsAt xs (suc k) j i cs → EndsAt (x ∷ xs) k (suc j) (suc i) cs
-      shifted cs e =
+      shifted : (rest : List ColumnStart) → EndsAt xs (suc k) j i rest → EndsAt (x ∷ xs) k (suc j) (suc i) rest
+      shifted rest e =
           let a : suc k + j ≡ k + suc j = omega arith in
           let b : suc k + i ≡ k + suc i = omega arith in
           record {
-            next = λ g there is_fast. ap (λ n. start_of_column n cs + length_of_column n size cs) (sym a) ∙ (e.next g there is_fast ∙ ap (λ n. start_of_column n cs) b);
-            last = λ le. ap (λ n. start_of_column n cs + length_of_column n size cs) (sym a) ∙ e.last (omega (arith, le));
+            next = λ g there is_fast. ap (λ n. start_of_column n rest + length_of_column n size rest) (sym a) ∙ (e.next g there is_fast ∙ ap (λ n. start_of_column n rest) b);
+            last = λ le. ap (λ n. start_of_column n rest + length_of_column n size rest) (sym a) ∙ e.last (omega (arith, le));
           }
 
       under : (c : ColumnStart) (rest : List ColumnStart) → c ≡ record { number = k; start = start } → EndsAt (x ∷ xs) k (suc j) (suc i) rest → EndsAt (x ∷ xs) k (suc j) (suc i) (c ∷ rest)
@@ -147,16 +150,16 @@ module _ (ds : List Placed) (size : ℕ) where
             last = λ le. omega (arith, a, b, e.last le);
           })
 
-      first : (cs : List ColumnStart) → AreColumns ds start (record { number = k; field = x } ∷ fast_from (suc k) xs) cs bytes → EndsAt (x ∷ xs) k (suc j) (suc i) cs
-      first [] h = absurd h
-      first (c ∷ rest) h =
+      first : (rows : List ColumnStart) → AreColumns ds start (record { number = k; field = x } ∷ fast_from (suc k) xs) rows bytes → Deeper xs (suc k) j i → EndsAt (x ∷ xs) k (suc j) (suc i) rows
+      first [] h deeper = absurd h
+      first (c ∷ rest) h deeper =
           let has = h.0 in
           let parts : length bytes ≡ length has.column + length has.behind = ap length has.parts ∙ length-append has.column has.behind in
           under c rest h.1 (shifted rest (deeper (start + length has.column) rest has.behind h.2 (omega (arith, all, parts))))
 
-      go : (b : Bool) → x.fast ≡ b → (cs : List ColumnStart) → AreColumns ds start (Fasts k x xs b) cs bytes → EndsAt (x ∷ xs) k (suc j) (suc i) cs
-      go true is cs h = first cs h
-      go false is cs h = shifted cs (deeper start cs bytes h all)
+      go : (b : Bool) → x.fast ≡ b → (rows : List ColumnStart) → AreColumns ds start (Fasts k x xs b) rows bytes → Deeper xs (suc k) j i → EndsAt (x ∷ xs) k (suc j) (suc i) rows
+      go true is rows h deeper = first rows h deeper
+      go false is rows h deeper = shifted rows (deeper start rows bytes h all)
 
 -- ---- a view without pieces lacks each column
 
@@ -239,8 +242,8 @@ has_fast s number h = go (slice_get s.fields number) refl h
 -- ---- of a split
 
 pub record EndsBefore (s : Schema) (p : Parts) (number next : ℕ) : Type 0 where
-  pub next : (g : Field) → slice_get s.fields next ≡ Some g → g.fast ≡ true → start_of_column number p.column_starts + length_of_column number (length p.columns) p.column_starts ≡ start_of_column next p.column_starts
-  pub last : length s.fields ≤ next → start_of_column number p.column_starts + length_of_column number (length p.columns) p.column_starts ≡ length p.columns
+  pub to_next : (g : Field) → slice_get s.fields next ≡ Some g → g.fast ≡ true → start_of_column number p.column_starts + length_of_column number (length p.columns) p.column_starts ≡ start_of_column next p.column_starts
+  pub to_end : length s.fields ≤ next → start_of_column number p.column_starts + length_of_column number (length p.columns) p.column_starts ≡ length p.columns
 
 pub ends_before : (s : Schema) (ds : List Placed) (p : Parts) (number next : ℕ) → IsSplitOf s ds p → HasFast s number → number < next
     → ((k : ℕ) (g : Field) → number < k → k < next → slice_get s.fields k ≡ Some g → g.fast ≡ false) → EndsBefore s p number next
@@ -249,8 +252,8 @@ ends_before s ds p number next is has lt slow =
     let size = length p.columns in
     let e = column_ends ds size s.fields 0 0 number next has.field cs p.columns is.columns (omega arith) has.here has.fast lt slow in
     record {
-      next = λ g there fast. ap (λ k. start_of_column k cs + length_of_column k size cs) (sym (zero-add number)) ∙ (e.next g there fast ∙ ap (λ k. start_of_column k cs) (zero-add next));
-      last = λ le. ap (λ k. start_of_column k cs + length_of_column k size cs) (sym (zero-add number)) ∙ e.last le;
+      to_next = λ g there fast. ap (λ k. start_of_column k cs + length_of_column k size cs) (sym (zero-add number)) ∙ (e.next g there fast ∙ ap (λ k. start_of_column k cs) (zero-add next));
+      to_end = λ le. ap (λ k. start_of_column k cs + length_of_column k size cs) (sym (zero-add number)) ∙ e.last le;
     }
 
 module _ (v : PartView) (s : Schema) (ds : List Placed) (p : Parts) (part : IsPartOf v s ds p) where

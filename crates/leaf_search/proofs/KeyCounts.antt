@@ -19,6 +19,7 @@ use Rattle.agg_model.specs.declared.counts.Counts.{Counts}
 use Rattle.agg_model.specs.declared.partial.Partial.{Partial}
 use Rattle.agg_model.specs.declared.request.NamedAgg.{NamedAgg}
 use Rattle.agg_model.specs.Partials.{CountsFor, IsPart, IsPartialOf, StandsFor, documents_in}
+use Rattle.term_postings.specs.declared.list.Posting.{Posting}
 use Rattle.split_bundle.specs.declared.placed.Placed.{Placed}
 use Rattle.split_bundle.specs.Keys.{field_key, keys_of}
 use Rattle.split_bundle.specs.Lists.{has_key, posted, posting_list, stands_in}
@@ -133,7 +134,7 @@ pub record OnlyCounts (s : Schema) (r : LeafRequest) (key : List ℕ) : Type 0 w
 
 no_aggs : (aggs : List NamedAgg) → (length aggs == 0) ≡ true → aggs ≡ []
 no_aggs [] e = refl
-no_aggs (a ∷ aggs) e = absurd (let x : false ≡ true = e in cc)
+no_aggs (a ∷ aggs) e = absurd (let none : length (a ∷ aggs) ≡ 0 = eqb-true (length (a ∷ aggs)) 0 e in omega arith)
 
 pub counts : (s : Schema) (r : LeafRequest) (key : List ℕ) → counted_key s r ≡ some key → OnlyCounts s r key
 counts s r key e = go (only_counts r) refl e
@@ -159,7 +160,11 @@ none_posted : (s : Schema) (key : List ℕ) (n : ℕ) (ds : List Placed) → sta
 none_posted s key n [] h = refl
 none_posted s key n (d ∷ ds) h =
     let both = or_none (has_key key (keys_of s d.doc)) (stands_in s key ds) h in
-    ap (λ b. length (cond b (_ ∷ posted s key (suc n) ds) (posted s key (suc n) ds))) both.0 ∙ none_posted s key (suc n) ds both.1
+    go (has_key key (keys_of s d.doc)) _ both.0 (none_posted s key (suc n) ds both.1)
+  where
+    go : (b : Bool) (x : Posting) → b ≡ false → length (posted s key (suc n) ds) ≡ 0 → length (cond b (x ∷ posted s key (suc n) ds) (posted s key (suc n) ds)) ≡ 0
+    go true x e rest = absurd (cc)
+    go false x e rest = rest
 
 pub no_posting : (s : Schema) (key : List ℕ) (ds : List Placed) → stands_in s key ds ≡ false → length (posting_list s ds key) ≡ 0
 no_posting s key ds h = none_posted s key 0 ds h
@@ -170,7 +175,7 @@ many_posted s key test n [] all = refl
 many_posted s key test n (d ∷ ds) all =
     go (has_key key (keys_of s d.doc)) _ (many_posted s key test (suc n) ds all.1) ∙ ap (λ b. length (cond b (d ∷ filter (λ e. test e.doc) ds) (filter (λ e. test e.doc) ds))) (sym all.0)
   where
-    go : (b : Bool) (x : _) → length (posted s key (suc n) ds) ≡ length (filter (λ e. test e.doc) ds)
+    go : (b : Bool) (x : Posting) → length (posted s key (suc n) ds) ≡ length (filter (λ e. test e.doc) ds)
         → length (cond b (x ∷ posted s key (suc n) ds) (posted s key (suc n) ds)) ≡ length (cond b (d ∷ filter (λ e. test e.doc) ds) (filter (λ e. test e.doc) ds))
     go true x h = ap suc h
     go false x h = h

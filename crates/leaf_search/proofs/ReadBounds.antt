@@ -3,6 +3,7 @@ use Rattle.std.proofs.Common.{◌≡◌, ℕ, zero, suc, ◌+◌, ◌-◌, ◌*�
 use Rattle.std.specs.List.{AllByRecursion, Contains}
 use Rattle.std.specs.Option.{option_map_or}
 use Rattle.std.proofs.lemmas.Bool.{cases_lt}
+use Rattle.std.proofs.lemmas.List.Sums.{sum_by-cons}
 use Rattle.doc_value.specs.declared.schema.Schema.{Schema}
 use Rattle.term_dict.specs.Bounds.{IsBlockOf, block_terms}
 use Rattle.term_dict.specs.Terms.{area}
@@ -54,13 +55,15 @@ total_within [] from until le apart lie = omega arith
 total_within (r ∷ rs) from until le apart lie = elim (cases_lt 0 r.len) [
   | inr empty ↦
       let rest = total_within rs from until le apart.1 (λ place h. lie place (inr h)) in
-      omega (arith, rest, empty)
+      let both : total (r ∷ rs) ≡ r.len + total rs = sum_by-cons (λ (x : FileRange). x.len) r rs in
+      omega (arith, rest, both, empty)
   | inl some ↦
       let first = lie r.start (inl (omega arith, omega (arith, some))) in
       let last = lie (r.start + r.len - 1) (inl (omega (arith, some), omega (arith, some))) in
       let rest = total_within rs (r.start + r.len) until (omega (arith, last.1, some)) apart.1
           (λ place h. let behind = starts_behind place (r.start + r.len) rs apart.0 h in (omega (arith, behind), (lie place (inr h)).1)) in
-      omega (arith, rest, first.0, last.1, some)
+      let both : total (r ∷ rs) ≡ r.len + total rs = sum_by-cons (λ (x : FileRange). x.len) r rs in
+      omega (arith, rest, both, first.0, last.1, some)
 ]
 
 pub total_none : (rs : List FileRange) → AreApart rs → ((place : ℕ) → SomeRange (HasByte place) rs → ⊥) → total rs ≡ 0
@@ -70,14 +73,14 @@ total_none rs apart none = let le = total_within rs 0 0 (omega arith) apart (λ 
 
 module _ (v : PartView) (s : Schema) (ds : List Placed) (p : Parts) (r : LeafRequest) where
   no_lists : (key : List ℕ) → OnlyCounts s r key → counted_key s r ≡ Some key → (at len : ℕ) → NeedsLists v s ds p r at len → ⊥
-  no_lists key c is at len (inl h) = elim (subst (λ (ls : List Lookup). AsksLists v s ds p ls at len) (counted_lookups v s ds p r key is) h) [ inl no ↦ no | inr no ↦ no ]
+  no_lists key c is at len (inl h) = elim (subst (λ (ls : List Lookup). AsksLists v s ds p ls at len) (counted_lookups v s ds p r key is) h) [ inl never ↦ never | inr never ↦ never ]
   no_lists key c is at len (inr (inl (inl h))) = let bad : true ≡ false = sym c.unlimited ∙ h.limited in cc
   no_lists key c is at len (inr (inl (inr (inl h)))) = let few : length r.aggs ≡ 0 = ap length c.aggs in omega (arith, few, h.among.1)
   no_lists key c is at len (inr (inl (inr (inr h)))) = omega (arith, c.wanted, h.0)
   no_lists key c is at len (inr (inr h)) = omega (arith, c.wanted, h.0)
 
   block_alone : (key : List ℕ) → counted_key s r ≡ Some key → (at len : ℕ) → NeedsBlocks v s ds p r at len → IsBlockFor v s ds p key at len
-  block_alone key is at len h = elim (subst (λ (ls : List Lookup). AsksBlocks v s ds p ls at len) (counted_lookups v s ds p r key is) h) [ inl b ↦ b | inr no ↦ absurd no ]
+  block_alone key is at len h = elim (subst (λ (ls : List Lookup). AsksBlocks v s ds p ls at len) (counted_lookups v s ds p r key is) h) [ inl b ↦ b | inr never ↦ absurd never ]
 
   pub count_bound : (key : List ℕ) (number : Option ℕ) (blocks lists : List FileRange) → IsPartOf v s ds p → counted_key s r ≡ Some key → IsBlockOf v.footer.index key number → AreRangesOf (NeedsBlocks v s ds p r) blocks
       → AreRangesOf (NeedsLists v s ds p r) lists → total blocks + total lists ≤ option_map_or (λ n. length (area (block_terms (terms_of s ds p.keys) n))) number 0

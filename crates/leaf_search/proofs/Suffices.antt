@@ -1,6 +1,7 @@
 -- The ranges that a request needs suffice.
 use Rattle.std.proofs.Common.{◌≡◌, ◌≢◌, ℕ, zero, suc, ◌+◌, ◌-◌, ◌*◌, ◌<◌, ◌≤◌, ◌⊎◌, inl, inr, Bool, true, false, cond, List, [], ◌∷◌, ◌++◌, length, take, drop, get_or, slice_get, nat_lt, Option, Some, None, Result, Ok, Err, MatchResult, refl, ap, sym, ◌∙◌, subst, arith, length-append}
-use Rattle.std.specs.List.{AllByRecursion, Contains}
+use Rattle.std.specs.List.{AllByRecursion, flat_map}
+use Rattle.byte_fields.specs.Spelling.{eight}
 use Rattle.std.proofs.lemmas.Bool.{ltb-true, ltb-false, le-ltb}
 use Rattle.doc_value.specs.declared.schema.Schema.{Schema}
 use Rattle.doc_value.specs.declared.doc.DocField.{DocField}
@@ -9,7 +10,7 @@ use Rattle.split_bundle.specs.declared.part_view.PartView.{PartView}
 use Rattle.split_bundle.specs.declared.pieces.FilePiece.{FilePiece}
 use Rattle.split_bundle.specs.declared.placed.Placed.{Placed}
 use Rattle.split_bundle.specs.DocLending.{doc_place, starts_place}
-use Rattle.split_bundle.specs.Documents.{each_in_bytes, joined, placed_bytes}
+use Rattle.split_bundle.specs.Documents.{each_in_bytes, joined, placed_bytes, starts}
 use Rattle.split_bundle.specs.Files.{Parts}
 use Rattle.split_bundle.specs.Lending.{IsPartOf}
 use Rattle.split_bundle.specs.Pieces.{held_in, or_else, part_in}
@@ -17,7 +18,8 @@ use Rattle.split_bundle.proofs.DocStands.{each_at, length-each, length-starts}
 use Rattle.doc_sets.specs.declared.leaf_error.LeafError.{LeafError}
 use Rattle.doc_sets.specs.declared.leaf_error.LeafError.TheVariants as faults
 use Rattle.doc_sets.specs.Faults.{HasCause, IsMemory}
-use Rattle.doc_tallies.specs.Causes.{AsksDocument}
+use Rattle.doc_tallies.specs.Causes.{AsksDocument, AsksHits}
+use Rattle.doc_tallies.specs.Orders.{sort_field}
 use Rattle.leaf_search.specs.Answers.{AsksLeaf, passes}
 use Rattle.leaf_search.specs.FileRanges.{AreRangesOf, HasPart, SomeRange}
 use Rattle.leaf_search.specs.Needs.{AreHeld, NeedsBlocks, NeedsLists}
@@ -69,11 +71,11 @@ behind_there (Some x) b there e = cc
 
 held_there : (pieces : List FilePiece) (start len at n : ℕ) → start ≤ at → at + n ≤ start + len → held_in pieces start len ≢ none → held_in pieces at n ≢ none
 held_there [] start len at n from until there = there
-held_there (piece ∷ pieces) start len at n from until there = go (part_in piece start len) refl there
+held_there (piece ∷ pieces) start len at n from until there = go (part_in piece start len) refl there (λ h. held_there pieces start len at n from until h)
   where
-    go : (o : Option (List ℕ)) → part_in piece start len ≡ o → or_else o (held_in pieces start len) ≢ none → or_else (part_in piece at n) (held_in pieces at n) ≢ none
-    go None e h = behind_there (part_in piece at n) (held_in pieces at n) (held_there pieces start len at n from until h)
-    go (Some x) e h = else_there (part_in piece at n) (held_in pieces at n) (part_there piece start len at n from until (λ no. let bad : Some x ≡ none = sym e ∙ no in cc))
+    go : (o : Option (List ℕ)) → part_in piece start len ≡ o → or_else o (held_in pieces start len) ≢ none → (held_in pieces start len ≢ none → held_in pieces at n ≢ none) → or_else (part_in piece at n) (held_in pieces at n) ≢ none
+    go None e h behind = behind_there (part_in piece at n) (held_in pieces at n) (behind h)
+    go (Some x) e h behind = else_there (part_in piece at n) (held_in pieces at n) (part_there piece start len at n from until (λ no. let bad : Some x ≡ none = sym e ∙ no in cc))
 
 -- a part of a range that a piece holds
 pub range_there : (pieces : List FilePiece) (rs : List FileRange) (at n : ℕ) → AreHeld pieces rs → SomeRange (HasPart at n) rs → held_in pieces at n ≢ none
@@ -96,15 +98,13 @@ wider_part (r ∷ rs) start len at n from until (inr h) = inr (wider_part rs sta
 
 numbers_below : (test : List DocField → Bool) (n : ℕ) (ds : List Placed) (i k : ℕ) → i < length (numbers_from test n ds) → get_or (numbers_from test n ds) i k ≡ k → k < n + length ds
 numbers_below test n [] i k lt e = absurd (omega arith)
-numbers_below test n (d ∷ ds) i k lt e = go (test d.doc) i lt e
+numbers_below test n (d ∷ ds) i k lt e = go (test d.doc) i lt e (λ j less same. numbers_below test (suc n) ds j k less same)
   where
-    later : (j : ℕ) → j < length (numbers_from test (suc n) ds) → get_or (numbers_from test (suc n) ds) j k ≡ k → k < n + suc (length ds)
-    later j less same = let h = numbers_below test (suc n) ds j k less same in omega (arith, h)
-
-    go : (b : Bool) (j : ℕ) → j < length (cond b (n ∷ numbers_from test (suc n) ds) (numbers_from test (suc n) ds)) → get_or (cond b (n ∷ numbers_from test (suc n) ds) (numbers_from test (suc n) ds)) j k ≡ k → k < n + suc (length ds)
-    go true zero less same = omega (arith, same)
-    go true (suc j) less same = later j (omega arith) same
-    go false j less same = later j less same
+    go : (b : Bool) (j : ℕ) → j < length (cond b (n ∷ numbers_from test (suc n) ds) (numbers_from test (suc n) ds)) → get_or (cond b (n ∷ numbers_from test (suc n) ds) (numbers_from test (suc n) ds)) j k ≡ k
+        → ((m : ℕ) → m < length (numbers_from test (suc n) ds) → get_or (numbers_from test (suc n) ds) m k ≡ k → k < suc n + length ds) → k < n + suc (length ds)
+    go true zero less same later = omega (arith, same)
+    go true (suc j) less same later = let h = later j (omega arith) same in omega (arith, h)
+    go false j less same later = let h = later j less same in omega (arith, h)
 
 joined_within : (xs : List (List ℕ)) (i : ℕ) (x : List ℕ) → slice_get xs i ≡ Some x → length (joined (take i xs)) + length x ≤ length (joined xs)
 joined_within [] i x got = absurd (cc)
@@ -116,9 +116,9 @@ module _ (v : PartView) (s : Schema) (ds : List Placed) (p : Parts) (part : IsPa
   documents_long =
       let xs = each_in_bytes p.partitions ds in
       let same : v.footer.layout.sections.documents ≡ length p.documents = ap (λ (l : Sections). l.documents) part.footer.layout.sections in
-      let whole : length p.documents ≡ _ = ap length part.is_split.documents_are in
+      let whole : length p.documents ≡ length (flat_map eight (starts 0 xs) ++ joined xs) = ap length part.is_split.documents_are in
       let many = length-each p.partitions ds in
-      omega (arith, same, whole, length-append _ (joined xs), length-starts 0 xs, many)
+      omega (arith, same, whole, length-append (flat_map eight (starts 0 xs)) (joined xs), length-starts 0 xs, many)
 
   pub document_within : (number at len : ℕ) → number < length ds → AsksDocument p ds number at len → (4 ≤ at) × (at + len ≤ 4 + v.footer.layout.sections.documents)
   document_within number at len lt (inl h) = (omega (arith, h.0), omega (arith, h.0, h.1, lt, documents_long))
@@ -135,7 +135,7 @@ module _ (v : PartView) (s : Schema) (ds : List Placed) (p : Parts) (part : IsPa
   part_needed r blocks lists b l at len (inr (inr (inr (inl h)))) = inr (l.cover at len (inr (inl (inr (inl h)))))
   part_needed r blocks lists b l at len (inr (inr (inr (inr h)))) = hits h.wanted h.asks
     where
-      hits : 0 < r.wanted → _ → SomeRange (HasPart at len) blocks ⊎ SomeRange (HasPart at len) lists
+      hits : 0 < r.wanted → AsksHits v p ds (sort_field r.order) (numbers_of (passes s r) ds) at len → SomeRange (HasPart at len) blocks ⊎ SomeRange (HasPart at len) lists
       hits wanted (inl f) = inr (l.cover at len (inr (inl (inr (inr (wanted, f))))))
       hits wanted (inr d) =
           let number = numbers_below (passes s r) 0 ds d.among.0 d.number d.among.1 d.among.2 in

@@ -52,7 +52,8 @@ fn column_start(bare: &PartView, schema: &Schema, number: u32) -> u64
 
 // The first fast field behind a field, or how many fields there are.
 fn next_fast(schema: &Schema, number: usize) -> usize
-    requires { number < length schema.now.fields }
+    requires few { length schema.now.fields ≤ 256 }
+    requires field { number < length schema.now.fields }
     ensures behind { number < result }
     ensures within { result ≤ length schema.now.fields }
     ensures between { (k : ℕ) (f : Field) → number < k → k < result → slice_get schema.now.fields k ≡ Some f → f.fast ≡ false }
@@ -93,18 +94,18 @@ pub(crate) fn name_column(
     bare: &PartView,
     schema: &Schema,
     ranges: &mut Ranges,
-    number: u32,
+    number: usize,
 ) -> Result<(), AllocError>
     requires bare { bare.now.pieces ≡ [] }
     requires few { length schema.now.fields ≤ 256 }
     ensures { (documents : List Placed) (p : Parts) → IsPartOf bare.now schema.now documents p → IsFast schema.now number
         → OnOk result (AddsParts (AsksColumn bare.now p number) ranges.old ranges.new) }
 {
-    if number as usize >= schema.fields.len() {
+    if number >= schema.fields.len() {
         return Ok(());
     }
-    let start = column_start(bare, schema, number);
-    let end = column_end(bare, schema, number);
+    let start = column_start(bare, schema, number as u32);
+    let end = column_end(bare, schema, number as u32);
     name_part(ranges, start, end.saturating_sub(start))
 }
 
@@ -124,10 +125,7 @@ fn name_times(
         return Ok(());
     }
     match schema.timestamp {
-        Some(number) => match u32::try_from(number) {
-            Ok(number) => name_column(bare, schema, ranges, number),
-            Err(_) => Ok(()),
-        },
+        Some(number) => name_column(bare, schema, ranges, number),
         None => Ok(()),
     }
 }
@@ -154,7 +152,7 @@ fn name_fields(
         → OnOk result (AddsParts (AsksFields bare.now p aggs.now) ranges.old ranges.new) }
 {
     for named in aggs {
-        name_column(bare, schema, ranges, field_of(&named.agg))?;
+        name_column(bare, schema, ranges, field_of(&named.agg) as usize)?;
     }
     Ok(())
 }
@@ -175,7 +173,7 @@ fn name_order(
         return Ok(());
     }
     match request.order {
-        Some(order) => name_column(bare, schema, ranges, order.field),
+        Some(order) => name_column(bare, schema, ranges, order.field as usize),
         None => Ok(()),
     }
 }

@@ -6,17 +6,17 @@ use Rattle.doc_tallies.specs.Causes.{columns_start}
 use Rattle.leaf_search.proofs.ColumnParts.{columns_start_is, ends_before, has_fast}
 use Rattle.leaf_search.proofs.column_ranges.column_end.Goals as goal
 
-pub returns-then-next-schema : goal.returns-then-next-schema
-returns-then-next-schema c = λ documents p part fast.
+pub returns-then-next-len : goal.returns-then-next-len
+returns-then-next-len c = λ documents p part fast.
     let s = c.args.schema.now in
     let v = c.args.bare.now in
     let n = c.args.number in
     let next = c.next_fast-next.result in
-    let next_is_fast = c.next_fast-next.ensures.fast (omega (arith, c.if-next-schema.true, c.len.ensures)) in
+    let next_is_fast = c.next_fast-next.ensures.fast (omega (arith, c.if-next-len.true, c.len.ensures)) in
     let there = has_fast s next next_is_fast in
     let ends = ends_before s documents p n next part.is_split (has_fast s n fast) c.next_fast-next.ensures.behind c.next_fast-next.ensures.between in
     let start = c.column_start.ensures documents p part next_is_fast in
-    omega (arith, start, ends.next there.field there.here there.fast)
+    omega (arith, start, ends.to_next there.field there.here there.fast)
 
 pub returns : goal.returns
 returns c = λ documents p part fast.
@@ -25,7 +25,7 @@ returns c = λ documents p part fast.
     let n = c.args.number in
     let next = c.next_fast-next.result in
     let ends = ends_before s documents p n next part.is_split (has_fast s n fast) c.next_fast-next.ensures.behind c.next_fast-next.ensures.between in
-    let last = ends.last (omega (arith, c.if-next-schema.false, c.len.ensures)) in
+    let last = ends.to_end (omega (arith, c.if-next-len.false, c.len.ensures)) in
     let sections = c.sections-sections.ensures ∙ ap (λ (g : Footer). g.layout.sections) c.footer.ensures in
     let documents_are = ap (λ (l : Sections). l.documents) sections in
     let dictionary_is = ap (λ (l : Sections). l.dictionary) sections in

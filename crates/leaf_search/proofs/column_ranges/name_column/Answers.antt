@@ -7,10 +7,10 @@ use Rattle.leaf_search.proofs.ColumnParts.{column_inside, column_named, columns_
 use Rattle.leaf_search.proofs.RangeLists.{At}
 use Rattle.leaf_search.proofs.column_ranges.name_column.Goals as goal
 
-pub returns-then-number-schema : goal.returns-then-number-schema
-returns-then-number-schema c = λ documents p part fast.
+pub returns-then-number-len : goal.returns-then-number-len
+returns-then-number-len c = λ documents p part fast.
     let lt = fast_within c.args.schema.now c.args.number fast in
-    absurd (omega (arith, lt, c.if-number-schema.true, c.len.ensures))
+    absurd (omega (arith, lt, c.if-number-len.true, c.len.ensures))
 
 pub returns : goal.returns
 returns c = λ documents p part fast.

@@ -39,7 +39,7 @@ returns-in-Some-clause-there c = λ documents p part all ask.
     by_parts (λ a. (a.count ≡ length (posting_list s documents key)) × (a.hits ≡ []) × (documents_in a.partial ≡ a.count)) (IsAnswerOf s r documents) (HasCause (IsBlockFor v s documents p key) v.pieces) IsMemory
     c.counted.result
     (λ a e h. is_counted s r documents key a part.is_split.are_documents c.requires.fields ask (counts s r key it) h.0 h.1 h.2 (subst (λ x. IfOk x (λ y. IsPartialOf r.aggs y.partial)) e c.counted.ensures.partial))
-    (λ e cause. block_memory v s documents p key e part all cause)
+    (λ e cause. block_memory v s documents p r key e part all cause)
     (c.counted.ensures.only s documents p (searched v s documents p part))
 
 pub returns-in-None-clause-only : goal.returns-in-None-clause-only

@@ -13,4 +13,4 @@ look_for-returns-in-And t c =
 pub look_for-returns-in-Or : goal.look_for-returns-in-Or
 look_for-returns-in-Or t c =
     let same : view c.args.query.now ≡ Or (view_all c.as_slice-in-Or.result.now) = search (rules, row_all, the_lemmas) in
-    subst (λ w. OnOk c.look_for_each.result (c.look_for_each.new.lookups ≡ c.args.lookups.now ++ lookups_of c.args.schema.now w)) (sym same) c.look_for_each.ensures
+    subst (λ w. OnOk c.look_for_each-in-Or.result (c.look_for_each-in-Or.new.lookups ≡ c.args.lookups.now ++ lookups_of c.args.schema.now w)) (sym same) c.look_for_each-in-Or.ensures
