@@ -15,7 +15,7 @@ use Rattle.text_tokens.specs.declared.tokens.Token.{Token}
 use Rattle.doc_sets.specs.declared.leaf_error.LeafError.{LeafError}
 use Rattle.doc_sets.specs.declared.leaf_error.LeafError.TheVariants as faults
 use Rattle.doc_sets.specs.Faults.{HasCause, IsMemory, fault_of}
-use Rattle.doc_sets.specs.Needed.{AsksKey, AsksKeys, LacksKeys, token_keys, postings_start, positions_start}
+use Rattle.doc_sets.specs.Needed.{AsksKey, AsksOneOf, AsksPlaces, IsBlockFor, IsListFor, LacksKeys, LacksPlaces, token_keys, postings_start, positions_start}
 
 -- a cause among some parts is one among more
 pub cause_wider : (A B : ℕ → ℕ → Type 0) (pieces : List FilePiece) (e : LeafError) → ((at len : ℕ) → A at len → B at len) → HasCause A pieces e → HasCause B pieces e
@@ -34,33 +34,70 @@ missing A pieces at len fault e is asked same =
     let this : e ≡ faults.Missing at = same ∙ ap fault_of is.0 in
     subst (λ (z : LeafError). HasCause A pieces z) (sym this) (len, asked, is.1)
 
+-- what is asked for of a token is asked for of the tokens
+token_asked : (asked : List ℕ → ℕ → ℕ → Type 0) (n i : ℕ) (x : Token) (ts : List Token) → i < length ts → x ≡ get_or ts i x → (at len : ℕ) → AsksOneOf asked (field_key n x.text ∷ []) at len → AsksOneOf asked (token_keys n ts) at len
+token_asked asked n i x [] lt e at len h = absurd (omega arith)
+token_asked asked n zero x (t ∷ ts) lt e at len (inl h) = inl (subst (λ (y : Token). asked (field_key n y.text) at len) e h)
+token_asked asked n zero x (t ∷ ts) lt e at len (inr none) = absurd none
+token_asked asked n (suc i) x (t ∷ ts) lt e at len h = inr (token_asked asked n i x ts (omega arith) e at len h)
+
+pub token_lacks : (asked : List ℕ → ℕ → ℕ → Type 0) (pieces : List FilePiece) (n i : ℕ) (x : Token) (ts : List Token) (e : LeafError) → i < length ts → x ≡ get_or ts i x → HasCause (AsksOneOf asked (field_key n x.text ∷ [])) pieces e
+    → HasCause (AsksOneOf asked (token_keys n ts)) pieces e
+token_lacks asked pieces n i x ts e lt is h = cause_wider (AsksOneOf asked (field_key n x.text ∷ [])) (AsksOneOf asked (token_keys n ts)) pieces e (token_asked asked n i x ts lt is) h
+
+-- a fault of a reader that lacks a part which is asked for
+pub part_lacks : {X : Type 0} (good : X → Type 0) (asked : ℕ → ℕ → Type 0) (pieces : List FilePiece) (at len : ℕ) (fault : SplitError) (r : Result X LeafError) → IsErrAnd r (λ f. f ≡ fault_of fault) → IsMissing pieces at len fault → asked at len
+    → MatchResult r good (HasCause asked pieces)
+part_lacks good asked pieces at len fault (Ok x) h is part = absurd h
+part_lacks good asked pieces at len fault (Err y) h is part = missing asked pieces at len fault y is part h
+
 module _ (v : PartView) (s : Schema) (ds : List Placed) (p : Parts) where
-  -- what is asked for of a token is asked for of the tokens
-  token_asked : (n i : ℕ) (x : Token) (ts : List Token) → i < length ts → x ≡ get_or ts i x → (at len : ℕ) → AsksKeys v s ds p (field_key n x.text ∷ []) at len → AsksKeys v s ds p (token_keys n ts) at len
-  token_asked n i x [] lt e at len asked = absurd (omega arith)
-  token_asked n zero x (t ∷ ts) lt e at len (inl asked) = inl (subst (λ y. AsksKey v s ds p (field_key n y.text) at len) e asked)
-  token_asked n zero x (t ∷ ts) lt e at len (inr none) = absurd none
-  token_asked n (suc i) x (t ∷ ts) lt e at len asked = inr (token_asked n i x ts (omega arith) e at len asked)
+  the_list : (key : List ℕ) (info : TermInfo) → lookup key (terms_of s ds p.keys) ≡ Some info → IsListFor v s ds p key (postings_start v.footer.layout.sections + info.postings) info.postings_len
+  the_list key info found = record { info = info; is_term = found; at_is = refl; len_is = refl }
 
-  pub token_lacks : (n i : ℕ) (x : Token) (ts : List Token) (e : LeafError) → i < length ts → x ≡ get_or ts i x → LacksKeys v s ds p (field_key n x.text ∷ []) e → LacksKeys v s ds p (token_keys n ts) e
-  token_lacks n i x ts e lt is h = cause_wider (AsksKeys v s ds p (field_key n x.text ∷ [])) (AsksKeys v s ds p (token_keys n ts)) v.pieces e (token_asked n i x ts lt is) h
+  -- a fault of a cursor that gives no positions
+  pub list_lacks : {X : Type 0} (good : X → Type 0) (key : List ℕ) (info : TermInfo) (fault : SplitError) (r : Result X LeafError) → lookup key (terms_of s ds p.keys) ≡ Some info → IsErrAnd r (λ f. f ≡ fault_of fault)
+      → IsMissing v.pieces (postings_start v.footer.layout.sections + info.postings) info.postings_len fault → MatchResult r good (HasCause (IsListFor v s ds p key) v.pieces)
+  list_lacks good key info fault r found h m = part_lacks good (IsListFor v s ds p key) v.pieces (postings_start v.footer.layout.sections + info.postings) info.postings_len fault r h m (the_list key info found)
 
-  -- a fault of a reader that lacks a part which is asked for of a key
-  pub key_lacks : {X : Type 0} (good : X → Type 0) (key : List ℕ) (at len : ℕ) (fault : SplitError) (r : Result X LeafError) → IsErrAnd r (λ f. f ≡ fault_of fault) → IsMissing v.pieces at len fault → AsksKey v s ds p key at len
-      → MatchResult r good (LacksKeys v s ds p (key ∷ []))
-  key_lacks good key at len fault (Ok x) h is asked = absurd h
-  key_lacks good key at len fault (Err y) h is asked = missing (AsksKeys v s ds p (key ∷ [])) v.pieces at len fault y is (inl asked) h
+  pub documents_lack : {X : Type 0} (good : X → Type 0) (key : List ℕ) (info : TermInfo) (fault : SplitError) (r : Result X LeafError) → lookup key (terms_of s ds p.keys) ≡ Some info → IsErrAnd r (λ f. f ≡ fault_of fault)
+      → IsMissing v.pieces (postings_start v.footer.layout.sections + info.postings) info.postings_len fault → MatchResult r good (LacksKeys v s ds p (key ∷ []))
+  documents_lack good key info fault r found h m =
+      part_lacks good (AsksOneOf (AsksKey v s ds p) (key ∷ [])) v.pieces (postings_start v.footer.layout.sections + info.postings) info.postings_len fault r h m (inl (inr (the_list key info found)))
 
-  -- a fault of a cursor
+  -- a fault of a cursor with positions
   pub cursor_lacks : {X : Type 0} (good : X → Type 0) (key : List ℕ) (info : TermInfo) (positions : Bool) (fault : SplitError) (r : Result X LeafError) → lookup key (terms_of s ds p.keys) ≡ Some info → positions ≡ keeps_places s key
       → IsErrAnd r (λ f. f ≡ fault_of fault)
       → (IsMissing v.pieces (postings_start v.footer.layout.sections + info.postings) info.postings_len fault ⊎ ((positions ≡ true) × IsMissing v.pieces (positions_start v.footer.layout.sections + info.positions) info.positions_len fault))
-      → MatchResult r good (LacksKeys v s ds p (key ∷ []))
-  cursor_lacks good key info positions fault r found flag h (inl m) = key_lacks good key (postings_start v.footer.layout.sections + info.postings) info.postings_len fault r h m (inr (inl (record { info = info; is_term = found; at_is = refl; len_is = refl })))
-  cursor_lacks good key info positions fault r found flag h (inr m) = key_lacks good key (positions_start v.footer.layout.sections + info.positions) info.positions_len fault r h m.1 (inr (inr (record { kept = sym flag ∙ m.0; info = info; is_term = found; at_is = refl; len_is = refl })))
+      → MatchResult r good (LacksPlaces v s ds p (key ∷ []))
+  cursor_lacks good key info positions fault r found flag h (inl m) =
+      part_lacks good (AsksOneOf (AsksPlaces v s ds p) (key ∷ [])) v.pieces (postings_start v.footer.layout.sections + info.postings) info.postings_len fault r h m (inl (inr (inl (the_list key info found))))
+  cursor_lacks good key info positions fault r found flag h (inr m) =
+      part_lacks good (AsksOneOf (AsksPlaces v s ds p) (key ∷ [])) v.pieces (positions_start v.footer.layout.sections + info.positions) info.positions_len fault r h m.1
+      (inl (inr (inr (record { kept = sym flag ∙ m.0; info = info; is_term = found; at_is = refl; len_is = refl }))))
+
+  -- who looks up places asks for what who looks up documents does
+  one_wider : (key : List ℕ) (at len : ℕ) → AsksKey v s ds p key at len → AsksPlaces v s ds p key at len
+  one_wider key at len (inl b) = inl b
+  one_wider key at len (inr l) = inr (inl l)
+
+  pub places_wider : (keys : List (List ℕ)) (at len : ℕ) → AsksOneOf (AsksKey v s ds p) keys at len → AsksOneOf (AsksPlaces v s ds p) keys at len
+  places_wider [] at len h = h
+  places_wider (key ∷ keys) at len (inl h) = inl (one_wider key at len h)
+  places_wider (key ∷ keys) at len (inr h) = inr (places_wider keys at len h)
+
+  pub keys_lack_places : (keys : List (List ℕ)) (e : LeafError) → LacksKeys v s ds p keys e → LacksPlaces v s ds p keys e
+  keys_lack_places keys e h = cause_wider (AsksOneOf (AsksKey v s ds p) keys) (AsksOneOf (AsksPlaces v s ds p) keys) v.pieces e (places_wider keys) h
+
+  -- a block that no piece has is lacked by who looks up documents or places
+  pub block_lacks : (key : List ℕ) (e : LeafError) → HasCause (IsBlockFor v s ds p key) v.pieces e → LacksKeys v s ds p (key ∷ []) e
+  block_lacks key e h = cause_wider (IsBlockFor v s ds p key) (AsksOneOf (AsksKey v s ds p) (key ∷ [])) v.pieces e (λ at len b. inl (inl b)) h
+
+  pub block_lacks_places : (key : List ℕ) (e : LeafError) → HasCause (IsBlockFor v s ds p key) v.pieces e → LacksPlaces v s ds p (key ∷ []) e
+  block_lacks_places key e h = cause_wider (IsBlockFor v s ds p key) (AsksOneOf (AsksPlaces v s ds p) (key ∷ [])) v.pieces e (λ at len b. inl (inl b)) h
 
   -- places that were given, or want of memory
-  pub places_given : (Z : Type 0) (r : Result (Vec ℕ Z) LeafError) (left places : List ℕ) (keys : List (List ℕ)) → left ≡ places → MatchResult r (λ v. v.items ≡ left) IsMemory → MatchResult r (λ v. v.items ≡ places) (LacksKeys v s ds p keys)
+  pub places_given : (Z : Type 0) (r : Result (Vec ℕ Z) LeafError) (left places : List ℕ) (keys : List (List ℕ)) → left ≡ places → MatchResult r (λ v. v.items ≡ left) IsMemory → MatchResult r (λ v. v.items ≡ places) (LacksPlaces v s ds p keys)
   places_given Z (Ok v) left places keys e h = h ∙ e
   places_given Z (Err (faults.Memory a)) left places keys e h = tt
   places_given Z (Err (faults.Missing at)) left places keys e h = absurd h

@@ -14,6 +14,7 @@ pub mod Numbers
 pub mod Walks
 pub mod SetLemmas
 pub mod Causes
+pub mod Looked
 pub mod Dictionary
 pub mod Steps
 pub mod WalkLaws

@@ -1,8 +1,7 @@
 -- A view of a split can be searched.
-use Rattle.std.proofs.Common.{◌≡◌, ℕ, ℤ, pos, negsuc, ◌+◌, ◌*◌, ◌^◌, ◌<◌, List, [], ◌∷◌, arith, w64}
+use Rattle.std.proofs.Common.{ℤ, pos, negsuc, ◌^◌, ◌<◌, List, [], ◌∷◌, arith, w64}
 use Rattle.std.specs.List.{AllByRecursion}
 use Rattle.std.specs.Int.RustNames.{FitsSigned}
-use Rattle.std.proofs.lemmas.Int.{ints}
 use Rattle.byte_fields.specs.Spelling.{zigzag}
 use Rattle.doc_value.specs.declared.schema.Field.{Field}
 use Rattle.doc_value.specs.declared.schema.Schema.{Schema}

@@ -1,5 +1,5 @@
 -- What is found for the tokens or the value of a text is what the text asks for.
-use Rattle.std.proofs.Common.{◌≡◌, ℕ, zero, suc, ◌+◌, ◌<◌, ◌≤◌, ◌==◌, ◌⊎◌, inl, inr, Bool, true, false, not, ◌&&◌, ◌||◌, cond, List, [], ◌∷◌, ◌++◌, length, drop, get_or, slice_get, Option, Some, None, option_map, Result, MatchResult, refl, ap, sym, ◌∙◌, subst, arith}
+use Rattle.std.proofs.Common.{◌≡◌, ℕ, zero, suc, ◌+◌, ◌<◌, ◌==◌, ◌⊎◌, inl, inr, Bool, true, false, not, ◌&&◌, ◌||◌, cond, List, [], ◌∷◌, length, drop, get_or, Option, Some, None, option_map, Result, MatchResult, refl, ap, sym, ◌∙◌, subst, arith}
 use Rattle.std.proofs.lemmas.List.{drop_more}
 use Rattle.doc_value.specs.declared.schema.Field.{Field}
 use Rattle.doc_value.specs.declared.schema.Kind.{Kind}
@@ -19,10 +19,12 @@ use Rattle.split_bundle.specs.declared.part_view.PartView.{PartView}
 use Rattle.split_bundle.specs.Files.{Parts}
 use Rattle.doc_sets.specs.declared.bits.DocBits.{DocBits}
 use Rattle.doc_sets.specs.declared.leaf_error.LeafError.{LeafError}
-use Rattle.doc_sets.specs.Needed.{AsksKeys, LacksKeys, token_keys}
+use Rattle.doc_sets.specs.Asking.{AsksLookups, LacksLookups}
+use Rattle.doc_sets.specs.Needed.{token_keys}
 use Rattle.doc_sets.specs.Sets.{IsSetOf}
-use Rattle.doc_sets.specs.Texts.{CanPlace, CanPlaceEach, item_keys, text_keys, value_keys}
+use Rattle.doc_sets.specs.Texts.{CanPlace, CanPlaceEach, item_lookups, lookups_for, text_keys, text_lookups, value_keys}
 use Rattle.doc_sets.proofs.Causes.{cause_wider}
+use Rattle.doc_sets.proofs.Looked.{lookups_end, lookups_front}
 
 -- the value that a text spells is of the kind
 pub spelled_kind : (k : Kind) (text : List ℕ) (v : Value) → spelled k text ≡ Some v → IsOfKind k v
@@ -62,7 +64,7 @@ some_tokens xs ts same h = subst (λ (l : List Token). 0 < length l) same (go xs
 
 module _ (v : PartView) (s : Schema) (ds : List Placed) (p : Parts) (n : ℕ) (f : Field) where
   abbrev Finds : (List DocField → Bool) → List (List ℕ) → Result DocBits LeafError → Type 0
-  Finds test keys r = MatchResult r (IsSetOf test ds) (LacksKeys v s ds p keys)
+  Finds test keys r = MatchResult r (IsSetOf test ds) (LacksLookups v s ds p (lookups_for keys))
 
   abbrev Quoted : List ℕ → Bool → Result DocBits LeafError → Type 0
   Quoted text b r =
@@ -112,22 +114,13 @@ module _ (v : PartView) (s : Schema) (ds : List Placed) (p : Parts) (n : ℕ) (f
 
   -- ---- members of a set
 
-  asks_front : (xs ys : List (List ℕ)) (at len : ℕ) → AsksKeys v s ds p xs at len → AsksKeys v s ds p (xs ++ ys) at len
-  asks_front [] ys at len asked = absurd asked
-  asks_front (x ∷ xs) ys at len (inl asked) = inl asked
-  asks_front (x ∷ xs) ys at len (inr asked) = inr (asks_front xs ys at len asked)
-
-  asks_behind : (xs ys : List (List ℕ)) (at len : ℕ) → AsksKeys v s ds p ys at len → AsksKeys v s ds p (xs ++ ys) at len
-  asks_behind [] ys at len asked = asked
-  asks_behind (x ∷ xs) ys at len asked = inr (asks_behind xs ys at len asked)
-
-  item_asks : (i : ℕ) (x : Item) (items : List Item) → i < length items → x ≡ get_or items i x → (at len : ℕ) → AsksKeys v s ds p (text_keys f n x.text) at len → AsksKeys v s ds p (item_keys f n items) at len
+  item_asks : (i : ℕ) (x : Item) (items : List Item) → i < length items → x ≡ get_or items i x → (at len : ℕ) → AsksLookups v s ds p (text_lookups f n x.text) at len → AsksLookups v s ds p (item_lookups f n items) at len
   item_asks i x [] lt e at len asked = absurd (omega arith)
-  item_asks zero x (y ∷ ys) lt e at len asked = asks_front (text_keys f n y.text) (item_keys f n ys) at len (subst (λ (z : Item). AsksKeys v s ds p (text_keys f n z.text) at len) e asked)
-  item_asks (suc i) x (y ∷ ys) lt e at len asked = asks_behind (text_keys f n y.text) (item_keys f n ys) at len (item_asks i x ys (omega arith) e at len asked)
+  item_asks zero x (y ∷ ys) lt e at len asked = lookups_front v s ds p (text_lookups f n y.text) (item_lookups f n ys) at len (subst (λ (z : Item). AsksLookups v s ds p (text_lookups f n z.text) at len) e asked)
+  item_asks (suc i) x (y ∷ ys) lt e at len asked = lookups_end v s ds p (text_lookups f n y.text) (item_lookups f n ys) at len (item_asks i x ys (omega arith) e at len asked)
 
-  pub item_lacks : (i : ℕ) (x : Item) (items : List Item) (e : LeafError) → i < length items → x ≡ get_or items i x → LacksKeys v s ds p (text_keys f n x.text) e → LacksKeys v s ds p (item_keys f n items) e
-  item_lacks i x items e lt is h = cause_wider (AsksKeys v s ds p (text_keys f n x.text)) (AsksKeys v s ds p (item_keys f n items)) v.pieces e (item_asks i x items lt is) h
+  pub item_lacks : (i : ℕ) (x : Item) (items : List Item) (e : LeafError) → i < length items → x ≡ get_or items i x → LacksLookups v s ds p (text_lookups f n x.text) e → LacksLookups v s ds p (item_lookups f n items) e
+  item_lacks i x items e lt is h = cause_wider (AsksLookups v s ds p (text_lookups f n x.text)) (AsksLookups v s ds p (item_lookups f n items)) v.pieces e (item_asks i x items lt is) h
 
 pub can_item : (f : Field) (i : ℕ) (x : Item) (items : List Item) → i < length items → x ≡ get_or items i x → CanPlaceEach f items → x.quoted ≡ true → CanPlace f x.text
 can_item f i x [] lt e can = absurd (omega arith)

@@ -1,10 +1,8 @@
 -- What a walk finds is what a prefix or a range asks for.
-use Rattle.std.proofs.Common.{◌≡◌, ℕ, ◌<◌, Bool, true, false, ◌&&◌, ◌||◌, List, [], ◌∷◌, nat_eq, slice_get, Some, Result, MatchResult, refl, ap, sym, ◌∙◌, subst, arith}
-use Rattle.std.specs.List.{AllByRecursion, starts_with}
+use Rattle.std.proofs.Common.{◌≡◌, ℕ, ◌<◌, Bool, true, false, ◌&&◌, List, [], nat_eq, slice_get, Some, Result, MatchResult, refl, sym, ◌∙◌, subst, arith}
+use Rattle.std.specs.List.{starts_with}
 use Rattle.doc_value.specs.declared.schema.Field.{Field}
-use Rattle.doc_value.specs.declared.schema.Kind.{Kind}
 use Rattle.doc_value.specs.declared.schema.Schema.{Schema}
-use Rattle.doc_value.specs.declared.doc.DocField.{DocField}
 use Rattle.doc_value.specs.Documents.{IsOfSchema}
 use Rattle.query_ast.specs.declared.query.Edge.{Edge}
 use Rattle.query_ast.specs.Meaning.{values_in, is_text, some_has_prefix, between}

@@ -1,10 +1,9 @@
 -- Sets that grow along a walk.
-use Rattle.std.proofs.Common.{◌≡◌, ℕ, zero, suc, ◌+◌, ◌-◌, ◌<◌, ◌≤◌, ◌⊎◌, inl, inr, Bool, true, false, ◌&&◌, ◌||◌, List, [], ◌∷◌, length, drop, filter, nat_eq, Some, None, Option, Result, Ok, Err, IsOk, MatchResult, refl, ap, sym, ◌∙◌, subst, arith}
+use Rattle.std.proofs.Common.{◌≡◌, ℕ, zero, suc, ◌+◌, ◌<◌, ◌≤◌, inl, inr, Bool, true, false, ◌&&◌, ◌||◌, List, [], ◌∷◌, length, drop, filter, nat_eq, Some, None, Option, Result, Ok, Err, IsOk, MatchResult, refl, ap, sym, ◌∙◌, subst, arith}
 use Rattle.std.specs.List.{AllByRecursion, starts_with}
 use Rattle.std.specs.Borrow.{Bor}
 use Rattle.doc_value.specs.declared.doc.DocField.{DocField}
 use Rattle.doc_value.specs.declared.schema.Schema.{Schema}
-use Rattle.byte_fields.specs.declared.corrupt.Corrupt.{Corrupt}
 use Rattle.term_dict.specs.declared.term.Term.{Term}
 use Rattle.term_dict.specs.declared.term.TermInfo.{TermInfo}
 use Rattle.term_dict.specs.Bounds.{AreBlocks, joined}
@@ -21,11 +20,11 @@ use Rattle.doc_sets.specs.declared.leaf_error.LeafError.{LeafError}
 use Rattle.doc_sets.specs.declared.wanted.Wanted.{Wanted}
 use Rattle.doc_sets.specs.Bits.{has}
 use Rattle.doc_sets.specs.Faults.{HasCause}
-use Rattle.doc_sets.specs.Needed.{AsksKey, AsksKeys, LacksKeys}
+use Rattle.doc_sets.specs.Needed.{IsListFor}
 use Rattle.doc_sets.specs.Sets.{holds_at, is_in, IsSetOf}
-use Rattle.doc_sets.specs.Walks.{takes, has_some_of, begun_in, IsListed, AsksIf, AsksTerms, AsksBlock, AsksWalk}
+use Rattle.doc_sets.specs.Walks.{takes, has_some_of, begun_in, IsListed, AsksIf, AsksTerms, AsksBlock, AsksWalk, IsWalked}
 use Rattle.doc_sets.proofs.Causes.{cause_wider}
-use Rattle.doc_sets.proofs.Numbers.{holds_or, holds_same, holds_false, in_posting_list}
+use Rattle.doc_sets.proofs.Numbers.{holds_or, in_posting_list}
 
 or_false : (a : Bool) → a || false ≡ a
 or_false true = refl
@@ -61,17 +60,16 @@ result_alike_sets P (Err e) test more ds same h = h
 
 module _ (v : PartView) (s : Schema) (ds : List Placed) (p : Parts) (w : Wanted) where
   -- a key that is wanted
-  wanted_asks : (key : List ℕ) → takes w key ≡ true → (at len : ℕ) → AsksKeys v s ds p (key ∷ []) at len → AsksIf v s ds p w key at len
-  wanted_asks key e at len (inl asked) = (e, asked)
-  wanted_asks key e at len (inr none) = absurd none
+  wanted_asks : (key : List ℕ) → takes w key ≡ true → (at len : ℕ) → IsListFor v s ds p key at len → AsksIf v s ds p w key at len
+  wanted_asks key e at len asked = (e, asked)
 
   pub wanted_added : {X : Type 0} (r : Result X LeafError) (key : List ℕ) (test : List DocField → Bool) (b : DocBits) → takes w key ≡ true
-      → MatchResult r (λ x. IsSetOf (λ d. test d || has_key key (keys_of s d)) ds b) (LacksKeys v s ds p (key ∷ []))
+      → MatchResult r (λ x. IsSetOf (λ d. test d || has_key key (keys_of s d)) ds b) (HasCause (IsListFor v s ds p key) v.pieces)
       → MatchResult r (λ x. IsSetOf (λ d. test d || (takes w key && has_key key (keys_of s d))) ds b) (HasCause (AsksIf v s ds p w key) v.pieces)
   wanted_added r key test b e h =
-      result_alike (LacksKeys v s ds p (key ∷ [])) (HasCause (AsksIf v s ds p w key) v.pieces) r (λ d. test d || has_key key (keys_of s d)) (λ d. test d || (takes w key && has_key key (keys_of s d))) ds b
+      result_alike (HasCause (IsListFor v s ds p key) v.pieces) (HasCause (AsksIf v s ds p w key) v.pieces) r (λ d. test d || has_key key (keys_of s d)) (λ d. test d || (takes w key && has_key key (keys_of s d))) ds b
       (λ d. ap (λ t. test d || (t && has_key key (keys_of s d))) (sym e))
-      (λ fault cause. cause_wider (AsksKeys v s ds p (key ∷ [])) (AsksIf v s ds p w key) v.pieces fault (wanted_asks key e) cause) h
+      (λ fault cause. cause_wider (IsListFor v s ds p key) (AsksIf v s ds p w key) v.pieces fault (wanted_asks key e) cause) h
 
   pub unwanted_kept : (key : List ℕ) (test : List DocField → Bool) (b : DocBits) → takes w key ≡ false → IsSetOf test ds b → IsSetOf (λ d. test d || (takes w key && has_key key (keys_of s d))) ds b
   unwanted_kept key test b e h = set_alike test (λ d. test d || (takes w key && has_key key (keys_of s d))) ds b (λ d. sym (ap (λ t. test d || (t && has_key key (keys_of s d))) e ∙ or_false (test d))) h
@@ -96,11 +94,15 @@ module _ (v : PartView) (s : Schema) (ds : List Placed) (p : Parts) (w : Wanted)
       result_alike (HasCause Some v.pieces) (HasCause All v.pieces) r more more ds b (λ d. refl) (λ e cause. cause_wider Some All v.pieces e (λ at len asked. inr asked) cause) h
 
   -- what is asked for of a block of a walk is asked for of the walk
+  of_walk : (prefix : List ℕ) (number : ℕ) → IsWalked v prefix number → (at len : ℕ) → AsksBlock v s ds p prefix w number at len → AsksWalk v s ds p prefix w at len
+  of_walk prefix number walked at len (inl b) = inl (number, walked, b)
+  of_walk prefix number walked at len (inr l) = inr (number, walked, l)
+
   pub walk_lacks : (prefix : List ℕ) (start end number : ℕ) (e : LeafError) → AreBlocks v.footer.index prefix (λ first. is_below first prefix || starts_with nat_eq first prefix) start end → start ≤ number → number < end
       → HasCause (AsksBlock v s ds p prefix w number) v.pieces e → HasCause (AsksWalk v s ds p prefix w) v.pieces e
   walk_lacks prefix start end number e blocks from until cause =
       cause_wider (AsksBlock v s ds p prefix w number) (AsksWalk v s ds p prefix w) v.pieces e
-      (λ at len asked. record { start = start; end = end; blocks = blocks; number = number; from = from; until = until; asks = asked }) cause
+      (of_walk prefix number (record { start = start; end = end; blocks = blocks; from = from; until = until })) cause
 
 -- a term that a range gave is the first of those that it was to lend
 pub record IsGiven (lent : List Term) (key : List ℕ) (info : TermInfo) : Type 0 where

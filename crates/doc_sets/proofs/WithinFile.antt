@@ -1,7 +1,7 @@
 -- What is asked for is within the file.
-use Rattle.std.proofs.Common.{◌≡◌, ℕ, zero, suc, ◌+◌, ◌*◌, ◌≤◌, ◌<◌, inl, inr, List, [], ◌∷◌, ◌++◌, length, take, drop, Some, None, filter, refl, sym, ap, ◌∙◌, subst, arith, length-append}
+use Rattle.std.proofs.Common.{◌≡◌, ℕ, zero, suc, ◌+◌, ◌*◌, ◌≤◌, inl, inr, List, [], ◌∷◌, length, take, drop, ap, arith, length-append}
 use Rattle.doc_value.specs.declared.schema.Schema.{Schema}
-use Rattle.term_dict.specs.Terms.{area, term_bytes, lookup}
+use Rattle.term_dict.specs.Terms.{area, term_bytes}
 use Rattle.term_dict.specs.Bounds.{block_terms}
 use Rattle.term_dict.specs.declared.term.Term.{Term}
 use Rattle.split_bundle.specs.declared.placed.Placed.{Placed}
@@ -11,7 +11,6 @@ use Rattle.split_bundle.specs.declared.pieces.Section.TheVariants.{Dictionary, P
 use Rattle.split_bundle.specs.Files.{Parts, file_bytes}
 use Rattle.split_bundle.specs.Lending.{IsPartOf, block_place}
 use Rattle.split_bundle.specs.Lists.{terms_of}
-use Rattle.split_bundle.specs.Pieces.{held_in}
 use Rattle.split_bundle.specs.Wholes.{HaveAll}
 use Rattle.split_bundle.proofs.Infos.{info_found}
 use Rattle.split_bundle.proofs.SectionBytes.{section_within}
@@ -19,8 +18,11 @@ use Rattle.doc_sets.specs.declared.leaf_error.LeafError.{LeafError}
 use Rattle.doc_sets.specs.declared.leaf_error.LeafError.TheVariants as faults
 use Rattle.doc_sets.specs.declared.wanted.Wanted.{Wanted}
 use Rattle.doc_sets.specs.Faults.{HasCause, IsMemory}
-use Rattle.doc_sets.specs.Needed.{AsksKey, AsksKeys, IsBlockFor, IsListFor, ArePlacesFor, postings_start, positions_start}
-use Rattle.doc_sets.specs.Walks.{AsksBlock, AsksTerms, AsksWalk, IsBlock, begun_in}
+use Rattle.doc_sets.specs.declared.dictionary_lookup.Lookup.{Lookup}
+use Rattle.doc_sets.specs.declared.dictionary_lookup.Lookup.TheVariants.{Count, Documents, Places, Walk}
+use Rattle.doc_sets.specs.Asking.{AsksBlockOf, AsksListOf, AsksLookups}
+use Rattle.doc_sets.specs.Needed.{IsListFor, ArePlacesFor, postings_start, positions_start}
+use Rattle.doc_sets.specs.Walks.{AsksTerms, begun_in}
 
 take_area : (m : ℕ) (ts : List Term) → length (area (take m ts)) ≤ length (area ts)
 take_area zero ts = omega arith
@@ -28,7 +30,7 @@ take_area (suc m) [] = omega arith
 take_area (suc m) (t ∷ ts) = let h = take_area m ts in omega (arith, h, length-append (term_bytes t) (area (take m ts)), length-append (term_bytes t) (area ts))
 
 -- some terms behind others are within their area
-area_within : (k m : ℕ) (ts : List Term) → length (area (take k ts)) + length (area (take m (drop k ts))) ≤ length (area ts)
+pub area_within : (k m : ℕ) (ts : List Term) → length (area (take k ts)) + length (area (take m (drop k ts))) ≤ length (area ts)
 area_within zero m ts = let h = take_area m ts in omega (arith, h)
 area_within (suc k) m [] = let h = take_area m [] in omega (arith, h)
 area_within (suc k) m (t ∷ ts) = let h = area_within k m ts in omega (arith, h, length-append (term_bytes t) (area (take k ts)), length-append (term_bytes t) (area ts))
@@ -55,27 +57,31 @@ module _ (v : PartView) (s : Schema) (ds : List Placed) (p : Parts) (part : IsPa
       let start : positions_start v.footer.layout.sections ≡ 4 + length p.documents + length p.dictionary + length p.postings = ap positions_start part.footer.layout.sections in
       omega (arith, l.at_is, l.len_is, start, is.positions_within, section_within Positions p)
 
-  pub key_within : (key : List ℕ) (at len : ℕ) → AsksKey v s ds p key at len → Within at len
-  key_within key at len (inl b) = block_within b.number at len b.at_is b.len_is
-  key_within key at len (inr (inl l)) = list_within key at len l
-  key_within key at len (inr (inr l)) = places_within key at len l
-
-  pub keys_within : (keys : List (List ℕ)) (at len : ℕ) → AsksKeys v s ds p keys at len → Within at len
-  keys_within [] at len asked = absurd asked
-  keys_within (key ∷ keys) at len (inl asked) = key_within key at len asked
-  keys_within (key ∷ keys) at len (inr asked) = keys_within keys at len asked
-
   terms_within : (w : Wanted) (ts : List Term) (at len : ℕ) → AsksTerms v s ds p w ts at len → Within at len
   terms_within w [] at len asked = absurd asked
-  terms_within w (t ∷ ts) at len (inl asked) = key_within t.key at len asked.1
+  terms_within w (t ∷ ts) at len (inl asked) = list_within t.key at len asked.1
   terms_within w (t ∷ ts) at len (inr asked) = terms_within w ts at len asked
 
-  walked_within : (prefix : List ℕ) (w : Wanted) (number at len : ℕ) → AsksBlock v s ds p prefix w number at len → Within at len
-  walked_within prefix w number at len (inl b) = block_within number at len b.at_is b.len_is
-  walked_within prefix w number at len (inr asked) = terms_within w (begun_in prefix (terms_of s ds p.keys) number) at len asked
+  of_block_within : (l : Lookup) (at len : ℕ) → AsksBlockOf v s ds p l at len → Within at len
+  of_block_within (Count key) at len b = block_within b.number at len b.at_is b.len_is
+  of_block_within (Documents key) at len b = block_within b.number at len b.at_is b.len_is
+  of_block_within (Places key) at len b = block_within b.number at len b.at_is b.len_is
+  of_block_within (Walk prefix w) at len asked = block_within asked.0 at len asked.2.at_is asked.2.len_is
 
-  pub walk_within : (prefix : List ℕ) (w : Wanted) (at len : ℕ) → AsksWalk v s ds p prefix w at len → Within at len
-  walk_within prefix w at len asked = walked_within prefix w asked.number at len asked.asks
+  of_list_within : (l : Lookup) (at len : ℕ) → AsksListOf v s ds p l at len → Within at len
+  of_list_within (Count key) at len asked = absurd asked
+  of_list_within (Documents key) at len asked = list_within key at len asked
+  of_list_within (Places key) at len (inl asked) = list_within key at len asked
+  of_list_within (Places key) at len (inr asked) = places_within key at len asked
+  of_list_within (Walk prefix w) at len asked = terms_within w (begun_in prefix (terms_of s ds p.keys) asked.0) at len asked.2
+
+  pub lookups_within : (ls : List Lookup) (at len : ℕ) → AsksLookups v s ds p ls at len → Within at len
+  lookups_within [] at len (inl asked) = absurd asked
+  lookups_within [] at len (inr asked) = absurd asked
+  lookups_within (l ∷ ls) at len (inl (inl asked)) = of_block_within l at len asked
+  lookups_within (l ∷ ls) at len (inl (inr asked)) = lookups_within ls at len (inl asked)
+  lookups_within (l ∷ ls) at len (inr (inl asked)) = of_list_within l at len asked
+  lookups_within (l ∷ ls) at len (inr (inr asked)) = lookups_within ls at len (inr asked)
 
 -- where the pieces have all of the file, want of memory is the one cause
 pub only_memory : (A : ℕ → ℕ → Type 0) (file : List ℕ) (pieces : List FilePiece) (e : LeafError) → ((at len : ℕ) → A at len → at + len ≤ length file) → HaveAll file pieces → HasCause A pieces e → IsMemory e

@@ -7,3 +7,4 @@ pub mod Faults
 pub mod Needed
 pub mod Texts
 pub mod Walks
+pub mod Asking

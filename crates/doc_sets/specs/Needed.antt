@@ -57,19 +57,27 @@ pub record ArePlacesFor (v : PartView) (s : Schema) (documents : List Placed) (p
   pub at_is : at ≡ positions_start v.footer.layout.sections + info.positions
   pub len_is : len ≡ info.positions_len
 
--- what is asked for of a key
+-- what is asked for of a key: the block in which it would stand, and the list of its term
 abbrev pub AsksKey : PartView → Schema → List Placed → Parts → List ℕ → ℕ → ℕ → Type 0
-AsksKey v s documents p key at len =
+AsksKey v s documents p key at len = IsBlockFor v s documents p key at len ⊎ IsListFor v s documents p key at len
+
+-- what is asked for of a key whose places are looked up: the same, and the positions of its term
+abbrev pub AsksPlaces : PartView → Schema → List Placed → Parts → List ℕ → ℕ → ℕ → Type 0
+AsksPlaces v s documents p key at len =
     IsBlockFor v s documents p key at len ⊎ (IsListFor v s documents p key at len ⊎ ArePlacesFor v s documents p key at len)
 
--- what is asked for of some keys
-abbrev pub AsksKeys : PartView → Schema → List Placed → Parts → List (List ℕ) → ℕ → ℕ → Type 0
-AsksKeys v s documents p [] at len = ⊥
-AsksKeys v s documents p (key ∷ keys) at len = AsksKey v s documents p key at len ⊎ AsksKeys v s documents p keys at len
+-- what is asked for of one of some keys
+abbrev pub AsksOneOf : (List ℕ → ℕ → ℕ → Type 0) → List (List ℕ) → ℕ → ℕ → Type 0
+AsksOneOf asked [] at len = ⊥
+AsksOneOf asked (key ∷ keys) at len = asked key at len ⊎ AsksOneOf asked keys at len
 
 -- want of memory, or that no piece has a part that is asked for of these keys
 abbrev pub LacksKeys : PartView → Schema → List Placed → Parts → List (List ℕ) → LeafError → Type 0
-LacksKeys v s documents p keys e = HasCause (AsksKeys v s documents p keys) v.pieces e
+LacksKeys v s documents p keys e = HasCause (AsksOneOf (AsksKey v s documents p) keys) v.pieces e
+
+-- the same where their places are looked up
+abbrev pub LacksPlaces : PartView → Schema → List Placed → Parts → List (List ℕ) → LeafError → Type 0
+LacksPlaces v s documents p keys e = HasCause (AsksOneOf (AsksPlaces v s documents p) keys) v.pieces e
 
 -- the keys of some tokens of a field
 abbrev pub token_keys : ℕ → List Token → List (List ℕ)

@@ -1,5 +1,5 @@
 -- Which keys of a dictionary a walk takes.
-use Rattle.std.specs.Prelude.{◌≡◌, ℕ, ◌+◌, ◌*◌, ◌^◌, ◌<◌, ◌≤◌, ◌==◌, Bool, true, false, ◌&&◌, ◌||◌, List, [], ◌∷◌, length, drop, Option, Some, None, nat_eq, nat_lt, nat_le, filter, ◌⊎◌}
+use Rattle.std.specs.Prelude.{◌≡◌, ℕ, ◌+◌, ◌^◌, ◌<◌, ◌≤◌, ◌==◌, Bool, true, false, ◌&&◌, ◌||◌, List, [], ◌∷◌, length, drop, Option, Some, None, nat_eq, nat_lt, nat_le, filter, ◌⊎◌}
 use Rattle.std.specs.Int.{from_be_bytes, w64}
 use Rattle.std.specs.List.{starts_with}
 use Rattle.std.specs.Option.{option_map_or}
@@ -24,7 +24,7 @@ use Rattle.split_bundle.specs.Lending.{block_place}
 use Rattle.doc_sets.specs.declared.wanted.NumberRange.{NumberRange}
 use Rattle.doc_sets.specs.declared.wanted.Wanted.{Wanted}
 use Rattle.doc_sets.specs.declared.wanted.Wanted.TheVariants.{Each, Within}
-use Rattle.doc_sets.specs.Needed.{AsksKey}
+use Rattle.doc_sets.specs.Needed.{IsListFor}
 
 -- the number for which a value of an ordered kind stands: numbers stand as their values do
 abbrev pub place_of : Kind → Value → Option ℕ
@@ -74,9 +74,9 @@ begun_in prefix terms number = filter (λ t. starts_with nat_eq t.key prefix) (b
 abbrev pub IsListed : Schema → List Placed → Parts → Bool → Term → Type 0
 IsListed s documents p positions t = (lookup t.key (terms_of s documents p.keys) ≡ Some t.info) × (positions ≡ keeps_places s t.key)
 
--- what is asked for of a key if it is wanted
+-- the list of a key if it is wanted
 abbrev pub AsksIf : PartView → Schema → List Placed → Parts → Wanted → List ℕ → ℕ → ℕ → Type 0
-AsksIf v s documents p wanted key at len = (takes wanted key ≡ true) × AsksKey v s documents p key at len
+AsksIf v s documents p wanted key at len = (takes wanted key ≡ true) × IsListFor v s documents p key at len
 
 abbrev pub AsksTerms : PartView → Schema → List Placed → Parts → Wanted → List Term → ℕ → ℕ → Type 0
 AsksTerms v s documents p wanted [] at len = ⊥
@@ -87,17 +87,28 @@ pub record IsBlock (s : Schema) (documents : List Placed) (p : Parts) (number at
   pub at_is : at ≡ block_place p (terms_of s documents p.keys) number
   pub len_is : len ≡ length (area (block_terms (terms_of s documents p.keys) number))
 
--- what is asked for of a block: the block, and what is asked for of its wanted terms that begin so
+-- what is asked for of a block: the block, and the lists of its wanted terms that begin so
 abbrev pub AsksBlock : PartView → Schema → List Placed → Parts → List ℕ → Wanted → ℕ → ℕ → ℕ → Type 0
 AsksBlock v s documents p prefix wanted number at len =
     IsBlock s documents p number at len ⊎ AsksTerms v s documents p wanted (begun_in prefix (terms_of s documents p.keys) number) at len
 
--- what is asked for of the blocks that can have keys which begin so
-pub record AsksWalk (v : PartView) (s : Schema) (documents : List Placed) (p : Parts) (prefix : List ℕ) (wanted : Wanted) (at len : ℕ) : Type 0 where
+-- a block that can have keys which begin so
+pub record IsWalked (v : PartView) (prefix : List ℕ) (number : ℕ) : Type 0 where
   pub start : ℕ
   pub end : ℕ
   pub blocks : AreBlocks v.footer.index prefix (λ first. is_below first prefix || starts_with nat_eq first prefix) start end
-  pub number : ℕ
   pub from : start ≤ number
   pub until : number < end
-  pub asks : AsksBlock v s documents p prefix wanted number at len
+
+-- the blocks that can have keys which begin so
+abbrev pub AsksWalkBlock : PartView → Schema → List Placed → Parts → List ℕ → ℕ → ℕ → Type 0
+AsksWalkBlock v s documents p prefix at len = (number : ℕ) × IsWalked v prefix number × IsBlock s documents p number at len
+
+-- the lists of the wanted keys that begin so
+abbrev pub AsksWalkList : PartView → Schema → List Placed → Parts → List ℕ → Wanted → ℕ → ℕ → Type 0
+AsksWalkList v s documents p prefix wanted at len =
+    (number : ℕ) × IsWalked v prefix number × AsksTerms v s documents p wanted (begun_in prefix (terms_of s documents p.keys) number) at len
+
+-- what is asked for of a walk
+abbrev pub AsksWalk : PartView → Schema → List Placed → Parts → List ℕ → Wanted → ℕ → ℕ → Type 0
+AsksWalk v s documents p prefix wanted at len = AsksWalkBlock v s documents p prefix at len ⊎ AsksWalkList v s documents p prefix wanted at len

@@ -1,6 +1,6 @@
 // The documents of the wanted keys that begin with a prefix.
 
-ghost use Rattle.std.specs.Prelude.{[], ◌∷◌, ◌≡◌, ◌<◌, ◌≤◌, ◌&&◌, ◌||◌, ℕ, Bool, true, List, length, nat_eq, Some, IfOk, MatchResult, slice_get};
+ghost use Rattle.std.specs.Prelude.{[], ◌≡◌, ◌<◌, ◌≤◌, ◌&&◌, ◌||◌, ℕ, Bool, true, List, length, nat_eq, Some, IfOk, MatchResult, slice_get};
 ghost use Rattle.std.specs.List.{AllByRecursion, starts_with};
 ghost use Rattle.doc_value.specs.declared.doc.DocField.{DocField};
 ghost use Rattle.doc_value.specs.declared.schema.Schema.{Schema};
@@ -16,7 +16,7 @@ ghost use Rattle.split_bundle.specs.Keys.{field_key, keys_of};
 ghost use Rattle.split_bundle.specs.Lists.{has_key, keeps_places, terms_of};
 ghost use Rattle.doc_sets.specs.Asked.{such};
 ghost use Rattle.doc_sets.specs.Faults.{HasCause};
-ghost use Rattle.doc_sets.specs.Needed.{IsSearched, LacksKeys};
+ghost use Rattle.doc_sets.specs.Needed.{IsListFor, IsSearched};
 ghost use Rattle.doc_sets.specs.Sets.{IsSetOf};
 ghost use Rattle.doc_sets.specs.Values.{EdgeHas64};
 ghost use Rattle.doc_sets.specs.Walks.{takes, is_walked, has_some_of, begun_in, IsListed, AsksIf, AsksTerms, AsksBlock, AsksWalk, range_of};
@@ -45,9 +45,9 @@ fn add_term(
     ensures size { bits.new.size ≡ bits.old.size }
     ensures only { (s : Schema) (documents : List Placed) (p : Parts) (key : List ℕ) (test : List DocField → Bool) → IsSearched part.now s documents p
         → lookup key (terms_of s documents p.keys) ≡ Some info.now → positions ≡ keeps_places s key → IsSetOf test documents bits.old
-        → MatchResult result (λ u. IsSetOf (λ d. test d || has_key key (keys_of s d)) documents bits.new) (LacksKeys part.now s documents p (key ∷ [])) }
+        → MatchResult result (λ u. IsSetOf (λ d. test d || has_key key (keys_of s d)) documents bits.new) (HasCause (IsListFor part.now s documents p key) part.now.pieces) }
 {
-    let cursor = part.postings_at(info, positions)?;
+    let cursor = part.documents_at(info, positions)?;
     fill(bits, cursor, info.docs)
 }
 

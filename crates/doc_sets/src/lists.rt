@@ -1,6 +1,6 @@
 // Sets of the documents of lists.
 
-ghost use Rattle.std.specs.Prelude.{◌≡◌, ◌<◌, ◌||◌, ℕ, List, true, [], length, IsOk};
+ghost use Rattle.std.specs.Prelude.{◌≡◌, ◌<◌, ◌||◌, ℕ, List, false, [], length, IsOk};
 ghost use Rattle.std.specs.List.{AllByRecursion};
 ghost use Rattle.term_postings.specs.Cursors.{StandsBefore};
 ghost use Rattle.term_postings.specs.declared.list.Posting.{Posting};
@@ -14,7 +14,7 @@ use term_postings::Cursor;
 // Puts so many documents of a list into a set.
 pub(crate) fn fill(bits: &mut DocBits, mut cursor: Cursor, docs: u32) -> Result<(), LeafError>
     ensures size { bits.new.size ≡ bits.old.size }
-    ensures only { (list : List Posting) → StandsBefore true cursor.entry list [] → docs ≡ length list → AllByRecursion (λ p. p.document < bits.old.size) list
+    ensures only { (list : List Posting) → StandsBefore false cursor.entry list [] → docs ≡ length list → AllByRecursion (λ p. p.document < bits.old.size) list
         → IsOk result × ((k : ℕ) → has bits.new k ≡ has bits.old k || is_in k list) }
 {
     for passed in 0..docs {

@@ -8,7 +8,8 @@ ghost use Rattle.split_bundle.specs.declared.placed.Placed.{Placed};
 ghost use Rattle.split_bundle.specs.Files.{Parts};
 ghost use Rattle.split_bundle.specs.Keys.{keys_of};
 ghost use Rattle.split_bundle.specs.Lists.{has_key, keeps_places, terms_of};
-ghost use Rattle.doc_sets.specs.Needed.{IsSearched, LacksKeys};
+ghost use Rattle.doc_sets.specs.Faults.{HasCause};
+ghost use Rattle.doc_sets.specs.Needed.{IsBlockFor, IsSearched, LacksKeys};
 ghost use Rattle.doc_sets.specs.Sets.{IsSetOf};
 
 use crate::bits::DocBits;
@@ -19,15 +20,15 @@ use split_bundle::PartView;
 use std::alloc::Global;
 use term_dict::{BlockIndex, TermInfo};
 
-// What the dictionary has at a key.
-pub(crate) fn term_at(
+/// What the dictionary has at a key.
+pub fn term_at(
     index: &BlockIndex,
     part: &PartView,
     key: &[u8],
 ) -> Result<Option<TermInfo>, LeafError>
     requires { index.now ≡ part.now.footer.index }
     ensures { (s : Schema) (documents : List Placed) (p : Parts) → IsSearched part.now s documents p
-        → MatchResult result (λ found. found ≡ lookup key.now (terms_of s documents p.keys)) (LacksKeys part.now s documents p (key.now ∷ [])) }
+        → MatchResult result (λ found. found ≡ lookup key.now (terms_of s documents p.keys)) (HasCause (IsBlockFor part.now s documents p key.now) part.now.pieces) }
 {
     match index.block_of(key) {
         None => Ok(None),
@@ -44,7 +45,7 @@ pub(crate) fn term_at(
 fn term_in(part: &PartView, number: u32, key: &[u8]) -> Result<Option<TermInfo>, LeafError>
     requires { number < length part.now.footer.index }
     ensures { (s : Schema) (documents : List Placed) (p : Parts) → IsSearched part.now s documents p → IsBlockOf part.now.footer.index key.now (Some number)
-        → MatchResult result (λ found. found ≡ lookup key.now (block_terms (terms_of s documents p.keys) number)) (LacksKeys part.now s documents p (key.now ∷ [])) }
+        → MatchResult result (λ found. found ≡ lookup key.now (block_terms (terms_of s documents p.keys) number)) (HasCause (IsBlockFor part.now s documents p key.now) part.now.pieces) }
 {
     let block = part.block(number)?;
     match block.find(key) {
@@ -68,7 +69,7 @@ fn term_documents(
         → MatchResult result (IsSetOf (λ d. has_key key (keys_of s d)) documents) (LacksKeys part.now s documents p (key ∷ [])) }
 {
     let mut bits = DocBits::vacant(alloc, part.doc_count())?;
-    let cursor = part.postings_at(info, positions)?;
+    let cursor = part.documents_at(info, positions)?;
     fill(&mut bits, cursor, info.docs)?;
     Ok(bits)
 }

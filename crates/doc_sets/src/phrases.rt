@@ -8,9 +8,11 @@ ghost use Rattle.split_bundle.specs.Files.{Parts};
 ghost use Rattle.split_bundle.specs.Keys.{field_key, keys_of};
 ghost use Rattle.split_bundle.specs.Lists.{keeps_places};
 ghost use Rattle.doc_sets.specs.Asked as asked;
+ghost use Rattle.doc_sets.specs.Asking.{LacksLookups};
 ghost use Rattle.doc_sets.specs.Bits.{has};
-ghost use Rattle.doc_sets.specs.Needed.{IsSearched, LacksKeys, token_keys};
+ghost use Rattle.doc_sets.specs.Needed.{IsSearched, LacksPlaces, token_keys};
 ghost use Rattle.doc_sets.specs.Sets.{IsSetOf};
+ghost use Rattle.doc_sets.specs.Texts.{lookups_for};
 
 use crate::bits::DocBits;
 use crate::laws::{each_by_keys, phrase_by_keys};
@@ -51,7 +53,7 @@ fn stands_behind(
     requires number { number < 256 }
     ensures { (s : Schema) (documents : List Placed) (p : Parts) (d : Placed) → IsSearched part.now s documents p → ((term : List ℕ) → keeps_places s (field_key number term) ≡ true)
         → slice_get documents document ≡ Some d → asked.has_each number phrase.now (keys_of s d.doc) ≡ true
-        → MatchResult result (λ b. b ≡ asked.stands_from number phrase.now from start (keys_of s d.doc)) (LacksKeys part.now s documents p (token_keys number phrase.now)) }
+        → MatchResult result (λ b. b ≡ asked.stands_from number phrase.now from start (keys_of s d.doc)) (LacksPlaces part.now s documents p (token_keys number phrase.now)) }
 {
     for token in phrase {
         let key = key_bytes(alloc, number, token.text.as_slice())?;
@@ -78,7 +80,7 @@ fn stands_at_one(
     requires number { number < 256 }
     ensures { (s : Schema) (documents : List Placed) (p : Parts) (d : Placed) → IsSearched part.now s documents p → ((term : List ℕ) → keeps_places s (field_key number term) ≡ true)
         → slice_get documents document ≡ Some d → asked.has_each number phrase.now (keys_of s d.doc) ≡ true
-        → MatchResult result (λ b. b ≡ asked.stands_from_one number phrase.now from starts.now (keys_of s d.doc)) (LacksKeys part.now s documents p (token_keys number phrase.now)) }
+        → MatchResult result (λ b. b ≡ asked.stands_from_one number phrase.now from starts.now (keys_of s d.doc)) (LacksPlaces part.now s documents p (token_keys number phrase.now)) }
 {
     for start in starts {
         if stands_behind(alloc, index, part, number, phrase, from, *start, document)? {
@@ -101,7 +103,7 @@ fn runs_in(
     requires number { number < 256 }
     ensures { (s : Schema) (documents : List Placed) (p : Parts) (d : Placed) → IsSearched part.now s documents p → ((term : List ℕ) → keeps_places s (field_key number term) ≡ true)
         → slice_get documents document ≡ Some d → asked.has_each number phrase.now (keys_of s d.doc) ≡ true
-        → MatchResult result (λ b. b ≡ asked.has_run number phrase.now (keys_of s d.doc)) (LacksKeys part.now s documents p (token_keys number phrase.now)) }
+        → MatchResult result (λ b. b ≡ asked.has_run number phrase.now (keys_of s d.doc)) (LacksPlaces part.now s documents p (token_keys number phrase.now)) }
 {
     match phrase {
         [] => Ok(false),
@@ -137,7 +139,7 @@ fn runs_at(
     requires document { document < candidates.now.size }
     ensures { (s : Schema) (documents : List Placed) (p : Parts) (d : Placed) → IsSearched part.now s documents p → ((term : List ℕ) → keeps_places s (field_key number term) ≡ true)
         → slice_get documents document ≡ Some d → IsSetOf (λ d. asked.has_each number phrase.now (keys_of s d)) documents candidates.now
-        → MatchResult result (λ b. b ≡ asked.has_run number phrase.now (keys_of s d.doc)) (LacksKeys part.now s documents p (token_keys number phrase.now)) }
+        → MatchResult result (λ b. b ≡ asked.has_run number phrase.now (keys_of s d.doc)) (LacksPlaces part.now s documents p (token_keys number phrase.now)) }
 {
     if candidates.contains(document) {
         runs_in(alloc, index, part, number, phrase, document)
@@ -183,7 +185,7 @@ fn run_documents(
     ensures size { IfOk result (λ b. b.size ≡ part.now.footer.layout.docs) }
     ensures only { (s : Schema) (documents : List Placed) (p : Parts) → IsSearched part.now s documents p → ((term : List ℕ) → keeps_places s (field_key number term) ≡ true)
         → IsSetOf (λ d. asked.has_each number phrase.now (keys_of s d)) documents candidates.now
-        → MatchResult result (IsSetOf (λ d. asked.has_run number phrase.now (keys_of s d)) documents) (LacksKeys part.now s documents p (token_keys number phrase.now)) }
+        → MatchResult result (IsSetOf (λ d. asked.has_run number phrase.now (keys_of s d)) documents) (LacksPlaces part.now s documents p (token_keys number phrase.now)) }
 {
     let count = part.doc_count();
     let mut bits = DocBits::vacant(alloc, count)?;
@@ -208,7 +210,7 @@ fn several_documents(
     ensures size { IfOk result (λ b. b.size ≡ part.now.footer.layout.docs) }
     ensures only { (s : Schema) (documents : List Placed) (p : Parts) → IsSearched part.now s documents p → slice_get s.fields number ≡ Some field.now
         → field.now.indexed ≡ true → is_text field.now.kind ≡ true → field.now.positions ≡ true → asked.AreBehindFirst phrase.now → asked.are_close (first_position phrase.now) phrase.now ≡ true → 2 ≤ length phrase.now
-        → MatchResult result (IsSetOf (λ d. phrase_holds field.now phrase.now (values_in d number)) documents) (LacksKeys part.now s documents p (token_keys number phrase.now)) }
+        → MatchResult result (IsSetOf (λ d. phrase_holds field.now phrase.now (values_in d number)) documents) (LacksPlaces part.now s documents p (token_keys number phrase.now)) }
 {
     phrase_by_keys();
     each_by_keys();
@@ -230,7 +232,7 @@ pub(crate) fn phrase_documents(
     ensures size { IfOk result (λ b. b.size ≡ part.now.footer.layout.docs) }
     ensures only { (s : Schema) (documents : List Placed) (p : Parts) → IsSearched part.now s documents p → slice_get s.fields number ≡ Some field.now
         → field.now.indexed ≡ true → is_text field.now.kind ≡ true → (field.now.positions ≡ true) ⊎ (length phrase.now ≤ 1) → asked.AreBehindFirst phrase.now
-        → MatchResult result (IsSetOf (λ d. phrase_holds field.now phrase.now (values_in d number)) documents) (LacksKeys part.now s documents p (token_keys number phrase.now)) }
+        → MatchResult result (IsSetOf (λ d. phrase_holds field.now phrase.now (values_in d number)) documents) (LacksLookups part.now s documents p (lookups_for (token_keys number phrase.now))) }
 {
     match phrase {
         [] => Ok(no_documents(alloc, part)?),

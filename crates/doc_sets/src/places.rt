@@ -10,7 +10,7 @@ ghost use Rattle.split_bundle.specs.Files.{Parts};
 ghost use Rattle.split_bundle.specs.Keys.{keys_of};
 ghost use Rattle.split_bundle.specs.Lists.{has_key, keeps_places, places_of, terms_of};
 ghost use Rattle.doc_sets.specs.Faults.{IsMemory};
-ghost use Rattle.doc_sets.specs.Needed.{IsSearched, LacksKeys};
+ghost use Rattle.doc_sets.specs.Needed.{IsSearched, LacksPlaces};
 
 use crate::leaf_error::{LeafError, POSITIONS, POSTINGS};
 use crate::lookups::term_at;
@@ -43,7 +43,7 @@ fn term_places(
 ) -> Result<Vec<u64>, LeafError>
     ensures { (s : Schema) (documents : List Placed) (p : Parts) (key : List ℕ) (d : Placed) → IsSearched part.now s documents p → lookup key (terms_of s documents p.keys) ≡ Some info.now
         → keeps_places s key ≡ true → slice_get documents document ≡ Some d → has_key key (keys_of s d.doc) ≡ true
-        → MatchResult result (λ v. v.items ≡ places_of key (keys_of s d.doc)) (LacksKeys part.now s documents p (key ∷ [])) }
+        → MatchResult result (λ v. v.items ≡ places_of key (keys_of s d.doc)) (LacksPlaces part.now s documents p (key ∷ [])) }
 {
     let mut cursor = part.postings_at(info, true)?;
     match cursor.seek(document) {
@@ -63,7 +63,7 @@ pub(crate) fn key_places(
     requires { index.now ≡ part.now.footer.index }
     ensures { (s : Schema) (documents : List Placed) (p : Parts) (d : Placed) → IsSearched part.now s documents p → keeps_places s key.now ≡ true → slice_get documents document ≡ Some d
         → has_key key.now (keys_of s d.doc) ≡ true
-        → MatchResult result (λ v. v.items ≡ places_of key.now (keys_of s d.doc)) (LacksKeys part.now s documents p (key.now ∷ [])) }
+        → MatchResult result (λ v. v.items ≡ places_of key.now (keys_of s d.doc)) (LacksPlaces part.now s documents p (key.now ∷ [])) }
 {
     match term_at(index, part, key)? {
         Some(info) => term_places(alloc, part, &info, document),

@@ -7,9 +7,10 @@ ghost use Rattle.query_ast.specs.Meaning.{values_in, is_text, equals_some, phras
 ghost use Rattle.query_ast.specs.Spelled.{spelled};
 ghost use Rattle.split_bundle.specs.declared.placed.Placed.{Placed};
 ghost use Rattle.split_bundle.specs.Files.{Parts};
-ghost use Rattle.doc_sets.specs.Needed.{IsSearched, LacksKeys, token_keys};
+ghost use Rattle.doc_sets.specs.Asking.{LacksLookups};
+ghost use Rattle.doc_sets.specs.Needed.{IsSearched, token_keys};
 ghost use Rattle.doc_sets.specs.Sets.{IsSetOf};
-ghost use Rattle.doc_sets.specs.Texts.{CanPlace, CanPlaceEach, item_keys, text_keys, value_keys};
+ghost use Rattle.doc_sets.specs.Texts.{CanPlace, CanPlaceEach, item_lookups, lookups_for, text_lookups, value_keys};
 
 use crate::bits::DocBits;
 use crate::leaf_error::LeafError;
@@ -23,7 +24,7 @@ use split_bundle::PartView;
 use std::alloc::Global;
 use term_dict::BlockIndex;
 
-fn is_text(kind: Kind) -> bool
+pub(crate) fn is_text(kind: Kind) -> bool
     ensures { result ≡ is_text kind }
 {
     match kind {
@@ -47,7 +48,7 @@ fn placed_documents(
     ensures only { (s : Schema) (documents : List Placed) (p : Parts) → IsSearched part.now s documents p → slice_get s.fields number ≡ Some field.now
         → field.now.indexed ≡ true → is_text field.now.kind ≡ true → CanPlace field.now text.now
         → MatchResult result (IsSetOf (λ d. phrase_holds field.now (field_tokens field.now text.now) (values_in d number)) documents)
-        (LacksKeys part.now s documents p (token_keys number (field_tokens field.now text.now))) }
+        (LacksLookups part.now s documents p (lookups_for (token_keys number (field_tokens field.now text.now)))) }
 {
     let tokens = tokens_of(alloc, field, text)?;
     phrase_documents(alloc, index, part, number, field, tokens.as_slice())
@@ -68,7 +69,7 @@ fn gathered_documents(
     ensures only { (s : Schema) (documents : List Placed) (p : Parts) → IsSearched part.now s documents p → slice_get s.fields number ≡ Some field.now
         → field.now.indexed ≡ true → is_text field.now.kind ≡ true
         → MatchResult result (IsSetOf (λ d. each_holds field.now (field_tokens field.now text.now) (values_in d number)) documents)
-        (LacksKeys part.now s documents p (token_keys number (field_tokens field.now text.now))) }
+        (LacksLookups part.now s documents p (lookups_for (token_keys number (field_tokens field.now text.now)))) }
 {
     let tokens = tokens_of(alloc, field, text)?;
     if tokens.as_slice().is_empty() {
@@ -92,7 +93,7 @@ fn spelled_documents(
     ensures only { (s : Schema) (documents : List Placed) (p : Parts) → IsSearched part.now s documents p → slice_get s.fields number ≡ Some field.now
         → field.now.indexed ≡ true → is_text field.now.kind ≡ false
         → MatchResult result (IsSetOf (λ d. equals_some (spelled field.now.kind text.now) (values_in d number)) documents)
-        (LacksKeys part.now s documents p (value_keys number (spelled field.now.kind text.now))) }
+        (LacksLookups part.now s documents p (lookups_for (value_keys number (spelled field.now.kind text.now)))) }
 {
     match value_of(alloc, field.kind, text)? {
         Some(value) => value_documents(alloc, index, part, number, field, &value),
@@ -114,7 +115,7 @@ pub fn quoted_documents(
     ensures size { IfOk result (λ b. b.size ≡ part.now.footer.layout.docs) }
     ensures only { (s : Schema) (documents : List Placed) (p : Parts) → IsSearched part.now s documents p → slice_get s.fields number ≡ Some field.now
         → field.now.indexed ≡ true → CanPlace field.now text.now
-        → MatchResult result (IsSetOf (λ d. quoted_holds field.now text.now (values_in d number)) documents) (LacksKeys part.now s documents p (text_keys field.now number text.now)) }
+        → MatchResult result (IsSetOf (λ d. quoted_holds field.now text.now (values_in d number)) documents) (LacksLookups part.now s documents p (text_lookups field.now number text.now)) }
 {
     if is_text(field.kind) {
         placed_documents(alloc, index, part, number, field, text)
@@ -137,7 +138,7 @@ pub fn word_documents(
     ensures size { IfOk result (λ b. b.size ≡ part.now.footer.layout.docs) }
     ensures only { (s : Schema) (documents : List Placed) (p : Parts) → IsSearched part.now s documents p → slice_get s.fields number ≡ Some field.now
         → field.now.indexed ≡ true
-        → MatchResult result (IsSetOf (λ d. word_holds field.now text.now (values_in d number)) documents) (LacksKeys part.now s documents p (text_keys field.now number text.now)) }
+        → MatchResult result (IsSetOf (λ d. word_holds field.now text.now (values_in d number)) documents) (LacksLookups part.now s documents p (text_lookups field.now number text.now)) }
 {
     if is_text(field.kind) && !field.positions {
         gathered_documents(alloc, index, part, number, field, text)
@@ -160,7 +161,7 @@ fn item_documents(
     ensures size { IfOk result (λ b. b.size ≡ part.now.footer.layout.docs) }
     ensures only { (s : Schema) (documents : List Placed) (p : Parts) → IsSearched part.now s documents p → slice_get s.fields number ≡ Some field.now
         → field.now.indexed ≡ true → (item.now.quoted ≡ true → CanPlace field.now item.now.text)
-        → MatchResult result (IsSetOf (λ d. item_holds field.now (values_in d number) item.now) documents) (LacksKeys part.now s documents p (text_keys field.now number item.now.text)) }
+        → MatchResult result (IsSetOf (λ d. item_holds field.now (values_in d number) item.now) documents) (LacksLookups part.now s documents p (text_lookups field.now number item.now.text)) }
 {
     if item.quoted {
         quoted_documents(alloc, index, part, number, field, item.text.as_str())
@@ -183,7 +184,7 @@ pub fn some_documents(
     ensures size { IfOk result (λ b. b.size ≡ part.now.footer.layout.docs) }
     ensures only { (s : Schema) (documents : List Placed) (p : Parts) → IsSearched part.now s documents p → slice_get s.fields number ≡ Some field.now
         → field.now.indexed ≡ true → CanPlaceEach field.now items.now
-        → MatchResult result (IsSetOf (λ d. some_item_holds field.now (values_in d number) items.now) documents) (LacksKeys part.now s documents p (item_keys field.now number items.now)) }
+        → MatchResult result (IsSetOf (λ d. some_item_holds field.now (values_in d number) items.now) documents) (LacksLookups part.now s documents p (item_lookups field.now number items.now)) }
 {
     let mut bits = no_documents(alloc, part)?;
     for item in items {

@@ -23,7 +23,7 @@ use std::alloc::{AllocError, Global};
 use term_dict::BlockIndex;
 
 // The presence key of a field.
-fn presence_bytes(alloc: Global, number: usize) -> Result<Vec<u8>, AllocError>
+pub(crate) fn presence_bytes(alloc: Global, number: usize) -> Result<Vec<u8>, AllocError>
     requires { number < 65536 }
     ensures { IfOk result (λ key. key.items ≡ presence_key number) }
 {

@@ -94,7 +94,8 @@ impl NumberRange {
 impl Wanted {
     ghost use Rattle.doc_sets.specs.Walks.{takes};
 
-    pub(crate) fn takes(self, key: &[u8]) -> bool
+    /// Whether a key is wanted, by what stands behind its field's number.
+    pub fn takes(self, key: &[u8]) -> bool
         ensures { result ≡ takes self key.now }
     {
         match self {

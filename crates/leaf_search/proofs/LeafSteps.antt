@@ -1,5 +1,5 @@
 -- Parts of an answer put together.
-use Rattle.std.proofs.Common.{◌≡◌, ℕ, zero, suc, ◌<◌, ◌&&◌, ◌||◌, Bool, true, false, cond, List, [], ◌∷◌, length, filter, Result, Ok, Err, MatchResult, IsErrAnd, refl, ap, sym, ◌∙◌, subst, arith}
+use Rattle.std.proofs.Common.{◌≡◌, ℕ, zero, suc, ◌<◌, inl, inr, ◌&&◌, ◌||◌, Bool, true, false, cond, List, [], ◌∷◌, length, filter, Result, Ok, Err, MatchResult, IsErrAnd, refl, ap, sym, ◌∙◌, subst, arith}
 use Rattle.doc_value.specs.declared.schema.Schema.{Schema}
 use Rattle.doc_value.specs.declared.doc.DocField.{DocField}
 use Rattle.doc_value.specs.declared.facts.TimeRange.{TimeRange}
@@ -10,6 +10,10 @@ use Rattle.split_bundle.specs.declared.split_error.SplitError.{SplitError}
 use Rattle.split_bundle.specs.declared.split_error.SplitError.TheVariants as splits
 use Rattle.split_bundle.specs.Wholes.{IsThere}
 use Rattle.doc_sets.specs.declared.leaf_error.LeafError.{LeafError}
+use Rattle.split_bundle.specs.declared.part_view.PartView.{PartView}
+use Rattle.split_bundle.specs.Files.{Parts}
+use Rattle.doc_sets.specs.Asking.{AsksLookups}
+use Rattle.doc_sets.specs.declared.dictionary_lookup.Lookup.{Lookup}
 use Rattle.doc_sets.specs.Faults.{HasCause, IsMemory, fault_of}
 use Rattle.doc_tallies.specs.Causes as tallies
 use Rattle.agg_model.specs.Partials.{StandsFor}
@@ -17,7 +21,7 @@ use Rattle.doc_tallies.specs.Orders.{firsts}
 use Rattle.doc_tallies.specs.Picked.{docs_of, picked}
 use Rattle.leaf_search.specs.declared.request.LeafAnswer.{LeafAnswer}
 use Rattle.leaf_search.specs.declared.request.LeafRequest.{LeafRequest}
-use Rattle.leaf_search.specs.Answers.{found, passes, IsAnswerOf}
+use Rattle.leaf_search.specs.Answers.{AsksWith, found, passes, IsAnswerOf}
 use Rattle.leaf_search.specs.Numbers.{numbers_from, numbers_of}
 use Rattle.leaf_search.proofs.NumberLists.{picked_of}
 
@@ -33,6 +37,11 @@ pub faulted : {X : Type 0} (good : X → Type 0) (A B : ℕ → ℕ → Type 0) 
     → tallies.HasCause A pieces fault → MatchResult r good (HasCause B pieces)
 faulted good A B pieces fault (Ok x) h wider cause = absurd h
 faulted good A B pieces fault (Err e) h wider cause = subst (HasCause B pieces) (sym h) (cause_of A B pieces fault wider cause)
+
+-- what is asked for of look-ups is asked for of a request that needs them
+pub of_lookups : (v : PartView) (s : Schema) (ds : List Placed) (p : Parts) (r : LeafRequest) (ls : List Lookup) (at len : ℕ) → AsksLookups v s ds p ls at len → AsksWith v s ds p r ls at len
+of_lookups v s ds p r ls at len (inl h) = inl h
+of_lookups v s ds p r ls at len (inr h) = inr (inl h)
 
 many_from : (test : List DocField → Bool) (n : ℕ) (ds : List Placed) → length (numbers_from test n ds) ≡ length (filter (λ d. test d.doc) ds)
 many_from test n [] = refl

@@ -1,5 +1,12 @@
 pub mod QuerySteps
-pub mod QueryWithin
 pub mod NumberLists
 pub mod LeafSteps
 pub mod Counted
+pub mod KeyCounts
+pub mod RangeLists
+pub mod BlockParts
+pub mod ListParts
+pub mod ColumnParts
+pub mod Suffices
+pub mod ReadBounds
+pub mod ColumnNames

@@ -12,13 +12,14 @@ use Rattle.query_ast.specs.Queries.{HasField}
 use Rattle.leaf_search.specs.Askable.{CanAsk, CanAskEach}
 use Rattle.split_bundle.specs.declared.placed.Placed.{Placed}
 use Rattle.split_bundle.specs.declared.part_view.PartView.{PartView}
-use Rattle.split_bundle.specs.declared.pieces.FilePiece.{FilePiece}
 use Rattle.split_bundle.specs.Files.{Parts}
 use Rattle.doc_sets.specs.declared.bits.DocBits.{DocBits}
 use Rattle.doc_sets.specs.declared.leaf_error.LeafError.{LeafError}
-use Rattle.doc_sets.specs.Faults.{HasCause}
+use Rattle.doc_sets.specs.declared.dictionary_lookup.Lookup.{Lookup}
+use Rattle.doc_sets.specs.Asking.{AsksLookups, LacksLookups}
 use Rattle.doc_sets.specs.Sets.{IsSetOf}
-use Rattle.leaf_search.specs.Asks.{AsksQuery, AsksEach}
+use Rattle.doc_sets.proofs.Looked.{lookups_end, lookups_front}
+use Rattle.leaf_search.specs.Asks.{lookups_of, lookups_of_each, of_field}
 
 pub row_all : {n : _} (k : Row_of-Query n) → view_row k ≡ view_all (items-the_row-Query n k)
 row_all end_of-Query = refl
@@ -50,10 +51,11 @@ can_at s x (q ∷ qs) zero lt e can = subst (λ y. CanAsk s (view y)) (sym e) ca
 can_at s x (q ∷ qs) (suc i) lt e can = can_at s x qs i (omega arith) e can.1
 
 pub asked_at : (v : PartView) (s : Schema) (ds : List Placed) (p : Parts) (x : Query) (qs : List Query) (i : ℕ) → i < length qs → x ≡ get_or qs i x
-    → (at len : ℕ) → AsksQuery v s ds p (view x) at len → AsksEach v s ds p (view_all qs) at len
+    → (at len : ℕ) → AsksLookups v s ds p (lookups_of s (view x)) at len → AsksLookups v s ds p (lookups_of_each s (view_all qs)) at len
 asked_at v s ds p x [] i lt e at len asked = absurd (omega arith)
-asked_at v s ds p x (q ∷ qs) zero lt e at len asked = inl (subst (λ y. AsksQuery v s ds p (view y) at len) e asked)
-asked_at v s ds p x (q ∷ qs) (suc i) lt e at len asked = inr (asked_at v s ds p x qs i (omega arith) e at len asked)
+asked_at v s ds p x (q ∷ qs) zero lt e at len asked =
+    lookups_front v s ds p (lookups_of s (view q)) (lookups_of_each s (view_all qs)) at len (subst (λ (y : Query). AsksLookups v s ds p (lookups_of s (view y)) at len) e asked)
+asked_at v s ds p x (q ∷ qs) (suc i) lt e at len asked = lookups_end v s ds p (lookups_of s (view q)) (lookups_of_each s (view_all qs)) at len (asked_at v s ds p x qs i (omega arith) e at len asked)
 
 -- what is known of the field that is asked
 pub field_fact : (s : Schema) (n : ℕ) (f : Field) (P : Field → Type 0) → slice_get s.fields n ≡ Some f → HasField s n P → P f
@@ -63,17 +65,17 @@ pub no_field : (s : Schema) (n : ℕ) (P : Field → Type 0) → slice_get s.fie
 no_field s n P got h = subst (λ o. MatchOption o ⊥ P) got h
 
 -- the set for a field is the set for the query that asks of it
-pub at_field : (s : Schema) (n : ℕ) (f : Field) (ds : List Placed) (pieces : List FilePiece) (r : Result DocBits LeafError) (test : Field → List DocField → Bool) (A : Field → ℕ → ℕ → Type 0) → slice_get s.fields n ≡ Some f
-    → MatchResult r (IsSetOf (λ d. test f d) ds) (HasCause (A f) pieces) → MatchResult r (IsSetOf (λ d. asks s n (λ g. test g d)) ds) (HasCause (λ at len. HasField s n (λ g. A g at len)) pieces)
-at_field s n f ds pieces r test A got h =
-    subst (λ o. MatchResult r (IsSetOf (λ d. option_map_or (λ g. test g d) o false) ds) (HasCause (λ at len. MatchOption o ⊥ (λ g. A g at len)) pieces)) (sym got) h
+pub at_field : (v : PartView) (s : Schema) (ds : List Placed) (p : Parts) (n : ℕ) (f : Field) (r : Result DocBits LeafError) (test : Field → List DocField → Bool) (looked : Field → List Lookup) → slice_get s.fields n ≡ Some f
+    → MatchResult r (IsSetOf (λ d. test f d) ds) (LacksLookups v s ds p (looked f)) → MatchResult r (IsSetOf (λ d. asks s n (λ g. test g d)) ds) (LacksLookups v s ds p (of_field s n looked))
+at_field v s ds p n f r test looked got h =
+    subst (λ o. MatchResult r (IsSetOf (λ d. option_map_or (λ g. test g d) o false) ds) (LacksLookups v s ds p (option_map_or looked o []))) (sym got) h
 
 -- the same where the field makes no difference to the set
-pub at_any_field : (s : Schema) (n : ℕ) (f : Field) (ds : List Placed) (pieces : List FilePiece) (r : Result DocBits LeafError) (test : List DocField → Bool) (A : Field → ℕ → ℕ → Type 0) → slice_get s.fields n ≡ Some f
-    → MatchResult r (IsSetOf test ds) (HasCause (A f) pieces) → MatchResult r (IsSetOf test ds) (HasCause (λ at len. HasField s n (λ g. A g at len)) pieces)
-at_any_field s n f ds pieces r test A got h = subst (λ o. MatchResult r (IsSetOf test ds) (HasCause (λ at len. MatchOption o ⊥ (λ g. A g at len)) pieces)) (sym got) h
+pub at_any_field : (v : PartView) (s : Schema) (ds : List Placed) (p : Parts) (n : ℕ) (f : Field) (r : Result DocBits LeafError) (test : List DocField → Bool) (looked : Field → List Lookup) → slice_get s.fields n ≡ Some f
+    → MatchResult r (IsSetOf test ds) (LacksLookups v s ds p (looked f)) → MatchResult r (IsSetOf test ds) (LacksLookups v s ds p (of_field s n looked))
+at_any_field v s ds p n f r test looked got h = subst (λ o. MatchResult r (IsSetOf test ds) (LacksLookups v s ds p (option_map_or looked o []))) (sym got) h
 
 -- an answer to a query is one to the query that it is
 pub of_query : (v : PartView) (s : Schema) (ds : List Placed) (p : Parts) (r : Result DocBits LeafError) (q w : Sought) → q ≡ w
-    → MatchResult r (IsSetOf (λ d. meaning s d w) ds) (HasCause (AsksQuery v s ds p w) v.pieces) → MatchResult r (IsSetOf (λ d. meaning s d q) ds) (HasCause (AsksQuery v s ds p q) v.pieces)
-of_query v s ds p r q w e h = subst (λ y. MatchResult r (IsSetOf (λ d. meaning s d y) ds) (HasCause (AsksQuery v s ds p y) v.pieces)) (sym e) h
+    → MatchResult r (IsSetOf (λ d. meaning s d w) ds) (LacksLookups v s ds p (lookups_of s w)) → MatchResult r (IsSetOf (λ d. meaning s d q) ds) (LacksLookups v s ds p (lookups_of s q))
+of_query v s ds p r q w e h = subst (λ y. MatchResult r (IsSetOf (λ d. meaning s d y) ds) (LacksLookups v s ds p (lookups_of s y))) (sym e) h

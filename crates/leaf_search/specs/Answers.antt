@@ -15,7 +15,9 @@ use Rattle.doc_tallies.specs.AggColumns.{AsksFields}
 use Rattle.doc_tallies.specs.Causes.{AsksField, AsksHits}
 use Rattle.doc_tallies.specs.Orders.{firsts, sort_field, IsSortable}
 use Rattle.doc_tallies.specs.Picked.{docs_of}
-use Rattle.leaf_search.specs.Asks.{AsksQuery}
+use Rattle.doc_sets.specs.Asking.{AsksBlocks, AsksLists}
+use Rattle.doc_sets.specs.declared.dictionary_lookup.Lookup.{Lookup}
+use Rattle.leaf_search.specs.Counts.{request_lookups}
 use Rattle.leaf_search.specs.Numbers.{numbers_of}
 use Rattle.leaf_search.specs.declared.request.LeafRequest.{LeafRequest}
 use Rattle.leaf_search.specs.declared.request.LeafAnswer.{LeafAnswer}
@@ -51,8 +53,16 @@ pub record AsksWanted (v : PartView) (s : Schema) (documents : List Placed) (p :
   pub wanted : 0 < r.wanted
   pub asks : AsksHits v p documents (sort_field r.order) (numbers_of (passes s r) documents) at len
 
--- what a request asks for: its query's parts, the columns of the timestamp and of the aggregations, and what tells and shows the
--- first hits
+-- what is asked for beside the blocks of the dictionary where these are looked up: their lists, the columns of the timestamp and
+-- of the aggregations, and what tells and shows the first hits
+abbrev pub AsksBeside : PartView → Schema → List Placed → Parts → LeafRequest → List Lookup → ℕ → ℕ → Type 0
+AsksBeside v s documents p r ls at len =
+    AsksLists v s documents p ls at len ⊎ (AsksTimes v p s r.times at len ⊎ (AsksFields v p r.aggs at len ⊎ AsksWanted v s documents p r at len))
+
+-- what is asked for where these are looked up
+abbrev pub AsksWith : PartView → Schema → List Placed → Parts → LeafRequest → List Lookup → ℕ → ℕ → Type 0
+AsksWith v s documents p r ls at len = AsksBlocks v s documents p ls at len ⊎ AsksBeside v s documents p r ls at len
+
+-- what a request asks for
 abbrev pub AsksLeaf : PartView → Schema → List Placed → Parts → LeafRequest → ℕ → ℕ → Type 0
-AsksLeaf v s documents p r at len =
-    AsksQuery v s documents p (view r.query) at len ⊎ (AsksTimes v p s r.times at len ⊎ (AsksFields v p r.aggs at len ⊎ AsksWanted v s documents p r at len))
+AsksLeaf v s documents p r at len = AsksWith v s documents p r (request_lookups s r) at len

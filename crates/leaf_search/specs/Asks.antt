@@ -1,34 +1,37 @@
--- Which parts of a split a query asks for.
-use Rattle.std.specs.Prelude.{ℕ, ◌⊎◌, List, [], ◌∷◌}
+-- What a query looks up in the dictionary of a split.
+use Rattle.std.specs.Prelude.{ℕ, List, [], ◌∷◌, ◌++◌, slice_get}
+use Rattle.std.specs.Option.{option_map_or}
+use Rattle.doc_value.specs.declared.schema.Field.{Field}
 use Rattle.doc_value.specs.declared.schema.Schema.{Schema}
 use Rattle.query_ast.specs.FieldTokens.{prefix_text}
-use Rattle.query_ast.specs.Queries.{HasField}
 use Rattle.query_ast.specs.Sought.{Sought, Soughts, no_more, more}
 use Rattle.query_ast.specs.Sought as sought
-use Rattle.split_bundle.specs.declared.placed.Placed.{Placed}
-use Rattle.split_bundle.specs.declared.part_view.PartView.{PartView}
-use Rattle.split_bundle.specs.Files.{Parts}
 use Rattle.split_bundle.specs.Keys.{field_key, presence_key}
-use Rattle.doc_sets.specs.Needed.{AsksKeys}
-use Rattle.doc_sets.specs.Texts.{text_keys, item_keys}
-use Rattle.doc_sets.specs.Walks.{AsksWalk, range_of}
+use Rattle.doc_sets.specs.declared.dictionary_lookup.Lookup.{Lookup}
+use Rattle.doc_sets.specs.declared.dictionary_lookup.Lookup.TheVariants.{Documents, Walk}
+use Rattle.doc_sets.specs.Texts.{text_lookups, item_lookups}
+use Rattle.doc_sets.specs.Walks.{range_of}
 use Rattle.doc_sets.specs.declared.wanted.Wanted.TheVariants.{Each, Within}
 
-abbrev mutual
-  -- what a query asks for: of words, members and presence the keys, of prefixes and ranges the keys that begin so
-  pub AsksQuery : PartView → Schema → List Placed → Parts → Sought → ℕ → ℕ → Type 0
-  AsksQuery v s documents p sought.All at len = ⊥
-  AsksQuery v s documents p sought.Nothing at len = ⊥
-  AsksQuery v s documents p (sought.Word n text) at len = HasField s n (λ f. AsksKeys v s documents p (text_keys f n text) at len)
-  AsksQuery v s documents p (sought.Quoted n text) at len = HasField s n (λ f. AsksKeys v s documents p (text_keys f n text) at len)
-  AsksQuery v s documents p (sought.Prefix n text) at len = HasField s n (λ f. AsksWalk v s documents p (field_key n (prefix_text f text)) Each at len)
-  AsksQuery v s documents p (sought.Exists n) at len = AsksKeys v s documents p (presence_key n ∷ []) at len
-  AsksQuery v s documents p (sought.Range n low high) at len = HasField s n (λ f. AsksWalk v s documents p (field_key n []) (Within (range_of f.kind low high)) at len)
-  AsksQuery v s documents p (sought.AnyOf n items) at len = HasField s n (λ f. AsksKeys v s documents p (item_keys f n items) at len)
-  AsksQuery v s documents p (sought.Not q) at len = AsksQuery v s documents p q at len
-  AsksQuery v s documents p (sought.And qs) at len = AsksEach v s documents p qs at len
-  AsksQuery v s documents p (sought.Or qs) at len = AsksEach v s documents p qs at len
+-- what is looked up of a field, if the schema has it
+abbrev pub of_field : Schema → ℕ → (Field → List Lookup) → List Lookup
+of_field s n looked = option_map_or looked (slice_get s.fields n) []
 
-  pub AsksEach : PartView → Schema → List Placed → Parts → Soughts → ℕ → ℕ → Type 0
-  AsksEach v s documents p no_more at len = ⊥
-  AsksEach v s documents p (more q qs) at len = AsksQuery v s documents p q at len ⊎ AsksEach v s documents p qs at len
+abbrev mutual
+  -- of words, quoted texts, members and presence the keys, of prefixes and ranges the walks over the keys that begin so
+  pub lookups_of : Schema → Sought → List Lookup
+  lookups_of s sought.All = []
+  lookups_of s sought.Nothing = []
+  lookups_of s (sought.Word n text) = of_field s n (λ f. text_lookups f n text)
+  lookups_of s (sought.Quoted n text) = of_field s n (λ f. text_lookups f n text)
+  lookups_of s (sought.Prefix n text) = of_field s n (λ f. Walk (field_key n (prefix_text f text)) Each ∷ [])
+  lookups_of s (sought.Exists n) = of_field s n (λ f. Documents (presence_key n) ∷ [])
+  lookups_of s (sought.Range n low high) = of_field s n (λ f. Walk (field_key n []) (Within (range_of f.kind low high)) ∷ [])
+  lookups_of s (sought.AnyOf n items) = of_field s n (λ f. item_lookups f n items)
+  lookups_of s (sought.Not q) = lookups_of s q
+  lookups_of s (sought.And qs) = lookups_of_each s qs
+  lookups_of s (sought.Or qs) = lookups_of_each s qs
+
+  pub lookups_of_each : Schema → Soughts → List Lookup
+  lookups_of_each s no_more = []
+  lookups_of_each s (more q qs) = lookups_of s q ++ lookups_of_each s qs

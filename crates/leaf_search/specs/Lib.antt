@@ -1,4 +1,7 @@
 pub mod Askable
 pub mod Asks
+pub mod Counts
 pub mod Numbers
 pub mod Answers
+pub mod FileRanges
+pub mod Needs

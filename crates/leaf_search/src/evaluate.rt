@@ -6,10 +6,10 @@ ghost use Rattle.query_ast.specs.Sought.{view, view_all};
 ghost use Rattle.leaf_search.specs.Askable.{CanAsk, CanAskEach};
 ghost use Rattle.split_bundle.specs.declared.placed.Placed.{Placed};
 ghost use Rattle.split_bundle.specs.Files.{Parts};
-ghost use Rattle.doc_sets.specs.Faults.{HasCause};
+ghost use Rattle.doc_sets.specs.Asking.{LacksLookups};
 ghost use Rattle.doc_sets.specs.Needed.{IsSearched};
 ghost use Rattle.doc_sets.specs.Sets.{IsSetOf};
-ghost use Rattle.leaf_search.specs.Asks.{AsksQuery, AsksEach};
+ghost use Rattle.leaf_search.specs.Asks.{lookups_of, lookups_of_each};
 
 use crate::fields::{with_prefix, with_quoted, with_some, with_value, with_word, within_range};
 use doc_sets::{
@@ -34,7 +34,7 @@ pub(crate) fn matching(
     requires few { length schema.now.fields ≤ 256 }
     ensures size { IfOk result (λ b. b.size ≡ part.now.footer.layout.docs) }
     ensures only { (documents : List Placed) (p : Parts) → IsSearched part.now schema.now documents p → CanAsk schema.now (view query.now)
-        → MatchResult result (IsSetOf (λ d. meaning schema.now d (view query.now)) documents) (HasCause (AsksQuery part.now schema.now documents p (view query.now)) part.now.pieces) }
+        → MatchResult result (IsSetOf (λ d. meaning schema.now d (view query.now)) documents) (LacksLookups part.now schema.now documents p (lookups_of schema.now (view query.now))) }
 {
     match query {
         Query::All => Ok(all_documents(alloc, part)?),
@@ -78,7 +78,7 @@ fn all_matching(
     requires few { length schema.now.fields ≤ 256 }
     ensures size { IfOk result (λ b. b.size ≡ part.now.footer.layout.docs) }
     ensures only { (documents : List Placed) (p : Parts) → IsSearched part.now schema.now documents p → CanAskEach schema.now (view_all parts.now)
-        → MatchResult result (IsSetOf (λ d. all_hold schema.now d (view_all parts.now)) documents) (HasCause (AsksEach part.now schema.now documents p (view_all parts.now)) part.now.pieces) }
+        → MatchResult result (IsSetOf (λ d. all_hold schema.now d (view_all parts.now)) documents) (LacksLookups part.now schema.now documents p (lookups_of_each schema.now (view_all parts.now))) }
 {
     let mut bits = all_documents(alloc, part)?;
     for each in parts {
@@ -101,7 +101,7 @@ fn some_matching(
     requires few { length schema.now.fields ≤ 256 }
     ensures size { IfOk result (λ b. b.size ≡ part.now.footer.layout.docs) }
     ensures only { (documents : List Placed) (p : Parts) → IsSearched part.now schema.now documents p → CanAskEach schema.now (view_all parts.now)
-        → MatchResult result (IsSetOf (λ d. some_hold schema.now d (view_all parts.now)) documents) (HasCause (AsksEach part.now schema.now documents p (view_all parts.now)) part.now.pieces) }
+        → MatchResult result (IsSetOf (λ d. some_hold schema.now d (view_all parts.now)) documents) (LacksLookups part.now schema.now documents p (lookups_of_each schema.now (view_all parts.now))) }
 {
     let mut bits = no_documents(alloc, part)?;
     for each in parts {

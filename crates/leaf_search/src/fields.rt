@@ -6,10 +6,10 @@ ghost use Rattle.query_ast.specs.Sought as sought;
 ghost use Rattle.leaf_search.specs.Askable.{CanAsk};
 ghost use Rattle.split_bundle.specs.declared.placed.Placed.{Placed};
 ghost use Rattle.split_bundle.specs.Files.{Parts};
-ghost use Rattle.doc_sets.specs.Faults.{HasCause};
+ghost use Rattle.doc_sets.specs.Asking.{LacksLookups};
 ghost use Rattle.doc_sets.specs.Needed.{IsSearched};
 ghost use Rattle.doc_sets.specs.Sets.{IsSetOf};
-ghost use Rattle.leaf_search.specs.Asks.{AsksQuery};
+ghost use Rattle.leaf_search.specs.Asks.{lookups_of};
 
 use doc_sets::{
     DocBits, LeafError, no_documents, prefix_documents, present_documents, quoted_documents,
@@ -22,7 +22,7 @@ use std::alloc::Global;
 use term_dict::BlockIndex;
 
 // The field with a number.
-fn field_at(schema: &Schema, number: usize) -> Option<&Field>
+pub(crate) fn field_at(schema: &Schema, number: usize) -> Option<&Field>
     ensures found { MatchOption result (slice_get schema.now.fields number ≡ None) (λ f. slice_get schema.now.fields number ≡ Some f.now) }
     ensures within { IfSome result (λ f. number < length schema.now.fields) }
 {
@@ -46,7 +46,7 @@ pub(crate) fn with_word(
     requires few { length schema.now.fields ≤ 256 }
     ensures size { IfOk result (λ b. b.size ≡ part.now.footer.layout.docs) }
     ensures only { (documents : List Placed) (p : Parts) → IsSearched part.now schema.now documents p → CanAsk schema.now (sought.Word number text.now)
-        → MatchResult result (IsSetOf (λ d. meaning schema.now d (sought.Word number text.now)) documents) (HasCause (AsksQuery part.now schema.now documents p (sought.Word number text.now)) part.now.pieces) }
+        → MatchResult result (IsSetOf (λ d. meaning schema.now d (sought.Word number text.now)) documents) (LacksLookups part.now schema.now documents p (lookups_of schema.now (sought.Word number text.now))) }
 {
     match field_at(schema, number) {
         Some(field) => word_documents(alloc, index, part, number, field, text),
@@ -67,7 +67,7 @@ pub(crate) fn with_quoted(
     requires few { length schema.now.fields ≤ 256 }
     ensures size { IfOk result (λ b. b.size ≡ part.now.footer.layout.docs) }
     ensures only { (documents : List Placed) (p : Parts) → IsSearched part.now schema.now documents p → CanAsk schema.now (sought.Quoted number text.now)
-        → MatchResult result (IsSetOf (λ d. meaning schema.now d (sought.Quoted number text.now)) documents) (HasCause (AsksQuery part.now schema.now documents p (sought.Quoted number text.now)) part.now.pieces) }
+        → MatchResult result (IsSetOf (λ d. meaning schema.now d (sought.Quoted number text.now)) documents) (LacksLookups part.now schema.now documents p (lookups_of schema.now (sought.Quoted number text.now))) }
 {
     match field_at(schema, number) {
         Some(field) => quoted_documents(alloc, index, part, number, field, text),
@@ -88,7 +88,7 @@ pub(crate) fn with_prefix(
     requires few { length schema.now.fields ≤ 256 }
     ensures size { IfOk result (λ b. b.size ≡ part.now.footer.layout.docs) }
     ensures only { (documents : List Placed) (p : Parts) → IsSearched part.now schema.now documents p → CanAsk schema.now (sought.Prefix number text.now)
-        → MatchResult result (IsSetOf (λ d. meaning schema.now d (sought.Prefix number text.now)) documents) (HasCause (AsksQuery part.now schema.now documents p (sought.Prefix number text.now)) part.now.pieces) }
+        → MatchResult result (IsSetOf (λ d. meaning schema.now d (sought.Prefix number text.now)) documents) (LacksLookups part.now schema.now documents p (lookups_of schema.now (sought.Prefix number text.now))) }
 {
     match field_at(schema, number) {
         Some(field) => prefix_documents(alloc, index, part, number, field, text),
@@ -108,7 +108,7 @@ pub(crate) fn with_value(
     requires few { length schema.now.fields ≤ 256 }
     ensures size { IfOk result (λ b. b.size ≡ part.now.footer.layout.docs) }
     ensures only { (documents : List Placed) (p : Parts) → IsSearched part.now schema.now documents p → CanAsk schema.now (sought.Exists number)
-        → MatchResult result (IsSetOf (λ d. meaning schema.now d (sought.Exists number)) documents) (HasCause (AsksQuery part.now schema.now documents p (sought.Exists number)) part.now.pieces) }
+        → MatchResult result (IsSetOf (λ d. meaning schema.now d (sought.Exists number)) documents) (LacksLookups part.now schema.now documents p (lookups_of schema.now (sought.Exists number))) }
 {
     match field_at(schema, number) {
         Some(_field) => present_documents(alloc, index, part, number),
@@ -130,7 +130,7 @@ pub(crate) fn within_range(
     requires few { length schema.now.fields ≤ 256 }
     ensures size { IfOk result (λ b. b.size ≡ part.now.footer.layout.docs) }
     ensures only { (documents : List Placed) (p : Parts) → IsSearched part.now schema.now documents p → CanAsk schema.now (sought.Range number low.now high.now)
-        → MatchResult result (IsSetOf (λ d. meaning schema.now d (sought.Range number low.now high.now)) documents) (HasCause (AsksQuery part.now schema.now documents p (sought.Range number low.now high.now)) part.now.pieces) }
+        → MatchResult result (IsSetOf (λ d. meaning schema.now d (sought.Range number low.now high.now)) documents) (LacksLookups part.now schema.now documents p (lookups_of schema.now (sought.Range number low.now high.now))) }
 {
     match field_at(schema, number) {
         Some(field) => range_documents(alloc, index, part, number, field, low, high),
@@ -151,7 +151,7 @@ pub(crate) fn with_some(
     requires few { length schema.now.fields ≤ 256 }
     ensures size { IfOk result (λ b. b.size ≡ part.now.footer.layout.docs) }
     ensures only { (documents : List Placed) (p : Parts) → IsSearched part.now schema.now documents p → CanAsk schema.now (sought.AnyOf number items.now)
-        → MatchResult result (IsSetOf (λ d. meaning schema.now d (sought.AnyOf number items.now)) documents) (HasCause (AsksQuery part.now schema.now documents p (sought.AnyOf number items.now)) part.now.pieces) }
+        → MatchResult result (IsSetOf (λ d. meaning schema.now d (sought.AnyOf number items.now)) documents) (LacksLookups part.now schema.now documents p (lookups_of schema.now (sought.AnyOf number items.now))) }
 {
     match field_at(schema, number) {
         Some(field) => some_documents(alloc, index, part, number, field, items),

@@ -8,8 +8,14 @@ ghost use Rattle.split_bundle.specs.Files.{Parts, file_bytes};
 ghost use Rattle.split_bundle.specs.Lending.{IsPartOf};
 ghost use Rattle.split_bundle.specs.Wholes.{HaveAll};
 ghost use Rattle.doc_sets.specs.Faults.{HasCause, IsMemory};
-ghost use Rattle.leaf_search.specs.Answers.{AsksLeaf, IsAnswerOf, IsAsked};
+ghost use Rattle.query_ast.specs.Sought.{view as query_view};
+ghost use Rattle.leaf_search.specs.Answers.{AsksLeaf, AsksWith, IsAnswerOf, IsAsked};
+ghost use Rattle.leaf_search.specs.Asks.{lookups_of};
+ghost use Rattle.leaf_search.specs.FileRanges.{AreRangesOf};
+ghost use Rattle.leaf_search.specs.Needs.{AreHeld, NeedsBlocks, NeedsLists};
+ghost use Rattle.leaf_search.specs.declared.file_ranges.FileRange.{FileRange};
 
+use crate::token_counts::{counted, counted_key};
 use crate::evaluate::matching;
 use crate::numbers::numbers_in;
 use crate::request::{LeafAnswer, LeafRequest};
@@ -35,7 +41,33 @@ pub fn leaf(
     // Where the pieces have every part of the file: their answer, or want of memory.
     ensures there { (documents : List Placed) (p : Parts) → IsPartOf view.now schema.now documents p → HaveAll (file_bytes p) view.now.pieces → IsAsked schema.now request.now
         → MatchResult result (IsAnswerOf schema.now request.now documents) IsMemory }
+    // Where a piece holds each range that the request needs: their answer, or want of memory.
+    ensures needed { (documents : List Placed) (p : Parts) (blocks lists : List FileRange) → IsPartOf view.now schema.now documents p → IsAsked schema.now request.now
+        → AreRangesOf (NeedsBlocks view.now schema.now documents p request.now) blocks → AreRangesOf (NeedsLists view.now schema.now documents p request.now) lists
+        → AreHeld view.now.pieces blocks → AreHeld view.now.pieces lists → MatchResult result (IsAnswerOf schema.now request.now documents) IsMemory }
     // Over any bytes.
+    ensures partial { IfOk result (λ a. IsPartialOf request.now.aggs a.partial) }
+{
+    match counted_key(alloc, schema, request)? {
+        Some(key) => counted(alloc, request, view, key.as_slice()),
+        None => evaluated(alloc, schema, request, view),
+    }
+}
+
+// The answer by the set of the documents that match the query.
+fn evaluated(
+    alloc: Global,
+    schema: &Schema,
+    request: &LeafRequest,
+    view: &PartView,
+) -> Result<LeafAnswer, LeafError>
+    requires fields { length schema.now.fields ≤ 256 }
+    requires intervals { HaveIntervals request.now.aggs }
+    ensures only { (documents : List Placed) (p : Parts) → IsPartOf view.now schema.now documents p → IsAsked schema.now request.now
+        → MatchResult result (IsAnswerOf schema.now request.now documents)
+        (HasCause (AsksWith view.now schema.now documents p request.now (lookups_of schema.now (query_view request.now.query))) view.now.pieces) }
+    ensures there { (documents : List Placed) (p : Parts) → IsPartOf view.now schema.now documents p → HaveAll (file_bytes p) view.now.pieces → IsAsked schema.now request.now
+        → MatchResult result (IsAnswerOf schema.now request.now documents) IsMemory }
     ensures partial { IfOk result (λ a. IsPartialOf request.now.aggs a.partial) }
 {
     let index = view.footer().index();

@@ -27,7 +27,7 @@ pub(crate) fn are_below(numbers: &[u32], count: u32) -> bool
     numbers.iter().all(|number| *number < count)
 }
 
-fn is_unlimited(times: TimeRange) -> bool
+pub(crate) fn is_unlimited(times: TimeRange) -> bool
     ensures { result ≡ is_unlimited times.start times.end }
 {
     match (times.start, times.end) {

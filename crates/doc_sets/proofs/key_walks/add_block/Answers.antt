@@ -1,4 +1,3 @@
-use Rattle.std.proofs.Common.{◌≡◌}
 use Rattle.split_bundle.specs.Lists.{terms_of}
 use Rattle.doc_sets.specs.Walks.{begun_in}
 use Rattle.doc_sets.proofs.TermWalks.{begun_listed, few_begun}

@@ -1,5 +1,4 @@
-use Rattle.std.proofs.Common.{◌≡◌, ◌∙◌, true, false, sym}
-use Rattle.doc_sets.specs.Walks.{takes}
+use Rattle.std.proofs.Common.{◌∙◌, sym}
 use Rattle.doc_sets.proofs.WalkSteps.{wanted_added, unwanted_kept}
 use Rattle.doc_sets.proofs.key_walks.add_if_wanted.Goals as goal
 

@@ -1,5 +1,4 @@
-use Rattle.std.proofs.Common.{◌≡◌, ◌∙◌, ◌||◌, ◌&&◌, ◌+◌, List, Bool, ap, sym, subst, drop, arith}
-use Rattle.doc_value.specs.declared.doc.DocField.{DocField}
+use Rattle.std.proofs.Common.{◌∙◌, ◌||◌, ◌&&◌, ◌+◌, List, ap, sym, subst, drop}
 use Rattle.term_dict.specs.Readers.{Lends}
 use Rattle.term_dict.specs.declared.term.Term.{Term}
 use Rattle.split_bundle.specs.Keys.{keys_of}
@@ -9,7 +8,7 @@ use Rattle.doc_sets.specs.Sets.{IsSetOf}
 use Rattle.doc_sets.specs.Walks.{AsksIf, AsksTerms, IsListed, has_some_of, takes}
 use Rattle.doc_sets.proofs.Causes.{handed_on}
 use Rattle.doc_sets.proofs.TermWalks.{term_step}
-use Rattle.doc_sets.proofs.WalkSteps.{IsGiven, drop_next, drop_twice, first_listed, given, listed_as, none_given, none_more, set_alike, term_lacks}
+use Rattle.doc_sets.proofs.WalkSteps.{drop_next, drop_twice, first_listed, given, listed_as, none_given, none_more, set_alike, term_lacks}
 use Rattle.doc_sets.proofs.key_walks.add_terms.Goals as goal
 
 pub returns-in_err-add_if_wanted-in-Ok-Some-clause-only : goal.returns-in_err-add_if_wanted-in-Ok-Some-clause-only

@@ -1,4 +1,4 @@
-use Rattle.std.proofs.Common.{◌≡◌, ◌∙◌, [], true, ap, subst, nat_eq}
+use Rattle.std.proofs.Common.{◌≡◌, ◌∙◌, [], true, subst, nat_eq}
 use Rattle.std.specs.List.{starts_with}
 use Rattle.split_bundle.specs.Keys.{field_key}
 use Rattle.doc_sets.proofs.TermWalks.{begun_keeps}

@@ -1,11 +1,10 @@
-use Rattle.std.proofs.Common.{◌≡◌, ◌∙◌, ◌||◌, ◌-◌, ◌+◌, ◌<◌, ◌≤◌, suc, ℕ, List, Bool, true, filter, nat_eq, ap, sym, subst, arith}
+use Rattle.std.proofs.Common.{◌≡◌, ◌∙◌, ◌||◌, ◌-◌, ◌+◌, suc, ℕ, List, true, nat_eq, ap, sym, subst, arith}
 use Rattle.std.specs.List.{starts_with}
-use Rattle.term_dict.specs.Bounds.{AreBlocks, joined}
+use Rattle.term_dict.specs.Bounds.{AreBlocks}
 use Rattle.term_dict.specs.Keys.{is_below}
 use Rattle.term_dict.specs.Terms.{IsDict}
 use Rattle.term_dict.specs.declared.index.BlockStart.{BlockStart}
 use Rattle.term_dict.specs.declared.term.Term.{Term}
-use Rattle.split_bundle.specs.declared.placed.Placed.{Placed}
 use Rattle.split_bundle.specs.Keys.{keys_of}
 use Rattle.split_bundle.specs.Lists.{has_key, terms_of}
 use Rattle.doc_sets.specs.Asked.{is_listed, such}

@@ -4,14 +4,14 @@ use Rattle.split_bundle.specs.Keys.{keys_of}
 use Rattle.split_bundle.specs.Lists.{has_key, posting_list}
 use Rattle.split_bundle.proofs.Infos.{info_found}
 use Rattle.doc_sets.specs.Sets.{IsSetOf}
-use Rattle.doc_sets.proofs.Causes.{cursor_lacks}
+use Rattle.doc_sets.proofs.Causes.{documents_lack}
 use Rattle.doc_sets.proofs.Numbers.{posting_list_below}
 use Rattle.doc_sets.proofs.SetLemmas.{listed_set}
 use Rattle.doc_sets.proofs.lookups.term_documents.Goals as goal
 
 pub returns-in_err-cursor-clause-only : goal.returns-in_err-cursor-clause-only
 returns-in_err-cursor-clause-only c = λ s documents p key is found flag.
-    cursor_lacks c.args.part.now s documents p (IsSetOf (λ d. has_key key (keys_of s d)) documents) key c.args.info.now c.args.positions c.in_err-cursor.field-0.0 c.from_residual-in_err-cursor.result found flag
+    documents_lack c.args.part.now s documents p (IsSetOf (λ d. has_key key (keys_of s d)) documents) key c.args.info.now c.in_err-cursor.field-0.0 c.from_residual-in_err-cursor.result found
     c.from_residual-in_err-cursor.ensures.1 (c.in_err-cursor.ensures.only s documents p key is.part found flag)
 
 pub returns-in_err-fill-clause-only : goal.returns-in_err-fill-clause-only

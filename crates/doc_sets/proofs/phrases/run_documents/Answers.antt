@@ -2,7 +2,7 @@ use Rattle.std.proofs.Common.{◌∙◌, inl, inr, false, ap, sym, arith}
 use Rattle.std.proofs.lemmas.Bool.{cases_eq}
 use Rattle.split_bundle.specs.Keys.{keys_of}
 use Rattle.doc_sets.specs.Asked.{has_run}
-use Rattle.doc_sets.specs.Needed.{LacksKeys, token_keys}
+use Rattle.doc_sets.specs.Needed.{LacksPlaces, token_keys}
 use Rattle.doc_sets.specs.Sets.{holds_at, IsSetOf}
 use Rattle.doc_sets.proofs.Causes.{handed_on}
 use Rattle.doc_sets.proofs.Runs.{there, holds_here, put_last, put_here}
@@ -12,7 +12,7 @@ pub returns-in_err-runs-clause-only : goal.returns-in_err-runs-clause-only
 returns-in_err-runs-clause-only c = λ s documents p is keeps set.
     let count = c.doc_count-count.ensures.only s documents p is.part in
     let d = there documents c.loop-document.document (omega (arith, count, c.loop-document-test.true)) in
-    handed_on (IsSetOf (λ x. has_run c.args.number c.args.phrase.now (keys_of s x)) documents) (LacksKeys c.args.part.now s documents p (token_keys c.args.number c.args.phrase.now)) c.from_residual-in_err-runs.result c.in_err-runs.field-0.0
+    handed_on (IsSetOf (λ x. has_run c.args.number c.args.phrase.now (keys_of s x)) documents) (LacksPlaces c.args.part.now s documents p (token_keys c.args.number c.args.phrase.now)) c.from_residual-in_err-runs.result c.in_err-runs.field-0.0
     c.from_residual-in_err-runs.ensures.1 (c.in_err-runs.ensures s documents p d.0 is keeps d.1 set)
 
 pub loop-document-preserved : goal.loop-document-preserved

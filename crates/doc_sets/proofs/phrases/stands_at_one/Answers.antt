@@ -1,7 +1,7 @@
 use Rattle.std.proofs.Common.{◌≡◌, ◌∙◌, ◌+◌, ◌||◌, drop, ap, sym}
 use Rattle.split_bundle.specs.Keys.{keys_of}
 use Rattle.doc_sets.specs.Asked.{stands_from_one}
-use Rattle.doc_sets.specs.Needed.{LacksKeys, token_keys}
+use Rattle.doc_sets.specs.Needed.{LacksPlaces, token_keys}
 use Rattle.doc_sets.proofs.Causes.{handed_on}
 use Rattle.doc_sets.proofs.Runs.{one_step}
 use Rattle.doc_sets.proofs.Steps.{none_behind}
@@ -9,7 +9,7 @@ use Rattle.doc_sets.proofs.phrases.stands_at_one.Goals as goal
 
 pub returns-in_err-stands_behind : goal.returns-in_err-stands_behind
 returns-in_err-stands_behind c = λ s documents p d is keeps got each.
-    handed_on (λ b. b ≡ stands_from_one c.args.number c.args.phrase.now c.args.from c.args.starts.now (keys_of s d.doc)) (LacksKeys c.args.part.now s documents p (token_keys c.args.number c.args.phrase.now)) c.from_residual.result c.in_err-stands_behind.field-0.0
+    handed_on (λ b. b ≡ stands_from_one c.args.number c.args.phrase.now c.args.from c.args.starts.now (keys_of s d.doc)) (LacksPlaces c.args.part.now s documents p (token_keys c.args.number c.args.phrase.now)) c.from_residual.result c.in_err-stands_behind.field-0.0
     c.from_residual.ensures.1 (c.in_err-stands_behind.ensures s documents p d is keeps got each)
 
 pub returns-then-branch : goal.returns-then-branch

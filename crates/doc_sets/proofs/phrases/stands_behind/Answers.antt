@@ -2,7 +2,7 @@ use Rattle.std.proofs.Common.{◌≡◌, ◌∙◌, ◌+◌, ◌-◌, ◌&&◌, 
 use Rattle.split_bundle.specs.Keys.{field_key, keys_of}
 use Rattle.split_bundle.specs.Lists.{has_key, keeps_places, places_of}
 use Rattle.doc_sets.specs.Asked.{is_among, stands_from}
-use Rattle.doc_sets.specs.Needed.{LacksKeys, token_keys}
+use Rattle.doc_sets.specs.Needed.{AsksPlaces, LacksPlaces, token_keys}
 use Rattle.doc_sets.proofs.Causes.{handed_on, token_lacks}
 use Rattle.doc_sets.proofs.Runs.{behind_step, each_at}
 use Rattle.doc_sets.proofs.Steps.{none_behind}
@@ -18,9 +18,9 @@ returns-in_err-places c = λ s documents p d is keeps got each.
     let key : c.deref.result.now ≡ field_key n x.text = c.deref.ensures.value ∙ (c.in_ok-key.ensures ∙ ap (field_key n) c.as_slice.ensures) in
     let flag : keeps_places s c.deref.result.now ≡ true = ap (keeps_places s) key ∙ keeps x.text in
     let has : has_key c.deref.result.now os ≡ true = ap (λ k. has_key k os) key ∙ each_at n i x c.args.phrase.now os c.loop-token-test.true c.token-item.is each in
-    let cause = subst (λ k. LacksKeys v s documents p (k ∷ []) c.in_err-places.field-0.0) key (c.in_err-places.ensures s documents p d is flag got has) in
-    handed_on (λ b. b ≡ stands_from n c.args.phrase.now c.args.from c.args.start os) (LacksKeys v s documents p (token_keys n c.args.phrase.now)) c.from_residual-in_err-places.result c.in_err-places.field-0.0 c.from_residual-in_err-places.ensures.1
-    (token_lacks v s documents p n i x c.args.phrase.now c.in_err-places.field-0.0 c.loop-token-test.true c.token-item.is cause)
+    let cause = subst (λ k. LacksPlaces v s documents p (k ∷ []) c.in_err-places.field-0.0) key (c.in_err-places.ensures s documents p d is flag got has) in
+    handed_on (λ b. b ≡ stands_from n c.args.phrase.now c.args.from c.args.start os) (LacksPlaces v s documents p (token_keys n c.args.phrase.now)) c.from_residual-in_err-places.result c.in_err-places.field-0.0 c.from_residual-in_err-places.ensures.1
+    (token_lacks (AsksPlaces v s documents p) v.pieces n i x c.args.phrase.now c.in_err-places.field-0.0 c.loop-token-test.true c.token-item.is cause)
 
 pub returns-then-not-is_behind : goal.returns-then-not-is_behind
 returns-then-not-is_behind c = λ s documents p d is keeps got each.

@@ -2,7 +2,10 @@ use Rattle.std.proofs.Common.{◌≡◌, ◌∙◌, ◌<◌, List, length, sym, 
 use Rattle.query_ast.specs.FieldTokens.{field_tokens}
 use Rattle.query_ast.specs.Meaning.{each_holds, each_stands, values_in}
 use Rattle.text_tokens.specs.declared.tokens.Token.{Token}
+use Rattle.doc_sets.specs.Asking.{LacksLookups}
 use Rattle.doc_sets.specs.Needed.{LacksKeys, token_keys}
+use Rattle.doc_sets.specs.Texts.{lookups_for}
+use Rattle.doc_sets.proofs.Looked.{keys_lack, wider_result}
 use Rattle.doc_sets.specs.Sets.{IsSetOf}
 use Rattle.doc_sets.proofs.TextLaws.{each_some, some_tokens}
 use Rattle.doc_sets.proofs.WalkSteps.{result_alike_sets}
@@ -16,7 +19,9 @@ returns-clause-only c = λ s documents p is got on kind.
     let text = c.args.text.now in
     let tok : c.as_slice-2.result.now ≡ field_tokens f text = c.as_slice-2.ensures ∙ c.in_ok-tokens.ensures in
     let some : 0 < length (field_tokens f text) = some_tokens c.as_slice.result.now (field_tokens f text) (c.as_slice.ensures ∙ c.in_ok-tokens.ensures) (sym c.is_empty.ensures ∙ c.if-is_empty.false) in
-    result_alike_sets (LacksKeys v s documents p (token_keys n (field_tokens f text))) c.each_documents.result (λ d. each_stands f (field_tokens f text) (values_in d n)) (λ d. each_holds f (field_tokens f text) (values_in d n)) documents
+    let keys = token_keys n (field_tokens f text) in
+    wider_result (IsSetOf (λ d. each_holds f (field_tokens f text) (values_in d n)) documents) (LacksKeys v s documents p keys) (LacksLookups v s documents p (lookups_for keys)) c.each_documents.result (keys_lack v s documents p keys)
+    (result_alike_sets (LacksKeys v s documents p (token_keys n (field_tokens f text))) c.each_documents.result (λ d. each_stands f (field_tokens f text) (values_in d n)) (λ d. each_holds f (field_tokens f text) (values_in d n)) documents
     (λ d. each_some f (field_tokens f text) (values_in d n) some)
     (subst (λ (ts : List Token). MatchResult c.each_documents.result (IsSetOf (λ d. each_stands f ts (values_in d n)) documents) (LacksKeys v s documents p (token_keys n ts))) tok
-    (c.each_documents.ensures.only s documents p is got on kind))
+    (c.each_documents.ensures.only s documents p is got on kind)))

@@ -3,7 +3,9 @@ use Rattle.query_ast.specs.FieldTokens.{field_tokens}
 use Rattle.query_ast.specs.Meaning.{phrase_holds, values_in}
 use Rattle.text_tokens.specs.declared.tokens.Token.{Token}
 use Rattle.doc_sets.specs.Asked.{AreBehindFirst}
-use Rattle.doc_sets.specs.Needed.{LacksKeys, token_keys}
+use Rattle.doc_sets.specs.Asking.{LacksLookups}
+use Rattle.doc_sets.specs.Needed.{token_keys}
+use Rattle.doc_sets.specs.Texts.{lookups_for}
 use Rattle.doc_sets.specs.Sets.{IsSetOf}
 use Rattle.doc_sets.proofs.PhraseTokens.{tokens_behind, can_phrase}
 use Rattle.doc_sets.proofs.texts.placed_documents.Goals as goal
@@ -17,5 +19,5 @@ returns-clause-only c = λ s documents p is got on kind place.
     let tok : c.as_slice.result.now ≡ field_tokens f text = c.as_slice.ensures ∙ c.in_ok-tokens.ensures in
     let can = subst (λ (ts : List Token). (f.positions ≡ true) ⊎ (length ts ≤ 1)) (sym tok) (can_phrase f.positions (length (field_tokens f text)) (place kind)) in
     let behind = subst AreBehindFirst (sym tok) (tokens_behind f text) in
-    subst (λ (ts : List Token). MatchResult c.phrase_documents.result (IsSetOf (λ d. phrase_holds f ts (values_in d n)) documents) (LacksKeys v s documents p (token_keys n ts))) tok
+    subst (λ (ts : List Token). MatchResult c.phrase_documents.result (IsSetOf (λ d. phrase_holds f ts (values_in d n)) documents) (LacksLookups v s documents p (lookups_for (token_keys n ts)))) tok
     (c.phrase_documents.ensures.only s documents p is got on kind can behind)

@@ -1,4 +1,4 @@
-use Rattle.std.proofs.Common.{◌≡◌, ◌∙◌, sym}
+use Rattle.std.proofs.Common.{◌∙◌, sym}
 use Rattle.doc_sets.proofs.TextLaws.{quoted_text, quoted_value}
 use Rattle.doc_sets.proofs.texts.quoted_documents.Goals as goal
 

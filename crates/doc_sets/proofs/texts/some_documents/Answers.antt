@@ -1,8 +1,8 @@
-use Rattle.std.proofs.Common.{◌≡◌, ◌∙◌, ◌||◌, ap, sym}
+use Rattle.std.proofs.Common.{◌∙◌, ◌||◌, ap, sym}
 use Rattle.query_ast.specs.Meaning.{item_holds, some_item_holds, values_in}
-use Rattle.doc_sets.specs.Needed.{LacksKeys}
+use Rattle.doc_sets.specs.Asking.{LacksLookups}
 use Rattle.doc_sets.specs.Sets.{IsSetOf}
-use Rattle.doc_sets.specs.Texts.{item_keys}
+use Rattle.doc_sets.specs.Texts.{item_lookups}
 use Rattle.doc_sets.proofs.Causes.{handed_on}
 use Rattle.doc_sets.proofs.Steps.{none_behind, or_false}
 use Rattle.doc_sets.proofs.TextLaws.{can_item, item_lacks, item_step}
@@ -31,7 +31,7 @@ returns-in_err-other-clause-only c = λ s documents p is got on can.
     let x = c.item-item.result in
     let items = c.args.items.now in
     let e = c.in_err-other.field-0.0 in
-    handed_on (IsSetOf (λ d. some_item_holds f (values_in d n) items) documents) (LacksKeys v s documents p (item_keys f n items)) c.from_residual-in_err-other.result e c.from_residual-in_err-other.ensures.1
+    handed_on (IsSetOf (λ d. some_item_holds f (values_in d n) items) documents) (LacksLookups v s documents p (item_lookups f n items)) c.from_residual-in_err-other.result e c.from_residual-in_err-other.ensures.1
     (item_lacks v s documents p n f c.loop-item.item-index x items e c.loop-item-test.true c.item-item.is (c.in_err-other.ensures.only s documents p is got on (can_item f c.loop-item.item-index x items c.loop-item-test.true c.item-item.is can)))
 
 pub returns-clause-only : goal.returns-clause-only

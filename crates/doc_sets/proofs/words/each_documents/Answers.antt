@@ -1,5 +1,5 @@
 use Rattle.std.proofs.Common.{◌∙◌, ◌&&◌, ◌∷◌, [], sym, ap, subst}
-use Rattle.doc_sets.specs.Needed.{LacksKeys, token_keys}
+use Rattle.doc_sets.specs.Needed.{AsksKey, LacksKeys, token_keys}
 use Rattle.doc_sets.specs.Sets.{IsSetOf}
 use Rattle.query_ast.specs.Meaning.{some_has_token, each_stands, values_in}
 use Rattle.split_bundle.specs.Keys.{field_key}
@@ -27,7 +27,7 @@ returns-in_err-other-clause-only c = λ s documents p is got on kind.
     let v = c.args.part.now in
     let cause = subst (λ t. LacksKeys v s documents p (field_key n t ∷ []) c.in_err-other.field-0.0) c.as_slice.ensures (c.in_err-other.ensures.only s documents p is got on kind) in
     handed_on (IsSetOf (λ d. each_stands c.args.field.now c.args.tokens.now (values_in d n)) documents) (LacksKeys v s documents p (token_keys n c.args.tokens.now)) c.from_residual-in_err-other.result c.in_err-other.field-0.0 c.from_residual-in_err-other.ensures.1
-    (token_lacks v s documents p n c.loop-token.token-index c.token-item.result c.args.tokens.now c.in_err-other.field-0.0 c.loop-token-test.true c.token-item.is cause)
+    (token_lacks (AsksKey v s documents p) v.pieces n c.loop-token.token-index c.token-item.result c.args.tokens.now c.in_err-other.field-0.0 c.loop-token-test.true c.token-item.is cause)
 
 pub returns-clause-only : goal.returns-clause-only
 returns-clause-only c = λ s documents p is got on kind.

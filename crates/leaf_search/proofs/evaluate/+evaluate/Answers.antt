@@ -1,14 +1,14 @@
 use Rattle.std.proofs.Common.{rules, ◌≡◌, ◌∙◌, ◌&&◌, ◌||◌, sym, ap, subst}
 use Rattle.query_ast.specs.declared.query.Query.{the_lemmas}
 use Rattle.query_ast.specs.Meaning.{meaning, all_hold, some_hold}
-use Rattle.query_ast.specs.Sought.{And, Or, view, view_all}
-use Rattle.doc_sets.specs.Faults.{HasCause}
+use Rattle.query_ast.specs.Sought.{And, Or, Prefix, Range, view, view_all}
+use Rattle.doc_sets.specs.Asking.{AsksLookups, LacksLookups}
 use Rattle.doc_sets.specs.Sets.{IsSetOf}
 use Rattle.doc_sets.proofs.Causes.{cause_wider, handed_on}
 use Rattle.doc_sets.proofs.Steps.{and_true, none_behind, or_false}
 use Rattle.doc_sets.proofs.WalkSteps.{set_alike}
 use Rattle.leaf_search.specs.Askable.{CanAsk}
-use Rattle.leaf_search.specs.Asks.{AsksQuery, AsksEach}
+use Rattle.leaf_search.specs.Asks.{lookups_of, lookups_of_each}
 use Rattle.leaf_search.proofs.QuerySteps.{row_all, all_step, some_step, can_at, asked_at, of_query}
 use Rattle.leaf_search.proofs.evaluate.+evaluate.Goals as goal
 
@@ -47,8 +47,8 @@ all_matching-returns-in_err-other-clause-only t c = λ documents p is can.
     let e = c.in_err-other.field-0.0 in
     let lt = c.loop-each-test.true in
     let cause = c.in_err-other.ensures.only documents p is (can_at s x qs c.loop-each.each-index lt c.each-item.is can) in
-    handed_on (IsSetOf (λ d. all_hold s d (view_all qs)) documents) (HasCause (AsksEach v s documents p (view_all qs)) v.pieces) c.from_residual-in_err-other.result e c.from_residual-in_err-other.ensures.1
-    (cause_wider (AsksQuery v s documents p (view x)) (AsksEach v s documents p (view_all qs)) v.pieces e (asked_at v s documents p x qs c.loop-each.each-index lt c.each-item.is) cause)
+    handed_on (IsSetOf (λ d. all_hold s d (view_all qs)) documents) (LacksLookups v s documents p (lookups_of_each s (view_all qs))) c.from_residual-in_err-other.result e c.from_residual-in_err-other.ensures.1
+    (cause_wider (AsksLookups v s documents p (lookups_of s (view x))) (AsksLookups v s documents p (lookups_of_each s (view_all qs))) v.pieces e (asked_at v s documents p x qs c.loop-each.each-index lt c.each-item.is) cause)
 
 pub some_matching-returns-in_err-other-clause-only : goal.some_matching-returns-in_err-other-clause-only
 some_matching-returns-in_err-other-clause-only t c = λ documents p is can.
@@ -59,8 +59,8 @@ some_matching-returns-in_err-other-clause-only t c = λ documents p is can.
     let e = c.in_err-other.field-0.0 in
     let lt = c.loop-each-test.true in
     let cause = c.in_err-other.ensures.only documents p is (can_at s x qs c.loop-each.each-index lt c.each-item.is can) in
-    handed_on (IsSetOf (λ d. some_hold s d (view_all qs)) documents) (HasCause (AsksEach v s documents p (view_all qs)) v.pieces) c.from_residual-in_err-other.result e c.from_residual-in_err-other.ensures.1
-    (cause_wider (AsksQuery v s documents p (view x)) (AsksEach v s documents p (view_all qs)) v.pieces e (asked_at v s documents p x qs c.loop-each.each-index lt c.each-item.is) cause)
+    handed_on (IsSetOf (λ d. some_hold s d (view_all qs)) documents) (LacksLookups v s documents p (lookups_of_each s (view_all qs))) c.from_residual-in_err-other.result e c.from_residual-in_err-other.ensures.1
+    (cause_wider (AsksLookups v s documents p (lookups_of s (view x))) (AsksLookups v s documents p (lookups_of_each s (view_all qs))) v.pieces e (asked_at v s documents p x qs c.loop-each.each-index lt c.each-item.is) cause)
 
 pub all_matching-returns-clause-only : goal.all_matching-returns-clause-only
 all_matching-returns-clause-only t c = λ documents p is can.
@@ -98,3 +98,18 @@ matching-returns-in-Or-clause-only t c = λ documents p is can.
     let s = c.args.schema.now in
     let same : view c.args.query.now ≡ Or (view_all c.as_slice-in-Or.result.now) = search (rules, row_all, the_lemmas) in
     of_query c.args.part.now s documents p c.some_matching.result (view c.args.query.now) (Or (view_all c.as_slice-in-Or.result.now)) same (c.some_matching.ensures.only documents p is (subst (CanAsk s) same can))
+
+pub matching-returns-in-Prefix-clause-only : goal.matching-returns-in-Prefix-clause-only
+matching-returns-in-Prefix-clause-only t c = λ documents p is can.
+    let s = c.args.schema.now in
+    let n = c.in-Prefix.field in
+    let text = c.as_str-in-Prefix.result.now in
+    let same : view c.args.query.now ≡ Prefix n text = ap view c.in-Prefix.is ∙ ap (λ u. Prefix n u) (sym c.as_str-in-Prefix.ensures) in
+    of_query c.args.part.now s documents p c.with_prefix.result (view c.args.query.now) (Prefix n text) same (c.with_prefix.ensures.only documents p is (subst (CanAsk s) same can))
+
+pub matching-returns-in-Range-clause-only : goal.matching-returns-in-Range-clause-only
+matching-returns-in-Range-clause-only t c = λ documents p is can.
+    let s = c.args.schema.now in
+    let w = Range c.in-Range.field c.in-Range.low c.in-Range.high in
+    let same : view c.args.query.now ≡ w = ap view c.in-Range.is in
+    of_query c.args.part.now s documents p c.within_range.result (view c.args.query.now) w same (c.within_range.ensures.only documents p is (subst (CanAsk s) same can))

@@ -1,8 +1,7 @@
 use Rattle.std.proofs.Common.{◌≡◌, true, Some, slice_get}
 use Rattle.query_ast.specs.Meaning.{some_item_holds, values_in}
 use Rattle.doc_sets.specs.Texts.{CanPlaceEach}
-use Rattle.doc_sets.specs.Texts.{item_keys}
-use Rattle.doc_sets.specs.Needed.{AsksKeys}
+use Rattle.doc_sets.specs.Texts.{item_lookups}
 use Rattle.leaf_search.proofs.QuerySteps.{at_field, field_fact, no_field}
 use Rattle.leaf_search.proofs.fields.with_some.Goals as goal
 
@@ -14,7 +13,7 @@ returns-in-Some-clause-only c = λ documents p is can.
     let f = c.in-Some.field.now in
     let got : slice_get s.fields n ≡ Some f = c.in-Some.ensures.found in
     let known = field_fact s n f (λ f. (f.indexed ≡ true) × (CanPlaceEach f c.args.items.now)) got can in
-    at_field s n f documents v.pieces c.some_documents.result (λ g d. some_item_holds g (values_in d n) c.args.items.now) (λ g. AsksKeys v s documents p (item_keys g n c.args.items.now)) got
+    at_field v s documents p n f c.some_documents.result (λ g d. some_item_holds g (values_in d n) c.args.items.now) (λ g. item_lookups g n c.args.items.now) got
     (c.some_documents.ensures.only s documents p is got known.0 known.1)
 
 pub returns-in_ok-no_documents-in-None-clause-only : goal.returns-in_ok-no_documents-in-None-clause-only

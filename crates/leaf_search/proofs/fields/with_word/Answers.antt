@@ -1,7 +1,6 @@
 use Rattle.std.proofs.Common.{◌≡◌, true, Some, slice_get}
 use Rattle.query_ast.specs.Meaning.{word_holds, values_in}
-use Rattle.doc_sets.specs.Texts.{text_keys}
-use Rattle.doc_sets.specs.Needed.{AsksKeys}
+use Rattle.doc_sets.specs.Texts.{text_lookups}
 use Rattle.leaf_search.proofs.QuerySteps.{at_field, field_fact, no_field}
 use Rattle.leaf_search.proofs.fields.with_word.Goals as goal
 
@@ -13,7 +12,7 @@ returns-in-Some-clause-only c = λ documents p is can.
     let f = c.in-Some.field.now in
     let got : slice_get s.fields n ≡ Some f = c.in-Some.ensures.found in
     let known = field_fact s n f (λ f. (f.indexed ≡ true) × (Unit {0})) got can in
-    at_field s n f documents v.pieces c.word_documents.result (λ g d. word_holds g c.args.text.now (values_in d n)) (λ g. AsksKeys v s documents p (text_keys g n c.args.text.now)) got
+    at_field v s documents p n f c.word_documents.result (λ g d. word_holds g c.args.text.now (values_in d n)) (λ g. text_lookups g n c.args.text.now) got
     (c.word_documents.ensures.only s documents p is got known.0)
 
 pub returns-in_ok-no_documents-in-None-clause-only : goal.returns-in_ok-no_documents-in-None-clause-only

@@ -1,9 +1,14 @@
-use Rattle.std.proofs.Common.{◌≡◌, [], true, Some, slice_get}
+use Rattle.std.proofs.Common.{◌≡◌, ◌∷◌, [], true, Some, slice_get}
 use Rattle.query_ast.specs.Meaning.{between, values_in}
 use Rattle.query_ast.specs.Queries.{has_order}
 use Rattle.split_bundle.specs.Keys.{field_key}
+use Rattle.doc_sets.specs.Asking.{LacksLookups}
+use Rattle.doc_sets.specs.Faults.{HasCause}
+use Rattle.doc_sets.specs.Sets.{IsSetOf}
 use Rattle.doc_sets.specs.Walks.{AsksWalk, range_of}
+use Rattle.doc_sets.specs.declared.dictionary_lookup.Lookup.TheVariants.{Walk}
 use Rattle.doc_sets.specs.declared.wanted.Wanted.TheVariants.{Within}
+use Rattle.doc_sets.proofs.Looked.{walk_lacks_looked, wider_result}
 use Rattle.leaf_search.proofs.QuerySteps.{at_any_field, field_fact, no_field}
 use Rattle.leaf_search.proofs.fields.within_range.Goals as goal
 
@@ -15,8 +20,11 @@ returns-in-Some-clause-only c = λ documents p is can.
     let f = c.in-Some.field.now in
     let got : slice_get s.fields n ≡ Some f = c.in-Some.ensures.found in
     let known = field_fact s n f (λ f. (f.indexed ≡ true) × (has_order f.kind ≡ true)) got can in
-    at_any_field s n f documents v.pieces c.range_documents.result (λ d. between c.args.low.now c.args.high.now (values_in d n)) (λ g. AsksWalk v s documents p (field_key n []) (Within (range_of g.kind c.args.low.now c.args.high.now))) got
-    (c.range_documents.ensures.only s documents p is got known.0 known.1)
+    let key = field_key n [] in
+    let w = Within (range_of f.kind c.args.low.now c.args.high.now) in
+    at_any_field v s documents p n f c.range_documents.result (λ d. between c.args.low.now c.args.high.now (values_in d n)) (λ g. Walk (field_key n []) (Within (range_of g.kind c.args.low.now c.args.high.now)) ∷ []) got
+    (wider_result (IsSetOf (λ d. between c.args.low.now c.args.high.now (values_in d n)) documents) (HasCause (AsksWalk v s documents p key w) v.pieces) (LacksLookups v s documents p (Walk key w ∷ [])) c.range_documents.result
+    (walk_lacks_looked v s documents p key w) (c.range_documents.ensures.only s documents p is got known.0 known.1))
 
 pub returns-in_ok-no_documents-in-None-clause-only : goal.returns-in_ok-no_documents-in-None-clause-only
 returns-in_ok-no_documents-in-None-clause-only c = λ documents p is can. absurd (no_field c.args.schema.now c.args.number (λ f. (f.indexed ≡ true) × (has_order f.kind ≡ true)) c.in-None.ensures.found can)

@@ -1,110 +1,62 @@
-use Rattle.std.proofs.Common.{◌∙◌, length, inl, inr, List, ℕ, Bool, ap, sym, subst}
-use Rattle.doc_value.specs.declared.doc.DocField.{DocField}
-use Rattle.query_ast.specs.Meaning.{meaning}
-use Rattle.query_ast.specs.Sought.{view}
-use Rattle.split_bundle.specs.Files.{file_bytes}
+use Rattle.std.proofs.Common.{◌≡◌, ◌∙◌, [], List, ℕ, Option, Some, None, IfOk, length, ap, sym, subst}
+use Rattle.agg_model.specs.Partials.{IsPartialOf, documents_in}
+use Rattle.split_bundle.specs.Lists.{posting_list}
 use Rattle.doc_sets.specs.Faults.{HasCause, IsMemory}
-use Rattle.doc_sets.proofs.Causes.{cause_wider}
+use Rattle.doc_sets.specs.Needed.{IsBlockFor}
 use Rattle.doc_sets.proofs.Searched.{searched}
-use Rattle.doc_sets.proofs.WithinFile.{only_memory}
-use Rattle.doc_tallies.specs.AggColumns.{AsksFields}
-use Rattle.doc_tallies.specs.Causes.{AsksHits}
-use Rattle.doc_tallies.specs.Orders.{sort_field}
-use Rattle.leaf_search.specs.Answers.{AsksLeaf, AsksTimes, IsAnswerOf}
-use Rattle.leaf_search.specs.Asks.{AsksQuery}
-use Rattle.leaf_search.proofs.Counted.{over_fast}
-use Rattle.leaf_search.proofs.LeafSteps.{faulted, handed, is_answer, positive, there_memory}
-use Rattle.leaf_search.proofs.QueryWithin.{query_within}
+use Rattle.leaf_search.specs.Answers.{AsksLeaf, IsAnswerOf}
+use Rattle.leaf_search.specs.Counts.{counted_key}
+use Rattle.leaf_search.proofs.KeyCounts.{block_memory, by_parts, counted_cause, counts, is_counted, uncounted}
+use Rattle.leaf_search.proofs.Suffices.{needed_result}
 use Rattle.leaf_search.proofs.leaf_answer.leaf.Goals as goal
 
-pub returns-in_err-bits-clause-only : goal.returns-in_err-bits-clause-only
-returns-in_err-bits-clause-only c = λ documents p part ask.
+pub returns-in-Some-clause-only : goal.returns-in-Some-clause-only
+returns-in-Some-clause-only c = λ documents p part ask.
     let s = c.args.schema.now in
     let r = c.args.request.now in
     let v = c.args.view.now in
-    let e = c.in_err-bits.field-0.0 in
-    handed (IsAnswerOf s r documents) (HasCause (AsksLeaf v s documents p r) v.pieces) c.from_residual.result e c.from_residual.ensures.1
-    (cause_wider (AsksQuery v s documents p (view r.query)) (AsksLeaf v s documents p r) v.pieces e (λ at len asked. inl asked) (c.in_err-bits.ensures.only documents p (searched v s documents p part) ask.query))
+    let key = c.as_slice.result.now in
+    let same = c.in_ok-key.ensures in
+    let some = c.in-Some.is in
+    let is : counted_key s r ≡ Some c.in-Some.key = cc in
+    let it : counted_key s r ≡ Some key = is ∙ ap Some (sym c.as_slice.ensures) in
+    by_parts (λ a. (a.count ≡ length (posting_list s documents key)) × (a.hits ≡ []) × (documents_in a.partial ≡ a.count)) (IsAnswerOf s r documents) (HasCause (IsBlockFor v s documents p key) v.pieces) (HasCause (AsksLeaf v s documents p r) v.pieces)
+    c.counted.result
+    (λ a e h. is_counted s r documents key a part.is_split.are_documents c.requires.fields ask (counts s r key it) h.0 h.1 h.2 (subst (λ x. IfOk x (λ y. IsPartialOf r.aggs y.partial)) e c.counted.ensures.partial))
+    (λ e cause. counted_cause v s documents p r key e it cause)
+    (c.counted.ensures.only s documents p (searched v s documents p part))
 
-pub returns-in_err-bits-clause-there : goal.returns-in_err-bits-clause-there
-returns-in_err-bits-clause-there c = λ documents p part all ask.
+pub returns-in-Some-clause-there : goal.returns-in-Some-clause-there
+returns-in-Some-clause-there c = λ documents p part all ask.
     let s = c.args.schema.now in
     let r = c.args.request.now in
     let v = c.args.view.now in
-    let e = c.in_err-bits.field-0.0 in
-    handed (IsAnswerOf s r documents) IsMemory c.from_residual.result e c.from_residual.ensures.1
-    (only_memory (AsksQuery v s documents p (view r.query)) (file_bytes p) v.pieces e (query_within v s documents p part (view r.query)) all (c.in_err-bits.ensures.only documents p (searched v s documents p part) ask.query))
+    let key = c.as_slice.result.now in
+    let same = c.in_ok-key.ensures in
+    let some = c.in-Some.is in
+    let is : counted_key s r ≡ Some c.in-Some.key = cc in
+    let it : counted_key s r ≡ Some key = is ∙ ap Some (sym c.as_slice.ensures) in
+    by_parts (λ a. (a.count ≡ length (posting_list s documents key)) × (a.hits ≡ []) × (documents_in a.partial ≡ a.count)) (IsAnswerOf s r documents) (HasCause (IsBlockFor v s documents p key) v.pieces) IsMemory
+    c.counted.result
+    (λ a e h. is_counted s r documents key a part.is_split.are_documents c.requires.fields ask (counts s r key it) h.0 h.1 h.2 (subst (λ x. IfOk x (λ y. IsPartialOf r.aggs y.partial)) e c.counted.ensures.partial))
+    (λ e cause. block_memory v s documents p r key e part all cause)
+    (c.counted.ensures.only s documents p (searched v s documents p part))
 
-pub returns-in_err-numbers-clause-only : goal.returns-in_err-numbers-clause-only
-returns-in_err-numbers-clause-only c = λ documents p part ask.
+pub returns-in-None-clause-only : goal.returns-in-None-clause-only
+returns-in-None-clause-only c = λ documents p part ask.
     let s = c.args.schema.now in
     let r = c.args.request.now in
-    let v = c.args.view.now in
-    let e = c.in_err-numbers.field-0.0 in
-    let test : List DocField → Bool = λ d. meaning s d (view r.query) in
-    let matched = c.in_ok-matched.ensures.only test documents (c.in_ok-bits.ensures.only documents p (searched v s documents p part) ask.query) in
-    handed (IsAnswerOf s r documents) (HasCause (AsksLeaf v s documents p r) v.pieces) c.from_residual-in_err-numbers.result e c.from_residual-in_err-numbers.ensures.1
-    (cause_wider (AsksTimes v p s r.times) (AsksLeaf v s documents p r) v.pieces e (λ at len asked. inr (inl asked)) (c.in_err-numbers.ensures.only documents p test part matched))
+    let same = c.in_ok-key.ensures in
+    let none = c.in-None.is in
+    let is : counted_key s r ≡ None = cc in
+    uncounted c.args.view.now s documents p r (IsAnswerOf s r documents) c.evaluated.result is (c.evaluated.ensures.only documents p part ask)
 
-pub returns-in_err-numbers-clause-there : goal.returns-in_err-numbers-clause-there
-returns-in_err-numbers-clause-there c = λ documents p part all ask.
-    let s = c.args.schema.now in
-    let r = c.args.request.now in
-    let v = c.args.view.now in
-    let e = c.in_err-numbers.field-0.0 in
-    let test : List DocField → Bool = λ d. meaning s d (view r.query) in
-    let matched = c.in_ok-matched.ensures.only test documents (c.in_ok-bits.ensures.only documents p (searched v s documents p part) ask.query) in
-    handed (IsAnswerOf s r documents) IsMemory c.from_residual-in_err-numbers.result e c.from_residual-in_err-numbers.ensures.1 (c.in_err-numbers.ensures.there documents p test part all matched)
+pub returns-in-Some-clause-needed : goal.returns-in-Some-clause-needed
+returns-in-Some-clause-needed c = λ documents p blocks lists part ask b l held_blocks held_lists.
+    needed_result c.args.view.now c.args.schema.now documents p part (IsAnswerOf c.args.schema.now c.args.request.now documents) c.counted.result c.args.request.now blocks lists b l held_blocks held_lists
+    (returns-in-Some-clause-only c documents p part ask)
 
-pub returns-in_err-partial-clause-only : goal.returns-in_err-partial-clause-only
-returns-in_err-partial-clause-only c = λ documents p part ask.
-    let s = c.args.schema.now in
-    let r = c.args.request.now in
-    let v = c.args.view.now in
-    faulted (IsAnswerOf s r documents) (AsksFields v p r.aggs) (AsksLeaf v s documents p r) v.pieces c.in_err-partial.field-0.0 c.from_residual-in_err-partial.result c.from_residual-in_err-partial.ensures.1 (λ at len asked. inr (inr (inl asked)))
-    (c.in_err-partial.ensures.only documents p part (over_fast s r.aggs ask.aggs))
-
-pub returns-in_err-partial-clause-there : goal.returns-in_err-partial-clause-there
-returns-in_err-partial-clause-there c = λ documents p part all ask.
-    there_memory (IsAnswerOf c.args.schema.now c.args.request.now documents) c.in_err-partial.field-0.0 c.from_residual-in_err-partial.result c.from_residual-in_err-partial.ensures.1 (c.in_err-partial.ensures.there documents p part all)
-
-pub returns-in_err-hits-clause-only : goal.returns-in_err-hits-clause-only
-returns-in_err-hits-clause-only c = λ documents p part ask.
-    let s = c.args.schema.now in
-    let r = c.args.request.now in
-    let v = c.args.view.now in
-    let test : List DocField → Bool = λ d. meaning s d (view r.query) in
-    let matched = c.in_ok-matched.ensures.only test documents (c.in_ok-bits.ensures.only documents p (searched v s documents p part) ask.query) in
-    let numbers = c.as_slice-2.ensures.value ∙ c.in_ok-numbers.ensures.only documents p test part matched in
-    faulted (IsAnswerOf s r documents) (AsksHits v p documents (sort_field r.order) c.as_slice-2.result.now) (AsksLeaf v s documents p r) v.pieces c.in_err-hits.field-0.0 c.from_residual-in_err-hits.result c.from_residual-in_err-hits.ensures.1
-    (λ at len asked. inr (inr (inr (record {
-      wanted = positive r.wanted (λ none. let no = c.in_err-hits.ensures.none none in absurd (cc));
-      asks = subst (λ (ns : List ℕ). AsksHits v p documents (sort_field r.order) ns at len) numbers asked;
-    }))))
-    (c.in_err-hits.ensures.only documents p part ask.order)
-
-pub returns-in_err-hits-clause-there : goal.returns-in_err-hits-clause-there
-returns-in_err-hits-clause-there c = λ documents p part all ask.
-    there_memory (IsAnswerOf c.args.schema.now c.args.request.now documents) c.in_err-hits.field-0.0 c.from_residual-in_err-hits.result c.from_residual-in_err-hits.ensures.1 (c.in_err-hits.ensures.there documents p part all)
-
-pub returns-clause-only : goal.returns-clause-only
-returns-clause-only c = λ documents p part ask.
-    let s = c.args.schema.now in
-    let r = c.args.request.now in
-    let v = c.args.view.now in
-    let test : List DocField → Bool = λ d. meaning s d (view r.query) in
-    let matched = c.in_ok-matched.ensures.only test documents (c.in_ok-bits.ensures.only documents p (searched v s documents p part) ask.query) in
-    let numbers = c.in_ok-numbers.ensures.only documents p test part matched in
-    is_answer s r documents (record { count = c.len.result; hits = c.in_ok-hits.hits; partial = c.in_ok-partial.partial }) c.in_ok-numbers.numbers.items c.as_slice.result.now c.as_slice-2.result.now numbers
-    c.as_slice.ensures.value c.as_slice-2.ensures.value (c.len.ensures ∙ (sym c.as_slice.ensures.len ∙ ap length c.as_slice.ensures.value)) (c.in_ok-hits.ensures.only documents p part ask.order) (c.in_ok-partial.ensures.only documents p part (over_fast s r.aggs ask.aggs))
-
-pub returns-clause-there : goal.returns-clause-there
-returns-clause-there c = λ documents p part all ask.
-    let s = c.args.schema.now in
-    let r = c.args.request.now in
-    let v = c.args.view.now in
-    let test : List DocField → Bool = λ d. meaning s d (view r.query) in
-    let matched = c.in_ok-matched.ensures.only test documents (c.in_ok-bits.ensures.only documents p (searched v s documents p part) ask.query) in
-    let numbers = c.in_ok-numbers.ensures.only documents p test part matched in
-    is_answer s r documents (record { count = c.len.result; hits = c.in_ok-hits.hits; partial = c.in_ok-partial.partial }) c.in_ok-numbers.numbers.items c.as_slice.result.now c.as_slice-2.result.now numbers
-    c.as_slice.ensures.value c.as_slice-2.ensures.value (c.len.ensures ∙ (sym c.as_slice.ensures.len ∙ ap length c.as_slice.ensures.value)) (c.in_ok-hits.ensures.only documents p part ask.order) (c.in_ok-partial.ensures.only documents p part (over_fast s r.aggs ask.aggs))
+pub returns-in-None-clause-needed : goal.returns-in-None-clause-needed
+returns-in-None-clause-needed c = λ documents p blocks lists part ask b l held_blocks held_lists.
+    needed_result c.args.view.now c.args.schema.now documents p part (IsAnswerOf c.args.schema.now c.args.request.now documents) c.evaluated.result c.args.request.now blocks lists b l held_blocks held_lists
+    (returns-in-None-clause-only c documents p part ask)

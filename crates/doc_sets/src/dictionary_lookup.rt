@@ -1,0 +1,19 @@
+//! What is looked up in a dictionary.
+
+use crate::wanted::Wanted;
+use byte_fields::{Bytes, List};
+
+/// What is looked up in the dictionary of a split.
+#[derive(Debug, Drop)]
+pub enum Lookup {
+    /// How many documents have a key. Its block says it.
+    Count(Bytes),
+    /// The documents that have a key: its block and its list.
+    Documents(Bytes),
+    /// The places of a key in its documents: its block, its list and, where the field keeps them, its positions.
+    Places(Bytes),
+    /// The documents of the wanted keys that begin so: the blocks that can have these, and their lists.
+    Walk(Bytes, Wanted),
+}
+
+pub type Lookups = List<Lookup>;

@@ -1,0 +1,38 @@
+-- Requests that only count the documents of one token.
+use Rattle.std.specs.Prelude.{ℕ, ◌==◌, Bool, ◌&&◌, List, [], ◌∷◌, length, Option, Some, None, slice_get, if◌then◌else◌}
+use Rattle.std.specs.Option.{option_and_then, option_map_or}
+use Rattle.doc_value.specs.declared.schema.Schema.{Schema}
+use Rattle.query_ast.specs.Meaning.{is_unlimited}
+use Rattle.query_ast.specs.Sought.{Sought, view}
+use Rattle.query_ast.specs.Sought as sought
+use Rattle.doc_sets.specs.Texts.{one_token}
+use Rattle.doc_sets.specs.declared.dictionary_lookup.Lookup.{Lookup}
+use Rattle.doc_sets.specs.declared.dictionary_lookup.Lookup.TheVariants.{Count}
+use Rattle.leaf_search.specs.Asks.{lookups_of}
+use Rattle.leaf_search.specs.declared.request.LeafRequest.{LeafRequest}
+
+-- the key of the token of a query that is one text of one token
+abbrev pub one_key : Schema → Sought → Option (List ℕ)
+one_key s (sought.Word n text) = option_and_then (λ f. one_token f n text) (slice_get s.fields n)
+one_key s (sought.Quoted n text) = option_and_then (λ f. one_token f n text) (slice_get s.fields n)
+one_key s sought.All = None
+one_key s sought.Nothing = None
+one_key s (sought.Prefix n text) = None
+one_key s (sought.Exists n) = None
+one_key s (sought.Range n low high) = None
+one_key s (sought.AnyOf n items) = None
+one_key s (sought.Not q) = None
+one_key s (sought.And qs) = None
+one_key s (sought.Or qs) = None
+
+-- no hit is wanted, the times have no edge, and nothing is aggregated
+abbrev pub only_counts : LeafRequest → Bool
+only_counts r = (r.wanted == 0) && (is_unlimited r.times.start r.times.end && (length r.aggs == 0))
+
+-- the key of which a request counts the documents, where it asks nothing else
+abbrev pub counted_key : Schema → LeafRequest → Option (List ℕ)
+counted_key s r = if only_counts r then one_key s (view r.query) else None
+
+-- what a request looks up: of a key that is only counted how many documents have it
+abbrev pub request_lookups : Schema → LeafRequest → List Lookup
+request_lookups s r = option_map_or (λ key. Count key ∷ []) (counted_key s r) (lookups_of s (view r.query))
