@@ -16,7 +16,7 @@ use Rattle.split_bundle.specs.declared.layout.Sections.{Sections}
 use Rattle.split_bundle.specs.declared.placed.Placed.{Placed}
 use Rattle.split_bundle.specs.declared.part_view.PartView.{PartView}
 use Rattle.split_bundle.specs.declared.pieces.Section.TheVariants.{Dictionary}
-use Rattle.split_bundle.specs.Files.{Parts, file_bytes}
+use Rattle.split_bundle.specs.Files.{Parts}
 use Rattle.split_bundle.specs.Lending.{IsPartOf, block_place}
 use Rattle.split_bundle.specs.Lists.{terms_of}
 use Rattle.split_bundle.proofs.SectionBytes.{section_within}
@@ -78,9 +78,9 @@ one_count : (bytes : List ℕ) (index : List BlockStart) (terms : List Term) (te
 one_count bytes index terms test m n dict falls fm fn = elim (cases_lt m n) [
   | inl lt ↦ absurd (not_fewer bytes index terms test m n dict falls fm fn lt)
   | inr ge ↦ elim (cases_lt n m) [
-      | inl lt ↦ absurd (not_fewer bytes index terms test n m dict falls fn fm lt)
-      | inr le ↦ omega (arith, ge, le)
-    ]
+    | inl lt ↦ absurd (not_fewer bytes index terms test n m dict falls fn fm lt)
+    | inr le ↦ omega (arith, ge, le)
+  ]
 ]
 
 up_to_front : (index : List BlockStart) (key : List ℕ) (count : ℕ) → AreUpTo index key count → AreInFront index (λ first. not (is_below key first)) count
@@ -161,9 +161,9 @@ module _ (v : PartView) (s : Schema) (ds : List Placed) (p : Parts) (part : IsPa
       parts_alike (IsBlock s ds p number) (IsBlockFor v s ds p key) old new
       (λ a n h. record { number = number; is_block = is; at_is = h.at_is; len_is = h.len_is })
       (λ a n h.
-          let both : Some h.number ≡ Some number = one_number p.dictionary index terms key (Some h.number) (Some number) dict h.is_block is in
-          let same : h.number ≡ number = cc in
-          record { at_is = h.at_is ∙ ap (block_place p terms) same; len_is = h.len_is ∙ ap (λ k. length (area (block_terms terms k))) same }) adds
+      let both : Some h.number ≡ Some number = one_number p.dictionary index terms key (Some h.number) (Some number) dict h.is_block is in
+      let same : h.number ≡ number = cc in
+      record { at_is = h.at_is ∙ ap (block_place p terms) same; len_is = h.len_is ∙ ap (λ k. length (area (block_terms terms k))) same }) adds
 
   pub no_key_named : (key : List ℕ) (rs : List FileRange) → IsBlockOf index key None → AddsParts (IsBlockFor v s ds p key) rs rs
   no_key_named key rs is = none_added (IsBlockFor v s ds p key) rs (λ a n h.

@@ -1,6 +1,5 @@
 -- The columns that a request asks for, named one by one.
-use Rattle.std.proofs.Common.{◌≡◌, ℕ, zero, suc, ◌+◌, ◌<◌, ◌⊎◌, inl, inr, Bool, true, false, List, [], ◌∷◌, length, drop, get_or, Option, Some, None, refl, ap, sym, ◌∙◌, subst, arith}
-use Rattle.std.specs.List.{Contains}
+use Rattle.std.proofs.Common.{◌≡◌, ℕ, zero, suc, ◌+◌, ◌<◌, ◌⊎◌, inl, inr, true, false, List, [], ◌∷◌, length, drop, get_or, Option, Some, None, refl, ap, sym, ◌∙◌, subst, arith}
 use Rattle.std.proofs.lemmas.List.{drop_more}
 use Rattle.doc_value.specs.declared.facts.TimeRange.{TimeRange}
 use Rattle.doc_value.specs.declared.schema.Schema.{Schema}
@@ -16,7 +15,7 @@ use Rattle.split_bundle.specs.Lending.{IsPartOf, start_of_column}
 use Rattle.split_bundle.specs.Pieces.{ArePieces}
 use Rattle.split_bundle.specs.Views.{IsFooterOf}
 use Rattle.doc_tallies.specs.AggColumns.{AsksFields}
-use Rattle.doc_tallies.specs.Causes.{AsksColumn, AsksField, columns_start}
+use Rattle.doc_tallies.specs.Causes.{AsksColumn, columns_start}
 use Rattle.doc_tallies.specs.Orders.{sort_field}
 use Rattle.doc_tallies.specs.declared.hit_order.HitOrder.{HitOrder}
 use Rattle.leaf_search.specs.Answers.{AsksTimes}

@@ -1,5 +1,5 @@
 -- Where the columns of fast fields start and end.
-use Rattle.std.proofs.Common.{◌≡◌, ℕ, zero, suc, ◌+◌, ◌-◌, ◌<◌, ◌≤◌, ◌^◌, ◌==◌, Bool, true, false, cond, List, [], ◌∷◌, ◌++◌, length, slice_get, nat_lt, Option, Some, None, Result, Ok, Err, MatchOption, IfSome, refl, ap, sym, ◌∙◌, subst, arith, length-append, eq-eqb, zero-add}
+use Rattle.std.proofs.Common.{◌≡◌, ℕ, zero, suc, ◌+◌, ◌-◌, ◌<◌, ◌≤◌, Bool, true, false, cond, List, [], ◌∷◌, length, slice_get, nat_lt, Option, Some, None, Result, Ok, Err, MatchOption, IfSome, refl, ap, sym, ◌∙◌, subst, arith, length-append, eq-eqb, zero-add}
 use Rattle.std.proofs.lemmas.Bool.{ne_eqb}
 use Rattle.std.proofs.lemmas.Option.{slice_get_within}
 use Rattle.doc_value.specs.Documents.{IsSchema, IsTimestamp}

@@ -1,5 +1,5 @@
 -- The lists that a dictionary gives are those that are asked for.
-use Rattle.std.proofs.Common.{◌≡◌, ℕ, zero, suc, ◌+◌, ◌*◌, ◌<◌, ◌≤◌, ◌^◌, ◌⊎◌, inl, inr, Bool, true, false, ◌||◌, List, [], ◌∷◌, length, drop, get_or, nat_eq, Option, Some, None, Result, Ok, Err, IsErrAnd, MatchResult, OnOk, refl, ap, sym, ◌∙◌, subst, arith}
+use Rattle.std.proofs.Common.{◌≡◌, ℕ, zero, suc, ◌+◌, ◌*◌, ◌<◌, ◌≤◌, ◌^◌, ◌⊎◌, inl, inr, true, false, ◌||◌, List, [], ◌∷◌, length, drop, get_or, nat_eq, Option, Some, None, Result, Ok, Err, MatchResult, refl, ap, sym, ◌∙◌, subst, arith}
 use Rattle.std.specs.List.{AllByRecursion, starts_with}
 use Rattle.std.proofs.lemmas.Bool.{cases_eq}
 use Rattle.std.proofs.lemmas.List.{drop_more}
@@ -26,7 +26,7 @@ use Rattle.doc_sets.specs.declared.wanted.Wanted.{Wanted}
 use Rattle.doc_sets.specs.Asking.{AsksBlockOf, AsksBlocks, AsksListOf, AsksLists}
 use Rattle.doc_sets.specs.Faults.{HasCause, IsMemory}
 use Rattle.doc_sets.specs.Needed.{ArePlacesFor, IsListFor, postings_start, positions_start}
-use Rattle.doc_sets.specs.Walks.{AsksIf, AsksTerms, AsksWalkBlock, AsksWalkList, IsBlock, IsWalked, begun_in, takes}
+use Rattle.doc_sets.specs.Walks.{AsksIf, AsksTerms, AsksWalkBlock, AsksWalkList, IsBlock, begun_in, takes}
 use Rattle.doc_sets.proofs.Causes.{cause_wider}
 use Rattle.doc_sets.proofs.TermWalks.{all_drop, all_filter, all_found, all_map, all_take}
 use Rattle.doc_sets.proofs.WalkSteps.{first_listed}
@@ -73,8 +73,8 @@ module _ (v : PartView) (s : Schema) (ds : List Placed) (p : Parts) where
       parts_alike (At at len) (IsListFor v s ds p key) old new
       (λ a n h. record { info = info; is_term = found; at_is = h.0 ∙ same_at; len_is = h.1 ∙ same_len })
       (λ a n h.
-          let same = same_info key h.info info h.is_term found in
-          (h.at_is ∙ (ap (λ (i : TermInfo). postings_start v.footer.layout.sections + i.postings) same ∙ sym same_at), h.len_is ∙ (ap (λ (i : TermInfo). i.postings_len) same ∙ sym same_len))) adds
+      let same = same_info key h.info info h.is_term found in
+      (h.at_is ∙ (ap (λ (i : TermInfo). postings_start v.footer.layout.sections + i.postings) same ∙ sym same_at), h.len_is ∙ (ap (λ (i : TermInfo). i.postings_len) same ∙ sym same_len))) adds
 
   pub record HasPlaces (info : TermInfo) : Type 0 where
     pub start_is : positions_start v.footer.layout.sections ≡ 4 + v.footer.layout.sections.documents + v.footer.layout.sections.dictionary + v.footer.layout.sections.postings
@@ -95,8 +95,8 @@ module _ (v : PartView) (s : Schema) (ds : List Placed) (p : Parts) where
       parts_alike (At at len) (ArePlacesFor v s ds p key) old new
       (λ a n h. record { kept = kept; info = info; is_term = found; at_is = h.0 ∙ same_at; len_is = h.1 ∙ same_len })
       (λ a n h.
-          let same = same_info key h.info info h.is_term found in
-          (h.at_is ∙ (ap (λ (i : TermInfo). positions_start v.footer.layout.sections + i.positions) same ∙ sym same_at), h.len_is ∙ (ap (λ (i : TermInfo). i.positions_len) same ∙ sym same_len))) adds
+      let same = same_info key h.info info h.is_term found in
+      (h.at_is ∙ (ap (λ (i : TermInfo). positions_start v.footer.layout.sections + i.positions) same ∙ sym same_at), h.len_is ∙ (ap (λ (i : TermInfo). i.positions_len) same ∙ sym same_len))) adds
 
   -- ---- of a key that no document has, and of one without positions
 

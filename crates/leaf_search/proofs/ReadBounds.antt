@@ -1,20 +1,18 @@
 -- How many bytes the ranges of a request have.
-use Rattle.std.proofs.Common.{◌≡◌, ℕ, zero, suc, ◌+◌, ◌-◌, ◌*◌, ◌<◌, ◌≤◌, ◌⊎◌, inl, inr, Bool, true, false, List, [], ◌∷◌, length, slice_get, Option, Some, None, MatchOption, refl, ap, sym, ◌∙◌, subst, arith}
-use Rattle.std.specs.List.{AllByRecursion, Contains}
+use Rattle.std.proofs.Common.{◌≡◌, ℕ, ◌+◌, ◌-◌, ◌*◌, ◌<◌, ◌≤◌, ◌⊎◌, inl, inr, true, false, List, [], ◌∷◌, length, Option, Some, None, ap, sym, ◌∙◌, subst, arith}
+use Rattle.std.specs.List.{AllByRecursion}
 use Rattle.std.specs.Option.{option_map_or}
 use Rattle.std.proofs.lemmas.Bool.{cases_lt}
 use Rattle.std.proofs.lemmas.List.Sums.{sum_by-cons}
 use Rattle.doc_value.specs.declared.schema.Schema.{Schema}
 use Rattle.term_dict.specs.Bounds.{IsBlockOf, block_terms}
 use Rattle.term_dict.specs.Terms.{area}
-use Rattle.split_bundle.specs.declared.layout.Sections.{Sections}
 use Rattle.split_bundle.specs.declared.part_view.PartView.{PartView}
 use Rattle.split_bundle.specs.declared.placed.Placed.{Placed}
-use Rattle.split_bundle.specs.declared.pieces.Section.TheVariants.{Columns, Dictionary, Postings, Positions}
+use Rattle.split_bundle.specs.declared.pieces.Section.TheVariants.{Dictionary}
 use Rattle.split_bundle.specs.Files.{Parts, file_bytes}
-use Rattle.split_bundle.specs.Lending.{IsPartOf, block_place, length_of_column, start_of_column}
+use Rattle.split_bundle.specs.Lending.{IsPartOf, block_place}
 use Rattle.split_bundle.specs.Lists.{terms_of}
-use Rattle.split_bundle.proofs.Infos.{info_found}
 use Rattle.split_bundle.proofs.SectionBytes.{section_within}
 use Rattle.doc_sets.specs.Asking.{AsksBlockOf, AsksBlocks, AsksListOf, AsksLists}
 use Rattle.doc_sets.specs.Needed.{IsBlockFor, IsListFor, positions_start, postings_start}
@@ -28,10 +26,10 @@ use Rattle.agg_model.specs.declared.request.NamedAgg.{NamedAgg}
 use Rattle.term_dict.specs.declared.term.Term.{Term}
 use Rattle.doc_tallies.specs.Causes.{AsksColumn, columns_start}
 use Rattle.doc_tallies.specs.Cells.{IsFast}
-use Rattle.leaf_search.specs.Answers.{AsksTimes, IsAsked}
-use Rattle.leaf_search.specs.Counts.{counted_key, one_key, request_lookups}
+use Rattle.leaf_search.specs.Answers.{IsAsked}
+use Rattle.leaf_search.specs.Counts.{counted_key, request_lookups}
 use Rattle.leaf_search.specs.FileRanges.{AreApart, AreRangesOf, HasByte, SomeRange, total}
-use Rattle.leaf_search.specs.Needs.{NeedsBlocks, NeedsColumns, NeedsLists}
+use Rattle.leaf_search.specs.Needs.{NeedsBlocks, NeedsLists}
 use Rattle.leaf_search.specs.declared.file_ranges.FileRange.{FileRange}
 use Rattle.leaf_search.specs.declared.request.LeafRequest.{LeafRequest}
 use Rattle.leaf_search.proofs.BlockParts.{same_number}
@@ -61,7 +59,7 @@ total_within (r ∷ rs) from until le apart lie = elim (cases_lt 0 r.len) [
       let first = lie r.start (inl (omega arith, omega (arith, some))) in
       let last = lie (r.start + r.len - 1) (inl (omega (arith, some), omega (arith, some))) in
       let rest = total_within rs (r.start + r.len) until (omega (arith, last.1, some)) apart.1
-          (λ place h. let behind = starts_behind place (r.start + r.len) rs apart.0 h in (omega (arith, behind), (lie place (inr h)).1)) in
+      (λ place h. let behind = starts_behind place (r.start + r.len) rs apart.0 h in (omega (arith, behind), (lie place (inr h)).1)) in
       let both : total (r ∷ rs) ≡ r.len + total rs = sum_by-cons (λ (x : FileRange). x.len) r rs in
       omega (arith, rest, both, first.0, last.1, some)
 ]
@@ -93,21 +91,21 @@ module _ (v : PartView) (s : Schema) (ds : List Placed) (p : Parts) (r : LeafReq
       by_number : (number : Option ℕ) → IsBlockOf v.footer.index key number → total blocks ≤ option_map_or (λ n. length (area (block_terms (terms_of s ds p.keys) n))) number 0
       by_number None block =
           let none = total_none blocks b.apart (λ place h.
-              let o = b.only place h in
-              let bad = same_number v s ds p part key None o.0 o.1 block (block_alone key is o.0 o.1 o.2) in
-              cc) in
+          let o = b.only place h in
+          let bad = same_number v s ds p part key None o.0 o.1 block (block_alone key is o.0 o.1 o.2) in
+          cc) in
           omega (arith, none)
       by_number (Some n) block =
           let size : ℕ = length (area (block_terms (terms_of s ds p.keys) n)) in
           let start : ℕ = block_place p (terms_of s ds p.keys) n in
           let le = total_within blocks start (start + size) (omega arith) b.apart (λ place h.
-              let o = b.only place h in
-              let here = block_alone key is o.0 o.1 o.2 in
-              let both = same_number v s ds p part key (Some n) o.0 o.1 block here in
-              let same : n ≡ here.number = cc in
-              let at_is : o.0 ≡ start = here.at_is ∙ ap (block_place p (terms_of s ds p.keys)) (sym same) in
-              let len_is : o.1 ≡ size = here.len_is ∙ ap (λ k. length (area (block_terms (terms_of s ds p.keys) k))) (sym same) in
-              (omega (arith, at_is, o.3), omega (arith, at_is, len_is, o.4))) in
+          let o = b.only place h in
+          let here = block_alone key is o.0 o.1 o.2 in
+          let both = same_number v s ds p part key (Some n) o.0 o.1 block here in
+          let same : n ≡ here.number = cc in
+          let at_is : o.0 ≡ start = here.at_is ∙ ap (block_place p (terms_of s ds p.keys)) (sym same) in
+          let len_is : o.1 ≡ size = here.len_is ∙ ap (λ k. length (area (block_terms (terms_of s ds p.keys) k))) (sym same) in
+          (omega (arith, at_is, o.3), omega (arith, at_is, len_is, o.4))) in
           omega (arith, le)
 
 -- ---- a request that wants no hits
@@ -189,13 +187,13 @@ module _ (v : PartView) (s : Schema) (ds : List Placed) (p : Parts) (part : IsPa
   pub no_document : (r : LeafRequest) (blocks lists : List FileRange) → r.wanted ≡ 0 → IsAsked s r → AreRangesOf (NeedsBlocks v s ds p r) blocks → AreRangesOf (NeedsLists v s ds p r) lists → ReadsNoDocument blocks lists
   no_document r blocks lists none ask b l =
       let in_blocks : LieBetween first behind blocks = λ place h.
-          let o = b.only place h in
-          let i = blocks_inside (request_lookups s r) o.0 o.1 o.2 in
-          (omega (arith, i.0, o.3), omega (arith, i.1, o.4)) in
+      let o = b.only place h in
+      let i = blocks_inside (request_lookups s r) o.0 o.1 o.2 in
+      (omega (arith, i.0, o.3), omega (arith, i.1, o.4)) in
       let in_lists : LieBetween behind (length (file_bytes p)) lists = λ place h.
-          let o = l.only place h in
-          let i = lists_between r none ask o.0 o.1 o.2 in
-          (omega (arith, i.0, o.3), omega (arith, i.1, o.4)) in
+      let o = l.only place h in
+      let i = lists_between r none ask o.0 o.1 o.2 in
+      (omega (arith, i.0, o.3), omega (arith, i.1, o.4)) in
       let dictionary = section_within Dictionary p in
       let some = total_within blocks first behind (omega arith) b.apart in_blocks in
       let more = total_within lists behind (length (file_bytes p)) (omega (arith, dictionary)) l.apart in_lists in

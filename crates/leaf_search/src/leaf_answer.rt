@@ -15,11 +15,11 @@ ghost use Rattle.leaf_search.specs.FileRanges.{AreRangesOf};
 ghost use Rattle.leaf_search.specs.Needs.{AreHeld, NeedsBlocks, NeedsLists};
 ghost use Rattle.leaf_search.specs.declared.file_ranges.FileRange.{FileRange};
 
-use crate::token_counts::{counted, counted_key};
 use crate::evaluate::matching;
 use crate::numbers::numbers_in;
 use crate::request::{LeafAnswer, LeafRequest};
 use crate::timed::timed_numbers;
+use crate::token_counts::{counted, counted_key};
 use doc_sets::LeafError;
 use doc_tallies::{first_hits, partial_of};
 use doc_value::Schema;

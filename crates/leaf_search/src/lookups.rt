@@ -6,9 +6,9 @@ ghost use Rattle.query_ast.specs.Sought as sought;
 ghost use Rattle.leaf_search.specs.Asks.{lookups_of, lookups_of_each};
 ghost use Rattle.leaf_search.specs.Counts as counts;
 
-use crate::token_counts::counted_key;
 use crate::fields::field_at;
 use crate::request::LeafRequest;
+use crate::token_counts::counted_key;
 use doc_sets::{
     Lookup, Lookups, add_items, add_text, prefix_lookup, presence_lookup, range_lookup,
 };

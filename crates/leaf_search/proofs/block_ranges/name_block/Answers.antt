@@ -1,4 +1,4 @@
-use Rattle.std.proofs.Common.{◌≡◌, ◌∙◌, ◌+◌, ◌-◌, List, ℕ, ap, sym, subst, arith, length}
+use Rattle.std.proofs.Common.{◌≡◌, ◌∙◌, ◌+◌, ◌-◌, List, ap, sym, subst, arith, length}
 use Rattle.term_dict.specs.Terms.{IsDict}
 use Rattle.term_dict.specs.declared.index.BlockStart.{BlockStart}
 use Rattle.split_bundle.specs.declared.footer.Footer.{Footer}

@@ -1,4 +1,4 @@
-use Rattle.std.proofs.Common.{◌≡◌, ◌∙◌, List, Some, None, Option, ℕ, ap, sym, subst}
+use Rattle.std.proofs.Common.{◌∙◌, List, Some, None, ap, sym, subst}
 use Rattle.term_dict.specs.Bounds.{IsBlockOf}
 use Rattle.term_dict.specs.declared.index.BlockStart.{BlockStart}
 use Rattle.split_bundle.specs.declared.footer.Footer.{Footer}

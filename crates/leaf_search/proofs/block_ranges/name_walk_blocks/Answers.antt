@@ -1,4 +1,4 @@
-use Rattle.std.proofs.Common.{◌≡◌, ◌∙◌, ◌≤◌, ◌<◌, ◌+◌, ◌||◌, List, ℕ, nat_eq, ap, sym, subst, arith}
+use Rattle.std.proofs.Common.{◌∙◌, ◌||◌, List, nat_eq, ap, sym, subst}
 use Rattle.std.specs.List.{starts_with}
 use Rattle.term_dict.specs.Bounds.{AreBlocks}
 use Rattle.term_dict.specs.Keys.{is_below}

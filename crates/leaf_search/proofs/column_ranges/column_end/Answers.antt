@@ -1,8 +1,6 @@
-use Rattle.std.proofs.Common.{◌≡◌, ◌∙◌, ◌+◌, ◌≤◌, length, ap, sym, arith}
+use Rattle.std.proofs.Common.{◌≡◌, ◌∙◌, length, ap, arith}
 use Rattle.split_bundle.specs.declared.footer.Footer.{Footer}
 use Rattle.split_bundle.specs.declared.layout.Sections.{Sections}
-use Rattle.split_bundle.specs.Lending.{length_of_column, start_of_column}
-use Rattle.doc_tallies.specs.Causes.{columns_start}
 use Rattle.leaf_search.proofs.ColumnParts.{columns_start_is, ends_before, has_fast}
 use Rattle.leaf_search.proofs.column_ranges.column_end.Goals as goal
 

@@ -1,4 +1,4 @@
-use Rattle.std.proofs.Common.{◌≡◌, ◌+◌, length, slice_get}
+use Rattle.std.proofs.Common.{◌+◌, length, slice_get}
 use Rattle.split_bundle.specs.Lending.{length_of_column, start_of_column}
 use Rattle.doc_tallies.specs.Causes.{columns_start}
 use Rattle.leaf_search.proofs.ColumnParts.{lacks_at, never_some, some_lent}

@@ -1,4 +1,4 @@
-use Rattle.std.proofs.Common.{◌≡◌, ◌∙◌, ◌+◌, ◌-◌, length, sym, arith}
+use Rattle.std.proofs.Common.{◌≡◌, ◌+◌, length, arith}
 use Rattle.split_bundle.specs.Lending.{length_of_column, start_of_column}
 use Rattle.doc_tallies.specs.Causes.{AsksColumn, columns_start}
 use Rattle.leaf_search.specs.FileRanges.{AddsParts}

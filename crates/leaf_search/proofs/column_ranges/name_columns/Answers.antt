@@ -1,4 +1,4 @@
-use Rattle.std.proofs.Common.{◌≡◌, ◌∙◌, ◌⊎◌, List, [], sym, ap, subst}
+use Rattle.std.proofs.Common.{◌≡◌, ◌∙◌, ◌⊎◌, List, [], sym, subst}
 use Rattle.agg_model.specs.declared.request.NamedAgg.{NamedAgg}
 use Rattle.doc_tallies.specs.AggColumns.{AreOverFast, AsksFields}
 use Rattle.leaf_search.specs.Answers.{AsksTimes}
@@ -30,5 +30,5 @@ returns c = λ documents p part ask.
     subst (λ (l : List NamedAgg). AddsParts (AsksFields v p l) one two) aggs (c.in_ok-name_fields.ensures documents p bare (subst (λ (l : List NamedAgg). AreOverFast s l) (sym aggs) fast)) in
     on_ok (AddsParts (NeedsOrder v p r) two new) (AddsParts (NeedsColumns w s p r) old new) c.name_order.result
     (λ order. columns_named v w s p r old new same
-        (both_added (AsksTimes v p s r.times) (λ at len. AsksFields v p r.aggs at len ⊎ NeedsOrder v p r at len) old one new times (both_added (AsksFields v p r.aggs) (NeedsOrder v p r) one two new fields order)))
+    (both_added (AsksTimes v p s r.times) (λ at len. AsksFields v p r.aggs at len ⊎ NeedsOrder v p r at len) old one new times (both_added (AsksFields v p r.aggs) (NeedsOrder v p r) one two new fields order)))
     (c.name_order.ensures documents p bare ask.order)

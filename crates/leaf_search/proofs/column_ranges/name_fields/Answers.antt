@@ -1,4 +1,4 @@
-use Rattle.std.proofs.Common.{◌≡◌, drop, sym, subst}
+use Rattle.std.proofs.Common.{drop, sym, subst}
 use Rattle.agg_model.specs.Checking.{field_of}
 use Rattle.agg_model.specs.declared.request.NamedAgg.{NamedAgg}
 use Rattle.doc_tallies.specs.Cells.{IsFast}

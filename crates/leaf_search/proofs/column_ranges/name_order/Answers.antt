@@ -1,4 +1,4 @@
-use Rattle.std.proofs.Common.{◌≡◌, Some, None, subst}
+use Rattle.std.proofs.Common.{subst}
 use Rattle.doc_tallies.specs.Causes.{AsksColumn}
 use Rattle.doc_tallies.specs.Orders.{IsSortable}
 use Rattle.leaf_search.specs.FileRanges.{AddsParts}

@@ -1,11 +1,10 @@
-use Rattle.std.proofs.Common.{◌≡◌, ◌∙◌, ◌<◌, Some, None, length, ap, sym, subst, arith}
+use Rattle.std.proofs.Common.{◌∙◌, sym}
 use Rattle.doc_tallies.specs.Causes.{AsksColumn}
-use Rattle.doc_tallies.specs.Cells.{IsFast}
 use Rattle.leaf_search.specs.Answers.{AsksTimes}
 use Rattle.leaf_search.specs.FileRanges.{AddsParts}
 use Rattle.leaf_search.proofs.BlockParts.{on_ok}
 use Rattle.leaf_search.proofs.ColumnNames.{no_times, no_timestamp, times_named}
-use Rattle.leaf_search.proofs.ColumnParts.{fast_within, timestamp_fast}
+use Rattle.leaf_search.proofs.ColumnParts.{timestamp_fast}
 use Rattle.leaf_search.proofs.column_ranges.name_times.Goals as goal
 
 pub returns-then-is_unlimited : goal.returns-then-is_unlimited

@@ -1,4 +1,4 @@
-use Rattle.std.proofs.Common.{◌≡◌, ◌∙◌, [], List, ℕ, Option, Some, None, IfOk, length, ap, sym, subst}
+use Rattle.std.proofs.Common.{◌≡◌, ◌∙◌, [], Some, None, IfOk, length, ap, sym, subst}
 use Rattle.agg_model.specs.Partials.{IsPartialOf, documents_in}
 use Rattle.split_bundle.specs.Lists.{posting_list}
 use Rattle.doc_sets.specs.Faults.{HasCause, IsMemory}

@@ -1,5 +1,3 @@
-use Rattle.std.proofs.Common.{◌≡◌, Some}
-use Rattle.term_dict.specs.Terms.{lookup}
 use Rattle.split_bundle.specs.Lists.{terms_of}
 use Rattle.doc_sets.specs.Faults.{HasCause, IsMemory}
 use Rattle.doc_sets.specs.Walks.{AsksTerms, IsBlock, begun_in}

@@ -1,4 +1,4 @@
-use Rattle.std.proofs.Common.{◌≡◌, ◌∙◌, true, false, sym}
+use Rattle.std.proofs.Common.{◌≡◌, ◌∙◌, true, sym}
 use Rattle.doc_sets.specs.Needed.{IsListFor}
 use Rattle.doc_sets.specs.Walks.{AsksIf, takes}
 use Rattle.leaf_search.specs.FileRanges.{AddsParts}

@@ -1,10 +1,7 @@
-use Rattle.std.proofs.Common.{◌≡◌, ◌∙◌, ◌+◌, List, Some, drop, subst}
+use Rattle.std.proofs.Common.{List, drop, subst}
 use Rattle.term_dict.specs.Readers.{Lends}
-use Rattle.term_dict.specs.Terms.{lookup}
 use Rattle.term_dict.specs.declared.term.Term.{Term}
-use Rattle.split_bundle.specs.Lists.{terms_of}
-use Rattle.doc_sets.specs.Walks.{AsksTerms}
-use Rattle.doc_sets.proofs.WalkSteps.{drop_next, drop_twice, first_listed, given, none_given}
+use Rattle.doc_sets.proofs.WalkSteps.{drop_next, drop_twice, given, none_given}
 use Rattle.leaf_search.proofs.ListParts.{no_terms, term_found, term_named}
 use Rattle.leaf_search.proofs.list_ranges.name_terms.Goals as goal
 

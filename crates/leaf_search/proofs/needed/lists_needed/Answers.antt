@@ -2,7 +2,6 @@ use Rattle.std.proofs.Common.{◌≡◌, ◌∙◌, ◌⊎◌, List, [], subst}
 use Rattle.doc_sets.specs.Asking.{AsksBlocks, AsksLists}
 use Rattle.doc_sets.specs.Faults.{HasCause}
 use Rattle.doc_sets.specs.declared.dictionary_lookup.Lookup.{Lookup}
-use Rattle.doc_sets.specs.declared.leaf_error.LeafError.{LeafError}
 use Rattle.doc_sets.proofs.Causes.{handed_on}
 use Rattle.doc_sets.proofs.Searched.{searched}
 use Rattle.leaf_search.specs.Counts.{request_lookups}
