@@ -211,3 +211,17 @@ pub some_wider : {X E : Type 0} (P Q : X → Type 0) (r : Result (Option X) E) �
 some_wider P Q (Ok None) wider h = tt
 some_wider P Q (Ok (Some x)) wider h = wider x h
 some_wider P Q (Err e) wider h = tt
+
+-- ---- where nothing is asked
+
+no_parts : (parts : List Counts) (xs ys : List (List DocField)) → AllZip (λ (named : NamedAgg) counts. CountsFor named.agg counts xs) [] parts → AllZip (λ (named : NamedAgg) counts. CountsFor named.agg counts ys) [] parts
+no_parts [] xs ys counted = tt
+no_parts (c ∷ cs) xs ys counted = absurd counted
+
+pub stands_unasked : (aggs : List NamedAgg) (partial : Partial) (documents : List Placed) (numbers : List ℕ) (n : ℕ) (doc : List DocField) → aggs ≡ [] → n ≡ length numbers → AllBelow (length documents) numbers
+    → StandsFor aggs partial (replicate n doc) → StandsFor aggs partial (docs_of (picked numbers documents))
+stands_unasked [] partial documents numbers n doc none long below stands = record {
+  many = stands.many ∙ (length-replicate n doc ∙ (long ∙ sym (picked_length documents numbers (recursion_from_All (λ (n : ℕ). n < length documents) numbers below))));
+  parts = no_parts partial.parts.items (replicate n doc) (docs_of (picked numbers documents)) stands.parts;
+}
+stands_unasked (a ∷ rest) partial documents numbers n doc none long below stands = absurd (cc)

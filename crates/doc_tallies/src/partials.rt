@@ -1,6 +1,6 @@
 //! What some documents count for aggregations, by the columns of their fields.
 
-ghost use Rattle.std.specs.Prelude.{◌≡◌, ◌<◌, ◌+◌, ◌^◌, ◌++◌, List, Some, length, replicate, slice_get, IfOk, IfSome, OnOk, MatchResult};
+ghost use Rattle.std.specs.Prelude.{◌≡◌, ◌<◌, ◌+◌, ◌^◌, ◌++◌, List, [], Some, length, replicate, slice_get, IfOk, IfSome, OnOk, MatchResult};
 ghost use Rattle.std.specs.Bool.{OnTrue};
 ghost use Rattle.std.specs.List.{All};
 ghost use Rattle.std.specs.Option.{option_to_list};
@@ -226,6 +226,19 @@ fn counted_each(
     Ok(partial)
 }
 
+// What some documents count where nothing is asked of them: how many they are.
+fn uncounted(alloc: Global, aggs: &AggRequest, numbers: &[u32]) -> Result<Partial, AllocError>
+    requires none { aggs.now ≡ [] }
+    requires intervals { HaveIntervals aggs.now }
+    ensures partial { IfOk result (IsPartialOf aggs.now) }
+    ensures many { IfOk result (λ partial. documents_in partial ≡ length numbers.now) }
+    ensures only { (documents : List Placed) → AllBelow (length documents) numbers.now → IfOk result (λ partial. StandsFor aggs.now partial (docs_of (picked numbers.now documents))) }
+{
+    let nothing = DocValues::vacant(alloc);
+    let partial = copies(alloc, aggs, &nothing, numbers.len() as u64)?;
+    Ok(partial)
+}
+
 // What some documents count by some columns.
 fn counted(
     alloc: Global,
@@ -239,6 +252,9 @@ fn counted(
     ensures only { (s : Schema) (documents : List Placed) → AreDocumentsOf s documents → AreColumnsFor s documents aggs.now columns.now → AllBelow (length documents) numbers.now
         → IfOk result (λ partial. StandsFor aggs.now partial (docs_of (picked numbers.now documents))) }
 {
+    if aggs.is_empty() {
+        return uncounted(alloc, aggs, numbers);
+    }
     match counted_alike(alloc, aggs, columns, numbers)? {
         Some(partial) => Ok(partial),
         None => counted_each(alloc, aggs, columns, numbers),
