@@ -8,7 +8,7 @@ use Rattle.meta_store.proofs.Lists.{IsPermutation-filter}
 use Rattle.doc_value.specs.Printed.{printed_doc}
 use Rattle.index_world.specs.Config.{logs_schema}
 use Rattle.index_world.specs.Words.{matches}
-use Rattle.index_world.specs.declared.placed.Placed.{Placed}
+use Rattle.split_bundle.specs.declared.placed.Placed.{Placed}
 use Rattle.root_search.specs.Finding.{place_order, all_of, has_word}
 use Rattle.root_search.specs.Gathering.{HasGathered, AreTogether}
 use Rattle.root_search.specs.declared.finding.Gathered.{Gathered}

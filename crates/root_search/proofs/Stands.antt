@@ -5,15 +5,17 @@ use Rattle.std.proofs.lemmas.List.{take-append-le, take_all, length-append, leng
 use Rattle.meta_journal.specs.declared.entry.Entry.{Entry}
 use Rattle.meta_store.specs.History.{history}
 use Rattle.meta_store.specs.Ledgers.{ledger}
+use Rattle.index_config.specs.declared.config.IndexConfig.{IndexConfig}
 use Rattle.index_world.specs.Config.{reads}
+use Rattle.index_world.specs.Configuration.{configuration, config_or}
 use Rattle.source_log.specs.Log.{Log, IsLog}
 use Rattle.split_states.specs.declared.rows.Row.{Row}
 use Rattle.index_world.specs.Core.{Core, IsUploadedIn}
 use Rattle.index_world.specs.Gate.{searched_rows, planned_row, IsSoundCore}
 use Rattle.index_world.specs.Seen.{contents, visible, visible_at}
-use Rattle.index_world.specs.SplitFile.{split_file}
+use Rattle.index_world.specs.SplitFile.{file_of}
 use Rattle.index_world.specs.World.{GoesOn}
-use Rattle.index_world.specs.declared.placed.Placed.{Placed}
+use Rattle.split_bundle.specs.declared.placed.Placed.{Placed}
 use Rattle.index_world.proofs.StoreChanges.{All-each}
 use Rattle.root_search.specs.declared.searcher.Planned.{Planned as GivenPlan}
 use Rattle.root_search.specs.declared.searcher.Request.{Request as GivenRequest}
@@ -21,7 +23,7 @@ use Rattle.root_search.specs.declared.searcher.Request.TheVariants as given
 use Rattle.root_search.specs.declared.searcher.Searcher.{Searcher}
 use Rattle.root_search.specs.Finding.{all_of}
 use Rattle.root_search.specs.Gathering.{HasGathered, AreTogether}
-use Rattle.root_search.specs.Searching.{history_at, rows_at, documents_at, file_at, AreInHand, IsPlanned, IsRequest, SearcherStands}
+use Rattle.root_search.specs.Searching.{history_at, config_at, rows_at, documents_at, file_at, AreInHand, IsPlanned, IsRequest, SearcherStands}
 use Rattle.root_search.specs.Steps.{Plan, Request, Client}
 use Rattle.root_search.proofs.Records.{visible_in_order}
 use Rattle.root_search.proofs.Rows.{AreSearched, world_searched}
@@ -34,17 +36,20 @@ same_front one core after revision g le = ap (take revision) g.grown.1 ∙ take-
 abbrev pub rows_of : List Entry → List Row
 rows_of seen = searched_rows (history seen)
 
-abbrev file_of : List Entry → Log → Row → List ℕ
-file_of seen log row = split_file (contents (ledger reads (history seen)).tasks row log)
+abbrev config_seen : List Entry → IndexConfig
+config_seen seen = config_or (configuration seen)
+
+abbrev file_seen : List Entry → Log → Row → List ℕ
+file_seen seen log row = file_of (config_seen seen) (contents (config_seen seen) (ledger reads (history seen)).tasks row log)
 
 abbrev AreStored : List Entry → Core → Log → Type 0
-AreStored seen core log = AllByRecursion (λ row. IsUploadedIn core row.number (file_of seen log row)) (rows_of seen)
+AreStored seen core log = AllByRecursion (λ row. IsUploadedIn core row.number (file_seen seen log row)) (rows_of seen)
 
 abbrev HaveSizes : List Entry → Log → Type 0
-HaveSizes seen log = AllByRecursion (λ row. row.facts.size ≡ length (file_of seen log row)) (rows_of seen)
+HaveSizes seen log = AllByRecursion (λ row. row.facts.size ≡ length (file_seen seen log row)) (rows_of seen)
 
 abbrev IsWhole : List Entry → Log → Type 0
-IsWhole seen log = IsPermutation (flat_map (λ row. contents (ledger reads (history seen)).tasks row log) (rows_of seen)) (visible (ledger reads (history seen)) log)
+IsWhole seen log = IsPermutation (flat_map (λ row. contents (config_seen seen) (ledger reads (history seen)).tasks row log) (rows_of seen)) (visible (config_seen seen) (ledger reads (history seen)) log)
 
 pub in_hand_goes_on : (one : Option ℕ) (core after : Core) (log : Log) (revision : ℕ) → GoesOn one core after → AreInHand revision core log → AreInHand revision after log
 in_hand_goes_on one core after log revision g a =
@@ -70,7 +75,7 @@ planned_goes_on one given plan core after log g p =
       few = p.few;
       place = p.place;
       unfetched = p.unfetched;
-      gathered = subst (λ seen. HasGathered given.gathered plan.word (map (λ row. contents (ledger reads (history seen)).tasks row log) (take given.next (rows_of seen)))) (sym same) p.gathered;
+      gathered = subst (λ seen. HasGathered given.gathered plan.word (map (λ row. contents (config_seen seen) (ledger reads (history seen)).tasks row log) (take given.next (rows_of seen)))) (sym same) p.gathered;
       in_hand = in_hand_goes_on one core after log plan.revision g p.in_hand;
     }
   where
@@ -100,7 +105,7 @@ sound_in_hand core log s =
     all : take (length core.history) core.history ≡ core.history
     all = take_all (length core.history) core.history (omega arith)
 
-    law : AreSearched core log (history core.history)
+    law : AreSearched (config_seen core.history) core log (history core.history)
     law = world_searched s.kept core log s.world
 
 -- ---- what the files hold together
@@ -122,5 +127,5 @@ pub all_together : (given : GivenPlan) (plan : Plan) (core : Core) (log : Log) �
 all_together given plan core log g p =
     record {
       together = subst (λ l. IsPermutation l (visible_at plan.revision core.history log)) (joined (documents_at plan.revision core log) (rows_at plan.revision core)) p.in_hand.shown;
-      in_order = visible_in_order (ledger reads (history_at plan.revision core)) log g;
+      in_order = visible_in_order (config_at plan.revision core) (ledger reads (history_at plan.revision core)) log g;
     }

@@ -4,7 +4,7 @@ use Rattle.std.specs.Ordering.{nat_cmp, ordering_then}
 use Rattle.std.specs.Cmp.Lexicographic.{slice_cmp}
 use Rattle.std.specs.declared.cmp.Ordering.{Ordering}
 use Rattle.index_world.specs.Words.{matches}
-use Rattle.index_world.specs.declared.placed.Placed.{Placed}
+use Rattle.split_bundle.specs.declared.placed.Placed.{Placed}
 use Rattle.root_search.specs.declared.finding.FindError.{FindError}
 use Rattle.root_search.specs.declared.finding.FindError.TheVariants as finds
 

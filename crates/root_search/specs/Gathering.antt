@@ -1,7 +1,7 @@
 -- What was gathered of files, one after another.
 use Rattle.std.specs.Prelude.{◌≡◌, ℕ, List, filter, None, IsPermutation}
 use Rattle.std.specs.List.Sorted.{IsStrictlySortedBy}
-use Rattle.index_world.specs.declared.placed.Placed.{Placed}
+use Rattle.split_bundle.specs.declared.placed.Placed.{Placed}
 use Rattle.root_search.specs.declared.finding.Gathered.{Gathered}
 use Rattle.root_search.specs.Finding.{place_order, all_of, has_word}
 

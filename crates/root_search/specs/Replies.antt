@@ -1,7 +1,7 @@
 -- What is replied to a search, and the line that says it.
 use Rattle.std.specs.Prelude.{ℕ, List, [], ◌∷◌, ◌++◌, length, map, filter, take, decimal, codes}
 use Rattle.doc_value.specs.Printed.{quoted, printed_doc}
-use Rattle.index_world.specs.declared.placed.Placed.{Placed}
+use Rattle.split_bundle.specs.declared.placed.Placed.{Placed}
 use Rattle.doc_value.specs.declared.doc.DocField.{DocField}
 use Rattle.index_world.specs.Config.{logs_schema}
 use Rattle.index_world.specs.Calls.{Fault, store_fault, is_foreign, is_full}

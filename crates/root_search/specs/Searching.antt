@@ -4,16 +4,18 @@ use Rattle.std.specs.List.{AllByRecursion}
 use Rattle.std.specs.declared.alloc.AllocError.{AllocError}
 use Rattle.meta_store.specs.History.{History, history}
 use Rattle.meta_store.specs.Ledgers.{ledger}
+use Rattle.index_config.specs.declared.config.IndexConfig.{IndexConfig}
 use Rattle.index_world.specs.Config.{reads}
+use Rattle.index_world.specs.Configuration.{configuration, config_or}
 use Rattle.source_log.specs.Log.{Log}
 use Rattle.split_states.specs.declared.rows.Row.{Row}
 use Rattle.index_world.specs.Calls.{Fault, Trouble, faulted, no_memory}
 use Rattle.index_world.specs.Core.{Core, IsUploadedIn}
 use Rattle.index_world.specs.Gate.{searched_rows, planned_row}
 use Rattle.index_world.specs.Seen.{contents, visible_at}
-use Rattle.index_world.specs.SplitFile.{split_file}
+use Rattle.index_world.specs.SplitFile.{file_of}
 use Rattle.index_world.specs.World.{GoesOn}
-use Rattle.index_world.specs.declared.placed.Placed.{Placed}
+use Rattle.split_bundle.specs.declared.placed.Placed.{Placed}
 use Rattle.root_search.specs.declared.outcome.SearchStep.{SearchStep as GivenStep}
 use Rattle.root_search.specs.declared.reply.ReplyRefusal.{ReplyRefusal}
 use Rattle.root_search.specs.declared.searcher.Busy.{Busy}
@@ -35,12 +37,15 @@ history_at revision core = history (take revision core.history)
 abbrev pub rows_at : ℕ → Core → List Row
 rows_at revision core = searched_rows (history_at revision core)
 
+abbrev pub config_at : ℕ → Core → IndexConfig
+config_at revision core = config_or (configuration (take revision core.history))
+
 -- the documents of a row at a revision
 abbrev pub documents_at : ℕ → Core → Log → Row → List Placed
-documents_at revision core log row = contents (ledger reads (history_at revision core)).tasks row log
+documents_at revision core log row = contents (config_at revision core) (ledger reads (history_at revision core)).tasks row log
 
 abbrev pub file_at : ℕ → Core → Log → Row → List ℕ
-file_at revision core log row = split_file (documents_at revision core log row)
+file_at revision core log row = file_of (config_at revision core) (documents_at revision core log row)
 
 -- The planned rows' files stand, as long as the rows say, and hold together what is visible at the plan's revision.
 pub record AreInHand (revision : ℕ) (core : Core) (log : Log) : Type 0 where

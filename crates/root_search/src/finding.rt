@@ -5,7 +5,7 @@ ghost use Rattle.std.specs.List.{AllByRecursion};
 ghost use Rattle.doc_value.specs.Printed.{printed_doc};
 ghost use Rattle.index_world.specs.Config.{logs_schema};
 ghost use Rattle.index_world.specs.SplitFile.{split_file, IsPlaced};
-ghost use Rattle.index_world.specs.declared.placed.Placed as placed;
+ghost use Rattle.split_bundle.specs.declared.placed.Placed as placed;
 ghost use Rattle.root_search.specs.Finding.{place_order, FindsIn};
 ghost use Rattle.root_search.specs.Gathering.{HasGathered, AreTogether};
 ghost use Rattle.root_search.specs.Replies.{answer, default_hits};

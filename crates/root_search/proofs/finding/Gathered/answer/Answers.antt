@@ -2,7 +2,7 @@ use Rattle.std.proofs.Common.{◌≡◌, rules, ◌∙◌, List, ap, ap₂, Some
 use Rattle.std.proofs.lemmas.List.Sorted.{answers_always, ranks_by}
 use Rattle.doc_value.specs.Printed.{printed_doc}
 use Rattle.index_world.specs.Config.{logs_schema}
-use Rattle.index_world.specs.declared.placed.Placed.{Placed}
+use Rattle.split_bundle.specs.declared.placed.Placed.{Placed}
 use Rattle.root_search.specs.Finding.{place_order, has_word}
 use Rattle.root_search.specs.Replies.{Said, Found, default_hits}
 use Rattle.root_search.proofs.Finds.{answer_is, found_in_order, none_not_some}

@@ -2,11 +2,12 @@ use Rattle.std.proofs.Common.{◌≡◌, ◌+◌, ◌≤◌, ◌++◌, ◌∷◌
 use Rattle.index_world.specs.Config.{reads}
 use Rattle.index_world.specs.Gate.{IsPieceGiven}
 use Rattle.index_world.specs.declared.planning.PlanRow.{PlanRow}
+use Rattle.index_world.proofs.Configured.{few_or}
 use Rattle.index_world.proofs.Placing.{contents-placed}
 use Rattle.meta_store.specs.Ledgers.{ledger}
 use Rattle.root_search.specs.Gathering.{HasGathered}
 use Rattle.root_search.specs.Requests.{is_run}
-use Rattle.root_search.specs.Searching.{Ends, history_at, rows_at, documents_at, file_at}
+use Rattle.root_search.specs.Searching.{Ends, history_at, config_at, rows_at, documents_at, file_at}
 use Rattle.root_search.specs.Steps.{Fetched, fetch_by, trouble_replied}
 use Rattle.root_search.proofs.Planned.{next_row, whole_piece, one_more}
 use Rattle.root_search.proofs.Steps.{says_ok, says_err, fetched_as, ends_without}
@@ -35,7 +36,7 @@ returns-in_ok-take-in-Ok g c plan client core log good asked planned stands w =
     let gathers : HasGathered c.take.new.self plan.word (lists ++ docs next.row ∷ []) =
     subst (λ v. HasGathered c.take.new.self v (lists ++ docs next.row ∷ [])) word
     (c.in_ok-take-in-Ok.ensures lists (docs next.row) (subst (λ v. is_run v ≡ true) (sym word) planned.asked)
-    (contents-placed (ledger reads (history_at plan.revision core)).tasks next.row log good)
+    (contents-placed (config_at plan.revision core) (few_or (take plan.revision core.history)) (ledger reads (history_at plan.revision core)).tasks next.row log good)
     (whole_piece (file_at plan.revision core log next.row) row.facts.size c.in-Ok.piece s.1 next.long)
     (subst (λ v. HasGathered c.args.planned.gathered v lists) (sym word) planned.gathered)) in
     fetched_as g.G.Gate.Stands g.G.Gate.Between _ _ _ client core log plan row.number
