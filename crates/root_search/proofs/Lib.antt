@@ -9,3 +9,9 @@ pub mod Stands
 pub mod Steps
 pub mod Finds
 pub mod Planned
+pub mod LeafRequests
+pub mod Merging
+pub mod Showing
+pub mod Moved
+pub mod Counting
+pub mod Joining

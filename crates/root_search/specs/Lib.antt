@@ -6,3 +6,8 @@ pub mod Matching
 pub mod Finding
 pub mod Gathering
 pub mod Searching
+pub mod Answer
+pub mod LeafAsks
+pub mod Places
+pub mod Leaves
+pub mod Examples
