@@ -45,6 +45,19 @@ term_past listed terms t many h = record {
   all = λ few x here. absurd (omega (arith, few, many));
 }
 
+among_front : (ts more : List (List ℕ)) (x : List ℕ) → IsAmong ts x → IsAmong (ts ++ more) x
+among_front [] more x h = absurd h
+among_front (t ∷ ts) more x (inl same) = inl same
+among_front (t ∷ ts) more x (inr later) = inr (among_front ts more x later)
+
+-- where more are listed than can be, no others are looked at
+pub terms_past : (listed terms more : List (List ℕ)) → max_tags < length listed → HasTerms listed terms → HasTerms listed (terms ++ more)
+terms_past listed terms more many h = record {
+  rising = h.rising;
+  among = λ x here. among_front terms more x (h.among x here);
+  all = λ few x here. absurd (omega (arith, few, many));
+}
+
 pub terms_none : HasTerms [] []
 terms_none = record { rising = tt; among = λ x h. h; all = λ few x h. h }
 

@@ -82,6 +82,9 @@ impl TagLog {
         ensures number { self.new.number ≡ self.old.number }
         ensures terms { (terms : List (List ℕ)) → HasTerms self.old.terms.items terms → OnOk result (HasTerms self.new.terms.items (terms ++ flat_map term_of values.now)) }
     {
+        if self.terms.len() > MAX_TAGS {
+            return Ok(());
+        }
         let mut rest = values;
         while let Some((value, behind)) = rest.split_first() {
             self.add_value(alloc, value)?;
