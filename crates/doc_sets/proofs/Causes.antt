@@ -65,17 +65,6 @@ module _ (v : PartView) (s : Schema) (ds : List Placed) (p : Parts) where
   documents_lack good key info fault r found h m =
       part_lacks good (AsksOneOf (AsksKey v s ds p) (key ∷ [])) v.pieces (postings_start v.footer.layout.sections + info.postings) info.postings_len fault r h m (inl (inr (the_list key info found)))
 
-  -- a fault of a cursor with positions
-  pub cursor_lacks : {X : Type 0} (good : X → Type 0) (key : List ℕ) (info : TermInfo) (positions : Bool) (fault : SplitError) (r : Result X LeafError) → lookup key (terms_of s ds p.keys) ≡ Some info → positions ≡ keeps_places s key
-      → IsErrAnd r (λ f. f ≡ fault_of fault)
-      → (IsMissing v.pieces (postings_start v.footer.layout.sections + info.postings) info.postings_len fault ⊎ ((positions ≡ true) × IsMissing v.pieces (positions_start v.footer.layout.sections + info.positions) info.positions_len fault))
-      → MatchResult r good (LacksPlaces v s ds p (key ∷ []))
-  cursor_lacks good key info positions fault r found flag h (inl m) =
-      part_lacks good (AsksOneOf (AsksPlaces v s ds p) (key ∷ [])) v.pieces (postings_start v.footer.layout.sections + info.postings) info.postings_len fault r h m (inl (inr (inl (the_list key info found))))
-  cursor_lacks good key info positions fault r found flag h (inr m) =
-      part_lacks good (AsksOneOf (AsksPlaces v s ds p) (key ∷ [])) v.pieces (positions_start v.footer.layout.sections + info.positions) info.positions_len fault r h m.1
-      (inl (inr (inr (record { kept = sym flag ∙ m.0; info = info; is_term = found; at_is = refl; len_is = refl }))))
-
   -- who looks up places asks for what who looks up documents does
   one_wider : (key : List ℕ) (at len : ℕ) → AsksKey v s ds p key at len → AsksPlaces v s ds p key at len
   one_wider key at len (inl b) = inl b
@@ -89,16 +78,6 @@ module _ (v : PartView) (s : Schema) (ds : List Placed) (p : Parts) where
   pub keys_lack_places : (keys : List (List ℕ)) (e : LeafError) → LacksKeys v s ds p keys e → LacksPlaces v s ds p keys e
   keys_lack_places keys e h = cause_wider (AsksOneOf (AsksKey v s ds p) keys) (AsksOneOf (AsksPlaces v s ds p) keys) v.pieces e (places_wider keys) h
 
-  -- a block that no piece has is lacked by who looks up documents or places
+  -- a block that no piece has is lacked by who looks up documents
   pub block_lacks : (key : List ℕ) (e : LeafError) → HasCause (IsBlockFor v s ds p key) v.pieces e → LacksKeys v s ds p (key ∷ []) e
   block_lacks key e h = cause_wider (IsBlockFor v s ds p key) (AsksOneOf (AsksKey v s ds p) (key ∷ [])) v.pieces e (λ at len b. inl (inl b)) h
-
-  pub block_lacks_places : (key : List ℕ) (e : LeafError) → HasCause (IsBlockFor v s ds p key) v.pieces e → LacksPlaces v s ds p (key ∷ []) e
-  block_lacks_places key e h = cause_wider (IsBlockFor v s ds p key) (AsksOneOf (AsksPlaces v s ds p) (key ∷ [])) v.pieces e (λ at len b. inl (inl b)) h
-
-  -- places that were given, or want of memory
-  pub places_given : (Z : Type 0) (r : Result (Vec ℕ Z) LeafError) (left places : List ℕ) (keys : List (List ℕ)) → left ≡ places → MatchResult r (λ v. v.items ≡ left) IsMemory → MatchResult r (λ v. v.items ≡ places) (LacksPlaces v s ds p keys)
-  places_given Z (Ok v) left places keys e h = h ∙ e
-  places_given Z (Err (faults.Memory a)) left places keys e h = tt
-  places_given Z (Err (faults.Missing at)) left places keys e h = absurd h
-  places_given Z (Err (faults.Corrupt section)) left places keys e h = absurd h

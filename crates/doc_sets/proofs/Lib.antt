@@ -11,7 +11,6 @@ pub mod Presence
 pub mod ValueKeys
 pub mod Ranges
 pub mod Numbers
-pub mod Walks
 pub mod SetLemmas
 pub mod Causes
 pub mod Looked
@@ -26,3 +25,8 @@ pub mod PhraseTokens
 pub mod TextLaws
 pub mod Searched
 pub mod WithinFile
+pub mod Members
+pub mod LowestBit
+pub mod SeekLaws
+pub mod DistanceLaws
+pub mod Fills

@@ -8,21 +8,14 @@ use Rattle.std.proofs.lemmas.List.{drop_more}
 use Rattle.doc_value.specs.declared.doc.DocField.{DocField}
 use Rattle.doc_value.specs.declared.doc.Value.{Value}
 use Rattle.doc_value.specs.declared.schema.Field.{Field}
+use Rattle.doc_value.specs.declared.schema.Schema.{Schema}
 use Rattle.text_tokens.specs.declared.tokens.Token.{Token}
 use Rattle.query_ast.specs.Meaning.{tokens_in, has_token_at, stands_at, stands_at_one, some_has_phrase, first_position, phrase_holds}
 use Rattle.split_bundle.specs.declared.placed.Placed.{Placed}
-use Rattle.split_bundle.specs.Keys.{Occurrence, field_key}
+use Rattle.split_bundle.specs.Keys.{Occurrence, field_key, keys_of}
 use Rattle.split_bundle.specs.Lists.{has_key, places_of}
 use Rattle.doc_sets.specs.Asked.{is_among, stands_from, stands_from_one, has_run, has_each, are_close, AreNear, AllNear, IsShort, AreBehindFirst}
 use Rattle.doc_sets.specs.Sets.{holds_at}
-
-pub behind_step : (n from start i : ℕ) (x : Token) (ts : List Token) (os : List Occurrence) → i < length ts → x ≡ get_or ts i x
-    → stands_from n (drop i ts) from start os ≡ is_among (start + (x.position - from)) (places_of (field_key n x.text) os) && stands_from n (drop (i + 1) ts) from start os
-behind_step n from start i x ts os lt e = ap (λ ys. stands_from n ys from start os) (drop_more ts i x lt ∙ ap (λ y. y ∷ drop (i + 1) ts) (sym e))
-
-pub one_step : (n from i d : ℕ) (phrase : List Token) (ps : List ℕ) (os : List Occurrence) → i < length ps
-    → stands_from_one n phrase from (drop i ps) os ≡ stands_from n phrase from (get_or ps i d) os || stands_from_one n phrase from (drop (i + 1) ps) os
-one_step n from i d phrase ps os lt = ap (λ ys. stands_from_one n phrase from ys os) (drop_more ps i d lt)
 
 pub holds_here : (p : List DocField → Bool) (ds : List Placed) (k : ℕ) (d : Placed) → slice_get ds k ≡ Some d → holds_at p ds k ≡ p d.doc
 holds_here p [] k d e = absurd (cc)
@@ -33,11 +26,6 @@ pub there : (ds : List Placed) (k : ℕ) → k < length ds → (d : Placed) × (
 there [] k lt = absurd (omega arith)
 there (x ∷ ds) zero lt = (x, refl)
 there (x ∷ ds) (suc k) lt = there ds k (omega arith)
-
-pub run_of : (n : ℕ) (x : Token) (phrase : List Token) (os : List Occurrence) → 0 < length phrase → x ≡ get_or phrase 0 x
-    → stands_from_one n phrase x.position (places_of (field_key n x.text) os) os ≡ has_run n phrase os
-run_of n x [] os lt e = absurd (omega arith)
-run_of n x (t ∷ ts) os lt e = ap (λ y. stands_from_one n (t ∷ ts) y.position (places_of (field_key n y.text) os) os) e
 
 -- a document's test put in behind those before it
 pub put_last : (m k : ℕ) (b x y z : Bool) → m ≢ k → y ≡ (nat_eq k m && b) || x → x ≡ z → y ≡ z
@@ -109,6 +97,13 @@ pub no_run : (n : ℕ) (ts : List Token) (os : List Occurrence) → has_each n t
 no_run n [] os h = refl
 no_run n (t ∷ ts) os h =
     not_true (has_run n (t ∷ ts) os) (λ runs. let each = from_one_each n t.position (t ∷ ts) (places_of (field_key n t.text) os) os runs in let x : true ≡ false = sym each ∙ h in cc)
+
+-- a document that has not each token is none in which the phrase stands
+pub not_run : (s : Schema) (n : ℕ) (ts : List Token) (ds : List Placed) (k : ℕ) → k < length ds → holds_at (λ d. has_each n ts (keys_of s d)) ds k ≡ false → holds_at (λ d. has_run n ts (keys_of s d)) ds k ≡ false
+not_run s n ts ds k lt h =
+    let d = there ds k lt in
+    holds_here (λ x. has_run n ts (keys_of s x)) ds k d.0 d.1
+    ∙ no_run n ts (keys_of s d.0.doc) (sym (holds_here (λ x. has_each n ts (keys_of s x)) ds k d.0 d.1) ∙ h)
 
 -- ---- phrases that are too long
 

@@ -8,3 +8,4 @@ pub mod Needed
 pub mod Texts
 pub mod Walks
 pub mod Asking
+pub mod Seeking

@@ -21,3 +21,8 @@ pub record IsSetOf (test : List DocField → Bool) (documents : List Placed) (b 
 abbrev pub is_in : ℕ → List Posting → Bool
 is_in k [] = false
 is_in k (p ∷ ps) = (k == p.document) || is_in k ps
+
+-- a number is in a list
+abbrev pub is_one_of : ℕ → List ℕ → Bool
+is_one_of k [] = false
+is_one_of k (n ∷ ns) = (k == n) || is_one_of k ns

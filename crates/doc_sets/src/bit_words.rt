@@ -1,8 +1,10 @@
 // Steps over the words of a set.
 
-ghost use Rattle.std.specs.Prelude.{◌≡◌, ℕ, ◌+◌, ◌-◌, ◌*◌, ◌/◌, ◌%◌, ◌<◌, ◌≤◌, ◌≢◌, min, max, ◌^◌, nat_eq, length, slice_index, MatchOption};
+ghost use Rattle.std.specs.Prelude.{◌≡◌, ℕ, ◌+◌, ◌-◌, ◌*◌, ◌/◌, ◌%◌, ◌<◌, ◌≤◌, ◌≢◌, min, max, ◌^◌, ◌++◌, nat_eq, length, take, slice_index, IfOk, OnOk, MatchOption};
 ghost use Rattle.std.specs.Int.{bit_at};
-ghost use Rattle.doc_sets.specs.BitWords.{bit_of};
+ghost use Rattle.doc_sets.specs.BitWords.{bit_of, is_set, members};
+
+use std::alloc::{AllocError, Global};
 
 pub(crate) fn and_words(words: &mut [u64], others: &[u64])
     requires { length words.old ≡ length others.now }
@@ -92,4 +94,50 @@ pub(crate) fn next_word(words: &[u64], from: u32) -> Option<u32>
         }
     }
     None
+}
+
+// The numbers of the bits of a word, of which the first has a number, in front of `found`, and how many they are.
+fn word_numbers(word: u64, first: u32, found: &mut [u32; 64]) -> usize
+    requires { first + 64 ≤ 2 ^ 32 }
+    ensures within { result ≤ 64 }
+    ensures only { take result found.new ≡ members (is_set word first) first 64 }
+{
+    let mut count = 0;
+    let mut left = word;
+    while left != 0 {
+        found[count] = first + left.trailing_zeros();
+        count += 1;
+        left &= left - 1;
+    }
+    count
+}
+
+// Puts them behind others.
+fn push_word(
+    numbers: &mut Vec<u32>,
+    word: u64,
+    first: u32,
+    found: &mut [u32; 64],
+) -> Result<(), AllocError>
+    requires { first + 64 ≤ 2 ^ 32 }
+    ensures { OnOk result (numbers.new.items ≡ numbers.old.items ++ members (is_set word first) first 64) }
+{
+    if word == 0 {
+        return Ok(());
+    }
+    let count = word_numbers(word, first, found);
+    numbers.extend_from_slice(&found[..count])
+}
+
+// The numbers of the bits of words, as they rise.
+pub(crate) fn numbers_of(alloc: Global, words: &[u64]) -> Result<Vec<u32>, AllocError>
+    requires { 64 * length words.now ≤ 2 ^ 32 }
+    ensures { IfOk result (λ ns. ns.items ≡ members (λ k. nat_eq (bit_of words.now k) 1) 0 (64 * length words.now)) }
+{
+    let mut numbers = Vec::new(alloc);
+    let mut found = [0; 64];
+    for at in 0..words.len() {
+        push_word(&mut numbers, words[at], 64 * at as u32, &mut found)?;
+    }
+    Ok(numbers)
 }

@@ -1,7 +1,9 @@
 ghost use Rattle.std.specs.Prelude.{◌≡◌, ℕ, ◌+◌, ◌/◌, ◌<◌, ◌≤◌, ◌||◌, ◌&&◌, not, true, false, nat_eq, vec_len, IfOk, MatchOption};
-ghost use Rattle.doc_sets.specs.BitWords.{bit_of};
+ghost use Rattle.doc_sets.specs.BitWords.{bit_of, members};
 
-use crate::bit_words::{and_words, has_word, next_word, or_words, set_word, turn_below};
+use crate::bit_words::{
+    and_words, has_word, next_word, numbers_of, or_words, set_word, turn_below,
+};
 use std::alloc::{AllocError, Global};
 
 /// A set of numbers below a size.
@@ -93,5 +95,13 @@ impl DocBits {
             return None;
         }
         next_word(&self.words, from)
+    }
+
+    /// The numbers that are in, as they rise.
+    pub fn numbers(&self, alloc: Global) -> Result<Vec<u32>, AllocError>
+        ensures { IfOk result (λ ns. ns.items ≡ members (has self.now) 0 self.now.size) }
+    {
+        let _size = self.size;
+        numbers_of(alloc, &self.words)
     }
 }

@@ -4,6 +4,7 @@
 mod bit_words;
 mod bits;
 mod dictionary_lookup;
+mod distances;
 mod key_walks;
 mod laws;
 mod leaf_error;

@@ -1,8 +1,9 @@
 // The documents in which a phrase stands, by the places of its tokens.
 
-ghost use Rattle.std.specs.Prelude.{◌≡◌, ℕ, ◌+◌, ◌<◌, ◌≤◌, ◌⊎◌, ◌&&◌, ◌||◌, nat_eq, true, List, Some, length, slice_get, IfOk, MatchResult};
+ghost use Rattle.std.specs.Prelude.{◌≡◌, ℕ, ◌+◌, ◌<◌, ◌≤◌, ◌⊎◌, ◌&&◌, ◌||◌, nat_eq, true, List, Some, drop, length, vec_len, slice_get, IfOk, MatchResult};
 ghost use Rattle.doc_value.specs.declared.schema.Schema.{Schema};
 ghost use Rattle.query_ast.specs.Meaning.{values_in, is_text, first_position, phrase_holds};
+ghost use Rattle.term_postings.specs.Postings.{AreRising};
 ghost use Rattle.split_bundle.specs.declared.placed.Placed.{Placed};
 ghost use Rattle.split_bundle.specs.Files.{Parts};
 ghost use Rattle.split_bundle.specs.Keys.{field_key, keys_of};
@@ -10,141 +11,95 @@ ghost use Rattle.split_bundle.specs.Lists.{keeps_places};
 ghost use Rattle.doc_sets.specs.Asked as asked;
 ghost use Rattle.doc_sets.specs.Asking.{LacksLookups};
 ghost use Rattle.doc_sets.specs.Bits.{has};
+ghost use Rattle.doc_sets.specs.Faults.{IsMemory};
 ghost use Rattle.doc_sets.specs.Needed.{IsSearched, LacksPlaces, token_keys};
+ghost use Rattle.doc_sets.specs.Seeking.{ArePassing};
 ghost use Rattle.doc_sets.specs.Sets.{IsSetOf};
 ghost use Rattle.doc_sets.specs.Texts.{lookups_for};
 
 use crate::bits::DocBits;
+use crate::distances::keep_behind;
 use crate::laws::{each_by_keys, phrase_by_keys};
 use crate::leaf_error::LeafError;
-use crate::places::key_places;
+use crate::places::{key_cursor, seek_places};
 use crate::sets::no_documents;
 use crate::words::{each_documents, key_bytes, token_documents};
 use doc_value::Field;
 use split_bundle::PartView;
 use std::alloc::Global;
 use term_dict::BlockIndex;
+use term_postings::Cursor;
 use text_tokens::Token;
 
-// Whether a place stands at a distance behind another one.
-fn is_behind(places: &[u64], start: u64, distance: usize) -> bool
-    ensures { result ≡ asked.is_among (start + distance) places.now }
-{
-    for place in places {
-        if *place >= start && *place - start == distance as u64 {
-            return true;
-        }
-    }
-    false
-}
-
-// Whether each token of a phrase stands at its distance behind a place of a document that has them all.
-fn stands_behind(
+// The cursors of the tokens of a phrase, whose field keeps positions.
+fn open_cursors<'a>(
     alloc: Global,
     index: &BlockIndex,
-    part: &PartView,
+    part: &PartView<'a>,
     number: usize,
     phrase: &[Token],
-    from: usize,
-    start: u64,
-    document: u32,
-) -> Result<bool, LeafError>
+) -> Result<Vec<Cursor<'a>>, LeafError>
     requires index { index.now ≡ part.now.footer.index }
     requires number { number < 256 }
-    ensures { (s : Schema) (documents : List Placed) (p : Parts) (d : Placed) → IsSearched part.now s documents p → ((term : List ℕ) → keeps_places s (field_key number term) ≡ true)
-        → slice_get documents document ≡ Some d → asked.has_each number phrase.now (keys_of s d.doc) ≡ true
-        → MatchResult result (λ b. b ≡ asked.stands_from number phrase.now from start (keys_of s d.doc)) (LacksPlaces part.now s documents p (token_keys number phrase.now)) }
+    ensures many { IfOk result (λ cs. vec_len cs ≡ length phrase.now) }
+    ensures only { (s : Schema) (documents : List Placed) (p : Parts) → IsSearched part.now s documents p → ((term : List ℕ) → keeps_places s (field_key number term) ≡ true)
+        → MatchResult result (λ cs. ArePassing s documents number phrase.now cs.items 0 0) (LacksPlaces part.now s documents p (token_keys number phrase.now)) }
 {
+    let mut cursors = Vec::new(alloc);
     for token in phrase {
         let key = key_bytes(alloc, number, token.text.as_slice())?;
-        let places = key_places(alloc, index, part, &key, document)?;
-        if !is_behind(&places, start, token.position.saturating_sub(from)) {
-            return Ok(false);
-        }
+        let cursor = key_cursor(index, part, &key)?;
+        cursors.push(cursor)?;
     }
-    Ok(true)
+    Ok(cursors)
 }
 
-// Whether a phrase stands at one of some places of a document that has its tokens.
-fn stands_at_one(
-    alloc: Global,
-    index: &BlockIndex,
-    part: &PartView,
-    number: usize,
+// Whether the tokens behind the first one stand at their distances behind one of some places, of a document that has all of them.
+fn others_stand(
     phrase: &[Token],
+    cursors: &mut [Cursor],
     from: usize,
-    starts: &[u64],
+    starts: &mut Vec<u64>,
+    places: &mut Vec<u64>,
     document: u32,
 ) -> Result<bool, LeafError>
-    requires index { index.now ≡ part.now.footer.index }
-    requires number { number < 256 }
-    ensures { (s : Schema) (documents : List Placed) (p : Parts) (d : Placed) → IsSearched part.now s documents p → ((term : List ℕ) → keeps_places s (field_key number term) ≡ true)
-        → slice_get documents document ≡ Some d → asked.has_each number phrase.now (keys_of s d.doc) ≡ true
-        → MatchResult result (λ b. b ≡ asked.stands_from_one number phrase.now from starts.now (keys_of s d.doc)) (LacksPlaces part.now s documents p (token_keys number phrase.now)) }
+    requires { length cursors.old ≡ length phrase.now }
+    ensures { (s : Schema) (documents : List Placed) (number : ℕ) (d : Placed) → ArePassing s documents number phrase.now cursors.old document 1
+        → ((term : List ℕ) → keeps_places s (field_key number term) ≡ true) → slice_get documents document ≡ Some d → asked.has_each number phrase.now (keys_of s d.doc) ≡ true
+        → AreRising starts.old.items
+        → MatchResult result (λ b. (b ≡ asked.stands_from_one number (drop 1 phrase.now) from starts.old.items (keys_of s d.doc)) × ArePassing s documents number phrase.now cursors.new (document + 1) 0) IsMemory }
 {
-    for start in starts {
-        if stands_behind(alloc, index, part, number, phrase, from, *start, document)? {
-            return Ok(true);
+    for other in 1..phrase.len() {
+        if starts.is_empty() {
+            return Ok(false);
         }
+        let token = &phrase[other];
+        seek_places(&mut cursors[other], places, document)?;
+        let distance = token.position.saturating_sub(from);
+        keep_behind(starts, places, distance as u64);
     }
-    Ok(false)
+    Ok(!starts.is_empty())
 }
 
 // Whether a phrase stands in a document that has its tokens.
 fn runs_in(
-    alloc: Global,
-    index: &BlockIndex,
-    part: &PartView,
-    number: usize,
     phrase: &[Token],
+    cursors: &mut [Cursor],
+    starts: &mut Vec<u64>,
+    places: &mut Vec<u64>,
     document: u32,
 ) -> Result<bool, LeafError>
-    requires index { index.now ≡ part.now.footer.index }
-    requires number { number < 256 }
-    ensures { (s : Schema) (documents : List Placed) (p : Parts) (d : Placed) → IsSearched part.now s documents p → ((term : List ℕ) → keeps_places s (field_key number term) ≡ true)
-        → slice_get documents document ≡ Some d → asked.has_each number phrase.now (keys_of s d.doc) ≡ true
-        → MatchResult result (λ b. b ≡ asked.has_run number phrase.now (keys_of s d.doc)) (LacksPlaces part.now s documents p (token_keys number phrase.now)) }
+    requires { length cursors.old ≡ length phrase.now }
+    ensures { (s : Schema) (documents : List Placed) (number : ℕ) (d : Placed) → ArePassing s documents number phrase.now cursors.old document 0
+        → ((term : List ℕ) → keeps_places s (field_key number term) ≡ true) → slice_get documents document ≡ Some d → asked.has_each number phrase.now (keys_of s d.doc) ≡ true
+        → MatchResult result (λ b. (b ≡ asked.has_run number phrase.now (keys_of s d.doc)) × ArePassing s documents number phrase.now cursors.new (document + 1) 0) IsMemory }
 {
     match phrase {
         [] => Ok(false),
         [first, ..] => {
-            let key = key_bytes(alloc, number, first.text.as_slice())?;
-            let starts = key_places(alloc, index, part, &key, document)?;
-            stands_at_one(
-                alloc,
-                index,
-                part,
-                number,
-                phrase,
-                first.position,
-                &starts,
-                document,
-            )
+            seek_places(&mut cursors[0], starts, document)?;
+            others_stand(phrase, cursors, first.position, starts, places, document)
         }
-    }
-}
-
-// Whether a phrase stands in a document, of which some documents alone can be asked.
-fn runs_at(
-    alloc: Global,
-    index: &BlockIndex,
-    part: &PartView,
-    number: usize,
-    phrase: &[Token],
-    candidates: &DocBits,
-    document: u32,
-) -> Result<bool, LeafError>
-    requires index { index.now ≡ part.now.footer.index }
-    requires number { number < 256 }
-    requires document { document < candidates.now.size }
-    ensures { (s : Schema) (documents : List Placed) (p : Parts) (d : Placed) → IsSearched part.now s documents p → ((term : List ℕ) → keeps_places s (field_key number term) ≡ true)
-        → slice_get documents document ≡ Some d → IsSetOf (λ d. asked.has_each number phrase.now (keys_of s d)) documents candidates.now
-        → MatchResult result (λ b. b ≡ asked.has_run number phrase.now (keys_of s d.doc)) (LacksPlaces part.now s documents p (token_keys number phrase.now)) }
-{
-    if candidates.contains(document) {
-        runs_in(alloc, index, part, number, phrase, document)
-    } else {
-        Ok(false)
     }
 }
 
@@ -173,25 +128,24 @@ fn are_close(phrase: &[Token], from: usize) -> bool
 // The documents in which a phrase stands, of those that have its tokens.
 fn run_documents(
     alloc: Global,
-    index: &BlockIndex,
-    part: &PartView,
-    number: usize,
     phrase: &[Token],
+    cursors: &mut [Cursor],
     candidates: &DocBits,
 ) -> Result<DocBits, LeafError>
-    requires index { index.now ≡ part.now.footer.index }
-    requires number { number < 256 }
-    requires size { candidates.now.size ≡ part.now.footer.layout.docs }
-    ensures size { IfOk result (λ b. b.size ≡ part.now.footer.layout.docs) }
-    ensures only { (s : Schema) (documents : List Placed) (p : Parts) → IsSearched part.now s documents p → ((term : List ℕ) → keeps_places s (field_key number term) ≡ true)
+    requires { length cursors.old ≡ length phrase.now }
+    ensures size { IfOk result (λ b. b.size ≡ candidates.now.size) }
+    ensures only { (s : Schema) (documents : List Placed) (number : ℕ) → ArePassing s documents number phrase.now cursors.old 0 0 → ((term : List ℕ) → keeps_places s (field_key number term) ≡ true)
         → IsSetOf (λ d. asked.has_each number phrase.now (keys_of s d)) documents candidates.now
-        → MatchResult result (IsSetOf (λ d. asked.has_run number phrase.now (keys_of s d)) documents) (LacksPlaces part.now s documents p (token_keys number phrase.now)) }
+        → MatchResult result (IsSetOf (λ d. asked.has_run number phrase.now (keys_of s d)) documents) IsMemory }
 {
-    let count = part.doc_count();
-    let mut bits = DocBits::vacant(alloc, count)?;
-    for document in 0..count {
-        let runs = runs_at(alloc, index, part, number, phrase, candidates, document)?;
+    let mut bits = DocBits::vacant(alloc, candidates.size())?;
+    let mut starts = Vec::new(alloc);
+    let mut places = Vec::new(alloc);
+    let mut from = 0;
+    while let Some(document) = candidates.next_from(from) {
+        let runs = runs_in(phrase, cursors, &mut starts, &mut places, document)?;
         put_if(&mut bits, document, runs);
+        from = document + 1;
     }
     Ok(bits)
 }
@@ -215,7 +169,8 @@ fn several_documents(
     phrase_by_keys();
     each_by_keys();
     let candidates = each_documents(alloc, index, part, number, field, phrase)?;
-    run_documents(alloc, index, part, number, phrase, &candidates)
+    let mut cursors = open_cursors(alloc, index, part, number, phrase)?;
+    run_documents(alloc, phrase, &mut cursors, &candidates)
 }
 
 // The documents in which some tokens stand as a phrase.

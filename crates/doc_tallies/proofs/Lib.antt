@@ -13,3 +13,4 @@ pub mod MarkValues
 pub mod Classing
 pub mod Copied
 pub mod Regrouped
+pub mod Tabling

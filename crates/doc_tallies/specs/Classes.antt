@@ -21,13 +21,13 @@ class_sum classes = sum_by (λ c. c.count) classes
 abbrev pub weighed : (ℕ → Bool) → List Class → ℕ
 weighed q classes = sum_by (λ c. c.count * (if q c.sample then 1 else 0)) classes
 
--- a document was counted in a class of its mark, or in one that had none
-pub record IsCounted (mark : Option ℤ) (document : ℕ) (old new : List Class) : Type 0 where
+-- so many documents, of which this is one, were counted in a class of their mark, or in one that had none
+pub record IsCounted (mark : Option ℤ) (more document : ℕ) (old new : List Class) : Type 0 where
   pub place : ℕ
   pub class : Class
   pub here : slice_get old place ≡ Some class
   pub admits : (class.count ≡ 0) ⊎ (class.mark ≡ mark)
-  pub now : new ≡ slice_set old place (record { mark = mark; count = class.count + 1; sample = document })
+  pub now : new ≡ slice_set old place (record { mark = mark; count = class.count + more; sample = document })
 
 -- documents below a bound pass a test alike where their marks are the same
 abbrev pub Respects : Agg → Kind → List Entry → ℕ → (ℕ → Bool) → Type 0
@@ -42,6 +42,11 @@ IsMarked agg kind entries bound c = (c.count ≡ 0) ⊎ ((c.sample < bound) × (
 pub record AreClasses (agg : Agg) (kind : Kind) (entries : List Entry) (bound : ℕ) (numbers : List ℕ) (classes : List Class) : Type 0 where
   pub marked : All (IsMarked agg kind entries bound) classes
   pub weights : (q : ℕ → Bool) → Respects agg kind entries bound q → weighed q classes ≡ count_by q numbers
+
+-- the documents of some classes were added to others
+pub record IsRegrouped (agg : Agg) (kind : Kind) (entries : List Entry) (bound : ℕ) (cells old new : List Class) : Type 0 where
+  pub marked : All (IsMarked agg kind entries bound) new
+  pub weights : (q : ℕ → Bool) → Respects agg kind entries bound q → weighed q new ≡ weighed q old + weighed q cells
 
 -- the document with a number, or one that says nothing
 abbrev pub doc_at : List Placed → ℕ → List DocField

@@ -8,3 +8,5 @@ pub mod AggColumns
 pub mod Ranks
 pub mod Marks
 pub mod Classes
+pub mod Passed
+pub mod Tables

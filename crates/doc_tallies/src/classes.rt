@@ -6,15 +6,18 @@ ghost use Rattle.std.specs.Int.{int_div_euclid};
 ghost use Rattle.std.specs.Int.RustNames.{unsigned_abs};
 ghost use Rattle.std.specs.List.{All};
 ghost use Rattle.agg_model.specs.Checking.{HasInterval};
+ghost use Rattle.agg_model.specs.declared.request.Agg.{Agg};
+ghost use Rattle.doc_value.specs.declared.schema.Kind.{Kind};
 ghost use Rattle.agg_model.specs.Counting as counting;
 ghost use Rattle.fast_fields.specs.Readers.{Holds};
 ghost use Rattle.fast_fields.specs.declared.entries.Entry.{Entry};
-ghost use Rattle.doc_tallies.specs.Classes.{AreClasses, IsCounted, class_sum};
+ghost use Rattle.doc_tallies.specs.Classes.{AreClasses, IsCounted, IsMarked, IsRegrouped, class_sum};
 ghost use Rattle.doc_tallies.specs.Marks as marks;
 ghost use Rattle.doc_tallies.specs.Picked.{AllBelow};
 
 use crate::column_values::signed;
 use crate::field_column::FieldColumn;
+use crate::tables::tabled;
 use agg_model::{Agg, Distance};
 use doc_value::Kind;
 use std::alloc::{AllocError, Global};
@@ -28,7 +31,7 @@ pub(crate) struct Class {
 }
 
 // How many classes there are at most.
-const PLACES: usize = 16_384;
+pub(crate) const PLACES: usize = 16_384;
 
 // The whole number for which a number of a column of a kind stands.
 fn whole_number(kind: Kind, number: u64) -> i128
@@ -70,7 +73,7 @@ fn step_of(interval: Distance, offset: Distance, whole: i128) -> i128
 }
 
 // What a number of a column counts for: itself, or the step in which it lies.
-fn mark_of(agg: &Agg, kind: Kind, number: u64) -> i128
+pub(crate) fn mark_of(agg: &Agg, kind: Kind, number: u64) -> i128
     requires { HasInterval agg.now }
     ensures { result ≡ marks.mark_of agg.now kind number }
 {
@@ -115,27 +118,51 @@ fn place_of(mark: Option<i128>) -> usize
     }
 }
 
-// Counts a document in the class of its mark. It answers false where another class stands there.
-fn count_one(classes: &mut Vec<Class>, mark: Option<i128>, document: u32) -> bool
+// Counts so many documents, of which this is one, in the class of their mark. It answers false where another class stands there.
+fn count_many(classes: &mut Vec<Class>, mark: Option<i128>, more: u64, document: u32) -> bool
     requires { vec_len classes.old ≡ PLACES }
     ensures len { vec_len classes.new ≡ PLACES }
-    ensures counted { OnTrue result (IsCounted mark document classes.old.items classes.new.items) }
+    ensures counted { OnTrue result (IsCounted mark more document classes.old.items classes.new.items) }
 {
     let place = place_of(mark);
     let class = classes[place];
-    if class.count == u64::MAX || class.count != 0 && !is_same(class.mark, mark) {
+    if class.count > u64::MAX - more || class.count != 0 && !is_same(class.mark, mark) {
         return false;
     }
     classes[place] = Class {
         mark,
-        count: class.count + 1,
+        count: class.count + more,
         sample: document,
     };
     true
 }
 
+// Counts a document in the class of its mark. It answers false where another class stands there.
+pub(crate) fn count_one(classes: &mut Vec<Class>, mark: Option<i128>, document: u32) -> bool
+    requires { vec_len classes.old ≡ PLACES }
+    ensures len { vec_len classes.new ≡ PLACES }
+    ensures counted { OnTrue result (IsCounted mark 1 document classes.old.items classes.new.items) }
+{
+    count_many(classes, mark, 1, document)
+}
+
+// Adds the documents of some classes to those of the same marks, if there is room for all.
+pub(crate) fn regrouped(classes: &mut Vec<Class>, cells: &[Class]) -> bool
+    requires { vec_len classes.old ≡ PLACES }
+    ensures marked { (agg : Agg) (kind : Kind) (entries : List Entry) (bound : ℕ) → All (IsMarked agg kind entries bound) cells.now → All (IsMarked agg kind entries bound) classes.old.items
+        → OnTrue result (IsRegrouped agg kind entries bound cells.now classes.old.items classes.new.items) }
+    ensures total { OnTrue result (class_sum classes.new.items ≡ class_sum classes.old.items + class_sum cells.now) }
+{
+    for cell in cells {
+        if cell.count != 0 && !count_many(classes, cell.mark, cell.count, cell.sample) {
+            return false;
+        }
+    }
+    true
+}
+
 // Classes that have no documents.
-fn no_classes(alloc: Global) -> Result<Vec<Class>, AllocError>
+pub(crate) fn no_classes(alloc: Global) -> Result<Vec<Class>, AllocError>
     ensures len { IfOk result (λ classes. vec_len classes ≡ PLACES) }
     ensures none { IfOk result (λ classes. All (λ c. c.count ≡ 0) classes.items) }
 {
@@ -150,8 +177,8 @@ fn no_classes(alloc: Global) -> Result<Vec<Class>, AllocError>
     Ok(classes)
 }
 
-// Some documents in classes of those that count alike by a column, if there is room for all classes.
-pub(crate) fn classes_of(
+// The same one after the other.
+fn classes_each(
     alloc: Global,
     agg: &Agg,
     field: &FieldColumn<'_>,
@@ -170,4 +197,25 @@ pub(crate) fn classes_of(
         }
     }
     Ok(Some(classes))
+}
+
+// Fewer documents are counted without a table.
+const MANY: usize = 32_768;
+
+// Some documents in classes of those that count alike by a column, if there is room for all classes.
+pub(crate) fn classes_of(
+    alloc: Global,
+    agg: &Agg,
+    field: &FieldColumn<'_>,
+    numbers: &[u32],
+) -> Result<Option<Vec<Class>>, AllocError>
+    requires { HasInterval agg.now }
+    ensures only { (texts : List (List ℕ)) (entries : List Entry) (bound : ℕ) → Holds field.now.column texts entries → AllBelow bound numbers.now
+        → IfOk result (λ o. IfSome o (λ classes. AreClasses agg.now field.now.kind entries bound numbers.now classes.items)) }
+    ensures total { IfOk result (λ o. IfSome o (λ classes. class_sum classes.items ≡ length numbers.now)) }
+{
+    if numbers.len() < MANY {
+        return classes_each(alloc, agg, field, numbers);
+    }
+    tabled(alloc, agg, field, numbers)
 }

@@ -4,6 +4,7 @@
 mod classes;
 mod column_values;
 mod field_column;
+mod first_values;
 mod hit_order;
 mod hits;
 mod laws;
@@ -11,6 +12,8 @@ mod near;
 mod order;
 mod partials;
 mod repeats;
+mod span;
+mod tables;
 mod times;
 
 pub use hit_order::HitOrder;
@@ -18,4 +21,5 @@ pub use hits::first_hits;
 pub use laws::merged_firsts;
 pub use order::comes_before;
 pub use partials::partial_of;
+pub use repeats::valueless_partial;
 pub use times::within_times;

@@ -16,10 +16,11 @@ ghost use Rattle.doc_tallies.specs.Causes.{AsksField, HasCause};
 ghost use Rattle.doc_tallies.specs.Orders.{IsSortable, firsts, sort_field};
 ghost use Rattle.doc_tallies.specs.Picked.{AllBelow, picked};
 ghost use Rattle.doc_tallies.specs.Ranks as ranks;
-ghost use Rattle.doc_tallies.specs.Ranks.{IsSortOf};
+ghost use Rattle.doc_tallies.specs.Ranks.{IsSortFor, IsSortOf};
 
 use crate::HitOrder;
 use crate::field_column::{FieldColumn, open_column};
+use crate::first_values::FirstValues;
 use crate::times::push_if;
 use doc_value::Schema;
 use fast_fields::Column;
@@ -105,6 +106,18 @@ fn bar_of(
     }
 }
 
+// One in so many documents is looked at for a first bar. It is a prime, so that of documents that come by turns all are met.
+const APART: usize = 61;
+
+// One in so many numbers.
+fn some_of(alloc: Global, numbers: &[u32]) -> Result<Vec<u32>, AllocError> {
+    let mut some = Vec::new(alloc);
+    for step in 0..numbers.len() / APART {
+        some.push(numbers[step * APART])?;
+    }
+    Ok(some)
+}
+
 // Those of some documents whose numbers in a column do not stand behind a bar.
 fn near_in(
     alloc: Global,
@@ -118,11 +131,69 @@ fn near_in(
     ensures among { IfOk result (λ near. (n : ℕ) → Contains near.items n → Contains numbers.now n) }
 {
     let mut near = Vec::new(alloc);
+    let mut values = FirstValues::over(*column);
     for number in numbers {
-        let kept = is_near(descending, bar, column.value_at(*number));
+        let kept = is_near(descending, bar, values.value_at(*number));
         push_if(&mut near, *number, kept)?;
     }
     Ok(near)
+}
+
+// So many documents at least, of some, that have all of the first so many among them, by a bar that is found in others.
+fn near_by(
+    alloc: Global,
+    sort: &SortColumn<'_>,
+    wanted: usize,
+    seen: &[u32],
+    numbers: &[u32],
+) -> Result<Option<Vec<u32>>, AllocError>
+    ensures only { (s : Schema) (documents : List Placed) (order : Option HitOrder) → AreDocumentsOf s documents → IsSortFor s documents order sort.now → AllBelow (length documents) numbers.now
+        → IfOk result (λ o. IfSome o (λ near. firsts wanted order (picked near.items documents) ≡ firsts wanted order (picked numbers.now documents))) }
+    ensures among { IfOk result (λ o. IfSome o (λ near. (n : ℕ) → Contains near.items n → Contains numbers.now n)) }
+{
+    let Some(bar) = bar_of(alloc, sort, wanted, seen)? else {
+        return Ok(None);
+    };
+    let near = near_in(alloc, &sort.field.column, sort.descending, bar, numbers)?;
+    if near.len() < wanted {
+        return Ok(None);
+    }
+    Ok(Some(near))
+}
+
+// The same by the last bar of their own, where there are so many.
+fn nearer(
+    alloc: Global,
+    sort: &SortColumn<'_>,
+    wanted: usize,
+    numbers: Vec<u32>,
+) -> Result<Vec<u32>, AllocError>
+    ensures only { (s : Schema) (documents : List Placed) (order : Option HitOrder) → AreDocumentsOf s documents → IsSortFor s documents order sort.now → AllBelow (length documents) numbers.items
+        → IfOk result (λ near. firsts wanted order (picked near.items documents) ≡ firsts wanted order (picked numbers.items documents)) }
+    ensures among { IfOk result (λ near. (n : ℕ) → Contains near.items n → Contains numbers.items n) }
+{
+    match near_by(alloc, sort, wanted, numbers.as_slice(), numbers.as_slice())? {
+        Some(near) => Ok(near),
+        None => Ok(numbers),
+    }
+}
+
+// The same by two bars: one of some documents, and one of those that do not stand behind it.
+fn near_twice(
+    alloc: Global,
+    sort: &SortColumn<'_>,
+    wanted: usize,
+    numbers: &[u32],
+) -> Result<Option<Vec<u32>>, AllocError>
+    ensures only { (s : Schema) (documents : List Placed) (order : Option HitOrder) → AreDocumentsOf s documents → IsSortFor s documents order sort.now → AllBelow (length documents) numbers.now
+        → IfOk result (λ o. IfSome o (λ near. firsts wanted order (picked near.items documents) ≡ firsts wanted order (picked numbers.now documents))) }
+    ensures among { IfOk result (λ o. IfSome o (λ near. (n : ℕ) → Contains near.items n → Contains numbers.now n)) }
+{
+    let some = some_of(alloc, numbers)?;
+    match near_by(alloc, sort, wanted, some.as_slice(), numbers)? {
+        Some(near) => Ok(Some(nearer(alloc, sort, wanted, near)?)),
+        None => near_by(alloc, sort, wanted, numbers, numbers),
+    }
 }
 
 // So many documents at least, of some, that have all of the first so many among them, if the column tells them.
@@ -138,15 +209,6 @@ pub(crate) fn near_numbers(
 {
     match sort {
         None => Ok(None),
-        Some(sort) => match bar_of(alloc, sort, wanted, numbers)? {
-            None => Ok(None),
-            Some(bar) => {
-                let near = near_in(alloc, &sort.field.column, sort.descending, bar, numbers)?;
-                if near.len() < wanted {
-                    return Ok(None);
-                }
-                Ok(Some(near))
-            }
-        },
+        Some(sort) => near_twice(alloc, sort, wanted, numbers),
     }
 }

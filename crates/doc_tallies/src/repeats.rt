@@ -1,6 +1,6 @@
 //! Many documents with the same values.
 
-ghost use Rattle.std.specs.Prelude.{◌≡◌, ◌+◌, ◌^◌, ◌<◌, ◌++◌, List, IfOk, replicate};
+ghost use Rattle.std.specs.Prelude.{◌≡◌, ◌+◌, ◌^◌, ◌<◌, ◌++◌, [], List, IfOk, replicate};
 ghost use Rattle.doc_value.specs.declared.doc.DocField.{DocField};
 ghost use Rattle.agg_model.specs.Checking.{HaveIntervals};
 ghost use Rattle.agg_model.specs.Partials.{IsPartialOf, StandsFor, documents_in};
@@ -45,4 +45,20 @@ pub(crate) fn copies(
     }
     collect_one(alloc, aggs, &mut partial, doc)?;
     Ok(partial)
+}
+
+/// What so many documents without values count.
+pub fn valueless_partial(
+    alloc: Global,
+    aggs: &AggRequest,
+    count: u64,
+) -> Result<Partial, AllocError>
+    requires intervals { HaveIntervals aggs.now }
+    requires few { count < 2 ^ 62 }
+    ensures partial { IfOk result (IsPartialOf aggs.now) }
+    ensures many { IfOk result (λ partial. documents_in partial ≡ count) }
+    ensures stands { IfOk result (λ partial. StandsFor aggs.now partial (replicate count [])) }
+{
+    let nothing = DocValues::vacant(alloc);
+    copies(alloc, aggs, &nothing, count)
 }

@@ -1,5 +1,5 @@
 -- Why a store's fault is answered.
-use Rattle.std.proofs.Common.{◌≡◌, ℕ, sym, ◌∙◌, subst}
+use Rattle.std.proofs.Common.{◌≡◌, ℕ, sym, subst}
 use Rattle.meta_journal.specs.Journal.{FaultIs}
 use Rattle.meta_journal.specs.declared.journal_error.JournalError.{JournalError}
 use Rattle.meta_journal.specs.declared.journal_error.JournalError.TheVariants as journal
@@ -16,6 +16,8 @@ no_fault_between before now (errors.Corrupt key) h = tt
 no_fault_between before now (errors.Foreign key) h = tt
 no_fault_between before now errors.Full h = tt
 no_fault_between before now errors.NoIndex h = tt
+no_fault_between before now errors.IndexExists h = tt
+no_fault_between before now (errors.BadConfig bad) h = tt
 
 of_fault : (before now number start : ℕ) (x : JournalError) → start ≡ before → FaultIs before now x → IsFaultBetween before now (of_journal number start x)
 of_fault before now number start (journal.Memory e) same h = tt

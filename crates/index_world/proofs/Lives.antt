@@ -57,6 +57,8 @@ want_trouble (errors.Corrupt key) h = absurd h
 want_trouble (errors.Foreign key) h = absurd h
 want_trouble errors.Full h = absurd h
 want_trouble errors.NoIndex h = absurd h
+want_trouble errors.IndexExists h = absurd h
+want_trouble (errors.BadConfig bad) h = absurd h
 
 pub doubt_of : (p : Place) → (p ≡ Sure → ⊥) → is_unsure p ≡ true
 doubt_of Sure h = absurd (h refl)

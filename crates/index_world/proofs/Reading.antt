@@ -44,6 +44,8 @@ want_unread (errors.Corrupt key) h = absurd h
 want_unread (errors.Foreign key) h = absurd h
 want_unread errors.Full h = absurd h
 want_unread errors.NoIndex h = absurd h
+want_unread errors.IndexExists h = absurd h
+want_unread (errors.BadConfig bad) h = absurd h
 
 module _ (old : State) (core : Core) (log : Log) (n now : ℕ) (told told' : Option State) (e : told ≡ Some old) (w : IsWorld old core log) (at : n ≡ core.store_faults) (later : n ≤ now) (within : now ≤ last_count) where
   counted : Counted core now

@@ -36,3 +36,5 @@ error_words-fault (errors.Corrupt key) f h = absurd h
 error_words-fault (errors.Foreign key) f h = ap fault_words (sym (faulted_same f (is_foreign key) h))
 error_words-fault errors.Full f h = ap fault_words (sym (faulted_same f is_full h))
 error_words-fault errors.NoIndex f h = absurd h
+error_words-fault errors.IndexExists f h = absurd h
+error_words-fault (errors.BadConfig bad) f h = absurd h

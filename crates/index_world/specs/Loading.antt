@@ -20,6 +20,8 @@ IsUnread (errors.Corrupt key) unread = ⊥
 IsUnread (errors.Foreign key) unread = ⊥
 IsUnread errors.Full unread = ⊥
 IsUnread errors.NoIndex unread = unread ≡ no_index
+IsUnread errors.IndexExists unread = ⊥
+IsUnread (errors.BadConfig bad) unread = ⊥
 
 -- with some fate it is the core's own loading; the history grew at its end, and numbers in hand stay
 pub record LoadsAs (core after : Core) (answer : Result ⊤ Unread) : Type 0 where

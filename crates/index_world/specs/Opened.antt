@@ -101,6 +101,8 @@ OpensNot before now (errors.Memory e) old new = HasLanded old new
 OpensNot before now (errors.Missing key) old new = ⊥
 OpensNot before now (errors.Refused refusal) old new = ⊥
 OpensNot before now errors.Full old new = ⊥
+OpensNot before now errors.IndexExists old new = ⊥
+OpensNot before now (errors.BadConfig bad) old new = ⊥
 
 -- the same of a world that was opened anew
 abbrev pub OpensAnew : (before : ℕ) → Result ⊤ WorldError → Keeping → State → State → Type 0

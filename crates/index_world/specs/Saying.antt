@@ -1,6 +1,8 @@
 -- The words in which outcomes, refusals and faults are said.
 use Rattle.std.specs.Prelude.{ℕ, List, [], ◌∷◌, ◌++◌, decimal, codes}
 use Rattle.std.specs.Fmt.{signed_decimal}
+use Rattle.index_config.specs.declared.config_error.ConfigError.{ConfigError}
+use Rattle.index_config.specs.declared.config_error.ConfigError.TheVariants as configs
 use Rattle.meta_store.specs.declared.refusal.Refusal.{Refusal}
 use Rattle.meta_store.specs.declared.refusal.Refusal.TheVariants.{MomentBack, NotCreated, AlreadyCreated, BadConfig, NotNext, Delta, State, BadTask, UptoAhead, TooManyTasks, TooManyRows, TooManySpans}
 use Rattle.source_checkpoint.specs.declared.delta.StaleDelta.{StaleDelta}
@@ -63,6 +65,20 @@ fault_words (store_fault before after) = codes "storefault" ∷ decimal before �
 fault_words (is_foreign key) = codes "foreign" ∷ key ∷ []
 fault_words is_full = codes "full" ∷ []
 
+-- what is wrong with a configuration: its kind, and the path of the key where there is one
+abbrev pub config_words : ConfigError → List (List ℕ)
+config_words configs.NotToml = codes "nottoml" ∷ []
+config_words (configs.UnknownKey path) = codes "unknownkey" ∷ path ∷ []
+config_words (configs.WrongKind path) = codes "wrongkind" ∷ path ∷ []
+config_words (configs.MissingKey path) = codes "missingkey" ∷ path ∷ []
+config_words (configs.BadNumber path) = codes "badnumber" ∷ path ∷ []
+config_words (configs.DuplicateField path) = codes "duplicatefield" ∷ path ∷ []
+config_words configs.BadTimestampField = codes "badtimestampfield" ∷ []
+config_words configs.ModeNotBuilt = codes "modenotbuilt" ∷ []
+config_words (configs.TooManyFields count) = codes "toomanyfields" ∷ []
+config_words (configs.BadReference path) = codes "badreference" ∷ path ∷ []
+config_words (configs.Memory e) = codes "memory" ∷ []
+
 -- each error of a call of the world
 abbrev pub error_words : WorldError → List (List ℕ)
 error_words (errors.Memory e) = codes "memory" ∷ []
@@ -73,3 +89,5 @@ error_words (errors.Corrupt key) = codes "corrupt" ∷ key ∷ []
 error_words (errors.Foreign key) = fault_words (is_foreign key)
 error_words errors.Full = fault_words is_full
 error_words errors.NoIndex = codes "noindex" ∷ []
+error_words errors.IndexExists = codes "indexexists" ∷ []
+error_words (errors.BadConfig error) = config_words error

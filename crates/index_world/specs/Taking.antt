@@ -23,6 +23,8 @@ IsWant (errors.Corrupt key) = ⊥
 IsWant (errors.Foreign key) = ⊥
 IsWant errors.Full = ⊥
 IsWant errors.NoIndex = ⊥
+IsWant errors.IndexExists = ⊥
+IsWant (errors.BadConfig bad) = ⊥
 
 -- an entry of one's own is refused as its answer says, or the journal has no further number, or memory wants
 abbrev pub IsUnprepared : Answer → ℕ → WorldError → Type 0
@@ -39,6 +41,8 @@ IsUnfit answer number (errors.Missing key) = ⊥
 IsUnfit answer number (errors.Foreign key) = ⊥
 IsUnfit answer number errors.Full = ⊥
 IsUnfit answer number errors.NoIndex = ⊥
+IsUnfit answer number errors.IndexExists = ⊥
+IsUnfit answer number (errors.BadConfig bad) = ⊥
 
 -- the first refused entry has this number, or memory wants
 abbrev pub IsRefusedAt : Option ℕ → WorldError → Type 0
@@ -50,6 +54,8 @@ IsRefusedAt first (errors.Missing key) = ⊥
 IsRefusedAt first (errors.Foreign key) = ⊥
 IsRefusedAt first errors.Full = ⊥
 IsRefusedAt first errors.NoIndex = ⊥
+IsRefusedAt first errors.IndexExists = ⊥
+IsRefusedAt first (errors.BadConfig bad) = ⊥
 
 -- what an error of the journal is to the world, whose call began at this count
 abbrev pub of_journal : (number before : ℕ) → JournalError → WorldError
@@ -82,6 +88,8 @@ IsFaultBetween before now (errors.Corrupt key) = ⊤
 IsFaultBetween before now (errors.Foreign key) = ⊤
 IsFaultBetween before now errors.Full = ⊤
 IsFaultBetween before now errors.NoIndex = ⊤
+IsFaultBetween before now errors.IndexExists = ⊤
+IsFaultBetween before now (errors.BadConfig bad) = ⊤
 
 -- an error that is no fault of the store
 abbrev pub IsNoFault : WorldError → Type 0
@@ -93,3 +101,5 @@ IsNoFault (errors.Corrupt key) = ⊤
 IsNoFault (errors.Foreign key) = ⊤
 IsNoFault errors.Full = ⊤
 IsNoFault errors.NoIndex = ⊤
+IsNoFault errors.IndexExists = ⊤
+IsNoFault (errors.BadConfig bad) = ⊤

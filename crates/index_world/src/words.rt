@@ -2,10 +2,11 @@
 
 ghost use Rattle.std.specs.Prelude.{◌≡◌, ◌++◌, ◌∷◌, [], OnOk, decimal, codes};
 ghost use Rattle.std.specs.Fmt.{signed_decimal};
-ghost use Rattle.index_world.specs.Saying.{with_word, with_words, stale_words, state_words, refusal_words, error_words};
+ghost use Rattle.index_world.specs.Saying.{with_word, with_words, stale_words, state_words, refusal_words, config_words, error_words};
 
 use crate::world_error::WorldError;
 use byte_fields::Bytes;
+use index_config::ConfigError;
 use meta_store::Refusal;
 use source_checkpoint::StaleDelta;
 use split_states::StateRefusal;
@@ -148,6 +149,25 @@ pub fn put_refusal(alloc: Global, out: &mut Bytes, refusal: &Refusal) -> Result<
     }
 }
 
+// Appends what is wrong with a configuration: its kind, and the path of the key where there is one.
+fn put_config(out: &mut Bytes, error: &ConfigError) -> Result<(), AllocError>
+    ensures { OnOk result (out.new ≡ with_words out.old (config_words error.now)) }
+{
+    match error {
+        ConfigError::NotToml => put_word(out, b"nottoml"),
+        ConfigError::UnknownKey { path } => put_named(out, b"unknownkey", path.as_slice()),
+        ConfigError::WrongKind { path } => put_named(out, b"wrongkind", path.as_slice()),
+        ConfigError::MissingKey { path } => put_named(out, b"missingkey", path.as_slice()),
+        ConfigError::BadNumber { path } => put_named(out, b"badnumber", path.as_slice()),
+        ConfigError::DuplicateField { path } => put_named(out, b"duplicatefield", path.as_slice()),
+        ConfigError::BadTimestampField => put_word(out, b"badtimestampfield"),
+        ConfigError::ModeNotBuilt => put_word(out, b"modenotbuilt"),
+        ConfigError::TooManyFields { .. } => put_word(out, b"toomanyfields"),
+        ConfigError::BadReference { path } => put_named(out, b"badreference", path.as_slice()),
+        ConfigError::Memory(_) => put_word(out, b"memory"),
+    }
+}
+
 /// Appends a fault of a call of the world: its name and what is kept of it.
 pub fn put_fault(alloc: Global, out: &mut Bytes, error: &WorldError) -> Result<(), AllocError>
     ensures { OnOk result (out.new ≡ with_words out.old (error_words error.now)) }
@@ -163,5 +183,7 @@ pub fn put_fault(alloc: Global, out: &mut Bytes, error: &WorldError) -> Result<(
         WorldError::Foreign { key } => put_named(out, b"foreign", key.as_bytes()),
         WorldError::Full => put_word(out, b"full"),
         WorldError::NoIndex => put_word(out, b"noindex"),
+        WorldError::IndexExists => put_word(out, b"indexexists"),
+        WorldError::BadConfig(error) => put_config(out, error),
     }
 }

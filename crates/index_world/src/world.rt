@@ -1,29 +1,34 @@
 //! One life of a world: its store, journal, state and clock. Each call is one event.
 
-ghost use Rattle.std.specs.Prelude.{◌≡◌, ◌<◌, ◌^◌, ℕ, List, IfOk, IfErr, MatchResult, None, Some, length, slice_get, max, true, false};
+ghost use Rattle.std.specs.Prelude.{◌≡◌, ◌<◌, ◌^◌, ℕ, List, IfOk, IfErr, IsOk, MatchResult, None, Some, length, slice_get, max, true, false};
 ghost use Rattle.std.specs.Borrow.{Lends, sem};
 ghost use Rattle.index_world.specs.contracts.world.World.{the_row};
+ghost use Rattle.doc_value.specs.Documents.{IsSchema};
 ghost use Rattle.meta_journal.specs.Spelling.{CanSpellFacts};
 ghost use Rattle.object_store.specs.Store.{State, WhereTold};
 ghost use Rattle.source_log.specs.Log.{Log};
 ghost use Rattle.index_world.specs.Calls.{asked, asked_moment, looked, asked_and_looked, fetched, upload_made};
-ghost use Rattle.index_world.specs.Core.{Core, IsUnusedIn, IsUploadedIn};
+ghost use Rattle.index_world.specs.Configuration.{index_of};
+ghost use Rattle.index_world.specs.Core.{Core, IsConfigured, IsUnusedIn, IsUploadedIn};
+ghost use Rattle.index_world.specs.Created.{CreatesIndex, CreatesNot, CreatesWorld, CreatesNone, IsOfCreate};
+ghost use Rattle.index_config.specs.Answer.{config_answer};
 ghost use Rattle.index_world.specs.Gate.{Does, NoneBetween, IsTrouble, IsUnmade, AreMarks, IsMoment, stage_call, WasStaged, WasUploaded, publish_call, IsPublishable, IsRevision, IsPlan, IsPieceGiven};
 ghost use Rattle.index_world.specs.Loading.{LoadsWorld, LoadsNone, LoadsAnew};
 ghost use Rattle.index_world.specs.Taking.{IsFaultBetween};
 ghost use Rattle.index_world.specs.Opened.{OpensIndex, OpensNot, OpensAnew};
 ghost use Rattle.index_world.specs.World.{IsWorld, WorldStands};
-ghost use Rattle.index_world.specs.declared.planning.PlanRow.{PlanRow};
+ghost use Rattle.meta_store.specs.declared.planning.PlanRow.{PlanRow};
 
+use crate::first_entry::create;
 use crate::life::Life;
 use crate::own::Own;
-use crate::planning::{Choice, plan_rows};
 use crate::steady::SteadyClock;
 use crate::taking::{create_error, get_error, open};
 use crate::tokens::{Marks, Plan, Staged, Uploaded};
 use crate::world_error::WorldError;
+use index_config::IndexConfig;
 use meta_journal::split_key;
-use meta_store::Meta;
+use meta_store::{Choice, Meta};
 use object_store::{ObjectStore, Piece};
 use source_checkpoint::{Checkpoint, Delta};
 use split_states::RowFacts;
@@ -83,6 +88,42 @@ fn copied_checkpoints(
 }
 
 impl<S: ObjectStore, C: SteadyClock> World<S, C> {
+    /// Makes the index of a store whose journal has no entry: one Create, with the bytes of its configuration as they are given
+    /// and the moment that the clock tells. IndexExists where the journal has an entry, or where one lands before the Create;
+    /// BadConfig where the bytes are no configuration, and then nothing is made.
+    pub fn create(
+        alloc: Global,
+        store: S,
+        clock: C,
+        config: &[u8],
+    ) -> Result<World<S, C>, Unopened<S>>
+        // A fault of the store has its counts before and behind, of which the second rose, over all stores.
+        ensures faults { IfErr result (λ unopened. IsFaultBetween (S.fault_count store) (S.fault_count unopened.store) unopened.error) }
+        // A world is made only of a text that is a configuration, and BadConfig comes only of one that is none, over all stores.
+        ensures kinds { MatchResult result (λ _. IsOk (config_answer config.now)) (λ unopened. IsOfCreate config.now unopened.error) }
+        // What any store that tells is found to be, and what is done to it.
+        ensures opened { MatchResult result (λ world. WhereTold (S.told store) world.told (CreatesIndex config.now (C.told clock) world))
+            (λ unopened. WhereTold (S.told store) (S.told unopened.store) (CreatesNot config.now (C.told clock) (S.fault_count store) (S.fault_count unopened.store) unopened.error)) }
+        ensures step { (kept : State) (core : Core) (log : Log) → S.told store ≡ Some kept → S.fault_count store ≡ core.store_faults →
+            C.told clock ≡ Some core.clock → core.clock < 2 ^ 62 → core.frozen ≡ false → IsWorld kept core log →
+            MatchResult result (CreatesWorld config.now core log) (λ unopened. CreatesNone config.now core log unopened.error (S.told unopened.store) (S.fault_count unopened.store)) }
+    {
+        let mut store = store;
+        let mut clock = clock;
+        let answer = create(alloc, &mut store, &mut clock, config);
+        // The count of a store has its range.
+        let _count = store.faults();
+        match answer {
+            Ok(life) => Ok(World {
+                store,
+                life,
+                clock,
+                frozen: false,
+            }),
+            Err(error) => Err(Unopened { error, store }),
+        }
+    }
+
     /// Opens the index of a store: NoIndex where its journal has no entry, Corrupt with the key of the first object that does
     /// not decode or, where all decode, of the first whose entry may not come.
     pub fn load(alloc: Global, store: S, clock: C) -> Result<World<S, C>, Unopened<S>>
@@ -141,6 +182,15 @@ impl<S: ObjectStore, C: SteadyClock> World<S, C> {
         ensures { result.now.state ≡ self.now.meta }
     {
         &self.life.meta
+    }
+
+    /// The configuration of the index.
+    pub fn config(&self) -> &IndexConfig
+        ensures said { index_of self.now.meta.config ≡ Some result.now }
+        ensures schema { ∥ IsSchema result.now.schema ∥₁ }
+        ensures step { (core : Core) (log : Log) → WorldStands self.now core log → IsConfigured result.now core }
+    {
+        self.life.config()
     }
 
     /// From here on no call asks the clock, and the moment changes only by an entry that is taken in.
@@ -245,9 +295,9 @@ impl<S: ObjectStore, C: SteadyClock> World<S, C> {
     }
 
     /// Plans rows over the newest state.
-    pub fn plan(&mut self, alloc: Global, choice: Choice) -> Result<Plan, WorldError>
+    pub fn plan(&mut self, alloc: Global, choice: &Choice) -> Result<Plan, WorldError>
         ensures { (core : Core) (log : Log) → WorldStands self.old core log →
-            Does WorldStands NoneBetween None asked_and_looked IsTrouble (IsPlan choice) result core log self.new }
+            Does WorldStands NoneBetween None asked_and_looked IsTrouble (IsPlan choice.now) result core log self.new }
     {
         let before = self.store.faults();
         self.ask();
@@ -257,7 +307,7 @@ impl<S: ObjectStore, C: SteadyClock> World<S, C> {
             revision: life.meta.revision(),
             moment: life.moment,
             upto: life.meta.last_opstamp(),
-            rows: plan_rows(alloc, life.meta.rows(), choice)?,
+            rows: life.meta.plan_rows(alloc, choice)?,
         })
     }
 

@@ -1,5 +1,6 @@
 //! Why a call of the world gives nothing.
 
+use index_config::ConfigError;
 use meta_store::Refusal;
 use object_store::Key;
 use std::alloc::AllocError;
@@ -22,6 +23,10 @@ pub enum WorldError {
     Full,
     /// The journal has no entry.
     NoIndex,
+    /// The journal has an entry.
+    IndexExists,
+    /// The text is no configuration.
+    BadConfig(ConfigError),
 }
 
 impl From<AllocError> for WorldError {

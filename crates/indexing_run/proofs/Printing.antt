@@ -24,6 +24,8 @@ fault_said (errors.Corrupt key) fault h = absurd h
 fault_said (errors.Foreign key) fault h = ap fault_words (sym (fault_is fault (is_foreign key) h))
 fault_said errors.Full fault h = ap fault_words (sym (fault_is fault is_full h))
 fault_said errors.NoIndex fault h = absurd h
+fault_said errors.IndexExists fault h = absurd h
+fault_said (errors.BadConfig bad) fault h = absurd h
 
 said_is : (given : Said) (outcome : IndexerOutcome) → IsSaid given outcome → said_words given ≡ outcome_words outcome
 said_is said.Checkpoint outcome h = ap outcome_words (sym h)

@@ -1,7 +1,7 @@
 -- The numbers of the documents that pass, and the documents of numbers.
-use Rattle.std.proofs.Common.{◌≡◌, ℕ, zero, suc, ◌+◌, ◌<◌, ◌≤◌, Bool, true, false, ◌&&◌, cond, List, [], ◌∷◌, ◌++◌, length, map, drop, filter, slice_get, Some, option_to_list, refl, ap, sym, subst, ◌∙◌, append_assoc, append-nil, arith}
+use Rattle.std.proofs.Common.{◌≡◌, ℕ, zero, suc, ◌+◌, ◌<◌, Bool, true, false, ◌&&◌, cond, List, [], ◌∷◌, ◌++◌, length, map, filter, slice_get, option_to_list, Vec, Result, Ok, Err, IfOk, refl, ap, sym, subst, ◌∙◌, arith}
 use Rattle.std.specs.List.{All, AllByRecursion}
-use Rattle.std.proofs.lemmas.List.Elements.{All-push}
+use Rattle.std.specs.declared.alloc.AllocError.{AllocError}
 use Rattle.doc_value.specs.declared.doc.DocField.{DocField}
 use Rattle.split_bundle.specs.declared.placed.Placed.{Placed}
 use Rattle.doc_value.specs.declared.schema.Schema.{Schema}
@@ -9,35 +9,31 @@ use Rattle.doc_value.specs.declared.facts.TimeRange.{TimeRange}
 use Rattle.query_ast.specs.Meaning.{within_times}
 use Rattle.doc_tallies.specs.Picked.{picked}
 use Rattle.doc_tallies.specs.Times.{lies_within, numbers_within}
+use Rattle.doc_sets.specs.declared.bits.DocBits.{DocBits}
+use Rattle.doc_sets.specs.Bits.{has}
+use Rattle.doc_sets.specs.BitWords.{members}
+use Rattle.doc_sets.specs.Sets.{holds_at, IsSetOf}
+use Rattle.doc_sets.proofs.Members.{members_below}
 use Rattle.leaf_search.specs.Numbers.{numbers_from, numbers_of}
 
--- the next document is put to the numbers of those before it, if it passes
-pub number_step : (test : List DocField → Bool) (ds : List Placed) (k : ℕ) (d : Placed) (b : Bool) (ns : List ℕ) → slice_get ds k ≡ Some d → b ≡ test d.doc
-    → (ns ++ cond b (k ∷ []) []) ++ numbers_from test (k + 1) (drop (k + 1) ds) ≡ ns ++ numbers_from test k (drop k ds)
-number_step test ds k d b ns got e =
-    let s : k + 1 ≡ suc k = omega arith in
-    append_assoc ns (cond b (k ∷ []) []) (numbers_from test (k + 1) (drop (k + 1) ds))
-    ∙ ap (λ l. ns ++ l) (ap (λ c. cond c (k ∷ []) [] ++ numbers_from test (k + 1) (drop (k + 1) ds)) e
-    ∙ (ap (λ n. cond (test d.doc) (k ∷ []) [] ++ numbers_from test n (drop n ds)) s
-    ∙ (go (test d.doc) ∙ sym (ap (numbers_from test k) (here ds k d got)))))
-  where
-    here : (ds : List Placed) (k : ℕ) (d : Placed) → slice_get ds k ≡ Some d → drop k ds ≡ d ∷ drop (suc k) ds
-    here [] k d got = absurd (cc)
-    here (x ∷ ds) zero d got = let same : x ≡ d = cc in ap (λ y. y ∷ ds) same
-    here (x ∷ ds) (suc k) d got = here ds k d got
+-- the numbers of a set of documents
+members_from : (p : ℕ → Bool) (test : List DocField → Bool) (n : ℕ) (ds : List Placed) → ((k : ℕ) → k < length ds → p (n + k) ≡ holds_at test ds k) → members p n (length ds) ≡ numbers_from test n ds
+unfolding members
+members_from p test n [] same = refl
+members_from p test n (d ∷ ds) same =
+    let z : n ≡ n + 0 = omega arith in
+    let here : p n ≡ test d.doc = ap p z ∙ same 0 (omega arith) in
+    let rest = members_from p test (suc n) ds (λ k lt. ap p (let e : suc n + k ≡ n + suc k = omega arith in e) ∙ same (suc k) (omega arith)) in
+    ap (λ b. cond b (n ∷ members p (suc n) (length ds)) (members p (suc n) (length ds))) here ∙ ap (λ l. cond (test d.doc) (n ∷ l) l) rest
 
-    go : (c : Bool) → cond c (k ∷ []) [] ++ numbers_from test (suc k) (drop (suc k) ds) ≡ cond c (k ∷ numbers_from test (suc k) (drop (suc k) ds)) (numbers_from test (suc k) (drop (suc k) ds))
-    go true = refl
-    go false = refl
+pub members_of : (test : List DocField → Bool) (ds : List Placed) (b : DocBits) → IsSetOf test ds b → members (has b) 0 b.size ≡ numbers_of test ds
+members_of test ds b set =
+    ap (λ count. members (has b) 0 count) set.size ∙ members_from (has b) test 0 ds (λ k lt. ap (has b) (let e : 0 + k ≡ k = omega arith in e) ∙ set.each k lt)
 
-none_left : (test : List DocField → Bool) (ds : List Placed) (k n : ℕ) → length ds ≤ k → numbers_from test n (drop k ds) ≡ []
-none_left test [] zero n le = refl
-none_left test [] (suc k) n le = refl
-none_left test (d ∷ ds) zero n le = absurd (omega arith)
-none_left test (d ∷ ds) (suc k) n le = none_left test ds k n (omega arith)
-
-pub number_end : (test : List DocField → Bool) (ds : List Placed) (k n : ℕ) (ns all : List ℕ) → length ds ≤ k → ns ++ numbers_from test n (drop k ds) ≡ all → ns ≡ all
-number_end test ds k n ns all le e = sym (append-nil ns) ∙ (ap (λ l. ns ++ l) (sym (none_left test ds k n le)) ∙ e)
+pub members_given : {Z : Type 0} (r : Result (Vec ℕ Z) AllocError) (test : List DocField → Bool) (ds : List Placed) (b : DocBits) → IsSetOf test ds b → IfOk r (λ ns. ns.items ≡ members (has b) 0 b.size)
+    → IfOk r (λ ns. ns.items ≡ numbers_of test ds)
+members_given (Ok ns) test ds b set h = h ∙ members_of test ds b set
+members_given (Err e) test ds b set h = tt
 
 -- one document more before the others
 shift : (test : List DocField → Bool) (n : ℕ) (ds : List Placed) → numbers_from test (suc n) ds ≡ map suc (numbers_from test n ds)
@@ -94,11 +90,6 @@ within_of s times test (d ∷ ds) = go (test d.doc) (within_times s times d.doc)
     go true c e rest = ap (λ t. cond t (zero ∷ filter (lies_within s times (d ∷ ds)) (numbers_from test (suc zero) ds)) (filter (lies_within s times (d ∷ ds)) (numbers_from test (suc zero) ds))) e
         ∙ ap (λ l. cond c (zero ∷ l) l) rest
 
--- each number stays below
-pub push_below : (size k : ℕ) (b : Bool) (ns : List ℕ) → k < size → All (λ n. n < size) ns → All (λ n. n < size) (ns ++ cond b (k ∷ []) [])
-push_below size k true ns lt all = All-push (λ n. n < size) ns k all lt
-push_below size k false ns lt all = subst (All (λ n. n < size)) (sym (append-nil ns)) all
-
 -- those of the numbers of documents that lie in the times
 pub timed : (s : Schema) (times : TimeRange) (test : List DocField → Bool) (ds : List Placed) (ns : List ℕ) → ns ≡ numbers_of test ds → numbers_within s times ds ns ≡ numbers_of (λ d. test d && within_times s times d) ds
 timed s times test ds ns same = ap (numbers_within s times ds) same ∙ within_of s times test ds
@@ -126,3 +117,8 @@ by_index size (n ∷ ns) h = all_cons (λ m. m < size) n ns h.0 (by_index size n
 -- and these are below as the others are
 pub timed_below : (s : Schema) (times : TimeRange) (ds : List Placed) (size : ℕ) (ns : List ℕ) → All (λ n. n < size) ns → All (λ n. n < size) (numbers_within s times ds ns)
 timed_below s times ds size ns h = by_index size (numbers_within s times ds ns) (filter_below size (lies_within s times ds) ns (by_recursion size ns h))
+
+-- the numbers that pass are below those that were asked
+pub members_within : {Z : Type 0} (r : Result (Vec ℕ Z) AllocError) (b : DocBits) → IfOk r (λ ns. ns.items ≡ members (has b) 0 b.size) → IfOk r (λ ns. All (λ n. n < b.size) ns.items)
+members_within (Ok ns) b h = subst (λ (l : List ℕ). All (λ n. n < b.size) l) (sym h) (by_index b.size (members (has b) 0 b.size) (members_below (has b) 0 b.size b.size (omega arith)))
+members_within (Err e) b h = tt

@@ -1,6 +1,6 @@
 // The numbers of a set as a rising list.
 
-ghost use Rattle.std.specs.Prelude.{◌≡◌, ◌<◌, ◌∷◌, [], ◌++◌, Bool, List, IfOk, OnOk, if◌then◌else◌};
+ghost use Rattle.std.specs.Prelude.{◌≡◌, ◌<◌, Bool, List, IfOk};
 ghost use Rattle.std.specs.List.{All};
 ghost use Rattle.doc_value.specs.declared.doc.DocField.{DocField};
 ghost use Rattle.split_bundle.specs.declared.placed.Placed.{Placed};
@@ -10,24 +10,10 @@ ghost use Rattle.leaf_search.specs.Numbers.{numbers_of};
 use doc_sets::DocBits;
 use std::alloc::{AllocError, Global};
 
-fn push_if(numbers: &mut Vec<u32>, number: u32, holds: bool) -> Result<(), AllocError>
-    ensures { OnOk result (numbers.new.items ≡ numbers.old.items ++ (if holds then number ∷ [] else [])) }
-{
-    if holds {
-        numbers.push(number)?;
-    }
-    Ok(())
-}
-
 // The numbers that a set has.
 pub(crate) fn numbers_in(alloc: Global, bits: &DocBits) -> Result<Vec<u32>, AllocError>
     ensures below { IfOk result (λ ns. All (λ n. n < bits.now.size) ns.items) }
     ensures only { (test : List DocField → Bool) (documents : List Placed) → IsSetOf test documents bits.now → IfOk result (λ ns. ns.items ≡ numbers_of test documents) }
 {
-    let mut numbers = Vec::new(alloc);
-    for number in 0..bits.size() {
-        let holds = bits.contains(number);
-        push_if(&mut numbers, number, holds)?;
-    }
-    Ok(numbers)
+    bits.numbers(alloc)
 }

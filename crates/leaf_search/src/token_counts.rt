@@ -17,9 +17,10 @@ ghost use Rattle.leaf_search.specs.Counts as counts;
 use crate::fields::field_at;
 use crate::request::{LeafAnswer, LeafRequest};
 use crate::timed::is_unlimited;
-use agg_model::{AggRequest, DocValues, Partial, collect_one, vacant_partial};
+use agg_model::{AggRequest, Partial};
 use byte_fields::Bytes;
 use doc_sets::{LeafError, one_token, term_at};
+use doc_tallies::valueless_partial;
 use doc_value::Schema;
 use query_ast::Query;
 use split_bundle::{PartView, PlacedList};
@@ -90,12 +91,7 @@ fn partial_of_many(alloc: Global, aggs: &AggRequest, count: u32) -> Result<Parti
     ensures partial { IfOk result (IsPartialOf aggs.now) }
     ensures many { IfOk result (λ partial. documents_in partial ≡ count) }
 {
-    let mut partial = vacant_partial(alloc, aggs)?;
-    let doc = DocValues::vacant(alloc);
-    for taken in 0..count {
-        collect_one(alloc, aggs, &mut partial, &doc)?;
-    }
-    Ok(partial)
+    valueless_partial(alloc, aggs, u64::from(count))
 }
 
 // How many documents have a key, by the dictionary alone.
@@ -121,6 +117,7 @@ pub(crate) fn counted(
         → MatchResult result (λ a. (a.count ≡ length (posting_list s documents key.now)) × (a.hits ≡ []) × (documents_in a.partial ≡ a.count))
         (HasCause (IsBlockFor view.now s documents p key.now) view.now.pieces) }
     ensures partial { IfOk result (λ a. IsPartialOf request.now.aggs a.partial) }
+    ensures many { IfOk result (λ a. documents_in a.partial ≡ a.count) }
 {
     let count = key_count(view, key)?;
     let partial = partial_of_many(alloc, &request.aggs, count)?;

@@ -10,18 +10,21 @@ use Rattle.source_log.specs.Log.{Log, records_of}
 use Rattle.index_world.specs.Calls.{Fate, Call, Trouble, no_memory, Unmade, troubled, not_read, Gives, risen, may_fail, begun, looked, asked, file_made, asked_and_looked, fetched, with_standing, reborn, read_journal, unless_empty, load_by, loaded, calm_call, calm_fate}
 use Rattle.index_world.specs.Core.{Core, last_count}
 use Rattle.index_world.specs.Gate.{stage_call, publish_call, stage_act}
-use Rattle.index_world.specs.SplitFile.{split_file}
+use Rattle.index_world.specs.SplitFile.{file_of}
 use Rattle.indexing_run.specs.Outcomes as said
 use Rattle.indexing_run.specs.Places.{Batch, Held, Place, idle, reading, staged, uploaded, Indexer}
 use Rattle.indexing_run.specs.Steps.{LogCall, Stepped, stepped, log_may_fail, log_called, checkpoints_by, checkpoints_given, take_checkpoints, idle_by, step_idle, read_by, read_given, read_asked, step_read, stage_given, step_stage, batch_facts, upload_given, step_upload, publish_given, step_publish, step_batch, step_place, step_indexer}
 use Rattle.indexing_run.specs.Steps as indexing
-use Rattle.root_search.specs.Requests.{word_asked}
-use Rattle.root_search.specs.Steps.{Request, no_request, opened, planned, Plan, Client, Searched, plan_by, plan_given, fetch_by, fetch_given, next_step, step_request, step_client}
+use Rattle.root_search.specs.Requests.{asked_of}
+use Rattle.root_search.specs.Steps.{Request, no_request, opened, planned, Plan, Client, Searched, plan_by, plan_given, fetch_by, fetch_given, fetched_each, config_in, next_step, step_request, step_client}
 use Rattle.root_search.specs.Steps as searching
+use Rattle.search_api.specs.Resolved.{Search}
+use Rattle.search_api.specs.declared.unanswered.Unanswered.{Unanswered}
+use Rattle.search_api.specs.declared.unanswered.Unanswered.TheVariants as reasons
 use Rattle.node_run.specs.Calm.{IsStill}
 use Rattle.node_run.specs.Turns.{calm, indexing_luck, searching_luck}
 use Rattle.node_run.proofs.Moving.{stage_same, upload_same, publish_same, given_same, plan_same, fetch_same}
-use Rattle.node_run.proofs.Calming.{Same, Calms, begun_count, begun_still, calm_risen, false_by, not_fails, looked_calms, asked_calms, appended_calms, file_made_calms, asked_and_looked_calms, fetched_calms}
+use Rattle.node_run.proofs.Calming.{Same, Calms, begun_count, begun_still, calm_risen, false_by, not_fails, looked_calms, asked_calms, appended_calms, file_made_calms, asked_and_looked_calms, each_calms}
 
 -- ---- an indexer's step
 
@@ -189,9 +192,9 @@ module _ (luck : indexing.Luck) (log : Log) (indexer : Indexer) (core : Core) (s
 
   step_upload_calms : (held : Held) → StepIs (step_upload luck held indexer core) (step_upload calm_indexing held indexer core)
   step_upload_calms held same same_log =
-      let given = file_made luck.world.first (split_key held.number) (split_file held.documents) core in
-      upload_calms held indexer given (file_made calm_call (split_key held.number) (split_file held.documents) core)
-      (file_made_calms luck.world.first (split_key held.number) (split_file held.documents) core s (handed core given.core _ (upload_same given.answer held indexer given.core) same))
+      let given = file_made luck.world.first (split_key held.number) (file_of held.config held.documents) core in
+      upload_calms held indexer given (file_made calm_call (split_key held.number) (file_of held.config held.documents) core)
+      (file_made_calms luck.world.first (split_key held.number) (file_of held.config held.documents) core s (handed core given.core _ (upload_same given.answer held indexer given.core) same))
 
   step_publish_calms : (held : Held) → StepIs (step_publish luck held indexer core) (step_publish calm_indexing held indexer core)
   step_publish_calms held same same_log =
@@ -233,13 +236,15 @@ SearchCalms step calm_step = (step.outcome ≡ None) ⊎ (step ≡ calm_step)
 abbrev pub calm_searching : searching.Luck
 calm_searching = searching_luck calm
 
-plan_none : (asked : Option (List ℕ)) (client : Client) (core : Core) → (plan_by (Err no_memory) asked client core).outcome ≡ None
-plan_none None client core = refl
-plan_none (Some word) client core = refl
+plan_none : (asked : Result Search Unanswered) (client : Client) (core : Core) → (plan_by (Err no_memory) asked client core).outcome ≡ None
+plan_none (Ok search) client core = refl
+plan_none (Err (reasons.Refused refusal)) client core = refl
+plan_none (Err (reasons.Memory e)) client core = refl
 
-plan_calms : (asked : Option (List ℕ)) (client : Client) (g g' : Gives Trouble ⊤) → Calms no_memory g g' → SearchCalms (plan_given asked client g) (plan_given asked client g')
-plan_calms asked client g g' (inl e) = inl (ap (λ r. (plan_by r asked client g.core).outcome) e ∙ plan_none asked client g.core)
-plan_calms asked client g g' (inr e) = inr (ap (plan_given asked client) e)
+plan_calms : (text : List ℕ) (client : Client) (g g' : Gives Trouble ⊤) → Calms no_memory g g' → SearchCalms (plan_given text client g) (plan_given text client g')
+plan_calms text client g g' (inl e) =
+    let asked = asked_of (config_in g.core) text in inl (ap (λ r. (plan_by r asked client g.core).outcome) e ∙ plan_none asked client g.core)
+plan_calms text client g g' (inr e) = inr (ap (plan_given text client) e)
 
 fetch_calms : (plan : Plan) (number : ℕ) (more : List ℕ) (client : Client) (g g' : Gives Trouble ⊤) → Calms no_memory g g' →
     SearchCalms (fetch_given plan number more client g) (fetch_given plan number more client g')
@@ -253,16 +258,16 @@ module _ (luck : searching.Luck) (log : Log) (client : Client) (core : Core) (s 
   next_calms : (plan : Plan) (unfetched : List ℕ) → SearchIs (next_step luck log plan unfetched client core) (next_step calm_searching log plan unfetched client core)
   next_calms plan [] same = inr refl
   next_calms plan (number ∷ more) same =
-      let given = fetched luck.world core in
+      let given = fetched_each luck.world luck.more core in
       fetch_calms plan number more client given (fetched calm_fate core)
-      (fetched_calms luck.world core s (handed core given.core _ (fetch_same given.answer plan number more client given.core) same))
+      (each_calms luck.more luck.world core s (handed core given.core _ (fetch_same given.answer plan number more client given.core) same))
 
   request_calms : (request : Request) → SearchIs (step_request request luck log client core) (step_request request calm_searching log client core)
   request_calms no_request same = inr refl
   request_calms (opened text) same =
       let given = asked_and_looked luck.world core in
-      plan_calms (word_asked text) client given (asked_and_looked calm_fate core)
-      (asked_and_looked_calms luck.world core s (handed core given.core _ (plan_same given.answer (word_asked text) client given.core) same))
+      plan_calms text client given (asked_and_looked calm_fate core)
+      (asked_and_looked_calms luck.world core s (handed core given.core _ (plan_same given.answer (asked_of (config_in given.core) text) client given.core) same))
   request_calms (planned plan) same = next_calms plan plan.unfetched same
 
   search_short_calms : (b : Bool) (x y : Searched) → SearchIs x y → SearchIs (searching.or_short b client x) y

@@ -1,14 +1,15 @@
 -- Where the count of the store stands still and nothing is late, a call of the world gives what it gives with a calm fate,
 -- or finds no memory.
-use Rattle.std.proofs.Common.{◌≡◌, ◌⊎◌, ℕ, ◌<◌, List, [], ◌∷◌, refl, sym, ap, ◌∙◌, Bool, true, false, subst, inl, inr, arith, le-ltb}
+use Rattle.std.proofs.Common.{◌≡◌, ◌⊎◌, ℕ, ◌<◌, ◌≤◌, min, List, [], ◌∷◌, refl, sym, ap, ◌∙◌, Bool, true, false, subst, inl, inr, arith, le-ltb}
 use Rattle.std.proofs.lemmas.Bool.{ne_eqb}
 use Rattle.std.specs.Prelude.{Option, None, Result, Ok, Err, ⊤, is_some, slice_get, nat_lt, ◌==◌, ◌&&◌, ◌||◌}
 use Rattle.meta_journal.specs.declared.entry.Act.{Act}
 use Rattle.meta_journal.specs.declared.entry.Entry.{Entry}
-use Rattle.index_world.specs.Calls.{Fate, Call, Trouble, no_memory, Unmade, troubled, Gives, gives, risen, may_fail, land_at, all_landed, begun, made_behind, made_at, create_at_end, or_short, unless_short, asked_clock, asking, settle_with, settled_and_copied, and_then, entry_of, may_append, adopted_making, first_unless, transact, appended, looked, asked_and_looked, asked, file_by, file_made, got_file, file_got, fetched, calm_call, calm_fate}
+use Rattle.index_world.specs.Calls.{Fate, Call, Trouble, no_memory, Unmade, troubled, Gives, gives, risen, may_fail, land_at, all_landed, begun, made_behind, made_at, create_at_end, or_short, unless_short, asked_moment, asked_clock, asking, settle_with, settled_and_copied, and_then, entry_of, may_append, adopted_making, first_unless, transact, appended, looked, asked_and_looked, asked, file_by, file_made, got_file, file_got, fetched, calm_call, calm_fate}
 use Rattle.index_world.specs.Core.{Core, file_at, last_count}
 use Rattle.node_run.specs.Calm.{IsStill}
-use Rattle.node_run.proofs.Moving.{landed_kept, tried_kept, file_by_kept, got_file_same}
+use Rattle.root_search.specs.Steps.{fetched_each, unless_fault}
+use Rattle.node_run.proofs.Moving.{landed_kept, tried_kept, file_by_kept, got_file_same, fetched_moves, each_moves}
 
 -- the count is as it was
 abbrev pub Same : Core → Core → Type 0
@@ -185,3 +186,61 @@ pub fetched_calms : (fate : Fate) (core : Core) → IsStill core → Same core (
 fetched_calms fate core s same =
     asking_calms fate.unasked no_memory core (λ c. file_got fate.first c) (λ c. file_got calm_call c)
     (λ counted. file_got_calms fate.first (asked_clock core) (asked_still core s) counted) same
+
+-- ---- fetches one after another
+
+asked_twice : (frozen : Bool) (moment clock : ℕ) → asked_moment frozen (asked_moment frozen moment clock) clock ≡ asked_moment frozen moment clock
+asked_twice true moment clock = refl
+asked_twice false moment clock = omega arith
+
+clock_twice : (core : Core) → asked_clock (asked_clock core) ≡ asked_clock core
+clock_twice core = ap (λ m. record core { moment = m }) (asked_twice core.frozen core.moment core.clock)
+
+fetched_calm : (core : Core) → IsStill core → fetched calm_fate core ≡ gives (Ok tt) (asked_clock core)
+fetched_calm core s = got_still calm_call (asked_clock core) (asked_still core s) (calm_risen core.store_faults s.below)
+
+fetched_twice : (core : Core) → IsStill core → fetched calm_fate (asked_clock core) ≡ fetched calm_fate core
+fetched_twice core s =
+    fetched_calm (asked_clock core) (asked_still core s) ∙ ap (λ c. gives (Ok tt) c) (clock_twice core) ∙ sym (fetched_calm core s)
+
+err_is_ok : (trouble : Trouble) → ◌≡◌ {A = Result ⊤ Trouble} (Err trouble) (Ok tt) → ⊥
+err_is_ok trouble e = cc
+
+count_inside : (a b c : ℕ) → c ≡ a → a < last_count → min a last_count ≤ b → min b last_count ≤ c → b ≡ a
+count_inside a b c e below g h = omega (arith, e, below, g, h)
+
+abbrev EachCalms : Fate → List Fate → Core → Type 0
+EachCalms fate more core = Same core (fetched_each fate more core).core → Calms no_memory (fetched_each fate more core) (fetched calm_fate core)
+
+module _ (fate next : Fate) (more : List Fate) (core : Core) (s : IsStill core) (behind : EachCalms next more (asked_clock core)) where
+  -- behind a fetch that gave something
+  next_calms : (mid : Core) → mid ≡ asked_clock core → Same core (fetched_each next more mid).core → Calms no_memory (fetched_each next more mid) (fetched calm_fate core)
+  next_calms mid e =
+      subst (λ m. Same core (fetched_each next more m).core → Calms no_memory (fetched_each next more m) (fetched calm_fate core)) (sym e)
+      (λ same. subst (λ g. Calms no_memory (fetched_each next more (asked_clock core)) g) (fetched_twice core s) (behind same))
+
+  given_calms : (answer : Result ⊤ Trouble) → (fetched fate core).answer ≡ answer → Same core (unless_fault answer (fetched fate core).core (fetched_each next more)).core →
+      Calms no_memory (unless_fault answer (fetched fate core).core (fetched_each next more)) (fetched calm_fate core)
+  given_calms (Ok done) e same = by (fetched_calms fate core s mid_same)
+    where
+      mid : Core
+      mid = (fetched fate core).core
+
+      mid_same : Same core mid
+      mid_same =
+          count_inside core.store_faults mid.store_faults (fetched_each next more mid).core.store_faults same s.below (fetched_moves fate core).later.rises
+          (each_moves more next mid).later.rises
+
+      by : Calms no_memory (fetched fate core) (fetched calm_fate core) → Calms no_memory (fetched_each next more mid) (fetched calm_fate core)
+      by (inl none) = absurd (err_is_ok no_memory (sym none ∙ e))
+      by (inr is) = next_calms mid (ap (λ g. g.core) (is ∙ fetched_calm core s)) same
+  given_calms (Err trouble) e same = by (fetched_calms fate core s same)
+    where
+      by : Calms no_memory (fetched fate core) (fetched calm_fate core) → Calms no_memory (gives (Err trouble) (fetched fate core).core) (fetched calm_fate core)
+      by (inl none) = inl (sym e ∙ none)
+      by (inr is) = absurd (err_is_ok trouble (sym e ∙ ap (λ g. g.answer) (is ∙ fetched_calm core s)))
+
+pub each_calms : (more : List Fate) (fate : Fate) (core : Core) → IsStill core → EachCalms fate more core
+each_calms [] fate core s = fetched_calms fate core s
+each_calms (next ∷ more) fate core s =
+    given_calms fate next more core s (each_calms more next (asked_clock core) (asked_still core s)) (fetched fate core).answer refl

@@ -13,6 +13,7 @@ pub mod Answered
 pub mod Zips
 pub mod Names
 pub mod Places
+pub mod Refusals
 pub mod Telling
 pub mod Parts
 pub mod StillCalls

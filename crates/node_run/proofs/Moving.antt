@@ -12,13 +12,17 @@ use Rattle.index_world.specs.Calls.{Fate, Call, Trouble, faulted, no_memory, Unm
 use Rattle.index_world.specs.Calls as calls
 use Rattle.index_world.specs.Core.{Core, Late, late_entry, late_dead, late_file, file_at, last_count}
 use Rattle.index_world.specs.Gate.{stage_act}
-use Rattle.index_world.specs.SplitFile.{split_file}
+use Rattle.index_world.specs.SplitFile.{file_of}
 use Rattle.indexing_run.specs.Places.{Batch, Held, Place, idle, reading, staged, uploaded, Indexer}
 use Rattle.indexing_run.specs.Steps.{Stepped, log_may_fail, log_called, checkpoints_by, take_checkpoints, idle_by, read_by, read_given, step_read, stage_by, step_stage, batch_facts, upload_by, step_upload, publish_by, step_publish, step_batch, step_place, step_indexer}
 use Rattle.indexing_run.specs.Steps as indexing
-use Rattle.root_search.specs.Requests.{word_asked}
-use Rattle.root_search.specs.Steps.{Request, no_request, opened, planned, Plan, Client, plan_by, fetch_by, next_step, step_request, step_client}
+use Rattle.root_search.specs.Requests.{asked_of}
+use Rattle.root_search.specs.Steps.{Request, no_request, opened, planned, Plan, Client, plan_by, fetch_by, fetched_each, unless_fault, config_in, next_step, step_request, step_client}
 use Rattle.root_search.specs.Steps as searching
+use Rattle.search_api.specs.Resolved.{Search}
+use Rattle.search_api.specs.declared.reply.Refusal.{Refusal}
+use Rattle.search_api.specs.declared.unanswered.Unanswered.{Unanswered}
+use Rattle.search_api.specs.declared.unanswered.Unanswered.TheVariants as reasons
 use Rattle.node_run.specs.Node.{Node, Line, At, Assign, StepIndexer, RestartIndexer, RestartClient, RestartNode, Open, StepClient, Outcome}
 use Rattle.node_run.specs.Turns.{Luck, Turned, indexer_at, indexing_luck, searching_luck, assign_at, indexer_turn_by, client_turn_by, client_named, open_by, restart_by, full_turn, quiet, or_quiet, turn_by, Turn, Turns}
 
@@ -248,6 +252,18 @@ file_got_moves call core =
 pub fetched_moves : (fate : Fate) (core : Core) → Moves core (fetched fate core).core
 fetched_moves fate core = asking_moves fate.unasked _ _ (λ c. file_got_moves fate.first c)
 
+unless_fault_moves : {core : Core} (answer : Result ⊤ Trouble) (mid : Core) (next : Core → Gives Trouble ⊤) → Moves core mid → Moves mid (next mid).core →
+    Moves core (unless_fault answer mid next).core
+unless_fault_moves (Ok done) mid next m n = moves_on m n
+unless_fault_moves (Err trouble) mid next m n = m
+
+-- fetches one after another
+pub each_moves : (more : List Fate) (fate : Fate) (core : Core) → Moves core (fetched_each fate more core).core
+each_moves [] fate core = fetched_moves fate core
+each_moves (next ∷ more) fate core =
+    let given = fetched fate core in
+    unless_fault_moves given.answer given.core (fetched_each next more) (fetched_moves fate core) (each_moves more next given.core)
+
 standing_moves : (standing : Option Entry) (core : Core) → Moves core (with_standing standing core)
 standing_moves None core = stays refl
 standing_moves (Some entry) core = taken_moves entry core
@@ -331,7 +347,7 @@ module _ (luck : indexing.Luck) (log : Log) (indexer : Indexer) (core : Core) wh
 
   upload_moves : (held : Held) → Moves core (step_upload luck held indexer core).core
   upload_moves held =
-      moves_on (file_made_moves luck.world.first (split_key held.number) (split_file held.documents) core) (same (upload_same _ held indexer _))
+      moves_on (file_made_moves luck.world.first (split_key held.number) (file_of held.config held.documents) core) (same (upload_same _ held indexer _))
 
   publish_moves : (held : Held) → Moves core (step_publish luck held indexer core).core
   publish_moves held =
@@ -356,15 +372,17 @@ replied_same : (revision : ℕ) (t : Trouble) (client : Client) (core : Core) �
 replied_same revision (faulted fault) client core = refl
 replied_same revision no_memory client core = refl
 
-refusal_same : (revision : ℕ) (t : Trouble) (client : Client) (core : Core) → (searching.refusal_by revision t client core).core ≡ core
-refusal_same revision (faulted fault) client core = refl
-refusal_same revision no_memory client core = refl
+refused_same : (revision : ℕ) (refusal : Refusal) (t : Trouble) (client : Client) (core : Core) → (searching.refused_over revision refusal t client core).core ≡ core
+refused_same revision refusal (faulted fault) client core = refl
+refused_same revision refusal no_memory client core = refl
 
-pub plan_same : (r : Result ⊤ Trouble) (asked : Option (List ℕ)) (client : Client) (core : Core) → (plan_by r asked client core).core ≡ core
-plan_same (Ok done) (Some word) client core = refl
-plan_same (Ok done) None client core = refl
-plan_same (Err trouble) (Some word) client core = replied_same client.front trouble client core
-plan_same (Err trouble) None client core = refusal_same client.front trouble client core
+pub plan_same : (r : Result ⊤ Trouble) (asked : Result Search Unanswered) (client : Client) (core : Core) → (plan_by r asked client core).core ≡ core
+plan_same (Ok done) (Ok search) client core = refl
+plan_same (Ok done) (Err (reasons.Refused refusal)) client core = refl
+plan_same (Ok done) (Err (reasons.Memory e)) client core = refl
+plan_same (Err trouble) (Ok search) client core = replied_same client.front trouble client core
+plan_same (Err trouble) (Err (reasons.Refused refusal)) client core = refused_same client.front refusal trouble client core
+plan_same (Err trouble) (Err (reasons.Memory e)) client core = refl
 
 pub fetch_same : (r : Result ⊤ Trouble) (plan : Plan) (number : ℕ) (more : List ℕ) (client : Client) (core : Core) → (fetch_by r plan number more client core).core ≡ core
 fetch_same (Ok done) plan number more client core = refl
@@ -378,12 +396,13 @@ module _ (luck : searching.Luck) (log : Log) (client : Client) (core : Core) whe
   next_moves : (plan : Plan) (unfetched : List ℕ) → Moves core (next_step luck log plan unfetched client core).core
   next_moves plan [] = stays refl
   next_moves plan (number ∷ more) =
-      moves_on (fetched_moves luck.world core) (same (fetch_same _ plan number more client _))
+      moves_on (each_moves luck.more luck.world core) (same (fetch_same _ plan number more client _))
 
   request_moves : (request : Request) → Moves core (step_request request luck log client core).core
   request_moves no_request = stays refl
   request_moves (opened text) =
-      moves_on (asked_and_looked_moves luck.world core) (same (plan_same _ (word_asked text) client _))
+      let given = asked_and_looked luck.world core in
+      moves_on (asked_and_looked_moves luck.world core) (same (plan_same given.answer (asked_of (config_in given.core) text) client given.core))
   request_moves (planned plan) = next_moves plan plan.unfetched
 
   pub client_moves : Moves core (step_client luck log client core).core

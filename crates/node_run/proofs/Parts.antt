@@ -11,8 +11,8 @@ use Rattle.index_world.specs.Loading.{IsUnread, IsLoaded}
 use Rattle.index_world.specs.Gate.{Says}
 use Rattle.index_world.specs.declared.world_error.WorldError.{WorldError}
 use Rattle.index_world.specs.Calls as calls
-use Rattle.index_world.specs.Calls.{Fate, Fault, Trouble, faulted, no_memory, not_read, Unread, Gives, gives, loaded, calm_fate, fetched, asked_and_looked}
-use Rattle.root_search.specs.Requests.{word_asked}
+use Rattle.index_world.specs.Calls.{Fate, Fault, Trouble, faulted, no_memory, not_read, Unread, Gives, gives, loaded, calm_fate, asked_and_looked}
+use Rattle.root_search.specs.Requests.{asked_of}
 use Rattle.index_world.specs.Core.{Core, journal_of}
 use Rattle.index_world.specs.Gate.{NoneBetween}
 use Rattle.index_world.specs.Index.{has_staged}
@@ -37,7 +37,11 @@ use Rattle.root_search.specs.declared.searcher.Request.{Request as KeptRequest}
 use Rattle.root_search.specs.declared.searcher.Request.TheVariants as requests
 use Rattle.root_search.specs.Steps.{Client, without_request}
 use Rattle.root_search.specs.Steps as searching
-use Rattle.root_search.specs.declared.outcome.SearchStep.{SearchStep as GivenStep}
+use Rattle.search_api.specs.Resolved.{Search}
+use Rattle.search_api.specs.declared.reply.Refusal.{Refusal}
+use Rattle.search_api.specs.declared.unanswered.Unanswered.{Unanswered}
+use Rattle.search_api.specs.declared.unanswered.Unanswered.TheVariants as reasons
+use Rattle.root_search.specs.declared.outcome.SearchStep.{SearchStep}
 use Rattle.root_search.specs.declared.searcher.Searcher.{Searcher}
 use Rattle.node_run.specs.declared.drive.DriveNode.{DriveNode}
 use Rattle.node_run.specs.declared.out_line.OutLine.{OutLine}
@@ -79,6 +83,7 @@ clock_on core clock =
       faults = omega arith;
       moment = omega arith;
       keeps = record {
+        configured = λ config e. e;
         unused = λ n other u. record { staged = u.staged; unpublished = u.unpublished; absent = u.absent; not_late = u.not_late };
         uploaded = λ n bytes u. record { staged = u.staged; file = u.file; not_late = u.not_late };
         staged = λ n delta facts h. h;
@@ -221,7 +226,7 @@ module _ {L : Type 0} (told : L → Option Log) (count : L → ℕ) (since : L �
       subst (λ (ns : List Client). PartsStand told count since firsts world readers searchers' places' clock down (record node { clients = ns })) e q
 
   -- it took a step
-  pub searched_parts : (name : List ℕ) (known : List Searcher) (found : List (List ℕ × ℕ)) (m : Client) (place : ℕ) (new : Searcher) (world' : Keeping) (result : Result GivenStep AllocError) →
+  pub searched_parts : (name : List ℕ) (known : List Searcher) (found : List (List ℕ × ℕ)) (m : Client) (place : ℕ) (new : Searcher) (world' : Keeping) (result : Result SearchStep AllocError) →
       m.name ≡ name → AllZip C known (with_client m node.clients) → HasPlaces found (names_of (with_client m node.clients)) → NamedAt name known place →
       (s : SearchesAs WorldStands NoneBetween result new world' m node.core node.log) → s.later.name ≡ name →
       PartsStand told count since firsts world' readers (slice_set known place new) found clock down (record (keep_client s.later node) { core = s.after })
@@ -290,15 +295,17 @@ searched_name luck log client core = short luck.short where
   troubled revision (faulted fault) c = refl
   troubled revision no_memory c = refl
 
-  refused : (revision : ℕ) (t : Trouble) (c : Core) → (searching.refusal_by revision t client c).client.name ≡ client.name
-  refused revision (faulted fault) c = refl
-  refused revision no_memory c = refl
+  refused : (revision : ℕ) (refusal : Refusal) (t : Trouble) (c : Core) → (searching.refused_over revision refusal t client c).client.name ≡ client.name
+  refused revision refusal (faulted fault) c = refl
+  refused revision refusal no_memory c = refl
 
-  plan : (r : Result ⊤ Trouble) (asked : Option (List ℕ)) (c : Core) → (searching.plan_by r asked client c).client.name ≡ client.name
-  plan (Ok done) (Some word) c = refl
-  plan (Ok done) None c = refl
-  plan (Err t) (Some word) c = troubled client.front t c
-  plan (Err t) None c = refused client.front t c
+  plan : (r : Result ⊤ Trouble) (asked : Result Search Unanswered) (c : Core) → (searching.plan_by r asked client c).client.name ≡ client.name
+  plan (Ok done) (Ok search) c = refl
+  plan (Ok done) (Err (reasons.Refused refusal)) c = refl
+  plan (Ok done) (Err (reasons.Memory e)) c = refl
+  plan (Err t) (Ok search) c = troubled client.front t c
+  plan (Err t) (Err (reasons.Refused refusal)) c = refused client.front refusal t c
+  plan (Err t) (Err (reasons.Memory e)) c = refl
 
   fetch : (r : Result ⊤ Trouble) (plan : searching.Plan) (number : ℕ) (more : List ℕ) (c : Core) → (searching.fetch_by r plan number more client c).client.name ≡ client.name
   fetch (Ok done) plan number more c = refl
@@ -306,11 +313,12 @@ searched_name luck log client core = short luck.short where
 
   next : (p : searching.Plan) (unfetched : List ℕ) → (searching.next_step luck log p unfetched client core).client.name ≡ client.name
   next p [] = refl
-  next p (number ∷ more) = fetch (fetched luck.world core).answer p number more (fetched luck.world core).core
+  next p (number ∷ more) = let given = searching.fetched_each luck.world luck.more core in fetch given.answer p number more given.core
 
   request : (r : searching.Request) → (searching.step_request r luck log client core).client.name ≡ client.name
   request searching.no_request = refl
-  request (searching.opened text) = plan (asked_and_looked luck.world core).answer (word_asked text) (asked_and_looked luck.world core).core
+  request (searching.opened text) =
+      let given = asked_and_looked luck.world core in plan given.answer (asked_of (searching.config_in given.core) text) given.core
   request (searching.planned p) = next p p.unfetched
 
   short : (b : Bool) → (searching.or_short b client (searching.step_request client.request luck log client core)).client.name ≡ client.name
@@ -321,20 +329,20 @@ searched_name luck log client core = short luck.short where
 
 pub indexer_turns : {L : Type 0} (told : L → Option Log) (count : L → ℕ) (node : Node) (i : ℕ) (new : Reader L) (world' : Keeping) (result : Result Said AllocError) →
     node.down ≡ false → (s : StepsAs told count WorldStands NoneBetween result (indexer_at node.indexers i) node.core node.log new world') →
-    full_turn (record { log = s.luck.log; world = s.luck.world; inner = s.luck.short; early = false; short = false }) node (StepIndexer i)
+    full_turn (record { log = s.luck.log; world = s.luck.world; more = []; inner = s.luck.short; early = false; short = false }) node (StepIndexer i)
     ≡ record { said = said_by_indexer i s.outcome; node = record (with_indexer i s.after node) { core = s.behind } }
 indexer_turns told count node i new world' result up s =
-    let luck : Luck = record { log = s.luck.log; world = s.luck.world; inner = s.luck.short; early = false; short = false } in
+    let luck : Luck = record { log = s.luck.log; world = s.luck.world; more = []; inner = s.luck.short; early = false; short = false } in
     ap (λ b. indexer_turn_by b luck i node) up
     ∙ ap (λ core. indexer_stepped i node (indexing.step_indexer s.luck node.log (indexer_at node.indexers i) core)) (sym s.passed)
     ∙ ap (indexer_stepped i node) s.did
 
-pub client_turns : (node : Node) (name : List ℕ) (new : Searcher) (world' : Keeping) (result : Result GivenStep AllocError) → node.down ≡ false →
+pub client_turns : (node : Node) (name : List ℕ) (new : Searcher) (world' : Keeping) (result : Result SearchStep AllocError) → node.down ≡ false →
     (s : SearchesAs WorldStands NoneBetween result new world' (client_named name node.clients) node.core node.log) →
-    full_turn (record { log = calm.log; world = s.luck.world; inner = s.luck.short; early = false; short = false }) node (StepClient name)
+    full_turn (record { log = calm.log; world = s.luck.world; more = s.luck.more; inner = s.luck.short; early = false; short = false }) node (StepClient name)
     ≡ record { said = said_by_client name s.outcome; node = record (keep_client s.later node) { core = s.after } }
 client_turns node name new world' result up s =
-    let luck : Luck = record { log = calm.log; world = s.luck.world; inner = s.luck.short; early = false; short = false } in
+    let luck : Luck = record { log = calm.log; world = s.luck.world; more = s.luck.more; inner = s.luck.short; early = false; short = false } in
     ap (λ b. client_turn_by b luck name node) up
     ∙ ap (λ core. client_stepped name node (searching.step_client s.luck node.log (client_named name node.clients) core)) (sym s.passed)
     ∙ ap (client_stepped name node) s.did
@@ -485,7 +493,7 @@ idle_over told count reader indexer core after log s =
   where
     by : (kept : HeldPlace) → PlaceStands log core kept idle → PlaceStands log after kept idle
     by places.Idle p = p
-    by (places.Reading batch) p = p
+    by (places.Reading batch) p = absurd (cc p.1)
     by (places.Staged token bytes) p = absurd (cc p.1)
     by (places.Uploaded token) p = absurd (cc p.1)
 

@@ -19,7 +19,8 @@ use Rattle.index_world.specs.Calls.{Fate, Call, Fault, store_fault, is_foreign, 
 use Rattle.index_world.specs.Calls as calls
 use Rattle.index_world.specs.Core.{Core, File, Late, late_entry, late_dead, late_file, late_key, file_at, IsNotLateIn}
 use Rattle.index_world.specs.Gate.{stage_act}
-use Rattle.index_world.specs.SplitFile.{split_file}
+use Rattle.index_world.specs.Seen.{visible_at}
+use Rattle.index_world.specs.SplitFile.{file_of}
 use Rattle.index_world.specs.Standing.{IsCalled}
 use Rattle.index_world.proofs.Indexing.{All-remove, All-get}
 use Rattle.indexing_run.specs.Outcomes.{IndexerOutcome}
@@ -30,13 +31,19 @@ use Rattle.indexing_run.specs.Steps as indexing
 use Rattle.indexing_run.specs.declared.indexer.Indexer.{Indexer as Reader}
 use Rattle.indexing_run.specs.declared.indexer.Place.{Place as HeldPlace}
 use Rattle.indexing_run.specs.declared.indexer.Place.TheVariants as places
-use Rattle.root_search.specs.Requests.{word_asked}
-use Rattle.root_search.specs.Steps.{Request, no_request, opened, planned, Plan, Client, SearchStep, plan_by, fetch_by, next_step, step_request, step_client}
+use Rattle.root_search.specs.Requests.{asked_of}
+use Rattle.root_search.specs.Steps.{Request, no_request, opened, planned, Plan, Client, config_at, config_in, plan_by, fetch_by, fetched_each, unless_fault, next_step, step_request, step_client}
 use Rattle.root_search.specs.Steps as searching
+use Rattle.root_search.specs.declared.outcome.SearchStep.{SearchStep}
+use Rattle.search_api.specs.Resolved.{Search}
+use Rattle.search_api.specs.declared.reply.Refusal.{Refusal as Unfit}
+use Rattle.search_api.specs.declared.unanswered.Unanswered.{Unanswered}
+use Rattle.search_api.specs.declared.unanswered.Unanswered.TheVariants as reasons
 use Rattle.node_run.specs.Node.{Node, Line, At, Assign, StepIndexer, RestartIndexer, RestartClient, RestartNode, Open, StepClient, Outcome}
-use Rattle.node_run.specs.Telling.{IsOfStore, IsNotForeign, IndexerMayTell, SearchMayTell, LineMayTell}
+use Rattle.node_run.specs.Telling.{IsOfStore, IsNotForeign, IndexerMayTell, IsOfText, SearchMayTell, LineMayTell}
 use Rattle.node_run.specs.Turns.{Luck, Turned, indexer_or, indexer_at, indexing_luck, searching_luck, said_by_indexer, said_by_client, assign_at, indexer_turn_by, client_turn_by, client_named, open_by, restart_by, full_turn, or_quiet, turn_by, Turn}
 use Rattle.node_run.proofs.Moving.{landed_kept}
+use Rattle.node_run.proofs.Refusals.{OfText, asked_of_text, text_may, answer_may}
 
 -- ---- late entries lie at most at the end of the history
 
@@ -412,6 +419,16 @@ fetched_own fate core =
     asking_own fate.unasked core (λ c. file_got fate.first c)
     (or_short_own fate.first.short fate.first (asked_clock core) _ (got_file_own (may_fail fate.first core.store_faults) core.store_faults (begun fate.first (asked_clock core))))
 
+unless_fault_own : (r : Result ⊤ Trouble) (core : Core) (next : Core → Gives Trouble ⊤) → IfErr IsStoreTrouble r → OwnTrouble (next core) → OwnTrouble (unless_fault r core next)
+unless_fault_own (Ok done) core next g n = n
+unless_fault_own (Err trouble) core next g n = g
+
+each_own : (more : List Fate) (fate : Fate) (core : Core) → OwnTrouble (fetched_each fate more core)
+each_own [] fate core = fetched_own fate core
+each_own (next ∷ more) fate core =
+    let given = fetched fate core in
+    unless_fault_own given.answer given.core (fetched_each next more) (fetched_own fate core) (each_own more next given.core)
+
 abbrev IsStoreUnread : Unread → Type 0
 IsStoreUnread (not_read trouble) = IsStoreTrouble trouble
 IsStoreUnread calls.no_index = Unit {0}
@@ -529,8 +546,8 @@ module _ (luck : indexing.Luck) (log : Log) (core : Core) (low : AreLow (length 
   place_tells idle indexer f = unless_tells luck.log.short indexer
   place_tells (reading batch) indexer f = batch_tells batch indexer
   place_tells (staged held) indexer f =
-      let given = file_made luck.world.first (split_key held.number) (split_file held.documents) core in
-      upload_tells given.answer held indexer given.core (file_own luck.world.first (split_key held.number) (split_file held.documents) core f)
+      let given = file_made luck.world.first (split_key held.number) (file_of held.config held.documents) core in
+      upload_tells given.answer held indexer given.core (file_own luck.world.first (split_key held.number) (file_of held.config held.documents) core f)
   place_tells (uploaded held) indexer f =
       let given = appended luck.world (λ c. Publish held.number) core in
       published_tells given.answer held indexer given.core (appended_own luck.world (λ c. Publish held.number) core low)
@@ -549,18 +566,24 @@ SearchTells None = Unit {0}
 SearchTells (Some step) = SearchMayTell step
 
 replied_tells : (revision : ℕ) (trouble : Trouble) (client : Client) (core : Core) → IsStoreTrouble trouble → SearchTells (searching.trouble_replied revision trouble client core).outcome
-replied_tells revision (faulted fault) client core h = h
+replied_tells revision (faulted (store_fault before after)) client core h = tt
+replied_tells revision (faulted (is_foreign key)) client core h = absurd h
+replied_tells revision (faulted is_full) client core h = absurd h
 replied_tells revision no_memory client core h = tt
 
-refusal_tells : (revision : ℕ) (trouble : Trouble) (client : Client) (core : Core) → SearchTells (searching.refusal_by revision trouble client core).outcome
-refusal_tells revision (faulted fault) client core = tt
-refusal_tells revision no_memory client core = tt
+refused_tells : (revision : ℕ) (refusal : Unfit) (trouble : Trouble) (client : Client) (core : Core) → IsOfText refusal →
+    SearchTells (searching.refused_over revision refusal trouble client core).outcome
+refused_tells revision refusal (faulted fault) client core h = text_may refusal h
+refused_tells revision refusal no_memory client core h = tt
 
-plan_tells : (r : Result ⊤ Trouble) (asked : Option (List ℕ)) (client : Client) (core : Core) → IfErr IsStoreTrouble r → SearchTells (plan_by r asked client core).outcome
-plan_tells (Ok done) (Some word) client core h = tt
-plan_tells (Ok done) None client core h = tt
-plan_tells (Err trouble) (Some word) client core h = replied_tells client.front trouble client core h
-plan_tells (Err trouble) None client core h = refusal_tells client.front trouble client core
+plan_tells : (r : Result ⊤ Trouble) (asked : Result Search Unanswered) (client : Client) (core : Core) → IfErr IsStoreTrouble r → OfText asked →
+    SearchTells (plan_by r asked client core).outcome
+plan_tells (Ok done) (Ok search) client core h a = tt
+plan_tells (Ok done) (Err (reasons.Refused refusal)) client core h a = text_may refusal a
+plan_tells (Ok done) (Err (reasons.Memory e)) client core h a = tt
+plan_tells (Err trouble) (Ok search) client core h a = replied_tells client.front trouble client core h
+plan_tells (Err trouble) (Err (reasons.Refused refusal)) client core h a = refused_tells client.front refusal trouble client core a
+plan_tells (Err trouble) (Err (reasons.Memory e)) client core h a = tt
 
 fetch_tells : (r : Result ⊤ Trouble) (plan : Plan) (number : ℕ) (more : List ℕ) (client : Client) (core : Core) → IfErr IsStoreTrouble r →
     SearchTells (fetch_by r plan number more client core).outcome
@@ -569,13 +592,16 @@ fetch_tells (Err trouble) plan number more client core h = replied_tells plan.re
 
 module _ (luck : searching.Luck) (log : Log) (client : Client) (core : Core) where
   next_tells : (plan : Plan) (unfetched : List ℕ) → SearchTells (next_step luck log plan unfetched client core).outcome
-  next_tells plan [] = tt
-  next_tells plan (number ∷ more) = fetch_tells (fetched luck.world core).answer plan number more client (fetched luck.world core).core (fetched_own luck.world core)
+  next_tells plan [] = answer_may (config_at plan.revision core).schema plan.search (visible_at plan.revision core.history log)
+  next_tells plan (number ∷ more) =
+      let given = fetched_each luck.world luck.more core in
+      fetch_tells given.answer plan number more client given.core (each_own luck.more luck.world core)
 
   request_tells : (request : Request) → SearchTells (step_request request luck log client core).outcome
   request_tells no_request = tt
   request_tells (opened text) =
-      plan_tells (asked_and_looked luck.world core).answer (word_asked text) client (asked_and_looked luck.world core).core (asked_and_looked_own luck.world core)
+      let given = asked_and_looked luck.world core in
+      plan_tells given.answer (asked_of (config_in given.core) text) client given.core (asked_and_looked_own luck.world core) (asked_of_text (config_in given.core) text)
   request_tells (planned plan) = next_tells plan plan.unfetched
 
   client_short : (b : Bool) (step : searching.Searched) → SearchTells step.outcome → SearchTells (searching.or_short b client step).outcome

@@ -3,8 +3,10 @@ use Rattle.std.specs.Prelude.{◌≡◌, ℕ, ◌^◌, ◌<◌, ◌≤◌, List,
 use Rattle.source_checkpoint.specs.Names.{IsPartition}
 use Rattle.byte_fields.specs.ClientName.{IsClientName}
 use Rattle.indexing_run.specs.Outcomes.{words, outcome_words, fault_words}
-use Rattle.root_search.specs.Replies.{reply_text}
-use Rattle.root_search.specs.Steps.{SearchStep, Idle, Planned, Fetched, Replied, step_words}
+use Rattle.search_api.specs.Replies.{reply_text}
+use Rattle.root_search.specs.Steps.{step_words}
+use Rattle.root_search.specs.declared.outcome.SearchStep.{SearchStep}
+use Rattle.root_search.specs.declared.outcome.SearchStep.TheVariants.{Idle, Planned, Fetched, Replied}
 use Rattle.node_run.specs.Node.{Line, At, Assign, StepIndexer, RestartIndexer, RestartClient, RestartNode, Open, StepClient, NodeFault, world_fault, no_index, Outcome, at_said, assigned, indexer_busy, indexer_said, indexer_down, indexer_restarted, client_restarted, node_restarted, node_failed, request_opened, request_busy, client_said, client_down}
 
 abbrev pub line_text : Line → List ℕ

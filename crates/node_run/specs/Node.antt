@@ -5,7 +5,8 @@ use Rattle.index_world.specs.Calls.{Fault}
 use Rattle.index_world.specs.Core.{Core}
 use Rattle.indexing_run.specs.Outcomes.{IndexerOutcome}
 use Rattle.indexing_run.specs.Places.{Indexer}
-use Rattle.root_search.specs.Steps.{Client, SearchStep}
+use Rattle.root_search.specs.Steps.{Client}
+use Rattle.root_search.specs.declared.outcome.SearchStep.{SearchStep}
 
 pub record Node : Type 0 where
   pub log : Log

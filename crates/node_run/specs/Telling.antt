@@ -3,9 +3,12 @@ use Rattle.std.specs.Prelude.{Option, Some, None}
 use Rattle.index_world.specs.Calls.{Fault, store_fault, is_foreign, is_full}
 use Rattle.indexing_run.specs.Outcomes.{IndexerOutcome}
 use Rattle.indexing_run.specs.Outcomes as indexing
-use Rattle.root_search.specs.Replies.{Said, Found, Refusal, NotBuilt}
-use Rattle.root_search.specs.Replies as replies
-use Rattle.root_search.specs.Steps.{SearchStep, Idle, Planned, Fetched, Replied}
+use Rattle.root_search.specs.declared.outcome.SearchStep.{SearchStep}
+use Rattle.root_search.specs.declared.outcome.SearchStep.TheVariants.{Idle, Planned, Fetched, Replied}
+use Rattle.search_api.specs.declared.reply.Refusal.{Refusal}
+use Rattle.search_api.specs.declared.reply.Refusal.TheVariants as refusals
+use Rattle.search_api.specs.declared.reply.Said.{Said}
+use Rattle.search_api.specs.declared.reply.Said.TheVariants.{Found, Deleted, Refused}
 use Rattle.node_run.specs.Node.{NodeFault, world_fault, no_index, Outcome, at_said, assigned, indexer_busy, indexer_said, indexer_down, indexer_restarted, client_restarted, node_restarted, node_failed, request_opened, request_busy, client_said, client_down}
 
 -- the store failed
@@ -32,10 +35,41 @@ IndexerMayTell (indexing.Refused refusal) = Unit {0}
 IndexerMayTell (indexing.SourceFault before after) = Unit {0}
 IndexerMayTell (indexing.Faulted fault) = IsNotForeign fault
 
+-- what a text asks is refused, or what it counts has too many buckets: nothing failed
+abbrev pub IsOfText : Refusal → Type 0
+IsOfText refusals.NotJson = Unit {0}
+IsOfText (refusals.UnknownKey name) = Unit {0}
+IsOfText (refusals.WrongKind name) = Unit {0}
+IsOfText (refusals.MissingKey name) = Unit {0}
+IsOfText (refusals.TooManyHits wanted) = Unit {0}
+IsOfText (refusals.UnknownField name) = Unit {0}
+IsOfText (refusals.NotFast field) = Unit {0}
+IsOfText refusals.NoTimestampField = Unit {0}
+IsOfText (refusals.Syntax place) = Unit {0}
+IsOfText (refusals.TooDeep place) = Unit {0}
+IsOfText (refusals.NotIndexed place) = Unit {0}
+IsOfText (refusals.BadValue place) = Unit {0}
+IsOfText (refusals.NoDefaultField place) = Unit {0}
+IsOfText (refusals.NoPositions place) = Unit {0}
+IsOfText (refusals.BadInterval name) = Unit {0}
+IsOfText (refusals.TooManyBuckets count) = Unit {0}
+IsOfText (refusals.Expired planned_at now) = ⊥
+IsOfText (refusals.StoreFault before after) = ⊥
+IsOfText (refusals.Missing key) = ⊥
+IsOfText (refusals.Corrupt key) = ⊥
+IsOfText (refusals.Foreign key) = ⊥
+IsOfText (refusals.TooManyTasks count) = ⊥
+IsOfText refusals.Full = ⊥
+
+-- the store failed, or the text is refused
+abbrev pub RefusalMayTell : Refusal → Type 0
+RefusalMayTell (refusals.StoreFault before after) = Unit {0}
+RefusalMayTell refusal = IsOfText refusal
+
 abbrev pub SaidMayTell : Said → Type 0
-SaidMayTell (Found count hits) = Unit {0}
-SaidMayTell (Refusal NotBuilt) = Unit {0}
-SaidMayTell (Refusal (replies.Faulted fault)) = IsOfStore fault
+SaidMayTell (Found count hits aggregations) = Unit {0}
+SaidMayTell (Deleted opstamp) = ⊥
+SaidMayTell (Refused refusal) = RefusalMayTell refusal
 
 abbrev pub SearchMayTell : SearchStep → Type 0
 SearchMayTell Idle = Unit {0}

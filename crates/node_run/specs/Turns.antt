@@ -11,19 +11,21 @@ use Rattle.indexing_run.specs.Outcomes.{IndexerOutcome}
 use Rattle.indexing_run.specs.Steps as indexing
 use Rattle.root_search.specs.Steps.{Request, no_request, opened, planned, Client, without_request}
 use Rattle.root_search.specs.Steps as searching
+use Rattle.root_search.specs.declared.outcome.SearchStep.{SearchStep}
 use Rattle.node_run.specs.Node.{Node, Line, At, Assign, StepIndexer, RestartIndexer, RestartClient, RestartNode, Open, StepClient, world_fault, no_index, Outcome, at_said, assigned, indexer_busy, indexer_said, indexer_down, indexer_restarted, client_restarted, node_restarted, node_failed, request_opened, request_busy, client_said, client_down}
 
--- The fate of one line: its call of a log, its call of the world, and whether memory is missing: in its actor's own step,
--- before the line does anything, or behind all that it does.
+-- The fate of one line: its call of a log, its call of the world, a client's further calls if it makes some, and whether
+-- memory is missing: in its actor's own step, before the line does anything, or behind all that it does.
 pub record Luck : Type 0 where
   pub log : indexing.LogCall
   pub world : Fate
+  pub more : List Fate
   pub inner : Bool
   pub early : Bool
   pub short : Bool
 
 abbrev pub calm : Luck
-calm = record { log = record { fails = false; rises = 0; short = false }; world = calm_fate; inner = false; early = false; short = false }
+calm = record { log = record { fails = false; rises = 0; short = false }; world = calm_fate; more = []; inner = false; early = false; short = false }
 
 -- What a line says, and the node behind it. Without memory it says nothing.
 pub record Turned : Type 0 where
@@ -83,7 +85,7 @@ abbrev pub indexing_luck : Luck → indexing.Luck
 indexing_luck luck = record { log = luck.log; world = luck.world; short = luck.inner }
 
 abbrev pub searching_luck : Luck → searching.Luck
-searching_luck luck = record { world = luck.world; short = luck.inner }
+searching_luck luck = record { world = luck.world; more = luck.more; short = luck.inner }
 
 abbrev pub said_by_indexer : ℕ → Option IndexerOutcome → Option Outcome
 said_by_indexer i None = None
@@ -101,7 +103,7 @@ indexer_turn_by false luck i node =
 abbrev pub indexer_turn : Luck → ℕ → Node → Turned
 indexer_turn luck i node = indexer_turn_by node.down luck i node
 
-abbrev pub said_by_client : List ℕ → Option searching.SearchStep → Option Outcome
+abbrev pub said_by_client : List ℕ → Option SearchStep → Option Outcome
 said_by_client name None = None
 said_by_client name (Some outcome) = Some (client_said name outcome)
 

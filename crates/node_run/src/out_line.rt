@@ -1,12 +1,10 @@
 //! What a line of a schedule is answered.
 
-ghost use Rattle.std.specs.Prelude.{◌≡◌, ◌++◌, ◌∷◌, [], Some, IfOk, codes, decimal};
+ghost use Rattle.std.specs.Prelude.{◌≡◌, ◌++◌, ◌∷◌, [], IfOk, codes, decimal};
 ghost use Rattle.index_world.specs.Calls.{Fault, faulted, not_read, no_index};
 ghost use Rattle.index_world.specs.Loading.{IsUnread};
 ghost use Rattle.indexing_run.specs.Outcomes as indexing;
 ghost use Rattle.indexing_run.specs.Standing.{IsSaid};
-ghost use Rattle.root_search.specs.Said.{step_of};
-ghost use Rattle.root_search.specs.Steps as searching;
 ghost use Rattle.node_run.specs.Lines.{outcome_text};
 ghost use Rattle.node_run.specs.Node as said;
 
@@ -121,8 +119,7 @@ impl OutLine {
         client: &Client,
         outcome: &SearchStep,
     ) -> Result<OutLine, AllocError>
-        ensures { (answer : searching.SearchStep) → step_of outcome.now ≡ Some answer →
-            IfOk result (λ out. out.bytes ≡ outcome_text (said.client_said client.now answer)) }
+        ensures { IfOk result (λ out. out.bytes ≡ outcome_text (said.client_said client.now outcome.now)) }
     {
         let words = root_search::print_outcome(alloc, outcome)?;
         match outcome {

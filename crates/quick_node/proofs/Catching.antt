@@ -16,19 +16,23 @@ use Rattle.source_checkpoint.specs.declared.delta.StaleDelta.TheVariants as delt
 use Rattle.source_checkpoint.specs.declared.ledger.Checkpoint.{Checkpoint as Mark}
 use Rattle.source_log.specs.Log.{Log, records_of}
 use Rattle.doc_value.specs.declared.doc.DocField.{DocField}
+use Rattle.index_config.specs.declared.config.IndexConfig.{IndexConfig}
 use Rattle.index_world.specs.Accepted.{accepted}
+use Rattle.index_world.specs.Configuration.{configuration, config_or}
 use Rattle.index_world.specs.Calls.{Trouble, faulted, no_memory, Unmade, refused, troubled, Unread, not_read, looked, asked, appended, upload_made}
 use Rattle.index_world.specs.Calls as calls
-use Rattle.index_world.specs.Core.{Core}
+use Rattle.index_world.specs.Core.{Core, journal_of}
 use Rattle.index_world.specs.Gate.{stage_call, publish_call}
-use Rattle.index_world.specs.SplitFile.{split_file}
+use Rattle.index_world.specs.SplitFile.{file_of}
 use Rattle.index_world.proofs.StoreChanges.{All-snoc}
 use Rattle.indexing_run.specs.Outcomes.{IndexerOutcome, Checkpoint, Read, Staged, Uploaded, Published, CaughtUp, Stale, Lost, Refused, SourceFault, Faulted}
 use Rattle.indexing_run.specs.Places.{Batch, Held, Place, idle, reading, staged, uploaded, Indexer}
 use Rattle.indexing_run.specs.Steps.{Stepped, Taken, with_record, taken_from, start_of, read_limit, batch_after, queue_after, is_empty, marks_at, fresh_batch, partitions_for, log_may_fail, log_called, checkpoints_by, take_checkpoints, idle_by, idle_unless, read_by, read_given, step_read, stage_by, step_stage, batch_facts, upload_by, publish_by, publish_refused, step_batch, step_place, step_indexer}
 use Rattle.indexing_run.specs.Steps as indexing
+use Rattle.indexing_run.proofs.Reading.{target_ranges}
 use Rattle.node_run.specs.Node.{Node, Line, At, Assign, StepIndexer, RestartIndexer, RestartClient, RestartNode, Open, StepClient, Outcome, indexer_said, assigned}
-use Rattle.root_search.specs.Steps.{Request, no_request, opened, planned, Client, SearchStep}
+use Rattle.root_search.specs.Steps.{Request, no_request, opened, planned, Client}
+use Rattle.root_search.specs.declared.outcome.SearchStep.{SearchStep}
 use Rattle.node_run.proofs.Moving.{Grows, turn_later, turns_later}
 use Rattle.node_run.specs.Turns.{reader_of, said_by_client, Luck, Turned, turned, indexer_at, with_indexer, made_idle, indexing_luck, said_by_indexer, assign_at, indexer_turn_by, client_turn_by, client_named, open_by, restart_by, full_turn, quiet, or_quiet, turn_by, Turn, Turns}
 use Rattle.quick_node.specs.CaughtUp.{IfHere, Seen, unseen, after_said, after_line, AreEnds, SaidAtEnds, LineAtEnds, CatchesUp}
@@ -46,6 +50,7 @@ pub record Watched (log : Log) (marks : List Mark) (batch : Batch) : Type 0 wher
   pub some_read : 0 < batch.count → AllByRecursion (AtEnd log) marks → ⊥
   pub open_if : batch.queue ≡ [] → batch.closed ≡ true
   pub closed_if : batch.closed ≡ true → batch.count ≡ 0 → batch.queue ≡ []
+  pub target : 0 < batch.config.docs_target
 
 abbrev pub PlaceWatched : Log → List Mark → Place → Type 0
 PlaceWatched log marks idle = Unit {0}
@@ -57,13 +62,14 @@ empty_nil : {X : Type 0} (xs : List X) → is_empty xs ≡ true → xs ≡ []
 empty_nil [] e = refl
 empty_nil (x ∷ xs) e = cc
 
-fresh_watched : (log : Log) (marks : List Mark) → Watched log marks (fresh_batch marks)
-fresh_watched log marks =
+fresh_watched : (config : IndexConfig) (log : Log) (marks : List Mark) → 0 < config.docs_target → Watched log marks (fresh_batch config marks)
+fresh_watched config log marks target =
     record {
       none_read = λ none. ([], refl, tt);
       some_read = λ some all. absurd (omega (arith, some));
       open_if = λ none. ap is_empty none;
       closed_if = λ closed none. empty_nil marks closed;
+      target = target;
     }
 
 -- ---- one read
@@ -72,29 +78,29 @@ with_more : (name : List ℕ) (offset : ℕ) (doc : Option (List DocField)) (tak
 with_more name offset None taken = refl
 with_more name offset (Some doc) taken = refl
 
-taken_on : (name : List ℕ) (offset : ℕ) (records : List (List ℕ)) (taken : Taken) → taken.count ≤ (taken_from name offset records taken).count
-taken_on name offset [] taken = omega arith
-taken_on name offset (bytes ∷ more) taken = by taken.heavy (taken_on name (suc offset) more (with_record name offset (accepted bytes) taken))
+taken_on : (config : IndexConfig) (name : List ℕ) (offset : ℕ) (records : List (List ℕ)) (taken : Taken) → taken.count ≤ (taken_from config name offset records taken).count
+taken_on config name offset [] taken = omega arith
+taken_on config name offset (bytes ∷ more) taken = by taken.heavy (taken_on config name (suc offset) more (with_record name offset (accepted config bytes) taken))
   where
-    one : (with_record name offset (accepted bytes) taken).count ≡ suc taken.count
-    one = with_more name offset (accepted bytes) taken
+    one : (with_record name offset (accepted config bytes) taken).count ≡ suc taken.count
+    one = with_more name offset (accepted config bytes) taken
 
-    by : (b : Bool) → (with_record name offset (accepted bytes) taken).count ≤ (taken_from name (suc offset) more (with_record name offset (accepted bytes) taken)).count →
-        taken.count ≤ (if b then taken else taken_from name (suc offset) more (with_record name offset (accepted bytes) taken)).count
+    by : (b : Bool) → (with_record name offset (accepted config bytes) taken).count ≤ (taken_from config name (suc offset) more (with_record name offset (accepted config bytes) taken)).count →
+        taken.count ≤ (if b then taken else taken_from config name (suc offset) more (with_record name offset (accepted config bytes) taken)).count
     by true rest = omega arith
     by false rest = omega (arith, one, rest)
 
 -- of some records one is taken at least
-taken_some : (name : List ℕ) (offset : ℕ) (bytes : List ℕ) (more : List (List ℕ)) (taken : Taken) → taken.heavy ≡ false → taken.count < (taken_from name offset (bytes ∷ more) taken).count
-taken_some name offset bytes more taken light = by taken.heavy light
+taken_some : (config : IndexConfig) (name : List ℕ) (offset : ℕ) (bytes : List ℕ) (more : List (List ℕ)) (taken : Taken) → taken.heavy ≡ false → taken.count < (taken_from config name offset (bytes ∷ more) taken).count
+taken_some config name offset bytes more taken light = by taken.heavy light
   where
-    one : (with_record name offset (accepted bytes) taken).count ≡ suc taken.count
-    one = with_more name offset (accepted bytes) taken
+    one : (with_record name offset (accepted config bytes) taken).count ≡ suc taken.count
+    one = with_more name offset (accepted config bytes) taken
 
-    rest : (with_record name offset (accepted bytes) taken).count ≤ (taken_from name (suc offset) more (with_record name offset (accepted bytes) taken)).count
-    rest = taken_on name (suc offset) more (with_record name offset (accepted bytes) taken)
+    rest : (with_record name offset (accepted config bytes) taken).count ≤ (taken_from config name (suc offset) more (with_record name offset (accepted config bytes) taken)).count
+    rest = taken_on config name (suc offset) more (with_record name offset (accepted config bytes) taken)
 
-    by : (b : Bool) → b ≡ false → taken.count < (if b then taken else taken_from name (suc offset) more (with_record name offset (accepted bytes) taken)).count
+    by : (b : Bool) → b ≡ false → taken.count < (if b then taken else taken_from config name (suc offset) more (with_record name offset (accepted config bytes) taken)).count
     by true e = cc
     by false e = omega (arith, one, rest)
 
@@ -104,6 +110,11 @@ All-last P (y ∷ xs) x ys all = All-last P xs x ys all.1
 
 -- a read of what stands behind a mark, at most so many records
 module _ (log : Log) (marks : List Mark) (batch : Batch) (mark : Mark) (rest : List Mark) (queue_is : batch.queue ≡ mark ∷ rest) (w : Watched log marks batch) (now : ℕ) where
+  -- where nothing is left to read the batch is closed
+  closed_by : (taken : Taken) (q : List Mark) → q ≡ [] → indexing.is_closed batch.config q (batch.count + taken.count) taken.heavy (indexing.first_moment batch.first_read now) now ≡ true
+  closed_by taken [] e = refl
+  closed_by taken (x ∷ q) e = cc
+
   -- nothing stood behind it
   read_none : AtEnd log mark → Watched log marks (batch_after batch mark rest (start_of batch) true now)
   read_none at_end =
@@ -112,25 +123,22 @@ module _ (log : Log) (marks : List Mark) (batch : Batch) (mark : Mark) (rest : L
             let old = w.none_read (omega (arith, none)) in
             (old.0 ++ mark ∷ [], (old.1 ∙ ap (λ l. old.0 ++ l) queue_is) ∙ sym (append_assoc old.0 (mark ∷ []) rest), All-snoc (AtEnd log) old.0 mark old.2 at_end);
         some_read = λ some. w.some_read (omega (arith, some));
-        open_if = λ none. closed_empty rest none;
+        open_if = λ none. closed_by (start_of batch) rest none;
         closed_if = λ closed none. empty_nil rest (only_empty (is_empty rest) (batch.count + 0) (omega (arith, none)) closed);
+        target = w.target;
       }
     where
-      closed_empty : (q : List Mark) → q ≡ [] → (is_empty q || nat_le 10000000 (batch.count + 0) || false || (nat_lt 0 (batch.count + 0) && nat_le (indexing.first_moment batch.first_read now + 60) now)) ≡ true
-      closed_empty [] e = refl
-      closed_empty (x ∷ q) e = cc
+      no_target : (target : ℕ) → 0 < target → nat_le target 0 ≡ false
+      no_target target some = grind (some, arith, nat_tests)
 
-      only_empty : (b : Bool) (count : ℕ) → count ≡ 0 → (b || nat_le 10000000 count || false || (nat_lt 0 count && nat_le (indexing.first_moment batch.first_read now + 60) now)) ≡ true → b ≡ true
+      only_empty : (b : Bool) (count : ℕ) → count ≡ 0 →
+          (b || nat_le batch.config.docs_target count || false || (nat_lt 0 count && nat_le (indexing.first_moment batch.first_read now + batch.config.commit_timeout) now)) ≡ true → b ≡ true
       only_empty true count none e = refl
-      only_empty false count none e = absurd (no (subst (λ n. (nat_le 10000000 n || false || (nat_lt 0 n && nat_le (indexing.first_moment batch.first_read now + 60) now)) ≡ true) none e))
-        where
-          no : false ≡ true → ⊥
-          no f = cc
-
-  closed_by : (taken : Taken) (q : List Mark) → q ≡ [] → (is_empty q || nat_le 10000000 (batch.count + taken.count) || taken.heavy
-      || (nat_lt 0 (batch.count + taken.count) && nat_le (indexing.first_moment batch.first_read now + 60) now)) ≡ true
-  closed_by taken [] e = refl
-  closed_by taken (x ∷ q) e = cc
+      only_empty false count none e =
+          let e0 : (nat_le batch.config.docs_target 0 || false || (nat_lt 0 0 && nat_le (indexing.first_moment batch.first_read now + batch.config.commit_timeout) now)) ≡ true =
+          subst (λ n. (nat_le batch.config.docs_target n || false || (nat_lt 0 n && nat_le (indexing.first_moment batch.first_read now + batch.config.commit_timeout) now)) ≡ true) none e in
+          let f : false ≡ true = rw (no_target batch.config.docs_target w.target) at e0 in
+          absurd cc
 
   -- something was read before
   read_more : (taken : Taken) (at_end : Bool) → 0 < batch.count → Watched log marks (batch_after batch mark rest taken at_end now)
@@ -140,6 +148,7 @@ module _ (log : Log) (marks : List Mark) (batch : Batch) (mark : Mark) (rest : L
         some_read = λ some. w.some_read more;
         open_if = λ none. closed_by taken (queue_after at_end mark taken.count rest) none;
         closed_if = λ closed none. absurd (omega (arith, none, more));
+        target = w.target;
       }
 
   -- some stood behind it, the first that was read
@@ -152,10 +161,11 @@ module _ (log : Log) (marks : List Mark) (batch : Batch) (mark : Mark) (rest : L
             behind (All-last (AtEnd log) old.0 mark rest (subst (AllByRecursion (AtEnd log)) (old.1 ∙ ap (λ l. old.0 ++ l) queue_is) all));
         open_if = λ none. closed_by taken (queue_after at_end mark taken.count rest) none;
         closed_if = λ closed none. absurd (omega (arith, none, some));
+        target = w.target;
       }
 
   read_by_records : (behind : List (List ℕ)) (limit : ℕ) → drop mark.at (records_of log mark.partition) ≡ behind → batch.count ≡ 0 → 0 < limit →
-      Watched log marks (batch_after batch mark rest (taken_from mark.partition mark.at (take limit behind) (start_of batch)) (nat_le (length behind) limit) now)
+      Watched log marks (batch_after batch mark rest (taken_from batch.config mark.partition mark.at (take limit behind) (start_of batch)) (nat_le (length behind) limit) now)
   read_by_records [] limit at first some =
       subst (λ t. Watched log marks (batch_after batch mark rest t (nat_le 0 limit) now)) (sym (none_of limit))
       (subst (λ b. Watched log marks (batch_after batch mark rest (start_of batch) b now)) (sym (none_more limit)) (read_none at))
@@ -163,18 +173,26 @@ module _ (log : Log) (marks : List Mark) (batch : Batch) (mark : Mark) (rest : L
       none_more : (limit : ℕ) → nat_le 0 limit ≡ true
       none_more limit = grind (arith, nat_tests)
 
-      none_of : (limit : ℕ) → taken_from mark.partition mark.at (take limit []) (start_of batch) ≡ start_of batch
+      none_of : (limit : ℕ) → taken_from batch.config mark.partition mark.at (take limit []) (start_of batch) ≡ start_of batch
       none_of zero = refl
       none_of (suc limit) = refl
   read_by_records (bytes ∷ more) zero at first some = absurd (omega (arith, some))
   read_by_records (bytes ∷ more) (suc limit) at first some =
-      read_some (taken_from mark.partition mark.at (bytes ∷ take limit more) (start_of batch)) (nat_le (length (bytes ∷ more)) (suc limit)) first
-      (taken_some mark.partition mark.at bytes (take limit more) (start_of batch) refl) (λ none. cons_nil bytes more (sym at ∙ none))
+      read_some (taken_from batch.config mark.partition mark.at (bytes ∷ take limit more) (start_of batch)) (nat_le (length (bytes ∷ more)) (suc limit)) first
+      (taken_some batch.config mark.partition mark.at bytes (take limit more) (start_of batch) refl) (λ none. cons_nil bytes more (sym at ∙ none))
     where
       cons_nil : (x : List ℕ) (xs : List (List ℕ)) → x ∷ xs ≡ [] → ⊥
       cons_nil x xs e = cc
 
 -- ---- an indexer's step
+
+-- the configuration of a core takes a record at least
+target_some : (core : Core) → 0 < (config_or (configuration (journal_of core))).docs_target
+target_some core = by (configuration (journal_of core)) refl
+  where
+    by : (o : Option IndexConfig) → configuration (journal_of core) ≡ o → 0 < (config_or o).docs_target
+    by None e = omega arith
+    by (Some config) e = (target_ranges core config e).0
 
 some_same : {X : Type 0} (x y : X) → Some x ≡ Some y → x ≡ y
 some_same x y e = cc
@@ -229,9 +247,12 @@ module _ (exit : List Entry) (log : Log) (seen : Seen) where
 
     checkpoints_step : (r : Result ⊤ Trouble) (indexer : Indexer) (c : Core) → indexer.assignment ≡ seen.assignment → Steps (checkpoints_by r log indexer c)
     checkpoints_step (Ok done) indexer c same =
-        said Checkpoint (reading (fresh_batch marks)) indexer c
-        (λ p. record { says = tt; place_is = subst (λ ms. Watched log ms (fresh_batch marks)) (are p) (fresh_watched log marks); assignment_is = same })
+        said Checkpoint (reading (fresh_batch config marks)) indexer c
+        (λ p. record { says = tt; place_is = subst (λ ms. Watched log ms (fresh_batch config marks)) (are p) (fresh_watched config log marks (target_some c)); assignment_is = same })
       where
+        config : IndexConfig
+        config = config_or (configuration (journal_of c))
+
         marks : List Mark
         marks = marks_at (checkpoints_of (history c.history)) (partitions_for indexer.assignment log)
 
@@ -254,21 +275,21 @@ module _ (exit : List Entry) (log : Log) (seen : Seen) where
     unless_step true indexer same = unsaid idle (log_called luck.log indexer) core
     unless_step false indexer same = idle_step (log_may_fail luck.log indexer.log_faults) indexer.assignment indexer same
 
-    limit_some : (count : ℕ) → count ≡ 0 → 0 < read_limit count
-    limit_some count e = rw e (omega arith)
+    limit_some : (batch : Batch) → batch.count ≡ 0 → 0 < batch.config.docs_target → 0 < read_limit batch
+    limit_some batch e target = omega (arith, e, target)
 
     zero_or : (n : ℕ) → (n ≡ 0) ⊎ (0 < n)
     zero_or zero = inl refl
     zero_or (suc n) = inr (omega arith)
 
     read_watched : (batch : Batch) (mark : Mark) (rest : List Mark) (now : ℕ) → batch.queue ≡ mark ∷ rest → Watched log (marks_of seen) batch → (batch.count ≡ 0) ⊎ (0 < batch.count) →
-        Watched log (marks_of seen) (batch_after batch mark rest (taken_from mark.partition mark.at (take (read_limit batch.count) (drop mark.at (records_of log mark.partition))) (start_of batch))
-        (nat_le (length (drop mark.at (records_of log mark.partition))) (read_limit batch.count)) now)
+        Watched log (marks_of seen) (batch_after batch mark rest (taken_from batch.config mark.partition mark.at (take (read_limit batch) (drop mark.at (records_of log mark.partition))) (start_of batch))
+        (nat_le (length (drop mark.at (records_of log mark.partition))) (read_limit batch)) now)
     read_watched batch mark rest now queue_is w (inl none) =
-        read_by_records log (marks_of seen) batch mark rest queue_is w now (drop mark.at (records_of log mark.partition)) (read_limit batch.count) refl none (limit_some batch.count none)
+        read_by_records log (marks_of seen) batch mark rest queue_is w now (drop mark.at (records_of log mark.partition)) (read_limit batch) refl none (limit_some batch none w.target)
     read_watched batch mark rest now queue_is w (inr more) = read_more log (marks_of seen) batch mark rest queue_is w now
-        (taken_from mark.partition mark.at (take (read_limit batch.count) (drop mark.at (records_of log mark.partition))) (start_of batch))
-        (nat_le (length (drop mark.at (records_of log mark.partition))) (read_limit batch.count)) more
+        (taken_from batch.config mark.partition mark.at (take (read_limit batch) (drop mark.at (records_of log mark.partition))) (start_of batch))
+        (nat_le (length (drop mark.at (records_of log mark.partition))) (read_limit batch)) more
 
     read_step : (b : Bool) (batch : Batch) (mark : Mark) (rest : List Mark) (indexer : Indexer) (c : Core) → batch.queue ≡ mark ∷ rest →
         Watched log (marks_of seen) batch → indexer.assignment ≡ seen.assignment → Steps (read_by b luck log batch mark rest indexer c)
@@ -357,7 +378,7 @@ module _ (exit : List Entry) (log : Log) (seen : Seen) where
     place_step idle indexer w same = unless_step luck.log.short indexer same
     place_step (reading batch) indexer w same = closed_by_step batch.closed batch indexer refl w same
     place_step (staged held) indexer w same =
-        let given = upload_made luck.world held.number (split_file held.documents) core in upload_steps given.answer held indexer given.core same
+        let given = upload_made luck.world held.number (file_of held.config held.documents) core in upload_steps given.answer held indexer given.core same
     place_step (uploaded held) indexer w same =
         let given = publish_call held.number luck.world core in publish_steps given.answer held indexer given.core same
 

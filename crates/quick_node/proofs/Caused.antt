@@ -6,7 +6,8 @@ use Rattle.byte_fields.specs.Causes.{Rose}
 use Rattle.index_world.specs.Taking.{IsFaultBetween}
 use Rattle.index_world.specs.declared.world_error.WorldError.{WorldError}
 use Rattle.index_world.specs.declared.world_error.WorldError.TheVariants as errors
-use Rattle.quick_node.specs.Causes.{Faults, faults_of, HasCauses, IsOneOf, other_statuses, DriveCauses, EndsLineBy, EndsRunBy}
+use Rattle.quick_node.specs.Causes.{Faults, faults_of, HasCauses, IsOneOf, other_statuses, DriveCauses, CreateCauses, EndsLineBy, EndsRunBy}
+use Rattle.quick_node.specs.Creating.{counts_at, EndsCreateBy}
 use Rattle.quick_node.specs.Ending.{ended_status}
 use Rattle.quick_node.specs.Running.{Counts, counts_of, done_behind}
 use Rattle.quick_node.specs.declared.error_line.End.{End as Ended}
@@ -14,7 +15,7 @@ use Rattle.quick_node.specs.declared.error_line.End.TheVariants as ended
 use Rattle.quick_node.proofs.Going.{rose_earlier}
 
 module _ (before after : Faults) (status : ℕ) (read : before.input ≤ after.input) (written : before.output ≤ after.output) where
-  caused : (s : ℕ) → status ≡ s → (s ≡ 4 → Rose before.store after.store) → (s ≡ 5 → Rose before.input after.input) → (s ≡ 6 → Rose before.output after.output) →
+  pub caused : (s : ℕ) → status ≡ s → (s ≡ 4 → Rose before.store after.store) → (s ≡ 5 → Rose before.input after.input) → (s ≡ 6 → Rose before.output after.output) →
       HasCauses before after status
   caused s is store input output =
       record {
@@ -26,7 +27,7 @@ module _ (before after : Faults) (status : ℕ) (read : before.input ≤ after.i
       }
 
   -- a status that names none of the three
-  by_none : (s : ℕ) → status ≡ s → (s ≡ 4 → ⊥) → (s ≡ 5 → ⊥) → (s ≡ 6 → ⊥) → HasCauses before after status
+  pub by_none : (s : ℕ) → status ≡ s → (s ≡ 4 → ⊥) → (s ≡ 5 → ⊥) → (s ≡ 6 → ⊥) → HasCauses before after status
   by_none s is four five six = caused s is (λ e. absurd (four e)) (λ e. absurd (five e)) (λ e. absurd (six e))
 
   short : status ≡ 11 → DriveCauses before after status
@@ -74,6 +75,8 @@ module _ (before after : Faults) (status : ℕ) (read : before.input ≤ after.i
         causes = by_none 8 is (λ e. omega (arith, e)) (λ e. omega (arith, e)) (λ e. omega (arith, e));
         known = inr (inr (inr (inr (inr (inr (inl is))))));
       }
+  not_opened errors.IndexExists f is = refused is
+  not_opened (errors.BadConfig bad) f is = refused is
 
   pub opening_causes : (error : WorldError) → IsFaultBetween before.store after.store error →
       (status ≡ ended_status (ended.NotOpened error)) ⊎ (status ≡ 11) → DriveCauses before after status
@@ -101,7 +104,9 @@ module _ (counts : Counts) (low high last status : ℕ) (read : counts.read_befo
   run_ended ended.ClientsOver by is = limit first behind status read on is
   run_ended ended.LineOver by is = limit first behind status read on is
   run_ended ended.InputOver by is = limit first behind status read on is
+  run_ended ended.ConfigOver by is = absurd by
   run_ended (ended.NotOpened error) by is = absurd by
+  run_ended (ended.NotMade error) by is = absurd by
   run_ended ended.ReadFault by is =
       record {
         causes = caused first behind status read on 5 is (λ e. absurd (omega (arith, e))) (λ e. by) (λ e. absurd (omega (arith, e)));
@@ -133,7 +138,9 @@ line_by read_before read_after before after (ended.BadLine number) by = tt
 line_by read_before read_after before after ended.ClientsOver by = tt
 line_by read_before read_after before after ended.LineOver by = absurd by
 line_by read_before read_after before after ended.InputOver by = absurd by
+line_by read_before read_after before after ended.ConfigOver by = absurd by
 line_by read_before read_after before after (ended.NotOpened error) by = absurd by
+line_by read_before read_after before after (ended.NotMade error) by = absurd by
 line_by read_before read_after before after ended.ReadFault by = absurd by
 line_by read_before read_after before after ended.WriteFault by = by
 line_by read_before read_after before after ended.Memory by = absurd by
@@ -158,7 +165,9 @@ run_earlier read read_before read_after write before after r w (ended.BadLine nu
 run_earlier read read_before read_after write before after r w ended.ClientsOver by = tt
 run_earlier read read_before read_after write before after r w ended.LineOver by = tt
 run_earlier read read_before read_after write before after r w ended.InputOver by = tt
+run_earlier read read_before read_after write before after r w ended.ConfigOver by = absurd by
 run_earlier read read_before read_after write before after r w (ended.NotOpened error) by = absurd by
+run_earlier read read_before read_after write before after r w (ended.NotMade error) by = absurd by
 run_earlier read read_before read_after write before after r w ended.ReadFault by = rose_earlier read read_before read_after read_after r by (omega arith)
 run_earlier read read_before read_after write before after r w ended.WriteFault by = rose_earlier write before after after w by (omega arith)
 run_earlier read read_before read_after write before after r w ended.Memory by = tt
@@ -174,3 +183,84 @@ ended_earlier read read_before read_after write before after r w (Some o) e is b
   where
     some_same : (a b : Ended) → Some a ≡ Some b → a ≡ b
     some_same a b f = cc
+
+-- ---- the making of an index
+
+module _ (store read written store' read' mid written' status : ℕ) (on : read ≤ read') (low : written ≤ mid) (later : mid ≤ written') where
+  abbrev entry : Faults
+  entry = faults_of store read written
+
+  abbrev exit : Faults
+  exit = faults_of store' read' written'
+
+  all_on : written ≤ written'
+  all_on = omega (arith, low, later)
+
+  made_short : status ≡ 11 → CreateCauses entry exit status
+  made_short is =
+      record {
+        causes = by_none entry exit status on all_on 11 is (λ e. omega (arith, e)) (λ e. omega (arith, e)) (λ e. omega (arith, e));
+        known = inr (inr (inr (inr (inr (inr (inr (inr (inl is))))))));
+      }
+
+  no_index_made : status ≡ 7 → CreateCauses entry exit status
+  no_index_made is =
+      record {
+        causes = by_none entry exit status on all_on 7 is (λ e. omega (arith, e)) (λ e. omega (arith, e)) (λ e. omega (arith, e));
+        known = inr (inr (inr (inr (inr (inl is)))));
+      }
+
+  not_made : (error : WorldError) → IsFaultBetween store store' error → status ≡ ended_status (ended.NotMade error) → CreateCauses entry exit status
+  not_made (errors.Memory e) f is = made_short is
+  not_made (errors.Refused refusal) f is = no_index_made is
+  not_made (errors.StoreFault a b) f is =
+      record {
+        causes = caused entry exit status on all_on 4 is (λ e. f.2) (λ e. absurd (omega (arith, e))) (λ e. absurd (omega (arith, e)));
+        known = inr (inr (inl is));
+      }
+  not_made (errors.Missing key) f is = no_index_made is
+  not_made (errors.Corrupt key) f is = no_index_made is
+  not_made (errors.Foreign key) f is = no_index_made is
+  not_made errors.Full f is = no_index_made is
+  not_made errors.NoIndex f is = no_index_made is
+  not_made errors.IndexExists f is =
+      record {
+        causes = by_none entry exit status on all_on 9 is (λ e. omega (arith, e)) (λ e. omega (arith, e)) (λ e. omega (arith, e));
+        known = inr (inr (inr (inr (inr (inr (inl is))))));
+      }
+  not_made (errors.BadConfig bad) f is =
+      record {
+        causes = by_none entry exit status on all_on 2 is (λ e. omega (arith, e)) (λ e. omega (arith, e)) (λ e. omega (arith, e));
+        known = inr (inl is);
+      }
+
+  made_ended : (e : Ended) → EndsCreateBy (counts_at store read written) (counts_at store' read' mid) e → status ≡ ended_status e → CreateCauses entry exit status
+  made_ended ended.Done by is =
+      record { causes = by_none entry exit status on all_on 0 is (λ e. omega (arith, e)) (λ e. omega (arith, e)) (λ e. omega (arith, e)); known = inl is }
+  made_ended ended.BadWords by is = absurd by
+  made_ended (ended.BadLine number) by is = absurd by
+  made_ended ended.ClientsOver by is = absurd by
+  made_ended ended.LineOver by is = absurd by
+  made_ended ended.InputOver by is = absurd by
+  made_ended ended.ConfigOver by is =
+      record {
+        causes = by_none entry exit status on all_on 10 is (λ e. omega (arith, e)) (λ e. omega (arith, e)) (λ e. omega (arith, e));
+        known = inr (inr (inr (inr (inr (inr (inr (inl is)))))));
+      }
+  made_ended (ended.NotOpened error) by is = absurd by
+  made_ended (ended.NotMade error) by is = not_made error by.0 is
+  made_ended ended.ReadFault by is =
+      record {
+        causes = caused entry exit status on all_on 5 is (λ e. absurd (omega (arith, e))) (λ e. by) (λ e. absurd (omega (arith, e)));
+        known = inr (inr (inr (inl is)));
+      }
+  made_ended ended.WriteFault by is =
+      record {
+        causes = caused entry exit status on all_on 6 is (λ e. absurd (omega (arith, e))) (λ e. absurd (omega (arith, e))) (λ e. rose_earlier written written mid written' (omega arith) by later);
+        known = inr (inr (inr (inr (inl is))));
+      }
+  made_ended ended.Memory by is = made_short is
+
+  pub made_causes : (e : Ended) → EndsCreateBy (counts_at store read written) (counts_at store' read' mid) e → (status ≡ ended_status e) ⊎ (status ≡ 11) → CreateCauses entry exit status
+  made_causes e by (inl is) = made_ended e by is
+  made_causes e by (inr is) = made_short is

@@ -26,7 +26,7 @@ use Rattle.quick_node.proofs.Calmed.{reader_counts, lives_calm}
 use Rattle.quick_node.proofs.Exact.{exact_status}
 use Rattle.quick_node.proofs.Living.{opens_moves, lives_follow}
 use Rattle.quick_node.proofs.LongerLog.{index_longer}
-use Rattle.quick_node.proofs.Onces.{holds_once, holds_at}
+use Rattle.quick_node.proofs.Onces.{configured_on, holds_once, holds_at}
 use Rattle.quick_node.proofs.Faulting.{none_told}
 use Rattle.quick_node.proofs.Sources.{lives_between}
 use Rattle.quick_node.proofs.Telling.{lives_told}
@@ -127,6 +127,7 @@ module _ (history : List Entry) (before : Before) (after : After) (fresh last : 
     goes_on = follows.0;
     once = holds_once after.kept (journal_of last.core) before.log is_log world.index;
     always = λ revision. holds_at after.kept revision (journal_of last.core) before.log is_log world.index;
+    configured = configured_on history (journal_of last.core) follows.0 world.index.stands.legal;
     searches = follows.1;
     faults = told;
     faultless = λ still. none_told after.store_faults (end_told end ++ flat_map store_told outcomes) still.1

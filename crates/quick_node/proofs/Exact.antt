@@ -113,7 +113,7 @@ load_none false true second before core e = cc
 load_none false false second before core e = empty_is_none _ (begun second (read_journal core)) e
 
 -- a journal with an entry is an index
-opening_found : (fate : Fate) (core last : Core) → loaded fate core ≡ gives (Err calls.no_index) last → 0 < length core.history → ⊥
+pub opening_found : (fate : Fate) (core last : Core) → loaded fate core ≡ gives (Err calls.no_index) last → 0 < length core.history → ⊥
 opening_found fate core last did some =
     let none = eqb-true (length (read_journal (begun fate.first core)).history) 0 (load_none _ _ fate.second core.store_faults (begun fate.first core) (ap (λ g. g.answer) did)) in
     let g : Grows core (read_journal (begun fate.first core)) = (moves_on (begun_moves fate.first core) (journal_moves (begun fate.first core))).later.grows in

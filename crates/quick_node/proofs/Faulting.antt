@@ -1,6 +1,6 @@
 -- Each fault of the store that a line tells has the counts before the line and behind it, of which the second rose.
 use Rattle.std.proofs.Common.{◌≡◌, ℕ, ◌≤◌, ◌<◌, Bool, true, false, List, [], ◌∷◌, ◌++◌, flat_map, refl, sym, ap, subst, arith}
-use Rattle.std.specs.Prelude.{Option, Some, None, Result, Ok, Err, ⊤, if◌then◌else◌, ◌==◌, ◌||◌, is_some, min}
+use Rattle.std.specs.Prelude.{Option, Some, None, Result, Ok, Err, ⊤, if◌then◌else◌, ◌==◌, ◌||◌, is_some, min, nat_lt, length}
 use Rattle.byte_fields.specs.Causes.{Rose}
 use Rattle.meta_journal.specs.Places.{split_key}
 use Rattle.meta_journal.specs.declared.entry.Act.{Act}
@@ -12,21 +12,37 @@ use Rattle.source_checkpoint.specs.declared.delta.StaleDelta.{StaleDelta}
 use Rattle.source_checkpoint.specs.declared.delta.StaleDelta.TheVariants as deltas
 use Rattle.source_checkpoint.specs.declared.ledger.Checkpoint.{Checkpoint}
 use Rattle.source_log.specs.Log.{Log}
-use Rattle.index_world.specs.Calls.{Fate, Call, Fault, Trouble, faulted, no_memory, Unmade, refused, troubled, Unread, not_read, Gives, gives, Made, made, exists, failed, Making, risen, may_fail, begun, tried, made_behind, made_at, create_at_end, taken_in, or_short, unless_short, asked_clock, asking, and_then, and_then_by, taken_unless, got_at, get_at_end, settle_made, settle_with, settled, fence_of, entry_of, may_append, last_made, last_unless, last_create, troubled_by, as_unmade, adopted_made, first_unless, transact, appended, looked, settled_and_copied, asked_and_looked, asked, file_by, file_made, got_file, file_got, fetched, with_standing, read_journal, unless_empty, load_by, loaded}
+use Rattle.index_world.specs.Calls.{Fate, Call, Fault, store_fault, is_foreign, is_full, Trouble, faulted, no_memory, Unmade, refused, troubled, Unread, not_read, Gives, gives, Made, made, exists, failed, Making, risen, may_fail, begun, tried, made_behind, made_at, create_at_end, taken_in, or_short, unless_short, asked_clock, asking, and_then, and_then_by, taken_unless, got_at, get_at_end, settle_made, settle_with, settled, fence_of, entry_of, may_append, last_made, last_unless, last_create, troubled_by, as_unmade, adopted_made, first_unless, transact, appended, looked, settled_and_copied, asked_and_looked, asked, file_by, file_made, got_file, file_got, fetched, with_standing, read_journal, unless_empty, load_by, loaded}
 use Rattle.index_world.specs.Calls as calls
 use Rattle.index_world.specs.Core.{Core, last_count, file_at}
 use Rattle.index_world.specs.Gate.{stage_act}
-use Rattle.index_world.specs.SplitFile.{split_file}
+use Rattle.index_world.specs.Seen.{visible_at}
+use Rattle.index_world.specs.SplitFile.{file_of}
 use Rattle.indexing_run.specs.Outcomes.{IndexerOutcome}
 use Rattle.indexing_run.specs.Places.{Batch, Held, Place, idle, reading, staged, uploaded, Indexer}
 use Rattle.indexing_run.specs.Steps.{Stepped, log_may_fail, log_called, checkpoints_by, take_checkpoints, idle_by, read_by, read_given, step_read, stage_by, step_stage, batch_facts, upload_by, step_upload, publish_by, publish_refused, step_publish, step_batch, step_place, step_indexer}
 use Rattle.indexing_run.specs.Steps as indexing
-use Rattle.root_search.specs.Requests.{word_asked}
-use Rattle.root_search.specs.Steps.{Request, no_request, opened, planned, Plan, Client, SearchStep, plan_by, fetch_by, next_step, step_request, step_client}
+use Rattle.agg_form.specs.Finished.{answers_of, buckets_of}
+use Rattle.agg_model.specs.Answers.{most_buckets}
+use Rattle.doc_tallies.specs.Picked.{docs_of}
+use Rattle.doc_value.specs.declared.schema.Schema.{Schema}
+use Rattle.split_bundle.specs.declared.placed.Placed.{Placed}
+use Rattle.search_api.specs.Resolved.{Search}
+use Rattle.search_api.specs.declared.reply.Refusal.{Refusal as Unfit}
+use Rattle.search_api.specs.declared.reply.Refusal.TheVariants as refusals
+use Rattle.search_api.specs.declared.reply.Said.TheVariants as given
+use Rattle.search_api.specs.declared.unanswered.Unanswered.{Unanswered}
+use Rattle.search_api.specs.declared.unanswered.Unanswered.TheVariants as reasons
+use Rattle.root_search.specs.Answer.{answer, matching, printed, shown}
+use Rattle.root_search.specs.Requests.{asked_of}
+use Rattle.root_search.specs.Steps.{Request, no_request, opened, planned, Plan, Client, config_at, config_in, plan_by, fetch_by, fetched_each, unless_fault, next_step, step_request, step_client}
 use Rattle.root_search.specs.Steps as searching
+use Rattle.root_search.specs.declared.outcome.SearchStep.{SearchStep}
 use Rattle.node_run.specs.Node.{Node, Line, At, Assign, StepIndexer, RestartIndexer, RestartClient, RestartNode, Open, StepClient, Outcome}
 use Rattle.node_run.specs.Turns.{Luck, Turned, indexer_at, indexing_luck, searching_luck, said_by_indexer, said_by_client, assign_at, indexer_turn_by, client_turn_by, client_named, open_by, restart_by, full_turn, quiet, or_quiet, turn_by, Turn, Turns}
-use Rattle.quick_node.specs.Faults.{Interval, AreBetween, fault_told, indexer_told, search_told, store_told}
+use Rattle.node_run.proofs.Refusals.{OfText, asked_of_text}
+use Rattle.node_run.specs.Telling.{IsOfText}
+use Rattle.quick_node.specs.Faults.{Interval, AreBetween, fault_told, indexer_told, refusal_told, said_told, search_told, store_told}
 use Rattle.quick_node.proofs.Exact.{begun_count, failed_rose}
 
 abbrev trouble_told : Trouble → List Interval
@@ -275,6 +291,26 @@ fetched_good : (fate : Fate) (core : Core) → core.store_faults ≤ last_count 
 fetched_good fate core bound =
     asking_good trouble_told fate.unasked no_memory core (λ c. file_got fate.first c) refl bound (file_got_good fate.first (asked_clock core) bound)
 
+-- ---- fetches one after another
+
+lower : (low n : ℕ) (faults : List Interval) (high : ℕ) → low ≤ n → AreBetween n faults high → AreBetween low faults high
+lower low n [] high le b = omega (arith, le, b)
+lower low n (fault ∷ faults) high le b = (omega (arith, le, b.0), b.1, b.2)
+
+unless_fault_good : (low : ℕ) (answer : Result ⊤ Trouble) (mid : Core) (next : Core → Gives Trouble ⊤) → Good trouble_told low (gives answer mid) →
+    Good trouble_told mid.store_faults (next mid) → Good trouble_told low (unless_fault answer mid next)
+unless_fault_good low (Ok done) mid next g n =
+    record { says = lower low mid.store_faults (answer_told trouble_told (next mid).answer) (next mid).core.store_faults g.on n.says; on = omega (arith, g.on, n.on); bound = n.bound }
+unless_fault_good low (Err trouble) mid next g n = g
+
+each_good : (more : List Fate) (fate : Fate) (core : Core) → core.store_faults ≤ last_count → Good trouble_told core.store_faults (fetched_each fate more core)
+each_good [] fate core bound = fetched_good fate core bound
+each_good (next ∷ more) fate core bound =
+    let mid = fetched fate core in
+    let good = fetched_good fate core bound in
+    unless_fault_good core.store_faults mid.answer mid.core (fetched_each next more) (record { says = good.says; on = good.on; bound = good.bound })
+    (each_good more next mid.core good.bound)
+
 -- ---- opening anew
 
 standing_count : (standing : Option Entry) (core : Core) → (with_standing standing core).store_faults ≡ core.store_faults
@@ -457,9 +493,9 @@ module _ (luck : indexing.Luck) (log : Log) (core : Core) (bound : core.store_fa
   place_said idle indexer = unless_said luck.log.short indexer
   place_said (reading batch) indexer = batch_said batch indexer
   place_said (staged held) indexer =
-      let given = file_made luck.world.first (split_key held.number) (split_file held.documents) core in
+      let given = file_made luck.world.first (split_key held.number) (file_of held.config held.documents) core in
       upload_by_said held indexer given.answer given.core
-      (as_given trouble_told core.store_faults given (file_good luck.world.first (split_key held.number) (split_file held.documents) core bound))
+      (as_given trouble_told core.store_faults given (file_good luck.world.first (split_key held.number) (file_of held.config held.documents) core bound))
   place_said (uploaded held) indexer =
       let given = appended luck.world (λ c. Publish held.number) core in
       publish_by_said held indexer given.answer given.core
@@ -478,18 +514,45 @@ abbrev Searching : ℕ → searching.Searched → Type 0
 Searching low step = Says low (by_search step.outcome) step.core
 
 replied_said : (low revision : ℕ) (trouble : Trouble) (client : Client) (core : Core) → Says low (trouble_told trouble) core → Searching low (searching.trouble_replied revision trouble client core)
-replied_said low revision (faulted fault) client core p = p
+replied_said low revision (faulted (store_fault before after)) client core p = p
+replied_said low revision (faulted (is_foreign key)) client core p = p
+replied_said low revision (faulted is_full) client core p = p
 replied_said low revision no_memory client core p = p
 
-refusal_said : (low revision : ℕ) (trouble : Trouble) (client : Client) (core : Core) → Says low (trouble_told trouble) core → Searching low (searching.refusal_by revision trouble client core)
-refusal_said low revision (faulted fault) client core p = record { says = p.on; on = p.on; bound = p.bound }
-refusal_said low revision no_memory client core p = p
+-- a refusal of a text tells no fault
+text_none : (refusal : Unfit) → IsOfText refusal → refusal_told refusal ≡ []
+text_none (refusals.StoreFault before after) h = absurd h
+text_none refusal h = refl
 
-plan_said : (low : ℕ) (r : Result ⊤ Trouble) (asked : Option (List ℕ)) (client : Client) (core : Core) → Good trouble_told low (gives r core) → Searching low (plan_by r asked client core)
-plan_said low (Ok done) (Some word) client core g = record { says = g.on; on = g.on; bound = g.bound }
-plan_said low (Ok done) None client core g = record { says = g.on; on = g.on; bound = g.bound }
-plan_said low (Err trouble) (Some word) client core g = replied_said low client.front trouble client core (record { says = g.says; on = g.on; bound = g.bound })
-plan_said low (Err trouble) None client core g = refusal_said low client.front trouble client core (record { says = g.says; on = g.on; bound = g.bound })
+none_said : (low : ℕ) (told : List Interval) (core : Core) → told ≡ [] → low ≤ core.store_faults → core.store_faults ≤ last_count → Says low told core
+none_said low told core e on bound = subst (λ fs. Says low fs core) (sym e) (record { says = on; on = on; bound = bound })
+
+refused_said : (low revision : ℕ) (refusal : Unfit) (trouble : Trouble) (client : Client) (core : Core) → IsOfText refusal → Says low (trouble_told trouble) core →
+    Searching low (searching.refused_over revision refusal trouble client core)
+refused_said low revision refusal (faulted fault) client core h p = none_said low (refusal_told refusal) core (text_none refusal h) p.on p.bound
+refused_said low revision refusal no_memory client core h p = p
+
+plan_said : (low : ℕ) (r : Result ⊤ Trouble) (asked : Result Search Unanswered) (client : Client) (core : Core) → Good trouble_told low (gives r core) → OfText asked →
+    Searching low (plan_by r asked client core)
+plan_said low (Ok done) (Ok search) client core g h = record { says = g.on; on = g.on; bound = g.bound }
+plan_said low (Ok done) (Err (reasons.Refused refusal)) client core g h = none_said low (refusal_told refusal) core (text_none refusal h) g.on g.bound
+plan_said low (Ok done) (Err (reasons.Memory e)) client core g h = record { says = g.on; on = g.on; bound = g.bound }
+plan_said low (Err trouble) (Ok search) client core g h = replied_said low client.front trouble client core (record { says = g.says; on = g.on; bound = g.bound })
+plan_said low (Err trouble) (Err (reasons.Refused refusal)) client core g h =
+    refused_said low client.front refusal trouble client core h (record { says = g.says; on = g.on; bound = g.bound })
+plan_said low (Err trouble) (Err (reasons.Memory e)) client core g h = record { says = g.on; on = g.on; bound = g.bound }
+
+-- nor does an answer
+buckets_none : (b : Bool) (many count : ℕ) (lines : List (List ℕ)) (search : Search) (found : List Placed) →
+    said_told (if b then given.Refused (refusals.TooManyBuckets count) else given.Found many lines (answers_of search.aggs (docs_of found))) ≡ []
+buckets_none true many count lines search found = refl
+buckets_none false many count lines search found = refl
+
+answer_none : (s : Schema) (search : Search) (documents : List Placed) → said_told (answer s search documents) ≡ []
+answer_none s search documents =
+    let found = matching s search documents in
+    let count = buckets_of search.aggs (docs_of found) in
+    buckets_none (nat_lt most_buckets count) (length found) count (printed s (shown search found)) search found
 
 fetch_said : (low : ℕ) (r : Result ⊤ Trouble) (plan : Plan) (number : ℕ) (more : List ℕ) (client : Client) (core : Core) → Good trouble_told low (gives r core) →
     Searching low (fetch_by r plan number more client core)
@@ -498,16 +561,19 @@ fetch_said low (Err trouble) plan number more client core g = replied_said low p
 
 module _ (luck : searching.Luck) (log : Log) (client : Client) (core : Core) (bound : core.store_faults ≤ last_count) where
   next_said : (plan : Plan) (unfetched : List ℕ) → Searching core.store_faults (next_step luck log plan unfetched client core)
-  next_said plan [] = still core bound
+  next_said plan [] =
+      let documents = visible_at plan.revision core.history log in
+      none_said core.store_faults _ core (answer_none (config_at plan.revision core).schema plan.search documents) (omega arith) bound
   next_said plan (number ∷ more) =
-      let given = fetched luck.world core in
-      fetch_said core.store_faults given.answer plan number more client given.core (as_given trouble_told core.store_faults given (fetched_good luck.world core bound))
+      let given = fetched_each luck.world luck.more core in
+      fetch_said core.store_faults given.answer plan number more client given.core (as_given trouble_told core.store_faults given (each_good luck.more luck.world core bound))
 
   request_said : (request : Request) → Searching core.store_faults (step_request request luck log client core)
   request_said no_request = still core bound
   request_said (opened text) =
       let given = asked_and_looked luck.world core in
-      plan_said core.store_faults given.answer (word_asked text) client given.core (as_given trouble_told core.store_faults given (asked_and_looked_good luck.world core bound))
+      plan_said core.store_faults given.answer (asked_of (config_in given.core) text) client given.core
+      (as_given trouble_told core.store_faults given (asked_and_looked_good luck.world core bound)) (asked_of_text (config_in given.core) text)
   request_said (planned plan) = next_said plan plan.unfetched
 
   search_short : (b : Bool) (step : searching.Searched) → Searching core.store_faults step → Searching core.store_faults (searching.or_short b client step)
@@ -596,12 +662,8 @@ turn_said node line said last bound turn = subst (λ t. Turning node.core.store_
 
 -- ---- lines
 
-lower : (low mid high : ℕ) (ys : List Interval) → low ≤ mid → AreBetween mid ys high → AreBetween low ys high
-lower low mid high [] p q = omega (arith, p, q)
-lower low mid high (y ∷ ys) p q = (omega (arith, p, q.0), q.1, q.2)
-
 pub between_more : (low mid high : ℕ) (xs ys : List Interval) → AreBetween low xs mid → AreBetween mid ys high → AreBetween low (xs ++ ys) high
-between_more low mid high [] ys p q = lower low mid high ys p q
+between_more low mid high [] ys p q = lower low mid ys high p q
 between_more low mid high (x ∷ xs) ys p q = (p.0, p.1, between_more x.high mid high xs ys p.2 q)
 
 pub turns_told : (node last : Node) (lines : List Line) (outcomes : List Outcome) → node.core.store_faults ≤ last_count → Turns node lines outcomes last →

@@ -26,3 +26,8 @@ mod Faulting
 mod Telling
 mod Catching
 mod Sources
+pub mod Founding
+pub mod Founded
+pub mod Printing
+pub mod Printed
+mod CausedReports

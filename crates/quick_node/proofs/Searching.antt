@@ -1,7 +1,7 @@
 -- The headline's sentence on searches follows from the node: whatever lands and fails, each reply with hits is the answer to
 -- what its client opened last, over one revision that is no older than its client's front and the journal at entry.
 use Rattle.std.proofs.Common.{◌≡◌, ℕ, ◌≤◌, ◌+◌, List, [], ◌∷◌, ◌++◌, refl, sym, ap, ◌∙◌, subst, Bool, true, false, length, arith, take, map, append_assoc}
-use Rattle.std.proofs.lemmas.List.{length-append, take-append-le}
+use Rattle.std.proofs.lemmas.List.{length-append, take-append-le, take_all}
 use Rattle.std.proofs.lemmas.Slice.Eq.{bytes_eq-Decides}
 use Rattle.std.specs.Prelude.{Option, Some, None, Result, Ok, Err, ⊤, if◌then◌else◌, bytes_eq}
 use Rattle.meta_journal.specs.declared.entry.Entry.{Entry}
@@ -9,21 +9,30 @@ use Rattle.meta_store.specs.History.{history}
 use Rattle.meta_store.specs.Ledgers.{ledger}
 use Rattle.index_world.specs.Config.{reads}
 use Rattle.source_log.specs.Log.{Log}
-use Rattle.index_world.specs.Calls.{Trouble, faulted, no_memory, Unread, not_read, asked_and_looked, fetched, loaded}
+use Rattle.index_world.specs.Calls.{Trouble, faulted, no_memory, Unread, not_read, asked_and_looked, loaded}
 use Rattle.index_world.specs.Calls as calls
+use Rattle.index_world.specs.Configuration.{configuration, config_or}
 use Rattle.index_world.specs.Core.{Core}
 use Rattle.index_world.specs.Seen.{visible}
 use Rattle.indexing_run.specs.Outcomes.{IndexerOutcome}
 use Rattle.indexing_run.specs.Places.{Place, idle, reading, staged, uploaded, Indexer}
 use Rattle.indexing_run.specs.Steps.{step_indexer}
-use Rattle.root_search.specs.Replies.{Said, Refusal, NotBuilt, Faulted, answer}
-use Rattle.root_search.specs.Requests.{word_asked}
-use Rattle.root_search.specs.Steps.{Client, Request, no_request, opened, planned, Plan, SearchStep, Idle, Planned, Fetched, Replied, Luck, Searched, plan_by, reply_with, trouble_replied, refusal_by, fetch_by, next_step, step_request, or_short, step_client, answer_of, without_request}
+use Rattle.root_search.specs.Answer.{answer}
+use Rattle.root_search.specs.Requests.{asked_of}
+use Rattle.root_search.specs.Steps.{Client, Request, no_request, opened, planned, Plan, Luck, Searched, fault_refusal, plan_by, reply_with, trouble_replied, refused_over, fetch_by, fetched_each, config_in, next_step, step_request, or_short, step_client, answer_of, without_request}
+use Rattle.root_search.specs.declared.outcome.SearchStep.{SearchStep}
+use Rattle.root_search.specs.declared.outcome.SearchStep.TheVariants.{Idle, Planned, Fetched, Replied}
+use Rattle.search_api.specs.Resolved.{Search}
+use Rattle.search_api.specs.declared.reply.Refusal.{Refusal}
+use Rattle.search_api.specs.declared.reply.Said.{Said}
+use Rattle.search_api.specs.declared.reply.Said.TheVariants.{Found, Deleted, Refused}
+use Rattle.search_api.specs.declared.unanswered.Unanswered.{Unanswered}
+use Rattle.search_api.specs.declared.unanswered.Unanswered.TheVariants as reasons
 use Rattle.node_run.specs.Node.{Node, Line, At, Assign, StepIndexer, RestartIndexer, RestartClient, RestartNode, Open, StepClient, Outcome, client_said}
 use Rattle.node_run.specs.Turns as node_turns
 use Rattle.node_run.specs.Turns.{full_turn, turn_with, turn_by, or_quiet, quiet, Turn, Turns, Turned, client_named, with_client, keep_client, said_by_indexer, indexer_stepped, indexer_turn_by, said_by_client, client_turn_by, client_stepped, assign_at, open_by, restart_by, indexer_at, indexing_luck, searching_luck}
-use Rattle.node_run.proofs.Moving.{Grows, same_grows, asked_and_looked_moves, fetched_moves, indexer_moves, client_moves, loaded_moves, turns_later}
-use Rattle.quick_node.specs.Serve.{IsPrefixOf, Known, known_of, after_outcome, AnswersOne, AnswersFrom}
+use Rattle.node_run.proofs.Moving.{Grows, same_grows, asked_and_looked_moves, each_moves, plan_same, indexer_moves, client_moves, loaded_moves, turns_later}
+use Rattle.quick_node.specs.Serve.{IsPrefixOf, Known, known_of, after_outcome, config_then, IfFound, AnswersOne, AnswersFrom}
 
 same-true : (a b : List ℕ) → bytes_eq a b ≡ true → a ≡ b
 same-true a b = (bytes_eq-Decides a b).0
@@ -42,53 +51,53 @@ none_is_some x o n e = cc
 
 -- ---- what is known of a client agrees with the node
 
-abbrev pub OnRequest : ℕ → Known → ℕ → ℕ → Request → Type 0
-OnRequest least known front len no_request = Unit {0}
-OnRequest least known front len (opened text) = known.text ≡ text
-OnRequest least known front len (planned plan) =
-    (word_asked known.text ≡ Some plan.word) × (least ≤ plan.revision) × (front ≤ plan.revision) × (plan.revision ≤ len)
+abbrev pub OnRequest : List Entry → ℕ → Known → ℕ → ℕ → Request → Type 0
+OnRequest exit least known front len no_request = Unit {0}
+OnRequest exit least known front len (opened text) = known.text ≡ text
+OnRequest exit least known front len (planned plan) =
+    (asked_of (config_then plan.revision exit) known.text ≡ Ok plan.search) × (least ≤ plan.revision) × (front ≤ plan.revision) × (plan.revision ≤ len)
 
-pub record Agrees (least len : ℕ) (name : List ℕ) (known : Known) (client : Client) : Type 0 where
+pub record Agrees (exit : List Entry) (least len : ℕ) (name : List ℕ) (known : Known) (client : Client) : Type 0 where
   pub known_name : known.name ≡ name
   pub client_name : client.name ≡ name
   pub front : known.front ≡ client.front
   pub bound : client.front ≤ len
-  pub request : OnRequest least known client.front len client.request
+  pub request : OnRequest exit least known client.front len client.request
 
-abbrev pub AllAgree : ℕ → ℕ → (List ℕ → Known) → (List ℕ → Client) → Type 0
-AllAgree least len known client = (name : List ℕ) → Agrees least len name (known name) (client name)
+abbrev pub AllAgree : List Entry → ℕ → ℕ → (List ℕ → Known) → (List ℕ → Client) → Type 0
+AllAgree exit least len known client = (name : List ℕ) → Agrees exit least len name (known name) (client name)
 
-on-more : (least : ℕ) (known : Known) (front len more : ℕ) (request : Request) → len ≤ more → OnRequest least known front len request → OnRequest least known front more request
-on-more least known front len more no_request h r = tt
-on-more least known front len more (opened text) h r = r
-on-more least known front len more (planned plan) h r = (r.0, r.1, r.2, omega (arith, h, r.3))
+on-more : (exit : List Entry) (least : ℕ) (known : Known) (front len more : ℕ) (request : Request) → len ≤ more → OnRequest exit least known front len request → OnRequest exit least known front more request
+on-more exit least known front len more no_request h r = tt
+on-more exit least known front len more (opened text) h r = r
+on-more exit least known front len more (planned plan) h r = (r.0, r.1, r.2, omega (arith, h, r.3))
 
-agrees-more : (least len more : ℕ) (name : List ℕ) (known : Known) (client : Client) → len ≤ more → Agrees least len name known client → Agrees least more name known client
-agrees-more least len more name known client h a =
+agrees-more : (exit : List Entry) (least len more : ℕ) (name : List ℕ) (known : Known) (client : Client) → len ≤ more → Agrees exit least len name known client → Agrees exit least more name known client
+agrees-more exit least len more name known client h a =
     record {
       known_name = a.known_name;
       client_name = a.client_name;
       front = a.front;
       bound = omega (arith, h, a.bound);
-      request = on-more least known client.front len more client.request h a.request;
+      request = on-more exit least known client.front len more client.request h a.request;
     }
 
-all-more : (least len more : ℕ) (known : List ℕ → Known) (client : List ℕ → Client) → len ≤ more → AllAgree least len known client → AllAgree least more known client
-all-more least len more known client h all name = agrees-more least len more name (known name) (client name) h (all name)
+all-more : (exit : List Entry) (least len more : ℕ) (known : List ℕ → Known) (client : List ℕ → Client) → len ≤ more → AllAgree exit least len known client → AllAgree exit least more known client
+all-more exit least len more known client h all name = agrees-more exit least len more name (known name) (client name) h (all name)
 
 -- the request was dropped
-agrees-dropped : (least len : ℕ) (name : List ℕ) (known : Known) (client : Client) → Agrees least len name known client → Agrees least len name known (without_request client)
-agrees-dropped least len name known client a =
+agrees-dropped : (exit : List Entry) (least len : ℕ) (name : List ℕ) (known : Known) (client : Client) → Agrees exit least len name known client → Agrees exit least len name known (without_request client)
+agrees-dropped exit least len name known client a =
     record { known_name = a.known_name; client_name = a.client_name; front = a.front; bound = a.bound; request = tt }
 
 -- one client changed, and what is known of it
-all-updated : (least len : ℕ) (name : List ℕ) (k : Known) (c : Client) (known known' : List ℕ → Known) (client client' : List ℕ → Client) →
+all-updated : (exit : List Entry) (least len : ℕ) (name : List ℕ) (k : Known) (c : Client) (known known' : List ℕ → Known) (client client' : List ℕ → Client) →
     ((q : List ℕ) → known' q ≡ (if bytes_eq name q then k else known q)) → ((q : List ℕ) → client' q ≡ (if bytes_eq name q then c else client q)) →
-    AllAgree least len known client → Agrees least len name k c → AllAgree least len known' client'
-all-updated least len name k c known known' client client' ek ec all one q = by (bytes_eq name q) refl
+    AllAgree exit least len known client → Agrees exit least len name k c → AllAgree exit least len known' client'
+all-updated exit least len name k c known known' client client' ek ec all one q = by (bytes_eq name q) refl
   where
-    by : (b : Bool) → bytes_eq name q ≡ b → Agrees least len q (known' q) (client' q)
-    by true e = rw (ek q, ec q, e) (subst (λ n. Agrees least len n k c) (same-true name q e) one)
+    by : (b : Bool) → bytes_eq name q ≡ b → Agrees exit least len q (known' q) (client' q)
+    by true e = rw (ek q, ec q, e) (subst (λ n. Agrees exit least len n k c) (same-true name q e) one)
     by false e = rw (ek q, ec q, e) (all q)
 
 -- the client that was kept is found under its name
@@ -117,7 +126,7 @@ prefix_on a b c g h = (g.0 ++ h.0, h.1 ∙ ap (λ l. l ++ h.0) g.1 ∙ append_as
 
 -- what a client's step says is answered, and what it leaves agrees with what is known behind its outcome
 record Went (exit : List Entry) (log : Log) (least : ℕ) (knowns : List Known) (name : List ℕ) (s : SearchStep) (client : Client) (core : Core) : Type 0 where
-  agrees : Agrees least (length core.history) name (known_of name (after_outcome knowns (StepClient name) (client_said name s))) client
+  agrees : Agrees exit least (length core.history) name (known_of name (after_outcome knowns (StepClient name) (client_said name s))) client
   answers : AnswersOne exit log least knowns (StepClient name) (client_said name s)
 
 -- the first known is found under its name
@@ -136,34 +145,34 @@ module _ (exit : List Entry) (log : Log) (least : ℕ) (knowns : List Known) (na
   unsaid_went client core s e = absurd (none_is_some s None refl e)
 
   -- a reply at this revision: the front is that revision, and no request is left
-  reply_went : (revision : ℕ) (said : Said) (client : Client) (core : Core) → Agrees least (length core.history) name (known_of name knowns) client →
+  reply_went : (revision : ℕ) (said : Said) (client : Client) (core : Core) → Agrees exit least (length core.history) name (known_of name knowns) client →
       revision ≤ length core.history →
       AnswersOne exit log least knowns (StepClient name) (client_said name (Replied (record { client = client.name; revision = revision; said = said }))) →
       StepWent (reply_with revision said client core)
   reply_went revision said client core a h answered =
       said_went (Replied (record { client = client.name; revision = revision; said = said })) (record client { front = revision; request = no_request }) core
       (record {
-        agrees = subst (λ k. Agrees least (length core.history) name k (record client { front = revision; request = no_request }))
+        agrees = subst (λ k. Agrees exit least (length core.history) name k (record client { front = revision; request = no_request }))
             (sym (known_first name (record (known_of name knowns) { front = revision }) knowns a.known_name))
             (record { known_name = a.known_name; client_name = a.client_name; front = refl; bound = h; request = tt });
         answers = answered;
       })
 
-  trouble_went : (revision : ℕ) (t : Trouble) (client : Client) (core : Core) → Agrees least (length core.history) name (known_of name knowns) client →
+  trouble_went : (revision : ℕ) (t : Trouble) (client : Client) (core : Core) → Agrees exit least (length core.history) name (known_of name knowns) client →
       revision ≤ length core.history → StepWent (trouble_replied revision t client core)
-  trouble_went revision (faulted fault) client core a h = reply_went revision (Refusal (Faulted fault)) client core a h tt
+  trouble_went revision (faulted fault) client core a h = reply_went revision (Refused (fault_refusal fault)) client core a h tt
   trouble_went revision no_memory client core a h = unsaid_went (without_request client) core
 
-  refusal_went : (revision : ℕ) (t : Trouble) (client : Client) (core : Core) → Agrees least (length core.history) name (known_of name knowns) client →
-      revision ≤ length core.history → StepWent (refusal_by revision t client core)
-  refusal_went revision (faulted fault) client core a h = reply_went revision (Refusal NotBuilt) client core a h tt
-  refusal_went revision no_memory client core a h = unsaid_went (without_request client) core
+  refused_went : (revision : ℕ) (refusal : Refusal) (t : Trouble) (client : Client) (core : Core) → Agrees exit least (length core.history) name (known_of name knowns) client →
+      revision ≤ length core.history → StepWent (refused_over revision refusal t client core)
+  refused_went revision refusal (faulted fault) client core a h = reply_went revision (Refused refusal) client core a h tt
+  refused_went revision refusal no_memory client core a h = unsaid_went (without_request client) core
 
-  plan_went : (r : Result ⊤ Trouble) (asked : Option (List ℕ)) (text : List ℕ) (client : Client) (core : Core) →
-      Agrees least (length core.history) name (known_of name knowns) client → (known_of name knowns).text ≡ text → word_asked text ≡ asked →
-      least ≤ length core.history → StepWent (plan_by r asked client core)
-  plan_went (Ok done) (Some word) text client core a t w l =
-      let step = plan_by (Ok done) (Some word) client core in
+  plan_went : (r : Result ⊤ Trouble) (asked : Result Search Unanswered) (text : List ℕ) (client : Client) (core : Core) →
+      Agrees exit least (length core.history) name (known_of name knowns) client → (known_of name knowns).text ≡ text →
+      asked_of (config_then (length core.history) exit) text ≡ asked → least ≤ length core.history → StepWent (plan_by r asked client core)
+  plan_went (Ok done) (Ok search) text client core a t w l =
+      let step = plan_by (Ok done) (Ok search) client core in
       said_went (Planned _ _) step.client core
       (record {
         agrees = record {
@@ -171,17 +180,19 @@ module _ (exit : List Entry) (log : Log) (least : ℕ) (knowns : List Known) (na
           client_name = a.client_name;
           front = a.front;
           bound = a.bound;
-          request = (ap word_asked t ∙ w, l, a.bound, omega arith);
+          request = (ap (asked_of (config_then (length core.history) exit)) t ∙ w, l, a.bound, omega arith);
         };
         answers = tt;
       })
-  plan_went (Ok done) None text client core a t w l = reply_went (length core.history) (Refusal NotBuilt) client core a (omega arith) tt
-  plan_went (Err trouble) (Some word) text client core a t w l = trouble_went client.front trouble client core a a.bound
-  plan_went (Err trouble) None text client core a t w l = refusal_went client.front trouble client core a a.bound
+  plan_went (Ok done) (Err (reasons.Refused refusal)) text client core a t w l = reply_went (length core.history) (Refused refusal) client core a (omega arith) tt
+  plan_went (Ok done) (Err (reasons.Memory e)) text client core a t w l = unsaid_went (without_request client) core
+  plan_went (Err trouble) (Ok search) text client core a t w l = trouble_went client.front trouble client core a a.bound
+  plan_went (Err trouble) (Err (reasons.Refused refusal)) text client core a t w l = refused_went client.front refusal trouble client core a a.bound
+  plan_went (Err trouble) (Err (reasons.Memory e)) text client core a t w l = unsaid_went (without_request client) core
 
   fetch_went : (r : Result ⊤ Trouble) (plan : Plan) (number : ℕ) (more : List ℕ) (client : Client) (core : Core) →
-      Agrees least (length core.history) name (known_of name knowns) client →
-      OnRequest least (known_of name knowns) client.front (length core.history) (planned plan) → StepWent (fetch_by r plan number more client core)
+      Agrees exit least (length core.history) name (known_of name knowns) client →
+      OnRequest exit least (known_of name knowns) client.front (length core.history) (planned plan) → StepWent (fetch_by r plan number more client core)
   fetch_went (Ok done) plan number more client core a p =
       let step = fetch_by (Ok done) plan number more client core in
       said_went (Fetched number) step.client core
@@ -191,18 +202,23 @@ module _ (exit : List Entry) (log : Log) (least : ℕ) (knowns : List Known) (na
       })
   fetch_went (Err trouble) plan number more client core a p = trouble_went plan.revision trouble client core a p.3
 
+  if_found : (said : Said) (fact : Type 0) → fact → IfFound said fact
+  if_found (Found count hits aggregations) fact f = f
+  if_found (Deleted opstamp) fact f = f
+  if_found (Refused refusal) fact f = tt
+
   -- the answer over the planned revision, seen from any later history
-  answered : (plan : Plan) (client : Client) (core : Core) → Agrees least (length core.history) name (known_of name knowns) client →
-      OnRequest least (known_of name knowns) client.front (length core.history) (planned plan) → IsPrefixOf core.history exit →
+  answered : (plan : Plan) (client : Client) (core : Core) → Agrees exit least (length core.history) name (known_of name knowns) client →
+      OnRequest exit least (known_of name knowns) client.front (length core.history) (planned plan) → IsPrefixOf core.history exit →
       AnswersOne exit log least knowns (StepClient name) (client_said name (Replied (record { client = client.name; revision = plan.revision; said = answer_of plan log core })))
-  answered plan client core a r p = (
+  answered plan client core a r p = if_found (answer_of plan log core) _ (
     name,
     refl,
     record {
       client = a.client_name ∙ sym a.known_name;
-      word = plan.word;
+      search = plan.search;
       asked = r.0;
-      answer = ap (λ es. answer plan.word (visible (ledger reads (history es)) log))
+      answer = ap (λ es. answer (config_or (configuration es)).schema plan.search (visible (config_or (configuration es)) (ledger reads (history es)) log))
           (sym (take-append-le plan.revision core.history p.0 r.3) ∙ ap (take plan.revision) (sym p.1));
       front = subst (λ f. f ≤ plan.revision) (sym a.front) r.2;
       entry = r.1;
@@ -211,37 +227,53 @@ module _ (exit : List Entry) (log : Log) (least : ℕ) (knowns : List Known) (na
   )
 
   next_went : (unfetched : List ℕ) (luck : Luck) (plan : Plan) (client : Client) (core : Core) →
-      Agrees least (length core.history) name (known_of name knowns) client →
-      OnRequest least (known_of name knowns) client.front (length core.history) (planned plan) → IsPrefixOf core.history exit →
+      Agrees exit least (length core.history) name (known_of name knowns) client →
+      OnRequest exit least (known_of name knowns) client.front (length core.history) (planned plan) → IsPrefixOf core.history exit →
       StepWent (next_step luck log plan unfetched client core)
   next_went [] luck plan client core a r p = reply_went plan.revision (answer_of plan log core) client core a r.3 (answered plan client core a r p)
   next_went (number ∷ more) luck plan client core a r p =
-      let given = fetched luck.world core in
-      let h : length core.history ≤ length given.core.history = longer core given.core (fetched_moves luck.world core).later.grows in
+      let given = fetched_each luck.world luck.more core in
+      let h : length core.history ≤ length given.core.history = longer core given.core (each_moves luck.more luck.world core).later.grows in
       fetch_went given.answer plan number more client given.core
-      (agrees-more least (length core.history) (length given.core.history) name (known_of name knowns) client h a)
+      (agrees-more exit least (length core.history) (length given.core.history) name (known_of name knowns) client h a)
       (r.0, r.1, r.2, omega (arith, r.3, h))
 
+  -- the configuration that a plan sees is the one of its revision
+  seen_then : (core : Core) → IsPrefixOf core.history exit → config_then (length core.history) exit ≡ config_in core
+  seen_then core p =
+      ap (λ es. config_or (configuration es))
+      (ap (take (length core.history)) p.1 ∙ take-append-le (length core.history) core.history p.0 (omega arith) ∙ take_all (length core.history) core.history (omega arith))
+
   request_went : (request : Request) (luck : Luck) (client : Client) (core : Core) →
-      Agrees least (length core.history) name (known_of name knowns) client → OnRequest least (known_of name knowns) client.front (length core.history) request →
-      least ≤ length core.history → IsPrefixOf core.history exit → StepWent (step_request request luck log client core)
-  request_went no_request luck client core a r l p = said_went Idle client core (record { agrees = a; answers = tt })
-  request_went (opened text) luck client core a r l p =
+      Agrees exit least (length core.history) name (known_of name knowns) client → OnRequest exit least (known_of name knowns) client.front (length core.history) request →
+      least ≤ length core.history → IsPrefixOf core.history exit → IsPrefixOf (step_request request luck log client core).core.history exit →
+      StepWent (step_request request luck log client core)
+  request_went no_request luck client core a r l p q = said_went Idle client core (record { agrees = a; answers = tt })
+  request_went (opened text) luck client core a r l p q =
       let given = asked_and_looked luck.world core in
+      let asked = asked_of (config_in given.core) text in
       let h : length core.history ≤ length given.core.history = longer core given.core (asked_and_looked_moves luck.world core).later.grows in
-      plan_went given.answer (word_asked text) text client given.core
-      (agrees-more least (length core.history) (length given.core.history) name (known_of name knowns) client h a) r refl (omega (arith, l, h))
-  request_went (planned plan) luck client core a r l p = next_went plan.unfetched luck plan client core a r p
+      let behind : IsPrefixOf given.core.history exit = subst (λ c. IsPrefixOf c.history exit) (plan_same given.answer asked client given.core) q in
+      plan_went given.answer asked text client given.core
+      (agrees-more exit least (length core.history) (length given.core.history) name (known_of name knowns) client h a) r
+      (ap (λ config. asked_of config text) (seen_then given.core behind)) (omega (arith, l, h))
+  request_went (planned plan) luck client core a r l p q = next_went plan.unfetched luck plan client core a r p
 
   short_went : (b : Bool) (client : Client) (step : Searched) → StepWent step → StepWent (or_short b client step)
   short_went true client step w = unsaid_went (without_request client) step.core
   short_went false client step w = w
 
+  short_core : (b : Bool) (client : Client) (step : Searched) → (or_short b client step).core ≡ step.core
+  short_core true client step = refl
+  short_core false client step = refl
+
   step_went : (luck : Luck) (client : Client) (core : Core) →
-      Agrees least (length core.history) name (known_of name knowns) client → least ≤ length core.history → IsPrefixOf core.history exit →
-      StepWent (step_client luck log client core)
-  step_went luck client core a l p =
-      short_went luck.short client (step_request client.request luck log client core) (request_went client.request luck client core a a.request l p)
+      Agrees exit least (length core.history) name (known_of name knowns) client → least ≤ length core.history → IsPrefixOf core.history exit →
+      IsPrefixOf (step_client luck log client core).core.history exit → StepWent (step_client luck log client core)
+  step_went luck client core a l p q =
+      let step = step_request client.request luck log client core in
+      short_went luck.short client step
+      (request_went client.request luck client core a a.request l p (subst (λ c. IsPrefixOf c.history exit) (short_core luck.short client step) q))
 
 -- ---- one line
 
@@ -249,14 +281,14 @@ module _ (exit : List Entry) (log : Log) (least : ℕ) (knowns : List Known) (na
 record Goes (exit : List Entry) (least : ℕ) (knowns : List Known) (node : Node) (line : Line) (o : Outcome) (new : Node) : Type 0 where
   log : new.log ≡ node.log
   grows : Grows node.core new.core
-  agrees : AllAgree least (length new.core.history) (λ q. known_of q (after_outcome knowns line o)) (λ q. client_named q new.clients)
+  agrees : AllAgree exit least (length new.core.history) (λ q. known_of q (after_outcome knowns line o)) (λ q. client_named q new.clients)
   answers : AnswersOne exit node.log least knowns line o
 
 abbrev TurnGoes : List Entry → ℕ → List Known → Node → Line → Turned → Type 0
 TurnGoes exit least knowns node line t = (o : Outcome) → t.said ≡ Some o → Goes exit least knowns node line o t.node
 
-abbrev pub Agreed : ℕ → List Known → Node → Type 0
-Agreed least knowns node = AllAgree least (length node.core.history) (λ q. known_of q knowns) (λ q. client_named q node.clients)
+abbrev pub Agreed : List Entry → ℕ → List Known → Node → Type 0
+Agreed exit least knowns node = AllAgree exit least (length node.core.history) (λ q. known_of q knowns) (λ q. client_named q node.clients)
 
 said_goes : (exit : List Entry) (least : ℕ) (knowns : List Known) (node : Node) (line : Line) (o : Outcome) (new : Node) → Goes exit least knowns node line o new →
     TurnGoes exit least knowns node line (record { said = Some o; node = new })
@@ -280,7 +312,7 @@ known_set name k knowns q e =
     ∙ ap (λ x. if bytes_eq name q then x else known_of q knowns) (sym (known_first name k knowns e))
 
 -- a step of a client, and the client kept
-module _ (exit : List Entry) (least : ℕ) (knowns : List Known) (node : Node) (name : List ℕ) (all : Agreed least knowns node) where
+module _ (exit : List Entry) (least : ℕ) (knowns : List Known) (node : Node) (name : List ℕ) (all : Agreed exit least knowns node) where
   known_stays : (s : SearchStep) (q : List ℕ) →
       known_of q (after_outcome knowns (StepClient name) (client_said name s))
       ≡ (if bytes_eq name q then known_of name (after_outcome knowns (StepClient name) (client_said name s)) else known_of q knowns)
@@ -300,11 +332,11 @@ module _ (exit : List Entry) (least : ℕ) (knowns : List Known) (node : Node) (
       record {
         log = refl;
         grows = g;
-        agrees = all-updated least (length core.history) name (known_of name (after_outcome knowns (StepClient name) (client_said name s))) client
+        agrees = all-updated exit least (length core.history) name (known_of name (after_outcome knowns (StepClient name) (client_said name s))) client
             (λ q. known_of q knowns) (λ q. known_of q (after_outcome knowns (StepClient name) (client_said name s)))
             (λ q. client_named q node.clients) (λ q. client_named q (with_client client node.clients))
             (known_stays s) (kept_client client w.agrees.client_name)
-            (all-more least (length node.core.history) (length core.history) (λ q. known_of q knowns) (λ q. client_named q node.clients) (longer node.core core g) all)
+            (all-more exit least (length node.core.history) (length core.history) (λ q. known_of q knowns) (λ q. client_named q node.clients) (longer node.core core g) all)
             w.agrees;
         answers = w.answers;
       }
@@ -318,10 +350,10 @@ module _ (exit : List Entry) (least : ℕ) (knowns : List Known) (node : Node) (
       (stepped_goes s client core g (w s refl))
 
   -- a client was kept that agrees with what is known already, and nothing is said of it
-  kept_agrees : (client : Client) → Agrees least (length node.core.history) name (known_of name knowns) client →
-      AllAgree least (length node.core.history) (λ q. known_of q knowns) (λ q. client_named q (with_client client node.clients))
+  kept_agrees : (client : Client) → Agrees exit least (length node.core.history) name (known_of name knowns) client →
+      AllAgree exit least (length node.core.history) (λ q. known_of q knowns) (λ q. client_named q (with_client client node.clients))
   kept_agrees client a =
-      all-updated least (length node.core.history) name (known_of name knowns) client
+      all-updated exit least (length node.core.history) name (known_of name knowns) client
       (λ q. known_of q knowns) (λ q. known_of q knowns) (λ q. client_named q node.clients) (λ q. client_named q (with_client client node.clients))
       (known_same name knowns) (kept_client client a.client_name) all a
 
@@ -336,7 +368,7 @@ module _ (exit : List Entry) (least : ℕ) (knowns : List Known) (node : Node) (
       let step = step_client (searching_luck luck) node.log client node.core in
       let g = (client_moves (searching_luck luck) node.log client node.core).later.grows in
       stepped_by step.outcome step.client step.core g
-      (step_went exit node.log least knowns name (searching_luck luck) client node.core (all name) l (prefix_on node.core.history step.core.history exit g p))
+      (step_went exit node.log least knowns name (searching_luck luck) client node.core (all name) l (prefix_on node.core.history step.core.history exit g p) p)
 
   -- the request was dropped
   restarted_goes : (o : Outcome) → after_outcome knowns (RestartClient name) o ≡ knowns → AnswersOne exit node.log least knowns (RestartClient name) o →
@@ -346,9 +378,9 @@ module _ (exit : List Entry) (least : ℕ) (knowns : List Known) (node : Node) (
       (record {
         log = refl;
         grows = same_grows node.core node.core refl;
-        agrees = subst (λ ks. AllAgree least (length node.core.history) (λ q. known_of q ks) (λ q. client_named q (with_client (without_request (client_named name node.clients)) node.clients)))
+        agrees = subst (λ ks. AllAgree exit least (length node.core.history) (λ q. known_of q ks) (λ q. client_named q (with_client (without_request (client_named name node.clients)) node.clients)))
             (sym e) (kept_agrees (without_request (client_named name node.clients))
-            (agrees-dropped least (length node.core.history) name (known_of name knowns) (client_named name node.clients) (all name)));
+            (agrees-dropped exit least (length node.core.history) name (known_of name knowns) (client_named name node.clients) (all name)));
         answers = answered;
       })
 
@@ -362,10 +394,10 @@ module _ (exit : List Entry) (least : ℕ) (knowns : List Known) (node : Node) (
       (record {
         log = refl;
         grows = same_grows node.core node.core refl;
-        agrees = all-updated least (length node.core.history) name (known_of name (k ∷ knowns)) c
+        agrees = all-updated exit least (length node.core.history) name (known_of name (k ∷ knowns)) c
             (λ q. known_of q knowns) (λ q. known_of q (k ∷ knowns)) (λ q. client_named q node.clients) (λ q. client_named q (with_client c node.clients))
             (λ q. known_set name k knowns q a.known_name) (kept_client c a.client_name) all
-            (subst (λ x. Agrees least (length node.core.history) name x c) (sym (known_first name k knowns a.known_name))
+            (subst (λ x. Agrees exit least (length node.core.history) name x c) (sym (known_first name k knowns a.known_name))
             (record { known_name = a.known_name; client_name = a.client_name; front = a.front; bound = a.bound; request = refl }));
         answers = tt;
       })
@@ -386,7 +418,7 @@ client_named-without q (c ∷ clients) = by (bytes_eq c.name q) refl (client_nam
     by true e ih = rw e
     by false e ih = rw e ih
 
-module _ (exit : List Entry) (least : ℕ) (knowns : List Known) (node : Node) (all : Agreed least knowns node) where
+module _ (exit : List Entry) (least : ℕ) (knowns : List Known) (node : Node) (all : Agreed exit least knowns node) where
   -- a line that no client hears of: the clients are as they were, and the history may be longer
   other_goes : (line : Line) (o : Outcome) (new : Node) → new.log ≡ node.log → Grows node.core new.core → new.clients ≡ node.clients →
       after_outcome knowns line o ≡ knowns → AnswersOne exit node.log least knowns line o →
@@ -396,18 +428,18 @@ module _ (exit : List Entry) (least : ℕ) (knowns : List Known) (node : Node) (
       (record {
         log = log;
         grows = g;
-        agrees = λ q. subst (λ k. Agrees least (length new.core.history) q k (client_named q new.clients)) (ap (known_of q) (sym e))
-            (subst (λ cs. Agrees least (length new.core.history) q (known_of q knowns) (client_named q cs)) (sym same)
-            (agrees-more least (length node.core.history) (length new.core.history) q (known_of q knowns) (client_named q node.clients) (longer node.core new.core g) (all q)));
+        agrees = λ q. subst (λ k. Agrees exit least (length new.core.history) q k (client_named q new.clients)) (ap (known_of q) (sym e))
+            (subst (λ cs. Agrees exit least (length new.core.history) q (known_of q knowns) (client_named q cs)) (sym same)
+            (agrees-more exit least (length node.core.history) (length new.core.history) q (known_of q knowns) (client_named q node.clients) (longer node.core new.core g) (all q)));
         answers = answered;
       })
 
   dropped_agree : (core : Core) → Grows node.core core →
-      AllAgree least (length core.history) (λ q. known_of q knowns) (λ q. client_named q (map without_request node.clients))
+      AllAgree exit least (length core.history) (λ q. known_of q knowns) (λ q. client_named q (map without_request node.clients))
   dropped_agree core g q =
-      subst (λ c. Agrees least (length core.history) q (known_of q knowns) c) (sym (client_named-without q node.clients))
-      (agrees-dropped least (length core.history) q (known_of q knowns) (client_named q node.clients)
-      (agrees-more least (length node.core.history) (length core.history) q (known_of q knowns) (client_named q node.clients) (longer node.core core g) (all q)))
+      subst (λ c. Agrees exit least (length core.history) q (known_of q knowns) c) (sym (client_named-without q node.clients))
+      (agrees-dropped exit least (length core.history) q (known_of q knowns) (client_named q node.clients)
+      (agrees-more exit least (length node.core.history) (length core.history) q (known_of q knowns) (client_named q node.clients) (longer node.core core g) (all q)))
 
   restart_goes : (r : Result ⊤ Unread) (core : Core) → Grows node.core core → TurnGoes exit least knowns node RestartNode (restart_by r core node)
   restart_goes (Ok done) core g =
@@ -467,9 +499,9 @@ module _ (exit : List Entry) (least : ℕ) (knowns : List Known) (node : Node) (
 
 -- one line, and what is known behind it
 one_more : (exit : List Entry) (least : ℕ) (knowns : List Known) (node last : Node) (line : Line) (lines : List Line) (o : Outcome) (os : List Outcome) →
-    Agreed least knowns node → least ≤ length node.core.history → IsPrefixOf last.core.history exit →
+    Agreed exit least knowns node → least ≤ length node.core.history → IsPrefixOf last.core.history exit →
     (run : (mid : Node) × Turn node line (Some o) mid × Turns mid lines os last) →
-    (Agreed least (after_outcome knowns line o) run.0 → least ≤ length run.0.core.history → AnswersFrom exit run.0.log least (after_outcome knowns line o) lines os) →
+    (Agreed exit least (after_outcome knowns line o) run.0 → least ≤ length run.0.core.history → AnswersFrom exit run.0.log least (after_outcome knowns line o) lines os) →
     AnswersOne exit node.log least knowns line o × AnswersFrom exit node.log least (after_outcome knowns line o) lines os
 one_more exit least knowns node last line lines o os all l p run more = (goes.answers, rest)
   where
@@ -495,7 +527,7 @@ one_more exit least knowns node last line lines o os all l p run more = (goes.an
         (more goes.agrees (let h = longer node.core mid.core goes.grows in omega (arith, l, h)))
 
 pub searches_answered : (exit : List Entry) (least : ℕ) (knowns : List Known) (node last : Node) (lines : List Line) (outcomes : List Outcome) →
-    Agreed least knowns node → least ≤ length node.core.history → IsPrefixOf last.core.history exit →
+    Agreed exit least knowns node → least ≤ length node.core.history → IsPrefixOf last.core.history exit →
     Turns node lines outcomes last → AnswersFrom exit node.log least knowns lines outcomes
 searches_answered exit least knowns node last [] [] all l p run = tt
 searches_answered exit least knowns node last [] (o ∷ os) all l p run = absurd run
@@ -505,9 +537,9 @@ searches_answered exit least knowns node last (line ∷ lines) (o ∷ os) all l 
     (λ agreed within. searches_answered exit least (after_outcome knowns line o) run.0 last lines os agreed within p run.2)
 
 -- a node that no client has talked to
-none_known : (least : ℕ) (node : Node) → node.clients ≡ [] → Agreed least [] node
-none_known least node e name =
-    subst (λ cs. Agrees least (length node.core.history) name (known_of name []) (client_named name cs)) (sym e)
+none_known : (exit : List Entry) (least : ℕ) (node : Node) → node.clients ≡ [] → Agreed exit least [] node
+none_known exit least node e name =
+    subst (λ cs. Agrees exit least (length node.core.history) name (known_of name []) (client_named name cs)) (sym e)
     (record { known_name = refl; client_name = refl; front = refl; bound = omega arith; request = tt })
 
 -- from what a call opened on, the searches are answered
@@ -515,6 +547,6 @@ pub searches_follow : (entry exit : List Entry) (first last : Node) (lines : Lis
     first.clients ≡ [] → IsPrefixOf entry first.core.history → IsPrefixOf last.core.history exit →
     Turns first lines outcomes last → AnswersFrom exit first.log (length entry) [] lines outcomes
 searches_follow entry exit first last lines outcomes fresh begins p run =
-    searches_answered exit (length entry) [] first last lines outcomes (none_known (length entry) first fresh)
+    searches_answered exit (length entry) [] first last lines outcomes (none_known exit (length entry) first fresh)
     (let e : length first.core.history ≡ length entry + length begins.0 = ap length begins.1 ∙ length-append entry begins.0 in omega (arith, e))
     p run

@@ -15,12 +15,13 @@ use Rattle.index_world.specs.Calls.{Trouble, faulted, no_memory, Unmade, refused
 use Rattle.index_world.specs.Calls as calls
 use Rattle.index_world.specs.Core.{Core, last_count}
 use Rattle.index_world.specs.Gate.{stage_call, publish_call}
-use Rattle.index_world.specs.SplitFile.{split_file}
+use Rattle.index_world.specs.SplitFile.{file_of}
 use Rattle.indexing_run.specs.Outcomes.{IndexerOutcome}
 use Rattle.indexing_run.specs.Places.{Batch, Held, Place, idle, reading, staged, uploaded, Indexer}
 use Rattle.indexing_run.specs.Steps.{LogCall, Stepped, stepped, log_may_fail, log_called, trouble_outcome, take_checkpoints, checkpoints_by, idle_by, read_by, read_given, step_read, stage_by, step_stage, batch_facts, upload_by, step_upload, publish_refused, publish_by, step_publish, step_batch, step_place, step_indexer}
 use Rattle.indexing_run.specs.Steps as indexing
-use Rattle.root_search.specs.Steps.{Request, no_request, opened, planned, Client, SearchStep}
+use Rattle.root_search.specs.Steps.{Request, no_request, opened, planned, Client}
+use Rattle.root_search.specs.declared.outcome.SearchStep.{SearchStep}
 use Rattle.node_run.specs.Calm.{log_counts}
 use Rattle.node_run.specs.Node.{Node, Line, At, Assign, StepIndexer, RestartIndexer, RestartClient, RestartNode, Open, StepClient, Outcome}
 use Rattle.node_run.specs.Turns.{Luck, Turned, made_idle, indexer_at, indexing_luck, said_by_indexer, said_by_client, assign_at, indexer_turn_by, client_turn_by, client_named, open_by, restart_by, full_turn, quiet, or_quiet, turn_by, Turn, Turns}
@@ -155,7 +156,7 @@ module _ (luck : indexing.Luck) (log : Log) (indexer : Indexer) (bound : indexer
   place_tells idle core = unless_tells luck.log.short core
   place_tells (reading batch) core = batch_tells batch core
   place_tells (staged held) core =
-      let given = calls.upload_made luck.world held.number (split_file held.documents) core in upload_tells luck log count given.answer held indexer given.core here
+      let given = calls.upload_made luck.world held.number (file_of held.config held.documents) core in upload_tells luck log count given.answer held indexer given.core here
   place_tells (uploaded held) core =
       let given = publish_call held.number luck.world core in publish_tells luck log count given.answer held indexer given.core here
 

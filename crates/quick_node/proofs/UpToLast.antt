@@ -70,7 +70,9 @@ run_status (ended.BadLine number) end is = sym (ap status_of is)
 run_status ended.ClientsOver end is = sym (ap status_of is)
 run_status ended.LineOver end is = sym (ap status_of is)
 run_status ended.InputOver end is = sym (ap status_of is)
+run_status ended.ConfigOver end is = absurd is
 run_status (ended.NotOpened error) end is = absurd is
+run_status (ended.NotMade error) end is = absurd is
 run_status ended.ReadFault end is = sym (ap status_of is)
 run_status ended.WriteFault end is = sym (ap status_of is)
 run_status ended.Memory end is = sym (ap status_of is)
@@ -83,7 +85,9 @@ run_line (ended.BadLine number) end is = sym (ap error_of is)
 run_line ended.ClientsOver end is = sym (ap error_of is)
 run_line ended.LineOver end is = sym (ap error_of is)
 run_line ended.InputOver end is = sym (ap error_of is)
+run_line ended.ConfigOver end is = absurd is
 run_line (ended.NotOpened error) end is = absurd is
+run_line (ended.NotMade error) end is = absurd is
 run_line ended.ReadFault end is = sym (ap error_of is)
 run_line ended.WriteFault end is = sym (ap error_of is)
 run_line ended.Memory end is = sym (ap error_of is)
@@ -273,3 +277,5 @@ module _ (before : Before) (fresh last : Node) (moment : fresh.core.moment ≡ m
     front = inl refl;
     short = unopened_short why opens;
   }
+  met_unopened errors.IndexExists why is opens = absurd is
+  met_unopened (errors.BadConfig bad) why is opens = absurd is

@@ -3,7 +3,7 @@ use Rattle.std.specs.Prelude.{◌≡◌, ◌⊎◌, ℕ, ◌==◌, ◌||◌, Boo
 use Rattle.index_world.specs.Saying.{words, error_words}
 use Rattle.index_world.specs.declared.world_error.WorldError.{WorldError}
 use Rattle.index_world.specs.declared.world_error.WorldError.TheVariants as errors
-use Rattle.quick_node.specs.Reading.{max_clients, max_line, max_input}
+use Rattle.quick_node.specs.Reading.{max_clients, max_line, max_input, max_config}
 use Rattle.quick_node.specs.Serve.{WroteLine}
 use Rattle.quick_node.specs.declared.error_line.End.{End}
 use Rattle.quick_node.specs.declared.error_line.End.TheVariants as ends
@@ -18,6 +18,22 @@ opening_status (errors.Corrupt key) = 7
 opening_status (errors.Foreign key) = 7
 opening_status errors.Full = 7
 opening_status errors.NoIndex = 8
+opening_status errors.IndexExists = 7
+opening_status (errors.BadConfig bad) = 7
+
+-- why an index wasn't made: want of memory, a fault of the store, a journal with an entry, a text that is no configuration, or a
+-- store that is no index
+abbrev pub making_status : WorldError → ℕ
+making_status (errors.Memory e) = 11
+making_status (errors.Refused refusal) = 7
+making_status (errors.StoreFault before after) = 4
+making_status (errors.Missing key) = 7
+making_status (errors.Corrupt key) = 7
+making_status (errors.Foreign key) = 7
+making_status errors.Full = 7
+making_status errors.NoIndex = 7
+making_status errors.IndexExists = 9
+making_status (errors.BadConfig bad) = 2
 
 abbrev pub ended_status : End → ℕ
 ended_status ends.Done = 0
@@ -26,7 +42,9 @@ ended_status (ends.BadLine number) = 3
 ended_status ends.ClientsOver = 10
 ended_status ends.LineOver = 10
 ended_status ends.InputOver = 10
+ended_status ends.ConfigOver = 10
 ended_status (ends.NotOpened error) = opening_status error
+ended_status (ends.NotMade error) = making_status error
 ended_status ends.ReadFault = 5
 ended_status ends.WriteFault = 6
 ended_status ends.Memory = 11
@@ -41,7 +59,9 @@ cause_words (ends.BadLine number) = codes "badline" ∷ decimal number ∷ []
 cause_words ends.ClientsOver = limit_words (codes "clients") max_clients
 cause_words ends.LineOver = limit_words (codes "line") max_line
 cause_words ends.InputOver = limit_words (codes "input") max_input
+cause_words ends.ConfigOver = limit_words (codes "config") max_config
 cause_words (ends.NotOpened error) = error_words error
+cause_words (ends.NotMade error) = error_words error
 cause_words ends.ReadFault = codes "readfault" ∷ []
 cause_words ends.WriteFault = []
 cause_words ends.Memory = []

@@ -4,9 +4,12 @@ use Rattle.byte_fields.specs.Causes.{Rose}
 use Rattle.index_world.specs.Calls.{Fault, store_fault, is_foreign, is_full}
 use Rattle.indexing_run.specs.Outcomes.{IndexerOutcome}
 use Rattle.indexing_run.specs.Outcomes as indexing
-use Rattle.root_search.specs.Replies.{Said, Found, Refusal, NotBuilt}
-use Rattle.root_search.specs.Replies as replies
-use Rattle.root_search.specs.Steps.{SearchStep, Idle, Planned, Fetched, Replied}
+use Rattle.root_search.specs.declared.outcome.SearchStep.{SearchStep}
+use Rattle.root_search.specs.declared.outcome.SearchStep.TheVariants.{Idle, Planned, Fetched, Replied}
+use Rattle.search_api.specs.declared.reply.Refusal.{Refusal}
+use Rattle.search_api.specs.declared.reply.Refusal.TheVariants.{StoreFault}
+use Rattle.search_api.specs.declared.reply.Said.{Said}
+use Rattle.search_api.specs.declared.reply.Said.TheVariants.{Found, Deleted, Refused}
 use Rattle.node_run.specs.Node.{NodeFault, world_fault, no_index, Outcome, at_said, assigned, indexer_busy, indexer_said, indexer_down, indexer_restarted, client_restarted, node_restarted, node_failed, request_opened, request_busy, client_said, client_down}
 
 -- a count of faults before something failed and behind it
@@ -26,10 +29,14 @@ fault_told (store_fault before after) = record { low = before; high = after } �
 fault_told (is_foreign key) = []
 fault_told is_full = []
 
+abbrev pub refusal_told : Refusal → List Interval
+refusal_told (StoreFault before after) = record { low = before; high = after } ∷ []
+refusal_told refusal = []
+
 abbrev pub said_told : Said → List Interval
-said_told (Found count hits) = []
-said_told (Refusal NotBuilt) = []
-said_told (Refusal (replies.Faulted fault)) = fault_told fault
+said_told (Found count hits aggregations) = []
+said_told (Deleted opstamp) = []
+said_told (Refused refusal) = refusal_told refusal
 
 abbrev pub search_told : SearchStep → List Interval
 search_told Idle = []

@@ -8,3 +8,5 @@ pub mod Running
 pub mod Causes
 pub mod Faults
 pub mod CaughtUp
+pub mod Creating
+pub mod Reporting

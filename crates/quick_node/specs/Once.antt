@@ -11,20 +11,27 @@ use Rattle.meta_store.specs.Rows.{rows}
 use Rattle.object_store.specs.Store.{State}
 use Rattle.source_log.specs.Log.{Log}
 use Rattle.split_states.specs.declared.rows.Row.{Row}
+use Rattle.index_world.specs.Configuration.{configuration, config_or}
 use Rattle.index_world.specs.Seen.{visible_at}
-use Rattle.index_world.specs.SplitFile.{split_file}
-use Rattle.index_world.specs.declared.placed.Placed.{Placed}
-use Rattle.root_search.specs.Finding.{place_order}
+use Rattle.index_world.specs.SplitFile.{file_of, AreSplit}
+use Rattle.split_bundle.specs.declared.placed.Placed.{Placed}
+use Rattle.doc_tallies.specs.Orders.{place_cmp as place_order}
+use Rattle.index_config.specs.declared.config.IndexConfig.{IndexConfig}
 
 -- the rows that these entries leave published
 abbrev pub published : List Entry → List Row
 published entries = published_rows (rows (history entries))
 
+-- The file under a row's key is the split of these documents under the configuration.
+pub record IsHeldIn (kept : State) (config : IndexConfig) (documents : List Placed) (row : Row) : Type 0 where
+  pub file : get kept.objects (split_key row.number) ≡ Some (file_of config documents)
+  pub split : AreSplit config documents
+
 -- Each published row's file holds some documents. All of these together are the accepted records below the checkpoints
 -- that are not removed, no two of which have one place: each stands once, and nothing else does.
 pub record HoldsOnce (kept : State) (entries : List Entry) (log : Log) : Type 0 where
   pub held : Row → List Placed
-  pub files : AllByRecursion (λ row. get kept.objects (split_key row.number) ≡ Some (split_file (held row))) (published entries)
+  pub files : AllByRecursion (λ row. IsHeldIn kept (config_or (configuration entries)) (held row) row) (published entries)
   pub once : IsPermutation (flat_map held (published entries)) (visible_at (length entries) entries log)
   pub apart : IsStrictlySortedBy place_order (visible_at (length entries) entries log)
 
@@ -32,6 +39,6 @@ pub record HoldsOnce (kept : State) (entries : List Entry) (log : Log) : Type 0 
 -- together are what was visible then.
 pub record HoldsAt (kept : State) (revision : ℕ) (entries : List Entry) (log : Log) : Type 0 where
   pub held : Row → List Placed
-  pub files : AllByRecursion (λ row. get kept.objects (split_key row.number) ≡ Some (split_file (held row))) (published (take revision entries))
+  pub files : AllByRecursion (λ row. IsHeldIn kept (config_or (configuration (take revision entries))) (held row) row) (published (take revision entries))
   pub once : IsPermutation (flat_map held (published (take revision entries))) (visible_at revision entries log)
   pub apart : IsStrictlySortedBy place_order (visible_at revision entries log)

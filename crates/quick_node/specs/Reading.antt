@@ -22,6 +22,10 @@ max_line = 2097152
 abbrev pub max_clients : ℕ
 max_clients = 10000
 
+-- the greatest length of a configuration
+abbrev pub max_config : ℕ
+max_config = 1048576
+
 -- ---- whether a line may stand behind those before it
 
 pub data Fit : Type 0 where

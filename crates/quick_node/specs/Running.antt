@@ -46,7 +46,9 @@ EndsLine Stands text number node held content before after ended.ClientsOver =
     Stands node × (content ≡ Some held) × IsNotTaken text node accepts.TooManyClients
 EndsLine Stands text number node held content before after ended.LineOver = ⊥
 EndsLine Stands text number node held content before after ended.InputOver = ⊥
+EndsLine Stands text number node held content before after ended.ConfigOver = ⊥
 EndsLine Stands text number node held content before after (ended.NotOpened error) = ⊥
+EndsLine Stands text number node held content before after (ended.NotMade error) = ⊥
 EndsLine Stands text number node held content before after ended.ReadFault = ⊥
 EndsLine Stands text number node held content before after ended.WriteFault =
     (outcome : Outcome) × Does Stands text node (Some outcome) × WroteFront held content outcome × Rose before after
@@ -76,7 +78,9 @@ IsRunEnd (ended.BadLine number) end = end ≡ by_reading (bad_line number)
 IsRunEnd ended.ClientsOver end = end ≡ by_reading clients_over
 IsRunEnd ended.LineOver end = end ≡ by_reading line_over
 IsRunEnd ended.InputOver end = end ≡ by_reading input_over
+IsRunEnd ended.ConfigOver end = ⊥
 IsRunEnd (ended.NotOpened error) end = ⊥
+IsRunEnd (ended.NotMade error) end = ⊥
 IsRunEnd ended.ReadFault end = end ≡ read_failed
 IsRunEnd ended.WriteFault end = end ≡ write_failed
 IsRunEnd ended.Memory end = end ≡ out_of_memory

@@ -1,5 +1,5 @@
 -- The clause of the top call for the command `drive`.
-use Rattle.std.specs.Prelude.{◌≡◌, ◌⊎◌, ◌≢◌, ℕ, ◌<◌, ◌≤◌, List, [], ◌∷◌, ◌++◌, length, if◌then◌else◌, decimal, codes, map, flat_map, min, sum, Ok, Err, Result, ⊤, Option, Some, None, All, bytes_eq, slice_index}
+use Rattle.std.specs.Prelude.{◌≡◌, ◌⊎◌, ◌≢◌, ℕ, ◌<◌, ◌≤◌, List, [], ◌∷◌, ◌++◌, length, take, if◌then◌else◌, decimal, codes, map, flat_map, min, sum, Ok, Err, Result, ⊤, Option, Some, None, All, bytes_eq, slice_index}
 use Rattle.std.specs.List.{AllByRecursion}
 use Rattle.meta_journal.specs.declared.entry.Act.TheVariants.{Create}
 use Rattle.meta_journal.specs.declared.entry.Entry.{Entry}
@@ -8,15 +8,21 @@ use Rattle.source_log.specs.Log.{Log, IsLog, Extends}
 use Rattle.byte_fields.specs.Causes.{Rose}
 use Rattle.index_world.specs.Calls.{Fate, gives, faulted, no_memory, store_fault, Unread, not_read, loaded}
 use Rattle.index_world.specs.Calls as calls
+use Rattle.index_config.specs.declared.config.IndexConfig.{IndexConfig}
+use Rattle.index_world.specs.Configuration.{configuration, config_or}
 use Rattle.index_world.specs.Core.{Core, last_count}
 use Rattle.index_world.specs.Index.{IsIndexOf}
 use Rattle.index_world.specs.Seen.{visible_at}
 use Rattle.index_world.specs.Standing.{StandsFor}
 use Rattle.indexing_run.specs.Outcomes.{words}
 use Rattle.indexing_run.specs.Places.{Indexer}
-use Rattle.root_search.specs.Replies.{Reply, Said, Found, Refusal, answer}
-use Rattle.root_search.specs.Requests.{word_asked}
-use Rattle.root_search.specs.Steps.{Replied}
+use Rattle.root_search.specs.Answer.{answer}
+use Rattle.root_search.specs.Requests.{asked_of}
+use Rattle.root_search.specs.declared.outcome.SearchStep.TheVariants.{Replied}
+use Rattle.search_api.specs.Resolved.{Search}
+use Rattle.search_api.specs.declared.reply.Reply.{Reply}
+use Rattle.search_api.specs.declared.reply.Said.{Said}
+use Rattle.search_api.specs.declared.reply.Said.TheVariants.{Found, Deleted, Refused}
 use Rattle.node_run.specs.Lines.{printed}
 use Rattle.node_run.specs.Node.{Node, Line, Open, StepClient, Outcome, client_said, request_opened}
 use Rattle.node_run.specs.Standing.{LetGo}
@@ -231,20 +237,26 @@ after_outcome knowns (StepClient name) (client_said who (Replied reply)) =
     record (known_of name knowns) { front = reply.revision } ∷ knowns
 after_outcome knowns line outcome = knowns
 
--- The reply is the answer to the request that its client opened last, over what was visible at the revision that it
--- names; that is at least the client's front and the journal's end at entry, and the journal at exit reaches it.
+-- the configuration that a journal names at a revision
+abbrev pub config_then : ℕ → List Entry → IndexConfig
+config_then revision history = config_or (configuration (take revision history))
+
+-- The reply is the answer to the search that its client opened last, as its text asks it of the index's configuration, over
+-- what was visible at the revision that it names; that is at least the client's front and the journal's end at entry, and
+-- the journal at exit reaches it.
 pub record IsAnswered (history : List Entry) (log : Log) (least : ℕ) (known : Known) (reply : Reply) : Type 0 where
   pub client : reply.client ≡ known.name
-  pub word : List ℕ
-  pub asked : word_asked known.text ≡ Some word
-  pub answer : reply.said ≡ answer word (visible_at reply.revision history log)
+  pub search : Search
+  pub asked : asked_of (config_then reply.revision history) known.text ≡ Ok search
+  pub answer : reply.said ≡ answer (config_then reply.revision history).schema search (visible_at reply.revision history log)
   pub front : known.front ≤ reply.revision
   pub entry : least ≤ reply.revision
   pub exit : reply.revision ≤ length history
 
 abbrev pub IfFound : Said → Type 0 → Type 0
-IfFound (Found count hits) fact = fact
-IfFound (Refusal refused) fact = Unit {0}
+IfFound (Found count hits aggregations) fact = fact
+IfFound (Deleted opstamp) fact = fact
+IfFound (Refused refusal) fact = Unit {0}
 
 abbrev pub AnswersOne : List Entry → Log → ℕ → List Known → Line → Outcome → Type 0
 AnswersOne history log least knowns line (client_said who (Replied reply)) =
@@ -290,6 +302,8 @@ pub record Drives (history : List Entry) (before : Before) (after : After) (stat
   pub once : HoldsOnce after.kept exit before.log
   -- so it was at each revision of the journal
   pub always : (revision : ℕ) → HoldsAt after.kept revision exit before.log
+  -- the configuration that the journal at entry names is that of each revision behind it
+  pub configured : (config : IndexConfig) → configuration history ≡ Some config → (revision : ℕ) → length history ≤ revision → configuration (take revision exit) ≡ Some config
   -- each reply with hits is right, whatever failed
   pub searches : AnswersFrom exit before.log (length history) [] lines outcomes
   -- each fault of the store that a line tells has its count before and behind, of which the second rose: these lie one behind

@@ -2,8 +2,9 @@
 
 ghost use Rattle.std.specs.Prelude.{◌≡◌, ◌∷◌, [], IfOk, OnOk, decimal, codes};
 ghost use Rattle.index_world.specs.Saying.{with_words};
-ghost use Rattle.quick_node.specs.Ending.{opening_status as status_of_opening, ended_status, limit_words, cause_words, last_line};
+ghost use Rattle.quick_node.specs.Ending.{opening_status as status_of_opening, making_status as status_of_making, ended_status, limit_words, cause_words, last_line};
 
+use crate::creating::MAX_CONFIG;
 use crate::lines::{MAX_INPUT, MAX_LINE};
 use byte_fields::Bytes;
 use index_world::{WorldError, put_fault, put_number, put_word};
@@ -21,8 +22,11 @@ pub enum End {
     ClientsOver,
     LineOver,
     InputOver,
+    ConfigOver,
     /// The index was not opened.
     NotOpened(WorldError),
+    /// It was not made.
+    NotMade(WorldError),
     ReadFault,
     WriteFault,
     /// Want of memory.
@@ -40,6 +44,18 @@ fn opening_status(error: &WorldError) -> u8
     }
 }
 
+fn making_status(error: &WorldError) -> u8
+    ensures { result ≡ status_of_making error.now }
+{
+    match error {
+        WorldError::Memory(_) => 11,
+        WorldError::StoreFault { .. } => 4,
+        WorldError::IndexExists => 9,
+        WorldError::BadConfig(_) => 2,
+        _ => 7,
+    }
+}
+
 pub fn status_of(end: &End) -> u8
     ensures { result ≡ ended_status end.now }
 {
@@ -50,7 +66,9 @@ pub fn status_of(end: &End) -> u8
         End::ClientsOver => 10,
         End::LineOver => 10,
         End::InputOver => 10,
+        End::ConfigOver => 10,
         End::NotOpened(error) => opening_status(error),
+        End::NotMade(error) => making_status(error),
         End::ReadFault => 5,
         End::WriteFault => 6,
         End::Memory => 11,
@@ -78,7 +96,9 @@ fn put_cause(alloc: Global, out: &mut Bytes, end: &End) -> Result<(), AllocError
         End::ClientsOver => put_limit(alloc, out, b"clients", MAX_CLIENTS),
         End::LineOver => put_limit(alloc, out, b"line", MAX_LINE),
         End::InputOver => put_limit(alloc, out, b"input", MAX_INPUT),
+        End::ConfigOver => put_limit(alloc, out, b"config", MAX_CONFIG as u64),
         End::NotOpened(error) => put_fault(alloc, out, error),
+        End::NotMade(error) => put_fault(alloc, out, error),
         End::ReadFault => put_word(out, b"readfault"),
         End::WriteFault => Ok(()),
         End::Memory => Ok(()),

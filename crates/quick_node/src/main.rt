@@ -1,62 +1,36 @@
-//! Poltyqen: `drive` takes a schedule of steps over a small log in memory.
+//! Poltyqen: a search engine over a folder of objects and a folder of logs. The program's first word names the folder of the
+//! objects, the second that of the logs, and the words behind them the command. The word `memory` in the place of a folder
+//! stands for one that is empty, and kept in memory as long as the program runs.
 #![tactic(auto)]
 
+mod creating;
 mod error_line;
 pub mod laws;
 mod lines;
+mod reporting;
 mod running;
 mod serving;
 mod writing;
 
 use crate::serving::serve;
-use byte_fields::Bytes;
-use clock_time::ScriptClock;
-use index_world::logs_config;
-use meta_journal::{Act, Entry, encode_entry, meta_key};
-use object_store::{CreateError, ObjectStore, SteadyStore};
-use real_edge::{StdSink, StdSource};
-use source_checkpoint::Partition;
-use source_log::MemoryLog;
+use object_store::{ObjectStore, SteadyStore};
+use real_edge::{FileLog, FolderStore, StdSink, StdSource, SystemClock};
+use source_log::{MemoryLog, SourceLog};
 use std::alloc::{AllocError, Global};
+use std::fs::Files;
 use std::process::ExitCode;
 use std::rt::Env;
 use std::sync::Wait;
 use std::thread::Threads;
+use std::time::{self, SystemTime, UNIX_EPOCH};
 use std::{env, io};
 
 const NO_MEMORY: u8 = 11;
 
-/// The bytes of a Create of the one configuration, at moment 0.
-fn new_entry(alloc: Global) -> Result<Bytes, AllocError> {
-    let entry = Entry {
-        moment: 0,
-        act: Act::Create {
-            config: Bytes::from_slice(alloc, logs_config())?,
-        },
-    };
-    encode_entry(alloc, &entry)
-}
+const MEMORY: &str = "memory";
 
-/// A store whose journal is that one entry.
-fn new_index(alloc: Global) -> Result<SteadyStore, AllocError> {
-    let mut store = SteadyStore::vacant(alloc);
-    let bytes = new_entry(alloc)?;
-    match store.create(alloc, &meta_key(0), bytes.as_slice()) {
-        Err(CreateError::Memory(refused)) => Err(refused),
-        _ => Ok(store),
-    }
-}
-
-/// A log of one partition with three records, of which one is no JSON.
-fn small_log(alloc: Global) -> Result<MemoryLog, AllocError> {
-    let mut log = MemoryLog::vacant(alloc);
-    if let Ok(partition) = Partition::from_text("p0") {
-        log.push(alloc, &partition, b"{\"body\":\"red fox\"}")?;
-        log.push(alloc, &partition, b"oops")?;
-        log.push(alloc, &partition, b"{\"body\":\"red hen\"}")?;
-    }
-    Ok(log)
-}
+/// So many readers of the logs there are, each an indexer of `drive`.
+const READERS: u32 = 64;
 
 fn words_of<Rt: Env + Alloc<A = Global>>(rt: &Rt) -> io::Result<Vec<String>> {
     let mut words = Vec::new(rt.alloc());
@@ -66,40 +40,117 @@ fn words_of<Rt: Env + Alloc<A = Global>>(rt: &Rt) -> io::Result<Vec<String>> {
     Ok(words)
 }
 
-fn status_of<Rt: Threads + Wait + Sync + Input + Print>(
-    rt: &Rt,
-    alloc: Global,
-    words: &[String],
-) -> Result<u8, AllocError> {
-    let store = new_index(alloc)?;
+// A number for the files beside the objects, by the moment at which the program began: two programs that write at once have
+// their own.
+fn writer_number<C: time::Clock>(clock: &C) -> u64 {
+    let Ok(now) = SystemTime::now(clock) else {
+        return 0;
+    };
+    match now.duration_since(UNIX_EPOCH) {
+        Ok(since) => since
+            .as_secs()
+            .wrapping_mul(1_000_000_000)
+            .wrapping_add(u64::from(since.subsec_nanos())),
+        Err(_) => 0,
+    }
+}
+
+fn memory_logs(alloc: Global) -> Result<Vec<MemoryLog>, AllocError> {
     let mut logs = Vec::new(alloc);
-    logs.push(small_log(alloc)?)?;
+    for _ in 0..READERS {
+        logs.push(MemoryLog::vacant(alloc))?;
+    }
+    Ok(logs)
+}
+
+fn folder_logs<'a, F: Files>(
+    alloc: Global,
+    files: &'a F,
+    folder: &str,
+) -> Result<Vec<FileLog<'a, F>>, AllocError> {
+    let mut logs = Vec::new(alloc);
+    for _ in 0..READERS {
+        logs.push(FileLog::over(alloc, files, folder)?)?;
+    }
+    Ok(logs)
+}
+
+// Does the command over the standard streams, and gives its status. The system is the runtime itself: what is sent to a thread
+// may hold it, and the runtime's leave to start threads is its own.
+fn status_over<
+    Rt: Threads + Wait + Sync + Input + Print,
+    S: ObjectStore + Send + Drop,
+    L: SourceLog + Send,
+>(rt: &Rt, system: &HostRuntime, words: &[String], store: S, logs: Vec<L>) -> u8 {
     let mut input = StdSource::over(rt.reader());
     let mut output = StdSink::over(io::writer(rt));
-    let finished = serve(
+    let clock = SystemClock::over(system);
+    serve(
         rt,
-        alloc,
+        system.alloc(),
         words,
         store,
         logs,
-        ScriptClock::at(0),
+        clock,
         &mut input,
         &mut output,
-    );
-    Ok(finished.status)
+    )
+    .status
+}
+
+// The logs that a word names, and the command.
+fn status_with<Rt: Threads + Wait + Sync + Input + Print, S: ObjectStore + Send + Drop>(
+    rt: &Rt,
+    system: &HostRuntime,
+    log: &str,
+    words: &[String],
+    store: S,
+) -> Result<u8, AllocError> {
+    let alloc = system.alloc();
+    if log == MEMORY {
+        let logs = memory_logs(alloc)?;
+        return Ok(status_over(rt, system, words, store, logs));
+    }
+    let logs = folder_logs(alloc, system, log)?;
+    Ok(status_over(rt, system, words, store, logs))
+}
+
+// With fewer than two words there is no command: that is answered over nothing.
+fn status_of<Rt: Threads + Wait + Sync + Input + Print>(
+    rt: &Rt,
+    system: &HostRuntime,
+    words: &[String],
+) -> Result<u8, AllocError> {
+    let alloc = system.alloc();
+    let [store, log, command @ ..] = words else {
+        let logs = memory_logs(alloc)?;
+        return Ok(status_over(rt, system, &[], SteadyStore::vacant(alloc), logs));
+    };
+    if store.as_str() == MEMORY {
+        let store = SteadyStore::vacant(alloc);
+        return status_with(rt, system, log.as_str(), command, store);
+    }
+    let store = FolderStore::over(alloc, system, store.as_str(), writer_number(system))?;
+    status_with(rt, system, log.as_str(), command, store)
 }
 
 fn main(rt: HostRuntime) -> ExitCode {
+    // Words that are no text name no command.
     let words = match words_of(&rt) {
         Ok(words) => words,
-        Err(_) => return ExitCode::from(NO_MEMORY),
+        Err(fault) if fault.kind() == io::ErrorKind::OutOfMemory => {
+            return ExitCode::from(NO_MEMORY);
+        }
+        Err(_) => Vec::new(rt.alloc()),
     };
-    match status_of(&rt, rt.alloc(), words.as_slice()) {
+    match status_of(&rt, &rt, words.as_slice()) {
         Ok(status) => ExitCode::from(status),
         Err(_) => ExitCode::from(NO_MEMORY),
     }
 }
 
+#[cfg(test)]
+mod report_rows;
 #[cfg(test)]
 mod script;
 #[cfg(test)]

@@ -1,10 +1,12 @@
 //! The rows of the tests.
 //!
 //! A line `row` begins one, with a new index, no log and nothing that is to fail. `vacant` takes an empty store in its place, and
-//! `object` makes an object in it. `log` adds a log, and `record` a record at its end. `failkey`, `failcall`, `failread`, `failwrite` and `faillog`
-//! make the create of a key, or the call with a number, fail, of a create with when it lands; `room` bounds the output. `>` is a line of
-//! the schedule, and `<` one that must be written; `>>` and `<<` are the same without a line feed. `run` does the command with this
-//! schedule, and compares what was written, the status, and the counts of faults; what stands then is the store of a second life.
+//! `object` makes an object in it. `command` takes another command than `drive`, and `word` a word more. `log` adds a log, and
+//! `record` a record at its end. `failkey`, `failcall`, `failread`, `failwrite` and `faillog` make the create of a key, or the call with
+//! a number, fail, of a create with when it lands; `room` bounds the output. `>` is a line of the input, and `<` one that must be
+//! written; `>>` and `<<` are the same without a line feed; `config` is the configuration of an index, behind a line of its own if
+//! there is one. `run` does the command with this input, and compares what was written, the status, and the counts of faults; what
+//! stands then is the store of a second life.
 
 pub const ROWS: &str = r#"row two hits
 log
@@ -38,7 +40,7 @@ record p0 {"body":"red hen"}
 < a fetched 1
 < {"aggregations":{},"client":"a","hits":[{"body":"red fox"},{"body":"red hen"}],"num_hits":2,"revision":3}
 run 0
-size 59 splits/00000000000000000001
+size 156 splits/00000000000000000001
 row an empty batch waits
 log
 record p2 {"body":"red"}
@@ -171,15 +173,39 @@ record p0 {"body":"red hen"}
 < a fetched 2
 < {"aggregations":{},"client":"a","hits":[{"body":"red fox"},{"body":"red hen"}],"num_hits":2,"revision":4}
 run 0
-row two words are not built
+row two words are both asked, and no hits are shown where none are wanted
 log
 record p0 {"body":"red fox"}
 record p0 oops
 record p0 {"body":"red hen"}
+> at 1000
+> indexer 0
+> indexer 0
+> indexer 0
+> indexer 0
+> indexer 0
 > client a {"search":{"query":"red fox"}}
 > client a
+> client a
+> client a
+> client a {"search":{"query":"*","max_hits":0}}
+> client a
+> client a
+> client a
+< at 1000
+< indexer 0 checkpoint
+< indexer 0 read 3
+< indexer 0 staged 1
+< indexer 0 uploaded 1
+< indexer 0 published 1
 < a opened
-< {"client":"a","error":{"kind":"NotBuilt","name":"request"},"revision":1}
+< a planned 3 1
+< a fetched 1
+< {"aggregations":{},"client":"a","hits":[{"body":"red fox"}],"num_hits":1,"revision":3}
+< a opened
+< a planned 3 1
+< a fetched 1
+< {"aggregations":{},"client":"a","hits":[],"num_hits":2,"revision":3}
 run 0
 row a late reader is stale
 log
@@ -597,17 +623,134 @@ record p1 {"body":"aaaaaaaaaaaaaaaaaaaaaaaaaaaaaaaaaaaaaaaaaaaaaaaaaaaaaaaaaaaaa
 < a fetched 1
 < {"aggregations":{},"client":"a","hits":[{"body":"aaaaaaaaaaaaaaaaaaaaaaaaaaaaaaaaaaaaaaaaaaaaaaaaaaaaaaaaaaaaaaaaaaaaaaaaaaaaaaaaaaaaaaaaaaaaaaaaaaaaaaaaaaaaaaaaaaaaaaaaaaaaaaaaaaaaaaaaaaaaaaaaaaaaaaaaaaaaaaaaaaaaaaaaaaaaaaaaaaaaaaaaaaaaaaaaaaaaaaaaaaaaaaaaaaaaaaaaaaaaaaaaaaaaaaaaaaaaaaaaaaaaaaaaaaaaaaa fox"}],"num_hits":1,"revision":3}
 run 0
-row requests that are not built
+row a search of no documents, and requests that are refused
 log
 > client a {"search":{"query":"*"}}
 > client a
+> client a
 > client a {"delete":{"query":"fox"}}
 > client a
+> client a {"search":{"query":"size:[1 TO"}}
+> client a
+> client a {"search":{"query":"size:1"}}
+> client a
+> client a {"search":{"query":"*","max_hits":10001}}
+> client a
+> client a red
+> client a
 < a opened
-< {"client":"a","error":{"kind":"NotBuilt","name":"request"},"revision":1}
+< a planned 1 0
+< {"aggregations":{},"client":"a","hits":[],"num_hits":0,"revision":1}
 < a opened
-< {"client":"a","error":{"kind":"NotBuilt","name":"request"},"revision":1}
+< {"client":"a","error":{"kind":"UnknownKey","name":"delete"},"revision":1}
+< a opened
+< {"client":"a","error":{"at":10,"kind":"Syntax"},"revision":1}
+< a opened
+< {"client":"a","error":{"kind":"UnknownField","name":"size"},"revision":1}
+< a opened
+< {"client":"a","error":{"kind":"TooManyHits","wanted":10001},"revision":1}
+< a opened
+< {"client":"a","error":{"kind":"NotJson"},"revision":1}
 run 0
+row an index is made, searched, and not made again
+vacant
+command create
+config
+< created
+run 0
+log
+> client a {"search":{"query":"*"}}
+> client a
+> client a
+< a opened
+< a planned 1 0
+< {"aggregations":{},"client":"a","hits":[],"num_hits":0,"revision":1}
+run 0
+command create
+config
+< error 9 indexexists
+run 9
+row a key that no configuration has, and the empty store stays empty
+vacant
+command create
+config colour = "red"
+< error 2 unknownkey colour
+run 2
+> at 5
+< error 8 noindex
+run 8
+row an input that is no configuration, and one that is too long
+vacant
+command create
+long 1048576
+< error 2 nottoml
+run 2
+command create
+long 1048577
+< error 10 limit config 1048576
+run 10
+row a Create that never lands is made by the next life
+vacant
+command create
+failkey never meta/00000000000000000000
+config
+< error 4 storefault 0 1
+run 4
+command create
+config
+< created
+run 0
+row a Create that fails stands
+vacant
+command create
+failkey once meta/00000000000000000000
+config
+< error 4 storefault 0 1
+run 4
+command create
+config
+< error 9 indexexists
+run 9
+row a Create lands in the next life, as its own begins
+vacant
+command create
+failkey 2 meta/00000000000000000000
+config
+< error 4 storefault 0 1
+run 4
+command create
+config
+< error 9 indexexists
+run 9
+row an input that fails, and an output that does
+vacant
+command create
+failread 1
+config
+< error 5 readfault
+run 5
+command create
+failwrite 1
+config
+run 6
+command create
+config
+< error 9 indexexists
+run 9
+row an object that is no entry is no index to be made
+vacant
+object meta/00000000000000000000 QWJ
+command create
+config
+< error 7 corrupt meta/00000000000000000000
+run 7
+row create and a word more
+vacant
+command create
+word drive
+config
+< error 1 badwords
+run 1
 row a line over its limit
 log
 record p0 {"body":"red fox"}

@@ -1,19 +1,24 @@
 //! The top call: one command over a store, logs, a clock, an input and an output.
 
-ghost use Rattle.std.specs.Prelude.{◌≡◌, ◌⊎◌, ◌≤◌, ◌↔◌, ℕ, List, Some, Ok, IsTrue, map, min, sum};
+ghost use Rattle.std.specs.Prelude.{◌≡◌, ◌⊎◌, ◌≤◌, ◌↔◌, ℕ, List, Some, Ok, IsTrue, IfSome, IfNone, map, min, sum};
 ghost use Rattle.std.specs.String.{string_bytes};
 ghost use Rattle.meta_journal.specs.declared.entry.Entry.{Entry};
+ghost use Rattle.object_store.specs.Store.{HasLanded, WhereTold};
 ghost use Rattle.source_log.specs.Log.{IsLog};
 ghost use Rattle.index_world.specs.Core.{last_count};
 ghost use Rattle.index_world.specs.World.{WorldStands};
 ghost use Rattle.node_run.specs.Node.{Node};
 ghost use Rattle.node_run.specs.Logs.{logs_in};
 ghost use Rattle.node_run.specs.Standing.{NodeStands, GivesLogs};
-ghost use Rattle.quick_node.specs.Causes.{faults_of, IsOneOf, other_statuses, DriveCauses, HasCauses, IsStatusOf};
+ghost use Rattle.quick_node.specs.Causes.{faults_of, IsOneOf, other_statuses, DriveCauses, CreateCauses, ReportCauses, HasCauses, IsStatusOf};
+ghost use Rattle.quick_node.specs.Creating.{IsCreate, Creates};
 ghost use Rattle.quick_node.specs.Ending.{EndsSo, ended_status};
+ghost use Rattle.quick_node.specs.Reporting.{IsSplits, IsDescribe, AsksFor, Reports, OnlyReads};
 ghost use Rattle.quick_node.specs.Serve.{Before, After, LogsShow, StreamsShow, Shows, ShowsAfter, EntersAs, IsFresh, Opens, Drives, IsDrive, RefusesWords, WroteWords};
 
+use crate::creating::create_index;
 use crate::error_line::{End, print_end, status_of};
+use crate::reporting::{Report, write_report};
 use crate::running::run;
 use crate::writing::write_all;
 use byte_fields::{Sink, Source};
@@ -78,6 +83,47 @@ fn is_drive(words: &[String]) -> bool
         [word] => word.as_str() == "drive",
         _ => false,
     }
+}
+
+fn is_create(words: &[String]) -> bool
+    ensures { IsTrue result ↔ IsCreate (map string_bytes words.now) }
+{
+    match words {
+        [word] => word.as_str() == "create",
+        _ => false,
+    }
+}
+
+fn is_splits(words: &[String]) -> bool
+    ensures { IsTrue result ↔ IsSplits (map string_bytes words.now) }
+{
+    match words {
+        [word] => word.as_str() == "splits",
+        _ => false,
+    }
+}
+
+fn is_describe(words: &[String]) -> bool
+    ensures { IsTrue result ↔ IsDescribe (map string_bytes words.now) }
+{
+    match words {
+        [word] => word.as_str() == "describe",
+        _ => false,
+    }
+}
+
+// The report that the words ask for, if they ask for one.
+fn report_of(words: &[String]) -> Option<Report>
+    ensures asked { IfSome result (λ asked. AsksFor asked (map string_bytes words.now)) }
+    ensures none { IfNone result ((asked : Report) → AsksFor asked (map string_bytes words.now) → ⊥) }
+{
+    if is_splits(words) {
+        return Some(Report::Splits);
+    }
+    if is_describe(words) {
+        return Some(Report::Describe);
+    }
+    None
 }
 
 // Answers other words.
@@ -194,10 +240,66 @@ fn drive<Rt: Threads + Sync, S: ObjectStore, L: SourceLog, R: Source, W: Sink>(
     }
 }
 
+// Makes the index of the configuration that the input has.
+#[tactic(none)]
+fn create<S: ObjectStore, L: SourceLog, C: Clock, R: Source, W: Sink>(
+    alloc: Global,
+    store: S,
+    logs: Vec<L>,
+    clock: C,
+    input: &mut R,
+    output: &mut W,
+) -> (Finished<S>, Logs<L>)
+    ensures creates { (history : List Entry) (before : Before) (moment : ℕ) →
+        Shows S.told S.fault_count L.told L.fault_count R.left R.fault_count W.content W.fault_count store logs.items input.old output.old before →
+        EntersAs history before → C.told clock ≡ Some moment →
+        (after : After) × ShowsAfter S.told S.fault_count L.fault_count L.since R.fault_count W.content W.fault_count
+        result.0.store result.0.store_faults result.0.log_faults logs.items input.new output.new after
+        × Creates history before moment after result.0.status × GivesLogs L.fault_count L.since logs.items (logs_in result.1) after.log_faults }
+    ensures causes { CreateCauses (faults_of (S.fault_count store) (R.fault_count input.old) (W.fault_count output.old))
+        (faults_of (S.fault_count result.0.store) (R.fault_count input.new) (W.fault_count output.new)) result.0.status }
+    ensures store_faults { result.0.store_faults ≡ S.fault_count result.0.store }
+    ensures log_sum { result.0.log_faults ≡ min (sum (map L.fault_count (logs_in result.1))) last_count }
+    ensures unread { logs_in result.1 ≡ logs.items }
+{
+    let (end, store) = create_index(alloc, store, clock, input, output);
+    ended(alloc, store, Logs::Unread(logs), &end, output)
+}
+
+// Writes a report on the index of a store. Nothing is read of the input.
+#[tactic(none)]
+fn report<S: ObjectStore, L: SourceLog, R: Source, W: Sink>(
+    alloc: Global,
+    asked: Report,
+    store: S,
+    logs: Vec<L>,
+    _input: &R,
+    output: &mut W,
+) -> (Finished<S>, Logs<L>)
+    ensures reports { (history : List Entry) (before : Before) →
+        Shows S.told S.fault_count L.told L.fault_count R.left R.fault_count W.content W.fault_count store logs.items _input.now output.old before →
+        EntersAs history before →
+        (after : After) × ShowsAfter S.told S.fault_count L.fault_count L.since R.fault_count W.content W.fault_count
+        result.0.store result.0.store_faults result.0.log_faults logs.items _input.now output.new after
+        × Reports asked history before after result.0.status × GivesLogs L.fault_count L.since logs.items (logs_in result.1) after.log_faults }
+    ensures landed { WhereTold (S.told store) (S.told result.0.store) HasLanded }
+    ensures causes { ReportCauses (faults_of (S.fault_count store) (R.fault_count _input.now) (W.fault_count output.old))
+        (faults_of (S.fault_count result.0.store) (R.fault_count _input.now) (W.fault_count output.new)) result.0.status }
+    ensures store_faults { result.0.store_faults ≡ S.fault_count result.0.store }
+    ensures log_sum { result.0.log_faults ≡ min (sum (map L.fault_count (logs_in result.1))) last_count }
+    ensures unread { logs_in result.1 ≡ logs.items }
+{
+    let (end, store) = write_report(alloc, asked, store, output);
+    ended(alloc, store, Logs::Unread(logs), &end, output)
+}
+
 /// Does the command that the words name. `drive` reads a schedule line by line from the input, and answers each line by a
-/// line of the output. Statuses: 0 all lines were answered, 1 the words name no command, 3 a line is none, 4 the store
-/// failed while opening, 5 the input failed, 6 the output failed, 7 the store is no index, 8 its journal is empty, 10 a
-/// limit was passed, 11 want of memory. The logs are given back, each as a later state of the one that was handed in.
+/// line of the output. `create` reads a configuration from the input, and makes the index of a store that has none, at the
+/// moment that the clock tells. `splits` writes a line for each split of the index, and `describe` the index as a whole.
+/// Statuses: 0 all lines were answered, an index was made, or a report was written, 1 the words name no command, 2 the input
+/// is no configuration, 3 a line is none, 4 the store failed in opening or making, 5 the input failed, 6 the output failed,
+/// 7 the store is no index, 8 its journal is empty, 9 it has an entry, 10 a limit was passed, 11 want of memory. The logs are
+/// given back, each as a later state of the one that was handed in.
 #[tactic(none)]
 pub fn serve_with_logs<
     Rt: Threads + Wait + Sync,
@@ -212,7 +314,7 @@ pub fn serve_with_logs<
     words: &[String],
     store: S,
     logs: Vec<L>,
-    _clock: C,
+    clock: C,
     input: &mut R,
     output: &mut W,
 ) -> (Finished<S>, Logs<L>)
@@ -222,7 +324,23 @@ pub fn serve_with_logs<
         (after : After) × ShowsAfter S.told S.fault_count L.fault_count L.since R.fault_count W.content W.fault_count
         result.0.store result.0.store_faults result.0.log_faults logs.items input.new output.new after
         × Drives history before after result.0.status × GivesLogs L.fault_count L.since logs.items (logs_in result.1) after.log_faults }
-    ensures refuses { (IsDrive (map string_bytes words.now) → ⊥) →
+    ensures creates { (history : List Entry) (before : Before) (moment : ℕ) → IsCreate (map string_bytes words.now) →
+        Shows S.told S.fault_count L.told L.fault_count R.left R.fault_count W.content W.fault_count store logs.items input.old output.old before →
+        EntersAs history before → C.told clock ≡ Some moment →
+        (after : After) × ShowsAfter S.told S.fault_count L.fault_count L.since R.fault_count W.content W.fault_count
+        result.0.store result.0.store_faults result.0.log_faults logs.items input.new output.new after
+        × Creates history before moment after result.0.status × GivesLogs L.fault_count L.since logs.items (logs_in result.1) after.log_faults }
+    ensures reports { (asked : Report) (history : List Entry) (before : Before) → AsksFor asked (map string_bytes words.now) →
+        Shows S.told S.fault_count L.told L.fault_count R.left R.fault_count W.content W.fault_count store logs.items input.old output.old before →
+        EntersAs history before →
+        (after : After) × ShowsAfter S.told S.fault_count L.fault_count L.since R.fault_count W.content W.fault_count
+        result.0.store result.0.store_faults result.0.log_faults logs.items input.new output.new after
+        × Reports asked history before after result.0.status × GivesLogs L.fault_count L.since logs.items (logs_in result.1) after.log_faults }
+    // A report reads nothing of the input, and writes nothing to the store, whatever they are.
+    ensures only_reads { (asked : Report) → AsksFor asked (map string_bytes words.now) →
+        OnlyReads S.told R.left R.fault_count store result.0.store input.old input.new }
+    ensures refuses { (IsDrive (map string_bytes words.now) → ⊥) → (IsCreate (map string_bytes words.now) → ⊥) →
+        (IsSplits (map string_bytes words.now) → ⊥) → (IsDescribe (map string_bytes words.now) → ⊥) →
         RefusesWords S.told S.fault_count L.fault_count R.left R.fault_count store result.0.store logs.items result.0.store_faults result.0.log_faults input.old input.new
         × WroteWords result.0.status (W.fault_count output.old) (W.fault_count output.new) (W.content output.old) (W.content output.new) }
     ensures causes { HasCauses (faults_of (S.fault_count store) (R.fault_count input.old) (W.fault_count output.old))
@@ -234,6 +352,12 @@ pub fn serve_with_logs<
     // Other words leave the logs as they were.
     ensures unread { (IsDrive (map string_bytes words.now) → ⊥) → logs_in result.1 ≡ logs.items }
 {
+    if is_create(words) {
+        return create(alloc, store, logs, clock, input, output);
+    }
+    if let Some(asked) = report_of(words) {
+        return report(alloc, asked, store, logs, input, output);
+    }
     if !is_drive(words) {
         return refuse(alloc, store, logs, output);
     }
@@ -265,7 +389,23 @@ pub fn serve<
         (after : After) × ShowsAfter S.told S.fault_count L.fault_count L.since R.fault_count W.content W.fault_count
         result.store result.store_faults result.log_faults logs.items input.new output.new after
         × Drives history before after result.status }
-    ensures refuses { (IsDrive (map string_bytes words.now) → ⊥) →
+    ensures creates { (history : List Entry) (before : Before) (moment : ℕ) → IsCreate (map string_bytes words.now) →
+        Shows S.told S.fault_count L.told L.fault_count R.left R.fault_count W.content W.fault_count store logs.items input.old output.old before →
+        EntersAs history before → C.told clock ≡ Some moment →
+        (after : After) × ShowsAfter S.told S.fault_count L.fault_count L.since R.fault_count W.content W.fault_count
+        result.store result.store_faults result.log_faults logs.items input.new output.new after
+        × Creates history before moment after result.status }
+    ensures reports { (asked : Report) (history : List Entry) (before : Before) → AsksFor asked (map string_bytes words.now) →
+        Shows S.told S.fault_count L.told L.fault_count R.left R.fault_count W.content W.fault_count store logs.items input.old output.old before →
+        EntersAs history before →
+        (after : After) × ShowsAfter S.told S.fault_count L.fault_count L.since R.fault_count W.content W.fault_count
+        result.store result.store_faults result.log_faults logs.items input.new output.new after
+        × Reports asked history before after result.status }
+    // A report reads nothing of the input, and writes nothing to the store, whatever they are.
+    ensures only_reads { (asked : Report) → AsksFor asked (map string_bytes words.now) →
+        OnlyReads S.told R.left R.fault_count store result.store input.old input.new }
+    ensures refuses { (IsDrive (map string_bytes words.now) → ⊥) → (IsCreate (map string_bytes words.now) → ⊥) →
+        (IsSplits (map string_bytes words.now) → ⊥) → (IsDescribe (map string_bytes words.now) → ⊥) →
         RefusesWords S.told S.fault_count L.fault_count R.left R.fault_count store result.store logs.items result.store_faults result.log_faults input.old input.new
         × WroteWords result.status (W.fault_count output.old) (W.fault_count output.new) (W.content output.old) (W.content output.new) }
     ensures causes { HasCauses (faults_of (S.fault_count store) (R.fault_count input.old) (W.fault_count output.old))

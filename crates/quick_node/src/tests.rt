@@ -1,20 +1,35 @@
 //! Rows of `drive`, from a script, and a table of failing store calls.
 
-use super::new_entry;
+use crate::report_rows::REPORT_ROWS;
 use crate::script::ROWS;
 use crate::serving::serve_with_logs;
 use byte_fields::{Bytes, MemorySink, MemorySource};
 use clock_time::ScriptClock;
-use meta_journal::meta_key;
+use meta_journal::{Act, Entry, encode_entry, meta_key};
 use object_store::{Key, Landing, MemoryStore, ObjectStore};
 use source_checkpoint::Partition;
 use source_log::{FaultyLog, MemoryLog};
-use std::alloc::Global;
+use std::alloc::{AllocError, Global};
 use std::process::Abort;
 use std::str;
 use std::sync::Wait;
 use std::test::Fail;
 use std::thread::Threads;
+
+// The configuration of the index that is made: two fields of texts, of which `body` is asked by a clause without a field.
+const CONFIG: &str =
+    "version = \"0.9\"\nindex_id = \"logs\"\n[doc_mapping]\nmode = \"strict\"\n[[doc_mapping.field_mappings]]\nname = \"body\"\ntype = \"text\"\nrecord = \"position\"\n[[doc_mapping.field_mappings]]\nname = \"level\"\ntype = \"text\"\ntokenizer = \"raw\"\nfast = true\n[indexing_settings.merge_policy]\ntype = \"stable_log\"\nmin_level_num_docs = 100\nmerge_factor = 2\nmax_merge_factor = 4\n[search_settings]\ndefault_search_fields = [\"body\"]\n[upkeep]\nstaged_grace_secs = 200\ndeletion_grace_secs = 100\n";
+
+// The bytes of a Create of that configuration, at moment 0.
+fn new_entry(alloc: Global) -> Result<Bytes, AllocError> {
+    let entry = Entry {
+        moment: 0,
+        act: Act::Create {
+            config: Bytes::from_slice(alloc, CONFIG.as_bytes())?,
+        },
+    };
+    encode_entry(alloc, &entry)
+}
 
 // A row as far as its script was read.
 #[derive(Drop)]
@@ -37,7 +52,7 @@ impl Row {
             name: String::from_str(alloc, name)?,
             store: index_store(alloc)?,
             logs: Vec::new(alloc),
-            words: drive_words(alloc)?,
+            words: one_word(alloc, "drive")?,
             schedule: Vec::new(alloc),
             expected: Vec::new(alloc),
             room: 8192,
@@ -54,6 +69,7 @@ impl Row {
             "object" => make_object(alloc, &mut self.store, rest)?,
             "log" => self.logs.push(MemoryLog::vacant(alloc))?,
             "record" => add_record(alloc, &mut self.logs, rest)?,
+            "command" => self.words = one_word(alloc, rest)?,
             "word" => self.words.push(String::from_str(alloc, rest)?)?,
             "failkey" => {
                 let (landing, key) = landing_of(rest)?;
@@ -77,6 +93,12 @@ impl Row {
         match asked {
             ">" => add_line(&mut self.schedule, rest)?,
             "<" => add_line(&mut self.expected, rest)?,
+            "config" => {
+                if !rest.is_empty() {
+                    add_line(&mut self.schedule, rest)?;
+                }
+                self.schedule.extend_from_slice(CONFIG.as_bytes())?;
+            }
             ">>" => self.schedule.extend_from_slice(rest.as_bytes())?,
             "<<" => self.expected.extend_from_slice(rest.as_bytes())?,
             "long" => {
@@ -159,9 +181,9 @@ fn index_store(alloc: Global) -> Result<MemoryStore, Fail> {
     Ok(store)
 }
 
-fn drive_words(alloc: Global) -> Result<Vec<String>, Fail> {
+fn one_word(alloc: Global, word: &str) -> Result<Vec<String>, Fail> {
     let mut words = Vec::new(alloc);
-    words.push(String::from_str(alloc, "drive")?)?;
+    words.push(String::from_str(alloc, word)?)?;
     Ok(words)
 }
 
@@ -235,17 +257,20 @@ fn faulty(
     Ok(all)
 }
 
-#[test]
-fn rows_of_drive(rt: HostRuntime) -> Result<(), Fail> {
-    let alloc = rt.alloc();
+// Does the rows of a script, and gives how often a command was done.
+fn runs_of<Rt: Threads + Wait + Sync + Abort>(
+    rt: &Rt,
+    alloc: Global,
+    script: &str,
+) -> Result<u32, Fail> {
     let mut row = Row::begin(alloc, "none")?;
     let mut runs = 0u32;
-    for line in ROWS.lines() {
+    for line in script.lines() {
         let (asked, rest) = halves(line);
         match asked {
             "row" => row = Row::begin(alloc, rest)?,
             "run" => {
-                row = row.run(&rt, alloc, number_of(rest)?)?;
+                row = row.run(rt, alloc, number_of(rest)?)?;
                 runs = runs.saturating_add(1);
             }
             "size" => {
@@ -259,7 +284,20 @@ fn rows_of_drive(rt: HostRuntime) -> Result<(), Fail> {
             _ => row.prepare(alloc, asked, rest)?,
         }
     }
-    assert_eq!(rt; runs, 35);
+    Ok(runs)
+}
+
+#[test]
+fn rows_of_drive(rt: HostRuntime) -> Result<(), Fail> {
+    let runs = runs_of(&rt, rt.alloc(), ROWS)?;
+    assert_eq!(rt; runs, 53);
+    Ok(())
+}
+
+#[test]
+fn rows_of_reports(rt: HostRuntime) -> Result<(), Fail> {
+    let runs = runs_of(&rt, rt.alloc(), REPORT_ROWS)?;
+    assert_eq!(rt; runs, 18);
     Ok(())
 }
 
@@ -283,7 +321,7 @@ fn lives<Rt: Threads + Wait + Sync>(
     let (finished, _) = serve_with_logs(
         rt,
         alloc,
-        drive_words(alloc)?.as_slice(),
+        one_word(alloc, "drive")?.as_slice(),
         store,
         faulty(alloc, log, None)?,
         ScriptClock::at(0),

@@ -1,48 +1,48 @@
-use Rattle.std.proofs.Common.{◌≡◌, ℕ, ◌+◌, ◌==◌, ◌||◌, false, drop, Option, Some, None, ap, sym, ◌∙◌, subst, arith}
-use Rattle.doc_sets.specs.Bits.{has}
-use Rattle.term_postings.specs.Cursors.{StandsBefore, first_document, first_positions}
-use Rattle.doc_sets.specs.Sets.{is_in}
-use Rattle.doc_sets.proofs.Walks.{first_below, first_there, first_in, drop_one, moved}
+use Rattle.std.proofs.Common.{◌≡◌, ℕ, ◌+◌, ◌<◌, false, List, [], length, drop, take, refl, ap, sym, subst, ◌∙◌, arith}
+use Rattle.std.specs.List.{AllByRecursion}
+use Rattle.std.proofs.lemmas.List.{drop-drop, length-take-le}
+use Rattle.term_postings.specs.Cursors.{StandsBefore, last_positions}
+use Rattle.doc_sets.proofs.Fills.{block_in, dropped_below, none_in, taken_below}
 use Rattle.doc_sets.proofs.lists.fill.Goals as goal
 
-abbrev some : ℕ → Option ℕ
-some document = Some document
+pub returns-then-count-eq0-clause-only : goal.returns-then-count-eq0-clause-only
+returns-then-count-eq0-clause-only c = λ list stands docs below.
+    let i = c.loop-passed.invariant.only list stands docs below in
+    let g = c.in-Ok.ensures.only false (drop i.0 list) i.2.0 i.2.1 in
+    let none : drop i.0 list ≡ [] = g.some (ap (λ (n : ℕ). length (take n c.next_block.new.found)) c.if-count-eq0.true) in
+    (refl, λ k. none_in k (drop i.0 list) _ _ none (i.3 k))
+
+pub returns-in_err-put_each-in-Ok-clause-only : goal.returns-in_err-put_each-in-Ok-clause-only
+returns-in_err-put_each-in-Ok-clause-only c = λ list stands docs below.
+    let i = c.loop-passed.invariant.only list stands docs below in
+    let g = c.in-Ok.ensures.only false (drop i.0 list) i.2.0 i.2.1 in
+    let given = take c.in-Ok.count c.next_block.new.found in
+    let few : AllByRecursion (λ n. n < c.loop-passed.bits.size) given =
+    subst (λ (l : List ℕ). AllByRecursion (λ n. n < c.loop-passed.bits.size) l) (sym g.passes.given_are)
+    (taken_below c.loop-passed.bits.size (length given) (drop i.0 list) (dropped_below c.loop-passed.bits.size i.0 list (subst (λ (m : ℕ). AllByRecursion (λ p. p.document < m) list) (sym c.loop-passed.invariant.size) below))) in
+    let bad = (c.in_err-put_each-in-Ok.ensures.only few).0 in
+    absurd (cc)
 
 pub returns-in-Err-clause-only : goal.returns-in-Err-clause-only
 returns-in-Err-clause-only c = λ list stands docs below.
     let i = c.loop-passed.invariant.only list stands docs below in
-    let r = (c.in-Err.ensures.only false (drop c.loop-passed.passed list) i.0.0 i.0.1).0 in
-    absurd (cc)
-
-pub returns-in-Ok-None-clause-only : goal.returns-in-Ok-None-clause-only
-returns-in-Ok-None-clause-only c = λ list stands docs below.
-    let i = c.loop-passed.invariant.only list stands docs below in
-    let r = (c.in-Ok-None.ensures.only false (drop c.loop-passed.passed list) i.0.0 i.0.1).0 in
-    let e : first_document (drop c.loop-passed.passed list) ≡ None = cc in
-    absurd (first_there c.loop-passed.passed list (omega (arith, docs, c.loop-passed-test.true)) e)
-
-pub returns-then-document-size-clause-only : goal.returns-then-document-size-clause-only
-returns-then-document-size-clause-only c = λ list stands docs below.
-    let i = c.loop-passed.invariant.only list stands docs below in
-    let r = (c.in-Ok-Some.ensures.only false (drop c.loop-passed.passed list) i.0.0 i.0.1).0 in
-    let e : first_document (drop c.loop-passed.passed list) ≡ some c.in-Ok-Some.document = cc in
-    let lt = first_below c.args.bits.now.size c.loop-passed.passed c.in-Ok-Some.document list below e in
-    absurd (omega (arith, lt, c.loop-passed.invariant.size, c.size.ensures, c.if-document-size.true))
+    absurd (c.in-Err.ensures.only false (drop i.0 list) i.2.0 i.2.1)
 
 pub loop-passed-preserved : goal.loop-passed-preserved
 loop-passed-preserved c = record {
-  size = c.insert.ensures.size ∙ c.loop-passed.invariant.size;
+  size = c.put_each.ensures.size ∙ c.loop-passed.invariant.size;
   only = λ list stands docs below.
       let i = c.loop-passed.invariant.only list stands docs below in
-      let r = c.in-Ok-Some.ensures.only false (drop c.loop-passed.passed list) i.0.0 i.0.1 in
-      let same = r.0 in
-      let e : first_document (drop c.loop-passed.passed list) ≡ some c.in-Ok-Some.document = cc in (
-        (
-          first_positions (drop c.loop-passed.passed list) i.0.0,
-          subst (λ ps. StandsBefore false c.next.new.self ps (first_positions (drop c.loop-passed.passed list) i.0.0)) (drop_one c.loop-passed.passed list) r.1,
-        ),
-        λ k. ap (λ b. b || is_in k (drop (c.loop-passed.passed + 1) list)) (c.insert.ensures.has k)
-            ∙ (moved (k == c.in-Ok-Some.document) (has c.loop-passed.bits k) (is_in k (drop (c.loop-passed.passed + 1) list))
-            ∙ (ap (λ b. has c.loop-passed.bits k || b) (sym (first_in c.loop-passed.passed c.in-Ok-Some.document k list e)) ∙ i.1 k)),
+      let g = c.in-Ok.ensures.only false (drop i.0 list) i.2.0 i.2.1 in
+      let given = take c.in-Ok.count c.next_block.new.found in
+      let few : AllByRecursion (λ n. n < c.loop-passed.bits.size) given =
+      subst (λ (l : List ℕ). AllByRecursion (λ n. n < c.loop-passed.bits.size) l) (sym g.passes.given_are)
+      (taken_below c.loop-passed.bits.size (length given) (drop i.0 list) (dropped_below c.loop-passed.bits.size i.0 list (subst (λ (m : ℕ). AllByRecursion (λ p. p.document < m) list) (sym c.loop-passed.invariant.size) below))) in
+      let put = (c.in_ok-put_each-in-Ok.ensures.only few).1 in
+      let room : length given ≡ c.in-Ok.count = length-take-le c.in-Ok.count c.next_block.new.found (let e = c.in-Ok.ensures.exact in e.3) in (
+        i.0 + length given,
+        omega (arith, i.1, room, c.if-count-eq0.false),
+        (last_positions (take (length given) (drop i.0 list)) i.2.0, subst (λ ps. StandsBefore false c.next_block.new.self ps (last_positions (take (length given) (drop i.0 list)) i.2.0)) (drop-drop (length given) i.0 list) g.passes.stands),
+        λ k. block_in k i.0 (length given) list given _ _ _ g.passes.given_are (put k) (i.3 k),
       );
 }

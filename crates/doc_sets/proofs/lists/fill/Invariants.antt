@@ -1,4 +1,4 @@
-use Rattle.std.proofs.Common.{◌≡◌, ℕ, ◌<◌, ◌||◌, false, List, [], drop, length}
+use Rattle.std.proofs.Common.{◌≡◌, ℕ, ◌<◌, ◌≤◌, ◌||◌, false, List, [], drop, length}
 use Rattle.std.specs.List.{AllByRecursion}
 use Rattle.term_postings.specs.declared.list.Posting.{Posting}
 use Rattle.term_postings.specs.Cursors.{StandsBefore}
@@ -10,5 +10,5 @@ abbrev pub invariant-loop-passed : goal.invariant-loop-passed
 invariant-loop-passed l = record {
   size : l.bits.size ≡ l.fn.bits.size;
   only : (list : List Posting) → StandsBefore false l.fn.cursor list [] → l.docs ≡ length list → AllByRecursion (λ p. p.document < l.fn.bits.size) list
-      → ((left : List ℕ) × StandsBefore false l.cursor (drop l.passed list) left) × ((k : ℕ) → has l.bits k || is_in k (drop l.passed list) ≡ has l.fn.bits k || is_in k list);
+      → (n : ℕ) × (l.passed ≤ n) × ((left : List ℕ) × StandsBefore false l.cursor (drop n list) left) × ((k : ℕ) → has l.bits k || is_in k (drop n list) ≡ has l.fn.bits k || is_in k list);
 }

@@ -7,6 +7,7 @@ use Rattle.doc_tallies.proofs.near.near_in.Given as goal
 
 abbrev pub invariant-loop-number : goal.invariant-loop-number
 invariant-loop-number l = record {
+  column : l.values.column ≡ l.column;
   only : (texts : List (List ℕ)) (entries : List Entry) → Holds l.column texts entries → l.near.items ≡ filter (λ n. is_near l.descending l.bar (first_number n entries)) (take l.number-index l.numbers);
   among : (n : ℕ) → Contains l.near.items n → Contains l.numbers n;
 }

@@ -1,0 +1,4 @@
+pub mod Reports
+pub mod Counts
+pub mod Listed
+pub mod Examples

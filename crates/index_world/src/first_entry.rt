@@ -1,0 +1,122 @@
+//! Making the index of a store that has none.
+
+ghost use Rattle.std.specs.Prelude.{◌≡◌, ◌<◌, ◌≤◌, ◌^◌, [], ◌∷◌, ℕ, List, IfOk, IfErr, IsOk, MatchResult, None, false};
+ghost use Rattle.index_config.specs.Answer.{config_answer};
+ghost use Rattle.meta_journal.specs.Loading.{loaded};
+ghost use Rattle.meta_journal.specs.Spelling.{CanSpell};
+ghost use Rattle.meta_store.specs.Answers.{answer_to};
+ghost use Rattle.meta_store.specs.History.History.{Start};
+ghost use Rattle.meta_store.specs.Readings.{reading_of};
+ghost use Rattle.meta_store.specs.State.{state_of};
+ghost use Rattle.object_store.specs.Store.{WhereTold};
+ghost use Rattle.index_world.specs.Config.{reads};
+ghost use Rattle.index_world.specs.Created.{create_at, of_first, AppendsFirst, CreatesTo, IsOfCreate};
+ghost use Rattle.index_world.specs.Life.{LifeIs};
+ghost use Rattle.index_world.specs.Taking.{IsFaultBetween};
+
+use crate::config::reading_of_text;
+use crate::life::Life;
+use crate::steady::SteadyClock;
+use crate::taking::{prepare, world_error};
+use crate::world_error::WorldError;
+use byte_fields::Bytes;
+use meta_journal::{Act, Entry, Journal, JournalError};
+use meta_store::{Meta, Reading};
+use object_store::ObjectStore;
+use std::alloc::{AllocError, Global};
+use std::mem;
+
+// The Create of a text at a moment.
+fn create_entry(alloc: Global, text: &[u8], moment: u64) -> Result<Entry, AllocError>
+    requires { moment < 2 ^ 62 }
+    ensures can { IfOk result CanSpell }
+    ensures same { IfOk result (λ entry. entry ≡ create_at text.now moment) }
+{
+    let config = Bytes::from_slice(alloc, text)?;
+    // Its length has its range.
+    let _length = config.len();
+    Ok(Entry {
+        moment,
+        act: Act::Create { config },
+    })
+}
+
+// What the journal's error is where it had no entry: one that stands there now was there first.
+fn first_error(error: JournalError, before: u64) -> WorldError
+    ensures { result ≡ of_first before error }
+{
+    match error {
+        JournalError::Adopted { .. } => WorldError::IndexExists,
+        error => world_error(error, 0, before),
+    }
+}
+
+// Appends the first entry of a journal, whose readings these are. `before` is the store's count at the start of the
+// world's call.
+fn append_first<S: ObjectStore>(
+    alloc: Global,
+    store: &mut S,
+    journal: Journal,
+    entry: Entry,
+    reading: Reading,
+    before: u64,
+) -> Result<Life, WorldError>
+    requires none { journal ≡ loaded 0 }
+    requires can { CanSpell entry }
+    requires read { reading ≡ reading_of reads None entry.act }
+    requires allowed { IsOk (answer_to reading (state_of reads Start) entry) }
+    requires early { before ≤ S.fault_count store.old }
+    ensures knows { IfOk result (λ life. LifeIs life (entry ∷ []) entry.moment false) }
+    ensures faults { IfErr result (IsFaultBetween before (S.fault_count store.new)) }
+    ensures later { S.fault_count store.old ≤ S.fault_count store.new }
+    ensures kinds { IfErr result (λ error. (text : List ℕ) → IsOfCreate text error) }
+    ensures answer { WhereTold (S.told store.old) (S.told store.new) (AppendsFirst entry result) }
+{
+    let mut journal = journal;
+    let mut meta = Meta::vacant(alloc);
+    let moment = entry.moment;
+    let handed = prepare(&mut meta, reading, &entry)?;
+    match journal.append(alloc, store, &entry) {
+        Ok(_) => {
+            meta.apply(entry, handed);
+            Ok(Life {
+                journal,
+                meta,
+                moment,
+            })
+        }
+        Err(error) => {
+            mem::drop(handed);
+            Err(first_error(error, before))
+        }
+    }
+}
+
+/// Makes the index of a store: its journal is loaded, the text is read, the clock is asked, and the Create is appended.
+pub fn create<S: ObjectStore, C: SteadyClock>(
+    alloc: Global,
+    store: &mut S,
+    clock: &mut C,
+    text: &[u8],
+) -> Result<Life, WorldError>
+    ensures clock { C.told clock.new ≡ C.told clock.old }
+    // Over all stores.
+    ensures kinds { MatchResult result (λ _. IsOk (config_answer text.now)) (IsOfCreate text.now) }
+    ensures faults { IfErr result (IsFaultBetween (S.fault_count store.old) (S.fault_count store.new)) }
+    ensures later { S.fault_count store.old ≤ S.fault_count store.new }
+    // What any store that tells is found to be, and what is done to it.
+    ensures created { WhereTold (S.told store.old) (S.told store.new) (CreatesTo text.now (C.told clock.old) (S.fault_count store.old) (S.fault_count store.new) result) }
+{
+    let before = store.faults();
+    match Journal::load(alloc, store) {
+        Ok((journal, entries)) => {
+            if !entries.is_empty() {
+                return Err(WorldError::IndexExists);
+            }
+            let reading = reading_of_text(alloc, text)?;
+            let entry = create_entry(alloc, text, clock.ask())?;
+            append_first(alloc, store, journal, entry, reading, before)
+        }
+        Err(error) => Err(world_error(error, 0, before)),
+    }
+}
