@@ -1,0 +1,90 @@
+#!/usr/bin/env bash
+# Does what docs/TUTORIAL.md tells, command by command, in a new folder, and compares what is printed with what the records
+# say. The program is the first word, or the one that `rt run` left in crates/quick_node/out. It needs dpkg-query and python3.
+set -euo pipefail
+here=$(cd "$(dirname "$0")/.." && pwd)
+program=$(realpath "${1:-$here/crates/quick_node/out/quick_node}")
+folder=$(mktemp -d)
+trap 'rm -rf "$folder"' EXIT
+cd "$folder"
+poltyqen() { "$program" demo/store demo/logs "$@"; }
+same() { # WHAT GIVEN WANTED
+    if [ "$2" != "$3" ]; then
+        printf 'differs: %s\n  given:  %s\n  wanted: %s\n' "$1" "$2" "$3" >&2
+        exit 1
+    fi
+    printf 'ok: %s\n' "$1"
+}
+# What a question over the records gives: an expression of `records`, those that the index accepts.
+told() {
+    python3 - "$1" <<'END'
+import json, sys
+records, refused = [], 0
+for line in open("demo/logs/packages", encoding="utf-8"):
+    try:
+        record = json.loads(line)
+        if not isinstance(record, dict):
+            raise ValueError
+        records.append(record)
+    except ValueError:
+        refused += 1
+words = lambda r: "".join(c if c.isalnum() else " " for c in r["body"].lower()).split()
+print(eval(sys.argv[1]))
+END
+}
+asked() { # the reply line to a request
+    { printf 'client a %s\n' "$1"; yes 'client a' | head -n 300 || true; } | poltyqen drive | grep '^{' | head -n 1
+}
+field() { python3 -c 'import json, sys; print(eval(sys.argv[1], {"r": json.load(sys.stdin)}))' "$1"; }
+
+mkdir -p demo/store demo/logs
+dpkg-query -W -f='{"name":"${Package}","section":"${Section}","size":${Installed-Size},"body":"${binary:Summary}"}\n' > demo/logs/packages
+cat > demo/config.toml <<'END'
+index_id = "packages"
+
+[doc_mapping]
+mode = "strict"
+field_mappings = [
+    { name = "name", type = "text", tokenizer = "raw" },
+    { name = "section", type = "text", tokenizer = "raw", fast = true },
+    { name = "size", type = "u64", fast = true },
+    { name = "body", type = "text", record = "position" },
+]
+
+[search_settings]
+default_search_fields = ["body"]
+
+[indexing_settings]
+split_num_docs_target = 500
+END
+same 'create' "$(poltyqen create < demo/config.toml)" created
+same 'create a second time' "$(poltyqen create < demo/config.toml || true)" 'error 9 indexexists'
+yes 'indexer 0' | head -n 100 | poltyqen drive > outcomes || true
+same 'the first steps' "$(head -n 5 outcomes | tr '\n' ';')" 'indexer 0 checkpoint;indexer 0 read 500;indexer 0 staged 1;indexer 0 uploaded 1;indexer 0 published 1;'
+same 'caught up' "$(tail -n 3 outcomes | sort -u | grep -c caughtup)" 1
+lines=$(wc -l < demo/logs/packages)
+same 'describe' "$(poltyqen describe | tail -n 2 | tr '\n' ';')" "docs $(told 'len(records)') rejected $(told 'refused');checkpoint packages $lines;"
+same 'splits' "$(poltyqen splits | wc -l)" "$(((lines + 499) / 500))"
+same 'a phrase' "$(asked '{"search":{"query":"\"shared library\"","max_hits":2}}' | field 'r["num_hits"]')" \
+    "$(told 'sum(any(w[i:i+2] == ["shared", "library"] for i in range(len(w))) for w in map(words, records))')"
+same 'a range, the greatest first' "$(asked '{"search":{"query":"size:[1000 TO 2000]","sort_by":"-size","max_hits":3}}' | field '[h["size"] for h in r["hits"]]')" \
+    "$(told 'sorted((r["size"] for r in records if 1000 <= r["size"] <= 2000), reverse=True)[:3]')"
+same 'terms' "$(asked '{"search":{"query":"*","max_hits":0,"aggs":{"sections":{"terms":{"field":"section","size":3}}}}}' | field '[(b["doc_count"], b["key"]) for b in r["aggregations"]["sections"]["buckets"]]')" \
+    "$(told '[(-n, k) for n, k in sorted((-sum(r["section"] == k for r in records), k) for k in {r["section"] for r in records})[:3]]')"
+
+# The log grows, and the program is killed while it indexes.
+cp demo/logs/packages more
+for _ in $(seq 40); do cat more; done >> demo/logs/packages
+for pause in 0.2 0.4 0.6; do
+    (yes 'indexer 0' | poltyqen drive > /dev/null 2>&1) &
+    sleep "$pause"
+    pkill -9 -f "$folder|demo/store demo/logs drive" || true
+    wait || true
+done
+yes 'indexer 0' | head -n 2000 | poltyqen drive > outcomes || true
+same 'caught up behind the kills' "$(tail -n 20 outcomes | grep -c caughtup | awk '{print ($1 > 0)}')" 1
+lines=$(wc -l < demo/logs/packages)
+same 'describe behind the kills' "$(poltyqen describe | tail -n 2 | tr '\n' ';')" "docs $(told 'len(records)') rejected $(told 'refused');checkpoint packages $lines;"
+same 'each record once' "$(asked '{"search":{"query":"*","max_hits":0}}' | field 'r["num_hits"]')" "$(told 'len(records)')"
+same 'words that are no command' "$(poltyqen frobnicate < /dev/null || true)" 'error 1 badwords'
+printf 'all as the tutorial says\n'

@@ -1,0 +1,144 @@
+#!/usr/bin/env python3
+"""Kills the program at random moments while it indexes, starts it again over the same folders, and looks at the end whether
+each record is found once.
+
+    trials/killing.py PROGRAM [--kills N] [--records N] [--seed N]
+
+The records lie in four partitions, and each has a number of its own. The program is killed (SIGKILL) so many times, and then
+let to its end. What `*` finds must be as many as there are records, and the numbers that are found, read by pages, each
+record's own, once. It prints how often it was killed, what stands in the folder, and `each record once`, or what differs.
+"""
+import argparse
+import collections
+import json
+import os
+import random
+import shutil
+import subprocess
+import sys
+import tempfile
+import threading
+import time
+
+PARTITIONS = 4
+
+CONFIG = b"""index_id = "killing"
+
+[doc_mapping]
+mode = "strict"
+
+[[doc_mapping.field_mappings]]
+name = "number"
+type = "u64"
+fast = true
+
+[[doc_mapping.field_mappings]]
+name = "body"
+type = "text"
+
+[search_settings]
+default_search_fields = ["body"]
+
+[indexing_settings]
+split_num_docs_target = 700
+"""
+
+
+def started(path, folder):
+    return subprocess.Popen([path, f"{folder}/store", f"{folder}/logs", "drive"], stdin=subprocess.PIPE, stdout=subprocess.PIPE, bufsize=0)
+
+
+def line(work, text, rest):
+    work.stdin.write(text.encode() + b"\n")
+    while b"\n" not in rest[0]:
+        piece = os.read(work.stdout.fileno(), 1 << 20)
+        if not piece:
+            return None
+        rest[0] += piece
+    said, rest[0] = rest[0].split(b"\n", 1)
+    return said.decode()
+
+
+def indexed(work):
+    """Steps the indexers in turn until all are caught up, or until the program is killed. Returns whether they are."""
+    rest, done = [b""], set()
+    try:
+        while len(done) < PARTITIONS:
+            for number in range(PARTITIONS):
+                if number not in done:
+                    said = line(work, f"indexer {number}", rest)
+                    if said is None:
+                        return False
+                    if said.endswith("caughtup"):
+                        done.add(number)
+                    elif said.split()[2] not in ("checkpoint", "read", "staged", "uploaded", "published", "stale", "lost"):
+                        raise SystemExit(f"it says: {said}")
+    except BrokenPipeError:
+        return False
+    return True
+
+
+def found(work, asked, rest):
+    line(work, "client a " + json.dumps({"search": asked}), rest)
+    while True:
+        said = line(work, "client a", rest)
+        if said.startswith("{"):
+            return json.loads(said)
+
+
+def main():
+    given = argparse.ArgumentParser(description=__doc__, formatter_class=argparse.RawDescriptionHelpFormatter)
+    given.add_argument("program")
+    given.add_argument("--kills", type=int, default=100)
+    given.add_argument("--records", type=int, default=100_000)
+    given.add_argument("--seed", type=int, default=7)
+    asked = given.parse_args()
+    chance, path = random.Random(asked.seed), os.path.abspath(asked.program)
+    folder = tempfile.mkdtemp(prefix="poltyqen-killing-")
+    os.makedirs(f"{folder}/store")
+    os.makedirs(f"{folder}/logs")
+    for part in range(PARTITIONS):
+        with open(f"{folder}/logs/p{part}", "w", encoding="utf-8") as file:
+            for number in range(part, asked.records, PARTITIONS):
+                file.write(json.dumps({"number": number, "body": f"record {number % 97}"}) + "\n")
+    made = subprocess.run([path, f"{folder}/store", f"{folder}/logs", "create"], input=CONFIG, capture_output=True, check=False)
+    if made.stdout != b"created\n":
+        raise SystemExit(f"create: {made.stdout.decode()}")
+    killed = 0
+    for _ in range(asked.kills):
+        work = started(path, folder)
+        timer = threading.Timer(chance.uniform(0.01, 0.3), work.kill)
+        timer.start()
+        indexed(work)
+        timer.cancel()
+        work.kill()
+        killed += 1
+        work.wait()
+    work = started(path, folder)
+    begun = time.monotonic()
+    if not indexed(work):
+        raise SystemExit("the last run ended early")
+    rest = [b""]
+    many = found(work, {"query": "*", "max_hits": 0}, rest)["num_hits"]
+    numbers = collections.Counter()
+    for low in range(0, asked.records, 5_000):
+        hits = found(work, {"query": f"number:[{low} TO {low + 4_999}]", "max_hits": 10_000}, rest)["hits"]
+        numbers.update(it["number"] for it in hits)
+    work.stdin.close()
+    work.wait()
+    files = len(os.listdir(f"{folder}/store/splits"))
+    entries = len(os.listdir(f"{folder}/store/meta"))
+    print(f"{killed} kills, {asked.records} records, {files} split files, {entries} journal entries; the last run took {time.monotonic() - begun:.1f} s")
+    twice = sorted(it for it, count in numbers.items() if count > 1)
+    lost = sorted(set(range(asked.records)) - set(numbers))
+    foreign = sorted(set(numbers) - set(range(asked.records)))
+    shutil.rmtree(folder)
+    if many == asked.records and not (twice or lost or foreign):
+        print("each record once")
+        return 0
+    print(f"found {many}; twice {twice[:10]}, lost {lost[:10]}, foreign {foreign[:10]}")
+    return 1
+
+
+if __name__ == "__main__":
+    sys.exit(main())
