@@ -4,6 +4,7 @@ use crate::{bytes, entries, places};
 use byte_fields::Bytes;
 use delete_tasks::covers;
 use doc_value::{Doc, Fields, Schema};
+use index_config::{FieldFormats, FieldNumbers, IndexConfig, Mode, Policy};
 use meta_journal::{Act, Entry};
 use meta_store::{Meta, Reading, Settings};
 use query_ast::Query;
@@ -26,11 +27,29 @@ pub fn answer(alloc: Global, meta: &mut Meta, line: &str) -> Result<String, Allo
     }
 }
 
-fn reading() -> Reading {
+/// A configuration of no fields.
+fn config(alloc: Global) -> IndexConfig {
+    IndexConfig {
+        schema: Schema {
+            fields: Fields::vacant(alloc),
+            timestamp: None,
+        },
+        mode: Mode::Strict,
+        timestamp_field: None,
+        formats: FieldFormats::vacant(alloc),
+        default_fields: FieldNumbers::vacant(alloc),
+        commit_timeout: 60,
+        docs_target: 100,
+        policy: Policy::NoMerge,
+        staged_grace: 200,
+        deletion_grace: 100,
+    }
+}
+
+fn reading(alloc: Global) -> Reading {
     Reading {
         config: Ok(Settings {
-            staged_grace: 200,
-            deletion_grace: 100,
+            index: config(alloc),
             period: None,
         }),
         query: Ok(Query::All),
@@ -58,7 +77,7 @@ fn take(alloc: Global, meta: &mut Meta, entry: Entry) -> Result<String, AllocErr
     if meta.revision() >= 1000 {
         return String::from_str(alloc, "many entries");
     }
-    match meta.check(&entry, reading()) {
+    match meta.check(&entry, reading(alloc)) {
         Ok(reading) => {
             meta.reserve(&entry)?;
             meta.apply(entry, reading);

@@ -121,6 +121,8 @@ pub owned_on : (own : Own) (log : Log) (core after : Core) → KeepsBut None cor
 owned_on (owns.Stage delta facts) log core after k may = tt
 owned_on (owns.Publish number) log core after k may =
     record {
+      config = may.config;
+      configured = k.configured may.config may.configured;
       delta = may.delta;
       facts = may.facts;
       bytes = may.bytes;

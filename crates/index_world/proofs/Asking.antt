@@ -18,11 +18,13 @@ use Rattle.source_checkpoint.specs.declared.delta.Part.{Part}
 use Rattle.source_log.specs.Log.{Log, records_of}
 use Rattle.split_states.specs.declared.facts.RowFacts.{RowFacts}
 use Rattle.index_world.specs.Calls.{fence_of, taken_in, asked_clock, asked_moment}
+use Rattle.index_config.specs.declared.config.IndexConfig.{IndexConfig}
 use Rattle.index_world.specs.Config.{reads}
+use Rattle.index_world.specs.Configuration.{configuration}
 use Rattle.index_world.specs.Core.{Core}
-use Rattle.index_world.specs.Index.{MayEnter, MayPublish, HasStaged, IsMade, IsUploaded, facts_of}
+use Rattle.index_world.specs.Index.{MayEnter, MayPublish, HasStaged, IsMade, IsUploaded}
 use Rattle.index_world.specs.Seen.{accepted_in, record_count}
-use Rattle.index_world.specs.SplitFile.{split_file, weight, max_documents, max_weight}
+use Rattle.index_world.specs.SplitFile.{file_of, facts_of, AreSplit}
 use Rattle.index_world.specs.World.{IsTimely}
 use Rattle.index_world.proofs.StoreKeys.{true_is_false}
 use Rattle.index_world.proofs.Numbers.{history-snoc, revision_is}
@@ -86,14 +88,15 @@ fence_enters kept core log l some t unsure =
 
 -- a number in hand whose file was made of the log and uploaded may be published
 pub made_is_publishable : (kept : State) (entries : List Entry) (log : Log) (n : ℕ) (delta : List Part) (facts : RowFacts) (bytes : List ℕ) →
-    HasStaged entries n delta facts → IsMade log delta facts bytes → IsUploaded kept entries n bytes → MayPublish kept entries log n
-made_is_publishable kept entries log n delta facts bytes s m u =
+    (config : IndexConfig) → configuration entries ≡ Some config → HasStaged entries n delta facts → IsMade config log delta facts bytes → IsUploaded kept entries n bytes → MayPublish kept entries log n
+made_is_publishable kept entries log n delta facts bytes config configured s m u =
     record {
+      config = config;
+      configured = configured;
       ends = subst (λ d. AllByRecursion (λ part. part.to ≤ length (records_of log part.partition)) d) back m.ends;
-      file = u.file ∙ ap Some (m.file ∙ ap (λ d. split_file (accepted_in log d)) back);
-      facts = λ row e. s.kept row e ∙ m.agree ∙ ap (λ d. facts_of (accepted_in log d) (record_count d - length (accepted_in log d))) back;
-      documents = subst (λ d. length (accepted_in log d) ≤ max_documents) back m.documents;
-      weight = subst (λ d. weight (accepted_in log d) ≤ max_weight) back m.weight;
+      file = u.file ∙ ap Some (m.file ∙ ap (λ d. file_of config (accepted_in config log d)) back);
+      facts = λ row e. s.kept row e ∙ m.agree ∙ ap (λ d. facts_of config (accepted_in config log d) (record_count d - length (accepted_in config log d))) back;
+      split = subst (λ d. AreSplit config (accepted_in config log d)) back m.split;
       not_late = u.not_late;
     }
   where

@@ -28,6 +28,7 @@ use Rattle.index_world.specs.declared.own.Own.TheVariants as owns
 use Rattle.index_world.specs.declared.world_error.WorldError.{WorldError}
 use Rattle.index_world.specs.declared.world_error.WorldError.TheVariants as errors
 use Rattle.index_world.specs.Calls.{Unmade, refused, troubled, faulted, is_full, may_append, or_full, full_answer, answer_behind, entry_of}
+use Rattle.index_world.specs.Configuration.{configuration}
 use Rattle.index_world.specs.Core.{Core, last_count}
 use Rattle.index_world.specs.Gate.{IsUnmade}
 use Rattle.index_world.specs.Index.{MayEnter, HasFile, HasStaged, IsUploaded, max_entries}
@@ -57,7 +58,7 @@ pub own_file : (kept : State) (core : Core) (log : Log) (own : Own) → IsWorld 
 own_file kept core log (owns.Stage delta facts) w may none = tt
 own_file kept core log (owns.Publish number) w may none =
     let j = journal_is_history core none in
-    made_is_publishable kept core.history log number may.delta may.facts may.bytes (subst (λ es. HasStaged es number may.delta may.facts) j may.staged) may.made
+    made_is_publishable kept core.history log number may.delta may.facts may.bytes may.config (subst (λ es. configuration es ≡ Some may.config) j may.configured) (subst (λ es. HasStaged es number may.delta may.facts) j may.staged) may.made
     (subst (λ es. IsUploaded kept es number may.bytes) j (uploaded-of kept core number may.bytes w.stands_for may.uploaded))
 
 pub may_append_is : (act : Act) (core : Core) → IsOk (answer_behind core.history (entry_of act core)) → length core.history < max_entries → may_append act core ≡ Ok tt

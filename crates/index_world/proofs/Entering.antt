@@ -30,15 +30,18 @@ use Rattle.source_log.specs.Log.{Log, records_of}
 use Rattle.split_states.specs.Rows.{row_at, published}
 use Rattle.split_states.specs.declared.rows.Row.{Row}
 use Rattle.split_states.specs.declared.rows.RowState.TheVariants.{Staged, Published}
+use Rattle.index_config.specs.declared.config.IndexConfig.{IndexConfig}
 use Rattle.index_world.specs.Config.{reads}
-use Rattle.index_world.specs.Index.{Stands, facts_of, IsRowSound, IsRowKept, IsStagedKey, IsLateKey, MayPublish, HasFile, MayEnter, IsBuilt, ranges_of, is_meta, is_split, max_entries}
+use Rattle.index_world.specs.Configuration.{index_of, configuration}
+use Rattle.index_world.specs.Index.{Stands, IsRowSound, IsRowKept, AreRowsKept, IsStagedKey, IsLateKey, MayPublish, HasFile, MayEnter, IsBuilt, ranges_of, is_meta, is_split, max_entries}
 use Rattle.index_world.specs.Seen.{contents, accepted_in, accepted_records, record_count, meaning, place_of}
-use Rattle.index_world.specs.SplitFile.{split_file, weight, max_documents, max_weight}
-use Rattle.index_world.specs.declared.placed.Placed.{Placed}
+use Rattle.index_world.specs.SplitFile.{file_of, facts_of, AreSplit}
+use Rattle.split_bundle.specs.declared.placed.Placed.{Placed}
 use Rattle.index_world.proofs.StoreKeys.{true_is_false, meta_key-injective, meta_begins, meta_no_split, get-same, get-other, absent_at, stood}
 use Rattle.index_world.proofs.Journals.{stand-of, Stand-same, Stand-snoc, StandFrom-of, journal-end}
 use Rattle.index_world.proofs.Numbers.{history-snoc}
 use Rattle.index_world.proofs.StoreChanges.{All-snoc, rows_more, staged_more, unpublished_more}
+use Rattle.index_world.proofs.Configured.{create_first}
 use Rattle.index_world.proofs.InHand.{Comes}
 
 -- ---- the journal
@@ -170,12 +173,12 @@ fresh_spans entries n row legal at staged =
     let h = history entries in
     subst (λ k. row.spans ≡ spans_of (stamp_of h k) (delta_of h k)) at.number ((held (IsTraced (reach h) (delta_of h) (stamp_of h)) (last_number h) (rows h) n row at (sound reads h legal).held).fresh staged)
 
-pub fresh_contents : (entries : List Entry) (log : Log) (n : ℕ) (row : Row) → Legal reads (history entries) → StandsIn (rows (history entries)) n row → row.state ≡ Staged →
-    contents (ledger reads (history entries)).tasks row log ≡ accepted_in log (delta_of (history entries) n)
-fresh_contents entries log n row legal at staged =
+pub fresh_contents : (config : IndexConfig) (entries : List Entry) (log : Log) (n : ℕ) (row : Row) → Legal reads (history entries) → StandsIn (rows (history entries)) n row → row.state ≡ Staged →
+    contents config (ledger reads (history entries)).tasks row log ≡ accepted_in config log (delta_of (history entries) n)
+fresh_contents config entries log n row legal at staged =
     let h = history entries in
-    ap (λ (ss : List Span). flat_map (λ s. filter (is_kept meaning (ledger reads h).tasks s) (accepted_records log)) ss) (fresh_spans entries n row legal at staged)
-    ∙ spans_contents (accepted_records log) (ledger reads h).tasks (stamp_of h n) (delta_of h n)
+    ap (λ (ss : List Span). flat_map (λ s. filter (is_kept meaning (ledger reads h).tasks s) (accepted_records config log)) ss) (fresh_spans entries n row legal at staged)
+    ∙ spans_contents (accepted_records config log) (ledger reads h).tasks (stamp_of h n) (delta_of h n)
 
 pub fresh_ranges : (entries : List Entry) (n : ℕ) (row : Row) → Legal reads (history entries) → StandsIn (rows (history entries)) n row → row.state ≡ Staged → ranges_of row ≡ delta_of (history entries) n
 fresh_ranges entries n row legal at staged =
@@ -183,43 +186,50 @@ fresh_ranges entries n row legal at staged =
 
 -- what a Publish needs is that its row is sound
 publish_sound : (kept : State) (entries : List Entry) (log : Log) (n : ℕ) (row : Row) → Legal reads (history entries) → StandsIn (rows (history entries)) n row → row.state ≡ Staged →
-    row_at (rows (history entries)) n ≡ Some row → MayPublish kept entries log n → IsRowSound kept (ledger reads (history entries)).tasks log (published row)
+    row_at (rows (history entries)) n ≡ Some row → (m : MayPublish kept entries log n) → IsRowSound kept m.config (ledger reads (history entries)).tasks log (published row)
 publish_sound kept entries log n row legal at staged found m =
     record {
-      file = subst (λ k. get kept.objects (split_key k) ≡ Some (split_file (contents (ledger reads h).tasks row log))) (sym at.number) (m.file ∙ ap (λ xs. Some (split_file xs)) (sym same));
-      facts = m.facts row found ∙ ap (λ xs. facts_of xs (record_count (delta_of h n) - length xs)) (sym same) ∙ ap (λ ps. facts_of (contents (ledger reads h).tasks row log) (record_count ps - length (contents (ledger reads h).tasks row log))) (sym ranges);
-      documents = subst (λ xs. length xs ≤ max_documents) (sym same) m.documents;
-      weight = subst (λ xs. weight xs ≤ max_weight) (sym same) m.weight;
+      file = subst (λ k. get kept.objects (split_key k) ≡ Some (file_of m.config (contents m.config (ledger reads h).tasks row log))) (sym at.number) (m.file ∙ ap (λ xs. Some (file_of m.config xs)) (sym same));
+      facts = m.facts row found ∙ ap (λ xs. facts_of m.config xs (record_count (delta_of h n) - length xs)) (sym same)
+          ∙ ap (λ ps. facts_of m.config (contents m.config (ledger reads h).tasks row log) (record_count ps - length (contents m.config (ledger reads h).tasks row log))) (sym ranges);
+      split = subst (AreSplit m.config) (sym same) m.split;
     }
   where
     h : History
     h = history entries
 
-    same : contents (ledger reads h).tasks row log ≡ accepted_in log (delta_of h n)
-    same = fresh_contents entries log n row legal at staged
+    same : contents m.config (ledger reads h).tasks row log ≡ accepted_in m.config log (delta_of h n)
+    same = fresh_contents m.config entries log n row legal at staged
 
     ranges : ranges_of row ≡ delta_of h n
     ranges = fresh_ranges entries n row legal at staged
 
+some_same : (one other : IndexConfig) → ◌≡◌ {A = Option IndexConfig} (Some one) (Some other) → one ≡ other
+some_same one other e = cc e
+
 rows_act : (kept : State) (entries : List Entry) (log : Log) (moment : ℕ) (act : Act) → Legal reads (history entries) → Comes (history entries) moment act →
-    HasFile kept entries log act → AllByRecursion (IsRowKept kept (ledger reads (history entries)).tasks log) (rows (history entries)) →
-    AllByRecursion (IsRowKept kept (ledger reads (history entries ▸ record { moment = moment; act = act })).tasks log) (rows (history entries ▸ record { moment = moment; act = act }))
-rows_act kept entries log moment Fence legal may f all = all
-rows_act kept entries log moment (Create config) legal may f all = all
-rows_act kept entries log moment (Stage number delta facts) legal may f all =
-    All-snoc (IsRowKept kept (ledger reads (history entries)).tasks log) (rows (history entries)) _ all (λ s. absurd (staged_no s))
-rows_act kept entries log moment (Publish n) legal may f all =
+    HasFile kept entries log act → AreRowsKept kept (configuration entries) (ledger reads (history entries)).tasks log (rows (history entries)) →
+    AreRowsKept kept (index_of (config_of reads (history entries ▸ record { moment = moment; act = act }))) (ledger reads (history entries ▸ record { moment = moment; act = act })).tasks log (rows (history entries ▸ record { moment = moment; act = act }))
+rows_act kept entries log moment Fence legal may f all config is = all config is
+rows_act kept entries log moment (Create text) legal may f all config is =
+    subst (λ rs. AllByRecursion (IsRowKept kept config (ledger reads (history entries)).tasks log) rs) (sym (create_first (history entries) moment text legal may)) tt
+rows_act kept entries log moment (Stage number delta facts) legal may f all config is =
+    All-snoc (IsRowKept kept config (ledger reads (history entries)).tasks log) (rows (history entries)) _ (all config is) (λ s. absurd (staged_no s))
+rows_act kept entries log moment (Publish n) legal may f all config is =
+    let Kept : Row → Type 0 = IsRowKept kept config (ledger reads (history entries)).tasks log in
     let r = staged_row (history entries) moment n may in
     let at = row_stands (rows (history entries)) n r.0 (sound reads (history entries) legal).held.apart r.1 in
-    let before : AllByRecursion (IsRowKept kept (ledger reads (history entries)).tasks log) (at.before ++ (r.0 ∷ at.behind)) = subst (λ rs. AllByRecursion (IsRowKept kept (ledger reads (history entries)).tasks log) rs) at.is all in
-    subst (λ rs. AllByRecursion (IsRowKept kept (ledger reads (history entries)).tasks log) rs) (sym (at.changed published))
-    (AllOf-replace (IsRowKept kept (ledger reads (history entries)).tasks log) at.before r.0 (published r.0) at.behind before (λ e. publish_sound kept entries log n r.0 legal at r.2 r.1 f))
-rows_act kept entries log moment (Replace new old upto) legal may f all = absurd f
-rows_act kept entries log moment (Raise number upto) legal may f all = absurd f
-rows_act kept entries log moment (Task opstamp text fields times) legal may f all = absurd f
-rows_act kept entries log moment (MarkStaged numbers) legal may f all = absurd f
-rows_act kept entries log moment (Remove numbers) legal may f all = absurd f
-rows_act kept entries log moment (Retire numbers) legal may f all = absurd f
+    let before : AllByRecursion Kept (at.before ++ (r.0 ∷ at.behind)) = subst (λ rs. AllByRecursion Kept rs) at.is (all config is) in
+    let same : f.config ≡ config = some_same f.config config (sym f.configured ∙ is) in
+    subst (λ rs. AllByRecursion Kept rs) (sym (at.changed published))
+    (AllOf-replace Kept at.before r.0 (published r.0) at.behind before
+    (λ e. subst (λ (c : IndexConfig). IsRowSound kept c (ledger reads (history entries)).tasks log (published r.0)) same (publish_sound kept entries log n r.0 legal at r.2 r.1 f)))
+rows_act kept entries log moment (Replace new old upto) legal may f all config is = absurd f
+rows_act kept entries log moment (Raise number upto) legal may f all config is = absurd f
+rows_act kept entries log moment (Task opstamp text fields times) legal may f all config is = absurd f
+rows_act kept entries log moment (MarkStaged numbers) legal may f all config is = absurd f
+rows_act kept entries log moment (Remove numbers) legal may f all config is = absurd f
+rows_act kept entries log moment (Retire numbers) legal may f all config is = absurd f
 
 -- ---- late creates
 
@@ -265,8 +275,8 @@ Stands-enters kept entries log entry bytes s spells e =
       no_other = no_other_more kept entries log entry bytes s;
       checkpoints = λ name. subst (λ h. (ledger reads h).checkpoints name ≤ length (records_of log name)) (sym (history-snoc entries entry))
           (checkpoints_act kept entries log entry.moment entry.act s.checkpoints e.file name);
-      rows = subst (λ h. AllByRecursion (IsRowKept new (ledger reads h).tasks log) (rows h)) (sym (history-snoc entries entry))
-          (rows_more kept (meta_key (length entries)) bytes (ledger reads (history entries ▸ entry)).tasks log (rows (history entries ▸ entry)) absent
+      rows = subst (λ (h : History). AreRowsKept new (index_of (config_of reads h)) (ledger reads h).tasks log (rows h)) (sym (history-snoc entries entry))
+          (rows_more kept (meta_key (length entries)) bytes (index_of (config_of reads (history entries ▸ entry))) (ledger reads (history entries ▸ entry)).tasks log (rows (history entries ▸ entry)) absent
           (rows_act kept entries log entry.moment entry.act s.legal e.legal.1 e.file s.rows));
       split_keys = split_keys_more kept entries log entry bytes s;
       late_keys = late_act kept entries log entry kept.late (λ n p. (publish_file kept entries log entry.act n e.file p).not_late) s.late_keys;

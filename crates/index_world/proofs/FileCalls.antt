@@ -47,10 +47,10 @@ pub record UploadLaw (old new : State) (core : Core) (log : Log) (n : ℕ) (byte
 
 filed-on : (old mid new : State) (core between after : Core) (log : Log) (n : ℕ) → Onward old mid core between log → Filed mid new between after log n → Filed old new core after log n
 filed-on old mid new core between after log n o f =
-    record { world = f.world; others = record { unused = λ m apart u. f.others.unused m apart (o.held.unused m u); uploaded = λ m b u. f.others.uploaded m b (o.held.uploaded m b u); staged = λ m d x s. f.others.staged m d x (o.held.staged m d x s) } }
+    record { world = f.world; others = record { configured = λ config e. f.others.configured config (o.held.configured config e); unused = λ m apart u. f.others.unused m apart (o.held.unused m u); uploaded = λ m b u. f.others.uploaded m b (o.held.uploaded m b u); staged = λ m d x s. f.others.staged m d x (o.held.staged m d x s) } }
 
 filed-of : (old new : State) (core after : Core) (log : Log) (n : ℕ) → Onward old new core after log → Filed old new core after log n
-filed-of old new core after log n o = record { world = o.world; others = record { unused = λ m apart u. o.held.unused m u; uploaded = o.held.uploaded; staged = o.held.staged } }
+filed-of old new core after log n o = record { world = o.world; others = record { configured = o.held.configured; unused = λ m apart u. o.held.unused m u; uploaded = o.held.uploaded; staged = o.held.staged } }
 
 absent_file : (kept : State) (core : Core) (n : ℕ) → StandsFor kept core → IsUnused kept (journal_of core) n → is_some (file_at core.files (split_key n)) ≡ false
 absent_file kept core n s u = ap is_some (s.files (split_key n) (split_outside n) ∙ u.absent)

@@ -3,7 +3,7 @@ use Rattle.std.proofs.Common.{◌≡◌, ℕ, ◌+◌, ◌<◌, ◌^◌, List, [
 use Rattle.std.proofs.lemmas.List.{reverse-append, reverse-reverse}
 use Rattle.std.proofs.lemmas.List.Sums.{fold-append}
 use Rattle.std.specs.List.{AllByRecursion}
-use Rattle.std.specs.Prelude.{Option, Some, None, Result, Ok, Err, IsErr, IfErr, length, reverse, fold, max}
+use Rattle.std.specs.Prelude.{Option, Some, None, Result, Ok, Err, IsErr, IfErr, length, reverse, max}
 use Rattle.std.specs.Result.{IsErrAnd}
 use Rattle.index_world.specs.declared.world_error.WorldError.{WorldError}
 use Rattle.meta_journal.specs.Places.{meta_key, StandFrom, IsJournal}
@@ -23,6 +23,7 @@ use Rattle.index_world.specs.Opened.{first_refused, or_behind}
 use Rattle.index_world.specs.Taking.{IsUnfit, IsRefusedAt}
 use Rattle.index_world.specs.declared.world_error.WorldError.TheVariants as errors
 use Rattle.index_world.proofs.StoreKeys.{true_is_false}
+use Rattle.index_world.proofs.Configured.{legal_front}
 use Rattle.index_world.proofs.Lives.{answers_allowed}
 use Rattle.index_world.proofs.Numbers.{history-snoc}
 
@@ -98,10 +99,6 @@ front_more all left left' e reading s s' time time' q f l applied read low m ok 
   where
     p : all ≡ f.taken ++ e ∷ reverse left'
     p = parts_more all f.taken left left' e f.parts l
-
-legal_front : (h : History) (es : List Entry) → Legal reads (fold ◌▸◌ h es) → Legal reads h
-legal_front h [] l = l
-legal_front h (e ∷ es) l = (legal_front (h ▸ e) es l).0
 
 pub front_answers : (all left left' : List Entry) (e : Entry) (reading : Said) (s : meta.State) (time : ℕ) → FrontTaken all left s time → left ≡ left' ++ e ∷ [] → ((config : Option Config) → reading ≡ reading_of reads config e.act) → Legal reads (history all) →
     IsOk (answer_to reading s e)

@@ -20,12 +20,7 @@ use Rattle.index_world.proofs.InCore.{unused-of, uploaded-of}
 use Rattle.index_world.proofs.Journals.{once}
 use Rattle.index_world.proofs.StoreKeys.{none_some}
 use Rattle.index_world.proofs.WholeFiles.{Fetches, whole_upload, whole_fetched, uploaded_in_hand}
-use Rattle.delete_tasks.specs.Ledger.{last_of}
-use Rattle.meta_store.specs.History.{History, history, last_number, last_opstamp}
-use Rattle.meta_store.specs.Rows.{rows}
-use Rattle.index_world.specs.declared.planning.Choice.{Choice}
-use Rattle.index_world.specs.declared.planning.Choice.TheVariants as choices
-use Rattle.index_world.specs.Planning.{rows_in}
+use Rattle.meta_store.specs.History.{history, last_number, last_opstamp}
 use Rattle.meta_store.specs.State as meta
 use Rattle.source_checkpoint.specs.declared.delta.Part.{Part}
 use Rattle.split_states.specs.declared.facts.RowFacts.{RowFacts}
@@ -40,7 +35,7 @@ use Rattle.index_world.specs.declared.world_error.WorldError.{WorldError}
 use Rattle.index_world.specs.Calls.{Fate, Gives, Trouble, no_memory, appended, looked, asked, asked_and_looked, asked_clock, asked_moment, entry_of, fetched, upload_made, faulted, store_fault, store_failed}
 use Rattle.index_world.specs.Config.{reads}
 use Rattle.index_world.specs.Core.{Core, last_count, journal_of, HasStagedIn, IsUnusedIn, IsUploadedIn}
-use Rattle.index_world.specs.Gate.{Does, Says, NoneBetween, IsTrouble, IsUnmade, WasStaged, IsStagedIn, WasUploaded, IsMoment, IsPieceGiven, rows_for}
+use Rattle.index_world.specs.Gate.{Does, Says, NoneBetween, IsTrouble, IsUnmade, WasStaged, IsStagedIn, WasUploaded, IsMoment, IsPieceGiven}
 use Rattle.index_world.specs.Life.{LifeIs, StandsBy, SettledSure, SettledIn, Settling, OwnMade, Appending}
 use Rattle.index_world.specs.Owning.{own_act}
 use Rattle.index_world.specs.Steps.{Counted, greatest}
@@ -315,10 +310,6 @@ looked_wholes core log old w some new answer more doubt now c l = (whole_looked 
 pub asked_wholes : (core : Core) (log : Log) (old : State) → IsWorld old (asked_clock core) log → 0 < length core.history → Wholes asked_and_looked core (asked_clock core) log old
 asked_wholes core log old w some new answer more doubt now c l =
     (whole_asked_and_looked old new core log answer more doubt now (world-same old (asked_clock core) log core.store_faults core.moment core.clock core.unsure w) some (record { later = c.later; within = c.within }) l, refl)
-
-pub rows_are : (choice : Choice) (h : History) → rows_for choice h ≡ rows_in choice (rows h)
-rows_are choices.Search h = refl
-rows_are choices.Look h = refl
 
 -- ---- the clock alone
 

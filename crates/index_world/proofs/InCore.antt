@@ -45,6 +45,7 @@ uploaded-of kept core n bytes s u = record { staged = u.staged; file = sym (s.fi
 pub keeps_all : (old new : State) (core after : Core) (log : Log) → StandsFor old core → Onward old new core after log → KeepsBut None core after
 keeps_all old new core after log s o =
     record {
+      configured = o.held.configured;
       unused = λ n other u. unused-in new after n o.world.stands_for (o.held.unused n (unused-of old core n s u));
       uploaded = λ n bytes u. uploaded-in new after n bytes o.world.stands_for (o.held.uploaded n bytes (uploaded-of old core n bytes s u));
       staged = o.held.staged;
@@ -53,6 +54,7 @@ keeps_all old new core after log s o =
 pub keeps_others : (old new : State) (core after : Core) (log : Log) (n : ℕ) → StandsFor old core → Filed old new core after log n → KeepsBut (Some n) core after
 keeps_others old new core after log n s f =
     record {
+      configured = f.others.configured;
       unused = λ m other u. unused-in new after m f.world.stands_for (f.others.unused m other (unused-of old core m s u));
       uploaded = λ m bytes u. uploaded-in new after m bytes f.world.stands_for (f.others.uploaded m bytes (uploaded-of old core m bytes s u));
       staged = f.others.staged;
@@ -63,8 +65,8 @@ pub goes-on : (old new : State) (core after : Core) (log : Log) → StandsFor ol
 goes-on old new core after log s o more grown faults moment = record { grown = (more, grown); faults = faults; moment = moment; keeps = keeps_all old new core after log s o }
 
 pub KeepsBut-refl : (core : Core) → KeepsBut None core core
-KeepsBut-refl core = record { unused = λ n other u. u; uploaded = λ n bytes u. u; staged = λ n d f s. s }
+KeepsBut-refl core = record { configured = λ config e. e; unused = λ n other u. u; uploaded = λ n bytes u. u; staged = λ n d f s. s }
 
 pub KeepsBut-trans : (one : Option ℕ) (a b c : Core) → KeepsBut one a b → KeepsBut one b c → KeepsBut one a c
 KeepsBut-trans one a b c h k =
-    record { unused = λ n other u. k.unused n other (h.unused n other u); uploaded = λ n bytes u. k.uploaded n bytes (h.uploaded n bytes u); staged = λ n d f s. k.staged n d f (h.staged n d f s) }
+    record { configured = λ config e. k.configured config (h.configured config e); unused = λ n other u. k.unused n other (h.unused n other u); uploaded = λ n bytes u. k.uploaded n bytes (h.uploaded n bytes u); staged = λ n d f s. k.staged n d f (h.staged n d f s) }

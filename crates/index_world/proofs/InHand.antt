@@ -12,7 +12,6 @@ use Rattle.meta_store.specs.History.History.{◌▸◌}
 use Rattle.meta_store.specs.Rows.{rows}
 use Rattle.meta_store.specs.Readings.{reading_of, config_of}
 use Rattle.meta_store.specs.State.{Legal, MayCome, state_of}
-use Rattle.delete_tasks.specs.Ledger.{last_of}
 use Rattle.source_checkpoint.specs.Deltas.{spans_of}
 use Rattle.source_checkpoint.specs.declared.delta.Part.{Part}
 use Rattle.split_states.specs.Rows.{row_at, published, staged}

@@ -20,13 +20,16 @@ use Rattle.source_log.specs.Log.{Log}
 use Rattle.split_states.specs.declared.facts.RowFacts.{RowFacts}
 use Rattle.split_states.specs.declared.rows.Row.{Row}
 use Rattle.index_world.specs.Config.{reads}
-use Rattle.index_world.specs.Index.{Stands, IsIndexOf, IsRowKept, IsLateKey, IsLateEntry, IsBelowEnd, IsNotLate, IsStagedKey, HasFile, MayEnter, MayLand, IsUnused, HasStaged, IsAllowed, has_staged, was_published, max_entries, is_meta, is_split}
+use Rattle.index_config.specs.declared.config.IndexConfig.{IndexConfig}
+use Rattle.index_world.specs.Configuration.{configuration}
+use Rattle.index_world.specs.Index.{Stands, IsIndexOf, IsRowKept, AreRowsKept, IsLateKey, IsLateEntry, IsBelowEnd, IsNotLate, IsStagedKey, HasFile, MayEnter, MayLand, IsUnused, HasStaged, IsAllowed, has_staged, was_published, max_entries, is_meta, is_split}
 use Rattle.index_world.specs.Held.{NoneAtEnd, KeepsHeld, Still, Enters, AfterLanding}
 use Rattle.index_world.proofs.StoreKeys.{true_is_false, split_begins, meta_no_split, split_key-injective, meta_is_no_split, outside_apart, none_some, kept_at, absent_at, stood, get-other}
 use Rattle.index_world.proofs.Journals.{stand-of, Stand-same, Stand-at, StandFrom-of, journal-end}
 use Rattle.index_world.proofs.Numbers.{revision_is, staged_le, last_le, published_le, stage_next}
 use Rattle.index_world.proofs.StoreChanges.{All-snoc, All-each, rows_more, Carries, MayEnter-carried, LateEntries-carried, staged_more, staged_last, unpublished_more}
 use Rattle.index_world.proofs.InHand.{HasStaged-more, HasStaged-new}
+use Rattle.index_world.proofs.Configured.{configured-more}
 use Rattle.index_world.proofs.Entering.{Stands-enters, built_act, publish_file}
 
 abbrev pub Object : Type 0
@@ -53,10 +56,10 @@ journal_late kept late entries j =
     StandFrom-of (lates kept late) 0 entries None (length entries) (omega arith)
     (Stand-same kept (lates kept late) 0 entries (λ n low high. refl) (stand-of kept 0 entries None j)) (journal-end kept entries j)
 
-rows_late : (kept : State) (late : List Object) (tasks : List KeptTask) (log : Log) (list : List Row) → AllByRecursion (IsRowKept kept tasks log) list → AllByRecursion (IsRowKept (lates kept late) tasks log) list
-rows_late kept late tasks log list all =
-    All-each (IsRowKept kept tasks log) (IsRowKept (lates kept late) tasks log) list
-    (λ row k e. let s = k e in record { file = s.file; facts = s.facts; documents = s.documents; weight = s.weight }) all
+rows_late : (kept : State) (late : List Object) (configured : Option IndexConfig) (tasks : List KeptTask) (log : Log) (list : List Row) → AreRowsKept kept configured tasks log list → AreRowsKept (lates kept late) configured tasks log list
+rows_late kept late configured tasks log list all config is =
+    All-each (IsRowKept kept config tasks log) (IsRowKept (lates kept late) config tasks log) list
+    (λ row k e. let s = k e in record { file = s.file; facts = s.facts; split = s.split }) (all config is)
 
 pub Stands-late : (kept : State) (late : List Object) (entries : List Entry) (log : Log) → Stands kept entries log → AllByRecursion (IsLateKey entries) late → Stands (lates kept late) entries log
 Stands-late kept late entries log s h =
@@ -67,7 +70,7 @@ Stands-late kept late entries log s h =
       within = s.within;
       no_other = s.no_other;
       checkpoints = s.checkpoints;
-      rows = rows_late kept late (ledger reads (history entries)).tasks log (rows (history entries)) s.rows;
+      rows = rows_late kept late (configuration entries) (ledger reads (history entries)).tasks log (rows (history entries)) s.rows;
       split_keys = s.split_keys;
       late_keys = h;
     }
@@ -147,6 +150,7 @@ enters-by kept late entries log entry bytes less i spells e =
       };
       none_more = none;
       held = record {
+        configured = configured-more entries entry i.stands.legal e.legal;
         unused = λ n u. record {
           staged = staged_more entries entry n u.staged;
           unpublished = unpublished_more entries entry n u.unpublished (unused_apart kept entries log entry.act n e.file u.absent);
@@ -218,7 +222,7 @@ Stands-object kept key bytes entries log s absent outside staged =
       within = s.within;
       no_other = λ other meta stands. others other meta (stood kept.objects key bytes other stands);
       checkpoints = s.checkpoints;
-      rows = rows_more kept key bytes (ledger reads (history entries)).tasks log (rows (history entries)) absent s.rows;
+      rows = rows_more kept key bytes (configuration entries) (ledger reads (history entries)).tasks log (rows (history entries)) absent s.rows;
       split_keys = λ other split stands. splits other split (stood kept.objects key bytes other stands);
       late_keys = s.late_keys;
     }
@@ -247,6 +251,7 @@ still-lands kept place o entries log at absent outside i =
       };
       enters = λ entry e. MayEnter-carried kept new entries log entry carries e;
       held = record {
+        configured = λ config e. e;
         unused = λ n u. record {
           staged = u.staged;
           unpublished = u.unpublished;
@@ -284,6 +289,7 @@ still-over kept place entries log i =
       };
       enters = λ entry e. MayEnter-carried kept new entries log entry carries e;
       held = record {
+        configured = λ config e. e;
         unused = λ n u. record { staged = u.staged; unpublished = u.unpublished; absent = u.absent; not_late = All-remove (λ l. l.0 ≡ split_key n → ⊥) kept.late place u.not_late };
         uploaded = λ n bytes u. record { staged = u.staged; file = u.file; not_late = All-remove (λ l. l.0 ≡ split_key n → ⊥) kept.late place u.not_late };
         staged = λ n delta facts h. h;
@@ -310,6 +316,7 @@ still-late old entries log n bytes i e =
       };
       enters = λ x h. MayEnter-carried old new entries log x carries h;
       held = record {
+        configured = λ config e. e;
         unused = λ m u. record { staged = u.staged; unpublished = u.unpublished; absent = u.absent; not_late = not_late m u.not_late };
         uploaded = λ m b u. record { staged = u.staged; file = u.file; not_late = not_late m u.not_late };
         staged = λ m delta facts h. h;
@@ -349,11 +356,11 @@ index-dead old entries log n bytes i lt = still-late old entries log n bytes i (
 
 pub Still-refl : (kept : State) (entries : List Entry) (log : Log) → IsIndexOf kept entries log → Still kept kept entries log
 Still-refl kept entries log i =
-    record { index = i; enters = λ entry e. e; held = record { unused = λ n u. u; uploaded = λ n bytes u. u; staged = λ n delta facts h. h } }
+    record { index = i; enters = λ entry e. e; held = record { configured = λ config e. e; unused = λ n u. u; uploaded = λ n bytes u. u; staged = λ n delta facts h. h } }
 
 pub held-trans : (a b c : State) (x y z : List Entry) → KeepsHeld a b x y → KeepsHeld b c y z → KeepsHeld a c x z
 held-trans a b c x y z h k =
-    record { unused = λ n u. k.unused n (h.unused n u); uploaded = λ n bytes u. k.uploaded n bytes (h.uploaded n bytes u); staged = λ n d f s. k.staged n d f (h.staged n d f s) }
+    record { configured = λ config e. k.configured config (h.configured config e); unused = λ n u. k.unused n (h.unused n u); uploaded = λ n bytes u. k.uploaded n bytes (h.uploaded n bytes u); staged = λ n d f s. k.staged n d f (h.staged n d f s) }
 
 pub Still-trans : (a b c : State) (entries : List Entry) (log : Log) → Still a b entries log → Still b c entries log → Still a c entries log
 Still-trans a b c entries log h k =

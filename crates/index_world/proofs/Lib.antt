@@ -1,15 +1,11 @@
-pub mod Accepts
 pub mod Said
-pub mod SplitNames
-pub mod SplitFacts
-pub mod SplitReads
-pub mod SplitParts
-pub mod Placing
 pub mod StoreKeys
 pub mod Journals
 pub mod Numbers
 pub mod StoreChanges
 pub mod InHand
+pub mod Asking
+pub mod Configured
 pub mod Entering
 pub mod Indexing
 pub mod WholeIndex
@@ -20,7 +16,6 @@ pub mod WorldCalls
 pub mod JournalCalls
 pub mod Transactions
 pub mod Transacting
-pub mod Asking
 pub mod InCore
 pub mod FileCalls
 pub mod Opening

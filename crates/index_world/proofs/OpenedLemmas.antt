@@ -1,8 +1,7 @@
 -- What the objects of a journal are, by what a load of it read.
-use Rattle.std.proofs.Common.{◌≡◌, ℕ, zero, suc, ◌+◌, ◌<◌, ◌≤◌, List, [], ◌∷◌, refl, sym, ap, ◌∙◌, subst, length, arith, add-zero, zero-add, Bool, true, false}
+use Rattle.std.proofs.Common.{◌≡◌, ℕ, zero, suc, ◌+◌, ◌<◌, ◌≤◌, List, [], ◌∷◌, refl, sym, ap, ◌∙◌, subst, length, arith, add-zero, zero-add, Bool, true}
 use Rattle.std.specs.Result.{IsErrAnd}
 use Rattle.std.specs.Prelude.{Option, Some, None, IsSome, is_some, Result, Ok, Err, ⊤}
-use Rattle.byte_fields.specs.Causes.{Rose}
 use Rattle.meta_journal.proofs.EntryLaws.{entry_again}
 use Rattle.meta_journal.specs.Journal.{Numbered, IsCorrupt, FaultIs}
 use Rattle.meta_journal.specs.Loading.{LoadsEntries, IsLoaded, IsSpoilt, loaded}
@@ -17,9 +16,9 @@ use Rattle.meta_store.specs.State.{state_of}
 use Rattle.object_store.proofs.Landings.{HasLanded-trans}
 use Rattle.object_store.specs.Store.{State, WhereTold}
 use Rattle.index_world.specs.Config.{reads}
-use Rattle.index_world.specs.Opened.{Found, none_found, all_found, bad_at, before_rest, entries_from, first_refused, found_by, found_of, ObjectsFrom, Finds, OpensIndex, OpensNot, OpensAnew}
-use Rattle.index_world.specs.Life.{LifeIs, FindsLife, OpensTo}
-use Rattle.index_world.specs.Taking.{IsWant, IsRefusedAt, of_journal}
+use Rattle.index_world.specs.Opened.{all_found, bad_at, before_rest, entries_from, first_refused, found_by, found_of, ObjectsFrom, Finds, OpensIndex, OpensNot, OpensAnew}
+use Rattle.index_world.specs.Life.{FindsLife, OpensTo}
+use Rattle.index_world.specs.Taking.{IsRefusedAt, of_journal}
 use Rattle.index_world.specs.Unsure.{is_unsure}
 use Rattle.index_world.specs.World.{Keeping}
 use Rattle.index_world.specs.declared.life.Life.{Life}

@@ -89,6 +89,7 @@ file-stands kept entries log n bytes i u = (
         (record { files = λ m b stands. kept_at kept.objects (split_key n) bytes (split_key m) b u.absent stands; lates = λ m b stands h. h }) i.late_entries;
   },
   record {
+    configured = λ config e. e;
     unused = λ m apart v. record {
       staged = v.staged;
       unpublished = v.unpublished;
@@ -114,6 +115,7 @@ file-late kept entries log n bytes i u = (
         (λ meta. absurd (true_is_false (sym meta ∙ split_outside n)));
   },
   record {
+    configured = λ config e. e;
     unused = λ m apart v. record {
       staged = v.staged;
       unpublished = v.unpublished;
@@ -150,7 +152,7 @@ landed_to old mid entries log (inr (entry, enters)) =
 
 others-on : (old mid new : State) (entries more : List Entry) (n : ℕ) → KeepsHeld old mid entries more → KeepsOthers mid new more more n → KeepsOthers old new entries more n
 others-on old mid new entries more n h k =
-    record { unused = λ m apart u. k.unused m apart (h.unused m u); uploaded = λ m b u. k.uploaded m b (h.uploaded m b u); staged = λ m d f s. k.staged m d f (h.staged m d f s) }
+    record { configured = λ config e. k.configured config (h.configured config e); unused = λ m apart u. k.unused m apart (h.unused m u); uploaded = λ m b u. k.uploaded m b (h.uploaded m b u); staged = λ m d f s. k.staged m d f (h.staged m d f s) }
 
 grown-on : (late late' : List Object) (entries more : List Entry) → (NoneAtEnd late more → NoneAtEnd late' more) →
     (more ≡ entries) ⊎ ((entry : Entry) × (more ≡ entries ++ entry ∷ []) × NoneAtEnd late more) → (more ≡ entries) ⊎ ((entry : Entry) × (more ≡ entries ++ entry ∷ []) × NoneAtEnd late' more)
@@ -186,7 +188,7 @@ uploads-by old mid new entries log n bytes (Err creates.Failed) l u (inr (inl is
 uploads-by old mid new entries log n bytes (Err creates.Failed) l u (inr (inr d)) = absurd (true_is_false (sym d.0 ∙ ap is_some (l.held.unused n u).absent))
 uploads-by old mid new entries log n bytes (Err (creates.Memory a)) l u d =
     subst (λ k. AfterUpload (Err (creates.Memory a)) old k entries log n bytes) (sym d)
-    (record { more = l.more; goes = l.goes; held = record { unused = λ m apart v. l.held.unused m v; uploaded = l.held.uploaded; staged = l.held.staged } }, l.held.unused n u)
+    (record { more = l.more; goes = l.goes; held = record { configured = l.held.configured; unused = λ m apart v. l.held.unused m v; uploaded = l.held.uploaded; staged = l.held.staged } }, l.held.unused n u)
 
 -- 4. an upload
 pub index-uploads : (old new : State) (entries : List Entry) (log : Log) (number : ℕ) (bytes : List ℕ) (answer : Result (Unit {0}) CreateError) → IsIndexOf old entries log →
@@ -217,7 +219,7 @@ index-vacant log =
         within = omega arith;
         no_other = λ key meta stands. absurd (true_is_false (sym stands ∙ ap is_some (finmap.get-empty (slice_cmp nat_cmp) key)));
         checkpoints = λ name. omega arith;
-        rows = tt;
+        rows = λ config is. tt;
         split_keys = λ key split stands. absurd (true_is_false (sym stands ∙ ap is_some (finmap.get-empty (slice_cmp nat_cmp) key)));
         late_keys = tt;
       };

@@ -4,7 +4,7 @@ use Rattle.std.proofs.lemmas.Bool.{eq-eqb}
 use Rattle.std.proofs.lemmas.List.Folds.{list_any-append}
 use Rattle.std.specs.FinMap.{get}
 use Rattle.std.specs.List.{AllByRecursion, list_any}
-use Rattle.std.specs.Prelude.{Some, None, ◌==◌, ◌||◌}
+use Rattle.std.specs.Prelude.{Option, Some, None, ◌==◌, ◌||◌}
 use Rattle.meta_journal.specs.Places.{split_key}
 use Rattle.meta_journal.specs.declared.entry.Act.{Act}
 use Rattle.meta_journal.specs.declared.entry.Act.TheVariants.{Fence, Create, Stage, Publish, Replace, Raise, Task, MarkStaged, Remove, Retire}
@@ -17,7 +17,8 @@ use Rattle.source_checkpoint.specs.declared.delta.Part.{Part}
 use Rattle.source_log.specs.Log.{Log}
 use Rattle.split_states.specs.declared.facts.RowFacts.{RowFacts}
 use Rattle.split_states.specs.declared.rows.Row.{Row}
-use Rattle.index_world.specs.Index.{IsRowSound, IsRowKept, IsNotLate, MayPublish, HasFile, MayEnter, MayLand, IsBelowEnd, IsLateEntry, has_staged, was_published}
+use Rattle.index_config.specs.declared.config.IndexConfig.{IndexConfig}
+use Rattle.index_world.specs.Index.{IsRowSound, IsRowKept, AreRowsKept, IsNotLate, MayPublish, HasFile, MayEnter, MayLand, IsBelowEnd, IsLateEntry, has_staged, was_published}
 use Rattle.index_world.proofs.StoreKeys.{true_is_false, kept_at}
 use Rattle.index_world.proofs.Numbers.{history-snoc, any_last}
 
@@ -33,15 +34,15 @@ All-each P Q (x ∷ xs) f h = (f x h.0, All-each P Q xs f h.1)
 
 -- ---- rows
 
-pub RowSound-more : (kept : State) (key bytes : List ℕ) (tasks : List KeptTask) (log : Log) (row : Row) → get kept.objects key ≡ None → IsRowSound kept tasks log row →
-    IsRowSound (with_object kept key bytes) tasks log row
-RowSound-more kept key bytes tasks log row absent s =
-    record { file = kept_at kept.objects key bytes (split_key row.number) _ absent s.file; facts = s.facts; documents = s.documents; weight = s.weight }
+pub RowSound-more : (kept : State) (key bytes : List ℕ) (config : IndexConfig) (tasks : List KeptTask) (log : Log) (row : Row) → get kept.objects key ≡ None → IsRowSound kept config tasks log row →
+    IsRowSound (with_object kept key bytes) config tasks log row
+RowSound-more kept key bytes config tasks log row absent s =
+    record { file = kept_at kept.objects key bytes (split_key row.number) _ absent s.file; facts = s.facts; split = s.split }
 
-pub rows_more : (kept : State) (key bytes : List ℕ) (tasks : List KeptTask) (log : Log) (rows : List Row) → get kept.objects key ≡ None →
-    AllByRecursion (IsRowKept kept tasks log) rows → AllByRecursion (IsRowKept (with_object kept key bytes) tasks log) rows
-rows_more kept key bytes tasks log rows absent all =
-    All-each (IsRowKept kept tasks log) (IsRowKept (with_object kept key bytes) tasks log) rows (λ row k e. RowSound-more kept key bytes tasks log row absent (k e)) all
+pub rows_more : (kept : State) (key bytes : List ℕ) (configured : Option IndexConfig) (tasks : List KeptTask) (log : Log) (rows : List Row) → get kept.objects key ≡ None →
+    AreRowsKept kept configured tasks log rows → AreRowsKept (with_object kept key bytes) configured tasks log rows
+rows_more kept key bytes configured tasks log rows absent all config is =
+    All-each (IsRowKept kept config tasks log) (IsRowKept (with_object kept key bytes) config tasks log) rows (λ row k e. RowSound-more kept key bytes config tasks log row absent (k e)) (all config is)
 
 -- ---- what an entry needs of the store
 
@@ -53,11 +54,12 @@ pub record Carries (old new : State) : Type 0 where
 MayPublish-carried : (old new : State) (entries : List Entry) (log : Log) (n : ℕ) → Carries old new → MayPublish old entries log n → MayPublish new entries log n
 MayPublish-carried old new entries log n c m =
     record {
+      config = m.config;
+      configured = m.configured;
       ends = m.ends;
       file = c.files n _ m.file;
       facts = m.facts;
-      documents = m.documents;
-      weight = m.weight;
+      split = m.split;
       not_late = c.lates n _ m.file m.not_late;
     }
 

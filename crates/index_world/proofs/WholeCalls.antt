@@ -79,6 +79,7 @@ counted_asked core now c = record { later = c.later; within = c.within }
 pub keeps_asked : (core : Core) → KeepsBut None core (asked_clock core)
 keeps_asked core =
     record {
+      configured = λ config e. e;
       unused = λ n other u. record { staged = u.staged; unpublished = u.unpublished; absent = u.absent; not_late = u.not_late };
       uploaded = λ n bytes u. record { staged = u.staged; file = u.file; not_late = u.not_late };
       staged = λ n d f s. s;

@@ -1,5 +1,5 @@
 -- An index, said by what may enter, is an index said by what holds again.
-use Rattle.std.proofs.Common.{◌≡◌, ◌⊎◌, ◌↔◌, ℕ, ◌+◌, ◌-◌, ◌^◌, ◌<◌, ◌≤◌, List, [], ◌∷◌, ◌++◌, refl, sym, ap, ◌∙◌, subst, inl, inr, Bool, true, false, length, map, arith}
+use Rattle.std.proofs.Common.{◌≡◌, ◌⊎◌, ◌↔◌, ℕ, ◌+◌, ◌-◌, ◌≤◌, List, [], ◌∷◌, ◌++◌, refl, sym, ap, ◌∙◌, subst, inl, inr, Bool, true, false, length, map, arith}
 use Rattle.std.proofs.lemmas.Bool.{eq-eqb}
 use Rattle.std.proofs.lemmas.List.{length-append}
 use Rattle.std.proofs.lemmas.List.Folds.{list_any-append}
@@ -7,7 +7,7 @@ use Rattle.std.specs.FinMap.{get}
 use Rattle.std.specs.List.{AllByRecursion, list_any}
 use Rattle.std.specs.Prelude.{Option, Some, None, ◌==◌, if◌then◌else◌, bytes_eq}
 use Rattle.std.specs.Cmp.Lexicographic.{bytes_decides}
-use Rattle.meta_journal.specs.Places.{meta_key, split_key, Stand, HasEntry}
+use Rattle.meta_journal.specs.Places.{meta_key, split_key, Stand}
 use Rattle.meta_journal.specs.Spelling.{CanSpell}
 use Rattle.meta_journal.specs.declared.entry.Act.{Act}
 use Rattle.meta_journal.specs.declared.entry.Act.TheVariants.{Fence, Create, Stage, Publish, Replace, Raise, Task, MarkStaged, Remove, Retire}
@@ -28,12 +28,13 @@ use Rattle.source_log.specs.Log.{Log, IsLog, records_of}
 use Rattle.split_states.specs.Rows.{row_at, row_spans, published}
 use Rattle.split_states.specs.declared.rows.Row.{Row}
 use Rattle.split_states.specs.declared.rows.RowState.TheVariants.{Staged}
+use Rattle.index_config.specs.declared.config.IndexConfig.{IndexConfig}
 use Rattle.index_world.specs.Config.{reads}
-use Rattle.index_world.specs.Index.{Stands, facts_of, ranges_of, IsRowSound, IsRowKept, IsSplitKept, IsLateKey, IsLateEntry, IsBelowEnd, IsBelowOrAgain, IsBuilt, MayPublish, MayLand, HasFile, HoldsAgain, IsIndexOf, IsWholeIndexOf, is_split, has_staged, was_published, max_entries}
+use Rattle.index_world.specs.Configuration.{index_of, configuration}
+use Rattle.index_world.specs.Index.{Stands, ranges_of, IsRowSound, IsRowKept, AreRowsKept, IsSplitKept, IsLateKey, IsLateEntry, IsBelowEnd, IsBelowOrAgain, IsBuilt, MayPublish, MayLand, HasFile, HoldsAgain, IsIndexOf, IsWholeIndexOf, is_split, was_published, max_entries}
 use Rattle.index_world.specs.Seen.{contents, accepted_in, record_count}
-use Rattle.index_world.specs.SplitFile.{split_file, weight, max_documents, max_weight}
+use Rattle.index_world.specs.SplitFile.{file_of, facts_of, AreSplit}
 use Rattle.index_world.proofs.StoreKeys.{true_is_false, split_begins, meta_is_no_split, split_key-injective, get-other}
-use Rattle.index_world.proofs.Placing.{contents-placed}
 use Rattle.index_world.proofs.Journals.{stand-of}
 use Rattle.index_world.proofs.Numbers.{history-snoc, staged_le, published_le}
 use Rattle.index_world.proofs.StoreChanges.{All-each, last_or}
@@ -96,6 +97,14 @@ publishes h m n may = by (config_of reads h) may
         let r = the_row (row_at (rows h) n) _ f.0 in
         record { row = r.0; found = r.1; staged = r.2.0; delta = subst (λ (o : Option Row). IsDelta (map range_of (row_spans o))) r.1 f.1.0 }
 
+-- behind a configuration
+begun_by : (h : History) (m n : ℕ) → Comes h m (Publish n) → (config : IndexConfig) × (index_of (config_of reads h) ≡ Some config)
+begun_by h m n may = by (config_of reads h) refl may
+  where
+    by : (c : Option Config) → config_of reads h ≡ c → MayCome (reading_of reads c (Publish n)) c (state_of reads h) m (Publish n) → (config : IndexConfig) × (index_of (config_of reads h) ≡ Some config)
+    by None e f = absurd f
+    by (Some config) e f = (config.settings.index, ap index_of e)
+
 published_last : (entries : List Entry) (moment n : ℕ) → was_published (entries ++ record { moment = moment; act = Publish n } ∷ []) n ≡ true
 published_last entries moment n =
     ap (λ h. list_any (λ k. k == n) (published_numbers h)) (history-snoc entries (record { moment = moment; act = Publish n }))
@@ -131,23 +140,27 @@ module _ (kept : State) (entries : List Entry) (log : Log) (moment n : ℕ) (byt
   publish_again s' =
       let legal : Legal reads (h ▸ record { moment = moment; act = Publish n }) = subst (Legal reads) snoc s'.legal in
       let p = publishes h moment n legal.1.1 in
+      let b = begun_by h moment n legal.1.1 in
       let at : StandsIn (rows h) n p.row = row_stands (rows h) n p.row (sound reads h s.legal).held.apart p.found in
-      let all = subst (λ (t : History). AllByRecursion (IsRowKept new (ledger reads t).tasks log) (rows t)) snoc s'.rows in
-      let row : IsRowSound new (ledger reads h).tasks log (published p.row) = AllOf-at (IsRowKept new (ledger reads h).tasks log) at.before (published p.row) at.behind (subst (λ rs. AllByRecursion (IsRowKept new (ledger reads h).tasks log) rs) (at.changed published) all) refl in
-      let same : contents (ledger reads h).tasks p.row log ≡ accepted_in log (delta_of h n) = fresh_contents entries log n p.row s.legal at p.staged in
+      let config : IndexConfig = b.0 in
+      let all : AreRowsKept new (index_of (config_of reads h)) (ledger reads h).tasks log (rows (h ▸ record { moment = moment; act = Publish n })) =
+      subst (λ (t : History). AreRowsKept new (index_of (config_of reads t)) (ledger reads t).tasks log (rows t)) snoc s'.rows in
+      let row : IsRowSound new config (ledger reads h).tasks log (published p.row) = AllOf-at (IsRowKept new config (ledger reads h).tasks log) at.before (published p.row) at.behind (subst (λ rs. AllByRecursion (IsRowKept new config (ledger reads h).tasks log) rs) (at.changed published) (all config b.1)) refl in
+      let same : contents config (ledger reads h).tasks p.row log ≡ accepted_in config log (delta_of h n) = fresh_contents config entries log n p.row s.legal at p.staged in
       let ranges : ranges_of p.row ≡ delta_of h n = fresh_ranges entries n p.row s.legal at p.staged in
       record {
+        config = config;
+        configured = b.1;
         ends = delta_ends (λ name. length (records_of log name)) (ledger reads h).checkpoints (delta_of h n) s.checkpoints (subst IsDelta ranges p.delta)
             (λ name. subst (λ (t : History). (ledger reads t).checkpoints name ≤ length (records_of log name)) snoc (s'.checkpoints name));
         file = sym (get-other kept.objects (meta_key (length entries)) bytes (split_key n) (meta_is_no_split (length entries) n))
-            ∙ subst (λ (k : ℕ). get new.objects (split_key k) ≡ Some (split_file (contents (ledger reads h).tasks p.row log))) at.number row.file ∙ ap (λ xs. Some (split_file xs)) same;
+            ∙ subst (λ (k : ℕ). get new.objects (split_key k) ≡ Some (file_of config (contents config (ledger reads h).tasks p.row log))) at.number row.file ∙ ap (λ xs. Some (file_of config xs)) same;
         facts = λ other found.
             let both : ◌≡◌ {A = Option Row} (Some other) (Some p.row) = sym found ∙ p.found in
             let is : other ≡ p.row = cc both in
-            ap (λ (r : Row). r.facts) is ∙ row.facts ∙ ap (λ xs. facts_of xs (record_count (ranges_of p.row) - length xs)) same
-            ∙ ap (λ ps. facts_of (accepted_in log (delta_of h n)) (record_count ps - length (accepted_in log (delta_of h n)))) ranges;
-        documents = subst (λ xs. length xs ≤ max_documents) same row.documents;
-        weight = subst (λ xs. weight xs ≤ max_weight) same row.weight;
+            ap (λ (r : Row). r.facts) is ∙ row.facts ∙ ap (λ xs. facts_of config xs (record_count (ranges_of p.row) - length xs)) same
+            ∙ ap (λ ps. facts_of config (accepted_in config log (delta_of h n)) (record_count ps - length (accepted_in config log (delta_of h n)))) ranges;
+        split = subst (AreSplit config) same row.split;
         not_late = All-each (IsLateKey whole) (λ (late : Object). late.0 ≡ split_key n → ⊥) kept.late (no_late s') s'.late_keys;
       }
 
@@ -209,7 +222,13 @@ one_index kept entries log = (index_whole kept entries log, whole_index kept ent
 
 -- ---- the files of published rows
 
-pub published_splits : (kept : State) (entries : List Entry) (log : Log) → IsLog log → IsIndexOf kept entries log → AllByRecursion (IsSplitKept kept (ledger reads (history entries)).tasks log) (rows (history entries))
-published_splits kept entries log is i =
-    All-each (IsRowKept kept (ledger reads (history entries)).tasks log) (IsSplitKept kept (ledger reads (history entries)).tasks log) (rows (history entries))
-    (λ row k e. let s = k e in (split_file (contents (ledger reads (history entries)).tasks row log), s.file, record { placed = contents-placed (ledger reads (history entries)).tasks row log is; spelled = refl })) i.stands.rows
+pub published_splits : (kept : State) (entries : List Entry) (log : Log) (config : IndexConfig) → configuration entries ≡ Some config → IsLog log → IsIndexOf kept entries log →
+    AllByRecursion (IsSplitKept kept config (ledger reads (history entries)).tasks log) (rows (history entries))
+published_splits kept entries log config configured is i =
+    All-each (IsRowKept kept config (ledger reads (history entries)).tasks log) (IsSplitKept kept config (ledger reads (history entries)).tasks log) (rows (history entries))
+    (λ row k e.
+    let s = k e in (
+      file_of config (contents config (ledger reads (history entries)).tasks row log),
+      s.file,
+      s.split.stands,
+    )) (i.stands.rows config configured)

@@ -1,35 +1,21 @@
--- The one configuration that is read so far, byte for byte, and what it says. Until any configuration is read, each other
--- text is answered with one error of its reader, and each task's with one of its own.
-use Rattle.std.specs.Prelude.{ℕ, true, false, List, [], ◌∷◌, None, Result, Ok, Err, codes, bytes_eq, if◌then◌else◌}
-use Rattle.doc_value.specs.declared.schema.Kind.TheVariants as kinds
-use Rattle.doc_value.specs.declared.schema.Schema.{Schema}
-use Rattle.doc_value.specs.declared.schema.Tokenizer.TheVariants as tokenizers
+-- What the readers of texts say: a configuration is what its bytes are. No task is read yet.
+use Rattle.std.specs.Prelude.{ℕ, List, None, Result, Ok, Err}
+use Rattle.index_config.specs.Answer.{config_answer}
+use Rattle.index_config.specs.declared.config.IndexConfig.{IndexConfig}
+use Rattle.index_config.specs.declared.config_error.ConfigError.{ConfigError}
 use Rattle.meta_store.specs.Readings.{Reads}
 use Rattle.meta_store.specs.declared.config.Settings.{Settings}
-use Rattle.index_config.specs.declared.config_error.ConfigError.{ConfigError}
-use Rattle.index_config.specs.declared.config_error.ConfigError.TheVariants.{NotToml}
 use Rattle.query_ast.specs.Sought.{Sought}
 use Rattle.query_reader.specs.declared.refusal.QueryError.{QueryError}
 use Rattle.query_reader.specs.declared.refusal.QueryError.TheVariants.{Syntax}
 
-abbrev pub logs_config : List ℕ
-logs_config = codes "version = \"0.9\"\nindex_id = \"logs\"\n[doc_mapping]\nmode = \"strict\"\n[[doc_mapping.field_mappings]]\nname = \"body\"\ntype = \"text\"\nrecord = \"position\"\n[[doc_mapping.field_mappings]]\nname = \"level\"\ntype = \"text\"\ntokenizer = \"raw\"\nfast = true\n[indexing_settings.merge_policy]\ntype = \"stable_log\"\nmin_level_num_docs = 100\nmerge_factor = 2\nmax_merge_factor = 4\n[search_settings]\ndefault_search_fields = [\"body\"]\n[upkeep]\nstaged_grace_secs = 200\ndeletion_grace_secs = 100\n"
-
-abbrev pub logs_settings : Settings
-logs_settings = record { staged_grace = 200; deletion_grace = 100; period = None }
+-- documents are not retired by their age
+abbrev pub settings_of : Result IndexConfig ConfigError → Result Settings ConfigError
+settings_of (Ok index) = Ok (record { index = index; period = None })
+settings_of (Err error) = Err error
 
 abbrev pub read_config : List ℕ → Result Settings ConfigError
-read_config text = if bytes_eq text logs_config then Ok logs_settings else Err NotToml
-
--- its fields in byte order of their paths
-abbrev pub logs_schema : Schema
-logs_schema =
-    record {
-      fields =
-          record { path = codes "body"; kind = kinds.Text; fast = false; indexed = true; tag = false; tokenizer = tokenizers.Default; positions = true }
-          ∷ record { path = codes "level"; kind = kinds.Text; fast = true; indexed = true; tag = false; tokenizer = tokenizers.Raw; positions = false } ∷ [];
-      timestamp = None;
-    }
+read_config text = settings_of (config_answer text)
 
 -- no task is read yet
 abbrev pub read_query : (config text : List ℕ) → (fields : List (List ℕ)) → Result Sought QueryError
@@ -37,10 +23,3 @@ read_query config text fields = Err (Syntax 0)
 
 abbrev pub reads : Reads
 reads = record { config = read_config; query = read_query }
-
--- how many records close a batch, and how many seconds after its first read it is closed
-abbrev pub docs_target : ℕ
-docs_target = 10000000
-
-abbrev pub commit_timeout : ℕ
-commit_timeout = 60

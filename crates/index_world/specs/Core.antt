@@ -1,10 +1,12 @@
 -- What one life of a world knows of its store and its clock, whatever its actors do.
 use Rattle.std.specs.Prelude.{◌≡◌, ℕ, ◌-◌, ◌^◌, Bool, true, false, List, [], ◌∷◌, ◌++◌, Option, Some, None, bytes_eq, if◌then◌else◌}
 use Rattle.std.specs.List.{AllByRecursion}
+use Rattle.index_config.specs.declared.config.IndexConfig.{IndexConfig}
 use Rattle.meta_journal.specs.Places.{meta_key, split_key}
 use Rattle.meta_journal.specs.declared.entry.Entry.{Entry}
 use Rattle.source_checkpoint.specs.declared.delta.Part.{Part}
 use Rattle.split_states.specs.declared.facts.RowFacts.{RowFacts}
+use Rattle.index_world.specs.Configuration.{configuration, StaysConfigured}
 use Rattle.index_world.specs.Index.{has_staged, was_published, HasStaged}
 
 -- an object outside the journal
@@ -61,6 +63,10 @@ with_unread entries (Some entry) = entries ++ entry ∷ []
 abbrev pub journal_of : Core → List Entry
 journal_of core = with_unread core.history core.standing
 
+-- the index of the core has this configuration
+abbrev pub IsConfigured : IndexConfig → Core → Type 0
+IsConfigured config core = configuration (journal_of core) ≡ Some config
+
 -- ---- numbers in hand, in the words of the core
 
 abbrev pub IsNotLateIn : Core → List ℕ → Type 0
@@ -88,8 +94,9 @@ abbrev pub IsOther : Option ℕ → ℕ → Type 0
 IsOther None number = Unit {0}
 IsOther (Some one) number = number ≡ one → ⊥
 
--- from one call to the next numbers in hand stay as they were, all but this one
+-- from one call to the next the configuration and numbers in hand stay as they were, all but this one
 pub record KeepsBut (one : Option ℕ) (core after : Core) : Type 0 where
+  pub configured : StaysConfigured (journal_of core) (journal_of after)
   pub unused : (number : ℕ) → IsOther one number → IsUnusedIn core number → IsUnusedIn after number
   pub uploaded : (number : ℕ) (bytes : List ℕ) → IsUploadedIn core number bytes → IsUploadedIn after number bytes
   pub staged : (number : ℕ) (delta : List Part) (facts : RowFacts) → HasStagedIn core number delta facts → HasStagedIn after number delta facts

@@ -1,28 +1,27 @@
 -- What the calls of a gate to a world say.
-use Rattle.std.specs.Prelude.{◌≡◌, ◌+◌, ◌<◌, true, ℕ, List, [], length, map, filter, nat_lt, Option, Result, Ok, Err, ⊤}
+use Rattle.std.specs.Prelude.{◌≡◌, ◌+◌, ◌<◌, true, ℕ, List, length, map, Option, Result, Ok, Err, ⊤}
+use Rattle.index_config.specs.declared.config.IndexConfig.{IndexConfig}
 use Rattle.object_store.specs.Store.{State, IsPieceOf}
 use Rattle.meta_journal.specs.declared.entry.Act.{Act}
 use Rattle.meta_journal.specs.declared.entry.Act.TheVariants.{Stage, Publish}
-use Rattle.meta_store.specs.History.{History, history, last_number, last_opstamp}
+use Rattle.meta_store.specs.History.{history, last_number, last_opstamp}
 use Rattle.meta_store.specs.Rows.{rows}
 use Rattle.meta_store.specs.State.{checkpoints_of}
-use Rattle.delete_tasks.specs.Ledger.{last_of}
 use Rattle.object_store.specs.declared.store.Piece.{Piece}
 use Rattle.source_checkpoint.specs.declared.delta.Part.{Part}
 use Rattle.source_log.specs.Log.{Log}
-use Rattle.split_states.specs.Rows.{is_published}
 use Rattle.split_states.specs.declared.facts.RowFacts.{RowFacts}
-use Rattle.split_states.specs.declared.rows.Row.{Row}
-use Rattle.index_world.specs.declared.planning.Choice.{Choice}
-use Rattle.index_world.specs.declared.planning.Choice.TheVariants as choices
-use Rattle.index_world.specs.declared.planning.PlanRow.{PlanRow}
+use Rattle.index_world.specs.Config.{reads}
+use Rattle.meta_store.specs.Planning.{rows_for, planned_row}
+use Rattle.meta_store.specs.Readings.{config_of}
+use Rattle.meta_store.specs.declared.planning.Choice.{Choice}
 use Rattle.index_world.specs.declared.tokens.Marks.{Marks}
 use Rattle.index_world.specs.declared.tokens.Plan.{Plan}
 use Rattle.index_world.specs.declared.tokens.Staged.{Staged}
 use Rattle.index_world.specs.declared.tokens.Uploaded.{Uploaded}
 use Rattle.index_world.specs.declared.world_error.WorldError.{WorldError}
 use Rattle.index_world.specs.declared.world_error.WorldError.TheVariants as errors
-use Rattle.index_world.specs.Core.{Core, journal_of, IsUnusedIn, IsUploadedIn, HasStagedIn}
+use Rattle.index_world.specs.Core.{Core, journal_of, IsConfigured, IsUnusedIn, IsUploadedIn, HasStagedIn}
 use Rattle.index_world.specs.Index.{has_staged, IsMade}
 use Rattle.index_world.specs.Calls.{Fate, Gives, gives, Trouble, faulted, no_memory, store_fault, is_foreign, is_full, Unmade, refused, troubled, appended}
 use Rattle.index_world.specs.World.{IsWorld, IsTimely, GoesOn}
@@ -112,34 +111,25 @@ pub record WasUploaded (number : ℕ) (bytes : List ℕ) (given : Uploaded) (cor
 abbrev pub publish_call : ℕ → Fate → Core → Gives Unmade ⊤
 publish_call number fate core = appended fate (λ c. Publish number) core
 
--- an uploaded number in hand, whose file was made from the log
+-- an uploaded number in hand, whose file was made from the log under the index's configuration
 pub record IsPublishable (log : Log) (core : Core) (number : ℕ) : Type 0 where
+  pub config : IndexConfig
+  pub configured : IsConfigured config core
   pub delta : List Part
   pub facts : RowFacts
   pub bytes : List ℕ
   pub staged : HasStagedIn core number delta facts
-  pub made : IsMade log delta facts bytes
+  pub made : IsMade config log delta facts bytes
   pub uploaded : IsUploadedIn core number bytes
 
 abbrev pub IsRevision : ℕ → Core → Type 0
 IsRevision revision core = revision ≡ length core.history
 
--- the rows that a search works on: published, with a document
-abbrev pub searched_rows : History → List Row
-searched_rows h = filter (λ row. nat_lt 0 row.facts.docs) (filter (λ row. is_published row.state) (rows h))
-
-abbrev pub rows_for : Choice → History → List Row
-rows_for choices.Search h = searched_rows h
-rows_for choices.Look h = []
-
-abbrev pub planned_row : Row → PlanRow
-planned_row row = record { number = row.number; spans = row.spans; facts = row.facts }
-
 pub record IsPlan (choice : Choice) (plan : Plan) (core : Core) : Type 0 where
   pub revision : plan.revision ≡ length core.history
   pub moment : plan.moment ≡ core.moment
   pub upto : plan.upto ≡ last_opstamp (history core.history)
-  pub rows : plan.rows ≡ map planned_row (rows_for choice (history core.history))
+  pub rows : plan.rows ≡ map planned_row (rows_for (config_of reads (history core.history)) choice (rows (history core.history)))
 
 -- these are so many bytes of the file from a place on, and its size
 abbrev pub IsPieceGiven : List ℕ → ℕ → ℕ → Piece → Core → Type 0

@@ -9,20 +9,23 @@ use Rattle.object_store.specs.declared.store.CreateError.TheVariants as creates
 use Rattle.source_checkpoint.specs.declared.delta.Part.{Part}
 use Rattle.source_log.specs.Log.{Log}
 use Rattle.split_states.specs.declared.facts.RowFacts.{RowFacts}
+use Rattle.index_world.specs.Configuration.{StaysConfigured}
 use Rattle.index_world.specs.Index.{IsIndexOf, MayEnter, IsBelowEnd, IsUnused, IsUploaded, HasStaged, is_meta}
 
 -- no late create of the journal can come to stand any more
 abbrev pub NoneAtEnd : List (List ℕ × List ℕ) → List Entry → Type 0
 NoneAtEnd late entries = AllByRecursion (λ object. is_meta object.0 ≡ true → IsBelowEnd entries object) late
 
--- Numbers in hand stay as they were, where the journal went on to `more`.
+-- Numbers in hand and the configuration stay as they were, where the journal went on to `more`.
 pub record KeepsHeld (old new : State) (entries more : List Entry) : Type 0 where
+  pub configured : StaysConfigured entries more
   pub unused : (number : ℕ) → IsUnused old entries number → IsUnused new more number
   pub uploaded : (number : ℕ) (bytes : List ℕ) → IsUploaded old entries number bytes → IsUploaded new more number bytes
   pub staged : (number : ℕ) (delta : List Part) (facts : RowFacts) → HasStaged entries number delta facts → HasStaged more number delta facts
 
 -- ... but for this one
 pub record KeepsOthers (old new : State) (entries more : List Entry) (number : ℕ) : Type 0 where
+  pub configured : StaysConfigured entries more
   pub unused : (other : ℕ) → (other ≡ number → ⊥) → IsUnused old entries other → IsUnused new more other
   pub uploaded : (other : ℕ) (bytes : List ℕ) → IsUploaded old entries other bytes → IsUploaded new more other bytes
   pub staged : (other : ℕ) (delta : List Part) (facts : RowFacts) → HasStaged entries other delta facts → HasStaged more other delta facts

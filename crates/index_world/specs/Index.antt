@@ -1,10 +1,9 @@
 -- When a store is a sound index over a log.
-use Rattle.std.specs.Prelude.{◌≡◌, ◌⊎◌, ℕ, ◌-◌, ◌^◌, ◌<◌, ◌≤◌, ◌==◌, Bool, true, false, nat_eq, List, [], ◌∷◌, ◌++◌, length, map, min, IsSome, Some, None, ⊤}
+use Rattle.std.specs.Prelude.{◌≡◌, ◌⊎◌, ℕ, ◌-◌, ◌<◌, ◌≤◌, ◌==◌, Bool, true, false, nat_eq, List, [], ◌∷◌, ◌++◌, length, map, IsSome, Option, Some, None, ⊤}
 use Rattle.std.specs.List.{AllByRecursion, list_any, starts_with}
 use Rattle.std.specs.FinMap.{get}
 use Rattle.meta_journal.specs.Places.{meta_prefix, split_prefix, meta_key, split_key, IsJournal}
 use Rattle.meta_journal.specs.Spelling.{Spells, CanSpell}
-use Rattle.index_world.specs.declared.placed.Placed.{Placed}
 use Rattle.meta_journal.specs.declared.entry.Act.{Act}
 use Rattle.meta_journal.specs.declared.entry.Act.TheVariants.{Fence, Create, Stage, Publish, Replace, Raise, Task, MarkStaged, Remove, Retire}
 use Rattle.meta_journal.specs.declared.entry.Entry.{Entry}
@@ -22,10 +21,12 @@ use Rattle.split_states.specs.Rows.{row_at}
 use Rattle.split_states.specs.declared.facts.RowFacts.{RowFacts}
 use Rattle.split_states.specs.declared.rows.Row.{Row}
 use Rattle.split_states.specs.declared.rows.RowState.TheVariants.{Published}
-use Rattle.sha2.specs.Sha256.{sha256}
+use Rattle.index_config.specs.declared.config.IndexConfig.{IndexConfig}
 use Rattle.index_world.specs.Config.{reads}
+use Rattle.index_world.specs.Configuration.{configuration}
 use Rattle.index_world.specs.Seen.{contents, accepted_in, record_count}
-use Rattle.index_world.specs.SplitFile.{split_file, IsSplit, weight, max_documents, max_weight}
+use Rattle.split_bundle.specs.Splits.{IsSplit}
+use Rattle.index_world.specs.SplitFile.{file_of, facts_of, AreSplit}
 
 abbrev pub max_entries : ℕ
 max_entries = 10000000
@@ -39,42 +40,29 @@ is_meta key = begins meta_prefix key
 abbrev pub is_split : List ℕ → Bool
 is_split key = begins split_prefix key
 
--- the greatest number that 64 bits hold
-abbrev pub most : ℕ
-most = 2 ^ 64 - 1
-
--- the facts of a split of these documents, of which so many records were no documents
-abbrev pub facts_of : List Placed → ℕ → RowFacts
-facts_of documents rejected =
-    record {
-      docs = length documents;
-      rejected = min rejected most;
-      weight = weight documents;
-      size = length (split_file documents);
-      digest = sha256 (split_file documents);
-      times = None;
-      tags = [];
-    }
-
 -- the parts that a row's spans cover
 abbrev pub ranges_of : Row → List Part
 ranges_of row = map range_of row.spans
 
--- the file and the facts of a row are those of its contents, within a split's limits
-pub record IsRowSound (kept : State) (tasks : List KeptTask) (log : Log) (row : Row) : Type 0 where
-  pub file : get kept.objects (split_key row.number) ≡ Some (split_file (contents tasks row log))
-  pub facts : row.facts ≡ facts_of (contents tasks row log) (record_count (ranges_of row) - length (contents tasks row log))
-  pub documents : length (contents tasks row log) ≤ max_documents
-  pub weight : weight (contents tasks row log) ≤ max_weight
+-- the file and the facts of a row are those of its contents, which are a split
+pub record IsRowSound (kept : State) (config : IndexConfig) (tasks : List KeptTask) (log : Log) (row : Row) : Type 0 where
+  pub file : get kept.objects (split_key row.number) ≡ Some (file_of config (contents config tasks row log))
+  pub facts : row.facts ≡ facts_of config (contents config tasks row log) (record_count (ranges_of row) - length (contents config tasks row log))
+  pub split : AreSplit config (contents config tasks row log)
 
 -- where the row is published, it is sound
-abbrev pub IsRowKept : State → List KeptTask → Log → Row → Type 0
-IsRowKept kept tasks log row = row.state ≡ Published → IsRowSound kept tasks log row
+abbrev pub IsRowKept : State → IndexConfig → List KeptTask → Log → Row → Type 0
+IsRowKept kept config tasks log row = row.state ≡ Published → IsRowSound kept config tasks log row
+
+-- under the configuration of these entries, if they have one, each row is kept
+abbrev pub AreRowsKept : State → Option IndexConfig → List KeptTask → Log → List Row → Type 0
+AreRowsKept kept configured tasks log list =
+    (config : IndexConfig) → configured ≡ Some config → AllByRecursion (IsRowKept kept config tasks log) list
 
 -- where the row is published, its file is a split of its contents
-abbrev pub IsSplitKept : State → List KeptTask → Log → Row → Type 0
-IsSplitKept kept tasks log row =
-    row.state ≡ Published → (bytes : List ℕ) × (get kept.objects (split_key row.number) ≡ Some bytes) × IsSplit bytes (contents tasks row log)
+abbrev pub IsSplitKept : State → IndexConfig → List KeptTask → Log → Row → Type 0
+IsSplitKept kept config tasks log row =
+    row.state ≡ Published → (bytes : List ℕ) × (get kept.objects (split_key row.number) ≡ Some bytes) × IsSplit config.schema bytes (contents config tasks row log)
 
 -- ---- what the entries say of numbers
 
@@ -119,7 +107,7 @@ pub record Stands (kept : State) (entries : List Entry) (log : Log) : Type 0 whe
   pub no_other : (key : List ℕ) → is_meta key ≡ true → IsSome (get kept.objects key) →
       (number : ℕ) × (number < length entries) × (key ≡ meta_key number)
   pub checkpoints : (name : List ℕ) → (ledger reads (history entries)).checkpoints name ≤ length (records_of log name)
-  pub rows : AllByRecursion (IsRowKept kept (ledger reads (history entries)).tasks log) (rows (history entries))
+  pub rows : AreRowsKept kept (configuration entries) (ledger reads (history entries)).tasks log (rows (history entries))
   pub split_keys : (key : List ℕ) → is_split key ≡ true → IsSome (get kept.objects key) → IsStagedKey entries key
   pub late_keys : AllByRecursion (IsLateKey entries) kept.late
 
@@ -130,14 +118,16 @@ abbrev pub IsNotLate : State → List ℕ → Type 0
 IsNotLate kept key = AllByRecursion (λ late. late.0 ≡ key → ⊥) kept.late
 
 -- What a Publish of this number needs beside being legal: its parts lie within the log, its file stands for their
--- accepted records, the facts agree with both and keep a split's limits, and no create of its file is late.
+-- accepted records under the journal's configuration, the facts agree with both and keep a split's limits, and no create
+-- of its file is late.
 pub record MayPublish (kept : State) (entries : List Entry) (log : Log) (number : ℕ) : Type 0 where
+  pub config : IndexConfig
+  pub configured : configuration entries ≡ Some config
   pub ends : AllByRecursion (λ part. part.to ≤ length (records_of log part.partition)) (delta_of (history entries) number)
-  pub file : get kept.objects (split_key number) ≡ Some (split_file (accepted_in log (delta_of (history entries) number)))
+  pub file : get kept.objects (split_key number) ≡ Some (file_of config (accepted_in config log (delta_of (history entries) number)))
   pub facts : (row : Row) → row_at (rows (history entries)) number ≡ Some row →
-      row.facts ≡ facts_of (accepted_in log (delta_of (history entries) number)) (record_count (delta_of (history entries) number) - length (accepted_in log (delta_of (history entries) number)))
-  pub documents : length (accepted_in log (delta_of (history entries) number)) ≤ max_documents
-  pub weight : weight (accepted_in log (delta_of (history entries) number)) ≤ max_weight
+      row.facts ≡ facts_of config (accepted_in config log (delta_of (history entries) number)) (record_count (delta_of (history entries) number) - length (accepted_in config log (delta_of (history entries) number)))
+  pub split : AreSplit config (accepted_in config log (delta_of (history entries) number))
   pub not_late : IsNotLate kept (split_key number)
 
 -- nothing is asked of a file but by a Publish
@@ -209,13 +199,12 @@ pub record HasStaged (entries : List Entry) (number : ℕ) (delta : List Part) (
   pub noted : delta_of (history entries) number ≡ delta
   pub kept : (row : Row) → row_at (rows (history entries)) number ≡ Some row → row.facts ≡ facts
 
--- what a step knows of the file that it built from the log
-pub record IsMade (log : Log) (delta : List Part) (facts : RowFacts) (bytes : List ℕ) : Type 0 where
+-- what a step knows of the file that it built from the log under a configuration
+pub record IsMade (config : IndexConfig) (log : Log) (delta : List Part) (facts : RowFacts) (bytes : List ℕ) : Type 0 where
   pub ends : AllByRecursion (λ part. part.to ≤ length (records_of log part.partition)) delta
-  pub file : bytes ≡ split_file (accepted_in log delta)
-  pub agree : facts ≡ facts_of (accepted_in log delta) (record_count delta - length (accepted_in log delta))
-  pub documents : length (accepted_in log delta) ≤ max_documents
-  pub weight : weight (accepted_in log delta) ≤ max_weight
+  pub file : bytes ≡ file_of config (accepted_in config log delta)
+  pub agree : facts ≡ facts_of config (accepted_in config log delta) (record_count delta - length (accepted_in config log delta))
+  pub split : AreSplit config (accepted_in config log delta)
 
 -- ---- the index in one sentence
 

@@ -1,11 +1,8 @@
 pub mod Config
+pub mod Configuration
 pub mod Accepted
-pub mod Accepting
-pub mod Tokens
-pub mod Words
 pub mod Seen
 pub mod SplitFile
-pub mod SplitRead
 pub mod Index
 pub mod Core
 pub mod Calls
@@ -18,7 +15,6 @@ pub mod Taking
 pub mod Steps
 pub mod Unsure
 pub mod Life
-pub mod Planning
 pub mod KeepingCode
 pub mod Held
 pub mod Onward

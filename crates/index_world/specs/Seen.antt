@@ -1,6 +1,7 @@
 -- What this index takes of the log, and what is seen of it.
 use Rattle.std.specs.Prelude.{ℕ, suc, Bool, false, List, [], ◌∷◌, Option, Some, None, ◌-◌, ◌+◌, take, filter, flat_map}
 use Rattle.doc_value.specs.declared.doc.DocField.{DocField}
+use Rattle.index_config.specs.declared.config.IndexConfig.{IndexConfig}
 use Rattle.source_checkpoint.specs.declared.delta.Part.{Part}
 use Rattle.source_log.specs.Log.{Log}
 use Rattle.meta_journal.specs.declared.entry.Entry.{Entry}
@@ -13,8 +14,9 @@ use Rattle.meta_store.specs.Ledgers.{ledger}
 use Rattle.index_world.specs.Config.{reads}
 use Rattle.meta_store.specs.Contents.{Meaning}
 use Rattle.meta_store.specs.Contents as by
-use Rattle.index_world.specs.declared.placed.Placed.{Placed}
+use Rattle.split_bundle.specs.declared.placed.Placed.{Placed}
 use Rattle.index_world.specs.Accepted.{accepted}
+use Rattle.index_world.specs.Configuration.{configuration, config_or}
 
 abbrev pub place_of : Placed → Place
 place_of placed = record { partition = placed.partition; offset = placed.offset }
@@ -33,20 +35,20 @@ onto name offset None more = more
 onto name offset (Some doc) more = record { partition = name; offset = offset; doc = doc } ∷ more
 
 -- the accepted ones of these records, the first of which stands at this offset
-abbrev pub accepted_from : List ℕ → ℕ → List (List ℕ) → List Placed
-accepted_from name offset [] = []
-accepted_from name offset (bytes ∷ more) = onto name offset (accepted bytes) (accepted_from name (suc offset) more)
+abbrev pub accepted_from : IndexConfig → List ℕ → ℕ → List (List ℕ) → List Placed
+accepted_from config name offset [] = []
+accepted_from config name offset (bytes ∷ more) = onto name offset (accepted config bytes) (accepted_from config name (suc offset) more)
 
 -- by partition and then offset
-abbrev pub accepted_records : Log → List Placed
-accepted_records log = flat_map (λ part. accepted_from part.partition 0 part.records) log
+abbrev pub accepted_records : IndexConfig → Log → List Placed
+accepted_records config log = flat_map (λ part. accepted_from config part.partition 0 part.records) log
 
 -- the accepted records of a delta's parts, in their order and then by offset
-abbrev pub accepted_part : Log → Part → List Placed
-accepted_part log part = filter (λ x. lies_in part (place_of x)) (accepted_records log)
+abbrev pub accepted_part : IndexConfig → Log → Part → List Placed
+accepted_part config log part = filter (λ x. lies_in part (place_of x)) (accepted_records config log)
 
-abbrev pub accepted_in : Log → List Part → List Placed
-accepted_in log delta = flat_map (accepted_part log) delta
+abbrev pub accepted_in : IndexConfig → Log → List Part → List Placed
+accepted_in config log delta = flat_map (accepted_part config log) delta
 
 -- how many records the parts have
 abbrev pub record_count : List Part → ℕ
@@ -56,13 +58,14 @@ record_count (part ∷ parts) = part.to - part.from + record_count parts
 -- ---- what a history shows of them
 
 -- the accepted records of a row's spans, without those that one of these tasks removed
-abbrev pub contents : List DeleteTask → Row → Log → List Placed
-contents tasks row log = by.contents meaning tasks (accepted_records log) row
+abbrev pub contents : IndexConfig → List DeleteTask → Row → Log → List Placed
+contents config tasks row log = by.contents meaning tasks (accepted_records config log) row
 
 -- the accepted records below the checkpoints, by partition and then offset, without the removed ones
-abbrev pub visible : Ledger → Log → List Placed
-visible l log = by.visible meaning l (accepted_records log)
+abbrev pub visible : IndexConfig → Ledger → Log → List Placed
+visible config l log = by.visible meaning l (accepted_records config log)
 
--- what is visible at a revision: behind that many entries
+-- what is visible at a revision: behind that many entries, under the configuration that they name. Before there is one
+-- nothing is below a checkpoint.
 abbrev pub visible_at : ℕ → List Entry → Log → List Placed
-visible_at revision entries log = visible (ledger reads (history (take revision entries))) log
+visible_at revision entries log = visible (config_or (configuration (take revision entries))) (ledger reads (history (take revision entries))) log

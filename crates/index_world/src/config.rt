@@ -1,50 +1,47 @@
-//! The one configuration that is read.
+//! What the readers of texts say of an entry.
 
-ghost use Rattle.std.specs.Prelude.{◌≡◌, Option};
+ghost use Rattle.std.specs.Prelude.{◌≡◌, Option, IfOk};
 ghost use Rattle.index_world.specs.Config as spec;
 ghost use Rattle.meta_store.specs.Readings as meta;
 ghost use Rattle.meta_store.specs.declared.config.Config.{Config};
 
-use index_config::ConfigError;
+use index_config::{ConfigError, read_config};
 use meta_journal::{Act, Entry};
 use meta_store::{Reading, Settings};
 use query_reader::QueryError;
+use std::alloc::{AllocError, Global};
 
-const STAGED_GRACE: u64 = 200;
-
-const DELETION_GRACE: u64 = 100;
-
-/// The bytes of the one configuration.
-pub fn logs_config() -> &'static [u8]
-    ensures { result.now ≡ spec.logs_config }
+// What a configuration says of its index, or what is wrong with it.
+fn settings_of(alloc: Global, config: &[u8]) -> Result<Result<Settings, ConfigError>, AllocError>
+    ensures { IfOk result (λ said. said ≡ spec.read_config config.now) }
 {
-    b"version = \"0.9\"\nindex_id = \"logs\"\n[doc_mapping]\nmode = \"strict\"\n[[doc_mapping.field_mappings]]\nname = \"body\"\ntype = \"text\"\nrecord = \"position\"\n[[doc_mapping.field_mappings]]\nname = \"level\"\ntype = \"text\"\ntokenizer = \"raw\"\nfast = true\n[indexing_settings.merge_policy]\ntype = \"stable_log\"\nmin_level_num_docs = 100\nmerge_factor = 2\nmax_merge_factor = 4\n[search_settings]\ndefault_search_fields = [\"body\"]\n[upkeep]\nstaged_grace_secs = 200\ndeletion_grace_secs = 100\n"
+    match read_config(alloc, config) {
+        Ok(index) => Ok(Ok(Settings {
+            index,
+            period: None,
+        })),
+        Err(ConfigError::Memory(refused)) => Err(refused),
+        Err(error) => Ok(Err(error)),
+    }
 }
 
-/// Until any configuration is read, each other text is no TOML here.
-fn settings_of(config: &[u8]) -> Result<Settings, ConfigError>
-    ensures { result ≡ spec.read_config config.now }
+// Of an act without a configuration nothing is read.
+fn config_said(alloc: Global, act: &Act) -> Result<Result<Settings, ConfigError>, AllocError>
+    ensures { IfOk result (λ said. said ≡ meta.config_said spec.reads act.now) }
 {
-    if config != logs_config() {
-        return Err(ConfigError::NotToml);
+    match act {
+        Act::Create { config } => settings_of(alloc, config.as_slice()),
+        _ => Ok(Err(ConfigError::NotToml)),
     }
-    Ok(Settings {
-        staged_grace: STAGED_GRACE,
-        deletion_grace: DELETION_GRACE,
-        period: None,
-    })
 }
 
 /// What the readers of texts say of an entry. No task is read yet.
-pub fn reading_of(entry: &Entry) -> Reading
-    ensures { (config : Option Config) → result ≡ meta.reading_of spec.reads config entry.now.act }
+pub fn reading_of(alloc: Global, entry: &Entry) -> Result<Reading, AllocError>
+    ensures { IfOk result (λ reading. (config : Option Config) → reading ≡ meta.reading_of spec.reads config entry.now.act) }
 {
-    let config = match &entry.act {
-        Act::Create { config } => settings_of(config.as_slice()),
-        _ => Err(ConfigError::NotToml),
-    };
-    Reading {
+    let config = config_said(alloc, &entry.act)?;
+    Ok(Reading {
         config,
         query: Err(QueryError::Syntax { at: 0 }),
-    }
+    })
 }

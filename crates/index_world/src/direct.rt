@@ -3,11 +3,12 @@
 ghost use Rattle.std.specs.Prelude.{◌≡◌, refl};
 
 use crate::gate::Gate;
-use crate::planning::Choice;
 use crate::steady::SteadyClock;
 use crate::tokens::{Marks, Plan, Staged, Uploaded};
 use crate::world::World;
 use crate::world_error::WorldError;
+use index_config::IndexConfig;
+use meta_store::Choice;
 use object_store::{ObjectStore, Piece};
 use source_checkpoint::Delta;
 use split_states::RowFacts;
@@ -46,6 +47,10 @@ impl<'a, S: ObjectStore, C: SteadyClock> Gate for Direct<'a, S, C> {
 
     ghost none_between = { λ core. refl };
 
+    fn config(&self) -> &IndexConfig {
+        self.world.config()
+    }
+
     fn checkpoints(&mut self, alloc: Global) -> Result<Marks, WorldError> {
         self.world.checkpoints(alloc)
     }
@@ -76,7 +81,7 @@ impl<'a, S: ObjectStore, C: SteadyClock> Gate for Direct<'a, S, C> {
         self.world.publish(alloc, uploaded)
     }
 
-    fn plan(&mut self, alloc: Global, choice: Choice) -> Result<Plan, WorldError> {
+    fn plan(&mut self, alloc: Global, choice: &Choice) -> Result<Plan, WorldError> {
         self.world.plan(alloc, choice)
     }
 
@@ -104,6 +109,10 @@ impl<S: ObjectStore, C: SteadyClock> Gate for World<S, C> {
     ghost is_sound = { λ world core log w. record { kept = w.kept; world = w.world; timely = w.timely; opened = w.opened } };
 
     ghost none_between = { λ core. refl };
+
+    fn config(&self) -> &IndexConfig {
+        self.config()
+    }
 
     fn checkpoints(&mut self, alloc: Global) -> Result<Marks, WorldError> {
         self.checkpoints(alloc)
@@ -135,7 +144,7 @@ impl<S: ObjectStore, C: SteadyClock> Gate for World<S, C> {
         self.publish(alloc, uploaded)
     }
 
-    fn plan(&mut self, alloc: Global, choice: Choice) -> Result<Plan, WorldError> {
+    fn plan(&mut self, alloc: Global, choice: &Choice) -> Result<Plan, WorldError> {
         self.plan(alloc, choice)
     }
 

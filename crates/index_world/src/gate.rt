@@ -1,16 +1,18 @@
 //! What the actors of an index ask of its world.
 
 ghost use Rattle.std.specs.Prelude.{◌≡◌, ◌<◌, ◌^◌, ℕ, List, IfOk, length, slice_get, None, Some};
+ghost use Rattle.doc_value.specs.Documents.{IsSchema};
 ghost use Rattle.meta_journal.specs.Spelling.{CanSpellFacts};
 ghost use Rattle.source_log.specs.Log.{Log};
 ghost use Rattle.index_world.specs.Calls.{asked, looked, asked_and_looked, fetched, upload_made};
-ghost use Rattle.index_world.specs.Core.{Core, IsUnusedIn, IsUploadedIn};
+ghost use Rattle.index_world.specs.Core.{Core, IsConfigured, IsUnusedIn, IsUploadedIn};
 ghost use Rattle.index_world.specs.Gate.{Does, IsSoundCore, IsTrouble, IsUnmade, AreMarks, IsMoment, stage_call, WasStaged, WasUploaded, publish_call, IsPublishable, IsRevision, IsPlan, IsPieceGiven};
-ghost use Rattle.index_world.specs.declared.planning.PlanRow.{PlanRow};
+ghost use Rattle.meta_store.specs.declared.planning.PlanRow.{PlanRow};
 
-use crate::planning::Choice;
 use crate::tokens::{Marks, Plan, Staged, Uploaded};
 use crate::world_error::WorldError;
+use index_config::IndexConfig;
+use meta_store::Choice;
 use object_store::Piece;
 use source_checkpoint::Delta;
 use split_states::RowFacts;
@@ -23,6 +25,11 @@ pub trait Gate {
 
     /// What other actors may do before the turn of a call.
     ghost Between: { Core → Core → Type 0 };
+
+    /// The configuration of the index, which stays. It is no event.
+    fn config(&self) -> &IndexConfig
+        ensures schema { ∥ IsSchema result.now.schema ∥₁ }
+        ensures step { (core : Core) (log : Log) → Stands self.now core log → IsConfigured result.now core };
 
     /// The checkpoints, the last opstamp and the revision.
     fn checkpoints(&mut self, alloc: Global) -> Result<Marks, WorldError>
@@ -63,9 +70,9 @@ pub trait Gate {
             Does Stands Between None (publish_call uploaded.number) IsUnmade IsRevision result core log self.new };
 
     /// Plans rows over the newest state.
-    fn plan(&mut self, alloc: Global, choice: Choice) -> Result<Plan, WorldError>
+    fn plan(&mut self, alloc: Global, choice: &Choice) -> Result<Plan, WorldError>
         ensures { (core : Core) (log : Log) → Stands self.old core log →
-            Does Stands Between None asked_and_looked IsTrouble (IsPlan choice) result core log self.new };
+            Does Stands Between None asked_and_looked IsTrouble (IsPlan choice.now) result core log self.new };
 
     /// Bytes of a planned row's file, from a place on, as many as there are up to `len`.
     fn fetch(

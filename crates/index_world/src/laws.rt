@@ -10,7 +10,7 @@ ghost use Rattle.object_store.specs.Store.{State, landed, with_object, with_late
 ghost use Rattle.object_store.specs.declared.store.CreateError.{CreateError};
 ghost use Rattle.source_log.specs.Log.{Log, IsLog};
 ghost use Rattle.index_world.specs.Index.{IsIndexOf, IsSplitKept, IsWholeIndexOf, MayEnter, IsUnused};
-ghost use Rattle.std.specs.Prelude.{None, Bool, true, false, ◌<◌};
+ghost use Rattle.std.specs.Prelude.{None, Some, Bool, true, false, ◌<◌, ◌++◌, ◌∷◌};
 ghost use Rattle.meta_store.specs.History.{moment_of, history as told};
 ghost use Rattle.meta_store.specs.Ledgers.{ledger};
 ghost use Rattle.meta_store.specs.Rows.{rows};
@@ -18,9 +18,11 @@ ghost use Rattle.meta_store.specs.State.{Legal};
 ghost use Rattle.source_checkpoint.specs.declared.delta.Part.{Part};
 ghost use Rattle.split_states.specs.declared.facts.RowFacts.{RowFacts};
 ghost use Rattle.index_world.specs.Calls.{all_landed, fence_of, taken_in, asked_clock};
+ghost use Rattle.index_config.specs.declared.config.IndexConfig.{IndexConfig};
 ghost use Rattle.index_world.specs.Config.{reads};
+ghost use Rattle.index_world.specs.Configuration.{configuration, StaysConfigured};
 ghost use Rattle.index_world.specs.Core.{Core};
-ghost use Rattle.index_world.specs.Index.{MayPublish, HasStaged, IsMade, IsUploaded};
+ghost use Rattle.index_world.specs.Index.{MayPublish, IsAllowed, HasStaged, IsMade, IsUploaded};
 ghost use Rattle.index_world.specs.Onward.{Landing};
 ghost use Rattle.index_world.specs.World.{IsWorld, IsTimely};
 ghost use Rattle.index_world.specs.Held.{Still, Enters, AfterLanding, AfterCreate, AfterUpload, Loads};
@@ -67,10 +69,10 @@ pub fn index_is_whole()
     ensures { (kept : State) (entries : List Entry) (log : Log) → (IsIndexOf kept entries log ↔ IsWholeIndexOf kept entries log) }
 {}
 
-/// Over an index of a log each published row's file is a split of the row's contents.
+/// Over an index of a log each published row's file is a split of the row's contents under the index's configuration.
 pub fn published_files_are_splits()
-    ensures { (kept : State) (entries : List Entry) (log : Log) → IsLog log → IsIndexOf kept entries log →
-        AllByRecursion (IsSplitKept kept (ledger reads (told entries)).tasks log) (rows (told entries)) }
+    ensures { (kept : State) (entries : List Entry) (log : Log) (config : IndexConfig) → configuration entries ≡ Some config → IsLog log → IsIndexOf kept entries log →
+        AllByRecursion (IsSplitKept kept config (ledger reads (told entries)).tasks log) (rows (told entries)) }
 {}
 
 /// A store without objects is an index of no entry, over each log.
@@ -101,8 +103,13 @@ pub fn fence_may_enter()
         MayEnter kept core.history log (fence_of core) }
 {}
 
-/// A number in hand whose file was made of the log and uploaded may be published.
+/// A journal's configuration stays, whatever entry comes behind it.
+pub fn a_configuration_stays()
+    ensures { (entries : List Entry) (entry : Entry) → Legal reads (told entries) → IsAllowed entries entry → StaysConfigured entries (entries ++ entry ∷ []) }
+{}
+
+/// A number in hand whose file was made of the log under the index's configuration and uploaded may be published.
 pub fn made_file_may_be_published()
     ensures { (kept : State) (entries : List Entry) (log : Log) (number : ℕ) (delta : List Part) (facts : RowFacts) (bytes : List ℕ) →
-        HasStaged entries number delta facts → IsMade log delta facts bytes → IsUploaded kept entries number bytes → MayPublish kept entries log number }
+        (config : IndexConfig) → configuration entries ≡ Some config → HasStaged entries number delta facts → IsMade config log delta facts bytes → IsUploaded kept entries number bytes → MayPublish kept entries log number }
 {}

@@ -1,18 +1,12 @@
 //! The world of an index: its store, journal, state and clock, with one call for each event.
 #![tactic(auto)]
 
-mod accepting;
 mod config;
 mod direct;
 mod gate;
 pub mod laws;
-mod levels;
 mod life;
 mod own;
-mod placed;
-mod planning;
-mod split_reading;
-mod split_writing;
 mod steady;
 mod taking;
 mod tokens;
@@ -20,14 +14,8 @@ mod words;
 mod world;
 mod world_error;
 
-pub use accepting::accept;
-pub use config::logs_config;
 pub use direct::Direct;
 pub use gate::Gate;
-pub use placed::{Placed, PlacedList};
-pub use planning::{Choice, PlanRow, PlanRows};
-pub use split_reading::{SplitError, read_split};
-pub use split_writing::{BuiltSplit, build, weight_of};
 pub use steady::SteadyClock;
 pub use tokens::{Marks, Plan, Staged, Uploaded};
 pub use words::{put_fault, put_number, put_refusal, put_word};

@@ -1,11 +1,14 @@
 //! What one life of a world knows of its journal.
 
-ghost use Rattle.std.specs.Prelude.{◌≡◌, ◌<◌, ◌^◌};
+ghost use Rattle.std.specs.Prelude.{◌≡◌, ◌<◌, ◌^◌, IsSome};
+ghost use Rattle.std.specs.Option.{ForSome};
+ghost use Rattle.doc_value.specs.Documents.{IsSchema};
 
 use crate::config::reading_of;
 use crate::own::{Own, act_of};
 use crate::taking::{admit, moment_of, prepare, world_error};
 use crate::world_error::WorldError;
+use index_config::IndexConfig;
 use meta_journal::{Entry, Journal, JournalError, meta_key};
 use meta_store::Meta;
 use object_store::ObjectStore;
@@ -20,6 +23,10 @@ pub struct Life {
     pub moment: u64,
     ghost timely: { moment < 2 ^ 62 },
     ghost in_step: { meta.state.revision ≡ journal.next },
+    // An index that was opened has a configuration.
+    ghost configured: { IsSome meta.state.config },
+    // Its fields are a schema.
+    ghost schema: { ForSome meta.state.config (λ config. ∥ IsSchema config.settings.index.schema ∥₁) },
 }
 
 impl Life {
@@ -27,18 +34,30 @@ impl Life {
     ghost use Rattle.meta_journal.specs.declared.place.Place.TheVariants.{Sure, Given};
     ghost use Rattle.object_store.specs.Store.{State};
     ghost use Rattle.source_log.specs.Log.{Log};
+    ghost use Rattle.index_world.specs.Configuration.{index_of};
     ghost use Rattle.index_world.specs.Core.{Core};
     ghost use Rattle.index_world.specs.Life.{TookIn, TookNone, StandsBy, Settling, Creating, Appending};
     ghost use Rattle.index_world.specs.Owning.{CanOwn, MayOwn, own_act};
     ghost use Rattle.index_world.specs.PlaceMade.{IsPlaceMade};
 
+    /// The configuration of the index.
+    pub fn config(&self) -> &IndexConfig
+        ensures said { index_of self.now.meta.state.config ≡ Some result.now }
+        ensures schema { ∥ IsSchema result.now.schema ∥₁ }
+    {
+        match self.meta.config() {
+            Some(config) => &config.settings.index,
+            None => unreachable!(),
+        }
+    }
+
     // Takes in the entry that the journal gave at its next number.
-    fn take_in(&mut self, entry: Entry) -> Result<(), WorldError>
+    fn take_in(&mut self, alloc: Global, entry: Entry) -> Result<(), WorldError>
         requires { self.old.journal.place ≡ Given }
         ensures place { OnOk result (self.new.journal.place ≡ Sure) }
         ensures taken { MatchResult result (λ done. TookIn self.old entry self.new) (λ error. TookNone self.old entry error self.new) }
     {
-        let reading = reading_of(&entry);
+        let reading = reading_of(alloc, &entry)?;
         let moment = moment_of(&entry);
         // Only a number below the limit is in doubt.
         let _place = self.journal.place();
@@ -70,7 +89,7 @@ impl Life {
         let _count = store.faults();
         match answer {
             Ok(None) => Ok(()),
-            Ok(Some(entry)) => self.take_in(entry),
+            Ok(Some(entry)) => self.take_in(alloc, entry),
             Err(error) => Err(world_error(error, self.journal.next(), before)),
         }
     }
@@ -93,7 +112,7 @@ impl Life {
             moment: self.moment,
             act: act_of(alloc, own, &self.meta)?,
         };
-        let reading = reading_of(&entry);
+        let reading = reading_of(alloc, &entry)?;
         let handed = prepare(&mut self.meta, reading, &entry)?;
         let answer = self.journal.append(alloc, store, &entry);
         // The count of a store has its range.
@@ -130,7 +149,7 @@ impl Life {
         let Some(entry) = self.create(alloc, store, own, before)? else {
             return Ok(());
         };
-        self.take_in(entry)?;
+        self.take_in(alloc, entry)?;
         let Some(_) = self.create(alloc, store, own, before)? else {
             return Ok(());
         };

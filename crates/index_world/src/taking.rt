@@ -1,6 +1,6 @@
 //! Taking entries in.
 
-ghost use Rattle.std.specs.Prelude.{◌≡◌, ◌<◌, ◌≤◌, ◌^◌, OnOk, IfOk, IfErr, IsOk, None, Some, vec_len};
+ghost use Rattle.std.specs.Prelude.{◌≡◌, ◌<◌, ◌≤◌, ◌^◌, OnOk, IfOk, IfErr, IsOk, IsSome, None, Some, vec_len};
 ghost use Rattle.std.specs.List.{AllByRecursion};
 ghost use Rattle.index_world.specs.Index.{max_entries};
 ghost use Rattle.meta_journal.specs.declared.place.Place.TheVariants.{Sure};
@@ -154,6 +154,7 @@ fn state_of(alloc: Global, entries: Vec<Entry>) -> Result<(Meta, u64), WorldErro
     ensures want { Legal reads (history entries.items) → IfErr result IsWant }
     ensures no_fault { IfErr result IsNoFault }
     ensures fit { OnOk result (first_refused Start entries.items ≡ None) }
+    ensures configured { 0 < vec_len entries → IfOk result (λ x. IsSome x.0.state.config) }
     ensures refused { IfErr result (IsRefusedAt (first_refused Start entries.items)) }
 {
     let mut left = entries;
@@ -162,7 +163,7 @@ fn state_of(alloc: Global, entries: Vec<Entry>) -> Result<(Meta, u64), WorldErro
     let mut moment = 0;
     'entries: while let Some(entry) = left.pop() {
         let number = meta.revision();
-        let reading = reading_of(&entry);
+        let reading = reading_of(alloc, &entry)?;
         moment = moment_of(&entry).max(moment);
         let handed = admit(&mut meta, reading, &entry, number)?;
         meta.apply(entry, handed);

@@ -3,7 +3,7 @@
 ghost use Rattle.std.specs.Prelude.{◌≡◌};
 ghost use Rattle.source_checkpoint.specs.Checkpoints.{checkpoint_at};
 
-use crate::planning::PlanRows;
+use meta_store::PlanRows;
 use source_checkpoint::{Checkpoint, Partition};
 
 /// A row that was staged, whose file isn't uploaded yet.

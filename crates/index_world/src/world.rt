@@ -3,27 +3,29 @@
 ghost use Rattle.std.specs.Prelude.{◌≡◌, ◌<◌, ◌^◌, ℕ, List, IfOk, IfErr, MatchResult, None, Some, length, slice_get, max, true, false};
 ghost use Rattle.std.specs.Borrow.{Lends, sem};
 ghost use Rattle.index_world.specs.contracts.world.World.{the_row};
+ghost use Rattle.doc_value.specs.Documents.{IsSchema};
 ghost use Rattle.meta_journal.specs.Spelling.{CanSpellFacts};
 ghost use Rattle.object_store.specs.Store.{State, WhereTold};
 ghost use Rattle.source_log.specs.Log.{Log};
 ghost use Rattle.index_world.specs.Calls.{asked, asked_moment, looked, asked_and_looked, fetched, upload_made};
-ghost use Rattle.index_world.specs.Core.{Core, IsUnusedIn, IsUploadedIn};
+ghost use Rattle.index_world.specs.Configuration.{index_of};
+ghost use Rattle.index_world.specs.Core.{Core, IsConfigured, IsUnusedIn, IsUploadedIn};
 ghost use Rattle.index_world.specs.Gate.{Does, NoneBetween, IsTrouble, IsUnmade, AreMarks, IsMoment, stage_call, WasStaged, WasUploaded, publish_call, IsPublishable, IsRevision, IsPlan, IsPieceGiven};
 ghost use Rattle.index_world.specs.Loading.{LoadsWorld, LoadsNone, LoadsAnew};
 ghost use Rattle.index_world.specs.Taking.{IsFaultBetween};
 ghost use Rattle.index_world.specs.Opened.{OpensIndex, OpensNot, OpensAnew};
 ghost use Rattle.index_world.specs.World.{IsWorld, WorldStands};
-ghost use Rattle.index_world.specs.declared.planning.PlanRow.{PlanRow};
+ghost use Rattle.meta_store.specs.declared.planning.PlanRow.{PlanRow};
 
 use crate::life::Life;
 use crate::own::Own;
-use crate::planning::{Choice, plan_rows};
 use crate::steady::SteadyClock;
 use crate::taking::{create_error, get_error, open};
 use crate::tokens::{Marks, Plan, Staged, Uploaded};
 use crate::world_error::WorldError;
+use index_config::IndexConfig;
 use meta_journal::split_key;
-use meta_store::Meta;
+use meta_store::{Choice, Meta};
 use object_store::{ObjectStore, Piece};
 use source_checkpoint::{Checkpoint, Delta};
 use split_states::RowFacts;
@@ -143,6 +145,15 @@ impl<S: ObjectStore, C: SteadyClock> World<S, C> {
         &self.life.meta
     }
 
+    /// The configuration of the index.
+    pub fn config(&self) -> &IndexConfig
+        ensures said { index_of self.now.meta.config ≡ Some result.now }
+        ensures schema { ∥ IsSchema result.now.schema ∥₁ }
+        ensures step { (core : Core) (log : Log) → WorldStands self.now core log → IsConfigured result.now core }
+    {
+        self.life.config()
+    }
+
     /// From here on no call asks the clock, and the moment changes only by an entry that is taken in.
     pub fn freeze(&mut self)
         ensures same { self.new ≡ record self.old { frozen = true } }
@@ -245,9 +256,9 @@ impl<S: ObjectStore, C: SteadyClock> World<S, C> {
     }
 
     /// Plans rows over the newest state.
-    pub fn plan(&mut self, alloc: Global, choice: Choice) -> Result<Plan, WorldError>
+    pub fn plan(&mut self, alloc: Global, choice: &Choice) -> Result<Plan, WorldError>
         ensures { (core : Core) (log : Log) → WorldStands self.old core log →
-            Does WorldStands NoneBetween None asked_and_looked IsTrouble (IsPlan choice) result core log self.new }
+            Does WorldStands NoneBetween None asked_and_looked IsTrouble (IsPlan choice.now) result core log self.new }
     {
         let before = self.store.faults();
         self.ask();
@@ -257,7 +268,7 @@ impl<S: ObjectStore, C: SteadyClock> World<S, C> {
             revision: life.meta.revision(),
             moment: life.moment,
             upto: life.meta.last_opstamp(),
-            rows: plan_rows(alloc, life.meta.rows(), choice)?,
+            rows: life.meta.plan_rows(alloc, choice)?,
         })
     }
 

@@ -14,109 +14,112 @@ use Rattle.source_checkpoint.specs.declared.ledger.Checkpoint.{Checkpoint}
 use Rattle.source_checkpoint.proofs.Ranges.{partition_itself}
 use Rattle.source_log.specs.Log.{Log, records_of, names_of, IsLog, IsGoodPart}
 use Rattle.index_world.proofs.InHand.{number_apart}
+use Rattle.index_config.specs.declared.config.IndexConfig.{IndexConfig}
 use Rattle.index_world.specs.Accepted.{accepted}
-use Rattle.index_world.specs.Config.{docs_target, commit_timeout}
-use Rattle.index_world.specs.Index.{IsMade, facts_of}
+use Rattle.index_world.specs.Index.{IsMade}
 use Rattle.index_world.specs.Seen.{onto, accepted_from, accepted_part, accepted_in, record_count}
-use Rattle.index_world.specs.SplitFile.{weight, weight_of, split_file, max_weight}
-use Rattle.index_world.specs.declared.placed.Placed.{Placed}
+use Rattle.index_world.specs.SplitFile.{file_of, facts_of, AreSplit}
+use Rattle.split_bundle.specs.Documents.{weight as weight_of, total_weight as weight}
+use Rattle.split_bundle.specs.Splits.{max_weight}
+use Rattle.split_bundle.specs.declared.placed.Placed.{Placed}
 use Rattle.indexing_run.specs.Making.{IsNew, Follows, AreOthers, AreNew, IsQueue, EndWithin, IsBatch, AreApart}
 use Rattle.indexing_run.specs.Places.{Batch}
 use Rattle.indexing_run.specs.Steps.{start_of, Taken, with_record, taken_from, extended, parts_after, is_closed, is_empty, queue_after, batch_after, read_limit, max_batch_weight, first_moment, batch_facts, fresh_batch, marks_at}
 use Rattle.indexing_run.proofs.Slices.{part_of, part_more, part_none}
 
--- one document is no heavier than a batch may be before it
-abbrev pub IsLight : Type 0
-IsLight = (bytes name : List ℕ) (offset : ℕ) (doc : List DocField) → accepted bytes ≡ Some doc → offset < 2 ^ 64 →
-    weight_of (record { partition = name; offset = offset; doc = doc }) ≤ max_batch_weight
-
 pub weight-snoc : (xs : List Placed) (x : Placed) → weight (xs ++ x ∷ []) ≡ weight xs + weight_of x
 weight-snoc [] x = omega arith
 weight-snoc (y ∷ xs) x = let again = weight-snoc xs x in omega (arith, again)
 
--- ---- what is taken of a read
+module _ (config : IndexConfig) where
+  -- one document is no heavier than a batch may be before it
+  abbrev pub IsLight : Type 0
+  IsLight = (bytes name : List ℕ) (offset : ℕ) (doc : List DocField) → accepted config bytes ≡ Some doc → offset < 2 ^ 64 →
+      weight_of (record { partition = name; offset = offset; doc = doc }) ≤ max_batch_weight
 
-pub record TakenTo (name : List ℕ) (offset : ℕ) (records : List (List ℕ)) (start now : Taken) : Type 0 where
-  pub n : ℕ
-  pub within : n ≤ length records
-  pub count : now.count ≡ start.count + n
-  pub documents : now.documents ≡ start.documents ++ accepted_from name offset (take n records)
-  pub weight : now.weight ≡ weight now.documents
-  pub calm : now.heavy ≡ false → now.weight ≤ max_batch_weight
-  pub most : now.weight ≤ max_weight
+  -- ---- what is taken of a read
 
--- what is kept as records are taken
-record IsWeighed (t : Taken) : Type 0 where
-  weight : t.weight ≡ weight t.documents
-  calm : t.heavy ≡ false → t.weight ≤ max_batch_weight
-  most : t.weight ≤ max_weight
+  pub record TakenTo (name : List ℕ) (offset : ℕ) (records : List (List ℕ)) (start now : Taken) : Type 0 where
+    pub n : ℕ
+    pub within : n ≤ length records
+    pub count : now.count ≡ start.count + n
+    pub documents : now.documents ≡ start.documents ++ accepted_from config name offset (take n records)
+    pub weight : now.weight ≡ weight now.documents
+    pub calm : now.heavy ≡ false → now.weight ≤ max_batch_weight
+    pub most : now.weight ≤ max_weight
 
-nothing_taken : (name : List ℕ) (offset : ℕ) (records : List (List ℕ)) (t : Taken) → IsWeighed t → TakenTo name offset records t t
-nothing_taken name offset records t w =
-    record { n = 0; within = omega arith; count = omega arith; documents = sym (append-nil t.documents); weight = w.weight; calm = w.calm; most = w.most }
+  -- what is kept as records are taken
+  record IsWeighed (t : Taken) : Type 0 where
+    weight : t.weight ≡ weight t.documents
+    calm : t.heavy ≡ false → t.weight ≤ max_batch_weight
+    most : t.weight ≤ max_weight
 
-abbrev placed_at : List ℕ → ℕ → List DocField → Placed
-placed_at name offset doc = record { partition = name; offset = offset; doc = doc }
+  nothing_taken : (name : List ℕ) (offset : ℕ) (records : List (List ℕ)) (t : Taken) → IsWeighed t → TakenTo name offset records t t
+  nothing_taken name offset records t w =
+      record { n = 0; within = omega arith; count = omega arith; documents = sym (append-nil t.documents); weight = w.weight; calm = w.calm; most = w.most }
 
-still_light : (a : ℕ) → nat_lt max_batch_weight a ≡ false → a ≤ max_batch_weight
-still_light a e = grind (e, arith, nat_tests)
+  abbrev placed_at : List ℕ → ℕ → List DocField → Placed
+  placed_at name offset doc = record { partition = name; offset = offset; doc = doc }
 
-weighed_more : IsLight → (bytes name : List ℕ) (offset : ℕ) (doc : Option (List DocField)) (t : Taken) → accepted bytes ≡ doc → offset < 2 ^ 64 → t.heavy ≡ false → IsWeighed t → IsWeighed (with_record name offset doc t)
-weighed_more light bytes name offset None t e low calm w = record { weight = w.weight; calm = w.calm; most = w.most }
-weighed_more light bytes name offset (Some doc) t e low calm w =
-    let one = light bytes name offset doc e low in
-    let before = w.calm calm in
-    record {
-      weight = ap (λ n. n + weight_of (placed_at name offset doc)) w.weight ∙ sym (weight-snoc t.documents (placed_at name offset doc));
-      calm = still_light (t.weight + weight_of (placed_at name offset doc));
-      most = omega (arith, one, before);
-    }
+  still_light : (a : ℕ) → nat_lt max_batch_weight a ≡ false → a ≤ max_batch_weight
+  still_light a e = grind (e, arith, nat_tests)
 
--- one record more
-taken_one : (bytes name : List ℕ) (offset : ℕ) (more : List (List ℕ)) (doc : Option (List DocField)) (t now : Taken) → accepted bytes ≡ doc → TakenTo name (suc offset) more (with_record name offset doc t) now → TakenTo name offset (bytes ∷ more) t now
-taken_one bytes name offset more None t now e r =
-    record {
-      n = suc r.n;
-      within = let a = r.within in omega (arith, a);
-      count = let a = r.count in omega (arith, a);
-      documents = r.documents ∙ ap (λ d. t.documents ++ onto name offset d (accepted_from name (suc offset) (take r.n more))) (sym e);
-      weight = r.weight;
-      calm = r.calm;
-      most = r.most;
-    }
-taken_one bytes name offset more (Some doc) t now e r =
-    record {
-      n = suc r.n;
-      within = let a = r.within in omega (arith, a);
-      count = let a = r.count in omega (arith, a);
-      documents = r.documents ∙ append_assoc t.documents (placed_at name offset doc ∷ []) (accepted_from name (suc offset) (take r.n more))
-          ∙ ap (λ d. t.documents ++ onto name offset d (accepted_from name (suc offset) (take r.n more))) (sym e);
-      weight = r.weight;
-      calm = r.calm;
-      most = r.most;
-    }
+  weighed_more : IsLight → (bytes name : List ℕ) (offset : ℕ) (doc : Option (List DocField)) (t : Taken) → accepted config bytes ≡ doc → offset < 2 ^ 64 → t.heavy ≡ false → IsWeighed t → IsWeighed (with_record name offset doc t)
+  weighed_more light bytes name offset None t e low calm w = record { weight = w.weight; calm = w.calm; most = w.most }
+  weighed_more light bytes name offset (Some doc) t e low calm w =
+      let one = light bytes name offset doc e low in
+      let before = w.calm calm in
+      record {
+        weight = ap (λ n. n + weight_of (placed_at name offset doc)) w.weight ∙ sym (weight-snoc t.documents (placed_at name offset doc));
+        calm = still_light (t.weight + weight_of (placed_at name offset doc));
+        most = omega (arith, one, before);
+      }
 
-taken_to : IsLight → (name : List ℕ) (offset : ℕ) (records : List (List ℕ)) (t : Taken) → offset + length records ≤ 2 ^ 64 → IsWeighed t → TakenTo name offset records t (taken_from name offset records t)
-taken_to light name offset [] t low w = nothing_taken name offset [] t w
-taken_to light name offset (bytes ∷ more) t low w = by t.heavy refl (λ next ww. taken_to light name (suc offset) more next (omega (arith, low)) ww)
-  where
-    below : offset < 2 ^ 64
-    below = omega (arith, low)
+  -- one record more
+  taken_one : (bytes name : List ℕ) (offset : ℕ) (more : List (List ℕ)) (doc : Option (List DocField)) (t now : Taken) → accepted config bytes ≡ doc → TakenTo name (suc offset) more (with_record name offset doc t) now → TakenTo name offset (bytes ∷ more) t now
+  taken_one bytes name offset more None t now e r =
+      record {
+        n = suc r.n;
+        within = let a = r.within in omega (arith, a);
+        count = let a = r.count in omega (arith, a);
+        documents = r.documents ∙ ap (λ d. t.documents ++ onto name offset d (accepted_from config name (suc offset) (take r.n more))) (sym e);
+        weight = r.weight;
+        calm = r.calm;
+        most = r.most;
+      }
+  taken_one bytes name offset more (Some doc) t now e r =
+      record {
+        n = suc r.n;
+        within = let a = r.within in omega (arith, a);
+        count = let a = r.count in omega (arith, a);
+        documents = r.documents ∙ append_assoc t.documents (placed_at name offset doc ∷ []) (accepted_from config name (suc offset) (take r.n more))
+            ∙ ap (λ d. t.documents ++ onto name offset d (accepted_from config name (suc offset) (take r.n more))) (sym e);
+        weight = r.weight;
+        calm = r.calm;
+        most = r.most;
+      }
 
-    by : (b : Bool) → t.heavy ≡ b → ((next : Taken) → IsWeighed next → TakenTo name (suc offset) more next (taken_from name (suc offset) more next)) →
-        TakenTo name offset (bytes ∷ more) t (if b then t else taken_from name (suc offset) more (with_record name offset (accepted bytes) t))
-    by true e again = nothing_taken name offset (bytes ∷ more) t w
-    by false e again =
-        taken_one bytes name offset more (accepted bytes) t (taken_from name (suc offset) more (with_record name offset (accepted bytes) t)) refl
-        (again (with_record name offset (accepted bytes) t) (weighed_more light bytes name offset (accepted bytes) t refl below e w))
+  taken_to : IsLight → (name : List ℕ) (offset : ℕ) (records : List (List ℕ)) (t : Taken) → offset + length records ≤ 2 ^ 64 → IsWeighed t → TakenTo name offset records t (taken_from config name offset records t)
+  taken_to light name offset [] t low w = nothing_taken name offset [] t w
+  taken_to light name offset (bytes ∷ more) t low w = by t.heavy refl (λ next ww. taken_to light name (suc offset) more next (omega (arith, low)) ww)
+    where
+      below : offset < 2 ^ 64
+      below = omega (arith, low)
 
-accepted_few : (name : List ℕ) (offset : ℕ) (records : List (List ℕ)) → length (accepted_from name offset records) ≤ length records
-accepted_few name offset [] = omega arith
-accepted_few name offset (r ∷ records) = by (accepted r) (accepted_few name (suc offset) records)
-  where
-    by : (d : Option (List DocField)) → length (accepted_from name (suc offset) records) ≤ length records → length (onto name offset d (accepted_from name (suc offset) records)) ≤ suc (length records)
-    by None h = omega (arith, h)
-    by (Some d) h = omega (arith, h)
+      by : (b : Bool) → t.heavy ≡ b → ((next : Taken) → IsWeighed next → TakenTo name (suc offset) more next (taken_from config name (suc offset) more next)) →
+          TakenTo name offset (bytes ∷ more) t (if b then t else taken_from config name (suc offset) more (with_record name offset (accepted config bytes) t))
+      by true e again = nothing_taken name offset (bytes ∷ more) t w
+      by false e again =
+          taken_one bytes name offset more (accepted config bytes) t (taken_from config name (suc offset) more (with_record name offset (accepted config bytes) t)) refl
+          (again (with_record name offset (accepted config bytes) t) (weighed_more light bytes name offset (accepted config bytes) t refl below e w))
+
+  accepted_few : (name : List ℕ) (offset : ℕ) (records : List (List ℕ)) → length (accepted_from config name offset records) ≤ length records
+  accepted_few name offset [] = omega arith
+  accepted_few name offset (r ∷ records) = by (accepted config r) (accepted_few name (suc offset) records)
+    where
+      by : (d : Option (List DocField)) → length (accepted_from config name (suc offset) records) ≤ length records → length (onto name offset d (accepted_from config name (suc offset) records)) ≤ suc (length records)
+      by None h = omega (arith, h)
+      by (Some d) h = omega (arith, h)
 
 -- ---- a batch
 
@@ -155,71 +158,72 @@ extended-last (p ∷ front) name from at start to h =
     ap (λ b. if b then record p { to = to } ∷ (front ++ part_of name from at ∷ []) else p ∷ extended (front ++ part_of name from at ∷ []) name start to) h.0
     ∙ ap (λ l. p ∷ l) (extended-last front name from at start to h.1)
 
--- ---- the parts behind a read that took something
+module _ (config : IndexConfig) where
+  -- ---- the parts behind a read that took something
 
-pub record Extended (log : Log) (parts after : List Part) (mark : Checkpoint) (n : ℕ) : Type 0 where
-  pub front : List Part
-  pub from : ℕ
-  pub is : after ≡ front ++ part_of mark.partition from (mark.at + n) ∷ []
-  pub rises : from ≤ mark.at
-  pub new : IsNew front mark.partition
-  pub documents : accepted_in log after ≡ accepted_in log parts ++ accepted_from mark.partition mark.at (take n (drop mark.at (records_of log mark.partition)))
-  pub count : record_count after ≡ record_count parts + n
-  pub ends : EndWithin log front
-  pub others : (name : List ℕ) → bytes_eq mark.partition name ≡ false → IsNew parts name → IsNew after name
+  pub record Extended (log : Log) (parts after : List Part) (mark : Checkpoint) (n : ℕ) : Type 0 where
+    pub front : List Part
+    pub from : ℕ
+    pub is : after ≡ front ++ part_of mark.partition from (mark.at + n) ∷ []
+    pub rises : from ≤ mark.at
+    pub new : IsNew front mark.partition
+    pub documents : accepted_in config log after ≡ accepted_in config log parts ++ accepted_from config mark.partition mark.at (take n (drop mark.at (records_of log mark.partition)))
+    pub count : record_count after ≡ record_count parts + n
+    pub ends : EndWithin log front
+    pub others : (name : List ℕ) → bytes_eq mark.partition name ≡ false → IsNew parts name → IsNew after name
 
-one_part : (log : Log) (part : Part) → accepted_in log (part ∷ []) ≡ accepted_part log part
-one_part log part = append-nil (accepted_part log part)
+  one_part : (log : Log) (part : Part) → accepted_in config log (part ∷ []) ≡ accepted_part config log part
+  one_part log part = append-nil (accepted_part config log part)
 
-more_parts : (log : Log) (parts : List Part) (mark : Checkpoint) (n : ℕ) → IsStrictlySortedBy (slice_cmp nat_cmp) (names_of log) → EndWithin log parts → Follows parts mark →
-    Extended log parts (extended parts mark.partition mark.at (mark.at + n)) mark n
-more_parts log parts mark n s ends (inl new) =
-    record {
-      front = parts;
-      from = mark.at;
-      is = is;
-      rises = omega arith;
-      new = new;
-      documents = ap (accepted_in log) is ∙ flat_map-append (accepted_part log) parts (part_of mark.partition mark.at (mark.at + n) ∷ [])
-          ∙ ap (λ l. accepted_in log parts ++ l) (one_part log (part_of mark.partition mark.at (mark.at + n)) ∙ part_more log mark.partition mark.at mark.at n s (omega arith)
-          ∙ ap (λ l. l ++ accepted_from mark.partition mark.at (take n (drop mark.at (records_of log mark.partition)))) (part_none log mark.partition mark.at));
-      count = ap record_count is ∙ count-append parts (part_of mark.partition mark.at (mark.at + n) ∷ []) ∙ ap (λ k. record_count parts + k) (sum mark.at);
-      ends = ends;
-      others = λ name other h. subst (λ l. IsNew l name) (sym is) (new-append parts (part_of mark.partition mark.at (mark.at + n) ∷ []) name h (other, tt));
-    }
-  where
-    is : extended parts mark.partition mark.at (mark.at + n) ≡ parts ++ part_of mark.partition mark.at (mark.at + n) ∷ []
-    is = extended-new parts mark.partition mark.at (mark.at + n) new
+  more_parts : (log : Log) (parts : List Part) (mark : Checkpoint) (n : ℕ) → IsStrictlySortedBy (slice_cmp nat_cmp) (names_of log) → EndWithin log parts → Follows parts mark →
+      Extended log parts (extended parts mark.partition mark.at (mark.at + n)) mark n
+  more_parts log parts mark n s ends (inl new) =
+      record {
+        front = parts;
+        from = mark.at;
+        is = is;
+        rises = omega arith;
+        new = new;
+        documents = ap (accepted_in config log) is ∙ flat_map-append (accepted_part config log) parts (part_of mark.partition mark.at (mark.at + n) ∷ [])
+            ∙ ap (λ l. accepted_in config log parts ++ l) (one_part log (part_of mark.partition mark.at (mark.at + n)) ∙ part_more config log mark.partition mark.at mark.at n s (omega arith)
+            ∙ ap (λ l. l ++ accepted_from config mark.partition mark.at (take n (drop mark.at (records_of log mark.partition)))) (part_none config log mark.partition mark.at));
+        count = ap record_count is ∙ count-append parts (part_of mark.partition mark.at (mark.at + n) ∷ []) ∙ ap (λ k. record_count parts + k) (sum mark.at);
+        ends = ends;
+        others = λ name other h. subst (λ l. IsNew l name) (sym is) (new-append parts (part_of mark.partition mark.at (mark.at + n) ∷ []) name h (other, tt));
+      }
+    where
+      is : extended parts mark.partition mark.at (mark.at + n) ≡ parts ++ part_of mark.partition mark.at (mark.at + n) ∷ []
+      is = extended-new parts mark.partition mark.at (mark.at + n) new
 
-    sum : (a : ℕ) → a + n - a + 0 ≡ n
-    sum a = omega arith
-more_parts log parts mark n s ends (inr last) =
-    record {
-      front = last.front;
-      from = last.from;
-      is = is;
-      rises = last.rises;
-      new = last.new;
-      documents = ap (accepted_in log) is ∙ flat_map-append (accepted_part log) last.front (part_of mark.partition last.from (mark.at + n) ∷ [])
-          ∙ ap (λ l. accepted_in log last.front ++ l) (one_part log (part_of mark.partition last.from (mark.at + n)) ∙ part_more log mark.partition last.from mark.at n s last.rises)
-          ∙ sym (append_assoc (accepted_in log last.front) (accepted_part log (part_of mark.partition last.from mark.at)) (accepted_from mark.partition mark.at (take n (drop mark.at (records_of log mark.partition)))))
-          ∙ ap (λ l. l ++ accepted_from mark.partition mark.at (take n (drop mark.at (records_of log mark.partition)))) (sym before);
-      count = ap record_count is ∙ count-append last.front (part_of mark.partition last.from (mark.at + n) ∷ [])
-          ∙ (let c = counted in let r = last.rises in omega (arith, c, r));
-      ends = within-front log last.front (part_of mark.partition last.from mark.at ∷ []) (subst (EndWithin log) last.is ends);
-      others = λ name other h. subst (λ l. IsNew l name) (sym is)
-          (new-append last.front (part_of mark.partition last.from (mark.at + n) ∷ []) name (new-front last.front (part_of mark.partition last.from mark.at ∷ []) name (subst (λ l. IsNew l name) last.is h)) (other, tt));
-    }
-  where
-    is : extended parts mark.partition mark.at (mark.at + n) ≡ last.front ++ part_of mark.partition last.from (mark.at + n) ∷ []
-    is = ap (λ l. extended l mark.partition mark.at (mark.at + n)) last.is ∙ extended-last last.front mark.partition last.from mark.at mark.at (mark.at + n) last.new
+      sum : (a : ℕ) → a + n - a + 0 ≡ n
+      sum a = omega arith
+  more_parts log parts mark n s ends (inr last) =
+      record {
+        front = last.front;
+        from = last.from;
+        is = is;
+        rises = last.rises;
+        new = last.new;
+        documents = ap (accepted_in config log) is ∙ flat_map-append (accepted_part config log) last.front (part_of mark.partition last.from (mark.at + n) ∷ [])
+            ∙ ap (λ l. accepted_in config log last.front ++ l) (one_part log (part_of mark.partition last.from (mark.at + n)) ∙ part_more config log mark.partition last.from mark.at n s last.rises)
+            ∙ sym (append_assoc (accepted_in config log last.front) (accepted_part config log (part_of mark.partition last.from mark.at)) (accepted_from config mark.partition mark.at (take n (drop mark.at (records_of log mark.partition)))))
+            ∙ ap (λ l. l ++ accepted_from config mark.partition mark.at (take n (drop mark.at (records_of log mark.partition)))) (sym before);
+        count = ap record_count is ∙ count-append last.front (part_of mark.partition last.from (mark.at + n) ∷ [])
+            ∙ (let c = counted in let r = last.rises in omega (arith, c, r));
+        ends = within-front log last.front (part_of mark.partition last.from mark.at ∷ []) (subst (EndWithin log) last.is ends);
+        others = λ name other h. subst (λ l. IsNew l name) (sym is)
+            (new-append last.front (part_of mark.partition last.from (mark.at + n) ∷ []) name (new-front last.front (part_of mark.partition last.from mark.at ∷ []) name (subst (λ l. IsNew l name) last.is h)) (other, tt));
+      }
+    where
+      is : extended parts mark.partition mark.at (mark.at + n) ≡ last.front ++ part_of mark.partition last.from (mark.at + n) ∷ []
+      is = ap (λ l. extended l mark.partition mark.at (mark.at + n)) last.is ∙ extended-last last.front mark.partition last.from mark.at mark.at (mark.at + n) last.new
 
-    before : accepted_in log parts ≡ accepted_in log last.front ++ accepted_part log (part_of mark.partition last.from mark.at)
-    before = ap (accepted_in log) last.is ∙ flat_map-append (accepted_part log) last.front (part_of mark.partition last.from mark.at ∷ [])
-        ∙ ap (λ l. accepted_in log last.front ++ l) (one_part log (part_of mark.partition last.from mark.at))
+      before : accepted_in config log parts ≡ accepted_in config log last.front ++ accepted_part config log (part_of mark.partition last.from mark.at)
+      before = ap (accepted_in config log) last.is ∙ flat_map-append (accepted_part config log) last.front (part_of mark.partition last.from mark.at ∷ [])
+          ∙ ap (λ l. accepted_in config log last.front ++ l) (one_part log (part_of mark.partition last.from mark.at))
 
-    counted : record_count parts ≡ record_count last.front + (mark.at - last.from + 0)
-    counted = ap record_count last.is ∙ count-append last.front (part_of mark.partition last.from mark.at ∷ [])
+      counted : record_count parts ≡ record_count last.front + (mark.at - last.from + 0)
+      counted = ap record_count last.is ∙ count-append last.front (part_of mark.partition last.from mark.at ∷ [])
 
 -- ---- one read
 
@@ -256,27 +260,28 @@ slice_low log name at limit h = by (take limit (drop at (records_of log name))) 
         inl (omega (arith, end, few))
 
 abbrev pub slice_of : Log → Batch → Checkpoint → List (List ℕ)
-slice_of log batch mark = take (read_limit batch.count) (drop mark.at (records_of log mark.partition))
+slice_of log batch mark = take (read_limit batch) (drop mark.at (records_of log mark.partition))
 
-start_weighed : (log : Log) (batch : Batch) → IsBatch log batch → batch.closed ≡ false → IsWeighed (start_of batch)
+start_weighed : (log : Log) (batch : Batch) → IsBatch log batch → batch.closed ≡ false → IsWeighed batch.config (start_of batch)
 start_weighed log batch b going = record { weight = refl; calm = λ e. b.calm going; most = b.weighs }
 
-pub read_taken : IsLight → (log : Log) (batch : Batch) (mark : Checkpoint) → IsLog log → IsBatch log batch → batch.closed ≡ false →
-    TakenTo mark.partition mark.at (slice_of log batch mark) (start_of batch) (taken_from mark.partition mark.at (slice_of log batch mark) (start_of batch))
-read_taken light log batch mark l b going = by (slice_low log mark.partition mark.at (read_limit batch.count) l.good)
+pub read_taken : (log : Log) (batch : Batch) (mark : Checkpoint) → IsLight batch.config → IsLog log → IsBatch log batch → batch.closed ≡ false →
+    TakenTo batch.config mark.partition mark.at (slice_of log batch mark) (start_of batch) (taken_from batch.config mark.partition mark.at (slice_of log batch mark) (start_of batch))
+read_taken log batch mark light l b going = by (slice_low log mark.partition mark.at (read_limit batch) l.good)
   where
-    by : mark.at + length (slice_of log batch mark) ≤ 2 ^ 64 ⊎ (slice_of log batch mark ≡ []) → TakenTo mark.partition mark.at (slice_of log batch mark) (start_of batch) (taken_from mark.partition mark.at (slice_of log batch mark) (start_of batch))
-    by (inl low) = taken_to light mark.partition mark.at (slice_of log batch mark) (start_of batch) low (start_weighed log batch b going)
+    by : mark.at + length (slice_of log batch mark) ≤ 2 ^ 64 ⊎ (slice_of log batch mark ≡ []) → TakenTo batch.config mark.partition mark.at (slice_of log batch mark) (start_of batch) (taken_from batch.config mark.partition mark.at (slice_of log batch mark) (start_of batch))
+    by (inl low) = taken_to batch.config light mark.partition mark.at (slice_of log batch mark) (start_of batch) low (start_weighed log batch b going)
     by (inr none) =
-        subst (λ rs. TakenTo mark.partition mark.at rs (start_of batch) (taken_from mark.partition mark.at rs (start_of batch))) (sym none)
-        (nothing_taken mark.partition mark.at [] (start_of batch) (start_weighed log batch b going))
+        subst (λ rs. TakenTo batch.config mark.partition mark.at rs (start_of batch) (taken_from batch.config mark.partition mark.at rs (start_of batch))) (sym none)
+        (nothing_taken batch.config mark.partition mark.at [] (start_of batch) (start_weighed log batch b going))
 
 -- a batch that isn't closed behind a read is not too heavy, has room, and has something to read
 abbrev IsGoing : Bool → Bool → Bool → Type 0
 IsGoing a b h = (a ≡ false) × (b ≡ false) × (h ≡ false)
 
-going : (queue : List Checkpoint) (count : ℕ) (heavy : Bool) (since now : ℕ) → is_closed queue count heavy since now ≡ false → IsGoing (is_empty queue) (nat_le docs_target count) heavy
-going queue count heavy since now e = by (is_empty queue) (nat_le docs_target count) heavy (nat_lt 0 count && nat_le (since + commit_timeout) now) e
+going : (config : IndexConfig) (queue : List Checkpoint) (count : ℕ) (heavy : Bool) (since now : ℕ) → is_closed config queue count heavy since now ≡ false →
+    IsGoing (is_empty queue) (nat_le config.docs_target count) heavy
+going config queue count heavy since now e = by (is_empty queue) (nat_le config.docs_target count) heavy (nat_lt 0 count && nat_le (since + config.commit_timeout) now) e
   where
     by : (a b h c : Bool) → (a || b || h || c) ≡ false → IsGoing a b h
     by true b h c e = cc e
@@ -304,20 +309,20 @@ queue_on parts false mark n rest f o h = (f, o, h)
 -- ---- a read keeps the batch made of the log
 
 record Reads (log : Log) (batch : Batch) (mark : Checkpoint) (rest : List Checkpoint) (taken : Taken) (at_end : Bool) (parts : List Part) : Type 0 where
-  documents : taken.documents ≡ accepted_in log parts
+  documents : taken.documents ≡ accepted_in batch.config log parts
   ends : EndWithin log parts
   count : record_count parts ≡ batch.count + taken.count
   queue : IsQueue parts (queue_after at_end mark taken.count rest)
 
 module _ (log : Log) (batch : Batch) (mark : Checkpoint) (rest : List Checkpoint) (l : IsLog log) (b : IsBatch log batch) (now : Taken) (at_end : Bool)
     (f : Follows batch.parts mark) (o : AreOthers mark.partition rest) (h : AreNew batch.parts rest)
-    (t : TakenTo mark.partition mark.at (slice_of log batch mark) (start_of batch) now) where
+    (t : TakenTo batch.config mark.partition mark.at (slice_of log batch mark) (start_of batch) now) where
   count_is : now.count ≡ t.n
   count_is = let c = t.count in omega (arith, c)
 
-  took : now.documents ≡ batch.documents ++ accepted_from mark.partition mark.at (take t.n (drop mark.at (records_of log mark.partition)))
-  took = t.documents ∙ ap (λ rs. batch.documents ++ accepted_from mark.partition mark.at rs)
-      (take-take t.n (read_limit batch.count) (drop mark.at (records_of log mark.partition)) (slice_few log mark.partition mark.at (read_limit batch.count) t.n t.within))
+  took : now.documents ≡ batch.documents ++ accepted_from batch.config mark.partition mark.at (take t.n (drop mark.at (records_of log mark.partition)))
+  took = t.documents ∙ ap (λ rs. batch.documents ++ accepted_from batch.config mark.partition mark.at rs)
+      (take-take t.n (read_limit batch) (drop mark.at (records_of log mark.partition)) (slice_few log mark.partition mark.at (read_limit batch) t.n t.within))
 
   -- nothing was taken
   follows_same : (n : ℕ) → n ≡ 0 → Follows batch.parts (record mark { at = mark.at + n })
@@ -326,7 +331,7 @@ module _ (log : Log) (batch : Batch) (mark : Checkpoint) (rest : List Checkpoint
   reads_none : t.n ≡ 0 → Reads log batch mark rest now at_end batch.parts
   reads_none e =
       record {
-        documents = took ∙ ap (λ n. batch.documents ++ accepted_from mark.partition mark.at (take n (drop mark.at (records_of log mark.partition)))) e ∙ append-nil batch.documents ∙ b.documents;
+        documents = took ∙ ap (λ n. batch.documents ++ accepted_from batch.config mark.partition mark.at (take n (drop mark.at (records_of log mark.partition)))) e ∙ append-nil batch.documents ∙ b.documents;
         ends = b.ends;
         count = let c = b.count in let n = count_is in omega (arith, c, n, e);
         queue = queue_on batch.parts at_end mark now.count rest (follows_same now.count (count_is ∙ e)) o h;
@@ -335,18 +340,18 @@ module _ (log : Log) (batch : Batch) (mark : Checkpoint) (rest : List Checkpoint
   reads_some : 0 < t.n → Reads log batch mark rest now at_end (extended batch.parts mark.partition mark.at (mark.at + now.count))
   reads_some some =
       record {
-        documents = took ∙ ap (λ d. d ++ accepted_from mark.partition mark.at (take t.n (drop mark.at (records_of log mark.partition)))) b.documents
-            ∙ ap (λ n. accepted_in log batch.parts ++ accepted_from mark.partition mark.at (take n (drop mark.at (records_of log mark.partition)))) (sym count_is) ∙ sym m.documents;
+        documents = took ∙ ap (λ d. d ++ accepted_from batch.config mark.partition mark.at (take t.n (drop mark.at (records_of log mark.partition)))) b.documents
+            ∙ ap (λ n. accepted_in batch.config log batch.parts ++ accepted_from batch.config mark.partition mark.at (take n (drop mark.at (records_of log mark.partition)))) (sym count_is) ∙ sym m.documents;
         ends = subst (EndWithin log) (sym m.is) (within-append log m.front (part_of mark.partition m.from (mark.at + now.count) ∷ []) m.ends
-            (subst (λ n. mark.at + n ≤ length (records_of log mark.partition)) (sym count_is) (slice_end log mark.partition mark.at (read_limit batch.count) t.n t.within some), tt));
+            (subst (λ n. mark.at + n ≤ length (records_of log mark.partition)) (sym count_is) (slice_end log mark.partition mark.at (read_limit batch) t.n t.within some), tt));
         count = m.count ∙ ap (λ c. c + now.count) b.count;
         queue = queue_on (extended batch.parts mark.partition mark.at (mark.at + now.count)) at_end mark now.count rest
             (inr (record { front = m.front; from = m.from; is = m.is; rises = let r = m.rises in omega (arith, r); new = m.new })) o
             (new_all batch.parts (extended batch.parts mark.partition mark.at (mark.at + now.count)) mark.partition rest m.others o h);
       }
     where
-      m : Extended log batch.parts (extended batch.parts mark.partition mark.at (mark.at + now.count)) mark now.count
-      m = more_parts log batch.parts mark now.count l.in_order b.ends f
+      m : Extended batch.config log batch.parts (extended batch.parts mark.partition mark.at (mark.at + now.count)) mark now.count
+      m = more_parts batch.config log batch.parts mark now.count l.in_order b.ends f
 
   reads : Reads log batch mark rest now at_end (parts_after now.count batch.parts mark.partition mark.at)
   reads = by now.count refl
@@ -360,15 +365,15 @@ module _ (log : Log) (batch : Batch) (mark : Checkpoint) (rest : List Checkpoint
   less_still : length now.documents ≤ batch.count + now.count
   less_still =
       let d = ap length t.documents in
-      let a = length-append batch.documents (accepted_from mark.partition mark.at (take t.n (slice_of log batch mark))) in
-      let few = accepted_few mark.partition mark.at (take t.n (slice_of log batch mark)) in
+      let a = length-append batch.documents (accepted_from batch.config mark.partition mark.at (take t.n (slice_of log batch mark))) in
+      let few = accepted_few batch.config mark.partition mark.at (take t.n (slice_of log batch mark)) in
       let k = length-take t.n (slice_of log batch mark) in
       let before = b.less in
       let n = count_is in
       omega (arith, d, a, few, k, before, n)
 
-  few_still : batch.count + now.count ≤ docs_target
-  few_still = let s = slice_few log mark.partition mark.at (read_limit batch.count) t.n t.within in let n = count_is in let before = b.few in omega (arith, s, n, before)
+  few_still : batch.count + now.count ≤ batch.config.docs_target
+  few_still = let s = slice_few log mark.partition mark.at (read_limit batch) t.n t.within in let n = count_is in let before = b.few in omega (arith, s, n, before)
 
   pub read_keeps : (moment : ℕ) → IsBatch log (batch_after batch mark rest now at_end moment)
   read_keeps moment =
@@ -379,9 +384,9 @@ module _ (log : Log) (batch : Batch) (mark : Checkpoint) (rest : List Checkpoint
         less = less_still;
         few = few_still;
         weighs = let w = t.weight in let most = t.most in omega (arith, w, most);
-        calm = λ e. let w = t.weight in let calm = t.calm (going (queue_after at_end mark now.count rest) (batch.count + now.count) now.heavy (first_moment batch.first_read moment) moment e).2 in omega (arith, w, calm);
-        room = λ e. below_target docs_target (batch.count + now.count) (going (queue_after at_end mark now.count rest) (batch.count + now.count) now.heavy (first_moment batch.first_read moment) moment e).1;
-        ahead = λ e. (going (queue_after at_end mark now.count rest) (batch.count + now.count) now.heavy (first_moment batch.first_read moment) moment e).0;
+        calm = λ e. let w = t.weight in let calm = t.calm (going batch.config (queue_after at_end mark now.count rest) (batch.count + now.count) now.heavy (first_moment batch.first_read moment) moment e).2 in omega (arith, w, calm);
+        room = λ e. below_target batch.config.docs_target (batch.count + now.count) (going batch.config (queue_after at_end mark now.count rest) (batch.count + now.count) now.heavy (first_moment batch.first_read moment) moment e).1;
+        ahead = λ e. (going batch.config (queue_after at_end mark now.count rest) (batch.count + now.count) now.heavy (first_moment batch.first_read moment) moment e).0;
         queue = reads.queue;
       }
 
@@ -395,8 +400,8 @@ new_marked : (checkpoints : List Checkpoint) (names : List (List ℕ)) → AreAp
 new_marked checkpoints [] h = tt
 new_marked checkpoints (name ∷ names) h = (tt, others_marked checkpoints name names h.0, new_marked checkpoints names h.1)
 
-pub fresh_is_batch : (log : Log) (checkpoints : List Checkpoint) (names : List (List ℕ)) → AreApart names → IsBatch log (fresh_batch (marks_at checkpoints names))
-fresh_is_batch log checkpoints names h =
+pub fresh_is_batch : (config : IndexConfig) → 0 < config.docs_target → (log : Log) (checkpoints : List Checkpoint) (names : List (List ℕ)) → AreApart names → IsBatch log (fresh_batch config (marks_at checkpoints names))
+fresh_is_batch config some log checkpoints names h =
     record {
       documents = refl;
       ends = tt;
@@ -405,18 +410,17 @@ fresh_is_batch log checkpoints names h =
       few = omega arith;
       weighs = omega arith;
       calm = λ e. omega arith;
-      room = λ e. omega arith;
+      room = λ e. some;
       ahead = λ e. e;
       queue = queue_rest [] (marks_at checkpoints names) (new_marked checkpoints names h);
     }
 
 -- its split is made of the log, and the facts say what it is
-pub batch_is_made : (log : Log) (batch : Batch) → IsBatch log batch → IsMade log batch.parts (batch_facts batch) (split_file batch.documents)
-batch_is_made log batch b =
+pub batch_is_made : (log : Log) (batch : Batch) → IsBatch log batch → AreSplit batch.config batch.documents → IsMade batch.config log batch.parts (batch_facts batch) (file_of batch.config batch.documents)
+batch_is_made log batch b are =
     record {
       ends = b.ends;
-      file = ap split_file b.documents;
-      agree = ap (λ c. facts_of batch.documents (c - length batch.documents)) (sym b.count) ∙ ap (λ d. facts_of d (record_count batch.parts - length d)) b.documents;
-      documents = let less = b.less in let few = b.few in let same = ap length b.documents in omega (arith, less, few, same);
-      weight = let w = b.weighs in let same = ap weight b.documents in omega (arith, w, same);
+      file = ap (file_of batch.config) b.documents;
+      agree = ap (λ c. facts_of batch.config batch.documents (c - length batch.documents)) (sym b.count) ∙ ap (λ d. facts_of batch.config d (record_count batch.parts - length d)) b.documents;
+      split = subst (λ d. AreSplit batch.config d) b.documents are;
     }

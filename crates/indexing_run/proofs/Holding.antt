@@ -1,14 +1,11 @@
 -- What an indexer holds, from one call of a world to the next.
-use Rattle.std.proofs.Common.{◌≡◌, ℕ, ◌+◌, ◌-◌, List, sym, ap, subst, true, length, arith}
+use Rattle.std.proofs.Common.{◌≡◌, ℕ, ◌-◌, sym, ap, subst, length}
 use Rattle.std.specs.Prelude.{Option, Some}
-use Rattle.meta_journal.specs.declared.entry.Entry.{Entry}
-use Rattle.meta_store.specs.History.{history, last_number}
 use Rattle.source_log.specs.Log.{Log}
-use Rattle.index_world.specs.Core.{Core, IsUploadedIn, HasStagedIn, KeepsBut, IsOther}
+use Rattle.index_world.specs.Core.{Core, IsConfigured, IsUploadedIn, HasStagedIn, KeepsBut, IsOther}
 use Rattle.index_world.specs.Gate.{IsStagedIn, IsPublishable}
-use Rattle.index_world.specs.Index.{has_staged, facts_of, IsMade}
-use Rattle.index_world.specs.SplitFile.{split_file}
-use Rattle.index_world.proofs.Numbers.{staged_le}
+use Rattle.index_world.specs.Index.{IsMade}
+use Rattle.index_world.specs.SplitFile.{file_of, facts_of, AreSplit}
 use Rattle.indexing_run.specs.Places.{Batch, Held, held_facts, IsStagedHeld, IsUploadedHeld}
 use Rattle.indexing_run.specs.Places.{Place, Indexer, number_held}
 use Rattle.indexing_run.specs.Standing.{PlaceStands, IndexerStands}
@@ -22,39 +19,40 @@ use Rattle.indexing_run.proofs.Batches.{batch_is_made}
 
 -- the facts under the number are those that it was staged with
 facts_held : (log : Log) (batch : Batch) (number : ℕ) → IsBatch log batch → batch_facts batch ≡ held_facts (held_of batch number)
-facts_held log batch number b = ap (λ c. facts_of batch.documents (c - length batch.documents)) (sym b.count)
+facts_held log batch number b = ap (λ c. facts_of batch.config batch.documents (c - length batch.documents)) (sym b.count)
 
 -- a closed batch that was staged is held
-pub staged_is_held : (log : Log) (core : Core) (batch : Batch) (number : ℕ) → IsBatch log batch → IsStagedIn batch.parts (batch_facts batch) core number → IsStagedHeld log core (held_of batch number)
-staged_is_held log core batch number b s =
+pub staged_is_held : (log : Log) (core : Core) (batch : Batch) (number : ℕ) → IsBatch log batch → AreSplit batch.config batch.documents → IsConfigured batch.config core → IsStagedIn batch.parts (batch_facts batch) core number → IsStagedHeld log core (held_of batch number)
+staged_is_held log core batch number b are k s =
     record {
+      configured = k;
       unused = s.unused;
       staged = subst (λ f. HasStagedIn core number batch.parts f) (facts_held log batch number b) s.staged;
-      made = subst (λ f. IsMade log batch.parts f (split_file batch.documents)) (facts_held log batch number b) (batch_is_made log batch b);
+      made = subst (λ f. IsMade batch.config log batch.parts f (file_of batch.config batch.documents)) (facts_held log batch number b) (batch_is_made log batch b are);
     }
 
 -- an upload that was Ok makes it uploaded
-pub uploaded_is_held : (log : Log) (core after : Core) (held : Held) (one : Option ℕ) → KeepsBut one core after → IsStagedHeld log core held → IsUploadedIn after held.number (split_file held.documents) → IsUploadedHeld log after held
-uploaded_is_held log core after held one k s u = record { uploaded = u; staged = k.staged held.number held.delta (held_facts held) s.staged; made = s.made }
+pub uploaded_is_held : (log : Log) (core after : Core) (held : Held) (one : Option ℕ) → KeepsBut one core after → IsStagedHeld log core held → IsUploadedIn after held.number (file_of held.config held.documents) → IsUploadedHeld log after held
+uploaded_is_held log core after held one k s u = record { configured = k.configured held.config s.configured; uploaded = u; staged = k.staged held.number held.delta (held_facts held) s.staged; made = s.made }
 
 -- what is uploaded may be published
 pub held_is_publishable : (log : Log) (core : Core) (held : Held) → IsUploadedHeld log core held → IsPublishable log core held.number
 held_is_publishable log core held u =
-    record { delta = held.delta; facts = held_facts held; bytes = split_file held.documents; staged = u.staged; made = u.made; uploaded = u.uploaded }
+    record { config = held.config; configured = u.configured; delta = held.delta; facts = held_facts held; bytes = file_of held.config held.documents; staged = u.staged; made = u.made; uploaded = u.uploaded }
 
 -- the calls of others leave it as it was
 pub staged_stays : (log : Log) (core after : Core) (held : Held) (one : Option ℕ) → KeepsBut one core after → IsOther one held.number → IsStagedHeld log core held → IsStagedHeld log after held
 staged_stays log core after held one k other s =
-    record { unused = k.unused held.number other s.unused; staged = k.staged held.number held.delta (held_facts held) s.staged; made = s.made }
+    record { configured = k.configured held.config s.configured; unused = k.unused held.number other s.unused; staged = k.staged held.number held.delta (held_facts held) s.staged; made = s.made }
 
 pub uploaded_stays : (log : Log) (core after : Core) (held : Held) (one : Option ℕ) → KeepsBut one core after → IsUploadedHeld log core held → IsUploadedHeld log after held
 uploaded_stays log core after held one k u =
-    record { uploaded = k.uploaded held.number (split_file held.documents) u.uploaded; staged = k.staged held.number held.delta (held_facts held) u.staged; made = u.made }
+    record { configured = k.configured held.config u.configured; uploaded = k.uploaded held.number (file_of held.config held.documents) u.uploaded; staged = k.staged held.number held.delta (held_facts held) u.staged; made = u.made }
 
 place_stays : (log : Log) (core after : Core) (kept : HeldPlace) (place : Place) (one : Option ℕ) → KeepsBut one core after → ((n : ℕ) → number_held place ≡ Some n → IsOther one n) →
     PlaceStands log core kept place → PlaceStands log after kept place
 place_stays log core after places.Idle place one k other s = s
-place_stays log core after (places.Reading batch) place one k other s = s
+place_stays log core after (places.Reading batch) place one k other s = (s.0, s.1, s.2, s.3, k.configured s.0.config s.4)
 place_stays log core after (places.Staged token bytes) place one k other s =
     (s.0, s.1, s.2, s.3, staged_stays log core after s.0 one k (other s.0.number (ap number_held s.1)) s.4)
 place_stays log core after (places.Uploaded token) place one k other s =

@@ -1,7 +1,9 @@
 pub mod Slices
 pub mod Batches
-pub mod Texts
 pub mod Light
+pub mod Once
+pub mod Gathered
+pub mod Spelling
 pub mod Queues
 pub mod Takes
 pub mod Steps

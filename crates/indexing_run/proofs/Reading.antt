@@ -1,5 +1,5 @@
 -- A step of an indexer that calls its log.
-use Rattle.std.proofs.Common.{◌≡◌, ℕ, ◌+◌, ◌-◌, ◌≤◌, ◌==◌, ◌||◌, ◌↔◌, IsTrue, min, List, [], ◌∷◌, refl, sym, ap, ◌∙◌, subst, Bool, true, false, length, drop, take, arith, nat_lt, nat_le, Ok, Err, Result, Option, Some, None, length-take, length-drop}
+use Rattle.std.proofs.Common.{◌≡◌, ℕ, ◌+◌, ◌-◌, ◌<◌, ◌≤◌, ◌==◌, ◌||◌, ◌↔◌, IsTrue, min, List, [], ◌∷◌, refl, sym, ap, ◌∙◌, subst, Bool, true, false, length, drop, take, arith, nat_lt, nat_le, Ok, Err, Result, Option, Some, None, length-take, length-drop}
 use Rattle.std.specs.Prelude.{⊤, if◌then◌else◌}
 use Rattle.std.specs.declared.alloc.AllocError.{AllocError}
 use Rattle.std.proofs.lemmas.Bool.Decides.{nat_tests}
@@ -12,8 +12,13 @@ use Rattle.source_log.specs.declared.log.ReadError.TheVariants as errors
 use Rattle.meta_store.specs.History.{history}
 use Rattle.meta_store.specs.State.{checkpoints_of}
 use Rattle.index_world.specs.Calls.{Fate, calm_fate, Trouble, gives, risen, looked, asked}
-use Rattle.index_world.specs.Core.{Core, last_count}
+use Rattle.index_world.specs.Core.{Core, last_count, journal_of, IsConfigured}
+use Rattle.index_config.specs.declared.config.IndexConfig.{IndexConfig}
+use Rattle.index_world.specs.Configuration.{configuration, config_or}
 use Rattle.index_world.specs.World.{GoesOn}
+use Rattle.index_config.proofs.Ranges.{accepted-ranges}
+use Rattle.index_world.proofs.Configured.{configured_read}
+use Rattle.index_world.specs.SplitFile.{max_documents}
 use Rattle.index_world.specs.Gate.{Does, Says, IsTrouble, IsMoment, AreMarks}
 use Rattle.indexing_run.specs.declared.batch.Batch.{Batch as HeldBatch}
 use Rattle.indexing_run.specs.declared.batch.NextRead.{NextRead}
@@ -111,31 +116,50 @@ pub record NextIs (batch : Batch) (next : NextRead) : Type 0 where
   pub queue : batch.queue ≡ mark ∷ rest
   pub name : next.partition ≡ mark.partition
   pub from : next.from ≡ mark.at
-  pub room : next.room ≡ read_limit batch.count
+  pub room : next.room ≡ read_limit batch
 
-pub next_is : (batch : Batch) (next : NextRead) → is_empty batch.queue ≡ false → Some next ≡ next_read batch.queue batch.count → NextIs batch next
+pub next_is : (batch : Batch) (next : NextRead) → is_empty batch.queue ≡ false → Some next ≡ next_read batch.queue (read_limit batch) → NextIs batch next
 next_is batch next ahead e = by batch.queue refl ahead e
   where
-    by : (queue : List Checkpoint) → batch.queue ≡ queue → is_empty queue ≡ false → Some next ≡ next_read queue batch.count → NextIs batch next
+    by : (queue : List Checkpoint) → batch.queue ≡ queue → is_empty queue ≡ false → Some next ≡ next_read queue (read_limit batch) → NextIs batch next
     by [] q h e = cc
     by (mark ∷ rest) q h e =
-        let same : next ≡ record { partition = mark.partition; from = mark.at; room = read_limit batch.count } = cc in
+        let same : next ≡ record { partition = mark.partition; from = mark.at; room = read_limit batch } = cc in
         record { mark = mark; rest = rest; queue = q; name = ap (λ n. n.partition) same; from = ap (λ n. n.from) same; room = ap (λ n. n.room) same }
 
 pub slice_is : (log : Log) (batch : Batch) (next : NextRead) (nx : NextIs batch next) (records : Records) → IsSliceOf (records_of log next.partition) next.from next.room records →
-    IsSliceOf (records_of log nx.mark.partition) nx.mark.at (read_limit batch.count) records
+    IsSliceOf (records_of log nx.mark.partition) nx.mark.at (read_limit batch) records
 slice_is log batch next nx records h =
     subst (λ room. IsSliceOf (records_of log nx.mark.partition) nx.mark.at room records) nx.room
     (subst (λ from. IsSliceOf (records_of log nx.mark.partition) from next.room records) nx.from
     (subst (λ name. IsSliceOf (records_of log name) next.from next.room records) nx.name h))
 
-pub reads_on : (log : Log) (batch : Batch) (next : NextRead) (nx : NextIs batch next) (records : Records) → IsBatch log batch → batch.closed ≡ false → length records.list ≤ next.room → ReadsOn batch nx.mark nx.rest records
-reads_on log batch next nx records b closed bound =
+-- a batch that is read on has something to read
+pub reads_something : (batch : Batch) (next : Option NextRead) → is_empty batch.queue ≡ false → next ≡ next_read batch.queue (read_limit batch) → ((x : NextRead) → next ≡ Some x → ⊥) → ⊥
+reads_something batch next ahead e other = by batch.queue ahead e
+  where
+    by : (queue : List Checkpoint) → is_empty queue ≡ false → next ≡ next_read queue (read_limit batch) → ⊥
+    by [] h e = cc h
+    by (mark ∷ rest) h e = other (record { partition = mark.partition; from = mark.at; room = read_limit batch }) e
+
+-- the target of an index's configuration
+pub target_ranges : (core : Core) (config : IndexConfig) → IsConfigured config core → (0 < config.docs_target) × (config.docs_target ≤ max_documents)
+target_ranges core config k =
+    let r = configured_read (journal_of core) config k in
+    let within = (accepted-ranges r.0 config r.1).docs_target in
+    let least : 1 ≤ config.docs_target = within.0 in
+    let most : config.docs_target ≤ 16777216 = within.1 in
+    (omega (arith, least), omega (arith, most))
+
+pub reads_on : (log : Log) (core : Core) (batch : Batch) (next : NextRead) (nx : NextIs batch next) (records : Records) → IsBatch log batch → IsConfigured batch.config core → batch.closed ≡ false → length records.list ≤ next.room →
+    ReadsOn batch nx.mark nx.rest records
+reads_on log core batch next nx records b k closed bound =
     record {
       queue = nx.queue;
       follows = (subst (λ marks. IsQueue batch.parts marks) nx.queue b.queue).0;
       calm = b.calm closed;
       room = let room = nx.room in let few = b.few in omega (arith, bound, room, few);
+      target = (target_ranges core batch.config k).1;
     }
 
 module _ {L W : Type 0} (tells : L → Option Log) (count : L → ℕ) (Stands : W → Core → Log → Type 0) (Between : Core → Core → Type 0) (indexer : Indexer) (core : Core) (log : Log)
@@ -197,42 +221,42 @@ module _ {L W : Type 0} (tells : L → Option Log) (count : L → ℕ) (Stands :
         ends_called (reading batch) idle held result a.mid a.behind (log_luck false (now - indexer.log_faults) false a.fate true) None a.passed
         (ap (or_short true) (read_did (log_luck false (now - indexer.log_faults) false a.fate true) refl)) answer refl h a.stands a.goes
 
-    module _ (l : IsLog log) (b : IsBatch log batch) (records : Records) (slice : IsSliceOf (records_of log mark.partition) mark.at (read_limit batch.count) records) where
+    module _ (l : IsLog log) (b : IsBatch log batch) (k : IsConfigured batch.config core) (records : Records) (slice : IsSliceOf (records_of log mark.partition) mark.at (read_limit batch) records) where
       read_batch : Batch
       read_batch =
-          batch_after batch mark rest (taken_from mark.partition mark.at (take (read_limit batch.count) (drop mark.at (records_of log mark.partition))) (start_of batch))
-          (nat_le (length (drop mark.at (records_of log mark.partition))) (read_limit batch.count)) a.behind.moment
+          batch_after batch mark rest (taken_from batch.config mark.partition mark.at (take (read_limit batch) (drop mark.at (records_of log mark.partition))) (start_of batch))
+          (nat_le (length (drop mark.at (records_of log mark.partition))) (read_limit batch)) a.behind.moment
 
-      end_is : records.end ≡ nat_le (length (drop mark.at (records_of log mark.partition))) (read_limit batch.count)
+      end_is : records.end ≡ nat_le (length (drop mark.at (records_of log mark.partition))) (read_limit batch)
       end_is =
-          end_same records.end (length (records_of log mark.partition)) mark.at (length records.list) (read_limit batch.count) slice.end_is
-          (ap length slice.list_is ∙ length-take (read_limit batch.count) (drop mark.at (records_of log mark.partition)) ∙ ap (min (read_limit batch.count)) (length-drop mark.at (records_of log mark.partition)))
-          ∙ ap (λ n. nat_le n (read_limit batch.count)) (sym (length-drop mark.at (records_of log mark.partition)))
+          end_same records.end (length (records_of log mark.partition)) mark.at (length records.list) (read_limit batch) slice.end_is
+          (ap length slice.list_is ∙ length-take (read_limit batch) (drop mark.at (records_of log mark.partition)) ∙ ap (min (read_limit batch)) (length-drop mark.at (records_of log mark.partition)))
+          ∙ ap (λ n. nat_le n (read_limit batch)) (sym (length-drop mark.at (records_of log mark.partition)))
 
       read_is : batch_read batch mark rest records moment ≡ read_batch
       unfolding read_batch
       read_is =
-          ap (λ rs. batch_after batch mark rest (taken_from mark.partition mark.at rs (start_of batch)) records.end moment) slice.list_is
-          ∙ ap (λ e. batch_after batch mark rest (taken_from mark.partition mark.at (take (read_limit batch.count) (drop mark.at (records_of log mark.partition))) (start_of batch)) e moment) end_is
-          ∙ ap (batch_after batch mark rest (taken_from mark.partition mark.at (take (read_limit batch.count) (drop mark.at (records_of log mark.partition))) (start_of batch))
-          (nat_le (length (drop mark.at (records_of log mark.partition))) (read_limit batch.count))) a.is
+          ap (λ rs. batch_after batch mark rest (taken_from batch.config mark.partition mark.at rs (start_of batch)) records.end moment) slice.list_is
+          ∙ ap (λ e. batch_after batch mark rest (taken_from batch.config mark.partition mark.at (take (read_limit batch) (drop mark.at (records_of log mark.partition))) (start_of batch)) e moment) end_is
+          ∙ ap (batch_after batch mark rest (taken_from batch.config mark.partition mark.at (take (read_limit batch) (drop mark.at (records_of log mark.partition))) (start_of batch))
+          (nat_le (length (drop mark.at (records_of log mark.partition))) (read_limit batch))) a.is
 
       batch_stays : IsBatch log read_batch
       unfolding read_batch
       batch_stays =
           let q = subst (λ marks. IsQueue batch.parts marks) queue b.queue in
-          read_keeps log batch mark rest l b (taken_from mark.partition mark.at (slice_of log batch mark) (start_of batch))
-          (nat_le (length (drop mark.at (records_of log mark.partition))) (read_limit batch.count)) q.0 q.1 q.2 (read_taken light log batch mark l b closed) a.behind.moment
+          read_keeps log batch mark rest l b (taken_from batch.config mark.partition mark.at (slice_of log batch mark) (start_of batch))
+          (nat_le (length (drop mark.at (records_of log mark.partition))) (read_limit batch)) q.0 q.1 q.2 (read_taken log batch mark (let r = configured_read (journal_of core) batch.config k in light r.0 batch.config r.1) l b closed) a.behind.moment
 
-      pub reads_some : (n : ℕ) (held : HeldBatch) → n ≡ (taken_from mark.partition mark.at records.list (start_of batch)).count → BatchStands held (batch_read batch mark rest records moment) →
+      pub reads_some : (n : ℕ) (held : HeldBatch) → n ≡ (taken_from batch.config mark.partition mark.at records.list (start_of batch)).count → BatchStands held (batch_read batch mark rest records moment) →
           StepsAs tells count Stands Between (Ok (said.Read n)) (record indexer { place = reading batch }) core log (record next { place = places.Reading held }) caller
       unfolding read_batch
       reads_some n held taken h =
           ends_called (reading batch) (reading read_batch) (places.Reading held) (Ok (said.Read n)) a.mid a.behind (log_luck false (now - indexer.log_faults) false a.fate false)
-          (Some (outcomes.Read (taken_from mark.partition mark.at (take (read_limit batch.count) (drop mark.at (records_of log mark.partition))) (start_of batch)).count)) a.passed
+          (Some (outcomes.Read (taken_from batch.config mark.partition mark.at (take (read_limit batch) (drop mark.at (records_of log mark.partition))) (start_of batch)).count)) a.passed
           (read_did (log_luck false (now - indexer.log_faults) false a.fate false) refl)
-          (ap (λ rs. outcomes.Read (taken_from mark.partition mark.at rs (start_of batch)).count) (sym slice.list_is) ∙ ap outcomes.Read (sym taken)) refl
-          (read_batch, refl, subst (BatchStands held) read_is h, batch_stays) a.stands a.goes
+          (ap (λ rs. outcomes.Read (taken_from batch.config mark.partition mark.at rs (start_of batch)).count) (sym slice.list_is) ∙ ap outcomes.Read (sym taken)) refl
+          (read_batch, refl, subst (BatchStands held) read_is h, batch_stays, a.goes.keeps.configured batch.config k) a.stands a.goes
 
 -- ---- the moment was not told
 
@@ -377,22 +401,27 @@ module _ {L W : Type 0} (tells : L → Option Log) (count : L → ℕ) (Stands :
         by (Err e) did w = absurd w
 
     -- a batch begins
-    pub begins : (held : HeldBatch) (marks : Marks) → IsLog log → BatchStands held (fresh_batch (marks_at marks.checkpoints.items names)) →
+    pub begins : (config : IndexConfig) (held : HeldBatch) (marks : Marks) → IsLog log → ((after : Core) → Stands caller after log → IsConfigured config after) →
+        BatchStands held (fresh_batch config (marks_at marks.checkpoints.items names)) →
         Does Stands Between None looked IsTrouble AreMarks (Ok marks) core log caller →
         StepsAs tells count Stands Between (Ok said.Checkpoint) (record indexer { place = idle }) core log (record next { place = places.Reading held }) caller
-    begins held marks l b d = by d.answer d.did d.says
+    begins config held marks l here b d = by d.answer d.did d.says
       where
         by : (a : Result ⊤ Trouble) → looked d.fate d.mid ≡ gives a d.after → Says IsTrouble AreMarks (Ok marks) a d.after →
             StepsAs tells count Stands Between (Ok said.Checkpoint) (record indexer { place = idle }) core log (record next { place = places.Reading held }) caller
         by (Ok done) did w =
-            ends_named (reading (fresh_batch (marks_at (checkpoints_of (history d.after.history)) (partitions_for indexer.assignment log)))) (places.Reading held) (Ok said.Checkpoint) d.mid d.after
+            let k : IsConfigured config d.after = here d.after d.stands in
+            let same : config ≡ config_or (configuration (journal_of d.after)) = ap config_or (sym k) in
+            ends_named (reading (fresh_batch (config_or (configuration (journal_of d.after))) (marks_at (checkpoints_of (history d.after.history)) (partitions_for indexer.assignment log)))) (places.Reading held) (Ok said.Checkpoint) d.mid d.after
             (log_luck false (now - indexer.log_faults) false d.fate false) (Some outcomes.Checkpoint) d.passed
             (idle_did d.fate false d.mid ∙ ap (checkpoints_given log (record indexer { place = idle; log_faults = now })) did) refl refl (
-              fresh_batch (marks_at (checkpoints_of (history d.after.history)) (partitions_for indexer.assignment log)),
+              fresh_batch (config_or (configuration (journal_of d.after))) (marks_at (checkpoints_of (history d.after.history)) (partitions_for indexer.assignment log)),
               refl,
-              subst (λ names. BatchStands held (fresh_batch (marks_at (checkpoints_of (history d.after.history)) names))) names_are
-                  (subst (λ checkpoints. BatchStands held (fresh_batch (marks_at checkpoints names))) w.checkpoints b),
-              fresh_is_batch log (checkpoints_of (history d.after.history)) (partitions_for indexer.assignment log) (assigned_apart log indexer.assignment l s.assigned),
+              subst (λ names. BatchStands held (fresh_batch (config_or (configuration (journal_of d.after))) (marks_at (checkpoints_of (history d.after.history)) names))) names_are
+                  (subst (λ checkpoints. BatchStands held (fresh_batch (config_or (configuration (journal_of d.after))) (marks_at checkpoints names))) w.checkpoints
+                  (subst (λ (c : IndexConfig). BatchStands held (fresh_batch c (marks_at marks.checkpoints.items names))) same b)),
+              fresh_is_batch (config_or (configuration (journal_of d.after))) (subst (λ (c : IndexConfig). 0 < c.docs_target) same (target_ranges d.after config k).0) log (checkpoints_of (history d.after.history)) (partitions_for indexer.assignment log) (assigned_apart log indexer.assignment l s.assigned),
+              subst (λ (c : IndexConfig). IsConfigured c d.after) same k,
             )
             d.stands d.goes_on
         by (Err e) did w = absurd w

@@ -1,5 +1,5 @@
 -- A step of an indexer, from what its calls did.
-use Rattle.std.proofs.Common.{◌≡◌, ℕ, ◌-◌, ◌<◌, ◌≤◌, ◌==◌, ◌^◌, min, List, [], refl, sym, ap, ◌∙◌, subst, Bool, true, false, not, length, arith, append-nil, Ok, Err, Result, Option, Some, None}
+use Rattle.std.proofs.Common.{◌≡◌, ℕ, ◌-◌, ◌<◌, ◌≤◌, ◌==◌, min, List, [], refl, sym, ap, ◌∙◌, subst, Bool, true, false, not, length, arith, append-nil, Ok, Err, Result, Option, Some, None}
 use Rattle.std.specs.Prelude.{⊤, if◌then◌else◌}
 use Rattle.std.specs.declared.alloc.AllocError.{AllocError}
 use Rattle.std.specs.Result.{IsErr}
@@ -8,12 +8,16 @@ use Rattle.source_log.specs.Log.{Log}
 use Rattle.split_states.specs.declared.facts.RowFacts.{RowFacts}
 use Rattle.meta_store.specs.History.{history, last_number}
 use Rattle.index_world.specs.Calls.{Fate, calm_fate, Trouble, Unmade, gives, upload_made}
-use Rattle.index_world.specs.Core.{Core, IsUploadedIn}
+use Rattle.index_world.specs.Core.{Core, IsConfigured, IsUploadedIn}
 use Rattle.index_world.specs.Gate.{Does, Says, IsTrouble, IsUnmade, WasStaged, WasUploaded, IsStagedIn, IsRevision, stage_call, publish_call}
-use Rattle.index_world.specs.Config.{docs_target}
-use Rattle.index_world.specs.Index.{most, facts_of}
-use Rattle.index_world.specs.declared.placed.Placed.{Placed}
-use Rattle.index_world.specs.SplitFile.{split_file, weight, max_weight}
+use Rattle.split_bundle.specs.declared.placed.Placed.{Placed}
+use Rattle.index_world.specs.SplitFile.{file_of, facts_of, most, max_documents, AreSplit}
+use Rattle.index_config.specs.declared.config.IndexConfig.{IndexConfig}
+use Rattle.split_build.specs.Builders.{IsBuilt}
+use Rattle.split_build.specs.declared.builder.BuiltSplit.{BuiltSplit}
+use Rattle.split_bundle.specs.Splits.{IsSplit}
+use Rattle.split_form.specs.Facts.{facts_of as form_facts}
+use Rattle.split_form.specs.Form as form
 use Rattle.index_world.specs.World.{GoesOn}
 use Rattle.index_world.specs.declared.tokens.Staged.{Staged}
 use Rattle.index_world.specs.declared.tokens.Uploaded.{Uploaded}
@@ -45,7 +49,7 @@ goes_nowhere one core =
       grown = ([], sym (append-nil core.history));
       faults = omega arith;
       moment = omega arith;
-      keeps = record { unused = λ n o u. u; uploaded = λ n b u. u; staged = λ n d f s. s };
+      keeps = record { configured = λ config e. e; unused = λ n o u. u; uploaded = λ n b u. u; staged = λ n d f s. s };
     }
 
 -- what keeps each number keeps all but one
@@ -55,12 +59,12 @@ goes_but one core after g =
       grown = g.grown;
       faults = g.faults;
       moment = g.moment;
-      keeps = record { unused = λ n o u. g.keeps.unused n tt u; uploaded = g.keeps.uploaded; staged = g.keeps.staged };
+      keeps = record { configured = g.keeps.configured; unused = λ n o u. g.keeps.unused n tt u; uploaded = g.keeps.uploaded; staged = g.keeps.staged };
     }
 
 pub idle_stays : (log : Log) (core after : Core) (kept : HeldPlace) → PlaceStands log core kept idle → PlaceStands log after kept idle
 idle_stays log core after places.Idle s = s
-idle_stays log core after (places.Reading batch) s = s
+idle_stays log core after (places.Reading batch) s = let e = s.1 in cc
 idle_stays log core after (places.Staged token bytes) s = let e = s.1 in cc
 idle_stays log core after (places.Uploaded token) s = let e = s.1 in cc
 
@@ -122,11 +126,11 @@ module _ {L W : Type 0} (tells : L → Option Log) (count : L → ℕ) (Stands :
 
   -- ---- an upload
 
-  module _ (held : Held) (number : ℕ) (bytes : List ℕ) (same : number ≡ held.number) (file : bytes ≡ split_file held.documents) where
+  module _ (held : Held) (number : ℕ) (bytes : List ℕ) (same : number ≡ held.number) (file : bytes ≡ file_of held.config held.documents) where
     upload_did : (fate : Fate) (mid after : Core) (a : Result ⊤ Trouble) → upload_made fate number bytes mid ≡ gives a after →
         step_indexer (by_world fate) log (record indexer { place = staged held }) mid ≡ upload_by a held (record indexer { place = staged held }) after
     upload_did fate mid after a did =
-        ap (λ n. upload_given held (record indexer { place = staged held }) (upload_made fate n (split_file held.documents) mid)) (sym same)
+        ap (λ n. upload_given held (record indexer { place = staged held }) (upload_made fate n (file_of held.config held.documents) mid)) (sym same)
         ∙ ap (λ bs. upload_given held (record indexer { place = staged held }) (upload_made fate number bs mid)) (sym file)
         ∙ ap (upload_given held (record indexer { place = staged held })) did
 
@@ -152,7 +156,7 @@ module _ {L W : Type 0} (tells : L → Option Log) (count : L → ℕ) (Stands :
                 refl,
                 w.same ∙ same,
                 uploaded_is_held log core d.after held (Some number) d.goes_on.keeps h
-                    (subst (λ n. IsUploadedIn d.after n (split_file held.documents)) same (subst (λ bs. IsUploadedIn d.after number bs) file w.in_hand)),
+                    (subst (λ n. IsUploadedIn d.after n (file_of held.config held.documents)) same (subst (λ bs. IsUploadedIn d.after number bs) file w.in_hand)),
               );
               gate = d.stands;
               goes_on = subst (λ n. GoesOn (Some n) core d.after) same d.goes_on;
@@ -209,10 +213,10 @@ module _ {L W : Type 0} (tells : L → Option Log) (count : L → ℕ) (Stands :
             ∙ ap (λ f. stage_given batch (record indexer { place = reading batch }) (stage_call delta f fate mid)) (sym noted)
             ∙ ap (stage_given batch (record indexer { place = reading batch })) did
 
-        pub stages : (token : Staged) (bytes : List ℕ) → bytes ≡ split_file batch.documents → IsBatch log batch →
+        pub stages : (token : Staged) (bytes : List ℕ) → bytes ≡ file_of batch.config batch.documents → IsBatch log batch → AreSplit batch.config batch.documents → IsConfigured batch.config core →
             Does Stands Between None (stage_call delta facts) IsUnmade (WasStaged core delta facts) (Ok token) core log caller →
             StepsAs tells count Stands Between (Ok (said.Staged token.number)) (record indexer { place = reading batch }) core log (record reader { place = places.Staged token bytes }) caller
-        stages token bytes file made d = by d.answer d.did d.says
+        stages token bytes file made are k d = by d.answer d.did d.says
           where
             by : (a : Result ⊤ Unmade) → stage_call delta facts d.fate d.mid ≡ gives a d.after → Says IsUnmade (WasStaged core delta facts) (Ok token) a d.after →
                 StepsAs tells count Stands Between (Ok (said.Staged token.number)) (record indexer { place = reading batch }) core log (record reader { place = places.Staged token bytes }) caller
@@ -231,7 +235,7 @@ module _ {L W : Type 0} (tells : L → Option Log) (count : L → ℕ) (Stands :
                     refl,
                     w.number,
                     file,
-                    staged_is_held log d.after batch (last_number (history d.after.history)) made
+                    staged_is_held log d.after batch (last_number (history d.after.history)) made are (d.goes_on.keeps.configured batch.config k)
                         (subst (λ n. IsStagedIn batch.parts (batch_facts batch) d.after n) w.number
                         (subst (λ f. IsStagedIn batch.parts f d.after token.number) noted (subst (λ p. IsStagedIn p facts d.after token.number) parts w.in_hand))),
                   );
@@ -273,25 +277,37 @@ unpublished_answers held number indexer error answered same f (Err e) after w = 
 
 -- ---- the facts of a split that is staged
 
-pub weighs_few : (batch : Batch) (documents : List Placed) → documents ≡ batch.documents → weight batch.documents ≤ max_weight → weight documents < 2 ^ 64
-weighs_few batch documents d few = subst (λ docs. weight docs < 2 ^ 64) (sym d) (omega (arith, few))
-
 abbrev with_rejected : ℕ → RowFacts → RowFacts
 with_rejected n facts = record facts { rejected = n }
 
-pub staged_facts : (batch : Batch) (documents : List Placed) (built given : RowFacts) (count rejected : ℕ) → documents ≡ batch.documents → count ≡ batch.count → built ≡ facts_of documents 0 → rejected ≡ count - built.docs →
-    given ≡ record built { rejected = rejected } → batch.count ≤ docs_target → given ≡ batch_facts batch
-staged_facts batch documents built given count rejected d c b r g few =
-    g ∙ as_built ∙ as_kept ∙ ap (λ docs. facts_of docs (batch.count - length docs)) d
+docs_are : (config : IndexConfig) (documents : List Placed) → (facts_of config documents 0).docs ≡ length documents
+unfolding form_facts
+docs_are config documents = refl
+
+rejected_as : (config : IndexConfig) (documents : List Placed) (n : ℕ) → with_rejected (min n most) (facts_of config documents 0) ≡ facts_of config documents n
+unfolding form_facts
+rejected_as config documents n = refl
+
+pub staged_facts : (batch : Batch) (documents : List Placed) (built given : RowFacts) (count rejected : ℕ) → documents ≡ batch.documents → count ≡ batch.count → built ≡ facts_of batch.config documents 0 → rejected ≡ count - built.docs →
+    given ≡ record built { rejected = rejected } → batch.count ≤ batch.config.docs_target → batch.config.docs_target ≤ max_documents → given ≡ batch_facts batch
+staged_facts batch documents built given count rejected d c b r g few target =
+    g ∙ as_built ∙ as_kept ∙ ap (λ docs. facts_of batch.config docs (batch.count - length docs)) d
   where
     kept : rejected ≡ min (batch.count - length documents) most
-    kept = let docs = ap (λ f. f.docs) b in omega (arith, r, c, docs, few)
+    kept = let docs : built.docs ≡ length documents = ap (λ (f : RowFacts). f.docs) b ∙ docs_are batch.config documents in omega (arith, r, c, docs, few, target)
 
-    as_built : record built { rejected = rejected } ≡ record (facts_of documents 0) { rejected = rejected }
+    as_built : record built { rejected = rejected } ≡ record (facts_of batch.config documents 0) { rejected = rejected }
     as_built = ap (with_rejected rejected) b
 
-    as_kept : record (facts_of documents 0) { rejected = rejected } ≡ facts_of documents (batch.count - length documents)
-    as_kept = ap (λ n. with_rejected n (facts_of documents 0)) kept
+    as_kept : record (facts_of batch.config documents 0) { rejected = rejected } ≡ facts_of batch.config documents (batch.count - length documents)
+    as_kept = ap (λ n. with_rejected n (facts_of batch.config documents 0)) kept ∙ rejected_as batch.config documents (batch.count - length documents)
+
+-- what was built of the documents that are held is a split of those of the batch
+pub built_splits : (config mapping : IndexConfig) (documents list : List Placed) (split : BuiltSplit) → mapping ≡ config → list ≡ documents → IsBuilt mapping.schema list split → split.bytes ≡ form.file_of mapping.schema list →
+    AreSplit config documents
+built_splits config mapping documents list split m l b e =
+    subst (λ (x : IndexConfig). AreSplit x documents) m (subst (λ (d : List Placed). AreSplit mapping d) l
+    (record { stands = subst (λ (bs : List ℕ). IsSplit mapping.schema bs list) e b.split; few = b.within.few }))
 
 -- ---- a whole step
 

@@ -2,10 +2,11 @@
 use Rattle.std.proofs.Common.{◌≡◌, ℕ, suc, ◌+◌, ◌≤◌, min, List, [], ◌∷◌, ◌++◌, refl, sym, ap, ◌∙◌, subst, false, length, arith, nat_lt, Ok, Err, Result, Option, Some, None}
 use Rattle.std.specs.Result.{OnOk}
 use Rattle.doc_value.specs.declared.doc.DocField.{DocField}
+use Rattle.index_config.specs.declared.config.IndexConfig.{IndexConfig}
 use Rattle.index_world.specs.Accepted.{accepted}
-use Rattle.index_world.specs.Index.{most}
-use Rattle.index_world.specs.SplitFile.{weight, weight_of}
-use Rattle.index_world.specs.declared.placed.Placed.{Placed}
+use Rattle.index_world.specs.SplitFile.{most}
+use Rattle.split_bundle.specs.Documents.{total_weight as weight}
+use Rattle.split_bundle.specs.declared.placed.Placed.{Placed}
 use Rattle.std.proofs.lemmas.Bool.Decides.{nat_tests}
 use Rattle.std.specs.Option.{unwrap_or}
 use Rattle.source_checkpoint.specs.declared.ledger.Checkpoint.{Checkpoint}
@@ -14,7 +15,7 @@ use Rattle.source_checkpoint.specs.declared.delta.Part.{Part}
 use Rattle.indexing_run.specs.Making.{Follows}
 use Rattle.indexing_run.specs.Places.{Batch}
 use Rattle.indexing_run.specs.declared.batch.Batch.{Batch as HeldBatch}
-use Rattle.indexing_run.specs.Standing.{kept_weight, taken_so_far, left_of, BatchStands, ReadsOn, batch_read}
+use Rattle.indexing_run.specs.Standing.{taken_so_far, left_of, BatchStands, ReadsOn, batch_read}
 use Rattle.indexing_run.specs.Steps.{with_record, max_batch_weight, taken_from, start_of, parts_after, queue_after, first_moment, is_closed, batch_after}
 use Rattle.indexing_run.proofs.Batches.{weight-snoc}
 
@@ -25,21 +26,19 @@ on_ok (Err e) P Q f h = h
 abbrev pub placed_at : List ℕ → ℕ → List DocField → Placed
 placed_at name offset doc = record { partition = name; offset = offset; doc = doc }
 
-weighs_one : (documents : List Placed) (x : Placed) (held given now : ℕ) → held ≡ kept_weight documents → given ≡ min (weight_of x) most → now ≡ min (held + given) most → now ≡ kept_weight (documents ++ x ∷ [])
-weighs_one documents x held given now h g n = let s = weight-snoc documents x in sums (weight documents) (weight_of x) (weight (documents ++ x ∷ [])) s h g n
-  where
-    sums : (a b ab : ℕ) → ab ≡ a + b → held ≡ min a most → given ≡ min b most → now ≡ min (held + given) most → now ≡ min ab most
-    sums a b ab s h g n = omega (arith, s, h, g, n)
+-- a document more was taken
+pub takes_one : (config : IndexConfig) (name : List ℕ) (offset n : ℕ) (bytes : List ℕ) (doc : List DocField) (documents after : List Placed) →
+    accepted config bytes ≡ Some doc → after ≡ documents ++ placed_at name offset doc ∷ [] →
+    with_record name offset (accepted config bytes) (taken_so_far n documents) ≡ taken_so_far (suc n) after
+takes_one config name offset n bytes doc documents after e a =
+    ap (λ d. with_record name offset d (taken_so_far n documents)) e
+    ∙ ap (λ w. record { count = suc n; documents = documents ++ placed_at name offset doc ∷ []; weight = w; heavy = nat_lt max_batch_weight w }) (sym (weight-snoc documents (placed_at name offset doc)))
+    ∙ ap (taken_so_far (suc n)) (sym a)
 
-pub takes_one : (name : List ℕ) (offset n : ℕ) (bytes : List ℕ) (doc : List DocField) (documents after : List Placed) (held given now : ℕ) →
-    accepted bytes ≡ Some doc → held ≡ kept_weight documents → given ≡ min (weight_of (placed_at name offset doc)) most → now ≡ min (held + given) most → after ≡ documents ++ placed_at name offset doc ∷ [] →
-    (now ≡ kept_weight after) × (with_record name offset (accepted bytes) (taken_so_far n documents) ≡ taken_so_far (suc n) after)
-takes_one name offset n bytes doc documents after held given now e h g w a = (
-  weighs_one documents (placed_at name offset doc) held given now h g w ∙ ap kept_weight (sym a),
-  ap (λ d. with_record name offset d (taken_so_far n documents)) e
-      ∙ ap (λ w. record { count = suc n; documents = documents ++ placed_at name offset doc ∷ []; weight = w; heavy = nat_lt max_batch_weight w }) (sym (weight-snoc documents (placed_at name offset doc)))
-      ∙ ap (taken_so_far (suc n)) (sym a),
-)
+-- nothing was taken of a record that is not accepted
+pub takes_none : (config : IndexConfig) (name : List ℕ) (offset n : ℕ) (bytes : List ℕ) (documents : List Placed) → accepted config bytes ≡ None →
+    with_record name offset (accepted config bytes) (taken_so_far n documents) ≡ taken_so_far (suc n) documents
+takes_none config name offset n bytes documents e = ap (λ d. with_record name offset d (taken_so_far n documents)) e
 
 pub first_is : (o : Option ℕ) (now : ℕ) → unwrap_or o now ≡ first_moment o now
 first_is None now = refl
@@ -48,46 +47,43 @@ first_is (Some moment) now = refl
 not_heavy : (w : ℕ) → w ≤ max_batch_weight → nat_lt max_batch_weight w ≡ false
 not_heavy w h = grind (h, arith, nat_tests)
 
-heavy_kept : (w : ℕ) → nat_lt max_batch_weight (min w most) ≡ nat_lt max_batch_weight w
-heavy_kept w = grind (arith, nat_tests)
-
 start_is : (batch : Batch) → weight batch.documents ≤ max_batch_weight → taken_so_far 0 batch.documents ≡ start_of batch
 start_is batch calm = ap (λ b. record { count = 0; documents = batch.documents; weight = weight batch.documents; heavy = b }) (not_heavy (weight batch.documents) calm)
 
 module _ (batch : Batch) (mark : Checkpoint) (rest : List Checkpoint) (records : Records) (now n : ℕ) (held after : HeldBatch) (b : BatchStands held batch) (r : ReadsOn batch mark rest records)
-    (within : n ≤ length records.list) (kept : after.weight ≡ kept_weight after.documents) (parts : after.parts.items ≡ parts_after n held.parts.items mark.partition mark.at)
+    (within : n ≤ length records.list) (config : after.documents.mapping ≡ held.documents.mapping) (parts : after.parts.items ≡ parts_after n held.parts.items mark.partition mark.at)
     (queue : left_of after.queue ≡ queue_after records.end mark n rest) (count : after.count ≡ min (held.count + n) most) (since : ℕ) (first : since ≡ first_moment batch.first_read now)
-    (first_read : after.first_read ≡ Some since) (closed : after.closed ≡ is_closed (left_of after.queue) after.count (nat_lt max_batch_weight after.weight) since now) where
+    (first_read : after.first_read ≡ Some since)
+    (closed : after.closed ≡ is_closed after.documents.mapping (left_of after.queue) after.count (nat_lt max_batch_weight (weight after.documents.list)) since now) where
   count_is : after.count ≡ batch.count + n
-  count_is = let room = r.room in let same = b.count in omega (arith, within, count, room, same)
+  count_is = let room = r.room in let target = r.target in let same = b.count in omega (arith, within, count, room, target, same)
 
-  heavy_is : nat_lt max_batch_weight after.weight ≡ nat_lt max_batch_weight (weight after.documents)
-  heavy_is = ap (nat_lt max_batch_weight) kept ∙ heavy_kept (weight after.documents)
-
-  after_stands : BatchStands after (batch_after batch mark rest (taken_so_far n after.documents) records.end now)
+  after_stands : BatchStands after (batch_after batch mark rest (taken_so_far n after.documents.list) records.end now)
   after_stands =
       record {
+        config = config ∙ b.config;
         queue = queue;
         parts = parts ∙ ap (λ ps. parts_after n ps mark.partition mark.at) b.parts;
         documents = refl;
         count = count_is;
-        weight = kept;
         first_read = first_read ∙ ap Some first;
-        closed = closed ∙ ap (λ q. is_closed q after.count (nat_lt max_batch_weight after.weight) since now) queue
-            ∙ ap (λ c. is_closed (queue_after records.end mark n rest) c (nat_lt max_batch_weight after.weight) since now) count_is
-            ∙ ap (λ h. is_closed (queue_after records.end mark n rest) (batch.count + n) h since now) heavy_is
-            ∙ ap (λ s. is_closed (queue_after records.end mark n rest) (batch.count + n) (nat_lt max_batch_weight (weight after.documents)) s now) first;
+        closed = closed ∙ ap (λ (c : IndexConfig). is_closed c (left_of after.queue) after.count (nat_lt max_batch_weight (weight after.documents.list)) since now) (config ∙ b.config)
+            ∙ ap (λ q. is_closed batch.config q after.count (nat_lt max_batch_weight (weight after.documents.list)) since now) queue
+            ∙ ap (λ c. is_closed batch.config (queue_after records.end mark n rest) c (nat_lt max_batch_weight (weight after.documents.list)) since now) count_is
+            ∙ ap (λ s. is_closed batch.config (queue_after records.end mark n rest) (batch.count + n) (nat_lt max_batch_weight (weight after.documents.list)) s now) first;
       }
 
-  pub takes_read : taken_from mark.partition mark.at records.list (taken_so_far 0 held.documents) ≡ taken_so_far n after.documents →
-      (n ≡ (taken_from mark.partition mark.at records.list (start_of batch)).count) × BatchStands after (batch_read batch mark rest records now)
+  pub takes_read : taken_from held.documents.mapping mark.partition mark.at records.list (taken_so_far 0 held.documents.list) ≡ taken_so_far n after.documents.list →
+      (n ≡ (taken_from batch.config mark.partition mark.at records.list (start_of batch)).count) × BatchStands after (batch_read batch mark rest records now)
   takes_read took = (
     sym (ap (λ t. t.count) is),
     subst (λ t. BatchStands after (batch_after batch mark rest t records.end now)) (sym is) after_stands,
   )
     where
-      is : taken_from mark.partition mark.at records.list (start_of batch) ≡ taken_so_far n after.documents
-      is = ap (taken_from mark.partition mark.at records.list) (sym (start_is batch r.calm)) ∙ ap (λ d. taken_from mark.partition mark.at records.list (taken_so_far 0 d)) (sym b.documents) ∙ took
+      is : taken_from batch.config mark.partition mark.at records.list (start_of batch) ≡ taken_so_far n after.documents.list
+      is = ap (taken_from batch.config mark.partition mark.at records.list) (sym (start_is batch r.calm))
+          ∙ ap (λ d. taken_from batch.config mark.partition mark.at records.list (taken_so_far 0 d)) (sym b.documents)
+          ∙ ap (λ (c : IndexConfig). taken_from c mark.partition mark.at records.list (taken_so_far 0 held.documents.list)) (sym b.config) ∙ took
 
 -- a read of the first mark goes on where the parts end
 pub follows_here : (held parts : List Part) (name : List ℕ) (mark : Checkpoint) (from : ℕ) → held ≡ parts → name ≡ mark.partition → from ≡ mark.at → Follows parts mark →

@@ -5,9 +5,9 @@ use Rattle.source_checkpoint.specs.Names.{IsPartition}
 use Rattle.source_checkpoint.specs.declared.delta.Part.{Part}
 use Rattle.source_checkpoint.specs.declared.ledger.Checkpoint.{Checkpoint}
 use Rattle.source_log.specs.Log.{Log, records_of}
-use Rattle.index_world.specs.Config.{docs_target}
 use Rattle.index_world.specs.Seen.{accepted_in, record_count}
-use Rattle.index_world.specs.SplitFile.{weight, max_weight}
+use Rattle.split_bundle.specs.Documents.{total_weight}
+use Rattle.split_bundle.specs.Splits.{max_weight}
 use Rattle.indexing_run.specs.Places.{Batch}
 use Rattle.indexing_run.specs.Steps.{is_empty, max_batch_weight}
 
@@ -42,18 +42,18 @@ IsQueue parts (mark ∷ rest) = Follows parts mark × AreOthers mark.partition r
 abbrev pub EndWithin : Log → List Part → Type 0
 EndWithin log parts = AllByRecursion (λ part. part.to ≤ length (records_of log part.partition)) parts
 
--- the batch has the accepted records of its parts, and keeps a split's limits
+-- the batch has the accepted records of its parts under its configuration, and keeps a split's limits
 pub record IsBatch (log : Log) (batch : Batch) : Type 0 where
-  pub documents : batch.documents ≡ accepted_in log batch.parts
+  pub documents : batch.documents ≡ accepted_in batch.config log batch.parts
   pub ends : EndWithin log batch.parts
   pub count : record_count batch.parts ≡ batch.count
   pub less : length batch.documents ≤ batch.count
-  pub few : batch.count ≤ docs_target
-  pub weighs : weight batch.documents ≤ max_weight
+  pub few : batch.count ≤ batch.config.docs_target
+  pub weighs : total_weight batch.documents ≤ max_weight
   pub queue : IsQueue batch.parts batch.queue
   -- before it is closed there is room for a record, and something to read
-  pub calm : batch.closed ≡ false → weight batch.documents ≤ max_batch_weight
-  pub room : batch.closed ≡ false → batch.count < docs_target
+  pub calm : batch.closed ≡ false → total_weight batch.documents ≤ max_batch_weight
+  pub room : batch.closed ≡ false → batch.count < batch.config.docs_target
   pub ahead : batch.closed ≡ false → is_empty batch.queue ≡ false
 
 -- the names differ

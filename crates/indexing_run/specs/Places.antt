@@ -1,17 +1,19 @@
 -- What an indexer holds between its steps.
 use Rattle.std.specs.Prelude.{ℕ, ◌-◌, Bool, true, false, List, length, Option, Some, None}
-use Rattle.index_world.specs.declared.placed.Placed.{Placed}
+use Rattle.index_config.specs.declared.config.IndexConfig.{IndexConfig}
+use Rattle.split_bundle.specs.declared.placed.Placed.{Placed}
 use Rattle.source_checkpoint.specs.declared.delta.Part.{Part}
 use Rattle.source_checkpoint.specs.declared.ledger.Checkpoint.{Checkpoint}
 use Rattle.source_log.specs.Log.{Log}
 use Rattle.split_states.specs.declared.facts.RowFacts.{RowFacts}
-use Rattle.index_world.specs.Core.{Core, IsUnusedIn, IsUploadedIn, HasStagedIn}
-use Rattle.index_world.specs.Index.{facts_of, IsMade}
+use Rattle.index_world.specs.Core.{Core, IsConfigured, IsUnusedIn, IsUploadedIn, HasStagedIn}
+use Rattle.index_world.specs.Index.{IsMade}
 use Rattle.index_world.specs.Seen.{record_count}
-use Rattle.index_world.specs.SplitFile.{split_file}
+use Rattle.index_world.specs.SplitFile.{file_of, facts_of}
 
 -- what was read since the checkpoints were taken
 pub record Batch : Type 0 where
+  pub config : IndexConfig  -- that of the index
   pub queue : List Checkpoint  -- what is still to be read, each from its place on; the first is current
   pub parts : List Part  -- what was read, in the order of reading
   pub documents : List Placed  -- the accepted ones
@@ -21,6 +23,7 @@ pub record Batch : Type 0 where
 
 -- a delta and its documents under a staged number
 pub record Held : Type 0 where
+  pub config : IndexConfig  -- that of the index
   pub number : ℕ
   pub delta : List Part
   pub documents : List Placed
@@ -46,17 +49,19 @@ pub record Indexer : Type 0 where
 
 -- the facts of a delta's split
 abbrev pub held_facts : Held → RowFacts
-held_facts held = facts_of held.documents (record_count held.delta - length held.documents)
+held_facts held = facts_of held.config held.documents (record_count held.delta - length held.documents)
 
 pub record IsStagedHeld (log : Log) (core : Core) (held : Held) : Type 0 where
+  pub configured : IsConfigured held.config core
   pub unused : IsUnusedIn core held.number
   pub staged : HasStagedIn core held.number held.delta (held_facts held)
-  pub made : IsMade log held.delta (held_facts held) (split_file held.documents)
+  pub made : IsMade held.config log held.delta (held_facts held) (file_of held.config held.documents)
 
 pub record IsUploadedHeld (log : Log) (core : Core) (held : Held) : Type 0 where
-  pub uploaded : IsUploadedIn core held.number (split_file held.documents)
+  pub configured : IsConfigured held.config core
+  pub uploaded : IsUploadedIn core held.number (file_of held.config held.documents)
   pub staged : HasStagedIn core held.number held.delta (held_facts held)
-  pub made : IsMade log held.delta (held_facts held) (split_file held.documents)
+  pub made : IsMade held.config log held.delta (held_facts held) (file_of held.config held.documents)
 
 -- the number that it holds, if it holds one
 abbrev pub number_held : Place → Option ℕ

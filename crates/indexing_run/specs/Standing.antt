@@ -1,5 +1,5 @@
 -- What an indexer of the code stands for, and what its step says.
-use Rattle.std.specs.Prelude.{◌≡◌, ℕ, ◌+◌, ◌≤◌, min, nat_lt, true, List, [], ◌∷◌, length, drop, decimal, codes, Option, Some, None, Result, Ok, Err, ⊤}
+use Rattle.std.specs.Prelude.{◌≡◌, ℕ, ◌+◌, ◌≤◌, nat_lt, true, List, [], ◌∷◌, length, drop, decimal, codes, Option, Some, None, Result, Ok, Err, ⊤}
 use Rattle.source_checkpoint.specs.declared.ledger.Checkpoint.{Checkpoint as Mark}
 use Rattle.std.specs.declared.alloc.AllocError.{AllocError}
 use Rattle.source_log.specs.Log.{Log, names_of}
@@ -7,14 +7,14 @@ use Rattle.byte_fields.specs.Causes.{Rose}
 use Rattle.source_log.specs.declared.log.ReadError.{ReadError}
 use Rattle.source_log.specs.declared.log.ReadError.TheVariants as errors
 use Rattle.source_log.specs.declared.lists.Records.{Records}
-use Rattle.index_world.specs.Config.{docs_target}
-use Rattle.index_world.specs.declared.placed.Placed.{Placed}
+use Rattle.split_bundle.specs.declared.placed.Placed.{Placed}
 use Rattle.index_world.specs.Calls.{Fault, faulted}
-use Rattle.index_world.specs.Core.{Core, journal_of}
+use Rattle.index_world.specs.Core.{Core, journal_of, IsConfigured}
 use Rattle.index_world.specs.Gate.{IsTrouble}
-use Rattle.index_world.specs.Index.{has_staged, most}
+use Rattle.index_world.specs.Index.{has_staged}
 use Rattle.index_world.specs.Saying.{refusal_words, error_words}
-use Rattle.index_world.specs.SplitFile.{weight, split_file}
+use Rattle.index_world.specs.SplitFile.{file_of, max_documents}
+use Rattle.split_bundle.specs.Documents.{total_weight}
 use Rattle.index_world.specs.World.{GoesOn}
 use Rattle.indexing_run.specs.declared.batch.Batch.{Batch as HeldBatch}
 use Rattle.indexing_run.specs.declared.batch.NextRead.{NextRead}
@@ -27,7 +27,7 @@ use Rattle.indexing_run.specs.declared.outcome.IndexerOutcome.TheVariants as sai
 use Rattle.indexing_run.specs.Making.{Follows, IsBatch, IsAssigned}
 use Rattle.indexing_run.specs.Outcomes.{IndexerOutcome, Checkpoint, Read, Staged, Uploaded, Published, CaughtUp, Stale, Lost, Refused, SourceFault, Faulted}
 use Rattle.indexing_run.specs.Places.{Batch, Held, Place, idle, reading, staged, uploaded, Indexer, IsStagedHeld, IsUploadedHeld, number_held}
-use Rattle.indexing_run.specs.Steps.{Taken, taken_from, max_batch_weight, start_of, read_limit, batch_after, Luck, step_indexer}
+use Rattle.indexing_run.specs.Steps.{Taken, taken_from, max_batch_weight, start_of, batch_after, Luck, step_indexer}
 
 -- ---- outcomes
 
@@ -72,48 +72,45 @@ Answers (Err refused) None = ⊤
 abbrev pub left_of : Queue → List Mark
 left_of queue = drop queue.current queue.marks.items
 
--- a weight past 64 bits is kept as the greatest number
-abbrev pub kept_weight : List Placed → ℕ
-kept_weight documents = min (weight documents) most
-
 -- what was taken so far of a read
 abbrev pub taken_so_far : ℕ → List Placed → Taken
 taken_so_far count documents =
-    record { count = count; documents = documents; weight = weight documents; heavy = nat_lt max_batch_weight (weight documents) }
+    record { count = count; documents = documents; weight = total_weight documents; heavy = nat_lt max_batch_weight (total_weight documents) }
 
 pub record BatchStands (held : HeldBatch) (batch : Batch) : Type 0 where
+  pub config : held.documents.mapping ≡ batch.config
   pub queue : left_of held.queue ≡ batch.queue
   pub parts : held.parts.items ≡ batch.parts
-  pub documents : held.documents ≡ batch.documents
+  pub documents : held.documents.list ≡ batch.documents
   pub count : held.count ≡ batch.count
-  pub weight : held.weight ≡ kept_weight batch.documents
   pub first_read : held.first_read ≡ batch.first_read
   pub closed : held.closed ≡ batch.closed
 
 -- what is read next: from where on, and how many records at most
-abbrev pub next_read : List Mark → ℕ → Option NextRead
-next_read [] count = None
-next_read (mark ∷ rest) count = Some (record { partition = mark.partition; from = mark.at; room = read_limit count })
+abbrev pub next_read : List Mark → (room : ℕ) → Option NextRead
+next_read [] room = None
+next_read (mark ∷ rest) room = Some (record { partition = mark.partition; from = mark.at; room = room })
 
 -- this is read of a batch: records from its first mark on, no more than there is room for
 pub record ReadsOn (batch : Batch) (mark : Mark) (rest : List Mark) (records : Records) : Type 0 where
   pub queue : batch.queue ≡ mark ∷ rest
   pub follows : Follows batch.parts mark
-  pub calm : weight batch.documents ≤ max_batch_weight
-  pub room : batch.count + length records.list ≤ docs_target
+  pub calm : total_weight batch.documents ≤ max_batch_weight
+  pub room : batch.count + length records.list ≤ batch.config.docs_target
+  pub target : batch.config.docs_target ≤ max_documents
 
 -- the batch behind such a read at a moment
 abbrev pub batch_read : Batch → Mark → List Mark → Records → ℕ → Batch
 batch_read batch mark rest records now =
-    batch_after batch mark rest (taken_from mark.partition mark.at records.list (start_of batch)) records.end now
+    batch_after batch mark rest (taken_from batch.config mark.partition mark.at records.list (start_of batch)) records.end now
 
 -- what is held is what the place says, made of the log and in hand
 abbrev pub PlaceStands : Log → Core → HeldPlace → Place → Type 0
 PlaceStands log core places.Idle place = place ≡ idle
 PlaceStands log core (places.Reading held) place =
-    (batch : Batch) × (place ≡ reading batch) × BatchStands held batch × IsBatch log batch
+    (batch : Batch) × (place ≡ reading batch) × BatchStands held batch × IsBatch log batch × IsConfigured batch.config core
 PlaceStands log core (places.Staged token bytes) place =
-    (held : Held) × (place ≡ staged held) × (token.number ≡ held.number) × (bytes ≡ split_file held.documents) × IsStagedHeld log core held
+    (held : Held) × (place ≡ staged held) × (token.number ≡ held.number) × (bytes ≡ file_of held.config held.documents) × IsStagedHeld log core held
 PlaceStands log core (places.Uploaded token) place =
     (held : Held) × (place ≡ uploaded held) × (token.number ≡ held.number) × IsUploadedHeld log core held
 

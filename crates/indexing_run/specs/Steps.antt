@@ -1,6 +1,6 @@
 -- One step of an indexer, given the fate of its calls.
 use Rattle.std.specs.Prelude.{ℕ, suc, ◌+◌, ◌-◌, ◌==◌, ◌&&◌, ◌||◌, Bool, true, false, List, [], ◌∷◌, ◌++◌, length, map, min, nat_lt, nat_le, if◌then◌else◌, take, drop, Option, Some, None, Result, Ok, Err, ⊤, bytes_eq}
-use Rattle.index_world.specs.declared.placed.Placed.{Placed}
+use Rattle.split_bundle.specs.declared.placed.Placed.{Placed}
 use Rattle.meta_store.specs.History.{history, last_number}
 use Rattle.meta_store.specs.State.{checkpoints_of}
 use Rattle.meta_store.specs.declared.refusal.Refusal.{Refusal}
@@ -13,13 +13,14 @@ use Rattle.source_log.specs.Log.{Log, records_of, names_of}
 use Rattle.split_states.specs.declared.facts.RowFacts.{RowFacts}
 use Rattle.doc_value.specs.declared.doc.DocField.{DocField}
 use Rattle.source_checkpoint.specs.declared.delta.StaleDelta.TheVariants as deltas
+use Rattle.index_config.specs.declared.config.IndexConfig.{IndexConfig}
 use Rattle.index_world.specs.Accepted.{accepted}
 use Rattle.index_world.specs.Calls.{Fate, Trouble, faulted, no_memory, Unmade, refused, troubled, Gives, risen, looked, asked, upload_made}
-use Rattle.index_world.specs.Config.{docs_target, commit_timeout}
-use Rattle.index_world.specs.Core.{Core, last_count}
+use Rattle.index_world.specs.Configuration.{configuration, config_or}
+use Rattle.index_world.specs.Core.{Core, last_count, journal_of}
 use Rattle.index_world.specs.Gate.{stage_call, publish_call}
-use Rattle.index_world.specs.Index.{facts_of}
-use Rattle.index_world.specs.SplitFile.{weight_of, weight, split_file}
+use Rattle.index_world.specs.SplitFile.{file_of, facts_of}
+use Rattle.split_bundle.specs.Documents.{weight, total_weight}
 use Rattle.indexing_run.specs.Outcomes.{IndexerOutcome}
 use Rattle.indexing_run.specs.Outcomes as said
 use Rattle.indexing_run.specs.Places.{Batch, Held, Place, idle, reading, staged, uploaded, Indexer}
@@ -65,8 +66,8 @@ abbrev pub is_empty : {X : Type 0} → List X → Bool
 is_empty [] = true
 is_empty (x ∷ xs) = false
 
-abbrev pub fresh_batch : List Checkpoint → Batch
-fresh_batch marks = record { queue = marks; parts = []; documents = []; count = 0; first_read = None; closed = is_empty marks }
+abbrev pub fresh_batch : IndexConfig → List Checkpoint → Batch
+fresh_batch config marks = record { config = config; queue = marks; parts = []; documents = []; count = 0; first_read = None; closed = is_empty marks }
 
 abbrev pub log_may_fail : LogCall → ℕ → Bool
 log_may_fail call count = call.fails && (nat_lt count (risen count call.rises) || (count == last_count))
@@ -77,7 +78,7 @@ log_called call indexer = record indexer { log_faults = risen indexer.log_faults
 abbrev pub checkpoints_by : Result ⊤ Trouble → Log → Indexer → Core → Stepped
 checkpoints_by (Ok done) log indexer core =
     stepped (Some said.Checkpoint)
-    (reading (fresh_batch (marks_at (checkpoints_of (history core.history)) (partitions_for indexer.assignment log)))) indexer core
+    (reading (fresh_batch (config_or (configuration (journal_of core))) (marks_at (checkpoints_of (history core.history)) (partitions_for indexer.assignment log)))) indexer core
 checkpoints_by (Err trouble) log indexer core = stepped (trouble_outcome trouble) idle indexer core
 
 abbrev pub checkpoints_given : Log → Indexer → Gives Trouble ⊤ → Stepped
@@ -119,8 +120,8 @@ with_document placed taken =
     record {
       count = suc taken.count;
       documents = taken.documents ++ placed ∷ [];
-      weight = taken.weight + weight_of placed;
-      heavy = nat_lt max_batch_weight (taken.weight + weight_of placed);
+      weight = taken.weight + weight placed;
+      heavy = nat_lt max_batch_weight (taken.weight + weight placed);
     }
 
 abbrev pub with_record : List ℕ → ℕ → Option (List DocField) → Taken → Taken
@@ -128,10 +129,10 @@ with_record name offset None taken = record taken { count = suc taken.count }
 with_record name offset (Some doc) taken = with_document (record { partition = name; offset = offset; doc = doc }) taken
 
 -- the records one after another, up to the one with which the batch is too heavy
-abbrev pub taken_from : List ℕ → ℕ → List (List ℕ) → Taken → Taken
-taken_from name offset [] taken = taken
-taken_from name offset (bytes ∷ more) taken =
-    if taken.heavy then taken else taken_from name (suc offset) more (with_record name offset (accepted bytes) taken)
+abbrev pub taken_from : IndexConfig → List ℕ → ℕ → List (List ℕ) → Taken → Taken
+taken_from config name offset [] taken = taken
+taken_from config name offset (bytes ∷ more) taken =
+    if taken.heavy then taken else taken_from config name (suc offset) more (with_record name offset (accepted config bytes) taken)
 
 abbrev pub extended : List Part → List ℕ → ℕ → ℕ → List Part
 extended [] name from to = record { partition = name; from = from; to = to } ∷ []
@@ -145,10 +146,11 @@ abbrev pub first_moment : Option ℕ → ℕ → ℕ
 first_moment None now = now
 first_moment (Some moment) now = moment
 
--- a batch is closed where nothing is left to read, or the target, the weight or, with a record in it, the time is reached
-abbrev pub is_closed : List Checkpoint → ℕ → Bool → ℕ → ℕ → Bool
-is_closed queue count heavy since now =
-    is_empty queue || nat_le docs_target count || heavy || (nat_lt 0 count && nat_le (since + commit_timeout) now)
+-- a batch is closed where nothing is left to read, or the target of the configuration, the weight or, with a record in it,
+-- the time of the configuration is reached
+abbrev pub is_closed : IndexConfig → List Checkpoint → ℕ → Bool → ℕ → ℕ → Bool
+is_closed config queue count heavy since now =
+    is_empty queue || nat_le config.docs_target count || heavy || (nat_lt 0 count && nat_le (since + config.commit_timeout) now)
 
 abbrev pub queue_after : Bool → Checkpoint → ℕ → List Checkpoint → List Checkpoint
 queue_after true mark count rest = rest
@@ -158,18 +160,19 @@ abbrev pub max_read : ℕ
 max_read = 1000
 
 -- at most so many records a read, and no more than the target leaves
-abbrev pub read_limit : ℕ → ℕ
-read_limit count = min max_read (docs_target - count)
+abbrev pub read_limit : Batch → ℕ
+read_limit batch = min max_read (batch.config.docs_target - batch.count)
 
 abbrev pub batch_after : Batch → Checkpoint → List Checkpoint → Taken → Bool → ℕ → Batch
 batch_after batch mark rest taken at_end now =
     record {
+      config = batch.config;
       queue = queue_after at_end mark taken.count rest;
       parts = parts_after taken.count batch.parts mark.partition mark.at;
       documents = taken.documents;
       count = batch.count + taken.count;
       first_read = Some (first_moment batch.first_read now);
-      closed = is_closed (queue_after at_end mark taken.count rest) (batch.count + taken.count) taken.heavy (first_moment batch.first_read now) now;
+      closed = is_closed batch.config (queue_after at_end mark taken.count rest) (batch.count + taken.count) taken.heavy (first_moment batch.first_read now) now;
     }
 
 -- one read of the current partition: what was taken of it, and whether nothing stands behind it
@@ -179,14 +182,14 @@ read_with taken at_end batch mark rest indexer core =
 
 -- what a read begins with, behind which nothing is taken yet
 abbrev pub start_of : Batch → Taken
-start_of batch = record { count = 0; documents = batch.documents; weight = weight batch.documents; heavy = false }
+start_of batch = record { count = 0; documents = batch.documents; weight = total_weight batch.documents; heavy = false }
 
 -- `behind` are the records from the current place on
 abbrev pub read_current : Batch → Checkpoint → List Checkpoint → List (List ℕ) → Indexer → Core → Stepped
 read_current batch mark rest behind indexer core =
     read_with
-    (taken_from mark.partition mark.at (take (read_limit batch.count) behind) (start_of batch))
-    (nat_le (length behind) (read_limit batch.count)) batch mark rest indexer core
+    (taken_from batch.config mark.partition mark.at (take (read_limit batch) behind) (start_of batch))
+    (nat_le (length behind) (read_limit batch)) batch mark rest indexer core
 
 abbrev pub read_by : Bool → Luck → Log → Batch → Checkpoint → List Checkpoint → Indexer → Core → Stepped
 read_by true luck log batch mark rest indexer core =
@@ -212,11 +215,11 @@ step_read luck log batch (mark ∷ rest) indexer core =
 -- ---- a closed batch: stage, upload, publish
 
 abbrev pub held_of : Batch → ℕ → Held
-held_of batch number = record { number = number; delta = batch.parts; documents = batch.documents }
+held_of batch number = record { config = batch.config; number = number; delta = batch.parts; documents = batch.documents }
 
 -- the facts of a batch's split: so many of its records are no documents
 abbrev pub batch_facts : Batch → RowFacts
-batch_facts batch = facts_of batch.documents (batch.count - length batch.documents)
+batch_facts batch = facts_of batch.config batch.documents (batch.count - length batch.documents)
 
 abbrev pub stage_outcome : Unmade → Option IndexerOutcome
 stage_outcome (refused refusal) = Some (said.Refused refusal)
@@ -241,7 +244,7 @@ abbrev pub upload_given : Held → Indexer → Gives Trouble ⊤ → Stepped
 upload_given held indexer given = upload_by given.answer held indexer given.core
 
 abbrev pub step_upload : Luck → Held → Indexer → Core → Stepped
-step_upload luck held indexer core = upload_given held indexer (upload_made luck.world held.number (split_file held.documents) core)
+step_upload luck held indexer core = upload_given held indexer (upload_made luck.world held.number (file_of held.config held.documents) core)
 
 -- a refused Publish: the delta's own stale part, or else the row is lost
 abbrev pub stale_or_lost : ℕ → StaleDelta → IndexerOutcome

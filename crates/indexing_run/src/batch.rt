@@ -1,27 +1,22 @@
 //! What an indexer has read since its checkpoints.
 
 ghost use Rattle.std.specs.Prelude.{◌≡◌, ◌≤◌, ◌<◌, ◌+◌, ◌^◌, ℕ, suc, List, length, nat_lt, OnOk, IfOk, IfSome};
-ghost use Rattle.index_world.specs.Accepted.{accepted};
-ghost use Rattle.index_world.specs.Config.{docs_target};
+ghost use Rattle.doc_value.specs.Documents.{IsSchema};
 ghost use Rattle.source_checkpoint.specs.declared.ledger.Checkpoint.{Checkpoint};
 ghost use Rattle.indexing_run.specs.Making.{Follows};
 ghost use Rattle.indexing_run.specs.Places.{Batch as Made};
-ghost use Rattle.indexing_run.specs.Steps.{marks_at, fresh_batch, extended, parts_after, with_record, taken_from, start_of, is_closed};
-ghost use Rattle.indexing_run.specs.Standing.{left_of, kept_weight, taken_so_far, BatchStands, next_read, ReadsOn, batch_read};
+ghost use Rattle.indexing_run.specs.Steps.{marks_at, fresh_batch, extended, parts_after, taken_from, start_of, read_limit, is_closed};
+ghost use Rattle.indexing_run.specs.Standing.{left_of, taken_so_far, BatchStands, next_read, ReadsOn, batch_read};
+ghost use Rattle.split_bundle.specs.Documents.{total_weight};
 
+use crate::documents::Documents;
 use crate::queue::Queue;
 use byte_fields::Bytes;
-use index_world::{Marks, Placed, PlacedList, accept, weight_of};
+use index_config::IndexConfig;
+use index_world::Marks;
 use source_checkpoint::{Part, Partition};
 use source_log::{Partitions, Records};
 use std::alloc::{AllocError, Global};
-
-/// How many records close a batch.
-const DOCS_TARGET: u64 = 10_000_000;
-/// How many seconds after its first read a batch with a record is closed.
-const COMMIT_TIMEOUT: u64 = 60;
-/// A batch of a greater weight is closed.
-const MAX_WEIGHT: u64 = 134_217_728;
 
 const MAX_READ: u64 = 1_000;
 
@@ -38,9 +33,8 @@ pub struct NextRead {
 pub struct Batch {
     queue: Queue,
     pub parts: Vec<Part>,
-    pub documents: PlacedList,
+    pub documents: Documents,
     pub count: u64,
-    weight: u64,
     first_read: Option<u64>,
     pub closed: bool,
 }
@@ -85,66 +79,47 @@ fn extend_taken(
     extend(parts, partition, from, from + taken)
 }
 
-// Takes the record at an offset: a document where it is accepted.
-fn take_record(
-    alloc: Global,
-    partition: &Partition,
-    offset: u64,
-    bytes: &Bytes,
-    documents: &mut PlacedList,
-    weight: &mut u64,
-) -> Result<(), AllocError>
-    ensures { (n : ℕ) → weight.old ≡ kept_weight documents.old → OnOk result ((weight.new ≡ kept_weight documents.new)
-        × (with_record partition.now offset (accepted bytes.now) (taken_so_far n documents.old) ≡ taken_so_far (suc n) documents.new)) }
-{
-    let Some(doc) = accept(alloc, bytes.as_slice())? else {
-        return Ok(());
-    };
-    let placed = Placed {
-        partition: partition.copy(),
-        offset,
-        doc,
-    };
-    *weight = weight.saturating_add(weight_of(&placed));
-    documents.push(placed)
-}
-
 // The records one after another, up to the one with which the batch is too heavy. Gives how many were taken.
 fn take_records(
     alloc: Global,
     partition: &Partition,
     from: u64,
     records: &[Bytes],
-    documents: &mut PlacedList,
-    weight: &mut u64,
+    documents: &mut Documents,
 ) -> Result<u64, AllocError>
     requires { from + length records.now < 2 ^ 64 }
+    ensures mapping { documents.new.mapping ≡ documents.old.mapping }
     ensures within { IfOk result (λ taken. taken ≤ length records.now) }
-    ensures taken { weight.old ≡ kept_weight documents.old → IfOk result (λ taken. (weight.new ≡ kept_weight documents.new)
-        × (taken_from partition.now from records.now (taken_so_far 0 documents.old) ≡ taken_so_far taken documents.new)) }
+    ensures taken { IfOk result (λ taken. taken_from documents.old.mapping partition.now from records.now (taken_so_far 0 documents.old.list)
+        ≡ taken_so_far taken documents.new.list) }
 {
     for (i, record) in records.iter().enumerate() {
-        if *weight > MAX_WEIGHT {
+        if documents.are_heavy() {
             return Ok(i as u64);
         }
-        take_record(alloc, partition, from + i as u64, record, documents, weight)?;
+        documents.take(alloc, partition, from + i as u64, record)?;
     }
     Ok(records.len() as u64)
 }
 
 impl Batch {
-    /// An empty batch of these partitions, from the checkpoints on.
-    pub fn begin(alloc: Global, names: &Partitions, marks: &Marks) -> Result<Batch, AllocError>
-        ensures { IfOk result (λ batch. BatchStands batch (fresh_batch (marks_at marks.now.checkpoints.items names.now))) }
+    /// An empty batch of these partitions under the index's configuration, from the checkpoints on.
+    pub fn begin(
+        alloc: Global,
+        config: IndexConfig,
+        names: &Partitions,
+        marks: &Marks,
+    ) -> Result<Batch, AllocError>
+        requires { ∥ IsSchema config.schema ∥₁ }
+        ensures { IfOk result (λ batch. BatchStands batch (fresh_batch config (marks_at marks.now.checkpoints.items names.now))) }
     {
         let queue = Queue::from_marks(alloc, names, marks)?;
         let closed = queue.is_empty();
         Ok(Batch {
             queue,
             parts: Vec::new(alloc),
-            documents: PlacedList::vacant(alloc),
+            documents: Documents::vacant(alloc, config),
             count: 0,
-            weight: 0,
             first_read: None,
             closed,
         })
@@ -153,11 +128,12 @@ impl Batch {
     /// Where the next read begins, and how many records it may give.
     pub fn next_read(&self) -> Option<NextRead>
         ensures room { IfSome result (λ next. 1 ≤ next.room) }
-        ensures next { (batch : Made) → BatchStands self.now batch → batch.count < docs_target → result ≡ next_read batch.queue batch.count }
+        ensures next { (batch : Made) → BatchStands self.now batch → batch.count < batch.config.docs_target → result ≡ next_read batch.queue (read_limit batch) }
     {
         let mark = self.queue.first()?;
+        let target = self.documents.config().docs_target;
         // A batch that is read on has room for a record.
-        let room = DOCS_TARGET.saturating_sub(self.count).min(MAX_READ).max(1);
+        let room = target.saturating_sub(self.count).min(MAX_READ).max(1);
         Some(NextRead {
             partition: mark.partition.copy(),
             from: mark.at,
@@ -168,12 +144,14 @@ impl Batch {
     // Whether a batch is to be read no further behind a read at this moment.
     fn is_full(&self, since: u64, now: u64) -> bool
         requires { now < 2 ^ 62 }
-        ensures { result ≡ is_closed (left_of self.now.queue) self.now.count (nat_lt 134217728 self.now.weight) since now }
+        ensures { result ≡ is_closed self.now.documents.mapping (left_of self.now.queue) self.now.count (nat_lt 134217728 (total_weight self.now.documents.list)) since now }
     {
+        let target = self.documents.config().docs_target;
+        let timeout = self.documents.config().commit_timeout;
         self.queue.is_empty()
-            || self.count >= DOCS_TARGET
-            || self.weight > MAX_WEIGHT
-            || (self.count > 0 && now >= since.saturating_add(COMMIT_TIMEOUT))
+            || self.count >= target
+            || self.documents.are_heavy()
+            || (self.count > 0 && now >= since.saturating_add(timeout))
     }
 
     /// Takes what was read of a partition from a place on, at a moment. Gives how many records were taken.
@@ -189,19 +167,16 @@ impl Batch {
         requires moment { now < 2 ^ 62 }
         ensures { (batch : Made) (mark : Checkpoint) (rest : List Checkpoint) → BatchStands self.old batch →
             ReadsOn batch mark rest records.now → partition.now ≡ mark.partition → from ≡ mark.at →
-            IfOk result (λ count. (count ≡ (taken_from mark.partition mark.at records.now.list (start_of batch)).count)
+            IfOk result (λ count. (count ≡ (taken_from batch.config mark.partition mark.at records.now.list (start_of batch)).count)
             × BatchStands self.new (batch_read batch mark rest records.now now)) }
     {
-        let mut weight = self.weight;
         let taken = take_records(
             alloc,
             partition,
             from,
             records.list.as_slice(),
             &mut self.documents,
-            &mut weight,
         )?;
-        self.weight = weight;
         extend_taken(&mut self.parts, partition, from, taken)?;
         let since = self.first_read.unwrap_or(now);
         self.first_read = Some(since);

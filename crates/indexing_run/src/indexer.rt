@@ -7,9 +7,9 @@ ghost use Rattle.meta_store.specs.declared.refusal.Refusal.{Refusal};
 ghost use Rattle.source_log.specs.Log.{Log};
 ghost use Rattle.split_states.specs.declared.facts.RowFacts.{RowFacts};
 ghost use Rattle.index_world.specs.Calls.{Trouble, Unmade};
-ghost use Rattle.index_world.specs.Core.{Core};
+ghost use Rattle.index_world.specs.Core.{Core, IsConfigured};
 ghost use Rattle.index_world.specs.Gate.{IsTrouble, IsUnmade};
-ghost use Rattle.index_world.specs.SplitFile.{split_file};
+ghost use Rattle.index_world.specs.SplitFile.{file_of};
 ghost use Rattle.indexing_run.specs.Making.{IsBatch, IsAssigned};
 ghost use Rattle.indexing_run.specs.Places.{Batch as Made, Held, Indexer as Actor, IsStagedHeld, IsUploadedHeld, is_idle, idle, reading, staged as staged_at, uploaded as uploaded_at};
 ghost use Rattle.indexing_run.specs.Steps.{trouble_outcome, publish_refused, publish_outcome, stage_outcome};
@@ -17,11 +17,12 @@ ghost use Rattle.indexing_run.specs.Standing.{BatchStands, IndexerStands, IsSaid
 
 use crate::batch::Batch;
 use crate::outcome::IndexerOutcome;
-use byte_fields::Bytes;
-use index_world::{BuiltSplit, Gate, Staged, Uploaded, WorldError, build};
+use doc_value::Bytes;
+use index_world::{Gate, Staged, Uploaded, WorldError};
 use meta_store::Refusal;
 use source_checkpoint::{Delta, StaleDelta};
 use source_log::{Partitions, ReadError, SourceLog};
+use split_build::BuiltSplit;
 use split_states::RowFacts;
 use std::alloc::{AllocError, Global};
 use std::mem;
@@ -198,7 +199,8 @@ impl<L: SourceLog> Indexer<L> {
         };
         match gate.checkpoints(alloc) {
             Ok(marks) => {
-                self.place = Place::Reading(Batch::begin(alloc, &names, &marks)?);
+                let config = gate.config().copy(alloc)?;
+                self.place = Place::Reading(Batch::begin(alloc, config, &names, &marks)?);
                 Ok(IndexerOutcome::Checkpoint)
             }
             Err(error) => faulted(error),
@@ -213,7 +215,7 @@ impl<L: SourceLog> Indexer<L> {
     ) -> Result<IndexerOutcome, AllocError>
         ensures later { L.since self.old.log self.new.log }
         ensures step { (indexer : Actor) (core : Core) (read : Log) (made : Made) →
-            IndexerStands L.told L.fault_count self.old (record indexer { place = idle }) core read → G.Stands gate.old core read → BatchStands batch made → IsBatch read made → made.closed ≡ false →
+            IndexerStands L.told L.fault_count self.old (record indexer { place = idle }) core read → G.Stands gate.old core read → BatchStands batch made → IsBatch read made → IsConfigured made.config core → made.closed ≡ false →
             StepsAs L.told L.fault_count G.Stands G.Between result (record indexer { place = reading made }) core read self.new gate.new }
     {
         let mut batch = batch;
@@ -249,13 +251,19 @@ impl<L: SourceLog> Indexer<L> {
     ) -> Result<IndexerOutcome, AllocError>
         ensures later { L.since self.old.log self.new.log }
         ensures step { (indexer : Actor) (core : Core) (read : Log) (made : Made) →
-            IndexerStands L.told L.fault_count self.old (record indexer { place = idle }) core read → G.Stands gate.old core read → BatchStands batch made → IsBatch read made → made.closed ≡ true → (made.count ≡ 0 → ⊥) →
+            IndexerStands L.told L.fault_count self.old (record indexer { place = idle }) core read → G.Stands gate.old core read → BatchStands batch made → IsBatch read made → IsConfigured made.config core → made.closed ≡ true → (made.count ≡ 0 → ⊥) →
             StepsAs L.told L.fault_count G.Stands G.Between result (record indexer { place = reading made }) core read self.new gate.new }
     {
-        let BuiltSplit { bytes, facts } = build(alloc, &batch.documents)?;
-        let rejected = batch.count.saturating_sub(facts.docs);
+        let Batch {
+            documents,
+            parts,
+            count,
+            ..
+        } = batch;
+        let BuiltSplit { bytes, facts } = documents.finish(alloc)?;
+        let rejected = count.saturating_sub(facts.docs);
         let facts = with_rejected(facts, rejected);
-        let delta = Delta::from_vec(batch.parts);
+        let delta = Delta::from_vec(parts);
         match gate.stage(alloc, &delta, &facts) {
             Ok(staged) => {
                 let number = staged.number;
@@ -275,7 +283,7 @@ impl<L: SourceLog> Indexer<L> {
     ) -> Result<IndexerOutcome, AllocError>
         ensures later { L.since self.old.log self.new.log }
         ensures step { (indexer : Actor) (core : Core) (read : Log) (held : Held) →
-            IndexerStands L.told L.fault_count self.old (record indexer { place = idle }) core read → G.Stands gate.old core read → staged.number ≡ held.number → bytes.now ≡ split_file held.documents → IsStagedHeld read core held →
+            IndexerStands L.told L.fault_count self.old (record indexer { place = idle }) core read → G.Stands gate.old core read → staged.number ≡ held.number → bytes.now ≡ file_of held.config held.documents → IsStagedHeld read core held →
             StepsAs L.told L.fault_count G.Stands G.Between result (record indexer { place = staged_at held }) core read self.new gate.new }
     {
         let number = staged.number;
@@ -314,7 +322,7 @@ impl<L: SourceLog> Indexer<L> {
     ) -> Result<IndexerOutcome, AllocError>
         ensures later { L.since self.old.log self.new.log }
         ensures step { (indexer : Actor) (core : Core) (read : Log) (made : Made) →
-            IndexerStands L.told L.fault_count self.old (record indexer { place = idle }) core read → G.Stands gate.old core read → BatchStands batch made → IsBatch read made →
+            IndexerStands L.told L.fault_count self.old (record indexer { place = idle }) core read → G.Stands gate.old core read → BatchStands batch made → IsBatch read made → IsConfigured made.config core →
             StepsAs L.told L.fault_count G.Stands G.Between result (record indexer { place = reading made }) core read self.new gate.new }
     {
         if !batch.closed {

@@ -2,6 +2,7 @@
 #![tactic(auto)]
 
 mod batch;
+mod documents;
 mod indexer;
 mod outcome;
 mod queue;

@@ -164,7 +164,7 @@ module _ (v : PartView) (s : Schema) (ds : List Placed) (p : Parts) (part : IsPa
   lists_behind (l ∷ ls) at len (inl h) = of_list_behind l at len h
   lists_behind (l ∷ ls) at len (inr h) = lists_behind ls at len h
 
-  column_between : (number at len : ℕ) → IsFast s number → AsksColumn v p number at len → (behind ≤ at) × (at + len ≤ length (file_bytes p))
+  pub column_between : (number at len : ℕ) → IsFast s number → AsksColumn v p number at len → (behind ≤ at) × (at + len ≤ length (file_bytes p))
   column_between number at len fast h =
       let start : columns_start v.footer.layout.sections ≡ behind + length p.postings + length p.positions = ap columns_start part.footer.layout.sections in
       let inside = column_inside v s ds p part number (has_fast s number fast) in

@@ -28,13 +28,13 @@ use Rattle.leaf_search.specs.declared.request.LeafRequest.{LeafRequest}
 
 -- ---- a piece that holds a range holds its parts
 
-abbrev none : Option (List ℕ)
+abbrev pub none : Option (List ℕ)
 none = None
 
-record IsInside (piece : FilePiece) (start len : ℕ) : Type 0 where
-  behind : piece.start ≤ start
-  before : start - piece.start ≤ length piece.bytes.now
-  room : len ≤ length piece.bytes.now - (start - piece.start)
+pub record IsInside (piece : FilePiece) (start len : ℕ) : Type 0 where
+  pub behind : piece.start ≤ start
+  pub before : start - piece.start ≤ length piece.bytes.now
+  pub room : len ≤ length piece.bytes.now - (start - piece.start)
 
 is_inside : (piece : FilePiece) (start len : ℕ) → part_in piece start len ≢ none → IsInside piece start len
 is_inside piece start len there = go (nat_lt start piece.start) (nat_lt (length piece.bytes.now) (start - piece.start)) (nat_lt (length piece.bytes.now - (start - piece.start)) len) refl refl refl there
@@ -46,7 +46,7 @@ is_inside piece start len there = go (nat_lt start piece.start) (nat_lt (length 
     go false false true x y z h = absurd (h refl)
     go false false false x y z h = record { behind = ltb-false start piece.start x; before = ltb-false (length piece.bytes.now) (start - piece.start) y; room = ltb-false (length piece.bytes.now - (start - piece.start)) len z }
 
-inside_there : (piece : FilePiece) (start len : ℕ) → IsInside piece start len → part_in piece start len ≢ none
+pub inside_there : (piece : FilePiece) (start len : ℕ) → IsInside piece start len → part_in piece start len ≢ none
 inside_there piece start len is e =
     let found : Option (List ℕ) = Some (take len (drop (start - piece.start) piece.bytes.now)) in
     let a = ap (λ b. cond b none (cond (nat_lt (length piece.bytes.now) (start - piece.start)) none (cond (nat_lt (length piece.bytes.now - (start - piece.start)) len) none found))) (le-ltb start piece.start is.behind) in
@@ -60,11 +60,11 @@ part_there piece start len at n from until there =
     let is = is_inside piece start len there in
     inside_there piece at n (record { behind = omega (arith, is.behind, from); before = omega (arith, is.behind, is.before, is.room, from, until); room = omega (arith, is.behind, is.before, is.room, from, until) })
 
-else_there : (a b : Option (List ℕ)) → a ≢ none → or_else a b ≢ none
+pub else_there : (a b : Option (List ℕ)) → a ≢ none → or_else a b ≢ none
 else_there None b there e = there refl
 else_there (Some x) b there e = there e
 
-behind_there : (a b : Option (List ℕ)) → b ≢ none → or_else a b ≢ none
+pub behind_there : (a b : Option (List ℕ)) → b ≢ none → or_else a b ≢ none
 behind_there None b there e = there e
 behind_there (Some x) b there e = cc
 
@@ -95,7 +95,7 @@ wider_part (r ∷ rs) start len at n from until (inr h) = inr (wider_part rs sta
 
 -- ---- the parts of documents lie in their section
 
-numbers_below : (test : List DocField → Bool) (n : ℕ) (ds : List Placed) (i k : ℕ) → i < length (numbers_from test n ds) → get_or (numbers_from test n ds) i k ≡ k → k < n + length ds
+pub numbers_below : (test : List DocField → Bool) (n : ℕ) (ds : List Placed) (i k : ℕ) → i < length (numbers_from test n ds) → get_or (numbers_from test n ds) i k ≡ k → k < n + length ds
 numbers_below test n [] i k lt e = absurd (omega arith)
 numbers_below test n (d ∷ ds) i k lt e = go (test d.doc) i lt e (λ j less same. numbers_below test (suc n) ds j k less same)
   where

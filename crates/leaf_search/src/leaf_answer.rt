@@ -2,7 +2,7 @@
 
 ghost use Rattle.std.specs.Prelude.{◌≡◌, ◌≤◌, length, List, IfOk, MatchResult};
 ghost use Rattle.agg_model.specs.Checking.{HaveIntervals};
-ghost use Rattle.agg_model.specs.Partials.{IsPartialOf};
+ghost use Rattle.agg_model.specs.Partials.{IsPartialOf, documents_in};
 ghost use Rattle.split_bundle.specs.declared.placed.Placed.{Placed};
 ghost use Rattle.split_bundle.specs.Files.{Parts, file_bytes};
 ghost use Rattle.split_bundle.specs.Lending.{IsPartOf};
@@ -47,6 +47,7 @@ pub fn leaf(
         → AreHeld view.now.pieces blocks → AreHeld view.now.pieces lists → MatchResult result (IsAnswerOf schema.now request.now documents) IsMemory }
     // Over any bytes.
     ensures partial { IfOk result (λ a. IsPartialOf request.now.aggs a.partial) }
+    ensures many { IfOk result (λ a. documents_in a.partial ≡ a.count) }
 {
     match counted_key(alloc, schema, request)? {
         Some(key) => counted(alloc, request, view, key.as_slice()),
@@ -69,6 +70,7 @@ fn evaluated(
     ensures there { (documents : List Placed) (p : Parts) → IsPartOf view.now schema.now documents p → HaveAll (file_bytes p) view.now.pieces → IsAsked schema.now request.now
         → MatchResult result (IsAnswerOf schema.now request.now documents) IsMemory }
     ensures partial { IfOk result (λ a. IsPartialOf request.now.aggs a.partial) }
+    ensures many { IfOk result (λ a. documents_in a.partial ≡ a.count) }
 {
     let index = view.footer().index();
     let bits = matching(alloc, index, view, schema, &request.query)?;

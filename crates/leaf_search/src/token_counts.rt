@@ -121,6 +121,7 @@ pub(crate) fn counted(
         → MatchResult result (λ a. (a.count ≡ length (posting_list s documents key.now)) × (a.hits ≡ []) × (documents_in a.partial ≡ a.count))
         (HasCause (IsBlockFor view.now s documents p key.now) view.now.pieces) }
     ensures partial { IfOk result (λ a. IsPartialOf request.now.aggs a.partial) }
+    ensures many { IfOk result (λ a. documents_in a.partial ≡ a.count) }
 {
     let count = key_count(view, key)?;
     let partial = partial_of_many(alloc, &request.aggs, count)?;

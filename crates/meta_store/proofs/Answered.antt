@@ -336,8 +336,8 @@ behind_ok reading settings s m (AddTask opstamp text fields times) g h =
     let first = ok_then (answer_to_next opstamp (s.last_opstamp + 1)) _ h in
     let next = ok_then (answer_to_task reading.query) (answer_to_tasks (length s.tasks)) first.1 in
     (eqb-true opstamp (s.last_opstamp + 1) (ok_where (opstamp == s.last_opstamp + 1) _ first.0), task_ok reading.query next.0, ltb-true (length s.tasks) 10000 (ok_where (nat_lt (length s.tasks) 10000) _ next.1))
-behind_ok reading settings s m (MarkStaged numbers) g h = each_ok (λ n. answer_to_mark s.rows n m settings.staged_grace) (MayMark m settings.staged_grace s.rows) numbers (λ n. mark_ok s.rows n m settings.staged_grace) (state_ok _ h)
-behind_ok reading settings s m (Remove numbers) g h = each_ok (λ n. answer_to_remove s.rows n m settings.deletion_grace) (MayRemove m settings.deletion_grace s.rows) numbers (λ n. remove_ok s.rows n m settings.deletion_grace) (state_ok _ h)
+behind_ok reading settings s m (MarkStaged numbers) g h = each_ok (λ n. answer_to_mark s.rows n m settings.index.staged_grace) (MayMark m settings.index.staged_grace s.rows) numbers (λ n. mark_ok s.rows n m settings.index.staged_grace) (state_ok _ h)
+behind_ok reading settings s m (Remove numbers) g h = each_ok (λ n. answer_to_remove s.rows n m settings.index.deletion_grace) (MayRemove m settings.index.deletion_grace s.rows) numbers (λ n. remove_ok s.rows n m settings.index.deletion_grace) (state_ok _ h)
 behind_ok reading settings s m (Retire numbers) g h =
     (g.0, g.1, each_ok (λ n. answer_to_retire s.rows n m settings.period) (MayRetire m settings.period s.rows) numbers (λ n. retire_ok s.rows n m settings.period) (state_ok _ h))
 
@@ -355,8 +355,8 @@ ok_behind reading settings s m (Raise number upto) f =
 ok_behind reading settings s m (AddTask opstamp text fields times) f =
     then_ok (answer_to_next opstamp (s.last_opstamp + 1)) _ (where_ok (opstamp == s.last_opstamp + 1) _ (eq-eqb opstamp (s.last_opstamp + 1) f.0))
     (then_ok (answer_to_task reading.query) (answer_to_tasks (length s.tasks)) (ok_task reading.query f.1) (where_ok (nat_lt (length s.tasks) 10000) _ (lt-ltb (length s.tasks) 10000 f.2)))
-ok_behind reading settings s m (MarkStaged numbers) f = ok_state _ (ok_each (λ n. answer_to_mark s.rows n m settings.staged_grace) (MayMark m settings.staged_grace s.rows) numbers (λ n. ok_mark s.rows n m settings.staged_grace) f)
-ok_behind reading settings s m (Remove numbers) f = ok_state _ (ok_each (λ n. answer_to_remove s.rows n m settings.deletion_grace) (MayRemove m settings.deletion_grace s.rows) numbers (λ n. ok_remove s.rows n m settings.deletion_grace) f)
+ok_behind reading settings s m (MarkStaged numbers) f = ok_state _ (ok_each (λ n. answer_to_mark s.rows n m settings.index.staged_grace) (MayMark m settings.index.staged_grace s.rows) numbers (λ n. ok_mark s.rows n m settings.index.staged_grace) f)
+ok_behind reading settings s m (Remove numbers) f = ok_state _ (ok_each (λ n. answer_to_remove s.rows n m settings.index.deletion_grace) (MayRemove m settings.index.deletion_grace s.rows) numbers (λ n. ok_remove s.rows n m settings.index.deletion_grace) f)
 ok_behind reading settings s m (Retire numbers) f = ok_state _ (ok_each (λ n. answer_to_retire s.rows n m settings.period) (MayRetire m settings.period s.rows) numbers (λ n. ok_retire s.rows n m settings.period) f.2)
 
 config_ok : (said : Result Settings ConfigError) → IsOk (answer_to_config said) → IsOk said

@@ -305,11 +305,11 @@ sound_after reads reading settings h m (Raise number upto) s f =
     sound_raise reads h m number upto w.0 s (row_stands (rows h) number w.0 s.held.apart w.1) w.2.0
 sound_after reads reading settings h m (AddTask opstamp text fields times) s f = sound_task reads h m opstamp text fields times s
 sound_after reads reading settings h m (MarkStaged numbers) s f =
-    sound_mark reads h m numbers s (AllOf-weaker (MayMark m settings.staged_grace (rows h)) (IsHidden (rows h)) numbers
-    (λ n i. hidden_from Staged (λ row. row.staged_at + settings.staged_grace ≤ m) (rows h) n refl i) f)
+    sound_mark reads h m numbers s (AllOf-weaker (MayMark m settings.index.staged_grace (rows h)) (IsHidden (rows h)) numbers
+    (λ n i. hidden_from Staged (λ row. row.staged_at + settings.index.staged_grace ≤ m) (rows h) n refl i) f)
 sound_after reads reading settings h m (Remove numbers) s f =
-    sound_remove reads h m numbers s (AllOf-weaker (MayRemove m settings.deletion_grace (rows h)) (IsHidden (rows h)) numbers
-    (λ n i. hidden_from Marked (λ row. row.marked_at + settings.deletion_grace ≤ m) (rows h) n refl i) f)
+    sound_remove reads h m numbers s (AllOf-weaker (MayRemove m settings.index.deletion_grace (rows h)) (IsHidden (rows h)) numbers
+    (λ n i. hidden_from Marked (λ row. row.marked_at + settings.index.deletion_grace ≤ m) (rows h) n refl i) f)
 sound_after reads reading settings h m (Retire numbers) s f =
     sound_retire reads h m numbers s (apart_rising numbers f.1)
     (AllOf-weaker (MayRetire m settings.period (rows h)) (IsIn Published (rows h)) numbers (λ n i. published_of settings.period m (rows h) n i) f.2)

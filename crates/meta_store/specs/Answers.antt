@@ -99,8 +99,8 @@ answer_behind reading settings s moment (Replace new old upto) = then_answer (in
 answer_behind reading settings s moment (Raise number upto) = then_answer (in_state (answer_to_raise s.rows number)) (answer_to_upto upto (s.last_opstamp))
 answer_behind reading settings s moment (AddTask opstamp text fields times) =
     then_answer (answer_to_next opstamp (s.last_opstamp + 1)) (then_answer (answer_to_task reading.query) (answer_to_tasks (length s.tasks)))
-answer_behind reading settings s moment (MarkStaged numbers) = in_state (answer_to_each (λ n. answer_to_mark s.rows n moment settings.staged_grace) numbers)
-answer_behind reading settings s moment (Remove numbers) = in_state (answer_to_each (λ n. answer_to_remove s.rows n moment settings.deletion_grace) numbers)
+answer_behind reading settings s moment (MarkStaged numbers) = in_state (answer_to_each (λ n. answer_to_mark s.rows n moment settings.index.staged_grace) numbers)
+answer_behind reading settings s moment (Remove numbers) = in_state (answer_to_each (λ n. answer_to_remove s.rows n moment settings.index.deletion_grace) numbers)
 answer_behind reading settings s moment (Retire numbers) = in_state (answer_to_each (λ n. answer_to_retire s.rows n moment settings.period) numbers)
 
 abbrev pub answer_by : Said → Option Config → State → (moment : ℕ) → Act → Answer

@@ -12,3 +12,4 @@ pub mod Answers
 pub mod Laws
 pub mod Words
 pub mod Contents
+pub mod Planning

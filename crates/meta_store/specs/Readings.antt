@@ -15,7 +15,7 @@ use Rattle.meta_store.specs.declared.config.Config.{Config}
 use Rattle.meta_store.specs.History.{History}
 use Rattle.meta_store.specs.History.History.{Start, ◌▸◌}
 
--- What the readers say of texts: what a configuration says of time, or what is wrong with it; and, under the text of a
+-- What the readers say of texts: what a configuration says, or what is wrong with it; and, under the text of a
 -- configuration, the query of a task's text with these fields as its default fields, or why there is none.
 pub record Reads : Type 0 where
   pub config : List ℕ → Result Settings ConfigError

@@ -144,8 +144,8 @@ Follows reading settings s moment (Publish number) =
 Follows reading settings s moment (Replace new old upto) = MayReplace s.rows new old × (upto ≤ s.last_opstamp)
 Follows reading settings s moment (Raise number upto) = MayRaise s.rows number × (upto ≤ s.last_opstamp)
 Follows reading settings s moment (AddTask opstamp text fields times) = (opstamp ≡ s.last_opstamp + 1) × IsOk reading.query × (length s.tasks < 10000)
-Follows reading settings s moment (MarkStaged numbers) = AllByRecursion (MayMark moment settings.staged_grace s.rows) numbers
-Follows reading settings s moment (Remove numbers) = AllByRecursion (MayRemove moment settings.deletion_grace s.rows) numbers
+Follows reading settings s moment (MarkStaged numbers) = AllByRecursion (MayMark moment settings.index.staged_grace s.rows) numbers
+Follows reading settings s moment (Remove numbers) = AllByRecursion (MayRemove moment settings.index.deletion_grace s.rows) numbers
 Follows reading settings s moment (Retire numbers) = (numbers ≢ []) × Rises numbers × AllByRecursion (MayRetire moment settings.period s.rows) numbers
 
 abbrev pub MayCome : Said → Option Config → State → (moment : ℕ) → Act → Type 0

@@ -31,7 +31,7 @@ FollowsLedger reading settings reads h moment (Replace new old upto) = MayReplac
 FollowsLedger reading settings reads h moment (Raise number upto) = MayRaiseRow (rows h) number × MayRaise upto (ledger reads h).tasks
 FollowsLedger reading settings reads h moment (AddTask opstamp text fields times) =
     MayAdd (task_of opstamp reading.query times) (ledger reads h).tasks × IsOk reading.query × (length (ledger reads h).tasks < 10000)
-FollowsLedger reading settings reads h moment (MarkStaged numbers) = AllByRecursion (MayMark moment settings.staged_grace (rows h)) numbers
-FollowsLedger reading settings reads h moment (Remove numbers) = AllByRecursion (MayRemove moment settings.deletion_grace (rows h)) numbers
+FollowsLedger reading settings reads h moment (MarkStaged numbers) = AllByRecursion (MayMark moment settings.index.staged_grace (rows h)) numbers
+FollowsLedger reading settings reads h moment (Remove numbers) = AllByRecursion (MayRemove moment settings.index.deletion_grace (rows h)) numbers
 FollowsLedger reading settings reads h moment (Retire numbers) =
     (numbers ≢ []) × Rises numbers × AllByRecursion (MayRetire moment settings.period (rows h)) numbers

@@ -1,17 +1,16 @@
 //! What is kept of the configuration, and what the readers of texts say of an entry.
 
 use byte_fields::Bytes;
-use index_config::ConfigError;
+use index_config::{ConfigError, IndexConfig};
 use query_ast::Query;
 use query_reader::QueryError;
 use std::marker::Model;
 
-/// What a configuration says of time, in seconds: how long a staged row is left alone, how long a marked
-/// row's file is kept, and, where there is one, the age at which documents are retired.
-#[derive(Clone, Copy, Debug, Drop)]
+/// What a configuration says: the configuration that was read and, where there is one, the age in seconds at which
+/// documents are retired.
+#[derive(Debug, Drop)]
 pub struct Settings {
-    pub staged_grace: u64,
-    pub deletion_grace: u64,
+    pub index: IndexConfig,
     pub period: Option<u64>,
 }
 

@@ -5,9 +5,11 @@ mod checks;
 pub mod config;
 pub mod laws;
 pub mod meta;
+mod planning;
 pub mod refusal;
 mod spans;
 
 pub use config::{Config, Reading, Settings};
 pub use meta::Meta;
+pub use planning::{Choice, PlanRow, PlanRows};
 pub use refusal::Refusal;

@@ -6,7 +6,7 @@ ghost use Rattle.split_states.specs.Rows.{row_at, row_ranges, joined_spans};
 ghost use Rattle.meta_store.specs.History.{at};
 ghost use Rattle.meta_store.specs.History.History.{Start};
 ghost use Rattle.meta_store.specs.State.{state_of, after};
-ghost use Rattle.meta_store.specs.Readings.{Reads};
+ghost use Rattle.meta_store.specs.Readings.{Reads, configured};
 ghost use Rattle.meta_store.specs.Answers.{answer_to, answer_behind, answer_to_found, answer_to_next, answer_to_task, answer_to_tasks, answer_to_rows, answer_to_each, answer_to_upto, in_delta, in_state, handed, unread, IsUnread};
 ghost use Rattle.split_states.specs.Answers.{answer_to_replace, answer_to_raise, answer_to_mark, answer_to_remove, answer_to_retire};
 ghost use Rattle.source_checkpoint.specs.Deltas.{then_answer, answer_to_delta};
@@ -87,6 +87,17 @@ impl Model for Meta {
     ghost invariant = { λ m.
         (m.revision + 1 < 2 ^ 64) × (m.last_number ≤ m.revision) × (last_of m.tasks.list ≤ m.revision)
         × (m.span_count ≤ 1000000) × MergedUpTo m.revision m.rows.list × IsAbove m.rows.list (m.last_number + 1) };
+}
+
+/// The configuration of a Create with these bytes, or none where its reader gave none.
+fn config_read(text: Bytes, reading: Reading) -> Option<Config>
+    ensures { result ≡ configured text reading.config }
+{
+    let Reading { config, query: _ } = reading;
+    match config {
+        Ok(settings) => Some(Config { text, settings }),
+        Err(_error) => None,
+    }
 }
 
 /// The task of an entry, with the query that its reader gave. Where it gave none there is nothing that the task asks
@@ -199,18 +210,18 @@ impl Meta {
         }
         match &self.config {
             None => check_first(&entry.act, reading),
-            Some(config) => self.check_act(reading, config.settings, entry.moment, &entry.act),
+            Some(config) => { self.check_act(reading, &config.settings, entry.moment, &entry.act) }
         }
     }
 
     fn check_act(
         &self,
         reading: Reading,
-        settings: Settings,
+        settings: &Settings,
         moment: u64,
         act: &Act,
     ) -> Result<Reading, Refusal>
-        ensures { result ≡ handed reading (answer_behind reading settings self.now.state moment act.now) }
+        ensures { result ≡ handed reading (answer_behind reading settings.now self.now.state moment act.now) }
     {
         match act {
             Act::Fence => Ok(reading),
@@ -227,11 +238,11 @@ impl Meta {
             Act::Task { opstamp, .. } => self.check_task(*opstamp, reading),
             Act::MarkStaged { numbers } => hand_back(
                 reading,
-                self.check_marked(numbers, moment, settings.staged_grace),
+                self.check_marked(numbers, moment, settings.index.staged_grace),
             ),
             Act::Remove { numbers } => hand_back(
                 reading,
-                self.check_removed(numbers, moment, settings.deletion_grace),
+                self.check_removed(numbers, moment, settings.index.deletion_grace),
             ),
             Act::Retire { numbers } => {
                 hand_back(
@@ -430,13 +441,7 @@ impl Meta {
         requires { self.old.state.revision + 2 < 2 ^ 64 }
         ensures { self.new.state ≡ after reading (at moment (Act.Create config)) self.old.state }
     {
-        self.config = match reading.config {
-            Ok(settings) => Some(Config {
-                text: config,
-                settings,
-            }),
-            Err(_) => None,
-        };
+        self.config = config_read(config, reading);
         self.moment = self.moment.max(moment);
         self.revision += 1;
     }

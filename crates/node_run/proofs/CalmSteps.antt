@@ -10,7 +10,7 @@ use Rattle.source_log.specs.Log.{Log, records_of}
 use Rattle.index_world.specs.Calls.{Fate, Call, Trouble, no_memory, Unmade, troubled, not_read, Gives, risen, may_fail, begun, looked, asked, file_made, asked_and_looked, fetched, with_standing, reborn, read_journal, unless_empty, load_by, loaded, calm_call, calm_fate}
 use Rattle.index_world.specs.Core.{Core, last_count}
 use Rattle.index_world.specs.Gate.{stage_call, publish_call, stage_act}
-use Rattle.index_world.specs.SplitFile.{split_file}
+use Rattle.index_world.specs.SplitFile.{file_of}
 use Rattle.indexing_run.specs.Outcomes as said
 use Rattle.indexing_run.specs.Places.{Batch, Held, Place, idle, reading, staged, uploaded, Indexer}
 use Rattle.indexing_run.specs.Steps.{LogCall, Stepped, stepped, log_may_fail, log_called, checkpoints_by, checkpoints_given, take_checkpoints, idle_by, step_idle, read_by, read_given, read_asked, step_read, stage_given, step_stage, batch_facts, upload_given, step_upload, publish_given, step_publish, step_batch, step_place, step_indexer}
@@ -189,9 +189,9 @@ module _ (luck : indexing.Luck) (log : Log) (indexer : Indexer) (core : Core) (s
 
   step_upload_calms : (held : Held) → StepIs (step_upload luck held indexer core) (step_upload calm_indexing held indexer core)
   step_upload_calms held same same_log =
-      let given = file_made luck.world.first (split_key held.number) (split_file held.documents) core in
-      upload_calms held indexer given (file_made calm_call (split_key held.number) (split_file held.documents) core)
-      (file_made_calms luck.world.first (split_key held.number) (split_file held.documents) core s (handed core given.core _ (upload_same given.answer held indexer given.core) same))
+      let given = file_made luck.world.first (split_key held.number) (file_of held.config held.documents) core in
+      upload_calms held indexer given (file_made calm_call (split_key held.number) (file_of held.config held.documents) core)
+      (file_made_calms luck.world.first (split_key held.number) (file_of held.config held.documents) core s (handed core given.core _ (upload_same given.answer held indexer given.core) same))
 
   step_publish_calms : (held : Held) → StepIs (step_publish luck held indexer core) (step_publish calm_indexing held indexer core)
   step_publish_calms held same same_log =

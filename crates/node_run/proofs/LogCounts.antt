@@ -9,7 +9,7 @@ use Rattle.index_world.specs.Calls.{Trouble, faulted, no_memory, Unmade, Unread,
 use Rattle.index_world.specs.Calls as calls
 use Rattle.index_world.specs.Core.{Core, last_count}
 use Rattle.index_world.specs.Gate.{stage_call, publish_call}
-use Rattle.index_world.specs.SplitFile.{split_file}
+use Rattle.index_world.specs.SplitFile.{file_of}
 use Rattle.indexing_run.specs.Outcomes as said
 use Rattle.indexing_run.specs.Places.{Batch, Held, Place, idle, reading, staged, uploaded, Indexer}
 use Rattle.indexing_run.specs.Steps.{Stepped, stepped, log_may_fail, log_called, take_checkpoints, idle_by, read_by, read_given, step_read, stage_by, step_stage, batch_facts, upload_by, step_upload, publish_by, step_publish, step_batch, step_place, step_indexer}
@@ -90,7 +90,7 @@ module _ (luck : indexing.Luck) (log : Log) (indexer : Indexer) where
   place_counts idle core = unless_counts luck.log.short core
   place_counts (reading batch) core = batch_counts batch core
   place_counts (staged held) core =
-      let given = calls.upload_made luck.world held.number (split_file held.documents) core in same_count indexer.log_faults _ (upload_count given.answer held indexer given.core)
+      let given = calls.upload_made luck.world held.number (file_of held.config held.documents) core in same_count indexer.log_faults _ (upload_count given.answer held indexer given.core)
   place_counts (uploaded held) core =
       let given = publish_call held.number luck.world core in same_count indexer.log_faults _ (publish_count given.answer held indexer given.core)
 

@@ -12,7 +12,7 @@ use Rattle.index_world.specs.Calls.{Fate, Call, Trouble, faulted, no_memory, Unm
 use Rattle.index_world.specs.Calls as calls
 use Rattle.index_world.specs.Core.{Core, Late, late_entry, late_dead, late_file, file_at, last_count}
 use Rattle.index_world.specs.Gate.{stage_act}
-use Rattle.index_world.specs.SplitFile.{split_file}
+use Rattle.index_world.specs.SplitFile.{file_of}
 use Rattle.indexing_run.specs.Places.{Batch, Held, Place, idle, reading, staged, uploaded, Indexer}
 use Rattle.indexing_run.specs.Steps.{Stepped, log_may_fail, log_called, checkpoints_by, take_checkpoints, idle_by, read_by, read_given, step_read, stage_by, step_stage, batch_facts, upload_by, step_upload, publish_by, step_publish, step_batch, step_place, step_indexer}
 use Rattle.indexing_run.specs.Steps as indexing
@@ -331,7 +331,7 @@ module _ (luck : indexing.Luck) (log : Log) (indexer : Indexer) (core : Core) wh
 
   upload_moves : (held : Held) → Moves core (step_upload luck held indexer core).core
   upload_moves held =
-      moves_on (file_made_moves luck.world.first (split_key held.number) (split_file held.documents) core) (same (upload_same _ held indexer _))
+      moves_on (file_made_moves luck.world.first (split_key held.number) (file_of held.config held.documents) core) (same (upload_same _ held indexer _))
 
   publish_moves : (held : Held) → Moves core (step_publish luck held indexer core).core
   publish_moves held =

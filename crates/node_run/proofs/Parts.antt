@@ -79,6 +79,7 @@ clock_on core clock =
       faults = omega arith;
       moment = omega arith;
       keeps = record {
+        configured = λ config e. e;
         unused = λ n other u. record { staged = u.staged; unpublished = u.unpublished; absent = u.absent; not_late = u.not_late };
         uploaded = λ n bytes u. record { staged = u.staged; file = u.file; not_late = u.not_late };
         staged = λ n delta facts h. h;

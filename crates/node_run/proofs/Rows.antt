@@ -8,12 +8,12 @@ use Rattle.meta_journal.specs.Spelling.{spelling}
 use Rattle.meta_journal.specs.declared.entry.Act.TheVariants.{Create, Stage, Publish}
 use Rattle.meta_journal.specs.declared.entry.Entry.{Entry}
 use Rattle.index_world.specs.Calls.{calm_call, calm_fate}
-use Rattle.index_world.specs.Config.{logs_config}
+use Rattle.index_world.specs.Config.{logs_config, logs_index}
 use Rattle.index_world.specs.Core.{late_entry}
 use Rattle.index_world.specs.Index.{facts_of}
 use Rattle.index_world.specs.Seen.{accepted_in}
 use Rattle.index_world.specs.SplitFile.{split_file, weight, starts_from, documents_spelled}
-use Rattle.index_world.specs.declared.placed.Placed.{Placed}
+use Rattle.split_bundle.specs.declared.placed.Placed.{Placed}
 use Rattle.node_run.proofs.OnLiterals.{path_on_literals}
 use Rattle.node_run.specs.Lines.{outcome_text}
 use Rattle.node_run.specs.Node.{Node, Line, At, Assign, StepIndexer, RestartIndexer, RestartNode, Open, StepClient}
@@ -26,7 +26,7 @@ abbrev pub delta_a : List Part
 delta_a = record { partition = codes "p0"; from = 0; to = 3 } ∷ []
 
 abbrev pub docs_a : List Placed
-docs_a = accepted_in log_a delta_a
+docs_a = accepted_in logs_index log_a delta_a
 
 pub file_length : length (split_file docs_a) ≡ 59
 unfolding path_on_literals
@@ -189,7 +189,7 @@ unfolding path_on_literals
 restart_fails = refl
 
 abbrev pub staged_entry : Entry
-staged_entry = record { moment = 1000; act = Stage 1 delta_a (facts_of docs_a 1) }
+staged_entry = record { moment = 1000; act = Stage 1 delta_a (facts_of logs_index docs_a 1) }
 
 abbrev pub published_entry : Entry
 published_entry = record { moment = 1000; act = Publish 1 }

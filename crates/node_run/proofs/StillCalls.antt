@@ -10,7 +10,7 @@ use Rattle.source_log.specs.Log.{Log}
 use Rattle.index_world.specs.Calls.{Unmade, begun, calm_call, calm_fate, made_behind, adopted_making, first_unless, transact, appended, entry_of, may_append, unless_short, and_then, settle_with, looked, asked, asked_clock, asked_and_looked, file_by, file_made, fetched, reborn, unless_empty, loaded}
 use Rattle.index_world.specs.Core.{Core, file_at}
 use Rattle.index_world.specs.Gate.{stage_call, publish_call, stage_act}
-use Rattle.index_world.specs.SplitFile.{split_file}
+use Rattle.index_world.specs.SplitFile.{file_of}
 use Rattle.indexing_run.specs.Outcomes as said
 use Rattle.indexing_run.specs.Places.{Batch, Held, Place, idle, reading, staged, uploaded, Indexer}
 use Rattle.indexing_run.specs.Steps.{Stepped, stepped, log_may_fail, log_called, take_checkpoints, idle_by, step_read, step_stage, batch_facts, step_upload, step_publish, step_batch, step_place, step_indexer}
@@ -101,8 +101,8 @@ module _ (log : Log) (indexer : Indexer) (core : Core) (s : IsStill core) where
 
   upload_still : (held : Held) → IsStill (step_upload calm_indexing held indexer core).core
   upload_still held =
-      let given = file_made calm_call (split_key held.number) (split_file held.documents) core in
-      handed given.core _ (upload_same given.answer held indexer given.core) (file_made_still (split_key held.number) (split_file held.documents) core s)
+      let given = file_made calm_call (split_key held.number) (file_of held.config held.documents) core in
+      handed given.core _ (upload_same given.answer held indexer given.core) (file_made_still (split_key held.number) (file_of held.config held.documents) core s)
 
   publish_still : (held : Held) → IsStill (step_publish calm_indexing held indexer core).core
   publish_still held =

@@ -19,7 +19,7 @@ use Rattle.index_world.specs.Calls.{Fate, Call, Fault, store_fault, is_foreign, 
 use Rattle.index_world.specs.Calls as calls
 use Rattle.index_world.specs.Core.{Core, File, Late, late_entry, late_dead, late_file, late_key, file_at, IsNotLateIn}
 use Rattle.index_world.specs.Gate.{stage_act}
-use Rattle.index_world.specs.SplitFile.{split_file}
+use Rattle.index_world.specs.SplitFile.{file_of}
 use Rattle.index_world.specs.Standing.{IsCalled}
 use Rattle.index_world.proofs.Indexing.{All-remove, All-get}
 use Rattle.indexing_run.specs.Outcomes.{IndexerOutcome}
@@ -529,8 +529,8 @@ module _ (luck : indexing.Luck) (log : Log) (core : Core) (low : AreLow (length 
   place_tells idle indexer f = unless_tells luck.log.short indexer
   place_tells (reading batch) indexer f = batch_tells batch indexer
   place_tells (staged held) indexer f =
-      let given = file_made luck.world.first (split_key held.number) (split_file held.documents) core in
-      upload_tells given.answer held indexer given.core (file_own luck.world.first (split_key held.number) (split_file held.documents) core f)
+      let given = file_made luck.world.first (split_key held.number) (file_of held.config held.documents) core in
+      upload_tells given.answer held indexer given.core (file_own luck.world.first (split_key held.number) (file_of held.config held.documents) core f)
   place_tells (uploaded held) indexer f =
       let given = appended luck.world (λ c. Publish held.number) core in
       published_tells given.answer held indexer given.core (appended_own luck.world (λ c. Publish held.number) core low)

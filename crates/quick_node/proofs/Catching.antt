@@ -16,12 +16,14 @@ use Rattle.source_checkpoint.specs.declared.delta.StaleDelta.TheVariants as delt
 use Rattle.source_checkpoint.specs.declared.ledger.Checkpoint.{Checkpoint as Mark}
 use Rattle.source_log.specs.Log.{Log, records_of}
 use Rattle.doc_value.specs.declared.doc.DocField.{DocField}
+use Rattle.index_config.specs.declared.config.IndexConfig.{IndexConfig}
 use Rattle.index_world.specs.Accepted.{accepted}
+use Rattle.index_world.specs.Configuration.{configuration, config_or}
 use Rattle.index_world.specs.Calls.{Trouble, faulted, no_memory, Unmade, refused, troubled, Unread, not_read, looked, asked, appended, upload_made}
 use Rattle.index_world.specs.Calls as calls
-use Rattle.index_world.specs.Core.{Core}
+use Rattle.index_world.specs.Core.{Core, journal_of}
 use Rattle.index_world.specs.Gate.{stage_call, publish_call}
-use Rattle.index_world.specs.SplitFile.{split_file}
+use Rattle.index_world.specs.SplitFile.{file_of}
 use Rattle.index_world.proofs.StoreChanges.{All-snoc}
 use Rattle.indexing_run.specs.Outcomes.{IndexerOutcome, Checkpoint, Read, Staged, Uploaded, Published, CaughtUp, Stale, Lost, Refused, SourceFault, Faulted}
 use Rattle.indexing_run.specs.Places.{Batch, Held, Place, idle, reading, staged, uploaded, Indexer}
@@ -57,8 +59,8 @@ empty_nil : {X : Type 0} (xs : List X) → is_empty xs ≡ true → xs ≡ []
 empty_nil [] e = refl
 empty_nil (x ∷ xs) e = cc
 
-fresh_watched : (log : Log) (marks : List Mark) → Watched log marks (fresh_batch marks)
-fresh_watched log marks =
+fresh_watched : (config : IndexConfig) (log : Log) (marks : List Mark) → Watched log marks (fresh_batch config marks)
+fresh_watched config log marks =
     record {
       none_read = λ none. ([], refl, tt);
       some_read = λ some all. absurd (omega (arith, some));
@@ -72,29 +74,29 @@ with_more : (name : List ℕ) (offset : ℕ) (doc : Option (List DocField)) (tak
 with_more name offset None taken = refl
 with_more name offset (Some doc) taken = refl
 
-taken_on : (name : List ℕ) (offset : ℕ) (records : List (List ℕ)) (taken : Taken) → taken.count ≤ (taken_from name offset records taken).count
-taken_on name offset [] taken = omega arith
-taken_on name offset (bytes ∷ more) taken = by taken.heavy (taken_on name (suc offset) more (with_record name offset (accepted bytes) taken))
+taken_on : (config : IndexConfig) (name : List ℕ) (offset : ℕ) (records : List (List ℕ)) (taken : Taken) → taken.count ≤ (taken_from config name offset records taken).count
+taken_on config name offset [] taken = omega arith
+taken_on config name offset (bytes ∷ more) taken = by taken.heavy (taken_on config name (suc offset) more (with_record name offset (accepted config bytes) taken))
   where
-    one : (with_record name offset (accepted bytes) taken).count ≡ suc taken.count
-    one = with_more name offset (accepted bytes) taken
+    one : (with_record name offset (accepted config bytes) taken).count ≡ suc taken.count
+    one = with_more name offset (accepted config bytes) taken
 
-    by : (b : Bool) → (with_record name offset (accepted bytes) taken).count ≤ (taken_from name (suc offset) more (with_record name offset (accepted bytes) taken)).count →
-        taken.count ≤ (if b then taken else taken_from name (suc offset) more (with_record name offset (accepted bytes) taken)).count
+    by : (b : Bool) → (with_record name offset (accepted config bytes) taken).count ≤ (taken_from config name (suc offset) more (with_record name offset (accepted config bytes) taken)).count →
+        taken.count ≤ (if b then taken else taken_from config name (suc offset) more (with_record name offset (accepted config bytes) taken)).count
     by true rest = omega arith
     by false rest = omega (arith, one, rest)
 
 -- of some records one is taken at least
-taken_some : (name : List ℕ) (offset : ℕ) (bytes : List ℕ) (more : List (List ℕ)) (taken : Taken) → taken.heavy ≡ false → taken.count < (taken_from name offset (bytes ∷ more) taken).count
-taken_some name offset bytes more taken light = by taken.heavy light
+taken_some : (config : IndexConfig) (name : List ℕ) (offset : ℕ) (bytes : List ℕ) (more : List (List ℕ)) (taken : Taken) → taken.heavy ≡ false → taken.count < (taken_from config name offset (bytes ∷ more) taken).count
+taken_some config name offset bytes more taken light = by taken.heavy light
   where
-    one : (with_record name offset (accepted bytes) taken).count ≡ suc taken.count
-    one = with_more name offset (accepted bytes) taken
+    one : (with_record name offset (accepted config bytes) taken).count ≡ suc taken.count
+    one = with_more name offset (accepted config bytes) taken
 
-    rest : (with_record name offset (accepted bytes) taken).count ≤ (taken_from name (suc offset) more (with_record name offset (accepted bytes) taken)).count
-    rest = taken_on name (suc offset) more (with_record name offset (accepted bytes) taken)
+    rest : (with_record name offset (accepted config bytes) taken).count ≤ (taken_from config name (suc offset) more (with_record name offset (accepted config bytes) taken)).count
+    rest = taken_on config name (suc offset) more (with_record name offset (accepted config bytes) taken)
 
-    by : (b : Bool) → b ≡ false → taken.count < (if b then taken else taken_from name (suc offset) more (with_record name offset (accepted bytes) taken)).count
+    by : (b : Bool) → b ≡ false → taken.count < (if b then taken else taken_from config name (suc offset) more (with_record name offset (accepted config bytes) taken)).count
     by true e = cc
     by false e = omega (arith, one, rest)
 
@@ -155,7 +157,7 @@ module _ (log : Log) (marks : List Mark) (batch : Batch) (mark : Mark) (rest : L
       }
 
   read_by_records : (behind : List (List ℕ)) (limit : ℕ) → drop mark.at (records_of log mark.partition) ≡ behind → batch.count ≡ 0 → 0 < limit →
-      Watched log marks (batch_after batch mark rest (taken_from mark.partition mark.at (take limit behind) (start_of batch)) (nat_le (length behind) limit) now)
+      Watched log marks (batch_after batch mark rest (taken_from batch.config mark.partition mark.at (take limit behind) (start_of batch)) (nat_le (length behind) limit) now)
   read_by_records [] limit at first some =
       subst (λ t. Watched log marks (batch_after batch mark rest t (nat_le 0 limit) now)) (sym (none_of limit))
       (subst (λ b. Watched log marks (batch_after batch mark rest (start_of batch) b now)) (sym (none_more limit)) (read_none at))
@@ -163,13 +165,13 @@ module _ (log : Log) (marks : List Mark) (batch : Batch) (mark : Mark) (rest : L
       none_more : (limit : ℕ) → nat_le 0 limit ≡ true
       none_more limit = grind (arith, nat_tests)
 
-      none_of : (limit : ℕ) → taken_from mark.partition mark.at (take limit []) (start_of batch) ≡ start_of batch
+      none_of : (limit : ℕ) → taken_from batch.config mark.partition mark.at (take limit []) (start_of batch) ≡ start_of batch
       none_of zero = refl
       none_of (suc limit) = refl
   read_by_records (bytes ∷ more) zero at first some = absurd (omega (arith, some))
   read_by_records (bytes ∷ more) (suc limit) at first some =
-      read_some (taken_from mark.partition mark.at (bytes ∷ take limit more) (start_of batch)) (nat_le (length (bytes ∷ more)) (suc limit)) first
-      (taken_some mark.partition mark.at bytes (take limit more) (start_of batch) refl) (λ none. cons_nil bytes more (sym at ∙ none))
+      read_some (taken_from batch.config mark.partition mark.at (bytes ∷ take limit more) (start_of batch)) (nat_le (length (bytes ∷ more)) (suc limit)) first
+      (taken_some batch.config mark.partition mark.at bytes (take limit more) (start_of batch) refl) (λ none. cons_nil bytes more (sym at ∙ none))
     where
       cons_nil : (x : List ℕ) (xs : List (List ℕ)) → x ∷ xs ≡ [] → ⊥
       cons_nil x xs e = cc
@@ -229,9 +231,12 @@ module _ (exit : List Entry) (log : Log) (seen : Seen) where
 
     checkpoints_step : (r : Result ⊤ Trouble) (indexer : Indexer) (c : Core) → indexer.assignment ≡ seen.assignment → Steps (checkpoints_by r log indexer c)
     checkpoints_step (Ok done) indexer c same =
-        said Checkpoint (reading (fresh_batch marks)) indexer c
-        (λ p. record { says = tt; place_is = subst (λ ms. Watched log ms (fresh_batch marks)) (are p) (fresh_watched log marks); assignment_is = same })
+        said Checkpoint (reading (fresh_batch config marks)) indexer c
+        (λ p. record { says = tt; place_is = subst (λ ms. Watched log ms (fresh_batch config marks)) (are p) (fresh_watched config log marks); assignment_is = same })
       where
+        config : IndexConfig
+        config = config_or (configuration (journal_of c))
+
         marks : List Mark
         marks = marks_at (checkpoints_of (history c.history)) (partitions_for indexer.assignment log)
 
@@ -262,12 +267,12 @@ module _ (exit : List Entry) (log : Log) (seen : Seen) where
     zero_or (suc n) = inr (omega arith)
 
     read_watched : (batch : Batch) (mark : Mark) (rest : List Mark) (now : ℕ) → batch.queue ≡ mark ∷ rest → Watched log (marks_of seen) batch → (batch.count ≡ 0) ⊎ (0 < batch.count) →
-        Watched log (marks_of seen) (batch_after batch mark rest (taken_from mark.partition mark.at (take (read_limit batch.count) (drop mark.at (records_of log mark.partition))) (start_of batch))
+        Watched log (marks_of seen) (batch_after batch mark rest (taken_from batch.config mark.partition mark.at (take (read_limit batch.count) (drop mark.at (records_of log mark.partition))) (start_of batch))
         (nat_le (length (drop mark.at (records_of log mark.partition))) (read_limit batch.count)) now)
     read_watched batch mark rest now queue_is w (inl none) =
         read_by_records log (marks_of seen) batch mark rest queue_is w now (drop mark.at (records_of log mark.partition)) (read_limit batch.count) refl none (limit_some batch.count none)
     read_watched batch mark rest now queue_is w (inr more) = read_more log (marks_of seen) batch mark rest queue_is w now
-        (taken_from mark.partition mark.at (take (read_limit batch.count) (drop mark.at (records_of log mark.partition))) (start_of batch))
+        (taken_from batch.config mark.partition mark.at (take (read_limit batch.count) (drop mark.at (records_of log mark.partition))) (start_of batch))
         (nat_le (length (drop mark.at (records_of log mark.partition))) (read_limit batch.count)) more
 
     read_step : (b : Bool) (batch : Batch) (mark : Mark) (rest : List Mark) (indexer : Indexer) (c : Core) → batch.queue ≡ mark ∷ rest →
@@ -357,7 +362,7 @@ module _ (exit : List Entry) (log : Log) (seen : Seen) where
     place_step idle indexer w same = unless_step luck.log.short indexer same
     place_step (reading batch) indexer w same = closed_by_step batch.closed batch indexer refl w same
     place_step (staged held) indexer w same =
-        let given = upload_made luck.world held.number (split_file held.documents) core in upload_steps given.answer held indexer given.core same
+        let given = upload_made luck.world held.number (file_of held.config held.documents) core in upload_steps given.answer held indexer given.core same
     place_step (uploaded held) indexer w same =
         let given = publish_call held.number luck.world core in publish_steps given.answer held indexer given.core same
 

@@ -16,7 +16,7 @@ use Rattle.index_world.specs.Calls.{Fate, Call, Fault, Trouble, faulted, no_memo
 use Rattle.index_world.specs.Calls as calls
 use Rattle.index_world.specs.Core.{Core, last_count, file_at}
 use Rattle.index_world.specs.Gate.{stage_act}
-use Rattle.index_world.specs.SplitFile.{split_file}
+use Rattle.index_world.specs.SplitFile.{file_of}
 use Rattle.indexing_run.specs.Outcomes.{IndexerOutcome}
 use Rattle.indexing_run.specs.Places.{Batch, Held, Place, idle, reading, staged, uploaded, Indexer}
 use Rattle.indexing_run.specs.Steps.{Stepped, log_may_fail, log_called, checkpoints_by, take_checkpoints, idle_by, read_by, read_given, step_read, stage_by, step_stage, batch_facts, upload_by, step_upload, publish_by, publish_refused, step_publish, step_batch, step_place, step_indexer}
@@ -457,9 +457,9 @@ module _ (luck : indexing.Luck) (log : Log) (core : Core) (bound : core.store_fa
   place_said idle indexer = unless_said luck.log.short indexer
   place_said (reading batch) indexer = batch_said batch indexer
   place_said (staged held) indexer =
-      let given = file_made luck.world.first (split_key held.number) (split_file held.documents) core in
+      let given = file_made luck.world.first (split_key held.number) (file_of held.config held.documents) core in
       upload_by_said held indexer given.answer given.core
-      (as_given trouble_told core.store_faults given (file_good luck.world.first (split_key held.number) (split_file held.documents) core bound))
+      (as_given trouble_told core.store_faults given (file_good luck.world.first (split_key held.number) (file_of held.config held.documents) core bound))
   place_said (uploaded held) indexer =
       let given = appended luck.world (λ c. Publish held.number) core in
       publish_by_said held indexer given.answer given.core

@@ -27,11 +27,12 @@ use Rattle.source_log.specs.Log.{Log, IsLog, IsFront, Extends, records_of}
 use Rattle.split_states.specs.Rows.{is_published}
 use Rattle.split_states.specs.declared.rows.Row.{Row}
 use Rattle.split_states.specs.declared.rows.RowState.TheVariants.{Published}
+use Rattle.index_config.specs.declared.config.IndexConfig.{IndexConfig}
 use Rattle.index_world.specs.Config.{reads}
 use Rattle.index_world.specs.Index.{facts_of, ranges_of, IsRowSound, IsRowKept, Stands, MayPublish, HasFile, MayEnter, MayLand, IsBelowEnd, IsLateEntry, IsIndexOf}
 use Rattle.index_world.specs.Seen.{meaning, accepted_from, accepted_records, accepted_part, accepted_in, record_count, contents, place_of}
-use Rattle.index_world.specs.SplitFile.{split_file, weight, max_documents, max_weight}
-use Rattle.index_world.specs.declared.placed.Placed.{Placed}
+use Rattle.index_world.specs.SplitFile.{file_of, weight, max_documents, max_weight}
+use Rattle.split_bundle.specs.declared.placed.Placed.{Placed}
 use Rattle.indexing_run.proofs.Slices.{part_of, part_more, part_none}
 
 -- ---- a part of a log
@@ -40,8 +41,8 @@ filter_none : (p : Placed → Bool) (xs : List Placed) → ((x : Placed) → p x
 filter_none p [] h = refl
 filter_none p (x ∷ xs) h = ap (λ b. cond b (x ∷ filter p xs) (filter p xs)) (h x) ∙ filter_none p xs h
 
-part_back : (log : Log) (name : List ℕ) (from to : ℕ) → to ≤ from → accepted_part log (part_of name from to) ≡ []
-part_back log name from to back = filter_none _ (accepted_records log) (λ x. no (bytes_eq name x.partition) x.offset)
+part_back : (config : IndexConfig) (log : Log) (name : List ℕ) (from to : ℕ) → to ≤ from → accepted_part config log (part_of name from to) ≡ []
+part_back config log name from to back = filter_none _ (accepted_records config log) (λ x. no (bytes_eq name x.partition) x.offset)
   where
     nowhere : (o : ℕ) → to ≤ from → (nat_le from o && nat_lt o to) ≡ false
     nowhere o b = grind (b, arith, nat_tests)
@@ -50,9 +51,9 @@ part_back log name from to back = filter_none _ (accepted_records log) (λ x. no
     no true o = nowhere o back
     no false o = refl
 
-part_slice : (log : Log) (name : List ℕ) (from n : ℕ) → IsLog log → accepted_part log (part_of name from (from + n)) ≡ accepted_from name from (take n (drop from (records_of log name)))
-part_slice log name from n is =
-    part_more log name from from n is.in_order (omega arith) ∙ ap (λ l. l ++ accepted_from name from (take n (drop from (records_of log name)))) (part_none log name from)
+part_slice : (config : IndexConfig) (log : Log) (name : List ℕ) (from n : ℕ) → IsLog log → accepted_part config log (part_of name from (from + n)) ≡ accepted_from config name from (take n (drop from (records_of log name)))
+part_slice config log name from n is =
+    part_more config log name from from n is.in_order (omega arith) ∙ ap (λ l. l ++ accepted_from config name from (take n (drop from (records_of log name)))) (part_none config log name from)
 
 longer_slice : {X : Type 0} (xs more : List X) (from n : ℕ) → from + n ≤ length xs → take n (drop from xs) ≡ take n (drop from (xs ++ more))
 longer_slice xs more from n h =
@@ -63,9 +64,9 @@ ordered : (a b : ℕ) → (a ≤ b) ⊎ (b ≤ a)
 ordered a b = grind arith
 
 -- what a part takes of a log, which has all of it, it takes of each one that extends this
-part_longer : (log longer : Log) (part : Part) → IsLog log → IsLog longer → Extends log longer → part.to ≤ length (records_of log part.partition) →
-    accepted_part log part ≡ accepted_part longer part
-part_longer log longer part is was extends within = by (ordered part.from part.to)
+part_longer : (config : IndexConfig) (log longer : Log) (part : Part) → IsLog log → IsLog longer → Extends log longer → part.to ≤ length (records_of log part.partition) →
+    accepted_part config log part ≡ accepted_part config longer part
+part_longer config log longer part is was extends within = by (ordered part.from part.to)
   where
     name : List ℕ
     name = part.partition
@@ -73,26 +74,26 @@ part_longer log longer part is was extends within = by (ordered part.from part.t
     front : IsFront (records_of log name) (records_of longer name)
     front = extends name
 
-    slices : (n : ℕ) → part.from + n ≡ part.to → accepted_part log (part_of name part.from (part.from + n)) ≡ accepted_part longer (part_of name part.from (part.from + n))
+    slices : (n : ℕ) → part.from + n ≡ part.to → accepted_part config log (part_of name part.from (part.from + n)) ≡ accepted_part config longer (part_of name part.from (part.from + n))
     slices n e =
-        part_slice log name part.from n is
-        ∙ ap (accepted_from name part.from) (longer_slice (records_of log name) front.0 part.from n (omega (arith, e, within)) ∙ ap (λ rs. take n (drop part.from rs)) (sym front.1))
-        ∙ sym (part_slice longer name part.from n was)
+        part_slice config log name part.from n is
+        ∙ ap (accepted_from config name part.from) (longer_slice (records_of log name) front.0 part.from n (omega (arith, e, within)) ∙ ap (λ rs. take n (drop part.from rs)) (sym front.1))
+        ∙ sym (part_slice config longer name part.from n was)
 
-    by : (part.from ≤ part.to) ⊎ (part.to ≤ part.from) → accepted_part log part ≡ accepted_part longer part
+    by : (part.from ≤ part.to) ⊎ (part.to ≤ part.from) → accepted_part config log part ≡ accepted_part config longer part
     by (inl le) =
         let e : part.from + (part.to - part.from) ≡ part.to = omega (arith, le) in
-        subst (λ to. accepted_part log (part_of name part.from to) ≡ accepted_part longer (part_of name part.from to)) e (slices (part.to - part.from) e)
-    by (inr back) = part_back log name part.from part.to back ∙ sym (part_back longer name part.from part.to back)
+        subst (λ to. accepted_part config log (part_of name part.from to) ≡ accepted_part config longer (part_of name part.from to)) e (slices (part.to - part.from) e)
+    by (inr back) = part_back config log name part.from part.to back ∙ sym (part_back config longer name part.from part.to back)
 
 module _ (log longer : Log) (is : IsLog log) (was : IsLog longer) (extends : Extends log longer) where
   abbrev Within : Part → Type 0
   Within part = part.to ≤ length (records_of log part.partition)
 
-  in_longer : (delta : List Part) → AllByRecursion Within delta → accepted_in log delta ≡ accepted_in longer delta
-  in_longer [] h = refl
-  in_longer (part ∷ delta) h =
-      ap (λ l. l ++ accepted_in log delta) (part_longer log longer part is was extends h.0) ∙ ap (λ l. accepted_part longer part ++ l) (in_longer delta h.1)
+  in_longer : (config : IndexConfig) (delta : List Part) → AllByRecursion Within delta → accepted_in config log delta ≡ accepted_in config longer delta
+  in_longer config [] h = refl
+  in_longer config (part ∷ delta) h =
+      ap (λ l. l ++ accepted_in config log delta) (part_longer config log longer part is was extends h.0) ∙ ap (λ l. accepted_part config longer part ++ l) (in_longer config delta h.1)
 
   few_more : (name : List ℕ) → length (records_of log name) ≤ length (records_of longer name)
   few_more name =
@@ -114,23 +115,23 @@ module _ (log longer : Log) (is : IsLog log) (was : IsLog longer) (extends : Ext
       by true e = ap (λ l. cond (q x) (x ∷ l) l) e
       by false e = e
 
-  kept_longer : (tasks : List KeptTask) (s : Span) → Within (range_of s) → filter (is_kept meaning tasks s) (accepted_records log) ≡ filter (is_kept meaning tasks s) (accepted_records longer)
-  kept_longer tasks s h =
-      filter_both (λ x. lies_in (range_of s) (place_of x)) (λ x. not (erased_by (meaning.matches x) tasks s)) (accepted_records log)
-      ∙ ap (filter (λ x. not (erased_by (meaning.matches x) tasks s))) (part_longer log longer (range_of s) is was extends h)
-      ∙ sym (filter_both (λ x. lies_in (range_of s) (place_of x)) (λ x. not (erased_by (meaning.matches x) tasks s)) (accepted_records longer))
+  kept_longer : (config : IndexConfig) (tasks : List KeptTask) (s : Span) → Within (range_of s) → filter (is_kept meaning tasks s) (accepted_records config log) ≡ filter (is_kept meaning tasks s) (accepted_records config longer)
+  kept_longer config tasks s h =
+      filter_both (λ x. lies_in (range_of s) (place_of x)) (λ x. not (erased_by (meaning.matches x) tasks s)) (accepted_records config log)
+      ∙ ap (filter (λ x. not (erased_by (meaning.matches x) tasks s))) (part_longer config log longer (range_of s) is was extends h)
+      ∙ sym (filter_both (λ x. lies_in (range_of s) (place_of x)) (λ x. not (erased_by (meaning.matches x) tasks s)) (accepted_records config longer))
 
-  spans_longer : (tasks : List KeptTask) (spans : List Span) → AllByRecursion (λ s. Within (range_of s)) spans →
-      flat_map (λ s. filter (is_kept meaning tasks s) (accepted_records log)) spans ≡ flat_map (λ s. filter (is_kept meaning tasks s) (accepted_records longer)) spans
-  spans_longer tasks [] h = refl
-  spans_longer tasks (s ∷ spans) h =
-      ap (λ l. l ++ flat_map (λ t. filter (is_kept meaning tasks t) (accepted_records log)) spans) (kept_longer tasks s h.0)
-      ∙ ap (λ l. filter (is_kept meaning tasks s) (accepted_records longer) ++ l) (spans_longer tasks spans h.1)
+  spans_longer : (config : IndexConfig) (tasks : List KeptTask) (spans : List Span) → AllByRecursion (λ s. Within (range_of s)) spans →
+      flat_map (λ s. filter (is_kept meaning tasks s) (accepted_records config log)) spans ≡ flat_map (λ s. filter (is_kept meaning tasks s) (accepted_records config longer)) spans
+  spans_longer config tasks [] h = refl
+  spans_longer config tasks (s ∷ spans) h =
+      ap (λ l. l ++ flat_map (λ t. filter (is_kept meaning tasks t) (accepted_records config log)) spans) (kept_longer config tasks s h.0)
+      ∙ ap (λ l. filter (is_kept meaning tasks s) (accepted_records config longer) ++ l) (spans_longer config tasks spans h.1)
 
-  sound_longer : (kept : State) (tasks : List KeptTask) (row : Row) → contents tasks row log ≡ contents tasks row longer → IsRowSound kept tasks log row → IsRowSound kept tasks longer row
-  sound_longer kept tasks row e s = record {
-    file = s.file ∙ ap (λ xs. Some (split_file xs)) e;
-    facts = s.facts ∙ ap (λ xs. facts_of xs (record_count (ranges_of row) - length xs)) e;
+  sound_longer : (kept : State) (config : IndexConfig) (tasks : List KeptTask) (row : Row) → contents config tasks row log ≡ contents config tasks row longer → IsRowSound kept config tasks log row → IsRowSound kept config tasks longer row
+  sound_longer kept config tasks row e s = record {
+    file = s.file ∙ ap (λ xs. Some (file_of config xs)) e;
+    facts = s.facts ∙ ap (λ xs. facts_of config xs (record_count (ranges_of row) - length xs)) e;
     documents = subst (λ xs. length xs ≤ max_documents) e s.documents;
     weight = subst (λ xs. weight xs ≤ max_weight) e s.weight;
   }
@@ -139,20 +140,22 @@ module _ (log longer : Log) (is : IsLog log) (was : IsLog longer) (extends : Ext
 
   publish_longer : (kept : State) (entries : List Entry) (number : ℕ) → MayPublish kept entries log number → MayPublish kept entries longer number
   publish_longer kept entries number m = record {
+    config = m.config;
+    configured = m.configured;
     ends = within_longer (delta_of (history entries) number) m.ends;
-    file = m.file ∙ ap (λ xs. Some (split_file xs)) e;
-    facts = λ row found. m.facts row found ∙ ap (λ xs. facts_of xs (record_count (delta_of (history entries) number) - length xs)) e;
+    file = m.file ∙ ap (λ xs. Some (file_of m.config xs)) e;
+    facts = λ row found. m.facts row found ∙ ap (λ xs. facts_of m.config xs (record_count (delta_of (history entries) number) - length xs)) e;
     documents = subst (λ xs. length xs ≤ max_documents) e m.documents;
     weight = subst (λ xs. weight xs ≤ max_weight) e m.weight;
     not_late = m.not_late;
   }
     where
-      e : accepted_in log (delta_of (history entries) number) ≡ accepted_in longer (delta_of (history entries) number)
-      e = in_longer (delta_of (history entries) number) m.ends
+      e : accepted_in m.config log (delta_of (history entries) number) ≡ accepted_in m.config longer (delta_of (history entries) number)
+      e = in_longer m.config (delta_of (history entries) number) m.ends
 
   file_longer : (kept : State) (entries : List Entry) (act : Act) → HasFile kept entries log act → HasFile kept entries longer act
   file_longer kept entries Fence f = f
-  file_longer kept entries (Create config) f = f
+  file_longer kept entries (Create text) f = f
   file_longer kept entries (Stage number delta facts) f = f
   file_longer kept entries (Publish number) f = publish_longer kept entries number f
   file_longer kept entries (Replace new old upto) f = f
@@ -234,7 +237,7 @@ module _ (kept : State) (entries : List Entry) (log longer : Log) (is : IsLog lo
     within = s.within;
     no_other = s.no_other;
     checkpoints = λ name. let a = s.checkpoints name in let b = few_more log longer is was extends name in omega (arith, a, b);
-    rows = rows_longer (rows (history entries)) ended s.rows;
+    rows = λ config is_config. rows_longer config (rows (history entries)) ended (s.rows config is_config);
     split_keys = s.split_keys;
     late_keys = s.late_keys;
   }
@@ -267,13 +270,13 @@ module _ (kept : State) (entries : List Entry) (log longer : Log) (is : IsLog lo
       within_log [] h = tt
       within_log (span ∷ spans) h = (let a = s.checkpoints span.partition in omega (arith, h.0, a), within_log spans h.1)
 
-      rows_longer : (all : List Row) → AllByRecursion (λ row. row.state ≡ Published → AllByRecursion P row.spans) all → AllByRecursion (IsRowKept kept l.tasks log) all →
-          AllByRecursion (IsRowKept kept l.tasks longer) all
-      rows_longer [] e h = tt
-      rows_longer (row ∷ all) e h = (
-        λ published. sound_longer log longer is was extends kept l.tasks row
-            (spans_longer log longer is was extends l.tasks row.spans (within_log row.spans (e.0 published))) (h.0 published),
-        rows_longer all e.1 h.1,
+      rows_longer : (config : IndexConfig) (all : List Row) → AllByRecursion (λ row. row.state ≡ Published → AllByRecursion P row.spans) all → AllByRecursion (IsRowKept kept config l.tasks log) all →
+          AllByRecursion (IsRowKept kept config l.tasks longer) all
+      rows_longer config [] e h = tt
+      rows_longer config (row ∷ all) e h = (
+        λ published. sound_longer log longer is was extends kept config l.tasks row
+            (spans_longer log longer is was extends config l.tasks row.spans (within_log row.spans (e.0 published))) (h.0 published),
+        rows_longer config all e.1 h.1,
       )
 
   pub index_longer : IsIndexOf kept entries log → IsIndexOf kept entries longer

@@ -11,6 +11,7 @@ use Rattle.index_world.specs.Config.{reads}
 use Rattle.source_log.specs.Log.{Log}
 use Rattle.index_world.specs.Calls.{Trouble, faulted, no_memory, Unread, not_read, asked_and_looked, fetched, loaded}
 use Rattle.index_world.specs.Calls as calls
+use Rattle.index_world.specs.Configuration.{configuration, config_or}
 use Rattle.index_world.specs.Core.{Core}
 use Rattle.index_world.specs.Seen.{visible}
 use Rattle.indexing_run.specs.Outcomes.{IndexerOutcome}
@@ -202,7 +203,7 @@ module _ (exit : List Entry) (log : Log) (least : ℕ) (knowns : List Known) (na
       client = a.client_name ∙ sym a.known_name;
       word = plan.word;
       asked = r.0;
-      answer = ap (λ es. answer plan.word (visible (ledger reads (history es)) log))
+      answer = ap (λ es. answer plan.word (visible (config_or (configuration es)) (ledger reads (history es)) log))
           (sym (take-append-le plan.revision core.history p.0 r.3) ∙ ap (take plan.revision) (sym p.1));
       front = subst (λ f. f ≤ plan.revision) (sym a.front) r.2;
       entry = r.1;

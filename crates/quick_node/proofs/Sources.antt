@@ -15,7 +15,7 @@ use Rattle.index_world.specs.Calls.{Trouble, faulted, no_memory, Unmade, refused
 use Rattle.index_world.specs.Calls as calls
 use Rattle.index_world.specs.Core.{Core, last_count}
 use Rattle.index_world.specs.Gate.{stage_call, publish_call}
-use Rattle.index_world.specs.SplitFile.{split_file}
+use Rattle.index_world.specs.SplitFile.{file_of}
 use Rattle.indexing_run.specs.Outcomes.{IndexerOutcome}
 use Rattle.indexing_run.specs.Places.{Batch, Held, Place, idle, reading, staged, uploaded, Indexer}
 use Rattle.indexing_run.specs.Steps.{LogCall, Stepped, stepped, log_may_fail, log_called, trouble_outcome, take_checkpoints, checkpoints_by, idle_by, read_by, read_given, step_read, stage_by, step_stage, batch_facts, upload_by, step_upload, publish_refused, publish_by, step_publish, step_batch, step_place, step_indexer}
@@ -155,7 +155,7 @@ module _ (luck : indexing.Luck) (log : Log) (indexer : Indexer) (bound : indexer
   place_tells idle core = unless_tells luck.log.short core
   place_tells (reading batch) core = batch_tells batch core
   place_tells (staged held) core =
-      let given = calls.upload_made luck.world held.number (split_file held.documents) core in upload_tells luck log count given.answer held indexer given.core here
+      let given = calls.upload_made luck.world held.number (file_of held.config held.documents) core in upload_tells luck log count given.answer held indexer given.core here
   place_tells (uploaded held) core =
       let given = publish_call held.number luck.world core in publish_tells luck log count given.answer held indexer given.core here
 

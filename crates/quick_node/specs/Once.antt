@@ -11,9 +11,10 @@ use Rattle.meta_store.specs.Rows.{rows}
 use Rattle.object_store.specs.Store.{State}
 use Rattle.source_log.specs.Log.{Log}
 use Rattle.split_states.specs.declared.rows.Row.{Row}
+use Rattle.index_world.specs.Configuration.{configuration, config_or}
 use Rattle.index_world.specs.Seen.{visible_at}
-use Rattle.index_world.specs.SplitFile.{split_file}
-use Rattle.index_world.specs.declared.placed.Placed.{Placed}
+use Rattle.index_world.specs.SplitFile.{file_of}
+use Rattle.split_bundle.specs.declared.placed.Placed.{Placed}
 use Rattle.root_search.specs.Finding.{place_order}
 
 -- the rows that these entries leave published
@@ -24,7 +25,7 @@ published entries = published_rows (rows (history entries))
 -- that are not removed, no two of which have one place: each stands once, and nothing else does.
 pub record HoldsOnce (kept : State) (entries : List Entry) (log : Log) : Type 0 where
   pub held : Row → List Placed
-  pub files : AllByRecursion (λ row. get kept.objects (split_key row.number) ≡ Some (split_file (held row))) (published entries)
+  pub files : AllByRecursion (λ row. get kept.objects (split_key row.number) ≡ Some (file_of (config_or (configuration entries)) (held row))) (published entries)
   pub once : IsPermutation (flat_map held (published entries)) (visible_at (length entries) entries log)
   pub apart : IsStrictlySortedBy place_order (visible_at (length entries) entries log)
 
@@ -32,6 +33,6 @@ pub record HoldsOnce (kept : State) (entries : List Entry) (log : Log) : Type 0 
 -- together are what was visible then.
 pub record HoldsAt (kept : State) (revision : ℕ) (entries : List Entry) (log : Log) : Type 0 where
   pub held : Row → List Placed
-  pub files : AllByRecursion (λ row. get kept.objects (split_key row.number) ≡ Some (split_file (held row))) (published (take revision entries))
+  pub files : AllByRecursion (λ row. get kept.objects (split_key row.number) ≡ Some (file_of (config_or (configuration (take revision entries))) (held row))) (published (take revision entries))
   pub once : IsPermutation (flat_map held (published (take revision entries))) (visible_at revision entries log)
   pub apart : IsStrictlySortedBy place_order (visible_at revision entries log)

@@ -12,11 +12,12 @@ use Rattle.doc_value.specs.declared.doc.DocField.{DocField}
 use Rattle.meta_store.proofs.RowLists.{AllOf-append}
 use Rattle.source_log.specs.Log.{Log, IsLog, names_of}
 use Rattle.delete_tasks.specs.Ledger.{Ledger}
+use Rattle.index_config.specs.declared.config.IndexConfig.{IndexConfig}
 use Rattle.index_world.specs.Accepted.{accepted}
 use Rattle.index_world.specs.Seen.{onto, accepted_from, accepted_records, visible}
-use Rattle.index_world.specs.declared.placed.Placed.{Placed}
+use Rattle.split_bundle.specs.declared.placed.Placed.{Placed}
 use Rattle.index_world.proofs.StoreChanges.{All-each}
-use Rattle.root_search.specs.Finding.{place_order}
+use Rattle.doc_tallies.specs.Orders.{place_cmp as place_order}
 
 -- ---- one partition
 
@@ -29,11 +30,11 @@ onto_all : (P : Placed → Type 0) (name : List ℕ) (offset : ℕ) (o : Option 
 onto_all P name offset None more h all = all
 onto_all P name offset (Some doc) more h all = (h doc refl, all)
 
-all_from : (name : List ℕ) (offset : ℕ) (records : List (List ℕ)) → AllByRecursion (IsFrom name offset) (accepted_from name offset records)
-all_from name offset [] = tt
-all_from name offset (bytes ∷ more) =
-    onto_all (IsFrom name offset) name offset (accepted bytes) _ (λ doc e. (refl, omega arith))
-    (All-each (IsFrom name (suc offset)) (IsFrom name offset) _ (λ x h. let le : suc offset ≤ x.offset = h.1 in (h.0, omega (arith, le))) (all_from name (suc offset) more))
+all_from : (config : IndexConfig) (name : List ℕ) (offset : ℕ) (records : List (List ℕ)) → AllByRecursion (IsFrom name offset) (accepted_from config name offset records)
+all_from config name offset [] = tt
+all_from config name offset (bytes ∷ more) =
+    onto_all (IsFrom name offset) name offset (accepted config bytes) _ (λ doc e. (refl, omega arith))
+    (All-each (IsFrom name (suc offset)) (IsFrom name offset) _ (λ x h. let le : suc offset ≤ x.offset = h.1 in (h.0, omega (arith, le))) (all_from config name (suc offset) more))
 
 less : (m n : ℕ) → m < n → nat_cmp m n ≡ Less
 less m n lt = rw (lt-ltb m n lt)
@@ -53,9 +54,9 @@ sorted_nil : IsStrictlySortedBy place_order []
 unfolding IsStrictlySortedBy
 sorted_nil = tt
 
-sorted_from : (name : List ℕ) (offset : ℕ) (records : List (List ℕ)) → IsStrictlySortedBy place_order (accepted_from name offset records)
-sorted_from name offset [] = sorted_nil
-sorted_from name offset (bytes ∷ more) = Sorted-onto name offset (accepted bytes) _ (all_from name (suc offset) more) (sorted_from name (suc offset) more)
+sorted_from : (config : IndexConfig) (name : List ℕ) (offset : ℕ) (records : List (List ℕ)) → IsStrictlySortedBy place_order (accepted_from config name offset records)
+sorted_from config name offset [] = sorted_nil
+sorted_from config name offset (bytes ∷ more) = Sorted-onto name offset (accepted config bytes) _ (all_from config name (suc offset) more) (sorted_from config name (suc offset) more)
 
 -- ---- the log
 
@@ -69,22 +70,22 @@ Sorted-append (x ∷ xs) ys s t below = (AllOf-append _ xs ys s.0 below.0, Sorte
 abbrev IsOf : (List ℕ → Type 0) → Placed → Type 0
 IsOf P placed = P placed.partition
 
-all_of_log : (P : List ℕ → Type 0) (log : Log) → AllByRecursion P (names_of log) → AllByRecursion (IsOf P) (accepted_records log)
-all_of_log P [] h = tt
-all_of_log P (part ∷ parts) h =
-    AllOf-append (IsOf P) _ _ (All-each (IsFrom part.partition 0) (IsOf P) _ (λ x f. subst P (sym f.0) h.0) (all_from part.partition 0 part.records)) (all_of_log P parts h.1)
+all_of_log : (config : IndexConfig) (P : List ℕ → Type 0) (log : Log) → AllByRecursion P (names_of log) → AllByRecursion (IsOf P) (accepted_records config log)
+all_of_log config P [] h = tt
+all_of_log config P (part ∷ parts) h =
+    AllOf-append (IsOf P) _ _ (All-each (IsFrom part.partition 0) (IsOf P) _ (λ x f. subst P (sym f.0) h.0) (all_from config part.partition 0 part.records)) (all_of_log config P parts h.1)
 
-pub log_in_order : (log : Log) → IsStrictlySortedBy (slice_cmp nat_cmp) (names_of log) → IsStrictlySortedBy place_order (accepted_records log)
-log_in_order [] s = sorted_nil
-log_in_order (part ∷ parts) s =
-    let later = all_of_log (λ name. slice_cmp nat_cmp part.partition name ≡ Less) parts (sorted_head (slice_cmp nat_cmp) part.partition (names_of parts) s) in
-    Sorted-append _ _ (sorted_from part.partition 0 part.records) (log_in_order parts (sorted_tail (slice_cmp nat_cmp) part.partition (names_of parts) s))
-    (All-each (IsFrom part.partition 0) _ _ (λ x f. All-each _ (λ y. place_order x y ≡ Less) _ (λ y lt. rw f.0 (rw lt refl)) later) (all_from part.partition 0 part.records))
+pub log_in_order : (config : IndexConfig) (log : Log) → IsStrictlySortedBy (slice_cmp nat_cmp) (names_of log) → IsStrictlySortedBy place_order (accepted_records config log)
+log_in_order config [] s = sorted_nil
+log_in_order config (part ∷ parts) s =
+    let later = all_of_log config (λ name. slice_cmp nat_cmp part.partition name ≡ Less) parts (sorted_head (slice_cmp nat_cmp) part.partition (names_of parts) s) in
+    Sorted-append _ _ (sorted_from config part.partition 0 part.records) (log_in_order config parts (sorted_tail (slice_cmp nat_cmp) part.partition (names_of parts) s))
+    (All-each (IsFrom part.partition 0) _ _ (λ x f. All-each _ (λ y. place_order x y ≡ Less) _ (λ y lt. rw f.0 (rw lt refl)) later) (all_from config part.partition 0 part.records))
 
 -- the order of places is a total one
 pub place_order_total : IsTotalOrder place_order
 place_order_total = then_total (on_total (λ (p : Placed). p.partition) nat_list_cmp_total) (on_total (λ (p : Placed). p.offset) nat_cmp_total)
 
 -- what is visible stands in order too
-pub visible_in_order : (l : Ledger) (log : Log) → IsLog log → IsStrictlySortedBy place_order (visible l log)
-visible_in_order l log g = IsStrictlySortedBy-filter place_order _ (accepted_records log) (log_in_order log g.in_order)
+pub visible_in_order : (config : IndexConfig) (l : Ledger) (log : Log) → IsLog log → IsStrictlySortedBy place_order (visible config l log)
+visible_in_order config l log g = IsStrictlySortedBy-filter place_order _ (accepted_records config log) (log_in_order config log g.in_order)

@@ -1,5 +1,5 @@
--- What the files of the searched rows hold, behind a core of a sound index.
-use Rattle.std.proofs.Common.{◌≡◌, ℕ, suc, ◌<◌, ◌≤◌, ◌^◌, ◌||◌, ◌==◌, Bool, true, false, cond, List, [], ◌∷◌, ◌++◌, filter, flat_map, fold, length, refl, sym, ap, ◌∙◌, subst, arith, Option, Some, None, nat_lt, IsPermutation, eq-eqb, ltb-false}
+-- What the files of the published rows hold, behind a core of a sound index.
+use Rattle.std.proofs.Common.{◌≡◌, ℕ, suc, ◌<◌, ◌≤◌, ◌^◌, ◌||◌, ◌==◌, Bool, true, false, cond, List, [], ◌∷◌, ◌++◌, flat_map, fold, length, refl, sym, ap, ◌∙◌, subst, arith, Option, Some, None, IsPermutation, eq-eqb}
 use Rattle.std.specs.List.{AllByRecursion, list_any}
 use Rattle.std.proofs.lemmas.Bool.{eqb-true}
 use Rattle.std.proofs.lemmas.List.{length-append}
@@ -28,20 +28,22 @@ use Rattle.split_states.specs.declared.rows.Row.{Row}
 use Rattle.split_states.specs.declared.rows.RowState.{RowState}
 use Rattle.split_states.specs.declared.rows.RowState.TheVariants.{Staged, Published, Marked}
 use Rattle.split_states.specs.Rows.{is_published, published, change}
+use Rattle.index_config.specs.declared.config.IndexConfig.{IndexConfig}
 use Rattle.index_world.specs.Config.{reads}
+use Rattle.index_world.specs.Configuration.{configuration, config_or, index_of}
 use Rattle.index_world.specs.Core.{Core, with_unread, journal_of, IsUploadedIn}
-use Rattle.index_world.specs.Gate.{searched_rows}
 use Rattle.index_world.specs.Index.{IsBuilt, IsRowKept, IsRowSound, IsLateKey, Stands, is_split, has_staged, was_published}
 use Rattle.index_world.specs.Seen.{contents, meaning, accepted_records, visible}
-use Rattle.index_world.specs.SplitFile.{split_file}
+use Rattle.index_world.specs.SplitFile.{AreSplit, file_of}
+use Rattle.plan_laws.specs.Facts.{HasFactsOf}
 use Rattle.index_world.specs.World.{IsWorld}
-use Rattle.index_world.specs.declared.placed.Placed.{Placed}
+use Rattle.index_world.proofs.Asking.{begun_history}
+use Rattle.index_world.proofs.Configured.{configured-more, rows_under}
 use Rattle.index_world.proofs.InCore.{uploaded-in}
 use Rattle.index_world.proofs.Indexing.{last_within}
-use Rattle.index_world.proofs.Numbers.{history-snoc, staged_le}
+use Rattle.index_world.proofs.Numbers.{history-snoc, revision_is, staged_le}
 use Rattle.index_world.proofs.StoreChanges.{All-snoc, All-each, staged_more}
 use Rattle.index_world.proofs.StoreKeys.{split_key-injective, split_begins, true_is_false}
-use Rattle.root_search.proofs.Orders.{All-filter}
 
 -- ---- histories of the kinds of entries that the index has
 
@@ -125,45 +127,50 @@ published_on h moment (Retire numbers) n a = a
 
 -- ---- the rows before an entry that stands unread
 
-sound_before : (kept : State) (tasks : List KeptTask) (log : Log) (row : Row) → IsRowKept kept tasks log (published row) → IsRowKept kept tasks log row
-sound_before kept tasks log row k e = let s = k refl in record { file = s.file; facts = s.facts; documents = s.documents; weight = s.weight }
+sound_before : (kept : State) (config : IndexConfig) (tasks : List KeptTask) (log : Log) (row : Row) → IsRowKept kept config tasks log (published row) → IsRowKept kept config tasks log row
+sound_before kept config tasks log row k e = let s = k refl in record { file = s.file; facts = s.facts; split = s.split }
 
-pub kept_before : (kept : State) (log : Log) (h : History) (moment : ℕ) (act : Act) → IsBuilt act →
-    AllByRecursion (IsRowKept kept (ledger reads (h ▸ record { moment = moment; act = act })).tasks log) (rows (h ▸ record { moment = moment; act = act })) →
-    AllByRecursion (IsRowKept kept (ledger reads h).tasks log) (rows h)
-kept_before kept log h moment Fence f all = all
-kept_before kept log h moment (Create config) f all = all
-kept_before kept log h moment (Stage number delta facts) f all = AllOf-front (IsRowKept kept (ledger reads h).tasks log) (rows h) _ all
-kept_before kept log h moment (Publish n) f all =
-    All-unchange (IsRowKept kept (ledger reads h).tasks log) (IsRowKept kept (ledger reads h).tasks log) n published (rows h) (sound_before kept (ledger reads h).tasks log) (λ row k. k) all
-kept_before kept log h moment (Replace new old upto) f all = absurd f
-kept_before kept log h moment (Raise number upto) f all = absurd f
-kept_before kept log h moment (Task opstamp text fields times) f all = absurd f
-kept_before kept log h moment (MarkStaged numbers) f all = absurd f
-kept_before kept log h moment (Remove numbers) f all = absurd f
-kept_before kept log h moment (Retire numbers) f all = absurd f
+pub kept_before : (kept : State) (config : IndexConfig) (log : Log) (h : History) (moment : ℕ) (act : Act) → IsBuilt act →
+    AllByRecursion (IsRowKept kept config (ledger reads (h ▸ record { moment = moment; act = act })).tasks log) (rows (h ▸ record { moment = moment; act = act })) →
+    AllByRecursion (IsRowKept kept config (ledger reads h).tasks log) (rows h)
+kept_before kept config log h moment Fence f all = all
+kept_before kept config log h moment (Create text) f all = all
+kept_before kept config log h moment (Stage number delta facts) f all = AllOf-front (IsRowKept kept config (ledger reads h).tasks log) (rows h) _ all
+kept_before kept config log h moment (Publish n) f all =
+    All-unchange (IsRowKept kept config (ledger reads h).tasks log) (IsRowKept kept config (ledger reads h).tasks log) n published (rows h) (sound_before kept config (ledger reads h).tasks log) (λ row k. k) all
+kept_before kept config log h moment (Replace new old upto) f all = absurd f
+kept_before kept config log h moment (Raise number upto) f all = absurd f
+kept_before kept config log h moment (Task opstamp text fields times) f all = absurd f
+kept_before kept config log h moment (MarkStaged numbers) f all = absurd f
+kept_before kept config log h moment (Remove numbers) f all = absurd f
+kept_before kept config log h moment (Retire numbers) f all = absurd f
 
 -- what the first entries of an index's journal are, of which one may stand unread
 record Front (kept : State) (es : List Entry) (unread : Option Entry) (log : Log) : Type 0 where
   legal : Legal reads (history es)
   built : Builds (history es)
-  kept_rows : AllByRecursion (IsRowKept kept (ledger reads (history es)).tasks log) (rows (history es))
+  kept_rows : AllByRecursion (IsRowKept kept (config_or (configuration es)) (ledger reads (history es)).tasks log) (rows (history es))
   staged : (n : ℕ) → has_staged es n ≡ true → has_staged (with_unread es unread) n ≡ true
   published : (n : ℕ) → was_published es n ≡ true → was_published (with_unread es unread) n ≡ true
 
 front : (kept : State) (es : List Entry) (unread : Option Entry) (log : Log) → Stands kept (with_unread es unread) log → Front kept es unread log
-front kept es None log s = record { legal = s.legal; built = builds_more Start es tt s.built; kept_rows = s.rows; staged = λ n h. h; published = λ n h. h }
+front kept es None log s = record { legal = s.legal; built = builds_more Start es tt s.built; kept_rows = rows_under kept es (ledger reads (history es)).tasks log s.legal s.rows; staged = λ n h. h; published = λ n h. h }
 front kept es (Some e) log s =
     record {
-      legal = (subst (Legal reads) snoc s.legal).0;
+      legal = legal.0;
       built = whole.0;
-      kept_rows = kept_before kept log (history es) e.moment e.act whole.1 (subst (λ h. AllByRecursion (IsRowKept kept (ledger reads h).tasks log) (rows h)) snoc s.rows);
+      kept_rows = rows_under kept es (ledger reads (history es)).tasks log legal.0
+          (λ config is. kept_before kept config log (history es) e.moment e.act whole.1
+          (subst (λ (h : History). AllByRecursion (IsRowKept kept config (ledger reads h).tasks log) (rows h)) snoc (s.rows config (configured-more es e legal.0 legal.1 config is))));
       staged = staged_more es e;
       published = λ n a. subst (λ h. Among n (published_numbers h)) (sym snoc) (published_on (history es) e.moment e.act n a);
     }
   where
     snoc : history (es ++ e ∷ []) ≡ history es ▸ e
     snoc = history-snoc es e
+
+    legal : Legal reads (history es ▸ e)
+    legal = subst (Legal reads) snoc s.legal
 
     whole : Builds (history es ▸ e)
     whole = subst Builds snoc (builds_more Start (es ++ e ∷ []) tt s.built)
@@ -175,47 +182,35 @@ published_state Staged e = absurd (true_is_false (sym e))
 published_state Published e = refl
 published_state Marked e = absurd (true_is_false (sym e))
 
-record IsShown (kept : State) (log : Log) (h : History) (row : Row) : Type 0 where
-  sound : IsRowSound kept (ledger reads h).tasks log row
+record IsShown (kept : State) (config : IndexConfig) (log : Log) (h : History) (row : Row) : Type 0 where
+  sound : IsRowSound kept config (ledger reads h).tasks log row
   staged : Among row.number (staged_numbers h)
   published : Among row.number (published_numbers h)
 
-shown_rows : (kept : State) (log : Log) (h : History) (list : List Row) → AllByRecursion (IsRowKept kept (ledger reads h).tasks log) list → AllByRecursion (IsListed h) list → AllByRecursion (IsShown kept log h) (published_rows list)
-shown_rows kept log h [] k l = tt
-shown_rows kept log h (row ∷ list) k l = by (is_published row.state) refl (shown_rows kept log h list k.1 l.1)
+shown_rows : (kept : State) (config : IndexConfig) (log : Log) (h : History) (list : List Row) → AllByRecursion (IsRowKept kept config (ledger reads h).tasks log) list → AllByRecursion (IsListed h) list → AllByRecursion (IsShown kept config log h) (published_rows list)
+shown_rows kept config log h [] k l = tt
+shown_rows kept config log h (row ∷ list) k l = by (is_published row.state) refl (shown_rows kept config log h list k.1 l.1)
   where
-    by : (b : Bool) → is_published row.state ≡ b → AllByRecursion (IsShown kept log h) (published_rows list) → AllByRecursion (IsShown kept log h) (cond b (row ∷ published_rows list) (published_rows list))
+    by : (b : Bool) → is_published row.state ≡ b → AllByRecursion (IsShown kept config log h) (published_rows list) → AllByRecursion (IsShown kept config log h) (cond b (row ∷ published_rows list) (published_rows list))
     by true e more = let p = published_state row.state e in (record { sound = k.0 p; staged = l.0.staged; published = l.0.published p }, more)
     by false e more = more
 
--- a row without a document adds nothing
-none_left : {A : Type 0} (xs : List A) (n : ℕ) → n ≡ length xs → nat_lt 0 n ≡ false → xs ≡ []
-none_left [] n e h = refl
-none_left (x ∷ xs) n e h = let none : n ≤ 0 = ltb-false 0 n h in let some : n ≡ suc (length xs) = e in absurd (omega (arith, none, some))
-
-with_documents : (kept : State) (log : Log) (h : History) (list : List Row) → AllByRecursion (IsShown kept log h) list →
-    flat_map (λ row. contents (ledger reads h).tasks row log) (filter (λ row. nat_lt 0 row.facts.docs) list) ≡ flat_map (λ row. contents (ledger reads h).tasks row log) list
-with_documents kept log h [] all = refl
-with_documents kept log h (row ∷ list) all = by (nat_lt 0 row.facts.docs) refl (with_documents kept log h list all.1)
-  where
-    f : Row → List Placed
-    f r = contents (ledger reads h).tasks r log
-
-    by : (b : Bool) → nat_lt 0 row.facts.docs ≡ b → flat_map (λ row. contents (ledger reads h).tasks row log) (filter (λ row. nat_lt 0 row.facts.docs) list) ≡ flat_map (λ row. contents (ledger reads h).tasks row log) list →
-        flat_map (λ row. contents (ledger reads h).tasks row log) (cond b (row ∷ filter (λ row. nat_lt 0 row.facts.docs) list) (filter (λ row. nat_lt 0 row.facts.docs) list)) ≡ contents (ledger reads h).tasks row log ++ flat_map (λ row. contents (ledger reads h).tasks row log) list
-    by true e more = ap (λ l. contents (ledger reads h).tasks row log ++ l) more
-    by false e more =
-        let none : contents (ledger reads h).tasks row log ≡ [] = none_left (contents (ledger reads h).tasks row log) row.facts.docs (ap (λ (facts : RowFacts). facts.docs) all.0.sound.facts) e in
-        more ∙ ap (λ l. l ++ flat_map (λ row. contents (ledger reads h).tasks row log) list) (sym none)
-
 -- ---- the law
 
-pub record AreSearched (core : Core) (log : Log) (h : History) : Type 0 where
-  pub files : AllByRecursion (λ row. IsUploadedIn core row.number (split_file (contents (ledger reads h).tasks row log))) (searched_rows h)
-  pub sizes : AllByRecursion (λ row. row.facts.size ≡ length (split_file (contents (ledger reads h).tasks row log))) (searched_rows h)
-  pub shown : IsPermutation (flat_map (λ row. contents (ledger reads h).tasks row log) (searched_rows h)) (visible (ledger reads h) log)
+-- the row's file stands and is the split of its contents, of which it has the facts
+pub record IsHeld (config : IndexConfig) (core : Core) (log : Log) (h : History) (row : Row) : Type 0 where
+  pub file : IsUploadedIn core row.number (file_of config (contents config (ledger reads h).tasks row log))
+  pub split : AreSplit config (contents config (ledger reads h).tasks row log)
+  pub facts : HasFactsOf config.schema (contents config (ledger reads h).tasks row log) row
+
+pub record AreShown (config : IndexConfig) (core : Core) (log : Log) (h : History) : Type 0 where
+  pub each : AllByRecursion (IsHeld config core log h) (published_rows (rows h))
+  pub shown : IsPermutation (flat_map (λ row. contents config (ledger reads h).tasks row log) (published_rows (rows h))) (visible config (ledger reads h) log)
 
 module _ (kept : State) (core : Core) (log : Log) (w : IsWorld kept core log) where
+  abbrev config : IndexConfig
+  config = config_or (configuration core.history)
+
   number_low : (n : ℕ) → has_staged (journal_of core) n ≡ true → n < 10 ^ 20
   number_low n h =
       let low = staged_le (history (journal_of core)) n h in
@@ -223,8 +218,8 @@ module _ (kept : State) (core : Core) (log : Log) (w : IsWorld kept core log) wh
       let within = w.index.stands.within in
       omega (arith, low, last, within)
 
-  row_in_hand : (row : Row) → IsRowSound kept (ledger reads (history core.history)).tasks log row → has_staged (journal_of core) row.number ≡ true → was_published (journal_of core) row.number ≡ true →
-      IsUploadedIn core row.number (split_file (contents (ledger reads (history core.history)).tasks row log))
+  row_in_hand : (row : Row) → IsRowSound kept config (ledger reads (history core.history)).tasks log row → has_staged (journal_of core) row.number ≡ true → was_published (journal_of core) row.number ≡ true →
+      IsUploadedIn core row.number (file_of config (contents config (ledger reads (history core.history)).tasks row log))
   row_in_hand row s staged published =
       uploaded-in kept core row.number _ w.stands_for
       (record { staged = staged; file = s.file; not_late = All-each (IsLateKey (journal_of core)) (λ late. late.0 ≡ split_key row.number → ⊥) kept.late apart w.index.stands.late_keys })
@@ -235,13 +230,16 @@ module _ (kept : State) (core : Core) (log : Log) (w : IsWorld kept core log) wh
           let same : there.0 ≡ row.number = split_key-injective there.0 row.number (number_low there.0 there.2) (number_low row.number staged) (sym there.1 ∙ e) in
           true_is_false (sym published ∙ subst (λ n. was_published (journal_of core) n ≡ false) same there.3)
 
-  pub world_searched : AreSearched core log (history core.history)
-  world_searched =
+  pub world_shown : AreShown (config_or (configuration core.history)) core log (history core.history)
+  world_shown =
       record {
-        files = All-each (IsShown kept log h) _ (searched_rows h) (λ row i. row_in_hand row i.sound (f.staged row.number i.staged) (f.published row.number i.published)) some;
-        sizes = All-each (IsShown kept log h) _ (searched_rows h) (λ row i. ap (λ (facts : RowFacts). facts.size) i.sound.facts) some;
-        shown = subst (λ l. IsPermutation l (visible (ledger reads h) log)) (sym (with_documents kept log h (published_rows (rows h)) all))
-            (published_is_visible meaning reads h (accepted_records log) (sound reads h f.legal).once);
+        each = All-each (IsShown kept config log h) (IsHeld config core log h) (published_rows (rows h))
+            (λ row i. record {
+              file = row_in_hand row i.sound (f.staged row.number i.staged) (f.published row.number i.published);
+              split = i.sound.split;
+              facts = (_, i.sound.facts);
+            }) all;
+        shown = published_is_visible meaning reads h (accepted_records config log) (sound reads h f.legal).once;
       }
     where
       h : History
@@ -250,11 +248,8 @@ module _ (kept : State) (core : Core) (log : Log) (w : IsWorld kept core log) wh
       f : Front kept core.history core.standing log
       f = front kept core.history core.standing log w.index.stands
 
-      all : AllByRecursion (IsShown kept log h) (published_rows (rows h))
-      all = shown_rows kept log h (rows h) f.kept_rows (rows_listed h f.built)
-
-      some : AllByRecursion (IsShown kept log h) (searched_rows h)
-      some = All-filter (IsShown kept log h) (λ row. nat_lt 0 row.facts.docs) (published_rows (rows h)) all
+      all : AllByRecursion (IsShown kept config log h) (published_rows (rows h))
+      all = shown_rows kept config log h (rows h) f.kept_rows (rows_listed h f.built)
 
 -- ---- how many rows there are
 
@@ -290,18 +285,17 @@ rows_few (h ▸ entry) l b = by entry.act b.1 l.1.1 (rows_few h l.0 b.0)
     by (Remove numbers) f may le = absurd f
     by (Retire numbers) f may le = absurd f
 
-filter_few : {A : Type 0} (p : A → Bool) (xs : List A) → length (filter p xs) ≤ length xs
-filter_few p [] = omega arith
-filter_few p (x ∷ xs) = by (p x) (filter_few p xs)
-  where
-    by : (b : Bool) → length (filter p xs) ≤ length xs → length (cond b (x ∷ filter p xs) (filter p xs)) ≤ suc (length xs)
-    by true le = omega (arith, le)
-    by false le = omega (arith, le)
-
-pub searched_few : (kept : State) (core : Core) (log : Log) → IsWorld kept core log → length (searched_rows (history core.history)) ≤ 100000
-searched_few kept core log w =
+pub world_few : (kept : State) (core : Core) (log : Log) → IsWorld kept core log → length (rows (history core.history)) ≤ 100000
+world_few kept core log w =
     let f = front kept core.history core.standing log w.index.stands in
-    let few = rows_few (history core.history) f.legal f.built in
-    let one = filter_few (λ row. is_published row.state) (rows (history core.history)) in
-    let two = filter_few (λ row. nat_lt 0 row.facts.docs) (filter (λ row. is_published row.state) (rows (history core.history))) in
-    omega (arith, few, one, two)
+    rows_few (history core.history) f.legal f.built
+
+-- ---- the configuration
+
+pub world_legal : (kept : State) (core : Core) (log : Log) → IsWorld kept core log → Legal reads (history core.history)
+world_legal kept core log w = (front kept core.history core.standing log w.index.stands).legal
+
+pub world_configured : (kept : State) (core : Core) (log : Log) → IsWorld kept core log → 0 < length core.history → (config : IndexConfig) × (configuration core.history ≡ Some config)
+world_configured kept core log w some =
+    let b = begun_history (history core.history) (world_legal kept core log w) (let e = revision_is core.history in omega (arith, some, e)) in
+    (b.config.settings.index, ap index_of b.is)

@@ -1,60 +1,73 @@
--- A searcher goes on to stand for its client, and what it gathers is of what is visible.
-use Rattle.std.proofs.Common.{◌≡◌, ℕ, ◌≤◌, List, [], ◌∷◌, ◌++◌, map, flat_map, length, take, refl, sym, ap, ◌∙◌, subst, arith, Option, IsPermutation}
-use Rattle.std.specs.List.{AllByRecursion}
-use Rattle.std.proofs.lemmas.List.{take-append-le, take_all, length-append, length-map}
+-- A searcher goes on to stand for its client, and what its files hold is what is visible.
+use Rattle.std.proofs.Common.{◌≡◌, ℕ, ◌≤◌, List, map, flat_map, length, take, sym, ap, ◌∙◌, subst, arith, Option, Some, None, IsPermutation}
+use Rattle.std.specs.List.{AllByRecursion, AllZip}
+use Rattle.std.proofs.lemmas.List.{take-append-le, take_all, length-append}
 use Rattle.meta_journal.specs.declared.entry.Entry.{Entry}
+use Rattle.meta_store.specs.Contents.{published_rows}
 use Rattle.meta_store.specs.History.{history}
 use Rattle.meta_store.specs.Ledgers.{ledger}
+use Rattle.meta_store.specs.Planning.{planned_row, searched}
+use Rattle.meta_store.specs.Rows.{rows}
+use Rattle.index_config.specs.declared.config.IndexConfig.{IndexConfig}
 use Rattle.index_world.specs.Config.{reads}
-use Rattle.source_log.specs.Log.{Log, IsLog}
+use Rattle.index_world.specs.Configuration.{configuration, config_or}
+use Rattle.source_log.specs.Log.{Log}
 use Rattle.split_states.specs.declared.rows.Row.{Row}
-use Rattle.index_world.specs.Core.{Core, IsUploadedIn}
-use Rattle.index_world.specs.Gate.{searched_rows, planned_row, IsSoundCore}
-use Rattle.index_world.specs.Seen.{contents, visible, visible_at}
-use Rattle.index_world.specs.SplitFile.{split_file}
+use Rattle.index_world.specs.Core.{Core, IsConfigured, IsUploadedIn, journal_of}
+use Rattle.index_world.specs.Gate.{IsSoundCore}
+use Rattle.index_world.specs.Seen.{contents, visible}
+use Rattle.index_world.specs.SplitFile.{AreSplit, file_of}
 use Rattle.index_world.specs.World.{GoesOn}
-use Rattle.index_world.specs.declared.placed.Placed.{Placed}
+use Rattle.split_bundle.specs.declared.placed.Placed.{Placed}
+use Rattle.leaf_search.specs.Answers.{IsAsked}
+use Rattle.plan_laws.specs.Facts.{HasFactsOf}
+use Rattle.search_api.specs.Resolved.{Search}
+use Rattle.index_world.proofs.Configured.{configured-take, configured-unread}
 use Rattle.index_world.proofs.StoreChanges.{All-each}
-use Rattle.root_search.specs.declared.searcher.Planned.{Planned as GivenPlan}
+use Rattle.root_search.specs.SplitFiles.{IsFileOf}
+use Rattle.root_search.specs.declared.planned.Planned.{Planned as GivenPlan}
 use Rattle.root_search.specs.declared.searcher.Request.{Request as GivenRequest}
 use Rattle.root_search.specs.declared.searcher.Request.TheVariants as given
 use Rattle.root_search.specs.declared.searcher.Searcher.{Searcher}
-use Rattle.root_search.specs.Finding.{all_of}
-use Rattle.root_search.specs.Gathering.{HasGathered, AreTogether}
-use Rattle.root_search.specs.Searching.{history_at, rows_at, documents_at, file_at, AreInHand, IsPlanned, IsRequest, SearcherStands}
-use Rattle.root_search.specs.Steps.{Plan, Request, Client}
-use Rattle.root_search.proofs.Records.{visible_in_order}
-use Rattle.root_search.proofs.Rows.{AreSearched, world_searched}
+use Rattle.root_search.specs.Searching.{IsInHand, AreInHand, published_at, documents_at, IsPlanned, IsRequest, SearcherStands}
+use Rattle.root_search.specs.Steps.{Plan, Request, Client, config_at, config_in}
+use Rattle.root_search.proofs.Rows.{AreShown, IsHeld, world_shown, world_few, world_legal, world_configured}
 
 -- what a revision shows stays when the history goes on
 pub same_front : (one : Option ℕ) (core after : Core) (revision : ℕ) → GoesOn one core after → revision ≤ length core.history → take revision after.history ≡ take revision core.history
 same_front one core after revision g le = ap (take revision) g.grown.1 ∙ take-append-le revision core.history g.grown.0 le
 
--- the planned rows and their documents, by the entries that the plan saw
-abbrev pub rows_of : List Entry → List Row
-rows_of seen = searched_rows (history seen)
+-- the rows and their documents, by the entries that the plan saw
+abbrev pub config_seen : List Entry → IndexConfig
+config_seen seen = config_or (configuration seen)
 
-abbrev file_of : List Entry → Log → Row → List ℕ
-file_of seen log row = split_file (contents (ledger reads (history seen)).tasks row log)
+abbrev pub documents_seen : List Entry → Log → Row → List Placed
+documents_seen seen log row = contents (config_seen seen) (ledger reads (history seen)).tasks row log
 
-abbrev AreStored : List Entry → Core → Log → Type 0
-AreStored seen core log = AllByRecursion (λ row. IsUploadedIn core row.number (file_of seen log row)) (rows_of seen)
+abbrev pub published_seen : List Entry → List Row
+published_seen seen = published_rows (rows (history seen))
 
-abbrev HaveSizes : List Entry → Log → Type 0
-HaveSizes seen log = AllByRecursion (λ row. row.facts.size ≡ length (file_of seen log row)) (rows_of seen)
+abbrev pub rows_seen : List Entry → Search → List Row
+rows_seen seen search = searched (config_seen seen).schema search.query search.times (rows (history seen))
 
-abbrev IsWhole : List Entry → Log → Type 0
-IsWhole seen log = IsPermutation (flat_map (λ row. contents (ledger reads (history seen)).tasks row log) (rows_of seen)) (visible (ledger reads (history seen)) log)
+row_goes_on : (one : Option ℕ) (core after : Core) (log : Log) (revision : ℕ) → GoesOn one core after → take revision after.history ≡ take revision core.history → (row : Row) → IsInHand revision core log row → IsInHand revision after log row
+row_goes_on one core after log revision g same row i =
+    record {
+      file = subst (λ (seen : List Entry). IsUploadedIn after row.number (file_of (config_seen seen) (documents_seen seen log row))) (sym same)
+          (g.keeps.uploaded row.number (file_of (config_at revision core) (documents_at revision core log row)) i.file);
+      split = subst (λ (seen : List Entry). AreSplit (config_seen seen) (documents_seen seen log row)) (sym same) i.split;
+      facts = subst (λ (seen : List Entry). HasFactsOf (config_seen seen).schema (documents_seen seen log row) row) (sym same) i.facts;
+    }
 
 pub in_hand_goes_on : (one : Option ℕ) (core after : Core) (log : Log) (revision : ℕ) → GoesOn one core after → AreInHand revision core log → AreInHand revision after log
 in_hand_goes_on one core after log revision g a =
     record {
       within = (let longer = ap length g.grown.1 ∙ length-append core.history g.grown.0 in let within : revision ≤ length core.history = a.within in omega (arith, longer, within));
-      files = subst (λ seen. AreStored seen after log) (sym same)
-          (All-each (λ row. IsUploadedIn core row.number (file_at revision core log row)) (λ row. IsUploadedIn after row.number (file_at revision core log row)) (rows_at revision core)
-          (λ row u. g.keeps.uploaded row.number (file_at revision core log row) u) a.files);
-      sizes = subst (λ seen. HaveSizes seen log) (sym same) a.sizes;
-      shown = subst (λ seen. IsWhole seen log) (sym same) a.shown;
+      configured = (a.configured.0, ap configuration same ∙ a.configured.1);
+      each = subst (λ (seen : List Entry). AllByRecursion (IsInHand revision after log) (published_seen seen)) (sym same)
+          (All-each (IsInHand revision core log) (IsInHand revision after log) (published_at revision core) (row_goes_on one core after log revision g same) a.each);
+      few = subst (λ (seen : List Entry). length (rows (history seen)) ≤ 100000) (sym same) a.few;
+      shown = subst (λ (seen : List Entry). IsPermutation (flat_map (documents_seen seen log) (published_seen seen)) (visible (config_seen seen) (ledger reads (history seen)) log)) (sym same) a.shown;
     }
   where
     same : take revision after.history ≡ take revision core.history
@@ -63,14 +76,13 @@ in_hand_goes_on one core after log revision g a =
 pub planned_goes_on : (one : Option ℕ) (given : GivenPlan) (plan : Plan) (core after : Core) (log : Log) → GoesOn one core after → IsPlanned given plan core log → IsPlanned given plan after log
 planned_goes_on one given plan core after log g p =
     record {
-      word = p.word;
-      asked = p.asked;
+      asks = p.asks;
+      asked = subst (λ (seen : List Entry). IsAsked (config_seen seen).schema given.ask.request) (sym same) p.asked;
       revision = p.revision;
-      rows = subst (λ seen. given.plan.rows ≡ map planned_row (rows_of seen)) (sym same) p.rows;
-      few = p.few;
+      rows = subst (λ (seen : List Entry). given.plan.rows ≡ map planned_row (rows_seen seen plan.search)) (sym same) p.rows;
       place = p.place;
       unfetched = p.unfetched;
-      gathered = subst (λ seen. HasGathered given.gathered plan.word (map (λ row. contents (ledger reads (history seen)).tasks row log) (take given.next (rows_of seen)))) (sym same) p.gathered;
+      files = subst (λ (seen : List Entry). AllZip (IsFileOf (config_seen seen).schema) given.files (map (documents_seen seen log) (take given.next (rows_seen seen plan.search)))) (sym same) p.files;
       in_hand = in_hand_goes_on one core after log plan.revision g p.in_hand;
     }
   where
@@ -87,40 +99,60 @@ pub searcher_goes_on : (one : Option ℕ) (searcher : Searcher) (client : Client
 searcher_goes_on one searcher client core after log g s =
     record { name = s.name; front = s.front; request = request_goes_on one searcher.request client.request core after log g s.request }
 
--- a sound core has the files of its searched rows in hand
+-- ---- a sound core
+
+-- has the files of its published rows in hand
 pub sound_in_hand : (core : Core) (log : Log) → IsSoundCore core log → AreInHand (length core.history) core log
 sound_in_hand core log s =
     record {
       within = omega arith;
-      files = subst (λ seen. AreStored seen core log) (sym all) law.files;
-      sizes = subst (λ seen. HaveSizes seen log) (sym all) law.sizes;
-      shown = subst (λ seen. IsWhole seen log) (sym all) law.shown;
+      configured = (c.0, ap configuration all ∙ c.1);
+      each = subst (λ (seen : List Entry). AllByRecursion (IsInHand (length core.history) core log) (published_seen seen)) (sym all)
+          (All-each (IsHeld (config_seen core.history) core log (history core.history)) (IsInHand (length core.history) core log) (published_seen core.history) held law.each);
+      few = subst (λ (seen : List Entry). length (rows (history seen)) ≤ 100000) (sym all) (world_few s.kept core log s.world);
+      shown = subst (λ (seen : List Entry). IsPermutation (flat_map (documents_seen seen log) (published_seen seen)) (visible (config_seen seen) (ledger reads (history seen)) log)) (sym all) law.shown;
     }
   where
     all : take (length core.history) core.history ≡ core.history
     all = take_all (length core.history) core.history (omega arith)
 
-    law : AreSearched core log (history core.history)
-    law = world_searched s.kept core log s.world
+    c : (config : IndexConfig) × (configuration core.history ≡ Some config)
+    c = world_configured s.kept core log s.world s.opened
 
--- ---- what the files hold together
+    law : AreShown (config_seen core.history) core log (history core.history)
+    law = world_shown s.kept core log s.world
 
-joined : (f : Row → List Placed) (list : List Row) → flat_map f list ≡ all_of (map f list)
-joined f [] = refl
-joined f (row ∷ list) = ap (λ l. f row ++ l) (joined f list)
+    held : (row : Row) → IsHeld (config_seen core.history) core log (history core.history) row → IsInHand (length core.history) core log row
+    held row i =
+        record {
+          file = subst (λ (seen : List Entry). IsUploadedIn core row.number (file_of (config_seen seen) (documents_seen seen log row))) (sym all) i.file;
+          split = subst (λ (seen : List Entry). AreSplit (config_seen seen) (documents_seen seen log row)) (sym all) i.split;
+          facts = subst (λ (seen : List Entry). HasFactsOf (config_seen seen).schema (documents_seen seen log row) row) (sym all) i.facts;
+        }
 
--- behind the last row all of the planned documents were gathered
-pub all_gathered : (given : GivenPlan) (plan : Plan) (core : Core) (log : Log) → IsPlanned given plan core log → length given.plan.rows ≤ given.next →
-    HasGathered given.gathered plan.word (map (documents_at plan.revision core log) (rows_at plan.revision core))
-all_gathered given plan core log p over =
-    subst (λ rows. HasGathered given.gathered plan.word (map (documents_at plan.revision core log) rows))
-    (take_all given.next (rows_at plan.revision core) (omega (arith, over, ap length p.rows, length-map (rows_at plan.revision core) planned_row))) p.gathered
+same_config : (o : Option IndexConfig) (one other : IndexConfig) → o ≡ Some one → o ≡ Some other → one ≡ other
+same_config o one other e f = cc
 
--- and these are what is visible
-pub all_together : (given : GivenPlan) (plan : Plan) (core : Core) (log : Log) → IsLog log → IsPlanned given plan core log →
-    AreTogether (map (documents_at plan.revision core log) (rows_at plan.revision core)) (visible_at plan.revision core.history log)
-all_together given plan core log g p =
-    record {
-      together = subst (λ l. IsPermutation l (visible_at plan.revision core.history log)) (joined (documents_at plan.revision core log) (rows_at plan.revision core)) p.in_hand.shown;
-      in_order = visible_in_order (ledger reads (history_at plan.revision core)) log g;
-    }
+-- the configuration of its index is the one that its history names
+pub configured_is : (core : Core) (log : Log) (config : IndexConfig) → IsSoundCore core log → IsConfigured config core → configuration core.history ≡ Some config
+configured_is core log config s i =
+    let c = world_configured s.kept core log s.world s.opened in
+    let whole : IsConfigured c.0 core = configured-unread s.kept core log c.0 s.world c.1 in
+    subst (λ (x : IndexConfig). configuration core.history ≡ Some x) (same_config (configuration (journal_of core)) c.0 config whole i) c.1
+
+pub config_is : (core : Core) (log : Log) (config : IndexConfig) → IsSoundCore core log → IsConfigured config core → config_in core ≡ config
+config_is core log config s i = ap config_or (configured_is core log config s i)
+
+-- and what a plan saw had it too
+pub config_then : (core : Core) (log : Log) (config : IndexConfig) (revision : ℕ) → IsSoundCore core log → IsConfigured config core → AreInHand revision core log → config_at revision core ≡ config
+config_then core log config revision s i a =
+    let later = configured-take revision core.history (world_legal s.kept core log s.world) a.configured.0 a.configured.1 in
+    ap config_or a.configured.1 ∙ same_config (configuration core.history) a.configured.0 config later (configured_is core log config s i)
+
+-- ---- behind a call
+
+pub configured_after : (core after : Core) (config : IndexConfig) → IsConfigured config core → GoesOn None core after → IsConfigured config after
+configured_after core after config i g = g.keeps.configured config i
+
+pub config_after : (core after : Core) (log : Log) (config : IndexConfig) → IsSoundCore after log → IsConfigured config core → GoesOn None core after → config_in after ≡ config
+config_after core after log config s i g = config_is after log config s (configured_after core after config i g)

@@ -1,12 +1,9 @@
 -- A step of a client, by what a call of a gate did and what is answered.
-use Rattle.std.proofs.Common.{◌≡◌, ℕ, Bool, true, false, List, [], ◌∷◌, refl, sym, ap, ap₂, ◌∙◌, subst, arith, Option, Some, None, Result, Ok, Err, cond, not, ◌&&◌, codes, option_and_then}
+use Rattle.std.proofs.Common.{◌≡◌, ℕ, Bool, true, false, List, [], ◌∷◌, refl, sym, ap, ap₂, ◌∙◌, subst, arith, Some, None, Result, Ok, Err}
 use Rattle.std.specs.Prelude.{⊤, IsErr}
 use Rattle.std.specs.declared.alloc.AllocError.{AllocError}
-use Rattle.std.specs.Str.{is_utf8}
 use Rattle.std.proofs.lemmas.List.{append-nil}
-use Rattle.std.proofs.lemmas.Option.{option_and_then_some, none-some, cond_some}
-use Rattle.serde_json.specs.Find.{as_str}
-use Rattle.serde_json.specs.Read.{read}
+use Rattle.index_config.specs.declared.config.IndexConfig.{IndexConfig}
 use Rattle.source_log.specs.Log.{Log}
 use Rattle.index_world.specs.Calls.{Fate, gives, Trouble, faulted, no_memory, asked_and_looked, fetched, calm_fate}
 use Rattle.index_world.specs.Core.{Core}
@@ -14,11 +11,17 @@ use Rattle.index_world.specs.Gate.{Says, IsTrouble}
 use Rattle.index_world.specs.World.{GoesOn}
 use Rattle.index_world.specs.declared.world_error.WorldError.{WorldError}
 use Rattle.index_world.proofs.InCore.{KeepsBut-refl}
-use Rattle.root_search.specs.declared.outcome.SearchStep.{SearchStep as GivenStep}
+use Rattle.search_api.specs.Resolved.{Search}
+use Rattle.search_api.specs.Unanswered.{WantsMemory}
+use Rattle.search_api.specs.declared.reply.Refusal.{Refusal}
+use Rattle.search_api.specs.declared.unanswered.Unanswered.{Unanswered}
+use Rattle.search_api.specs.declared.unanswered.Unanswered.TheVariants as reasons
+use Rattle.root_search.specs.Requests.{asked_of}
+use Rattle.root_search.specs.declared.outcome.SearchStep.{SearchStep}
+use Rattle.root_search.specs.declared.outcome.SearchStep.TheVariants as said
 use Rattle.root_search.specs.declared.searcher.Searcher.{Searcher}
-use Rattle.root_search.specs.Requests.{word_asked, word_of, word_in, is_run, is_operator, sole_of}
-use Rattle.root_search.specs.Searching.{IsRequest, SearcherStands, SearchesAs, IsAtWork, Ends, searched}
-use Rattle.root_search.specs.Steps.{Plan, no_request, opened, planned, Client, Luck, Searched, without_request, step_client, step_request, plan_by, plan_given, fetch_by, fetch_given, next_step, or_short, trouble_replied, refusal_by, reply_with, answer_of, Idle}
+use Rattle.root_search.specs.Searching.{IsRequest, SearcherStands, SearchesAs, IsAtWork, Ends, searched_as}
+use Rattle.root_search.specs.Steps.{Plan, no_request, opened, planned, Client, Luck, Searched, config_in, without_memory, without_request, step_client, step_request, plan_by, plan_given, fetch_by, fetch_given, next_step, or_short, trouble_replied, refused_over, reply_with, answer_of}
 
 GoesOn-refl : (core : Core) → GoesOn None core core
 GoesOn-refl core = record { grown = ([], sym (append-nil core.history)); faults = omega arith; moment = omega arith; keeps = KeepsBut-refl core }
@@ -29,15 +32,17 @@ trouble_core : (revision : ℕ) (trouble : Trouble) (client : Client) (core : Co
 trouble_core revision (faulted fault) client core = refl
 trouble_core revision no_memory client core = refl
 
-refusal_core : (revision : ℕ) (trouble : Trouble) (client : Client) (core : Core) → (refusal_by revision trouble client core).core ≡ core
-refusal_core revision (faulted fault) client core = refl
-refusal_core revision no_memory client core = refl
+refusal_core : (revision : ℕ) (refusal : Refusal) (trouble : Trouble) (client : Client) (core : Core) → (refused_over revision refusal trouble client core).core ≡ core
+refusal_core revision refusal (faulted fault) client core = refl
+refusal_core revision refusal no_memory client core = refl
 
-plan_core : (answer : Result ⊤ Trouble) (o : Option (List ℕ)) (client : Client) (core : Core) → (plan_by answer o client core).core ≡ core
-plan_core (Ok done) (Some word) client core = refl
-plan_core (Ok done) None client core = refl
-plan_core (Err trouble) (Some word) client core = trouble_core client.front trouble client core
-plan_core (Err trouble) None client core = refusal_core client.front trouble client core
+plan_core : (answer : Result ⊤ Trouble) (asked : Result Search Unanswered) (client : Client) (core : Core) → (plan_by answer asked client core).core ≡ core
+plan_core (Ok done) (Ok search) client core = refl
+plan_core (Ok done) (Err (reasons.Refused refusal)) client core = refl
+plan_core (Ok done) (Err (reasons.Memory e)) client core = refl
+plan_core (Err trouble) (Ok search) client core = trouble_core client.front trouble client core
+plan_core (Err trouble) (Err (reasons.Refused refusal)) client core = refusal_core client.front refusal trouble client core
+plan_core (Err trouble) (Err (reasons.Memory e)) client core = refl
 
 fetch_core : (answer : Result ⊤ Trouble) (plan : Plan) (number : ℕ) (more : List ℕ) (client : Client) (core : Core) → (fetch_by answer plan number more client core).core ≡ core
 fetch_core (Ok done) plan number more client core = refl
@@ -54,19 +59,19 @@ dropped searcher client core log w =
     record { name = w.name; front = w.front; request = subst (λ r. IsRequest r no_request core log) (sym w.vacant) refl }
 
 -- a step that finds no memory ends so
-pub ends_short : (r : Result GivenStep AllocError) (searcher : Searcher) (client : Client) (core : Core) (log : Log) → IsErr r → IsAtWork searcher client →
-    Ends r searcher (record { outcome = None; client = without_request client; core = core }) log
+pub ends_short : (r : Result SearchStep AllocError) (searcher : Searcher) (client : Client) (core : Core) (log : Log) → IsErr r → IsAtWork searcher client → Ends r searcher (without_memory client core) log
 ends_short (Ok step) searcher client core log h w = absurd cc
 ends_short (Err e) searcher client core log h w = record { says = refl; stands = dropped searcher client core log w }
 
 -- whatever the step would have said
-pub ends_without : (r : Result GivenStep AllocError) (searcher : Searcher) (client : Client) (step : Searched) (log : Log) → IsErr r → IsAtWork searcher client → Ends r searcher (or_short true client step) log
+pub ends_without : (r : Result SearchStep AllocError) (searcher : Searcher) (client : Client) (step : Searched) (log : Log) → IsErr r → IsAtWork searcher client → Ends r searcher (or_short true client step) log
 ends_without r searcher client step log h w = ends_short r searcher client step.core log h w
 
-pub ends_unasked : (r : Result GivenStep AllocError) (o : Option (List ℕ)) (searcher : Searcher) (client : Client) (core : Core) (log : Log) → IsErr r → IsAtWork searcher client →
-    Ends r searcher (plan_by (Err no_memory) o client core) log
-ends_unasked r None searcher client core log h w = ends_short r searcher client core log h w
-ends_unasked r (Some word) searcher client core log h w = ends_short r searcher client core log h w
+ends_unasked : (r : Result SearchStep AllocError) (asked : Result Search Unanswered) (searcher : Searcher) (client : Client) (core : Core) (log : Log) → IsErr r → IsAtWork searcher client →
+    Ends r searcher (plan_by (Err no_memory) asked client core) log
+ends_unasked r (Ok search) searcher client core log h w = ends_short r searcher client core log h w
+ends_unasked r (Err (reasons.Refused refusal)) searcher client core log h w = ends_short r searcher client core log h w
+ends_unasked r (Err (reasons.Memory e)) searcher client core log h w = ends_short r searcher client core log h w
 
 -- ---- what a call of a gate says
 
@@ -79,9 +84,14 @@ pub says_err : {A : Type 0} (holds : A → Core → Type 0) (error : WorldError)
 says_err holds error (Ok done) after s = absurd s
 says_err holds error (Err trouble) after s = (trouble, refl, s)
 
+-- ---- what was read of a text
+
+pub refused_is : (asked : Result Search Unanswered) (reason : Unanswered) (refusal : Refusal) → reason ≡ reasons.Refused refusal → (¬ WantsMemory reason → asked ≡ Err reason) → asked ≡ Err (reasons.Refused refusal)
+refused_is asked reason refusal e h = subst (λ (r : Unanswered). asked ≡ Err r) e (h (λ w. subst WantsMemory e w))
+
 -- ---- steps
 
-module _ {W : Type 0} (Stands : W → Core → Log → Type 0) (Between : Core → Core → Type 0) (result : Result GivenStep AllocError) (new : Searcher) (gate : W) (client : Client) (core : Core) (log : Log) where
+module _ {W : Type 0} (Stands : W → Core → Log → Type 0) (Between : Core → Core → Type 0) (result : Result SearchStep AllocError) (new : Searcher) (gate : W) (client : Client) (core : Core) (log : Log) where
   -- what a step says, behind the core that its call left
   step_as : (mid after : Core) (luck : Luck) (step : Searched) → Between core mid → step_client luck log client mid ≡ step → step.core ≡ after → GoesOn None core after → Stands gate after log → Ends result new step log →
       SearchesAs Stands Between result new gate client core log
@@ -93,31 +103,32 @@ module _ {W : Type 0} (Stands : W → Core → Log → Type 0) (Between : Core �
         outcome = step.outcome;
         later = step.client;
         after = after;
-        did = did ∙ ap (λ c. searched step.outcome step.client c) same;
+        did = did ∙ ap (λ c. searched_as step.outcome step.client c) same;
         says = ends.says;
         searcher = subst (λ c. SearcherStands new step.client c log) same ends.stands;
         gate_stands = stands;
         goes_on = on;
       }
 
-  pub planned_as : (text : List ℕ) (mid : Core) (fate : Fate) (answer a : Result ⊤ Trouble) (o : Option (List ℕ)) (after : Core) → Between core mid → asked_and_looked fate mid ≡ gives answer after → GoesOn None core after →
-      Stands gate after log → client.request ≡ opened text → word_asked text ≡ o → answer ≡ a → Ends result new (plan_by a o client after) log → SearchesAs Stands Between result new gate client core log
-  planned_as text mid fate answer a o after passed did on stands asked word said ends =
-      let luck : Luck = record { world = fate; short = false } in
+  pub planned_as : (text : List ℕ) (config : IndexConfig) (mid : Core) (fate : Fate) (answer a : Result ⊤ Trouble) (o : Result Search Unanswered) (after : Core) → Between core mid → asked_and_looked fate mid ≡ gives answer after → GoesOn None core after →
+      Stands gate after log → client.request ≡ opened text → config_in after ≡ config → asked_of config text ≡ o → answer ≡ a → Ends result new (plan_by a o client after) log → SearchesAs Stands Between result new gate client core log
+  planned_as text config mid fate answer a o after passed did on stands asked is word said ends =
+      let luck : Luck = record { world = fate; more = []; short = false } in
       step_as mid after luck (plan_by a o client after) passed
-      (ap (λ r. step_request r luck log client mid) asked ∙ (ap (plan_given (word_asked text) client) did ∙ ap₂ (λ x y. plan_by x y client after) said word))
+      (ap (λ r. step_request r luck log client mid) asked ∙ (ap (plan_given text client) did ∙ ap₂ (λ x y. plan_by x y client after) said (ap (λ (c : IndexConfig). asked_of c text) is ∙ word)))
       (plan_core a o client after) on stands ends
 
   -- where there was no memory before the call
   pub unasked_as : (text : List ℕ) → Between core core → Stands gate core log → client.request ≡ opened text → IsErr result → IsAtWork new client → SearchesAs Stands Between result new gate client core log
   unasked_as text between stands asked short w =
-      planned_as text core (record calm_fate { unasked = true }) (Err no_memory) (Err no_memory) (word_asked text) core between refl (GoesOn-refl core) stands asked refl refl (ends_unasked result (word_asked text) new client core log short w)
+      planned_as text (config_in core) core (record calm_fate { unasked = true }) (Err no_memory) (Err no_memory) (asked_of (config_in core) text) core between refl (GoesOn-refl core) stands asked refl refl refl
+      (ends_unasked result (asked_of (config_in core) text) new client core log short w)
 
   pub fetched_as : (plan : Plan) (number : ℕ) (more : List ℕ) (short : Bool) (mid : Core) (fate : Fate) (answer a : Result ⊤ Trouble) (after : Core) → Between core mid → fetched fate mid ≡ gives answer after → GoesOn None core after →
       Stands gate after log → client.request ≡ planned plan → plan.unfetched ≡ number ∷ more → answer ≡ a → Ends result new (or_short short client (fetch_by a plan number more client after)) log →
       SearchesAs Stands Between result new gate client core log
   fetched_as plan number more short mid fate answer a after passed did on stands asked left said ends =
-      let luck : Luck = record { world = fate; short = short } in
+      let luck : Luck = record { world = fate; more = []; short = short } in
       step_as mid after luck (or_short short client (fetch_by a plan number more client after)) passed
       (ap (λ r. or_short short client (step_request r luck log client mid)) asked ∙ (ap (λ l. or_short short client (next_step luck log plan l client mid)) left
       ∙ (ap (λ given. or_short short client (fetch_given plan number more client given)) did ∙ ap (λ x. or_short short client (fetch_by x plan number more client after)) said)))
@@ -126,32 +137,12 @@ module _ {W : Type 0} (Stands : W → Core → Log → Type 0) (Between : Core �
   pub answered_as : (plan : Plan) (short : Bool) → Between core core → Stands gate core log → client.request ≡ planned plan → plan.unfetched ≡ [] →
       Ends result new (or_short short client (reply_with plan.revision (answer_of plan log core) client core)) log → SearchesAs Stands Between result new gate client core log
   answered_as plan short between stands asked left ends =
-      let luck : Luck = record { world = calm_fate; short = short } in
+      let luck : Luck = record { world = calm_fate; more = []; short = short } in
       step_as core core luck (or_short short client (reply_with plan.revision (answer_of plan log core) client core)) between
       (ap (λ r. or_short short client (step_request r luck log client core)) asked ∙ ap (λ l. or_short short client (next_step luck log plan l client core)) left)
       (short_core short client (reply_with plan.revision (answer_of plan log core) client core)) (GoesOn-refl core) stands ends
 
-  pub idle_as : Between core core → Stands gate core log → client.request ≡ no_request → Ends result new (record { outcome = Some Idle; client = client; core = core }) log → SearchesAs Stands Between result new gate client core log
+  pub idle_as : Between core core → Stands gate core log → client.request ≡ no_request → Ends result new (record { outcome = Some said.Idle; client = client; core = core }) log → SearchesAs Stands Between result new gate client core log
   idle_as between stands asked ends =
-      let luck : Luck = record { world = calm_fate; short = false } in
-      step_as core core luck (record { outcome = Some Idle; client = client; core = core }) between (ap (λ r. step_request r luck log client core) asked) refl (GoesOn-refl core) stands ends
-
--- ---- the word of a request
-
--- a word that is asked for is letters and digits
-run_in : (s word : List ℕ) → word_in s ≡ Some word → is_run word ≡ true
-run_in s word e = by (is_run s) refl e
-  where
-    by : (b : Bool) → is_run s ≡ b → cond (b && not (is_operator s)) (Some s) None ≡ Some word → is_run word ≡ true
-    by true eb f = let here = cond_some (not (is_operator s)) s word f in subst (λ w. is_run w ≡ true) here.1 eb
-    by false eb f = absurd (none-some word f)
-
-pub asked_run : (text word : List ℕ) → word_asked text ≡ Some word → is_run word ≡ true
-asked_run text word e = by (is_utf8 text) e
-  where
-    by : (b : Bool) → cond b (option_and_then word_of (read text)) None ≡ Some word → is_run word ≡ true
-    by true f = option_and_then_some word_of (read text) word f (λ d r g.
-        option_and_then_some (λ s. option_and_then (λ q. option_and_then word_in (as_str q)) (sole_of (codes "query") s)) (sole_of (codes "search") d) word g (λ s a h.
-        option_and_then_some (λ q. option_and_then word_in (as_str q)) (sole_of (codes "query") s) word h (λ q b k.
-        option_and_then_some word_in (as_str q) word k (λ t u l. run_in t word l))))
-    by false f = absurd (none-some word f)
+      let luck : Luck = record { world = calm_fate; more = []; short = false } in
+      step_as core core luck (record { outcome = Some said.Idle; client = client; core = core }) between (ap (λ r. step_request r luck log client core) asked) refl (GoesOn-refl core) stands ends

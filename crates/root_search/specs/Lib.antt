@@ -1,8 +1,10 @@
 pub mod Requests
-pub mod Replies
+pub mod Answer
+pub mod Examples
+pub mod Places
+pub mod LeafAsks
+pub mod Leaves
+pub mod SplitFiles
+pub mod ReadSearches
 pub mod Steps
-pub mod Said
-pub mod Matching
-pub mod Finding
-pub mod Gathering
 pub mod Searching

@@ -1,66 +1,78 @@
 -- When a searcher stands for a client of the model, and what its step does.
-use Rattle.std.specs.Prelude.{◌≡◌, ℕ, ◌≤◌, true, List, length, map, flat_map, take, drop, Option, Some, None, Result, Ok, Err, IsPermutation}
-use Rattle.std.specs.List.{AllByRecursion}
+use Rattle.std.specs.Prelude.{◌≡◌, ℕ, ◌≤◌, List, length, map, flat_map, take, drop, Option, Some, None, Result, Ok, Err, IsPermutation}
+use Rattle.std.specs.List.{AllByRecursion, AllZip}
 use Rattle.std.specs.declared.alloc.AllocError.{AllocError}
+use Rattle.meta_store.specs.Contents.{published_rows}
 use Rattle.meta_store.specs.History.{History, history}
 use Rattle.meta_store.specs.Ledgers.{ledger}
+use Rattle.meta_store.specs.Planning.{planned_row, searched}
+use Rattle.meta_store.specs.Rows.{rows}
+use Rattle.index_config.specs.declared.config.IndexConfig.{IndexConfig}
 use Rattle.index_world.specs.Config.{reads}
+use Rattle.index_world.specs.Configuration.{configuration}
 use Rattle.source_log.specs.Log.{Log}
 use Rattle.split_states.specs.declared.rows.Row.{Row}
 use Rattle.index_world.specs.Calls.{Fault, Trouble, faulted, no_memory}
 use Rattle.index_world.specs.Core.{Core, IsUploadedIn}
-use Rattle.index_world.specs.Gate.{searched_rows, planned_row}
 use Rattle.index_world.specs.Seen.{contents, visible_at}
-use Rattle.index_world.specs.SplitFile.{split_file}
+use Rattle.index_world.specs.SplitFile.{AreSplit, file_of}
 use Rattle.index_world.specs.World.{GoesOn}
-use Rattle.index_world.specs.declared.placed.Placed.{Placed}
-use Rattle.root_search.specs.declared.outcome.SearchStep.{SearchStep as GivenStep}
-use Rattle.root_search.specs.declared.reply.ReplyRefusal.{ReplyRefusal}
+use Rattle.plan_laws.specs.Facts.{HasFactsOf}
+use Rattle.leaf_search.specs.Answers.{IsAsked}
+use Rattle.split_bundle.specs.declared.placed.Placed.{Placed}
+use Rattle.search_api.specs.Resolved.{Search}
+use Rattle.search_api.specs.declared.reply.Refusal.{Refusal}
+use Rattle.root_search.specs.LeafAsks.{Asks}
+use Rattle.root_search.specs.SplitFiles.{IsFileOf}
+use Rattle.root_search.specs.Steps.{Plan, Request, no_request, opened, planned, Client, Luck, Searched, config_at, fault_refusal, step_client}
+use Rattle.root_search.specs.declared.outcome.SearchStep.{SearchStep}
 use Rattle.root_search.specs.declared.searcher.Busy.{Busy}
-use Rattle.root_search.specs.declared.searcher.Planned.{Planned as GivenPlan}
+use Rattle.root_search.specs.declared.planned.Planned.{Planned as GivenPlan}
 use Rattle.root_search.specs.declared.searcher.Request.{Request as GivenRequest}
 use Rattle.root_search.specs.declared.searcher.Request.TheVariants as given
 use Rattle.root_search.specs.declared.searcher.Searcher.{Searcher}
-use Rattle.root_search.specs.Gathering.{HasGathered}
-use Rattle.root_search.specs.Replies.{Faulted}
-use Rattle.root_search.specs.Requests.{is_run}
-use Rattle.root_search.specs.Said.{refused_of, step_of}
-use Rattle.root_search.specs.Steps.{Plan, Request, no_request, opened, planned, Client, Luck, SearchStep, Searched, step_client}
 
 -- ---- the rows of a plan, and what their files hold
 
 abbrev pub history_at : ℕ → Core → History
 history_at revision core = history (take revision core.history)
 
-abbrev pub rows_at : ℕ → Core → List Row
-rows_at revision core = searched_rows (history_at revision core)
+-- all published rows, and those of them that a search plans
+abbrev pub published_at : ℕ → Core → List Row
+published_at revision core = published_rows (rows (history_at revision core))
+
+abbrev pub rows_at : ℕ → Search → Core → List Row
+rows_at revision search core = searched (config_at revision core).schema search.query search.times (rows (history_at revision core))
 
 -- the documents of a row at a revision
 abbrev pub documents_at : ℕ → Core → Log → Row → List Placed
-documents_at revision core log row = contents (ledger reads (history_at revision core)).tasks row log
+documents_at revision core log row = contents (config_at revision core) (ledger reads (history_at revision core)).tasks row log
 
-abbrev pub file_at : ℕ → Core → Log → Row → List ℕ
-file_at revision core log row = split_file (documents_at revision core log row)
+-- A published row's file stands and is the split of its documents, of which the row has the facts.
+pub record IsInHand (revision : ℕ) (core : Core) (log : Log) (row : Row) : Type 0 where
+  pub file : IsUploadedIn core row.number (file_of (config_at revision core) (documents_at revision core log row))
+  pub split : AreSplit (config_at revision core) (documents_at revision core log row)
+  pub facts : HasFactsOf (config_at revision core).schema (documents_at revision core log row) row
 
--- The planned rows' files stand, as long as the rows say, and hold together what is visible at the plan's revision.
+-- Each published row's does, and they hold together what is visible at the revision.
 pub record AreInHand (revision : ℕ) (core : Core) (log : Log) : Type 0 where
   pub within : revision ≤ length core.history
-  pub files : AllByRecursion (λ row. IsUploadedIn core row.number (file_at revision core log row)) (rows_at revision core)
-  pub sizes : AllByRecursion (λ row. row.facts.size ≡ length (file_at revision core log row)) (rows_at revision core)
-  pub shown : IsPermutation (flat_map (documents_at revision core log) (rows_at revision core)) (visible_at revision core.history log)
+  pub configured : (config : IndexConfig) × (configuration (take revision core.history) ≡ Some config)
+  pub each : AllByRecursion (IsInHand revision core log) (published_at revision core)
+  pub few : length (rows (history_at revision core)) ≤ 100000
+  pub shown : IsPermutation (flat_map (documents_at revision core log) (published_at revision core)) (visible_at revision core.history log)
 
 -- ---- a searcher and a client
 
--- Of the planned rows the first ones are fetched, of whose files what matches is kept, and the others are still to be fetched.
+-- Of the planned rows the first ones are fetched, whose files are kept, and the others are still to be fetched.
 pub record IsPlanned (given : GivenPlan) (plan : Plan) (core : Core) (log : Log) : Type 0 where
-  pub word : given.word ≡ plan.word
-  pub asked : is_run plan.word ≡ true
+  pub asks : Asks plan.search given.ask
+  pub asked : IsAsked (config_at plan.revision core).schema given.ask.request
   pub revision : given.plan.revision ≡ plan.revision
-  pub rows : given.plan.rows ≡ map planned_row (rows_at plan.revision core)
-  pub few : length given.plan.rows ≤ 100000
+  pub rows : given.plan.rows ≡ map planned_row (rows_at plan.revision plan.search core)
   pub place : given.next ≤ length given.plan.rows
   pub unfetched : plan.unfetched ≡ map (λ row. row.number) (drop given.next given.plan.rows)
-  pub gathered : HasGathered given.gathered plan.word (map (documents_at plan.revision core log) (take given.next (rows_at plan.revision core)))
+  pub files : AllZip (IsFileOf (config_at plan.revision core).schema) given.files (map (documents_at plan.revision core log) (take given.next (rows_at plan.revision plan.search core)))
   pub in_hand : AreInHand plan.revision core log
 
 abbrev pub IsRequest : GivenRequest → Request → Core → Log → Type 0
@@ -84,24 +96,24 @@ abbrev pub Submits : Result (Unit {0}) Busy → Searcher → List ℕ → Client
 Submits (Ok done) new text client core log = (client.request ≡ no_request) × SearcherStands new (record client { request = opened text }) core log
 Submits (Err busy) new text client core log = (client.request ≡ no_request → ⊥) × SearcherStands new client core log
 
-abbrev pub searched : Option SearchStep → Client → Core → Searched
-searched outcome client core = record { outcome = outcome; client = client; core = core }
+abbrev pub searched_as : Option SearchStep → Client → Core → Searched
+searched_as outcome client core = record { outcome = outcome; client = client; core = core }
 
 -- the code's answer is that of the model, and want of memory is none
-abbrev pub IsAnswer : Result GivenStep AllocError → Option SearchStep → Type 0
-IsAnswer (Ok step) outcome = (said : SearchStep) × (step_of step ≡ Some said) × (outcome ≡ Some said)
+abbrev pub IsAnswer : Result SearchStep AllocError → Option SearchStep → Type 0
+IsAnswer (Ok step) outcome = outcome ≡ Some step
 IsAnswer (Err e) outcome = outcome ≡ None
 
 -- A step of the code is the client's step: other actors' events before the call's turn, and then with some luck its own.
 pub record SearchesAs {W : Type 0} (Stands : W → Core → Log → Type 0) (Between : Core → Core → Type 0)
-    (result : Result GivenStep AllocError) (new : Searcher) (gate : W) (client : Client) (core : Core) (log : Log) : Type 0 where
+    (result : Result SearchStep AllocError) (new : Searcher) (gate : W) (client : Client) (core : Core) (log : Log) : Type 0 where
   pub mid : Core
   pub passed : Between core mid
   pub luck : Luck
   pub outcome : Option SearchStep
   pub later : Client
   pub after : Core
-  pub did : step_client luck log client mid ≡ searched outcome later after
+  pub did : step_client luck log client mid ≡ searched_as outcome later after
   pub says : IsAnswer result outcome
   pub searcher : SearcherStands new later after log
   pub gate_stands : Stands gate after log
@@ -116,11 +128,11 @@ pub record IsAtWork (searcher : Searcher) (client : Client) : Type 0 where
   pub front : searcher.front ≡ client.front
 
 -- what is answered is what the client's step says, and the searcher stands for the client that it leaves
-pub record Ends (result : Result GivenStep AllocError) (new : Searcher) (step : Searched) (log : Log) : Type 0 where
+pub record Ends (result : Result SearchStep AllocError) (new : Searcher) (step : Searched) (log : Log) : Type 0 where
   pub says : IsAnswer result step.outcome
   pub stands : SearcherStands new step.client step.core log
 
 -- a fault is refused as it is, and want of memory is the step's own
-abbrev pub IsRefusalOf : Result ReplyRefusal AllocError → Trouble → Type 0
-IsRefusalOf (Ok refusal) trouble = (fault : Fault) × (trouble ≡ faulted fault) × (refused_of refusal ≡ Some (Faulted fault))
+abbrev pub IsRefusalOf : Result Refusal AllocError → Trouble → Type 0
+IsRefusalOf (Ok refusal) trouble = (fault : Fault) × (trouble ≡ faulted fault) × (refusal ≡ fault_refusal fault)
 IsRefusalOf (Err e) trouble = trouble ≡ no_memory

@@ -1,18 +1,30 @@
 -- What a client holds, and one step of its search, given the fate of its calls.
-use Rattle.std.specs.Prelude.{ℕ, Bool, true, false, List, [], ◌∷◌, length, map, filter, nat_lt, Option, Some, None, Result, Ok, Err, ⊤, decimal, codes}
+use Rattle.std.specs.Prelude.{ℕ, Bool, true, false, List, [], ◌∷◌, length, map, take, Option, Some, None, Result, Ok, Err, ⊤, decimal, codes}
+use Rattle.index_config.specs.declared.config.IndexConfig.{IndexConfig}
 use Rattle.meta_store.specs.History.{History, history}
+use Rattle.meta_store.specs.Planning.{searched}
 use Rattle.meta_store.specs.Rows.{rows}
+use Rattle.search_api.specs.Replies.{reply_text}
+use Rattle.search_api.specs.Resolved.{Search}
+use Rattle.search_api.specs.declared.reply.Refusal.{Refusal}
+use Rattle.search_api.specs.declared.reply.Refusal.TheVariants as refusals
+use Rattle.search_api.specs.declared.reply.Said.{Said}
+use Rattle.search_api.specs.declared.reply.Said.TheVariants.{Refused}
+use Rattle.search_api.specs.declared.unanswered.Unanswered.{Unanswered}
+use Rattle.search_api.specs.declared.unanswered.Unanswered.TheVariants as reasons
 use Rattle.source_log.specs.Log.{Log}
-use Rattle.split_states.specs.Rows.{is_published}
-use Rattle.index_world.specs.Calls.{Fate, Trouble, faulted, no_memory, Gives, asked_and_looked, fetched}
+use Rattle.index_world.specs.Calls.{Fate, Fault, store_fault, is_foreign, is_full, Trouble, faulted, no_memory, Gives, gives, asked_and_looked, fetched}
+use Rattle.index_world.specs.Configuration.{configuration, config_or}
 use Rattle.index_world.specs.Core.{Core}
 use Rattle.index_world.specs.Seen.{visible_at}
-use Rattle.root_search.specs.Replies.{Said, Refusal, NotBuilt, Faulted, Reply, answer, reply_text}
-use Rattle.root_search.specs.Requests.{word_asked}
+use Rattle.root_search.specs.Answer.{answer}
+use Rattle.root_search.specs.Requests.{asked_of}
+use Rattle.root_search.specs.declared.outcome.SearchStep.{SearchStep}
+use Rattle.root_search.specs.declared.outcome.SearchStep.TheVariants as steps
 
--- a search that was planned: its word, its revision, and the splits that are still to be fetched
+-- a search that was planned: what it asks, its revision, and the splits that are still to be fetched
 pub record Plan : Type 0 where
-  pub word : List ℕ
+  pub search : Search
   pub revision : ℕ
   pub unfetched : List ℕ
 
@@ -27,16 +39,11 @@ pub record Client : Type 0 where
   pub front : ℕ
   pub request : Request
 
--- what a step says
-pub data SearchStep : Type 0 where
-  Idle : SearchStep
-  Planned : (revision : ℕ) → (count : ℕ) → SearchStep
-  Fetched : (number : ℕ) → SearchStep
-  Replied : Reply → SearchStep
-
--- the fate of one step: its call of the world, and whether it finds no memory behind it
+-- The fate of one step: its call of the world, its further calls if it makes some, and whether it finds no memory behind
+-- them.
 pub record Luck : Type 0 where
   pub world : Fate
+  pub more : List Fate
   pub short : Bool
 
 -- What a step answers, and the client and the core behind it. Without memory there is no answer.
@@ -45,62 +52,94 @@ pub record Searched : Type 0 where
   pub client : Client
   pub core : Core
 
--- the rows that a search plans: published, with a document
-abbrev pub planned_numbers : History → List ℕ
-planned_numbers h = map (λ row. row.number) (filter (λ row. nat_lt 0 row.facts.docs) (filter (λ row. is_published row.state) (rows h)))
+-- the configuration behind so many entries
+abbrev pub config_at : ℕ → Core → IndexConfig
+config_at revision core = config_or (configuration (take revision core.history))
+
+abbrev pub config_in : Core → IndexConfig
+config_in core = config_or (configuration core.history)
+
+-- the rows that a search plans
+abbrev pub planned_numbers : IndexConfig → Search → History → List ℕ
+planned_numbers config search h = map (λ row. row.number) (searched config.schema search.query search.times (rows h))
 
 abbrev pub without_request : Client → Client
 without_request client = record client { request = no_request }
+
+-- without memory the request is dropped, and the front stays
+abbrev pub without_memory : Client → Core → Searched
+without_memory client core = record { outcome = None; client = without_request client; core = core }
 
 -- the request is answered at this revision, which is the client's front from then on
 abbrev pub reply_with : ℕ → Said → Client → Core → Searched
 reply_with revision said client core =
     record {
-      outcome = Some (Replied (record { client = client.name; revision = revision; said = said }));
+      outcome = Some (steps.Replied (record { client = client.name; revision = revision; said = said }));
       client = record client { front = revision; request = no_request };
       core = core;
     }
 
+abbrev pub fault_refusal : Fault → Refusal
+fault_refusal (store_fault before after) = refusals.StoreFault before after
+fault_refusal (is_foreign key) = refusals.Foreign key
+fault_refusal is_full = refusals.Full
+
 -- the world answered a fault, which is replied, or found no memory
 abbrev pub trouble_replied : ℕ → Trouble → Client → Core → Searched
-trouble_replied revision (faulted fault) client core = reply_with revision (Refusal (Faulted fault)) client core
-trouble_replied revision no_memory client core = record { outcome = None; client = without_request client; core = core }
+trouble_replied revision (faulted fault) client core = reply_with revision (Refused (fault_refusal fault)) client core
+trouble_replied revision no_memory client core = without_memory client core
 
-abbrev pub refusal_by : ℕ → Trouble → Client → Core → Searched
-refusal_by revision (faulted fault) client core = reply_with revision (Refusal NotBuilt) client core
-refusal_by revision no_memory client core = record { outcome = None; client = without_request client; core = core }
+-- a request that is refused is refused whatever fault there is
+abbrev pub refused_over : ℕ → Refusal → Trouble → Client → Core → Searched
+refused_over revision refusal (faulted fault) client core = reply_with revision (Refused refusal) client core
+refused_over revision refusal no_memory client core = without_memory client core
 
-abbrev pub with_plan : List ℕ → Client → Core → Searched
-with_plan word client core =
+abbrev pub with_plan : Search → Client → Core → Searched
+with_plan search client core =
     record {
-      outcome = Some (Planned (length core.history) (length (planned_numbers (history core.history))));
-      client = record client { request = planned (record { word = word; revision = length core.history; unfetched = planned_numbers (history core.history) }) };
+      outcome = Some (steps.Planned (length core.history) (length (planned_numbers (config_in core) search (history core.history))));
+      client = record client {
+        request = planned (record { search = search; revision = length core.history; unfetched = planned_numbers (config_in core) search (history core.history) });
+      };
       core = core;
     }
 
--- A plan that was made, for a word or to refuse, or none was. A request that is refused is refused whatever its plan says.
-abbrev pub plan_by : Result ⊤ Trouble → Option (List ℕ) → Client → Core → Searched
-plan_by (Ok done) (Some word) client core = with_plan word client core
-plan_by (Ok done) None client core = reply_with (length core.history) (Refusal NotBuilt) client core
-plan_by (Err trouble) (Some word) client core = trouble_replied client.front trouble client core
-plan_by (Err trouble) None client core = refusal_by client.front trouble client core
+-- A plan that was made, for a search or to refuse, or none was.
+abbrev pub plan_by : Result ⊤ Trouble → Result Search Unanswered → Client → Core → Searched
+plan_by (Ok done) (Ok search) client core = with_plan search client core
+plan_by (Ok done) (Err (reasons.Refused refusal)) client core = reply_with (length core.history) (Refused refusal) client core
+plan_by (Ok done) (Err (reasons.Memory e)) client core = without_memory client core
+plan_by (Err trouble) (Ok search) client core = trouble_replied client.front trouble client core
+plan_by (Err trouble) (Err (reasons.Refused refusal)) client core = refused_over client.front refusal trouble client core
+plan_by (Err trouble) (Err (reasons.Memory e)) client core = without_memory client core
 
-abbrev pub plan_given : Option (List ℕ) → Client → Gives Trouble ⊤ → Searched
-plan_given asked client given = plan_by given.answer asked client given.core
+-- the text is read under the configuration of the index
+abbrev pub plan_given : List ℕ → Client → Gives Trouble ⊤ → Searched
+plan_given text client given = plan_by given.answer (asked_of (config_in given.core) text) client given.core
 
 abbrev pub first_step : Luck → List ℕ → Client → Core → Searched
-first_step luck text client core = plan_given (word_asked text) client (asked_and_looked luck.world core)
+first_step luck text client core = plan_given text client (asked_and_looked luck.world core)
 
 -- the answer over what was visible at the planned revision
 abbrev pub answer_of : Plan → Log → Core → Said
-answer_of plan log core = answer plan.word (visible_at plan.revision core.history log)
+answer_of plan log core = answer (config_at plan.revision core).schema plan.search (visible_at plan.revision core.history log)
+
+-- a further fetch where the one before gave something
+abbrev pub unless_fault : Result ⊤ Trouble → Core → (Core → Gives Trouble ⊤) → Gives Trouble ⊤
+unless_fault (Ok done) core next = next core
+unless_fault (Err trouble) core next = gives (Err trouble) core
+
+-- fetches one after another, until one fails
+abbrev pub fetched_each : Fate → List Fate → Core → Gives Trouble ⊤
+fetched_each fate [] core = fetched fate core
+fetched_each fate (next ∷ more) core = unless_fault (fetched fate core).answer (fetched fate core).core (fetched_each next more)
 
 abbrev pub with_unfetched : Plan → List ℕ → Client → Client
 with_unfetched plan unfetched client = record client { request = planned (record plan { unfetched = unfetched }) }
 
 abbrev pub fetch_by : Result ⊤ Trouble → Plan → ℕ → List ℕ → Client → Core → Searched
 fetch_by (Ok done) plan number more client core =
-    record { outcome = Some (Fetched number); client = with_unfetched plan more client; core = core }
+    record { outcome = Some (steps.Fetched number); client = with_unfetched plan more client; core = core }
 fetch_by (Err trouble) plan number more client core = trouble_replied plan.revision trouble client core
 
 abbrev pub fetch_given : Plan → ℕ → List ℕ → Client → Gives Trouble ⊤ → Searched
@@ -108,16 +147,15 @@ fetch_given plan number more client given = fetch_by given.answer plan number mo
 
 abbrev pub next_step : Luck → Log → Plan → List ℕ → Client → Core → Searched
 next_step luck log plan [] client core = reply_with plan.revision (answer_of plan log core) client core
-next_step luck log plan (number ∷ more) client core = fetch_given plan number more client (fetched luck.world core)
+next_step luck log plan (number ∷ more) client core = fetch_given plan number more client (fetched_each luck.world luck.more core)
 
 abbrev pub step_request : Request → Luck → Log → Client → Core → Searched
-step_request no_request luck log client core = record { outcome = Some Idle; client = client; core = core }
+step_request no_request luck log client core = record { outcome = Some steps.Idle; client = client; core = core }
 step_request (opened text) luck log client core = first_step luck text client core
 step_request (planned plan) luck log client core = next_step luck log plan plan.unfetched client core
 
--- without memory the request is dropped, and the front stays
 abbrev pub or_short : Bool → Client → Searched → Searched
-or_short true client step = record { outcome = None; client = without_request client; core = step.core }
+or_short true client step = without_memory client step.core
 or_short false client step = step
 
 abbrev pub step_client : Luck → Log → Client → Core → Searched
@@ -125,7 +163,7 @@ step_client luck log client core = or_short luck.short client (step_request clie
 
 -- the words of an answer, without the client's name; a reply is a line of its own
 abbrev pub step_words : SearchStep → List (List ℕ)
-step_words Idle = codes "idle" ∷ []
-step_words (Planned revision count) = codes "planned" ∷ decimal revision ∷ decimal count ∷ []
-step_words (Fetched number) = codes "fetched" ∷ decimal number ∷ []
-step_words (Replied reply) = reply_text reply ∷ []
+step_words steps.Idle = codes "idle" ∷ []
+step_words (steps.Planned revision count) = codes "planned" ∷ decimal revision ∷ decimal count ∷ []
+step_words (steps.Fetched number) = codes "fetched" ∷ decimal number ∷ []
+step_words (steps.Replied reply) = reply_text reply ∷ []

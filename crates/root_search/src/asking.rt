@@ -1,94 +1,68 @@
-//! The request of a search: one word.
+//! What a client's text asks.
 
-ghost use Rattle.std.specs.Prelude.{◌≡◌, IfOk, option_map};
-ghost use Rattle.std.specs.List.{list_all};
-ghost use Rattle.index_world.specs.Tokens.{is_alphanumeric};
-ghost use Rattle.serde_json.specs.Read.{read};
-ghost use Rattle.serde_json.specs.View.{view};
-ghost use Rattle.root_search.specs.Requests as spec;
+ghost use Rattle.std.specs.Prelude.{◌≡◌, ◌^◌, ◌<◌, IfOk};
+ghost use Rattle.std.specs.Option.{ForSome};
+ghost use Rattle.doc_value.specs.Documents.{IsSchema};
+ghost use Rattle.query_ast.specs.Sought.{view};
+ghost use Rattle.search_api.specs.Answerable.{IsAnswerable};
+ghost use Rattle.search_api.specs.Resolved.{search_view};
+ghost use Rattle.search_api.specs.Unanswered.{Shows};
+ghost use Rattle.search_api.specs.declared.reply.Refusal.TheVariants as refusals;
+ghost use Rattle.search_api.specs.declared.unanswered.Unanswered.TheVariants as reasons;
+ghost use Rattle.search_api.specs.Unanswered.{WantsMemory};
+ghost use Rattle.root_search.specs.ReadSearches.{Reads};
+ghost use Rattle.root_search.specs.Requests.{asked_of};
 
-use byte_fields::Text;
-use serde_json::Value;
+use crate::leaf_asks::leaf_ask;
+use crate::reads::ReadSearch;
+use doc_value::Text;
+use index_config::IndexConfig;
+use meta_store::Choice;
+use query_ast::copy_query;
+use search_api::{Refusal, Resolved, SearchAsk, Unanswered, read_request, resolve};
 use std::alloc::{AllocError, Global};
-use std::str;
 
-const MAX_WORD: usize = 255;
-
-fn is_operator(word: &[u8]) -> bool
-    ensures { result ≡ spec.is_operator word.now }
+// The refusal of what isn't built.
+fn unbuilt(alloc: Global, name: &str) -> Unanswered
+    ensures { ¬ WantsMemory result → result ≡ reasons.Refused (refusals.UnknownKey name.now) }
 {
-    word == b"AND".as_slice() || word == b"OR".as_slice() || word == b"NOT".as_slice()
-}
-
-fn is_alphanumeric(text: &[u8]) -> bool
-    ensures { result ≡ list_all is_alphanumeric text.now }
-{
-    text.iter().all(|byte| byte.is_ascii_alphanumeric())
-}
-
-// One to 255 letters and digits.
-fn is_run(text: &[u8]) -> bool
-    ensures { result ≡ spec.is_run text.now }
-{
-    !text.is_empty() && text.len() <= MAX_WORD && is_alphanumeric(text)
-}
-
-/// The value of an object's one key.
-fn sole<'a>(value: &'a Value, key: &str) -> Option<&'a Value>
-    ensures { option_map (λ v. view v.now) result ≡ spec.sole_of key.now (view value.now) }
-{
-    let members = value.as_object()?;
-    if members.len() != 1 {
-        return None;
+    match Text::from_str(alloc, name) {
+        Ok(name) => Unanswered::Refused(Refusal::UnknownKey { name }),
+        Err(refused) => Unanswered::Memory(refused),
     }
-    value.get(key)
 }
 
-fn word_in(alloc: Global, text: &str) -> Result<Option<Text>, AllocError>
-    ensures { IfOk result (λ word. word ≡ spec.word_in text.now) }
+// The search that a text asks, or its first refusal.
+fn search_ask(alloc: Global, config: &IndexConfig, text: &[u8]) -> Result<SearchAsk, Unanswered>
+    ensures asked { Shows search_view (asked_of config.now text.now) result }
+    ensures answerable { IfOk result (λ ask. IsAnswerable config.now.schema (search_view ask)) }
 {
-    let bytes = text.as_bytes();
-    if is_run(bytes) && !is_operator(bytes) {
-        return Ok(Some(Text::from_slice(alloc, bytes)?));
+    let request = read_request(alloc, text)?;
+    match resolve(
+        alloc,
+        &config.schema,
+        config.default_fields.as_slice(),
+        &request,
+    )? {
+        Resolved::Search(ask) => Ok(ask),
+        Resolved::Delete(_) => Err(unbuilt(alloc, "delete")),
     }
-    Ok(None)
 }
 
-fn word_of(alloc: Global, value: &Value) -> Result<Option<Text>, AllocError>
-    ensures { IfOk result (λ word. word ≡ spec.word_of (view value.now)) }
+/// The search that a text asks of an index, or its first refusal.
+pub fn read_search(
+    alloc: Global,
+    config: &IndexConfig,
+    text: &[u8],
+) -> Result<ReadSearch, Unanswered>
+    requires { ∥ IsSchema config.now.schema ∥₁ }
+    ensures { Reads config.now.schema (asked_of config.now text.now) result }
 {
-    let Some(search) = sole(value, "search") else {
-        return Ok(None);
+    let search = search_ask(alloc, config, text)?;
+    let choice = Choice::Search {
+        query: copy_query(alloc, &search.query)?,
+        times: search.times,
     };
-    let Some(query) = sole(search, "query") else {
-        return Ok(None);
-    };
-    match query.as_str() {
-        Some(text) => word_in(alloc, text),
-        None => Ok(None),
-    }
-}
-
-/// The value of a text, or none where it is no JSON.
-fn json_of(alloc: Global, text: &str) -> Result<Option<Value>, AllocError>
-    ensures { IfOk result (λ value. option_map view value ≡ read text.now) }
-{
-    match Value::from_str(alloc, text) {
-        Ok(value) => Ok(Some(value)),
-        Err(fault) if fault.is_memory() => Err(AllocError),
-        Err(_) => Ok(None),
-    }
-}
-
-/// The word that a request asks for, where it is of the form `{"search":{"query":"WORD"}}`.
-pub fn word_asked(alloc: Global, request: &[u8]) -> Result<Option<Text>, AllocError>
-    ensures { IfOk result (λ word. word ≡ spec.word_asked request.now) }
-{
-    let Ok(text) = str::from_utf8(request) else {
-        return Ok(None);
-    };
-    match json_of(alloc, text)? {
-        None => Ok(None),
-        Some(value) => word_of(alloc, &value),
-    }
+    let ask = leaf_ask(search);
+    Ok(ReadSearch { choice, ask })
 }

@@ -1,11 +1,12 @@
 //! What a step of a client answers, and its words.
 
 ghost use Rattle.std.specs.Prelude.{◌≡◌, IfOk};
-ghost use Rattle.root_search.specs.Said.{step_line};
+ghost use Rattle.index_world.specs.Saying.{words};
+ghost use Rattle.root_search.specs.Steps.{step_words};
 
-use crate::reply::{Reply, print_reply};
 use byte_fields::Bytes;
 use index_world::{put_number, put_word};
+use search_api::{Reply, print_reply};
 use std::alloc::{AllocError, Global};
 
 /// What a step of a client answers.
@@ -22,7 +23,7 @@ pub enum SearchStep {
 
 /// The words of an outcome with one blank between, or the line of a reply.
 pub fn print_outcome(alloc: Global, outcome: &SearchStep) -> Result<Bytes, AllocError>
-    ensures { IfOk result (λ text. text ≡ step_line outcome.now) }
+    ensures { IfOk result (λ text. text ≡ words (step_words outcome.now)) }
 {
     let mut out = Bytes::vacant(alloc);
     match outcome {

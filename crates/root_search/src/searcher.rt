@@ -1,23 +1,29 @@
 //! A client's searcher and its steps.
 
-ghost use Rattle.std.specs.Prelude.{◌≡◌, ◌<◌, ℕ, List, length, None, Some, Ok};
+ghost use Rattle.std.specs.Prelude.{◌≡◌, ◌<◌, ◌≤◌, ℕ, List, length, Ok, Err};
 ghost use Rattle.source_log.specs.Log.{Log, IsLog};
+ghost use Rattle.doc_value.specs.Documents.{IsSchema};
 ghost use Rattle.index_world.specs.Calls.{Trouble};
-ghost use Rattle.index_world.specs.Core.{Core};
+ghost use Rattle.index_world.specs.Core.{Core, IsConfigured};
 ghost use Rattle.index_world.specs.Gate.{IsTrouble};
-ghost use Rattle.root_search.specs.Replies as spec;
-ghost use Rattle.root_search.specs.Requests.{word_asked};
-ghost use Rattle.root_search.specs.Said.{said_of};
+ghost use Rattle.index_config.specs.declared.config.IndexConfig as configs;
+ghost use Rattle.search_api.specs.Resolved.{Search};
+ghost use Rattle.search_api.specs.declared.unanswered.Unanswered.TheVariants as reasons;
+ghost use Rattle.root_search.specs.ReadSearches.{IsRead};
+ghost use Rattle.root_search.specs.Requests.{asked_of};
 ghost use Rattle.root_search.specs.Searching.{IsPlanned, SearcherStands, new_client, Submits, SearchesAs, IsAtWork, Ends, IsRefusalOf};
 ghost use Rattle.root_search.specs.Steps as steps;
-ghost use Rattle.root_search.specs.Steps.{opened, without_request, reply_with, trouble_replied, refusal_by};
+ghost use Rattle.root_search.specs.Steps.{opened, without_request, reply_with, trouble_replied, refused_over};
 
-use crate::asking::word_asked;
-use crate::finding::Gathered;
+use crate::asking::read_search;
 use crate::outcome::SearchStep;
-use crate::reply::{Reply, ReplyRefusal, Said};
+use crate::planned::Planned;
+use crate::reads::ReadSearch;
+use crate::split_files::{SplitFile, SplitFiles, answer_over};
 use byte_fields::{Client, Text};
-use index_world::{Choice, Gate, Plan, WorldError};
+use index_world::{Gate, WorldError};
+use meta_store::Choice;
+use search_api::{Refusal, Reply, Said, Unanswered};
 use std::alloc::{AllocError, Global};
 use std::mem;
 use std::thread::Threads;
@@ -27,16 +33,6 @@ use thiserror::Error;
 #[derive(Clone, Copy, Debug, PartialEq, Eq, Error)]
 #[error("a request is unanswered")]
 pub struct Busy;
-
-// A planned search: its word, and what matches of the files that were fetched so far.
-#[derive(Drop)]
-struct Planned {
-    word: Text,
-    plan: Plan,
-    // The place of the row that is fetched next.
-    next: u32,
-    gathered: Gathered,
-}
 
 #[derive(Drop)]
 enum Request {
@@ -54,19 +50,20 @@ pub struct Searcher {
     request: Request,
 }
 
-// What a request is answered where a call of the world gave nothing; want of memory is the step's own answer.
-fn refused_by(error: WorldError) -> Result<ReplyRefusal, AllocError>
+// What a request is answered where a call of the world gave nothing; want of memory is the step's own answer. What a
+// sound index never answers is replied as it is, or as an index that has no room.
+fn refused_by(error: WorldError) -> Result<Refusal, AllocError>
     ensures { (trouble : Trouble) → IsTrouble error trouble → IsRefusalOf result trouble }
 {
     match error {
         WorldError::Memory(refused) => Err(refused),
-        WorldError::StoreFault { before, after } => Ok(ReplyRefusal::StoreFault { before, after }),
-        WorldError::Missing { key } => Ok(ReplyRefusal::Missing { key }),
-        WorldError::Corrupt { key } => Ok(ReplyRefusal::Corrupt { key }),
-        WorldError::Foreign { key } => Ok(ReplyRefusal::Foreign { key }),
-        WorldError::Full => Ok(ReplyRefusal::Full),
-        WorldError::Refused(_) => Ok(ReplyRefusal::NotBuilt),
-        WorldError::NoIndex => Ok(ReplyRefusal::NotBuilt),
+        WorldError::StoreFault { before, after } => Ok(Refusal::StoreFault { before, after }),
+        WorldError::Missing { key } => Ok(Refusal::Missing { key }),
+        WorldError::Corrupt { key } => Ok(Refusal::Corrupt { key }),
+        WorldError::Foreign { key } => Ok(Refusal::Foreign { key }),
+        WorldError::Full => Ok(Refusal::Full),
+        WorldError::Refused(_) => Ok(Refusal::Full),
+        WorldError::NoIndex => Ok(Refusal::Full),
     }
 }
 
@@ -119,8 +116,8 @@ impl Searcher {
     }
 
     fn reply(&mut self, revision: u64, said: Said) -> SearchStep
-        ensures { (spoken : spec.Said) (client : steps.Client) (core : Core) (log : Log) → said_of said ≡ Some spoken → IsAtWork self.old client →
-            Ends (Ok result) self.new (reply_with revision spoken client core) log }
+        ensures { (client : steps.Client) (core : Core) (log : Log) → IsAtWork self.old client →
+            Ends (Ok result) self.new (reply_with revision said client core) log }
     {
         self.front = revision;
         SearchStep::Replied(Reply {
@@ -138,28 +135,61 @@ impl Searcher {
         Ok(self.reply(revision, Said::Refused(refusal)))
     }
 
-    // Where that plan fails too, the request is still refused as not built, over the last reply's revision.
-    fn refuse_unplanned(&mut self, error: WorldError) -> Result<SearchStep, AllocError>
+    // Where no plan is made the request is refused all the same, over the last reply's revision.
+    fn refuse_unplanned(
+        &mut self,
+        refusal: Refusal,
+        error: WorldError,
+    ) -> Result<SearchStep, AllocError>
         ensures { (trouble : Trouble) (client : steps.Client) (core : Core) (log : Log) → IsTrouble error trouble → IsAtWork self.old client →
-            Ends result self.new (refusal_by client.front trouble client core) log }
+            Ends result self.new (refused_over client.front refusal trouble client core) log }
     {
         let _fault = refused_by(error)?;
-        Ok(self.reply(self.front, Said::Refused(ReplyRefusal::NotBuilt)))
+        Ok(self.reply(self.front, Said::Refused(refusal)))
     }
 
-    // A request that is no search of a word is refused, over the revision of a plan of no rows.
-    fn refuse_unbuilt<G: Gate>(
+    // A request that asks no search is refused, over the revision of a plan of no rows.
+    fn refuse_asked<G: Gate>(
         &mut self,
         alloc: Global,
         gate: &mut G,
+        refusal: Refusal,
     ) -> Result<SearchStep, AllocError>
-        ensures { (text : List ℕ) (client : steps.Client) (core : Core) (log : Log) → word_asked text ≡ None → client.request ≡ opened text →
+        ensures { (text : List ℕ) (config : configs.IndexConfig) (client : steps.Client) (core : Core) (log : Log) →
+            IsConfigured config core → asked_of config text ≡ Err (reasons.Refused refusal) → client.request ≡ opened text →
             G.Stands gate.old core log → IsAtWork self.old client →
             SearchesAs G.Stands G.Between result self.new gate.new client core log }
     {
-        match gate.plan(alloc, Choice::Look) {
-            Ok(plan) => Ok(self.reply(plan.revision, Said::Refused(ReplyRefusal::NotBuilt))),
-            Err(error) => self.refuse_unplanned(error),
+        match gate.plan(alloc, &Choice::Look) {
+            Ok(plan) => Ok(self.reply(plan.revision, Said::Refused(refusal))),
+            Err(error) => self.refuse_unplanned(refusal, error),
+        }
+    }
+
+    fn plan_read<G: Gate>(
+        &mut self,
+        alloc: Global,
+        gate: &mut G,
+        read: ReadSearch,
+    ) -> Result<SearchStep, AllocError>
+        ensures { (text : List ℕ) (search : Search) (config : configs.IndexConfig) (client : steps.Client) (core : Core) (log : Log) →
+            IsConfigured config core → asked_of config text ≡ Ok search → IsRead config.schema search read → client.request ≡ opened text →
+            G.Stands gate.old core log → IsAtWork self.old client →
+            SearchesAs G.Stands G.Between result self.new gate.new client core log }
+    {
+        match gate.plan(alloc, &read.choice) {
+            Ok(plan) => {
+                let revision = plan.revision;
+                let count = plan.rows.len() as u64;
+                self.request = Request::Planned(Planned {
+                    ask: read.ask,
+                    plan,
+                    next: 0,
+                    files: SplitFiles::vacant(alloc),
+                });
+                Ok(SearchStep::Planned { revision, count })
+            }
+            Err(error) => self.refuse(self.front, error),
         }
     }
 
@@ -172,22 +202,10 @@ impl Searcher {
         ensures { (client : steps.Client) (core : Core) (log : Log) → client.request ≡ opened text.now → G.Stands gate.old core log →
             IsAtWork self.old client → SearchesAs G.Stands G.Between result self.new gate.new client core log }
     {
-        let Some(word) = word_asked(alloc, text.as_slice())? else {
-            return self.refuse_unbuilt(alloc, gate);
-        };
-        match gate.plan(alloc, Choice::Search) {
-            Ok(plan) => {
-                let revision = plan.revision;
-                let count = plan.rows.len() as u64;
-                self.request = Request::Planned(Planned {
-                    word,
-                    plan,
-                    next: 0,
-                    gathered: Gathered::vacant(alloc),
-                });
-                Ok(SearchStep::Planned { revision, count })
-            }
-            Err(error) => self.refuse(self.front, error),
+        match read_search(alloc, gate.config(), text.as_slice()) {
+            Ok(read) => self.plan_read(alloc, gate, read),
+            Err(Unanswered::Refused(refusal)) => self.refuse_asked(alloc, gate, refusal),
+            Err(Unanswered::Memory(refused)) => Err(refused),
         }
     }
 
@@ -204,11 +222,14 @@ impl Searcher {
     {
         let place = planned.next;
         let row = planned.plan.rows.at(place as usize);
-        let (number, size) = (row.number, row.facts.size);
+        let (number, size) = (row.number, row.size);
         match gate.fetch(alloc, &planned.plan, place, 0, size) {
             Ok(piece) => {
-                let word = planned.word.as_slice();
-                planned.gathered.take(alloc, word, number, &piece.bytes)?;
+                let file = SplitFile {
+                    number,
+                    bytes: piece.bytes,
+                };
+                planned.files.push(file)?;
                 planned.next = place.saturating_add(1);
                 self.request = Request::Planned(planned);
                 Ok(SearchStep::Fetched { number })
@@ -230,9 +251,9 @@ impl Searcher {
         if (planned.next as usize) < planned.plan.rows.len() {
             return self.fetch(alloc, gate, planned);
         }
-        let revision = planned.plan.revision;
-        let said = planned.gathered.answer(alloc)?;
-        Ok(self.reply(revision, said))
+        let files = planned.files.as_slice();
+        let said = answer_over(alloc, &gate.config().schema, &planned.ask, files)?;
+        Ok(self.reply(planned.plan.revision, said))
     }
 
     /// One step. After want of memory there is no request any more.

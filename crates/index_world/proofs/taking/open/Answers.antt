@@ -5,9 +5,10 @@ use Rattle.meta_journal.specs.Loading.{loaded}
 use Rattle.meta_journal.specs.declared.entry.Entry.{Entry}
 use Rattle.meta_journal.specs.declared.journal_error.JournalError.{JournalError}
 use Rattle.meta_store.specs.History.{history, moment_of}
-use Rattle.meta_store.specs.State.{Legal, state_of}
+use Rattle.meta_store.specs.State.{State, Legal, state_of}
 use Rattle.index_world.specs.Config.{reads}
 use Rattle.index_world.specs.Taking.{IsFaultBetween, IsNoFault, IsWant}
+use Rattle.index_world.proofs.Configured.{kept_schema}
 use Rattle.index_world.proofs.Fronts.{AreTimely, err_so, some_entry}
 use Rattle.index_world.proofs.Faulted.{no_fault_between, fault_between}
 use Rattle.index_world.proofs.Reading.{opening_failed, opening_empty, opening_short_by, opening_ok, read_legal, read_timely, loads_ok_at, loads_err_at}
@@ -97,3 +98,7 @@ returns-in-Err-clause-faults g c =
     let said : c.load-answer.result ≡ Err c.in-Err.error = cc in
     fault_between _ _ 0 c.faults-before.result c.in-Err.error c.world_error.result c.world_error.ensures c.faults-before.ensures
     (subst (λ (r : Result (Numbered × List Entry) JournalError). IfErr r (FaultIs (g.S.ObjectStore.fault_count c.args.store.now) (g.S.ObjectStore.fault_count c.load-answer.new.store))) said c.load-answer.ensures.faults)
+
+pub invariant_of-result-clause-schema : goal.invariant_of-result-clause-schema
+invariant_of-result-clause-schema g c = λ config e.
+    kept_schema (history c.into_vec.result.items) config (sym (ap (λ (s : State). s.config) c.in_ok-meta-in-Ok.ensures.state) ∙ e)

@@ -1,4 +1,5 @@
 use Rattle.std.proofs.Common.{◌≡◌, ◌+◌, ◌<◌, ◌≤◌, ◌^◌, vec_len}
+use Rattle.std.specs.Prelude.{IsSome}
 use Rattle.index_world.proofs.Fronts.{FrontTaken}
 use Rattle.index_world.proofs.taking.state_of.Given as goal
 
@@ -8,6 +9,7 @@ invariant-entries l = record {
   few : vec_len l.fn.entries ≤ 10000000;
   early : l.moment < 2 ^ 62;
   front : FrontTaken l.fn.entries.items l.left.items l.meta.state l.moment;
+  some : 0 < l.meta.state.revision → IsSome l.meta.state.config;
 }
 
 abbrev pub decreases-entries : goal.decreases-entries

@@ -20,10 +20,16 @@ returns-in_err-act_of-clause-step g c old core log e b owned =
     (λ error is. subst IsWant (sym is) tt) refl
     (life_on c.args.self.now c.args.self.now core.history core.moment core.unsure false b.knows refl refl refl (ap is_unsure c.requires.sure)) refl
 
+pub returns-in_err-reading-clause-step : goal.returns-in_err-reading-clause-step
+returns-in_err-reading-clause-step g c old core log e b owned =
+    creating_wants_by old core log _ _ c.args.self.now b _ _ e (omega arith) b.within c.args.self.now _ _ c.args.before c.from_residual-in_err-reading.result _ c.from_residual-in_err-reading.ensures.1
+    (λ error is. subst IsWant (sym is) tt) refl
+    (life_on c.args.self.now c.args.self.now core.history core.moment core.unsure false b.knows refl refl refl (ap is_unsure c.requires.sure)) refl
+
 pub returns-in_err-handed-clause-step : goal.returns-in_err-handed-clause-step
 returns-in_err-handed-clause-step g c old core log e b owned =
     let same = entry_is c.args.self.now.moment core.moment c.in_ok-act_of.field-0 (own_act c.args.own core) b.knows.moment (c.in_ok-act_of.ensures.same ∙ ap (act_in c.args.own) b.knows.meta) in
-    let answer = answer_same c.reading_of-reading.result c.args.self.now.meta.state _ _ core c.reading_of-reading.ensures b.knows.meta same in
+    let answer = answer_same c.in_ok-reading.reading c.args.self.now.meta.state _ _ core c.in_ok-reading.ensures b.knows.meta same in
     let revision : c.args.self.now.meta.state.revision ≡ length core.history = c.args.self.now.in_step ∙ b.knows.next in
     creating_unprepared_by old core log _ _ c.args.self.now b _ _ e (omega arith) b.within _ (own_act c.args.own core) _ c.args.before c.from_residual-in_err-handed.result _ c.from_residual-in_err-handed.ensures.1
     (λ error is. unprepared_same _ _ _ _ _ _ answer revision is c.in_err-handed.ensures.why) refl refl
@@ -37,14 +43,14 @@ returns-in-Ok-clause-step g c old core log e b owned =
     let act : c.in_ok-act_of.field-0 ≡ own_act c.args.own core = c.in_ok-act_of.ensures.same ∙ ap (act_in c.args.own) b.knows.meta in
     let same = entry_is c.args.self.now.moment core.moment c.in_ok-act_of.field-0 (own_act c.args.own core) b.knows.moment act in
     let state : c.prepare.new.meta.state ≡ c.args.self.now.meta.state = c.prepare.ensures.same in
-    let answer = answer_same c.reading_of-reading.result c.prepare.new.meta.state _ _ core c.reading_of-reading.ensures (state ∙ b.knows.meta) same in
+    let answer = answer_same c.in_ok-reading.reading c.prepare.new.meta.state _ _ core c.in_ok-reading.ensures (state ∙ b.knows.meta) same in
     let revision : c.args.self.now.meta.state.revision ≡ length core.history = c.args.self.now.in_step ∙ b.knows.next in
     creating_own old core log _ _ c.args.self.now b _ _ e c.append-answer.ensures.later (omega (arith, count, fits)) c.args.own _ same (subst CanSpellAct act c.in_ok-act_of.ensures.can)
     (may_append_is (own_act c.args.own core) core (subst IsOk answer c.in_ok-handed.ensures.allowed) (let low = c.in_ok-handed.ensures.below in omega (arith, low, revision))) owned
     _ _ c.args.before c.in-Ok.field-0
     (appends_at _ _ _ _ _ _ said c.append-answer.ensures.answer)
-    (life_own c.args.self.now _ core.history core.moment core.unsure _ _ c.reading_of-reading.result c.prepare.new.meta.state b.knows
-    (c.append-answer.ensures.next ∙ ap (next_appended c.args.self.now.journal.next) said) (c.append-answer.ensures.place ∙ ap place_appended said) state (c.apply.ensures ∙ ap (λ (r : Said). after r (at c.args.self.now.moment c.in_ok-act_of.field-0) c.prepare.new.meta.state) c.in_ok-handed.ensures.handed) c.reading_of-reading.ensures refl same)
+    (life_own c.args.self.now _ core.history core.moment core.unsure _ _ c.in_ok-reading.reading c.prepare.new.meta.state b.knows
+    (c.append-answer.ensures.next ∙ ap (next_appended c.args.self.now.journal.next) said) (c.append-answer.ensures.place ∙ ap place_appended said) state (c.apply.ensures ∙ ap (λ (r : Said). after r (at c.args.self.now.moment c.in_ok-act_of.field-0) c.prepare.new.meta.state) c.in_ok-handed.ensures.handed) c.in_ok-reading.ensures refl same)
     c.append-answer.ensures.settled
 
 pub returns-in-Adopted-clause-step : goal.returns-in-Adopted-clause-step
@@ -55,7 +61,7 @@ returns-in-Adopted-clause-step g c old core log e b owned =
     let act : c.in_ok-act_of.field-0 ≡ own_act c.args.own core = c.in_ok-act_of.ensures.same ∙ ap (act_in c.args.own) b.knows.meta in
     let same = entry_is c.args.self.now.moment core.moment c.in_ok-act_of.field-0 (own_act c.args.own core) b.knows.moment act in
     let state : c.prepare.new.meta.state ≡ c.args.self.now.meta.state = c.prepare.ensures.same in
-    let answer = answer_same c.reading_of-reading.result c.prepare.new.meta.state _ _ core c.reading_of-reading.ensures (state ∙ b.knows.meta) same in
+    let answer = answer_same c.in_ok-reading.reading c.prepare.new.meta.state _ _ core c.in_ok-reading.ensures (state ∙ b.knows.meta) same in
     let revision : c.args.self.now.meta.state.revision ≡ length core.history = c.args.self.now.in_step ∙ b.knows.next in
     let place = c.append-answer.ensures.place ∙ ap place_appended said in
     creating_gives old core log _ _ c.args.self.now b _ _ e c.append-answer.ensures.later (omega (arith, count, fits)) c.args.own _ same (subst CanSpellAct act c.in_ok-act_of.ensures.can)
@@ -76,7 +82,7 @@ returns g c = record {
       let act : c.in_ok-act_of.field-0 ≡ own_act c.args.own core = c.in_ok-act_of.ensures.same ∙ ap (act_in c.args.own) b.knows.meta in
       let same = entry_is c.args.self.now.moment core.moment c.in_ok-act_of.field-0 (own_act c.args.own core) b.knows.moment act in
       let state : c.prepare.new.meta.state ≡ c.args.self.now.meta.state = c.prepare.ensures.same in
-      let answer = answer_same c.reading_of-reading.result c.prepare.new.meta.state _ _ core c.reading_of-reading.ensures (state ∙ b.knows.meta) same in
+      let answer = answer_same c.in_ok-reading.reading c.prepare.new.meta.state _ _ core c.in_ok-reading.ensures (state ∙ b.knows.meta) same in
       let revision : c.args.self.now.meta.state.revision ≡ length core.history = c.args.self.now.in_step ∙ b.knows.next in
       let low = c.in_ok-handed.ensures.below in
       let step = c.args.self.now.in_step in

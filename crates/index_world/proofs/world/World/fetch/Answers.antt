@@ -1,7 +1,7 @@
 use Rattle.std.proofs.Common.{sym, ap, ◌∙◌, subst, arith, ◌≡◌, inl, inr}
 use Rattle.std.specs.Prelude.{Option, Some, Err}
 use Rattle.meta_journal.specs.Places.{split_key}
-use Rattle.index_world.specs.declared.planning.PlanRow.{PlanRow}
+use Rattle.meta_store.specs.declared.planning.PlanRow.{PlanRow}
 use Rattle.index_world.specs.Calls.{asked_clock}
 use Rattle.index_world.specs.World.{Keeping, WorldStands}
 use Rattle.index_world.proofs.Gates.{fetches, world_asks}

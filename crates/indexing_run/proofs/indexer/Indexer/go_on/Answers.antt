@@ -3,14 +3,14 @@ use Rattle.indexing_run.proofs.Stepping.{ends_empty, not_true, not_false}
 use Rattle.indexing_run.proofs.indexer.Indexer.go_on.Goals as goal
 
 pub returns-then-not-batch-clause-step : goal.returns-then-not-batch-clause-step
-returns-then-not-batch-clause-step g c = λ indexer core read made s stands b m.
-    c.read_on.ensures.step indexer core read made s stands b m (sym b.closed ∙ not_true c.args.batch.closed c.if-not-batch.true)
+returns-then-not-batch-clause-step g c = λ indexer core read made s stands b m k.
+    c.read_on.ensures.step indexer core read made s stands b m k (sym b.closed ∙ not_true c.args.batch.closed c.if-not-batch.true)
 
 pub returns-then-batch-eq0-clause-step : goal.returns-then-batch-eq0-clause-step
-returns-then-batch-eq0-clause-step g c = λ indexer core read made s stands b m.
+returns-then-batch-eq0-clause-step g c = λ indexer core read made s stands b m k.
     ends_empty g.L.SourceLog.told g.L.SourceLog.fault_count g.G.Gate.Stands g.G.Gate.Between indexer core read c.args.self.now c.args.gate.now s made (sym b.closed ∙ not_false c.args.batch.closed c.if-not-batch.false)
     (eq-eqb made.count 0 (sym b.count ∙ c.if-batch-eq0.true)) stands (g.met.G.Gate.none_between core)
 
 pub returns-clause-step : goal.returns-clause-step
-returns-clause-step g c = λ indexer core read made s stands b m.
-    c.stage.ensures.step indexer core read made s stands b m (sym b.closed ∙ not_false c.args.batch.closed c.if-not-batch.false) (λ e. c.if-batch-eq0.false (b.count ∙ e))
+returns-clause-step g c = λ indexer core read made s stands b m k.
+    c.stage.ensures.step indexer core read made s stands b m k (sym b.closed ∙ not_false c.args.batch.closed c.if-not-batch.false) (λ e. c.if-batch-eq0.false (b.count ∙ e))

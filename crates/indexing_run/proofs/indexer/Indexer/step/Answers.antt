@@ -16,7 +16,7 @@ returns-in-Reading-clause-step g c = λ indexer core read s stands.
     let before = set_idle g.L.SourceLog.told g.L.SourceLog.fault_count c.args.self.now indexer core read c.replace.new.dest c.replace.ensures.after s in
     let place = subst (λ k. PlaceStands read core k indexer.place) (sym c.replace.ensures.value ∙ c.in-Reading.is) s.place in
     as_placed g.L.SourceLog.told g.L.SourceLog.fault_count g.G.Gate.Stands g.G.Gate.Between c.go_on.result indexer core read c.go_on.new.self c.go_on.new.gate (reading place.0) place.1
-    (c.go_on.ensures.step indexer core read place.0 before stands place.2 place.3)
+    (c.go_on.ensures.step indexer core read place.0 before stands place.2 place.3 place.4)
 
 pub returns-in-Staged-clause-step : goal.returns-in-Staged-clause-step
 returns-in-Staged-clause-step g c = λ indexer core read s stands.

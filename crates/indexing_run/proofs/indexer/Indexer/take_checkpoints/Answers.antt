@@ -1,7 +1,9 @@
 use Rattle.std.proofs.Common.{◌≡◌, ◌≤◌, ◌∙◌, sym, ap, subst, arith, Ok, Err}
 use Rattle.source_log.specs.Log.{IsToldLog}
 use Rattle.source_log.specs.declared.log.ReadError.TheVariants.{Failed}
-use Rattle.index_world.specs.Core.{last_count}
+use Rattle.doc_value.specs.Documents.{IsSchema}
+use Rattle.index_config.specs.declared.config.IndexConfig.{IndexConfig}
+use Rattle.index_world.specs.Core.{last_count, IsConfigured}
 use Rattle.indexing_run.specs.Places.{idle}
 use Rattle.indexing_run.specs.Standing.{PlaceStands}
 use Rattle.indexing_run.proofs.Stepping.{idle_stays, no_answer}
@@ -34,8 +36,8 @@ returns-in-Err-Failed-clause-step g c = λ indexer core read s stands.
     names_fault g.L.SourceLog.told g.L.SourceLog.fault_count g.G.Gate.Stands g.G.Gate.Between indexer core read c.args.self.now c.args.gate.now s c.faults-after.result
     next (c.names-names.ensures.told read s.told) (sym c.faults-after.ensures.count) c.names-names.ensures.assignment later within next.place c.faults-before.result place (c.faults-before.ensures.count ∙ s.log_faults) failed.0 failed.1 stands (g.met.G.Gate.none_between core)
 
-pub returns-in_err-begin-in-Ok-checkpoints-clause-step : goal.returns-in_err-begin-in-Ok-checkpoints-clause-step
-returns-in_err-begin-in-Ok-checkpoints-clause-step g c = λ indexer core read s stands.
+pub returns-in_err-config-in-Ok-checkpoints-clause-step : goal.returns-in_err-config-in-Ok-checkpoints-clause-step
+returns-in_err-config-in-Ok-checkpoints-clause-step g c = λ indexer core read s stands.
     let next = c.names-names.new.self in
     let given = c.names-names.ensures.names read s.told in
     let first = names_later c.args.self.now.assignment c.names-names.result (g.L.SourceLog.fault_count c.args.self.now.log) (g.L.SourceLog.fault_count c.names-names.new.self.log) read given in
@@ -48,6 +50,20 @@ returns-in_err-begin-in-Ok-checkpoints-clause-step g c = λ indexer core read s 
     next (c.names-names.ensures.told read s.told) (sym c.faults-after.ensures.count) c.names-names.ensures.assignment later within c.in-Ok.names here next.place c.in-Ok-checkpoints.marks c.from_residual.result
     (λ after. idle_stays read core after next.place place) (no_answer c.from_residual.result c.from_residual.ensures.0) (c.in-Ok-checkpoints.ensures core read stands)
 
+pub returns-in_err-begin-in-Ok-checkpoints-clause-step : goal.returns-in_err-begin-in-Ok-checkpoints-clause-step
+returns-in_err-begin-in-Ok-checkpoints-clause-step g c = λ indexer core read s stands.
+    let next = c.names-names.new.self in
+    let given = c.names-names.ensures.names read s.told in
+    let first = names_later c.args.self.now.assignment c.names-names.result (g.L.SourceLog.fault_count c.args.self.now.log) (g.L.SourceLog.fault_count c.names-names.new.self.log) read given in
+    let later : indexer.log_faults ≤ c.faults-after.result = (let n = c.faults-after.ensures.count in let f = s.log_faults in omega (arith, first, n, f)) in
+    let within : c.faults-after.result ≤ last_count = (let i = c.faults-after.type_inv in omega (arith, i)) in
+    let place = subst (λ k. PlaceStands read core k idle) (sym c.names-names.ensures.place) s.place in
+    let here = names_as c.args.self.now.assignment indexer.assignment c.names-names.result (Ok c.in-Ok.names) (g.L.SourceLog.fault_count c.args.self.now.log) indexer.log_faults (g.L.SourceLog.fault_count c.names-names.new.self.log)
+    c.faults-after.result read s.assignment c.in-Ok.is s.log_faults (sym c.faults-after.ensures.count) given in
+    marks_short g.L.SourceLog.told g.L.SourceLog.fault_count g.G.Gate.Stands g.G.Gate.Between indexer core read c.args.self.now c.checkpoints.new.self s c.faults-after.result
+    next (c.names-names.ensures.told read s.told) (sym c.faults-after.ensures.count) c.names-names.ensures.assignment later within c.in-Ok.names here next.place c.in-Ok-checkpoints.marks c.from_residual-in_err-begin-in-Ok-checkpoints.result
+    (λ after. idle_stays read core after next.place place) (no_answer c.from_residual-in_err-begin-in-Ok-checkpoints.result c.from_residual-in_err-begin-in-Ok-checkpoints.ensures.0) (c.in-Ok-checkpoints.ensures core read stands)
+
 pub returns-in-Ok-checkpoints-clause-step : goal.returns-in-Ok-checkpoints-clause-step
 returns-in-Ok-checkpoints-clause-step g c = λ indexer core read s stands.
     let next = c.names-names.new.self in
@@ -59,8 +75,9 @@ returns-in-Ok-checkpoints-clause-step g c = λ indexer core read s stands.
     let here = names_as c.args.self.now.assignment indexer.assignment c.names-names.result (Ok c.in-Ok.names) (g.L.SourceLog.fault_count c.args.self.now.log) indexer.log_faults (g.L.SourceLog.fault_count c.names-names.new.self.log)
     c.faults-after.result read s.assignment c.in-Ok.is s.log_faults (sym c.faults-after.ensures.count) given in
     begins g.L.SourceLog.told g.L.SourceLog.fault_count g.G.Gate.Stands g.G.Gate.Between indexer core read c.args.self.now c.checkpoints.new.self s c.faults-after.result
-    next (c.names-names.ensures.told read s.told) (sym c.faults-after.ensures.count) c.names-names.ensures.assignment later within c.in-Ok.names here c.in_ok-begin-in-Ok-checkpoints.field-0 c.in-Ok-checkpoints.marks
-    (subst IsToldLog s.told c.faults-before.ensures.sound) c.in_ok-begin-in-Ok-checkpoints.ensures (c.in-Ok-checkpoints.ensures core read stands)
+    next (c.names-names.ensures.told read s.told) (sym c.faults-after.ensures.count) c.names-names.ensures.assignment later within c.in-Ok.names here c.in_ok-config-in-Ok-checkpoints.config c.in_ok-begin-in-Ok-checkpoints.field-0 c.in-Ok-checkpoints.marks
+    (subst IsToldLog s.told c.faults-before.ensures.sound)
+    (λ after st. subst (λ (x : IndexConfig). IsConfigured x after) (sym c.in_ok-config-in-Ok-checkpoints.ensures) (c.config.ensures.step after read st)) c.in_ok-begin-in-Ok-checkpoints.ensures (c.in-Ok-checkpoints.ensures core read stands)
 
 pub returns-clause-step : goal.returns-clause-step
 returns-clause-step g c = λ indexer core read s stands.
@@ -75,3 +92,6 @@ returns-clause-step g c = λ indexer core read s stands.
     marks_fail g.L.SourceLog.told g.L.SourceLog.fault_count g.G.Gate.Stands g.G.Gate.Between indexer core read c.args.self.now c.checkpoints.new.self s c.faults-after.result
     next (c.names-names.ensures.told read s.told) (sym c.faults-after.ensures.count) c.names-names.ensures.assignment later within c.in-Ok.names here next.place c.in-Err.error c.faulted.result
     (λ after. idle_stays read core after next.place place) c.faulted.ensures (c.in-Err.ensures core read stands)
+
+pub begin-requires : goal.begin-requires
+begin-requires g c = subst (λ (x : IndexConfig). ∥ IsSchema x.schema ∥₁) (sym c.in_ok-config-in-Ok-checkpoints.ensures) c.config.ensures.schema

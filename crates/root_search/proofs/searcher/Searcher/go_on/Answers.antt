@@ -1,12 +1,25 @@
-use Rattle.std.proofs.Common.{◌≡◌, ◌≤◌, subst, Ok, true, false, map, length, Some, arith}
+use Rattle.std.proofs.Common.{◌≡◌, ◌≤◌, ap, sym, subst, Ok, true, false, map, length, List, arith, ◌∙◌}
+use Rattle.std.specs.List.{AllZip}
+use Rattle.index_config.specs.declared.config.IndexConfig.{IndexConfig}
+use Rattle.leaf_search.specs.Answers.{IsAsked}
 use Rattle.index_world.specs.Seen.{visible_at}
-use Rattle.root_search.specs.Said.{said_of}
+use Rattle.root_search.specs.Answer.{answer}
 use Rattle.root_search.specs.Searching.{Ends, rows_at, documents_at}
-use Rattle.root_search.specs.Steps.{answer_of, reply_with}
-use Rattle.root_search.proofs.Planned.{all_fetched}
-use Rattle.root_search.proofs.Stands.{all_gathered, all_together}
+use Rattle.root_search.specs.SplitFiles.{AreFound, IsFileOf}
+use Rattle.root_search.specs.Steps.{answer_of, config_at, reply_with}
+use Rattle.root_search.specs.declared.split_files.SplitFile.{SplitFile}
+use Rattle.root_search.proofs.Found.{are_found, found_few}
+use Rattle.root_search.proofs.PlannedRows.{all_fetched, all_files}
+use Rattle.root_search.proofs.Schemas.{few_fields, intervals_there}
+use Rattle.root_search.proofs.Stands.{config_then}
 use Rattle.root_search.proofs.Steps.{answered_as, ends_without}
 use Rattle.root_search.proofs.searcher.Searcher.go_on.Goals as goal
+
+pub answer_over-requires-clause-fields : goal.answer_over-requires-clause-fields
+answer_over-requires-clause-fields g c = few_fields c.config.result.now.schema c.config.ensures.schema
+
+pub answer_over-requires-clause-intervals : goal.answer_over-requires-clause-intervals
+answer_over-requires-clause-intervals g c = intervals_there c.args.planned.ask.request.aggs c.args.planned.intervals
 
 pub returns-in_err-said : goal.returns-in_err-said
 returns-in_err-said g c plan client core log good asked planned stands w =
@@ -17,8 +30,17 @@ returns-in_err-said g c plan client core log good asked planned stands w =
 pub returns : goal.returns
 returns g c plan client core log good asked planned stands w =
     let over : length c.args.planned.plan.rows ≤ c.args.planned.next = omega (arith, c.len.ensures, c.if-planned-len.false) in
-    let said : said_of c.in_ok-said.said ≡ Some (answer_of plan log core) =
-    c.in_ok-said.ensures plan.word (map (documents_at plan.revision core log) (rows_at plan.revision core)) (visible_at plan.revision core.history log)
-    (all_gathered c.args.planned plan core log planned over) (all_together c.args.planned plan core log good planned) in
+    let lists = map (documents_at plan.revision core log) (rows_at plan.revision plan.search core) in
+    let config = config_then core log c.config.result.now plan.revision (g.met.G.Gate.is_sound c.args.gate.now core log stands) (c.config.ensures.step core log stands) planned.in_hand in
+    let files = all_files c.args.planned plan core log planned over in
+    let found = are_found plan.revision plan.search c.args.planned.ask core log good planned.asks planned.in_hand in
+    let said : c.in_ok-said.said ≡ answer c.config.result.now.schema plan.search (visible_at plan.revision core.history log) =
+    c.in_ok-said.ensures plan.search lists (visible_at plan.revision core.history log) planned.asks
+    (subst (λ (x : IndexConfig). IsAsked x.schema c.args.planned.ask.request) config planned.asked)
+    (subst (λ (x : IndexConfig). AllZip (IsFileOf x.schema) c.as_slice-files.result.now lists) config (subst (λ (fs : List SplitFile). AllZip (IsFileOf (config_at plan.revision core).schema) fs lists) (sym c.as_slice-files.ensures) files))
+    (found_few plan.revision plan.search core log planned.in_hand)
+    (subst (λ (x : IndexConfig). AreFound x.schema c.args.planned.ask.request lists (visible_at plan.revision core.history log)) config found) in
+    let same : c.in_ok-said.said ≡ answer_of plan log core = said ∙ ap (λ (x : IndexConfig). answer x.schema plan.search (visible_at plan.revision core.history log)) (sym config) in
     answered_as g.G.Gate.Stands g.G.Gate.Between _ _ _ client core log plan false (g.met.G.Gate.none_between core) stands asked (all_fetched c.args.planned plan core log planned over)
-    (subst (λ r. Ends (Ok c.reply.result) c.reply.new.self (reply_with r (answer_of plan log core) client core) log) planned.revision (c.reply.ensures (answer_of plan log core) client core log said w))
+    (subst (λ r. Ends (Ok c.reply.result) c.reply.new.self (reply_with r (answer_of plan log core) client core) log) planned.revision
+    (subst (λ x. Ends (Ok c.reply.result) c.reply.new.self (reply_with c.args.planned.plan.revision x client core) log) same (c.reply.ensures client core log w)))

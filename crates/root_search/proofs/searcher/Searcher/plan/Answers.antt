@@ -1,30 +1,18 @@
-use Rattle.std.proofs.Common.{◌≡◌, ap, refl, sym, subst, Ok, Err, ◌∙◌, Some}
-use Rattle.index_world.specs.Gate.{IsPlan}
-use Rattle.index_world.specs.declared.planning.Choice.TheVariants.{Search}
-use Rattle.root_search.specs.Requests.{word_asked}
-use Rattle.root_search.specs.Searching.{Ends}
-use Rattle.root_search.specs.Steps.{trouble_replied}
-use Rattle.root_search.proofs.Planned.{plan_ends}
-use Rattle.root_search.proofs.Steps.{says_ok, says_err, planned_as, unasked_as, asked_run}
+use Rattle.std.proofs.Common.{ap, refl, sym, ◌∙◌, Err}
+use Rattle.root_search.specs.Requests.{asked_of}
+use Rattle.root_search.proofs.Steps.{refused_is, unasked_as}
 use Rattle.root_search.proofs.searcher.Searcher.plan.Goals as goal
-
-pub returns-in_err-word : goal.returns-in_err-word
-returns-in_err-word g c client core log asked stands w =
-    unasked_as g.G.Gate.Stands g.G.Gate.Between c.from_residual.result c.args.self.now c.args.gate.now client core log c.args.text.now (g.met.G.Gate.none_between core) stands asked c.from_residual.ensures.0 w
 
 pub returns-in-Ok : goal.returns-in-Ok
 returns-in-Ok g c client core log asked stands w =
-    let d = c.in-Ok.ensures core log stands in
-    let s = says_ok (IsPlan Search) c.in-Ok.plan d.answer d.after d.says in
-    let word : word_asked c.args.text.now ≡ Some c.in-Some.word = ap word_asked (sym c.as_slice.ensures) ∙ (sym c.in_ok-word.ensures ∙ c.in-Some.is) in
-    planned_as g.G.Gate.Stands g.G.Gate.Between _ _ _ client core log c.args.text.now d.mid d.fate d.answer (Ok tt) (Some c.in-Some.word) d.after d.passed d.did d.goes_on d.stands asked word s.0
-    (plan_ends c.args.self.now client c.in-Some.word (record { word = c.in-Some.word; plan = c.in-Ok.plan; next = 0; gathered = c.vacant.result }) c.len-count.result d.after log
-    (g.met.G.Gate.is_sound c.plan.new.self d.after log d.stands) s.1 refl (asked_run c.args.text.now c.in-Some.word word) refl c.vacant.ensures.documents c.vacant.ensures.sound c.len-count.ensures w)
+    let r = c.in-Ok.ensures in
+    c.plan_read.ensures c.args.text.now r.0 c.config.result.now client core log (c.config.ensures.step core log stands) (ap (asked_of c.config.result.now) (sym c.as_slice.ensures) ∙ r.1) r.2 asked stands w
 
-pub returns-in-Err : goal.returns-in-Err
-returns-in-Err g c client core log asked stands w =
-    let d = c.in-Err.ensures core log stands in
-    let s = says_err (IsPlan Search) c.in-Err.error d.answer d.after d.says in
-    let word : word_asked c.args.text.now ≡ Some c.in-Some.word = ap word_asked (sym c.as_slice.ensures) ∙ (sym c.in_ok-word.ensures ∙ c.in-Some.is) in
-    planned_as g.G.Gate.Stands g.G.Gate.Between _ _ _ client core log c.args.text.now d.mid d.fate d.answer (Err s.0) (Some c.in-Some.word) d.after d.passed d.did d.goes_on d.stands asked word s.1
-    (subst (λ r. Ends c.refuse.result c.refuse.new.self (trouble_replied r s.0 client d.after) log) w.front (c.refuse.ensures s.0 client d.after log s.2 w))
+pub returns-in-Err-Refused : goal.returns-in-Err-Refused
+returns-in-Err-Refused g c client core log asked stands w =
+    c.refuse_asked.ensures c.args.text.now c.config.result.now client core log (c.config.ensures.step core log stands)
+    (ap (asked_of c.config.result.now) (sym c.as_slice.ensures) ∙ refused_is (asked_of c.config.result.now c.as_slice.result.now) c.in-Err-Refused.field-0 c.in-Err-Refused.refusal c.in-Err-Refused.field-0-is c.in-Err-Refused.ensures) asked stands w
+
+pub returns-in-Err-Memory : goal.returns-in-Err-Memory
+returns-in-Err-Memory g c client core log asked stands w =
+    unasked_as g.G.Gate.Stands g.G.Gate.Between (Err c.in-Err-Memory.refused) c.args.self.now c.args.gate.now client core log c.args.text.now (g.met.G.Gate.none_between core) stands asked refl w

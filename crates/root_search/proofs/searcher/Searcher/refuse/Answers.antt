@@ -1,7 +1,7 @@
-use Rattle.std.proofs.Common.{ap, sym, subst, Ok, option_map}
-use Rattle.root_search.specs.Replies.{Refusal, Faulted}
+use Rattle.std.proofs.Common.{sym, subst, Ok}
+use Rattle.search_api.specs.declared.reply.Said.TheVariants.{Refused}
 use Rattle.root_search.specs.Searching.{Ends}
-use Rattle.root_search.specs.Steps.{trouble_replied}
+use Rattle.root_search.specs.Steps.{reply_with, trouble_replied}
 use Rattle.root_search.proofs.Steps.{ends_short}
 use Rattle.root_search.proofs.searcher.Searcher.refuse.Goals as goal
 
@@ -14,4 +14,4 @@ pub returns : goal.returns
 returns c trouble client core log is w =
     let r = c.in_ok-refusal.ensures trouble is in
     subst (λ t. Ends (Ok c.reply.result) c.reply.new.self (trouble_replied c.args.revision t client core) log) (sym r.1)
-    (c.reply.ensures (Refusal (Faulted r.0)) client core log (ap (option_map Refusal) r.2) w)
+    (subst (λ x. Ends (Ok c.reply.result) c.reply.new.self (reply_with c.args.revision (Refused x) client core) log) r.2 (c.reply.ensures client core log w))

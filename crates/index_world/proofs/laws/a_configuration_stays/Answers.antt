@@ -1,0 +1,5 @@
+use Rattle.index_world.proofs.Configured.{configured-more}
+use Rattle.index_world.proofs.laws.a_configuration_stays.Goals as goal
+
+pub returns : goal.returns
+returns c = configured-more

@@ -1,6 +1,0 @@
-use Rattle.std.proofs.Common.{◌≡◌, ◌++◌, take, drop}
-use Rattle.index_world.specs.SplitFile.{with_name}
-use Rattle.index_world.proofs.split_writing.place_for.Given as goal
-
-abbrev pub invariant-loop-i : goal.invariant-loop-i
-invariant-loop-i l = with_name l.name l.names ≡ take l.i l.names ++ with_name l.name (drop l.i l.names)

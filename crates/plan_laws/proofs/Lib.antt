@@ -1,0 +1,2 @@
+mod Ruled
+pub mod Planned

@@ -1,0 +1,288 @@
+-- The answers of splits, joined one after the other, are the answer over their documents.
+use Rattle.std.proofs.Common.{◌≡◌, ℕ, zero, suc, ◌+◌, ◌<◌, ◌≤◌, ◌^◌, List, [], ◌∷◌, ◌++◌, length, drop, sum_by, slice_get, Some, Result, Ok, Err, IfOk, MatchResult, refl, ap, sym, subst, ◌∙◌, arith, add-one, append_assoc, length-append}
+use Rattle.std.specs.List.{All, AllByRecursion, AllZip}
+use Rattle.std.specs.Result.{IfErr}
+use Rattle.std.proofs.lemmas.List.{append-nil}
+use Rattle.std.proofs.lemmas.List.Elements.{All-from_recursion, All-head, All-rest, All-same}
+use Rattle.std.proofs.lemmas.List.Sums.{count_by-le-length, length-filter, sum_by-cons}
+use Rattle.doc_value.specs.declared.schema.Schema.{Schema}
+use Rattle.agg_model.specs.Partials.{IsPartialOf, documents_in}
+use Rattle.split_bundle.specs.declared.part_view.PartView.{PartView}
+use Rattle.split_bundle.specs.declared.placed.Placed.{Placed}
+use Rattle.doc_sets.specs.Faults.{IsMemory}
+use Rattle.doc_sets.specs.declared.leaf_error.LeafError.{LeafError}
+use Rattle.doc_sets.specs.declared.leaf_error.LeafError.TheVariants as leaf
+use Rattle.leaf_search.specs.Answers.{IsAnswerOf, IsAsked, found, passes}
+use Rattle.leaf_search.specs.declared.request.LeafAnswer.{LeafAnswer}
+use Rattle.leaf_search.specs.declared.request.LeafRequest.{LeafRequest}
+use Rattle.root_search.specs.Leaves.{HasCauseIn, IsCounted, IsFaultIn, IsFull, IsLeafAnswer, IsViewOf, IsWholeViewOf, WantsMemory, all_of, count_in, placed_fault}
+use Rattle.root_search.specs.declared.splits_error.SplitsError.{SplitsError}
+use Rattle.root_search.specs.declared.splits_error.SplitsError.TheVariants.{Corrupt, Memory, Missing, TooMany}
+
+-- ---- one more of a list
+
+drop_next : {X : Type 0} (i : ℕ) (xs : List X) (x : X) (ys : List X) → drop i xs ≡ x ∷ ys → drop (suc i) xs ≡ ys
+drop_next zero [] x ys h = absurd (cc)
+drop_next zero (z ∷ zs) x ys h = cc
+drop_next (suc i) [] x ys h = absurd (cc)
+drop_next (suc i) (z ∷ zs) x ys h = drop_next i zs x ys h
+
+get_first : {X : Type 0} (i : ℕ) (xs : List X) (x : X) (ys : List X) → drop i xs ≡ x ∷ ys → slice_get xs i ≡ Some x
+get_first zero [] x ys h = absurd (cc)
+get_first zero (z ∷ zs) x ys h = cc
+get_first (suc i) [] x ys h = absurd (cc)
+get_first (suc i) (z ∷ zs) x ys h = get_first i zs x ys h
+
+pub none_left : {X : Type 0} (xs : List X) → xs ≡ drop 1 xs → xs ≡ []
+none_left [] h = refl
+none_left (x ∷ xs) h = absurd (omega (arith, ap length h))
+
+-- ---- the answers of the first so many splits are joined
+
+-- each answer is that over its documents
+abbrev pub AreAnswers : Schema → LeafRequest → List (Result LeafAnswer LeafError) → List (List Placed) → Type 0
+AreAnswers s r answers lists = AllZip (λ answer documents. IfOk answer (IsAnswerOf s r documents)) answers lists
+
+-- some lists were joined, and those of the other answers are left
+pub record IsJoined (s : Schema) (r : LeafRequest) (left : List (Result LeafAnswer LeafError)) (lists : List (List Placed)) (all : LeafAnswer) : Type 0 where
+  pub prior : List Placed
+  pub later : List (List Placed)
+  pub zipped : AreAnswers s r left later
+  pub answer : IsAnswerOf s r prior all
+  pub joined : prior ++ all_of later ≡ all_of lists
+
+pub record IsJoining (r : LeafRequest) (answers left : List (Result LeafAnswer LeafError)) (place : ℕ) (all : LeafAnswer) : Type 0 where
+  pub counted : IsCounted r all
+  pub good : All (λ answer. IfOk answer (IsCounted r)) left
+  pub rest : drop place answers ≡ left
+  pub within : place + length left ≡ length answers
+  pub sum : all.count + sum_by count_in left ≡ sum_by count_in answers
+  pub only : (s : Schema) (lists : List (List Placed)) → AreAnswers s r answers lists → IsJoined s r left lists all
+
+pub joining_begun : (r : LeafRequest) (answers left : List (Result LeafAnswer LeafError)) (all : LeafAnswer) → left ≡ answers → All (λ answer. IfOk answer (IsCounted r)) answers → IsCounted r all → all.count ≡ 0
+    → ((s : Schema) → IsAnswerOf s r [] all) → IsJoining r answers left 0 all
+joining_begun r answers left all e good counted none only =
+    record {
+      counted = counted;
+      good = All-same (λ answer. IfOk answer (IsCounted r)) left answers e good;
+      rest = sym e;
+      within = omega (arith, ap length e);
+      sum = omega (arith, ap (sum_by count_in) e, none);
+      only = λ s lists h. record {
+        prior = [];
+        later = lists;
+        zipped = subst (λ ls. AreAnswers s r ls lists) (sym e) h;
+        answer = only s;
+        joined = refl;
+      };
+    }
+
+joined_more : (s : Schema) (r : LeafRequest) (left : List (Result LeafAnswer LeafError)) (lists : List (List Placed)) (all next all' : LeafAnswer) → IsJoined s r (Ok next ∷ left) lists all
+    → ((xs ys : List Placed) → IsAnswerOf s r xs all → IsAnswerOf s r ys next → IsAnswerOf s r (xs ++ ys) all') → IsJoined s r left lists all'
+joined_more s r left lists all next all' j add = go j.later j.zipped j.joined
+  where
+    go : (later : List (List Placed)) → AreAnswers s r (Ok next ∷ left) later → j.prior ++ all_of later ≡ all_of lists → IsJoined s r left lists all'
+    go [] zipped e = absurd zipped
+    go (documents ∷ later) zipped e =
+        record {
+          prior = j.prior ++ documents;
+          later = later;
+          zipped = zipped.1;
+          answer = add j.prior documents j.answer zipped.0;
+          joined = append_assoc j.prior documents (all_of later) ∙ e;
+        }
+
+pub joining_more : (r : LeafRequest) (answers left left' : List (Result LeafAnswer LeafError)) (place : ℕ) (all next all' : LeafAnswer) → IsJoining r answers left place all → left ≡ Ok next ∷ left' → IsCounted r all' → all'.count ≡ all.count + next.count
+    → ((s : Schema) (xs ys : List Placed) → IsAnswerOf s r xs all → IsAnswerOf s r ys next → IsAnswerOf s r (xs ++ ys) all') → IsJoining r answers left' (place + 1) all'
+joining_more r answers left left' place all next all' j e counted count add =
+    let long : length left ≡ suc (length left') = ap length e in
+    let more : sum_by count_in left ≡ next.count + sum_by count_in left' = ap (sum_by count_in) e ∙ sum_by-cons count_in (Ok next) left' in
+    record {
+      counted = counted;
+      good = All-rest (λ answer. IfOk answer (IsCounted r)) (Ok next) left' left e j.good;
+      rest = rw add-one (drop_next place answers (Ok next) left' (j.rest ∙ e));
+      within = omega (arith, long, j.within);
+      sum = omega (arith, more, j.sum, count);
+      only = λ s lists h. joined_more s r left' lists all next all' (subst (λ ls. IsJoined s r ls lists all) e (j.only s lists h)) (add s);
+    }
+
+pub next_counted : (r : LeafRequest) (answers left left' : List (Result LeafAnswer LeafError)) (place : ℕ) (all next : LeafAnswer) → IsJoining r answers left place all → left ≡ Ok next ∷ left' → IsCounted r next
+next_counted r answers left left' place all next j e =
+    All-head (λ answer. IfOk answer (IsCounted r)) (Ok next) left' (All-same (λ answer. IfOk answer (IsCounted r)) (Ok next ∷ left') left (sym e) j.good)
+
+-- all are joined
+pub all_joined : (r : LeafRequest) (answers left : List (Result LeafAnswer LeafError)) (place : ℕ) (all : LeafAnswer) → IsJoining r answers left place all → left ≡ [] → (s : Schema) (lists : List (List Placed)) → AreAnswers s r answers lists
+    → IsAnswerOf s r (all_of lists) all
+all_joined r answers left place all j none s lists h = go _ (subst (λ ls. AreAnswers s r ls joined.later) none joined.zipped) joined.joined
+  where
+    joined : IsJoined s r left lists all
+    joined = j.only s lists h
+
+    go : (later : List (List Placed)) → AreAnswers s r [] later → joined.prior ++ all_of later ≡ all_of lists → IsAnswerOf s r (all_of lists) all
+    go [] zipped e = subst (λ ds. IsAnswerOf s r ds all) (sym (append-nil joined.prior) ∙ e) joined.answer
+    go (documents ∷ later) zipped e = absurd zipped
+
+-- ---- faults
+
+fault_in : (answers : List (Result LeafAnswer LeafError)) (place : ℕ) (fault : LeafError) → slice_get answers place ≡ Some (Err fault) → IsFaultIn answers (placed_fault place fault)
+fault_in answers place (leaf.Memory a) h = tt
+fault_in answers place (leaf.Missing at) h = h
+fault_in answers place (leaf.Corrupt section) h = h
+
+pub fault_joined : (r : LeafRequest) (answers left left' : List (Result LeafAnswer LeafError)) (place : ℕ) (all : LeafAnswer) (fault : LeafError) (e : SplitsError) → IsJoining r answers left place all → left ≡ Err fault ∷ left' → e ≡ placed_fault place fault
+    → IsFaultIn answers e
+fault_joined r answers left left' place all fault e j is placed = subst (IsFaultIn answers) (sym placed) (fault_in answers place fault (get_first place answers (Err fault) left' (j.rest ∙ is)))
+
+pub full_joined : (r : LeafRequest) (answers left left' : List (Result LeafAnswer LeafError)) (place : ℕ) (all next : LeafAnswer) (e : SplitsError) → IsJoining r answers left place all → left ≡ Ok next ∷ left' → IsFull (all.count + next.count) e
+    → IsFaultIn answers e
+full_joined r answers left left' place all next (Memory a) j is full = tt
+full_joined r answers left left' place all next TooMany j is full =
+    let more : sum_by count_in left ≡ next.count + sum_by count_in left' = ap (sum_by count_in) is ∙ sum_by-cons count_in (Ok next) left' in
+    omega (arith, more, j.sum, full)
+full_joined r answers left left' place all next (Missing from at) j is full = absurd full
+full_joined r answers left left' place all next (Corrupt from section) j is full = absurd full
+
+-- ---- the answers of views
+
+answer_if : (s : Schema) (r : LeafRequest) (documents : List Placed) (Q : LeafError → Type 0) (answer : Result LeafAnswer LeafError) → MatchResult answer (IsAnswerOf s r documents) Q → IfOk answer (IsAnswerOf s r documents)
+answer_if s r documents Q (Ok a) h = h
+answer_if s r documents Q (Err fault) h = tt
+
+are_answers : (s : Schema) (r : LeafRequest) (views : List PartView) (lists : List (List Placed)) (answers : List (Result LeafAnswer LeafError)) → AllZip (IsLeafAnswer s r) views answers → AllZip (IsViewOf s) views lists → IsAsked s r → AreAnswers s r answers lists
+are_answers s r [] [] [] leaves are asked = tt
+are_answers s r [] [] (a ∷ answers) leaves are asked = absurd leaves
+are_answers s r [] (ds ∷ lists) answers leaves are asked = absurd are
+are_answers s r (v ∷ views) [] answers leaves are asked = absurd are
+are_answers s r (v ∷ views) (ds ∷ lists) [] leaves are asked = absurd leaves
+are_answers s r (v ∷ views) (ds ∷ lists) (a ∷ answers) leaves are asked =
+    (answer_if s r ds _ a (leaves.0.only ds are.0.parts are.0.is_part asked), are_answers s r views lists answers leaves.1 are.1 asked)
+
+pub are_counted : (s : Schema) (r : LeafRequest) (views : List PartView) (answers : List (Result LeafAnswer LeafError)) → AllZip (IsLeafAnswer s r) views answers → All (λ answer. IfOk answer (IsCounted r)) answers
+are_counted s r views answers leaves = All-from_recursion (λ answer. IfOk answer (IsCounted r)) answers (go views answers leaves)
+  where
+    go : (views : List PartView) (answers : List (Result LeafAnswer LeafError)) → AllZip (IsLeafAnswer s r) views answers → AllByRecursion (λ answer. IfOk answer (IsCounted r)) answers
+    go [] [] leaves = tt
+    go [] (a ∷ answers) leaves = absurd leaves
+    go (v ∷ views) [] leaves = absurd leaves
+    go (v ∷ views) (a ∷ answers) leaves = (leaves.0.counted, go views answers leaves.1)
+
+pub leaf_counted : (r : LeafRequest) (answer : Result LeafAnswer LeafError) → IfOk answer (λ a. IsPartialOf r.aggs a.partial) → IfOk answer (λ a. documents_in a.partial ≡ a.count) → IfOk answer (IsCounted r)
+leaf_counted r (Ok a) h k = record { partial = h; many = k }
+leaf_counted r (Err fault) h k = tt
+
+found_few : (s : Schema) (r : LeafRequest) (documents : List Placed) → length (found s r documents) ≤ length documents
+found_few s r documents = omega (arith, length-filter (λ (d : Placed). passes s r d.doc) documents, count_by-le-length (λ (d : Placed). passes s r d.doc) documents)
+
+more_few : (answer : Result LeafAnswer LeafError) (ds : List Placed) (answers : List (Result LeafAnswer LeafError)) (lists : List (List Placed)) → count_in answer ≤ length ds → sum_by count_in answers ≤ length (all_of lists)
+    → sum_by count_in (answer ∷ answers) ≤ length (ds ++ all_of lists)
+more_few answer ds answers lists here rest = omega (arith, sum_by-cons count_in answer answers, length-append ds (all_of lists), here, rest)
+
+counts_few : (s : Schema) (r : LeafRequest) (answers : List (Result LeafAnswer LeafError)) (lists : List (List Placed)) → AreAnswers s r answers lists → sum_by count_in answers ≤ length (all_of lists)
+counts_few s r [] [] h = omega arith
+counts_few s r [] (ds ∷ lists) h = absurd h
+counts_few s r (a ∷ answers) [] h = absurd h
+counts_few s r (Ok a ∷ answers) (ds ∷ lists) h =
+    let here : a.count ≤ length ds = omega (arith, h.0.count, found_few s r ds) in
+    more_few (Ok a) ds answers lists here (counts_few s r answers lists h.1)
+counts_few s r (Err fault ∷ answers) (ds ∷ lists) h = more_few (Err fault) ds answers lists (omega arith) (counts_few s r answers lists h.1)
+
+-- the view and the documents at the place of a fault
+record IsAt (s : Schema) (r : LeafRequest) (views : List PartView) (lists : List (List Placed)) (place : ℕ) (fault : LeafError) : Type 0 where
+  view : PartView
+  documents : List Placed
+  seen : slice_get views place ≡ Some view
+  listed : slice_get lists place ≡ Some documents
+  is_view : IsViewOf s view documents
+  is_leaf : IsLeafAnswer s r view (Err fault)
+
+at_fault : (s : Schema) (r : LeafRequest) (views : List PartView) (lists : List (List Placed)) (answers : List (Result LeafAnswer LeafError)) (place : ℕ) (fault : LeafError) → AllZip (IsLeafAnswer s r) views answers → AllZip (IsViewOf s) views lists
+    → slice_get answers place ≡ Some (Err fault) → IsAt s r views lists place fault
+at_fault s r [] [] [] place fault leaves are h = absurd (cc)
+at_fault s r [] [] (a ∷ answers) place fault leaves are h = absurd leaves
+at_fault s r [] (ds ∷ lists) answers place fault leaves are h = absurd are
+at_fault s r (v ∷ views) [] answers place fault leaves are h = absurd are
+at_fault s r (v ∷ views) (ds ∷ lists) [] place fault leaves are h = absurd leaves
+at_fault s r (v ∷ views) (ds ∷ lists) (a ∷ answers) zero fault leaves are h =
+    let here : a ≡ Err fault = cc in
+    record {
+      view = v;
+      documents = ds;
+      seen = refl;
+      listed = refl;
+      is_view = are.0;
+      is_leaf = subst (IsLeafAnswer s r v) here leaves.0;
+    }
+at_fault s r (v ∷ views) (ds ∷ lists) (a ∷ answers) (suc place) fault leaves are h =
+    let rest = at_fault s r views lists answers place fault leaves.1 are.1 h in
+    record {
+      view = rest.view;
+      documents = rest.documents;
+      seen = rest.seen;
+      listed = rest.listed;
+      is_view = rest.is_view;
+      is_leaf = rest.is_leaf;
+    }
+
+fault_cause : (s : Schema) (r : LeafRequest) (views : List PartView) (lists : List (List Placed)) (answers : List (Result LeafAnswer LeafError)) (e : SplitsError) → AllZip (IsLeafAnswer s r) views answers → AllZip (IsViewOf s) views lists
+    → length (all_of lists) < 2 ^ 62 → IsAsked s r → IsFaultIn answers e → HasCauseIn s r views lists e
+fault_cause s r views lists answers (Memory a) leaves are few asked h = tt
+fault_cause s r views lists answers (Missing place at) leaves are few asked h =
+    let there = at_fault s r views lists answers place (leaf.Missing at) leaves are h in
+    let cause = there.is_leaf.only there.documents there.is_view.parts there.is_view.is_part asked in
+    record {
+      view = there.view;
+      documents = there.documents;
+      parts = there.is_view.parts;
+      seen = there.seen;
+      listed = there.listed;
+      is_part = there.is_view.is_part;
+      len = cause.0;
+      asks = cause.1;
+      none = cause.2;
+    }
+fault_cause s r views lists answers (Corrupt place section) leaves are few asked h =
+    let there = at_fault s r views lists answers place (leaf.Corrupt section) leaves are h in
+    there.is_leaf.only there.documents there.is_view.parts there.is_view.is_part asked
+fault_cause s r views lists answers TooMany leaves are few asked h =
+    absurd (omega (arith, h, few, counts_few s r answers lists (are_answers s r views lists answers leaves are asked)))
+
+pub all_searched : (s : Schema) (r : LeafRequest) (views : List PartView) (lists : List (List Placed)) (answers : List (Result LeafAnswer LeafError)) (result : Result LeafAnswer SplitsError) → AllZip (IsLeafAnswer s r) views answers
+    → ((lists : List (List Placed)) → AreAnswers s r answers lists → IfOk result (IsAnswerOf s r (all_of lists))) → IfErr result (IsFaultIn answers) → AllZip (IsViewOf s) views lists → length (all_of lists) < 2 ^ 62 → IsAsked s r
+    → MatchResult result (IsAnswerOf s r (all_of lists)) (HasCauseIn s r views lists)
+all_searched s r views lists answers (Ok a) leaves ok err are few asked = ok lists (are_answers s r views lists answers leaves are asked)
+all_searched s r views lists answers (Err e) leaves ok err are few asked = fault_cause s r views lists answers e leaves are few asked err
+
+-- ---- whole files
+
+whole_views : (s : Schema) (views : List PartView) (lists : List (List Placed)) → AllZip (IsWholeViewOf s) views lists → AllZip (IsViewOf s) views lists
+whole_views s [] [] are = tt
+whole_views s [] (ds ∷ lists) are = absurd are
+whole_views s (v ∷ views) [] are = absurd are
+whole_views s (v ∷ views) (ds ∷ lists) are = (record { parts = are.0.parts; is_part = are.0.is_part }, whole_views s views lists are.1)
+
+-- the fault of a whole file is want of memory
+whole_fault : (s : Schema) (r : LeafRequest) (views : List PartView) (lists : List (List Placed)) (answers : List (Result LeafAnswer LeafError)) (place : ℕ) (fault : LeafError) → AllZip (IsLeafAnswer s r) views answers → AllZip (IsWholeViewOf s) views lists
+    → IsAsked s r → slice_get answers place ≡ Some (Err fault) → IsMemory fault
+whole_fault s r [] [] [] place fault leaves are asked h = absurd (cc)
+whole_fault s r [] [] (a ∷ answers) place fault leaves are asked h = absurd leaves
+whole_fault s r [] (ds ∷ lists) answers place fault leaves are asked h = absurd are
+whole_fault s r (v ∷ views) [] answers place fault leaves are asked h = absurd are
+whole_fault s r (v ∷ views) (ds ∷ lists) [] place fault leaves are asked h = absurd leaves
+whole_fault s r (v ∷ views) (ds ∷ lists) (a ∷ answers) zero fault leaves are asked h =
+    let here : a ≡ Err fault = cc in
+    (subst (IsLeafAnswer s r v) here leaves.0).there ds are.0.parts are.0.is_part are.0.all asked
+whole_fault s r (v ∷ views) (ds ∷ lists) (a ∷ answers) (suc place) fault leaves are asked h = whole_fault s r views lists answers place fault leaves.1 are.1 asked h
+
+whole_cause : (s : Schema) (r : LeafRequest) (views : List PartView) (lists : List (List Placed)) (answers : List (Result LeafAnswer LeafError)) (e : SplitsError) → AllZip (IsLeafAnswer s r) views answers → AllZip (IsWholeViewOf s) views lists
+    → length (all_of lists) < 2 ^ 62 → IsAsked s r → IsFaultIn answers e → WantsMemory e
+whole_cause s r views lists answers (Memory a) leaves are few asked h = tt
+whole_cause s r views lists answers (Missing place at) leaves are few asked h = whole_fault s r views lists answers place (leaf.Missing at) leaves are asked h
+whole_cause s r views lists answers (Corrupt place section) leaves are few asked h = whole_fault s r views lists answers place (leaf.Corrupt section) leaves are asked h
+whole_cause s r views lists answers TooMany leaves are few asked h =
+    absurd (omega (arith, h, few, counts_few s r answers lists (are_answers s r views lists answers leaves (whole_views s views lists are) asked)))
+
+pub whole_searched : (s : Schema) (r : LeafRequest) (views : List PartView) (lists : List (List Placed)) (answers : List (Result LeafAnswer LeafError)) (result : Result LeafAnswer SplitsError) → AllZip (IsLeafAnswer s r) views answers
+    → ((lists : List (List Placed)) → AreAnswers s r answers lists → IfOk result (IsAnswerOf s r (all_of lists))) → IfErr result (IsFaultIn answers) → AllZip (IsWholeViewOf s) views lists → length (all_of lists) < 2 ^ 62 → IsAsked s r
+    → MatchResult result (IsAnswerOf s r (all_of lists)) WantsMemory
+whole_searched s r views lists answers (Ok a) leaves ok err are few asked = ok lists (are_answers s r views lists answers leaves (whole_views s views lists are) asked)
+whole_searched s r views lists answers (Err e) leaves ok err are few asked = whole_cause s r views lists answers e leaves are few asked err

@@ -1,0 +1,255 @@
+-- A search that is planned, and one more of its files.
+use Rattle.std.proofs.Common.{◌≡◌, ℕ, zero, suc, ◌+◌, ◌<◌, ◌≤◌, Bool, true, false, cond, List, [], ◌∷◌, ◌++◌, map, length, take, drop, refl, sym, ap, ap₂, ◌∙◌, subst, arith, Option, Some, None, Ok, slice_get, option_map, add-one, drop-cons}
+use Rattle.std.specs.List.{AllByRecursion, AllZip}
+use Rattle.std.proofs.lemmas.Bool.{and_parts}
+use Rattle.std.proofs.lemmas.List.{take_all, take_more, length-map, map-append}
+use Rattle.std.proofs.lemmas.Option.{slice_get-map, slice_get_within, get_or_from_slice_get}
+use Rattle.doc_value.specs.declared.facts.TimeRange.{TimeRange}
+use Rattle.doc_value.specs.declared.schema.Schema.{Schema}
+use Rattle.query_ast.specs.Sought.{Sought, view}
+use Rattle.meta_store.specs.Contents.{published_rows}
+use Rattle.meta_store.specs.History.{history}
+use Rattle.meta_store.specs.Planning.{is_searched, planned_row, rows_for, searched}
+use Rattle.meta_store.specs.Readings.{config_of}
+use Rattle.meta_store.specs.Rows.{rows}
+use Rattle.meta_store.specs.declared.config.Config.{Config}
+use Rattle.meta_store.specs.declared.planning.Choice.{Choice}
+use Rattle.meta_store.specs.declared.planning.Choice.TheVariants as choices
+use Rattle.meta_store.specs.declared.planning.PlanRow.{PlanRow}
+use Rattle.object_store.specs.Store.{IsPieceOf}
+use Rattle.object_store.specs.declared.store.Piece.{Piece}
+use Rattle.source_log.specs.Log.{Log}
+use Rattle.split_states.specs.Rows.{is_published}
+use Rattle.split_states.specs.declared.facts.RowFacts.{RowFacts}
+use Rattle.split_states.specs.declared.rows.Row.{Row}
+use Rattle.split_form.specs.Facts.{facts_of}
+use Rattle.split_form.specs.Form as form
+use Rattle.index_config.specs.declared.config.IndexConfig.{IndexConfig}
+use Rattle.index_world.specs.Config.{reads}
+use Rattle.index_world.specs.Configuration.{index_of}
+use Rattle.index_world.specs.Core.{Core, IsConfigured, IsUploadedIn}
+use Rattle.index_world.specs.Gate.{IsSoundCore, IsPlan}
+use Rattle.index_world.specs.SplitFile.{AreSplit, file_of}
+use Rattle.index_world.specs.World.{GoesOn}
+use Rattle.index_world.proofs.Indexing.{All-get}
+use Rattle.split_bundle.specs.declared.placed.Placed.{Placed}
+use Rattle.search_api.specs.Resolved.{Search}
+use Rattle.leaf_search.specs.Answers.{IsAsked}
+use Rattle.meta_journal.specs.declared.entry.Entry.{Entry}
+use Rattle.split_bundle.specs.Splits.{IsSplit}
+use Rattle.root_search.specs.LeafAsks.{Asks}
+use Rattle.root_search.specs.ReadSearches.{IsChoiceOf, IsRead}
+use Rattle.root_search.specs.declared.leaf_asks.LeafAsk.{LeafAsk}
+use Rattle.root_search.specs.declared.reads.ReadSearch.{ReadSearch}
+use Rattle.root_search.specs.SplitFiles.{IsFileOf}
+use Rattle.root_search.specs.declared.outcome.SearchStep.TheVariants as steps
+use Rattle.root_search.specs.declared.planned.Planned.{Planned as GivenPlan}
+use Rattle.root_search.specs.declared.searcher.Request.TheVariants as given
+use Rattle.root_search.specs.declared.searcher.Searcher.{Searcher}
+use Rattle.root_search.specs.declared.split_files.SplitFile.{SplitFile}
+use Rattle.root_search.specs.Searching.{IsInHand, history_at, rows_at, documents_at, IsPlanned, IsAtWork, Ends}
+use Rattle.root_search.specs.Steps.{Plan, Client, config_at, config_in, planned_numbers, with_plan}
+use Rattle.root_search.proofs.Zipped.{zip_last}
+use Rattle.root_search.proofs.Stands.{rows_seen, config_seen, planned_goes_on, sound_in_hand, config_is, configured_is}
+
+-- ---- the rows of a plan
+
+chosen_by : (c : Option Config) (config : IndexConfig) (q : Sought) (t : TimeRange) (choice : Choice) (rs : List Row) → index_of c ≡ Some config → IsChoiceOf q t choice → rows_for c choice rs ≡ searched config.schema q t rs
+chosen_by None config q t choice rs e is = absurd (cc)
+chosen_by (Some c) config q t choices.Look rs e is = absurd is
+chosen_by (Some c) config q t (choices.Search query times) rs e is =
+    let same : c.settings.index ≡ config = cc in
+    ap (λ (x : IndexConfig). searched x.schema (view query) times rs) same ∙ ap₂ (λ (x : Sought) (y : TimeRange). searched config.schema x y rs) is.0 is.1
+
+numbers_are : (list : List Row) → map (λ (row : PlanRow). row.number) (map planned_row list) ≡ map (λ (row : Row). row.number) list
+numbers_are [] = refl
+numbers_are (row ∷ list) = ap (λ l. row.number ∷ l) (numbers_are list)
+
+pub plan_ends : (searcher : Searcher) (client : Client) (search : Search) (read : ReadSearch) (held : GivenPlan) (count : ℕ) (config : IndexConfig) (after : Core) (log : Log) → IsSoundCore after log → IsConfigured config after →
+    IsPlan read.choice held.plan after → IsRead config.schema search read → held.ask ≡ read.ask → held.next ≡ 0 → held.files ≡ [] → count ≡ length held.plan.rows → IsAtWork searcher client →
+    Ends (Ok (steps.Planned held.plan.revision count)) (record { client = searcher.client; front = searcher.front; request = given.Planned held }) (with_plan search client after) log
+plan_ends searcher client search read held count config after log s configured p r same first none counted w =
+    record {
+      says = ap₂ (λ (n m : ℕ). Some (steps.Planned n m)) (sym p.revision) (sym (counted ∙ many));
+      stands = record {
+        name = w.name;
+        front = w.front;
+        request = (
+          record { search = search; revision = length after.history; unfetched = planned_numbers (config_in after) search (history after.history) },
+          refl,
+          record {
+            asks = subst (λ (ask : LeafAsk). Asks search ask) (sym same) r.asks;
+            asked = subst (λ (ask : LeafAsk). IsAsked (config_at (length after.history) after).schema ask.request) (sym same)
+                (subst (λ (c : IndexConfig). IsAsked c.schema read.ask.request) (sym (ap config_seen all ∙ is)) r.asked);
+            revision = p.revision;
+            rows = chosen ∙ ap (map planned_row) (sym (ap (λ (seen : List Entry). rows_seen seen search) all));
+            place = omega (arith, first);
+            unfetched = sym (ap (λ (n : ℕ). map (λ (row : PlanRow). row.number) (drop n held.plan.rows)) first ∙ (ap (map (λ (row : PlanRow). row.number)) chosen ∙ numbers_are list));
+            files = subst (λ (n : ℕ). AllZip (IsFileOf (config_at (length after.history) after).schema) held.files (map (documents_at (length after.history) after log) (take n (rows_at (length after.history) search after)))) (sym first)
+                (subst (λ (files : List SplitFile). AllZip (IsFileOf (config_at (length after.history) after).schema) files []) (sym none) tt);
+            in_hand = sound_in_hand after log s;
+          },
+        );
+      };
+    }
+  where
+    all : take (length after.history) after.history ≡ after.history
+    all = take_all (length after.history) after.history (omega arith)
+
+    is : config_seen after.history ≡ config
+    is = config_is after log config s configured
+
+    list : List Row
+    list = rows_seen after.history search
+
+    chosen : held.plan.rows ≡ map planned_row list
+    chosen = p.rows ∙ ap (map planned_row) (chosen_by (config_of reads (history after.history)) config search.query search.times read.choice (rows (history after.history)) (configured_is after log config s configured) r.choice
+        ∙ ap (λ (c : IndexConfig). searched c.schema search.query search.times (rows (history after.history))) (sym is))
+
+    many : length held.plan.rows ≡ length (planned_numbers (config_in after) search (history after.history))
+    many = ap length chosen ∙ (length-map list planned_row ∙ sym (length-map list (λ (row : Row). row.number)))
+
+-- ---- the next row
+
+pub record IsNext (held : GivenPlan) (plan : Plan) (core : Core) (log : Log) (number size : ℕ) : Type 0 where
+  pub row : Row
+  pub stands : slice_get (rows_at plan.revision plan.search core) held.next ≡ Some row
+  pub same : row.number ≡ number
+  pub uploaded : IsUploadedIn core number (file_of (config_at plan.revision core) (documents_at plan.revision core log row))
+  pub long : size ≡ length (file_of (config_at plan.revision core) (documents_at plan.revision core log row))
+  pub split : AreSplit (config_at plan.revision core) (documents_at plan.revision core log row)
+  pub left : plan.unfetched ≡ number ∷ map (λ (r : PlanRow). r.number) (drop (held.next + 1) held.plan.rows)
+
+mapped : {A B : Type 0} (f : A → B) (o : Option A) (b : B) → option_map f o ≡ Some b → (a : A) × (o ≡ Some a) × (f a ≡ b)
+mapped f None b e = cc
+mapped f (Some a) b e = (a, refl, cc)
+
+size_is : (s : Schema) (documents : List Placed) (rejected : ℕ) → (facts_of s documents rejected).size ≡ length (form.file_of s documents)
+unfolding facts_of
+size_is s documents rejected = refl
+
+-- what holds of the published rows holds of those that are searched
+pub searched_each : (P : Row → Type 0) (s : Schema) (q : Sought) (t : TimeRange) (rs : List Row) → AllByRecursion P (published_rows rs) → AllByRecursion P (searched s q t rs)
+searched_each P s q t [] all = tt
+searched_each P s q t (row ∷ rs) all = by (is_published row.state) (is_searched s q t row) refl refl all (searched_each P s q t rs)
+  where
+    by : (p b : Bool) → is_published row.state ≡ p → is_searched s q t row ≡ b → AllByRecursion P (cond p (row ∷ published_rows rs) (published_rows rs)) → (AllByRecursion P (published_rows rs) → AllByRecursion P (searched s q t rs)) → AllByRecursion P (cond b (row ∷ searched s q t rs) (searched s q t rs))
+    by true true e f a more = (a.0, more a.1)
+    by true false e f a more = more a.1
+    by false true e f a more = let wrong : true ≡ false = sym (and_parts (is_published row.state) _ f).0 ∙ e in absurd (cc)
+    by false false e f a more = more a
+
+pub next_row : (held : GivenPlan) (plan : Plan) (core : Core) (log : Log) (row : PlanRow) → IsPlanned held plan core log → slice_get held.plan.rows held.next ≡ Some row → IsNext held plan core log row.number row.size
+next_row held plan core log row p found =
+    record {
+      row = m.0;
+      stands = m.1;
+      same = number;
+      uploaded = subst (λ n. IsUploadedIn core n (file_of (config_at plan.revision core) (documents_at plan.revision core log m.0))) number i.file;
+      long = ap (λ (r : PlanRow). r.size) (sym m.2) ∙ (ap (λ (f : RowFacts). f.size) i.facts.1 ∙ size_is (config_at plan.revision core).schema (documents_at plan.revision core log m.0) i.facts.0);
+      split = i.split;
+      left = p.unfetched ∙ ap (map (λ (r : PlanRow). r.number)) split;
+    }
+  where
+    list : List Row
+    list = rows_at plan.revision plan.search core
+
+    m : (r : Row) × (slice_get (rows_at plan.revision plan.search core) held.next ≡ Some r) × (planned_row r ≡ row)
+    m = mapped planned_row (slice_get list held.next) row (sym (slice_get-map planned_row list held.next) ∙ (ap (λ l. slice_get l held.next) (sym p.rows) ∙ found))
+
+    i : IsInHand plan.revision core log m.0
+    i = All-get (IsInHand plan.revision core log) list held.next m.0
+        (searched_each (IsInHand plan.revision core log) (config_at plan.revision core).schema plan.search.query plan.search.times (rows (history_at plan.revision core)) p.in_hand.each) m.1
+
+    number : m.0.number ≡ row.number
+    number = ap (λ (r : PlanRow). r.number) m.2
+
+    within : held.next < length held.plan.rows
+    within = slice_get_within held.plan.rows held.next row found
+
+    split : drop held.next held.plan.rows ≡ row ∷ drop (held.next + 1) held.plan.rows
+    split = let lt = within in rw (add-one, drop-cons held.plan.rows held.next row, get_or_from_slice_get held.plan.rows held.next row row found)
+
+-- ---- how many rows there are
+
+pub searched_few : (s : Schema) (q : Sought) (t : TimeRange) (rs : List Row) → length (searched s q t rs) ≤ length rs
+searched_few s q t [] = omega arith
+searched_few s q t (row ∷ rs) = by (is_searched s q t row) (searched_few s q t rs)
+  where
+    by : (b : Bool) → length (searched s q t rs) ≤ length rs → length (cond b (row ∷ searched s q t rs) (searched s q t rs)) ≤ length (row ∷ rs)
+    by true le = omega (arith, le)
+    by false le = omega (arith, le)
+
+pub planned_few : (held : GivenPlan) (plan : Plan) (core : Core) (log : Log) → IsPlanned held plan core log → length held.plan.rows ≤ 100000
+planned_few held plan core log p =
+    let list = rows_at plan.revision plan.search core in
+    let most = p.in_hand.few in
+    let fewer = searched_few (config_at plan.revision core).schema plan.search.query plan.search.times (rows (history_at plan.revision core)) in
+    omega (arith, most, fewer, ap length p.rows, length-map list planned_row)
+
+-- ---- one more file
+
+-- all bytes of a file that is as long as what was asked for
+pub whole_piece : (bytes : List ℕ) (len : ℕ) (piece : Piece) → IsPieceOf bytes 0 len piece → len ≡ length bytes → piece.bytes ≡ bytes
+whole_piece bytes len piece p long = p.bytes_are ∙ take_all len bytes (omega (arith, long))
+
+pub one_more : (held more : GivenPlan) (plan : Plan) (core after : Core) (log : Log) (number size : ℕ) (file : SplitFile) → IsPlanned held plan core log → (next : IsNext held plan core log number size) →
+    GoesOn None core after → more.ask ≡ held.ask → more.plan ≡ held.plan → more.next ≡ held.next + 1 → more.files ≡ held.files ++ file ∷ [] →
+    file.bytes ≡ file_of (config_at plan.revision core) (documents_at plan.revision core log next.row) →
+    IsPlanned more (record plan { unfetched = map (λ (r : PlanRow). r.number) (drop (held.next + 1) held.plan.rows) }) after log
+one_more held more plan core after log number size file p next on ask same further behind bytes =
+    planned_goes_on None more later core after log on
+    (record {
+      asks = subst (λ (a : LeafAsk). Asks plan.search a) (sym ask) p.asks;
+      asked = subst (λ (a : LeafAsk). IsAsked (config_at plan.revision core).schema a.request) (sym ask) p.asked;
+      revision = ap (λ (q : _). q.revision) same ∙ p.revision;
+      rows = rows_same ∙ p.rows;
+      place = omega (arith, further, within, ap length rows_same);
+      unfetched = ap₂ (λ n l. map (λ (r : PlanRow). r.number) (drop n l)) (sym further) (sym rows_same);
+      files = subst (λ (files : List SplitFile). AllZip (IsFileOf s) files (map docs (take more.next list))) (sym behind)
+          (subst (λ (lists : List (List Placed)). AllZip (IsFileOf s) (held.files ++ file ∷ []) lists) (sym (map-append docs (take held.next list) (next.row ∷ [])) ∙ ap (map docs) (sym taken))
+          (zip_last (IsFileOf s) held.files (map docs (take held.next list)) file (docs next.row) p.files (subst (λ (bs : List ℕ). IsSplit s bs (docs next.row)) (sym bytes) next.split.stands)));
+      in_hand = p.in_hand;
+    })
+  where
+    later : Plan
+    later = record plan { unfetched = map (λ (r : PlanRow). r.number) (drop (held.next + 1) held.plan.rows) }
+
+    s : Schema
+    s = (config_at plan.revision core).schema
+
+    docs : Row → List Placed
+    docs = documents_at plan.revision core log
+
+    list : List Row
+    list = rows_at plan.revision plan.search core
+
+    rows_same : more.plan.rows ≡ held.plan.rows
+    rows_same = ap (λ (q : _). q.rows) same
+
+    there : held.next < length list
+    there = slice_get_within list held.next next.row next.stands
+
+    within : held.next < length held.plan.rows
+    within = omega (arith, there, ap length p.rows, length-map list planned_row)
+
+    taken : take more.next list ≡ take held.next list ++ next.row ∷ []
+    taken = ap (λ n. take n list) further ∙ (take_more list held.next next.row there ∙ ap (λ r. take held.next list ++ r ∷ []) (get_or_from_slice_get list held.next next.row next.row next.stands))
+
+-- ---- the last row is fetched
+
+drop_past : {A : Type 0} (xs : List A) (n : ℕ) → length xs ≤ n → drop n xs ≡ []
+drop_past [] zero le = refl
+drop_past [] (suc n) le = refl
+drop_past (x ∷ xs) zero le = absurd (omega arith)
+drop_past (x ∷ xs) (suc n) le = drop_past xs n (omega (arith, le))
+
+pub all_fetched : (held : GivenPlan) (plan : Plan) (core : Core) (log : Log) → IsPlanned held plan core log → length held.plan.rows ≤ held.next → plan.unfetched ≡ []
+all_fetched held plan core log p over = p.unfetched ∙ ap (map (λ (r : PlanRow). r.number)) (drop_past held.plan.rows held.next over)
+
+-- and all of the files are there
+pub all_files : (held : GivenPlan) (plan : Plan) (core : Core) (log : Log) → IsPlanned held plan core log → length held.plan.rows ≤ held.next →
+    AllZip (IsFileOf (config_at plan.revision core).schema) held.files (map (documents_at plan.revision core log) (rows_at plan.revision plan.search core))
+all_files held plan core log p over =
+    subst (λ (list : List Row). AllZip (IsFileOf (config_at plan.revision core).schema) held.files (map (documents_at plan.revision core log) list))
+    (take_all held.next (rows_at plan.revision plan.search core) (omega (arith, over, ap length p.rows, length-map (rows_at plan.revision plan.search core) planned_row))) p.files

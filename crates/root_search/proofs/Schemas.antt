@@ -1,0 +1,72 @@
+-- What a schema says of the searches over it.
+use Rattle.std.proofs.Common.{◌≡◌, ℕ, ◌<◌, ◌≤◌, Bool, true, false, T, List, [], ◌∷◌, length, Option, Some, None, ◌&&◌, refl, sym, ap₂, subst, arith, slice_get}
+use Rattle.std.proofs.Props.{props}
+use Rattle.std.proofs.Math.Logic.{∥∥₁_elim}
+use Rattle.std.specs.List.{list_all}
+use Rattle.std.specs.Option.{IfSome, MatchOption}
+use Rattle.std.proofs.lemmas.Bool.{and_parts}
+use Rattle.std.proofs.lemmas.List.Elements.{All-nil, All-cons, All-head, All-tail}
+use Rattle.std.proofs.lemmas.Option.{slice_get_within}
+use lib.Signed.{le_z_yes}
+use Rattle.doc_value.specs.Documents.{IsSchema}
+use Rattle.doc_value.specs.declared.schema.Field.{Field}
+use Rattle.doc_value.specs.declared.schema.Schema.{Schema}
+use Rattle.query_ast.specs.Queries.{HasField}
+use Rattle.agg_model.specs.Checking.{has_interval, HasInterval, HaveIntervals}
+use Rattle.agg_model.specs.declared.request.Agg.{Agg}
+use Rattle.agg_model.specs.declared.request.Agg.TheVariants.{Terms, Histogram}
+use Rattle.agg_model.specs.declared.request.NamedAgg.{NamedAgg}
+use Rattle.search_api.specs.Answerable.{IsAnswerable}
+use Rattle.search_api.specs.Resolved.{Search}
+use Rattle.search_api.specs.declared.resolved.SortField.{SortField}
+
+few_prop : (a b : ℕ) → IsProp (a ≤ b)
+few_prop a b = hlevel props
+
+pub few_fields : (s : Schema) → ∥ IsSchema s ∥₁ → length s.fields ≤ 256
+few_fields s h = ∥∥₁_elim h (few_prop (length s.fields) 256) (λ x. x.few)
+
+-- ---- the field that is sorted by
+
+there_within : (o : Option Field) (P : Field → Type 0) → MatchOption o ⊥ P → (f : Field) × (o ≡ Some f)
+there_within None P h = absurd h
+there_within (Some f) P h = (f, refl)
+
+field_within : (s : Schema) (n : ℕ) (P : Field → Type 0) → HasField s n P → n < length s.fields
+field_within s n P h = let f = there_within (slice_get s.fields n) P h in slice_get_within s.fields n f.0 f.1
+
+sort_if : (o : Option SortField) (P : SortField → Type 0) (x : SortField) → IfSome o P → o ≡ Some x → P x
+sort_if None P x h e = absurd (cc)
+sort_if (Some y) P x h e = let same : y ≡ x = cc in subst P same h
+
+pub sort_narrow : (s : Schema) (search : Search) → ∥ IsSchema s ∥₁ → IsAnswerable s search → (x : SortField) → search.sort ≡ Some x → x.field < 4294967296
+sort_narrow s search schema h x e =
+    let has = sort_if search.sort (λ sort. HasField s sort.field (λ f. f.fast ≡ true)) x h.sort e in
+    let within = field_within s x.field (λ f. f.fast ≡ true) has in
+    let few = few_fields s schema in
+    omega (arith, within, few)
+
+-- ---- the intervals of aggregations
+
+t_true : (b : Bool) → T b → b ≡ true
+t_true true t = refl
+t_true false t = absurd t
+
+interval_kept : (agg : Agg) → HasInterval agg → has_interval agg ≡ true
+interval_kept (Terms field size) h = refl
+interval_kept (Histogram field interval offset least dated) h = t_true _ h.le
+
+interval_there : (agg : Agg) → has_interval agg ≡ true → HasInterval agg
+interval_there (Terms field size) e = tt
+interval_there (Histogram field interval offset least dated) e = le_z_yes (subst T (sym e) tt)
+
+pub intervals_kept : (request : List NamedAgg) → HaveIntervals request → list_all (λ named. has_interval named.agg) request ≡ true
+intervals_kept [] all = refl
+intervals_kept (named ∷ request) all =
+    ap₂ (λ (a b : Bool). a && b) (interval_kept named.agg (All-head (λ (n : NamedAgg). HasInterval n.agg) named request all)) (intervals_kept request (All-tail (λ (n : NamedAgg). HasInterval n.agg) named request all))
+
+pub intervals_there : (request : List NamedAgg) → list_all (λ named. has_interval named.agg) request ≡ true → HaveIntervals request
+intervals_there [] e = All-nil (λ (n : NamedAgg). HasInterval n.agg)
+intervals_there (named ∷ request) e =
+    let both = and_parts (has_interval named.agg) (list_all (λ n. has_interval n.agg) request) e in
+    All-cons (λ (n : NamedAgg). HasInterval n.agg) named request (interval_there named.agg both.0) (intervals_there request both.1)

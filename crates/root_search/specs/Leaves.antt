@@ -1,0 +1,96 @@
+-- The answers of many splits.
+use Rattle.std.specs.Prelude.{◌≡◌, ℕ, ◌^◌, ◌≤◌, List, flat_map, sum_by, slice_get, Some, None, Result, Ok, Err, IfOk, MatchResult}
+use Rattle.doc_value.specs.declared.schema.Schema.{Schema}
+use Rattle.agg_model.specs.Partials.{IsPartialOf, documents_in}
+use Rattle.split_bundle.specs.Files.{Parts, file_bytes}
+use Rattle.split_bundle.specs.Lending.{IsPartOf}
+use Rattle.split_bundle.specs.Wholes.{HaveAll}
+use Rattle.split_bundle.specs.Pieces.{held_in}
+use Rattle.split_bundle.specs.declared.part_view.PartView.{PartView}
+use Rattle.split_bundle.specs.declared.placed.Placed.{Placed}
+use Rattle.doc_sets.specs.Faults.{HasCause, IsMemory}
+use Rattle.doc_sets.specs.declared.leaf_error.LeafError.{LeafError}
+use Rattle.doc_sets.specs.declared.leaf_error.LeafError.TheVariants as leaf
+use Rattle.leaf_search.specs.Answers.{AsksLeaf, IsAnswerOf, IsAsked}
+use Rattle.leaf_search.specs.declared.request.LeafAnswer.{LeafAnswer}
+use Rattle.leaf_search.specs.declared.request.LeafRequest.{LeafRequest}
+use Rattle.root_search.specs.declared.splits_error.SplitsError.{SplitsError}
+use Rattle.root_search.specs.declared.splits_error.SplitsError.TheVariants.{Corrupt, Memory, Missing, TooMany}
+
+-- the documents of some lists, one list after the other
+abbrev pub all_of : List (List Placed) → List Placed
+all_of lists = flat_map (λ documents. documents) lists
+
+-- an answer whose partial is one of the request and counts as many documents
+pub record IsCounted (r : LeafRequest) (a : LeafAnswer) : Type 0 where
+  pub partial : IsPartialOf r.aggs a.partial
+  pub many : documents_in a.partial ≡ a.count
+
+-- the view is one of a split of these documents
+pub record IsViewOf (s : Schema) (v : PartView) (documents : List Placed) : Type 0 where
+  pub parts : Parts
+  pub is_part : IsPartOf v s documents parts
+
+-- the same, and its pieces have every part of the file
+pub record IsWholeViewOf (s : Schema) (v : PartView) (documents : List Placed) : Type 0 where
+  pub parts : Parts
+  pub is_part : IsPartOf v s documents parts
+  pub all : HaveAll (file_bytes parts) v.pieces
+
+-- what a leaf answers over a view
+pub record IsLeafAnswer (s : Schema) (r : LeafRequest) (v : PartView) (answer : Result LeafAnswer LeafError) : Type 0 where
+  pub only : (documents : List Placed) (p : Parts) → IsPartOf v s documents p → IsAsked s r
+      → MatchResult answer (IsAnswerOf s r documents) (HasCause (AsksLeaf v s documents p r) v.pieces)
+  pub there : (documents : List Placed) (p : Parts) → IsPartOf v s documents p → HaveAll (file_bytes p) v.pieces → IsAsked s r → MatchResult answer (IsAnswerOf s r documents) IsMemory
+  pub counted : IfOk answer (IsCounted r)
+
+-- how many documents an answer counts
+abbrev pub count_in : Result LeafAnswer LeafError → ℕ
+count_in (Ok a) = a.count
+count_in (Err fault) = 0
+
+-- the fault is that of the answer at a place, or the answers count too many documents together
+abbrev pub IsFaultIn : List (Result LeafAnswer LeafError) → SplitsError → Type 0
+IsFaultIn answers (Memory a) = Unit {0}
+IsFaultIn answers (Missing place at) = slice_get answers place ≡ Some (Err (leaf.Missing at))
+IsFaultIn answers (Corrupt place section) = slice_get answers place ≡ Some (Err (leaf.Corrupt section))
+IsFaultIn answers TooMany = 2 ^ 62 ≤ sum_by count_in answers
+
+-- want of memory, or so many documents that they are not counted
+abbrev pub IsFull : ℕ → SplitsError → Type 0
+IsFull many (Memory a) = Unit {0}
+IsFull many TooMany = 2 ^ 62 ≤ many
+IsFull many (Missing place at) = ⊥
+IsFull many (Corrupt place section) = ⊥
+
+-- the fault of the split at a place
+abbrev pub placed_fault : ℕ → LeafError → SplitsError
+placed_fault place (leaf.Memory a) = Memory a
+placed_fault place (leaf.Missing at) = Missing place at
+placed_fault place (leaf.Corrupt section) = Corrupt place section
+
+-- of the view at a place, which is one of a split of the documents at that place, a part is asked for that no piece has
+pub record IsLacking (s : Schema) (r : LeafRequest) (views : List PartView) (lists : List (List Placed)) (place at : ℕ) : Type 0 where
+  pub view : PartView
+  pub documents : List Placed
+  pub parts : Parts
+  pub seen : slice_get views place ≡ Some view
+  pub listed : slice_get lists place ≡ Some documents
+  pub is_part : IsPartOf view s documents parts
+  pub len : ℕ
+  pub asks : AsksLeaf view s documents parts r at len
+  pub none : held_in view.pieces at len ≡ None
+
+-- want of memory, or a view that lacks a part, by its place, and where the part starts
+abbrev pub HasCauseIn : Schema → LeafRequest → List PartView → List (List Placed) → SplitsError → Type 0
+HasCauseIn s r views lists (Memory a) = Unit {0}
+HasCauseIn s r views lists (Missing place at) = IsLacking s r views lists place at
+HasCauseIn s r views lists (Corrupt place section) = ⊥
+HasCauseIn s r views lists TooMany = ⊥
+
+-- nothing but want of memory
+abbrev pub WantsMemory : SplitsError → Type 0
+WantsMemory (Memory a) = Unit {0}
+WantsMemory (Missing place at) = ⊥
+WantsMemory (Corrupt place section) = ⊥
+WantsMemory TooMany = ⊥

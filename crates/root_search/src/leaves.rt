@@ -1,0 +1,131 @@
+//! The answer over many splits.
+
+ghost use Rattle.std.specs.Prelude.{◌≡◌, ◌+◌, ◌^◌, ◌<◌, ◌≤◌, ◌++◌, [], List, length, Some, Err, IfErr, IfOk, MatchResult};
+ghost use Rattle.std.specs.List.{All, AllZip};
+ghost use Rattle.doc_value.specs.declared.schema.Schema.{Schema};
+ghost use Rattle.agg_model.specs.Checking.{HaveIntervals};
+ghost use Rattle.split_bundle.specs.declared.placed.Placed.{Placed};
+ghost use Rattle.leaf_search.specs.Answers.{IsAnswerOf, IsAsked};
+ghost use Rattle.root_search.specs.Leaves.{HasCauseIn, IsCounted, IsFaultIn, IsFull, IsLeafAnswer, IsViewOf, IsWholeViewOf, WantsMemory, all_of, placed_fault};
+
+use crate::joins::merged;
+use crate::splits_error::SplitsError;
+use agg_model::vacant_partial;
+use doc_value::Schema;
+use leaf_search::{LeafAnswer, LeafError, LeafRequest, leaf};
+use split_bundle::{PartView, PlacedList};
+use std::alloc::{AllocError, Global};
+use std::collections::VecDeque;
+
+// So many documents are too many to be counted.
+const TOO_MANY: u64 = 1 << 62;
+
+// The answer over no documents.
+fn vacant_answer(alloc: Global, request: &LeafRequest) -> Result<LeafAnswer, AllocError>
+    ensures only { (s : Schema) → IfOk result (IsAnswerOf s request.now []) }
+    ensures counted { IfOk result (IsCounted request.now) }
+    ensures count { IfOk result (λ vacant. vacant.count ≡ 0) }
+{
+    Ok(LeafAnswer {
+        count: 0,
+        hits: PlacedList::vacant(alloc),
+        partial: vacant_partial(alloc, &request.aggs)?,
+    })
+}
+
+// The answers over two lists of documents, joined, if they are not too many together.
+fn added(
+    alloc: Global,
+    request: &LeafRequest,
+    all: LeafAnswer,
+    next: LeafAnswer,
+) -> Result<LeafAnswer, SplitsError>
+    requires all { IsCounted request.now all }
+    requires next { IsCounted request.now next }
+    ensures only { (s : Schema) (xs ys : List Placed) → IsAnswerOf s request.now xs all → IsAnswerOf s request.now ys next
+        → IfOk result (IsAnswerOf s request.now (xs ++ ys)) }
+    ensures counted { IfOk result (IsCounted request.now) }
+    ensures count { IfOk result (λ joined. joined.count ≡ all.count + next.count) }
+    ensures full { IfErr result (IsFull (all.count + next.count)) }
+{
+    if all.count + next.count >= TOO_MANY {
+        return Err(SplitsError::TooMany);
+    }
+    Ok(merged(alloc, request, all, next)?)
+}
+
+// The fault of the split at a place.
+fn fault_at(place: usize, fault: LeafError) -> SplitsError
+    ensures { result ≡ placed_fault place fault }
+{
+    match fault {
+        LeafError::Memory(refused) => SplitsError::Memory(refused),
+        LeafError::Missing { at } => SplitsError::Missing { place, at },
+        LeafError::Corrupt { section } => SplitsError::Corrupt { place, section },
+    }
+}
+
+// The answers of splits, joined in their order.
+fn joined(
+    alloc: Global,
+    request: &LeafRequest,
+    answers: Vec<Result<LeafAnswer, LeafError>>,
+) -> Result<LeafAnswer, SplitsError>
+    requires { All (λ answer. IfOk answer (IsCounted request.now)) answers.items }
+    ensures only { (s : Schema) (lists : List (List Placed)) → AllZip (λ answer documents. IfOk answer (IsAnswerOf s request.now documents)) answers.items lists
+        → IfOk result (IsAnswerOf s request.now (all_of lists)) }
+    ensures counted { IfOk result (IsCounted request.now) }
+    ensures fault { IfErr result (IsFaultIn answers.items) }
+{
+    let mut all = vacant_answer(alloc, request)?;
+    let mut left = VecDeque::from_vec(answers);
+    let mut place = 0;
+    while let Some(answer) = left.pop_front() {
+        match answer {
+            Ok(next) => all = added(alloc, request, all, next)?,
+            Err(fault) => return Err(fault_at(place, fault)),
+        }
+        place += 1;
+    }
+    Ok(all)
+}
+
+// What each split answers.
+fn answers_of(
+    alloc: Global,
+    schema: &Schema,
+    request: &LeafRequest,
+    views: &[PartView<'_>],
+) -> Result<Vec<Result<LeafAnswer, LeafError>>, AllocError>
+    requires fields { length schema.now.fields ≤ 256 }
+    requires intervals { HaveIntervals request.now.aggs }
+    ensures { IfOk result (λ answers. AllZip (IsLeafAnswer schema.now request.now) views.now answers.items) }
+{
+    let mut answers = Vec::new(alloc);
+    for view in views {
+        answers.push(leaf(alloc, schema, request, view))?;
+    }
+    Ok(answers)
+}
+
+/// What splits answer to a request together: the answer over the documents of the first one, then those of the second, and so on.
+pub fn search_all(
+    alloc: Global,
+    schema: &Schema,
+    request: &LeafRequest,
+    views: &[PartView<'_>],
+) -> Result<LeafAnswer, SplitsError>
+    requires fields { length schema.now.fields ≤ 256 }
+    requires intervals { HaveIntervals request.now.aggs }
+    // Of splits of documents, of which there are fewer than 2^62 together.
+    ensures only { (lists : List (List Placed)) → AllZip (IsViewOf schema.now) views.now lists → length (all_of lists) < 2 ^ 62 → IsAsked schema.now request.now
+        → MatchResult result (IsAnswerOf schema.now request.now (all_of lists)) (HasCauseIn schema.now request.now views.now lists) }
+    // Where each view has its whole file.
+    ensures there { (lists : List (List Placed)) → AllZip (IsWholeViewOf schema.now) views.now lists → length (all_of lists) < 2 ^ 62 → IsAsked schema.now request.now
+        → MatchResult result (IsAnswerOf schema.now request.now (all_of lists)) WantsMemory }
+    // Over any bytes.
+    ensures counted { IfOk result (IsCounted request.now) }
+{
+    let answers = answers_of(alloc, schema, request, views)?;
+    joined(alloc, request, answers)
+}
