@@ -6,6 +6,13 @@ pub mod Showing
 pub mod Joining
 pub mod Wholes
 pub mod Zipped
+pub mod SameFooters
+pub mod PartViews
+pub mod Fetches
+pub mod Tails
+pub mod Kept
+pub mod Puts
+pub mod Needed
 pub mod Schemas
 pub mod Orders
 pub mod Records

@@ -167,3 +167,33 @@ step_words steps.Idle = codes "idle" ∷ []
 step_words (steps.Planned revision count) = codes "planned" ∷ decimal revision ∷ decimal count ∷ []
 step_words (steps.Fetched number) = codes "fetched" ∷ decimal number ∷ []
 step_words (steps.Replied reply) = reply_text reply ∷ []
+
+-- ---- a step between whose calls other actors act
+
+-- a call at its turn: the core that it finds, and its fate
+pub record Turn : Type 0 where
+  pub core : Core
+  pub fate : Fate
+
+-- fetches at their turns, until one fails: the answer, and the core that the last one leaves
+abbrev pub fetched_at : Core → List Turn → Gives Trouble ⊤
+fetched_at core [] = gives (Ok tt) core
+fetched_at core (turn ∷ more) = unless_fault (fetched turn.fate turn.core).answer (fetched turn.fate turn.core).core (λ left. fetched_at left more)
+
+-- before each turn other actors may have acted on the core that the call before it left
+abbrev pub ArePassed : (Core → Core → Type 0) → Core → List Turn → Type 0
+ArePassed Between core [] = ⊤
+ArePassed Between core (turn ∷ more) = Between core turn.core × ArePassed Between (fetched turn.fate turn.core).core more
+
+abbrev pub next_at : Turn → List Turn → Log → Plan → List ℕ → Client → Searched
+next_at turn more log plan [] client = reply_with plan.revision (answer_of plan log turn.core) client turn.core
+next_at turn more log plan (number ∷ left) client = fetch_given plan number left client (fetched_at turn.core (turn ∷ more))
+
+abbrev pub request_at : Request → Turn → List Turn → Log → Client → Searched
+request_at no_request turn more log client = record { outcome = Some steps.Idle; client = client; core = turn.core }
+request_at (opened text) turn more log client = plan_given text client (asked_and_looked turn.fate turn.core)
+request_at (planned plan) turn more log client = next_at turn more log plan plan.unfetched client
+
+-- the step of a client whose calls have these turns. Where no other actor acts it is `step_client` with these fates.
+abbrev pub step_at : Turn → List Turn → Bool → Log → Client → Searched
+step_at turn more short log client = or_short short client (request_at client.request turn more log client)

@@ -6,7 +6,7 @@ ghost use Rattle.doc_value.specs.declared.schema.Schema.{Schema};
 ghost use Rattle.agg_model.specs.Checking.{HaveIntervals};
 ghost use Rattle.split_bundle.specs.declared.placed.Placed.{Placed};
 ghost use Rattle.leaf_search.specs.Answers.{IsAnswerOf, IsAsked};
-ghost use Rattle.root_search.specs.Leaves.{HasCauseIn, IsCounted, IsFaultIn, IsFull, IsLeafAnswer, IsViewOf, IsWholeViewOf, WantsMemory, all_of, placed_fault};
+ghost use Rattle.root_search.specs.Leaves.{HasAsked, HasCauseIn, IsCounted, IsFaultIn, IsFull, IsLeafAnswer, IsViewOf, IsWholeViewOf, WantsMemory, all_of, placed_fault};
 
 use crate::joins::merged;
 use crate::splits_error::SplitsError;
@@ -120,6 +120,9 @@ pub fn search_all(
     // Of splits of documents, of which there are fewer than 2^62 together.
     ensures only { (lists : List (List Placed)) → AllZip (IsViewOf schema.now) views.now lists → length (all_of lists) < 2 ^ 62 → IsAsked schema.now request.now
         → MatchResult result (IsAnswerOf schema.now request.now (all_of lists)) (HasCauseIn schema.now request.now views.now lists) }
+    // Where each view has what the request asks for.
+    ensures asked { (lists : List (List Placed)) → AllZip (HasAsked schema.now request.now) views.now lists → length (all_of lists) < 2 ^ 62 → IsAsked schema.now request.now
+        → MatchResult result (IsAnswerOf schema.now request.now (all_of lists)) WantsMemory }
     // Where each view has its whole file.
     ensures there { (lists : List (List Placed)) → AllZip (IsWholeViewOf schema.now) views.now lists → length (all_of lists) < 2 ^ 62 → IsAsked schema.now request.now
         → MatchResult result (IsAnswerOf schema.now request.now (all_of lists)) WantsMemory }

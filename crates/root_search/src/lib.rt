@@ -4,14 +4,17 @@
 mod answer_laws;
 mod answers;
 mod asking;
+mod fetching;
+mod footers;
 mod joins;
 mod leaf_asks;
 mod leaves;
 mod outcome;
+mod part_answers;
 mod planned;
 mod reads;
 mod searcher;
-mod split_files;
+mod split_parts;
 mod splits_error;
 
 pub use answer_laws::same_answers;
@@ -21,7 +24,8 @@ pub use joins::merged;
 pub use leaf_asks::{LeafAsk, Page, leaf_ask};
 pub use leaves::search_all;
 pub use outcome::{SearchStep, print_outcome};
+pub use part_answers::answer_over;
 pub use reads::ReadSearch;
 pub use searcher::{Busy, Searcher};
-pub use split_files::{SplitFile, SplitFiles, answer_over};
+pub use split_parts::{KeptPiece, KeptPieces, SplitPart, SplitParts};
 pub use splits_error::SplitsError;

@@ -16,12 +16,16 @@ ghost use Rattle.root_search.specs.Steps as steps;
 ghost use Rattle.root_search.specs.Steps.{opened, without_request, reply_with, trouble_replied, refused_over};
 
 use crate::asking::read_search;
+use crate::fetching::{FetchError, fetch_part};
+use crate::footers::Footers;
 use crate::outcome::SearchStep;
+use crate::part_answers::answer_over;
 use crate::planned::Planned;
 use crate::reads::ReadSearch;
-use crate::split_files::{SplitFile, SplitFiles, answer_over};
+use crate::split_parts::SplitParts;
 use byte_fields::{Client, Text};
 use index_world::{Gate, WorldError};
+use meta_journal::split_key;
 use meta_store::Choice;
 use search_api::{Refusal, Reply, Said, Unanswered};
 use std::alloc::{AllocError, Global};
@@ -47,6 +51,7 @@ pub struct Searcher {
     client: Client,
     // The revision of the last reply.
     front: u64,
+    footers: Footers,
     request: Request,
 }
 
@@ -75,6 +80,7 @@ impl Searcher {
         Searcher {
             client,
             front: 0,
+            footers: Footers::vacant(),
             request: Request::Vacant,
         }
     }
@@ -92,13 +98,14 @@ impl Searcher {
         &self.client
     }
 
-    /// Drops the request. The client and its front stay.
+    /// Drops the request and the footers that are kept. The client and its front stay.
     pub fn restart(&mut self)
         // Whatever the world is then.
         ensures { (client : steps.Client) (core after : Core) (log : Log) → SearcherStands self.old client core log →
             SearcherStands self.new (without_request client) after log }
     {
         self.request = Request::Vacant;
+        self.footers = Footers::vacant();
     }
 
     /// Opens a request. Where one is unanswered the text is dropped.
@@ -116,7 +123,7 @@ impl Searcher {
     }
 
     fn reply(&mut self, revision: u64, said: Said) -> SearchStep
-        ensures { (client : steps.Client) (core : Core) (log : Log) → IsAtWork self.old client →
+        ensures { (client : steps.Client) (core : Core) (log : Log) → IsAtWork self.old client core →
             Ends (Ok result) self.new (reply_with revision said client core) log }
     {
         self.front = revision;
@@ -128,7 +135,7 @@ impl Searcher {
     }
 
     fn refuse(&mut self, revision: u64, error: WorldError) -> Result<SearchStep, AllocError>
-        ensures { (trouble : Trouble) (client : steps.Client) (core : Core) (log : Log) → IsTrouble error trouble → IsAtWork self.old client →
+        ensures { (trouble : Trouble) (client : steps.Client) (core : Core) (log : Log) → IsTrouble error trouble → IsAtWork self.old client core →
             Ends result self.new (trouble_replied revision trouble client core) log }
     {
         let refusal = refused_by(error)?;
@@ -141,7 +148,7 @@ impl Searcher {
         refusal: Refusal,
         error: WorldError,
     ) -> Result<SearchStep, AllocError>
-        ensures { (trouble : Trouble) (client : steps.Client) (core : Core) (log : Log) → IsTrouble error trouble → IsAtWork self.old client →
+        ensures { (trouble : Trouble) (client : steps.Client) (core : Core) (log : Log) → IsTrouble error trouble → IsAtWork self.old client core →
             Ends result self.new (refused_over client.front refusal trouble client core) log }
     {
         let _fault = refused_by(error)?;
@@ -157,7 +164,7 @@ impl Searcher {
     ) -> Result<SearchStep, AllocError>
         ensures { (text : List ℕ) (config : configs.IndexConfig) (client : steps.Client) (core : Core) (log : Log) →
             IsConfigured config core → asked_of config text ≡ Err (reasons.Refused refusal) → client.request ≡ opened text →
-            G.Stands gate.old core log → IsAtWork self.old client →
+            G.Stands gate.old core log → IsAtWork self.old client core →
             SearchesAs G.Stands G.Between result self.new gate.new client core log }
     {
         match gate.plan(alloc, &Choice::Look) {
@@ -174,7 +181,7 @@ impl Searcher {
     ) -> Result<SearchStep, AllocError>
         ensures { (text : List ℕ) (search : Search) (config : configs.IndexConfig) (client : steps.Client) (core : Core) (log : Log) →
             IsConfigured config core → asked_of config text ≡ Ok search → IsRead config.schema search read → client.request ≡ opened text →
-            G.Stands gate.old core log → IsAtWork self.old client →
+            G.Stands gate.old core log → IsAtWork self.old client core →
             SearchesAs G.Stands G.Between result self.new gate.new client core log }
     {
         match gate.plan(alloc, &read.choice) {
@@ -185,7 +192,7 @@ impl Searcher {
                     ask: read.ask,
                     plan,
                     next: 0,
-                    files: SplitFiles::vacant(alloc),
+                    parts: SplitParts::vacant(alloc),
                 });
                 Ok(SearchStep::Planned { revision, count })
             }
@@ -200,7 +207,7 @@ impl Searcher {
         text: &Text,
     ) -> Result<SearchStep, AllocError>
         ensures { (client : steps.Client) (core : Core) (log : Log) → client.request ≡ opened text.now → G.Stands gate.old core log →
-            IsAtWork self.old client → SearchesAs G.Stands G.Between result self.new gate.new client core log }
+            IsAtWork self.old client core → SearchesAs G.Stands G.Between result self.new gate.new client core log }
     {
         match read_search(alloc, gate.config(), text.as_slice()) {
             Ok(read) => self.plan_read(alloc, gate, read),
@@ -217,24 +224,30 @@ impl Searcher {
     ) -> Result<SearchStep, AllocError>
         requires { planned.next < length planned.plan.rows }
         ensures { (search : steps.Plan) (client : steps.Client) (core : Core) (log : Log) → IsLog log → client.request ≡ steps.planned search →
-            IsPlanned planned search core log → G.Stands gate.old core log → IsAtWork self.old client →
+            IsPlanned planned search core log → G.Stands gate.old core log → IsAtWork self.old client core →
             SearchesAs G.Stands G.Between result self.new gate.new client core log }
     {
         let place = planned.next;
-        let row = planned.plan.rows.at(place as usize);
-        let (number, size) = (row.number, row.size);
-        match gate.fetch(alloc, &planned.plan, place, 0, size) {
-            Ok(piece) => {
-                let file = SplitFile {
-                    number,
-                    bytes: piece.bytes,
-                };
-                planned.files.push(file)?;
+        let number = planned.plan.rows.at(place as usize).number;
+        let known = self.footers.get(alloc, number)?;
+        let request = &planned.ask.request;
+        match fetch_part(alloc, gate, &planned.plan, place, request, known) {
+            Ok(part) => {
+                self.footers.keep(alloc, number, &part.footer);
+                planned.parts.push(part)?;
                 planned.next = place.saturating_add(1);
                 self.request = Request::Planned(planned);
                 Ok(SearchStep::Fetched { number })
             }
-            Err(error) => self.refuse(planned.plan.revision, error),
+            Err(FetchError::World(error)) => self.refuse(planned.plan.revision, error),
+            Err(FetchError::Memory(refused)) => Err(refused),
+            Err(FetchError::Corrupt) => {
+                let key = split_key(number);
+                Ok(self.reply(
+                    planned.plan.revision,
+                    Said::Refused(Refusal::Corrupt { key }),
+                ))
+            }
         }
     }
 
@@ -245,14 +258,14 @@ impl Searcher {
         planned: Planned,
     ) -> Result<SearchStep, AllocError>
         ensures { (search : steps.Plan) (client : steps.Client) (core : Core) (log : Log) → IsLog log → client.request ≡ steps.planned search →
-            IsPlanned planned search core log → G.Stands gate.old core log → IsAtWork self.old client →
+            IsPlanned planned search core log → G.Stands gate.old core log → IsAtWork self.old client core →
             SearchesAs G.Stands G.Between result self.new gate.new client core log }
     {
         if (planned.next as usize) < planned.plan.rows.len() {
             return self.fetch(alloc, gate, planned);
         }
-        let files = planned.files.as_slice();
-        let said = answer_over(alloc, &gate.config().schema, &planned.ask, files)?;
+        let parts = planned.parts.as_slice();
+        let said = answer_over(alloc, &gate.config().schema, &planned.ask, parts)?;
         Ok(self.reply(planned.plan.revision, said))
     }
 

@@ -1,4 +1,4 @@
-use Rattle.root_search.proofs.Joining.{all_searched, are_counted, whole_searched}
+use Rattle.root_search.proofs.Joining.{all_searched, are_counted, asked_searched, whole_searched}
 use Rattle.root_search.proofs.leaves.search_all.Goals as goal
 
 pub joined-requires : goal.joined-requires
@@ -11,3 +11,7 @@ returns-clause-only c = λ lists.
 pub returns-clause-there : goal.returns-clause-there
 returns-clause-there c = λ lists.
     whole_searched c.args.schema.now c.args.request.now c.args.views.now lists c.in_ok-answers.answers.items c.joined.result c.in_ok-answers.ensures (c.joined.ensures.only c.args.schema.now) c.joined.ensures.fault
+
+pub returns-clause-asked : goal.returns-clause-asked
+returns-clause-asked c = λ lists.
+    asked_searched c.args.schema.now c.args.request.now c.args.views.now lists c.in_ok-answers.answers.items c.joined.result c.in_ok-answers.ensures (c.joined.ensures.only c.args.schema.now) c.joined.ensures.fault

@@ -5,11 +5,12 @@ use Rattle.leaf_search.specs.Answers.{IsAsked}
 use Rattle.index_world.specs.Seen.{visible_at}
 use Rattle.root_search.specs.Answer.{answer}
 use Rattle.root_search.specs.Searching.{Ends, rows_at, documents_at}
-use Rattle.root_search.specs.SplitFiles.{AreFound, IsFileOf}
+use Rattle.root_search.specs.PartAnswers.{AreFound}
+use Rattle.root_search.specs.SplitParts.{HasNeeded}
 use Rattle.root_search.specs.Steps.{answer_of, config_at, reply_with}
-use Rattle.root_search.specs.declared.split_files.SplitFile.{SplitFile}
+use Rattle.root_search.specs.declared.split_parts.SplitPart.{SplitPart}
 use Rattle.root_search.proofs.Found.{are_found, found_few}
-use Rattle.root_search.proofs.PlannedRows.{all_fetched, all_files}
+use Rattle.root_search.proofs.PlannedRows.{all_fetched, all_parts}
 use Rattle.root_search.proofs.Schemas.{few_fields, intervals_there}
 use Rattle.root_search.proofs.Stands.{config_then}
 use Rattle.root_search.proofs.Steps.{answered_as, ends_without}
@@ -32,12 +33,12 @@ returns g c plan client core log good asked planned stands w =
     let over : length c.args.planned.plan.rows ≤ c.args.planned.next = omega (arith, c.len.ensures, c.if-planned-len.false) in
     let lists = map (documents_at plan.revision core log) (rows_at plan.revision plan.search core) in
     let config = config_then core log c.config.result.now plan.revision (g.met.G.Gate.is_sound c.args.gate.now core log stands) (c.config.ensures.step core log stands) planned.in_hand in
-    let files = all_files c.args.planned plan core log planned over in
+    let parts = all_parts c.args.planned plan core log planned over in
     let found = are_found plan.revision plan.search c.args.planned.ask core log good planned.asks planned.in_hand in
     let said : c.in_ok-said.said ≡ answer c.config.result.now.schema plan.search (visible_at plan.revision core.history log) =
     c.in_ok-said.ensures plan.search lists (visible_at plan.revision core.history log) planned.asks
     (subst (λ (x : IndexConfig). IsAsked x.schema c.args.planned.ask.request) config planned.asked)
-    (subst (λ (x : IndexConfig). AllZip (IsFileOf x.schema) c.as_slice-files.result.now lists) config (subst (λ (fs : List SplitFile). AllZip (IsFileOf (config_at plan.revision core).schema) fs lists) (sym c.as_slice-files.ensures) files))
+    (subst (λ (x : IndexConfig). AllZip (HasNeeded x.schema c.args.planned.ask.request) c.as_slice-parts.result.now lists) config (subst (λ (ps : List SplitPart). AllZip (HasNeeded (config_at plan.revision core).schema c.args.planned.ask.request) ps lists) (sym c.as_slice-parts.ensures) parts))
     (found_few plan.revision plan.search core log planned.in_hand)
     (subst (λ (x : IndexConfig). AreFound x.schema c.args.planned.ask.request lists (visible_at plan.revision core.history log)) config found) in
     let same : c.in_ok-said.said ≡ answer_of plan log core = said ∙ ap (λ (x : IndexConfig). answer x.schema plan.search (visible_at plan.revision core.history log)) (sym config) in

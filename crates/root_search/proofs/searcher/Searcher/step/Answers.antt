@@ -12,5 +12,5 @@ returns-in-Vacant g c client core log good stands s =
     idle_as g.G.Gate.Stands g.G.Gate.Between _ _ _ client core log (g.met.G.Gate.none_between core) stands none
     (record {
       says = refl;
-      stands = record { name = s.name; front = s.front; request = subst (λ r. IsRequest r client.request core log) (sym c.replace.ensures.after) none };
+      stands = record { name = s.name; front = s.front; footers = s.footers; request = subst (λ r. IsRequest r client.request core log) (sym c.replace.ensures.after) none };
     })

@@ -1,7 +1,7 @@
 use Rattle.std.proofs.Common.{subst}
-use Rattle.root_search.specs.SplitFiles.{WantsRoom}
+use Rattle.root_search.specs.PartAnswers.{WantsRoom}
 use Rattle.root_search.proofs.Wholes.{said_over_found}
-use Rattle.root_search.proofs.split_files.answer_over.Goals as goal
+use Rattle.root_search.proofs.part_answers.answer_over.Goals as goal
 
 pub returns-in-Ok : goal.returns-in-Ok
 returns-in-Ok c = λ search lists documents asks asked files few found.
