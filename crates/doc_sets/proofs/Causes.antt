@@ -1,5 +1,5 @@
 -- Faults that are handed on.
-use Rattle.std.proofs.Common.{◌≡◌, ℕ, zero, suc, ◌+◌, ◌<◌, ◌⊎◌, inl, inr, Bool, true, List, [], ◌∷◌, length, get_or, Some, Result, Ok, Err, IsErrAnd, MatchResult, Vec, refl, ap, sym, ◌∙◌, subst, arith}
+use Rattle.std.proofs.Common.{◌≡◌, ℕ, zero, suc, ◌+◌, ◌<◌, inl, inr, List, [], ◌∷◌, length, get_or, Some, Result, Ok, Err, IsErrAnd, MatchResult, refl, ap, sym, ◌∙◌, subst, arith}
 use Rattle.doc_value.specs.declared.schema.Schema.{Schema}
 use Rattle.split_bundle.specs.declared.placed.Placed.{Placed}
 use Rattle.split_bundle.specs.declared.part_view.PartView.{PartView}
@@ -7,15 +7,15 @@ use Rattle.split_bundle.specs.declared.pieces.FilePiece.{FilePiece}
 use Rattle.split_bundle.specs.declared.split_error.SplitError.{SplitError}
 use Rattle.split_bundle.specs.Files.{Parts}
 use Rattle.split_bundle.specs.Lending.{IsMissing}
-use Rattle.split_bundle.specs.Lists.{keeps_places, terms_of}
+use Rattle.split_bundle.specs.Lists.{terms_of}
 use Rattle.term_dict.specs.Terms.{lookup}
 use Rattle.term_dict.specs.declared.term.TermInfo.{TermInfo}
 use Rattle.split_bundle.specs.Keys.{field_key}
 use Rattle.text_tokens.specs.declared.tokens.Token.{Token}
 use Rattle.doc_sets.specs.declared.leaf_error.LeafError.{LeafError}
 use Rattle.doc_sets.specs.declared.leaf_error.LeafError.TheVariants as faults
-use Rattle.doc_sets.specs.Faults.{HasCause, IsMemory, fault_of}
-use Rattle.doc_sets.specs.Needed.{AsksKey, AsksOneOf, AsksPlaces, IsBlockFor, IsListFor, LacksKeys, LacksPlaces, token_keys, postings_start, positions_start}
+use Rattle.doc_sets.specs.Faults.{HasCause, fault_of}
+use Rattle.doc_sets.specs.Needed.{AsksKey, AsksOneOf, AsksPlaces, IsBlockFor, IsListFor, LacksKeys, LacksPlaces, token_keys, postings_start}
 
 -- a cause among some parts is one among more
 pub cause_wider : (A B : ℕ → ℕ → Type 0) (pieces : List FilePiece) (e : LeafError) → ((at len : ℕ) → A at len → B at len) → HasCause A pieces e → HasCause B pieces e

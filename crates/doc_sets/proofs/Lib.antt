@@ -30,3 +30,5 @@ pub mod LowestBit
 pub mod SeekLaws
 pub mod DistanceLaws
 pub mod Fills
+pub mod CountedBits
+pub mod FullWords

@@ -1,15 +1,9 @@
 -- The places of a document in a posting list.
-use Rattle.std.proofs.Common.{◌≡◌, ℕ, zero, suc, ◌+◌, ◌-◌, ◌/◌, ◌<◌, ◌≤◌, Bool, true, false, cond, List, [], ◌∷◌, drop, slice_get, Option, Some, None, Result, Ok, Err, ◌++◌, if◌then◌else◌, nat_lt, refl, ap, sym, ◌∙◌, arith}
-use Rattle.std.proofs.lemmas.Bool.Decides.{nat_tests}
-use Rattle.doc_value.specs.declared.schema.Schema.{Schema}
-use Rattle.term_postings.specs.declared.list.Posting.{Posting}
-use Rattle.term_postings.specs.Cursors.{first_positions, first_number, from_document}
-use Rattle.split_bundle.specs.declared.placed.Placed.{Placed}
-use Rattle.split_bundle.specs.Keys.{keys_of}
-use Rattle.split_bundle.specs.Lists.{has_key, keeps_places, places_of, posted, posting_list}
+use Rattle.std.proofs.Common.{◌≡◌, ℕ, ◌-◌, ◌/◌, Bool, List, [], ◌∷◌, drop, Some, None, Result, Ok, Err, ◌++◌, refl, ap, sym, ◌∙◌}
+use Rattle.term_postings.specs.Cursors.{first_number}
 use Rattle.term_dict.specs.declared.term.TermInfo.{TermInfo}
 use Rattle.byte_fields.specs.declared.corrupt.Corrupt.{Corrupt}
-use Rattle.term_postings.specs.Reading.{Walk, walk, begun, over_of, heads_behind, IsPast}
+use Rattle.term_postings.specs.Reading.{Walk, walk, begun, over_of, heads_behind}
 use Rattle.term_postings.specs.declared.cursor.Cursor.{Cursor}
 use Rattle.split_bundle.specs.Lending.{cursor_in}
 use Rattle.split_bundle.specs.Reading.{Gives, and_then}

@@ -1,11 +1,11 @@
 -- A word without its lowest bit, and the numbers of its bits.
-use Rattle.std.proofs.Common.{◌≡◌, ℕ, zero, suc, ◌+◌, ◌-◌, ◌*◌, ◌/◌, ◌%◌, ◌^◌, ◌<◌, ◌≤◌, ◌⊎◌, inl, inr, Bool, true, false, List, [], ◌∷◌, ◌++◌, length, take, get_or, nat_eq, min, bit_and, refl, ap, sym, ◌∙◌, arith, w64, eq-eqb, length-append, append_assoc, append-nil, Vec, Result, Ok, Err, IfOk}
+use Rattle.std.proofs.Common.{◌≡◌, ℕ, zero, suc, ◌+◌, ◌-◌, ◌*◌, ◌/◌, ◌%◌, ◌^◌, ◌<◌, ◌≤◌, ◌⊎◌, inl, inr, List, [], ◌∷◌, ◌++◌, length, take, get_or, nat_eq, bit_and, ap, sym, ◌∙◌, arith, w64, eq-eqb, length-append, append_assoc, append-nil, Vec, Result, Ok, Err, IfOk}
 use Rattle.std.specs.Int.{bit_at, trailing_zeros}
 use Rattle.std.specs.declared.alloc.AllocError.{AllocError}
 use Rattle.std.proofs.Math.Nat.{mod-add-div}
 use Rattle.std.proofs.lemmas.Bool.{cases_lt}
 use Rattle.std.proofs.lemmas.List.{length-take-le}
-use Rattle.std.proofs.lemmas.Nat.Bits.{bit_at-lt, bit_at-suc, bit_at-zero, bit_at_and, bit_at_cat_low, bit_at_cat_high, bit_at_lowest, bit_at-trailing_zeros, same_from_bits_below}
+use Rattle.std.proofs.lemmas.Nat.Bits.{bit_at-suc, bit_at-zero, bit_at_and, bit_at_cat_low, bit_at_cat_high, bit_at_lowest, bit_at-trailing_zeros, same_from_bits_below}
 use Rattle.doc_sets.specs.BitWords.{bit_of, is_set, members}
 use Rattle.doc_sets.proofs.Members.{members_first, members_few, members_more, members_none, members_same}
 use Rattle.doc_sets.proofs.WordBits.{bit_here}
@@ -129,7 +129,7 @@ words_more words at numbers e =
     ∙ (sym (members_more test 0 (64 * at) 64) ∙ sym (ap (λ n. members test 0 n) more))))
 
 -- behind a size no bit is set
-numbers_cut : (words : List ℕ) (size : ℕ) → size ≤ 64 * length words → ((k : ℕ) → size ≤ k → bit_of words k ≡ 0)
+pub numbers_cut : (words : List ℕ) (size : ℕ) → size ≤ 64 * length words → ((k : ℕ) → size ≤ k → bit_of words k ≡ 0)
     → members (λ k. nat_eq (bit_of words k) 1) 0 (64 * length words) ≡ members (λ k. nat_eq (bit_of words k) 1) 0 size
 numbers_cut words size le behind =
     let test = λ (k : ℕ). nat_eq (bit_of words k) 1 in

@@ -1,6 +1,5 @@
 -- Documents that are sought one behind the other.
-use Rattle.std.proofs.Common.{◌≡◌, ℕ, zero, suc, ◌+◌, ◌<◌, ◌≤◌, ◌≢◌, ◌⊎◌, inl, inr, Bool, true, false, ◌||◌, cond, nat_lt, List, [], ◌∷◌, ◌++◌, length, drop, take, get_or, set, slice_get, if◌then◌else◌, Option, Some, None, Result, Ok, Err, MatchResult, refl, ap, sym, subst, ◌∙◌, arith, get_or-set_same, get_or-set_other}
-use Rattle.std.specs.List.{AllByRecursion}
+use Rattle.std.proofs.Common.{◌≡◌, ℕ, zero, suc, ◌+◌, ◌<◌, ◌≤◌, ◌≢◌, ◌⊎◌, inl, inr, Bool, true, false, ◌||◌, cond, nat_lt, List, [], ◌∷◌, ◌++◌, length, get_or, set, slice_get, if◌then◌else◌, Option, Some, None, Result, Ok, Err, MatchResult, refl, ap, sym, subst, ◌∙◌, arith, get_or-set_same, get_or-set_other}
 use Rattle.std.proofs.lemmas.Bool.{cases_lt, cases_eq}
 use Rattle.std.proofs.lemmas.Bool.Decides.{nat_tests}
 use Rattle.std.proofs.lemmas.List.{length-set}
@@ -9,7 +8,7 @@ use Rattle.std.proofs.Math.Seq.{get_or-append_seam}
 use Rattle.doc_value.specs.declared.schema.Schema.{Schema}
 use Rattle.text_tokens.specs.declared.tokens.Token.{Token}
 use Rattle.term_postings.specs.Cursors.{StandsBefore, from_document}
-use Rattle.term_postings.specs.Postings.{AreRising, documents}
+use Rattle.term_postings.specs.Postings.{AreRising}
 use Rattle.byte_fields.specs.declared.corrupt.Corrupt.{Corrupt}
 use Rattle.term_postings.specs.Reading.{IsPast, last_given}
 use Rattle.term_postings.specs.declared.cursor.Cursor.{Cursor}

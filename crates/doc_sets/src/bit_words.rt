@@ -112,7 +112,17 @@ fn word_numbers(word: u64, first: u32, found: &mut [u32; 64]) -> usize
     count
 }
 
-// Puts them behind others.
+// The numbers of a word of which each bit is set.
+fn full_numbers(first: u32, found: &mut [u32; 64])
+    requires { first + 64 ≤ 2 ^ 32 }
+    ensures { found.new ≡ members (is_set (2 ^ 64 - 1) first) first 64 }
+{
+    for at in 0..64u32 {
+        found[at as usize] = first + at;
+    }
+}
+
+// Puts the numbers of the bits of a word behind others.
 fn push_word(
     numbers: &mut Vec<u32>,
     word: u64,
@@ -125,6 +135,10 @@ fn push_word(
     if word == 0 {
         return Ok(());
     }
+    if word == u64::MAX {
+        full_numbers(first, found);
+        return numbers.extend_from_slice(found);
+    }
     let count = word_numbers(word, first, found);
     numbers.extend_from_slice(&found[..count])
 }
@@ -134,10 +148,29 @@ pub(crate) fn numbers_of(alloc: Global, words: &[u64]) -> Result<Vec<u32>, Alloc
     requires { 64 * length words.now ≤ 2 ^ 32 }
     ensures { IfOk result (λ ns. ns.items ≡ members (λ k. nat_eq (bit_of words.now k) 1) 0 (64 * length words.now)) }
 {
-    let mut numbers = Vec::new(alloc);
+    let mut numbers = Vec::with_capacity(alloc, count_words(words) as usize)?;
     let mut found = [0; 64];
     for at in 0..words.len() {
         push_word(&mut numbers, words[at], 64 * at as u32, &mut found)?;
     }
     Ok(numbers)
+}
+
+// How many bits of a word are set.
+fn count_word(word: u64) -> u64
+    ensures { (first : ℕ) → result ≡ length (members (is_set word first) first 64) }
+{
+    u64::from(word.count_ones())
+}
+
+// How many bits of words are set.
+pub(crate) fn count_words(words: &[u64]) -> u64
+    requires { 64 * length words.now ≤ 2 ^ 32 }
+    ensures { result ≡ length (members (λ k. nat_eq (bit_of words.now k) 1) 0 (64 * length words.now)) }
+{
+    let mut count = 0u64;
+    for at in 0..words.len() {
+        count += count_word(words[at]);
+    }
+    count
 }

@@ -1,8 +1,8 @@
-ghost use Rattle.std.specs.Prelude.{◌≡◌, ℕ, ◌+◌, ◌/◌, ◌<◌, ◌≤◌, ◌||◌, ◌&&◌, not, true, false, nat_eq, vec_len, IfOk, MatchOption};
+ghost use Rattle.std.specs.Prelude.{◌≡◌, ℕ, ◌+◌, ◌/◌, ◌<◌, ◌≤◌, ◌||◌, ◌&&◌, not, true, false, nat_eq, length, vec_len, IfOk, MatchOption};
 ghost use Rattle.doc_sets.specs.BitWords.{bit_of, members};
 
 use crate::bit_words::{
-    and_words, has_word, next_word, numbers_of, or_words, set_word, turn_below,
+    and_words, count_words, has_word, next_word, numbers_of, or_words, set_word, turn_below,
 };
 use std::alloc::{AllocError, Global};
 
@@ -95,6 +95,14 @@ impl DocBits {
             return None;
         }
         next_word(&self.words, from)
+    }
+
+    /// How many numbers are in.
+    pub fn count(&self) -> u32
+        ensures { result ≡ length (members (has self.now) 0 self.now.size) }
+    {
+        let _size = self.size;
+        count_words(&self.words) as u32
     }
 
     /// The numbers that are in, as they rise.

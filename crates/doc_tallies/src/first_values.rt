@@ -24,6 +24,7 @@ impl<'a> FirstValues<'a> {
     }
 
     /// The first value of a document, if it has one. It is found faster where the document before was asked for last.
+    #[inline(always)]
     pub fn value_at(&mut self, document: u32) -> Option<u64>
         ensures only { (texts : List (List ℕ)) (entries : List Entry) → Holds self.old.column texts entries → result ≡ first_number document entries }
         ensures column { self.new.column ≡ self.old.column }

@@ -1,5 +1,5 @@
 -- What the calls of a gate to a world say.
-use Rattle.std.specs.Prelude.{◌≡◌, ◌+◌, ◌<◌, true, ℕ, List, length, map, Option, Result, Ok, Err, ⊤}
+use Rattle.std.specs.Prelude.{◌≡◌, ◌+◌, ◌-◌, ◌^◌, ◌<◌, true, ℕ, List, length, map, min, Option, Result, Ok, Err, ⊤}
 use Rattle.index_config.specs.declared.config.IndexConfig.{IndexConfig}
 use Rattle.object_store.specs.Store.{State, IsPieceOf}
 use Rattle.meta_journal.specs.declared.entry.Act.{Act}
@@ -136,3 +136,12 @@ pub record IsPlan (choice : Choice) (plan : Plan) (core : Core) : Type 0 where
 -- these are so many bytes of the file from a place on, and its size
 abbrev pub IsPieceGiven : List ℕ → ℕ → ℕ → Piece → Core → Type 0
 IsPieceGiven bytes from len piece core = IsPieceOf bytes from len piece
+
+-- a count of fetched bytes stands still at its type's end
+abbrev pub last_bytes : ℕ
+last_bytes = 2 ^ 128 - 1
+
+-- how many bytes were fetched, behind a fetch: those that it gave are added
+abbrev pub fetched_more : Result Piece WorldError → ℕ → ℕ
+fetched_more (Ok piece) count = min (count + length piece.bytes) last_bytes
+fetched_more (Err error) count = count

@@ -1,4 +1,4 @@
-//! The world itself as a gate.
+//! A world as a gate, while nobody else acts on it.
 
 ghost use Rattle.std.specs.Prelude.{◌≡◌, refl};
 
@@ -14,34 +14,41 @@ use source_checkpoint::Delta;
 use split_states::RowFacts;
 use std::alloc::Global;
 
-/// A world that is lent.
-pub struct Direct<'a, S: ObjectStore, C: SteadyClock> {
-    world: &'a mut World<S, C>,
+/// A world of which one actor after the other makes calls.
+pub struct Direct<S: ObjectStore, C: SteadyClock> {
+    pub world: World<S, C>,
+    // How many bytes were fetched through it.
+    fetched: u128,
 }
 
-impl<'a, S: ObjectStore, C: SteadyClock> Direct<'a, S, C> {
-    pub fn over(world: &'a mut World<S, C>) -> Direct<'a, S, C>
-        ensures same { result.world.ghost_name ≡ world.entry.ghost_name }
-        ensures value { result.world.now ≡ world.old }
+impl<S: ObjectStore, C: SteadyClock> Direct<S, C> {
+    /// A world through which nothing was fetched yet.
+    pub fn over(world: World<S, C>) -> Direct<S, C>
+        ensures value { result.world ≡ world }
+        ensures fresh { result.fetched ≡ 0 }
     {
-        Direct { world }
+        Direct { world, fetched: 0 }
+    }
+
+    /// The world itself.
+    pub fn into_world(self) -> World<S, C>
+        ensures { result ≡ self.world }
+    {
+        let Direct { world, fetched: _ } = self;
+        world
     }
 }
 
-impl<'a, S: ObjectStore, C: SteadyClock> Drop for Direct<'a, S, C> {
-    fn drop(self) {
-        let Direct { world: _ } = self;
-    }
-}
-
-impl<'a, S: ObjectStore, C: SteadyClock> Gate for Direct<'a, S, C> {
+impl<S: ObjectStore, C: SteadyClock> Gate for Direct<S, C> {
     ghost use Rattle.std.specs.Prelude.{refl};
     ghost use Rattle.index_world.specs.Gate.{NoneBetween};
     ghost use Rattle.index_world.specs.World.{WorldStands};
 
-    ghost Stands = { λ direct core log. WorldStands direct.world.now core log };
+    ghost Stands = { λ direct core log. WorldStands direct.world core log };
 
     ghost Between = { NoneBetween };
+
+    ghost bytes_fetched = { λ direct. direct.fetched };
 
     ghost is_sound = { λ direct core log w. record { kept = w.kept; world = w.world; timely = w.timely; opened = w.opened } };
 
@@ -49,6 +56,10 @@ impl<'a, S: ObjectStore, C: SteadyClock> Gate for Direct<'a, S, C> {
 
     fn config(&self) -> &IndexConfig {
         self.world.config()
+    }
+
+    fn fetched_bytes(&self) -> u128 {
+        self.fetched
     }
 
     fn checkpoints(&mut self, alloc: Global) -> Result<Marks, WorldError> {
@@ -93,69 +104,12 @@ impl<'a, S: ObjectStore, C: SteadyClock> Gate for Direct<'a, S, C> {
         from: u64,
         len: u64,
     ) -> Result<Piece, WorldError> {
-        self.world.fetch(alloc, plan, place, from, len)
-    }
-}
-
-impl<S: ObjectStore, C: SteadyClock> Gate for World<S, C> {
-    ghost use Rattle.std.specs.Prelude.{refl};
-    ghost use Rattle.index_world.specs.Gate.{NoneBetween};
-    ghost use Rattle.index_world.specs.World.{WorldStands};
-
-    ghost Stands = { WorldStands };
-
-    ghost Between = { NoneBetween };
-
-    ghost is_sound = { λ world core log w. record { kept = w.kept; world = w.world; timely = w.timely; opened = w.opened } };
-
-    ghost none_between = { λ core. refl };
-
-    fn config(&self) -> &IndexConfig {
-        self.config()
-    }
-
-    fn checkpoints(&mut self, alloc: Global) -> Result<Marks, WorldError> {
-        self.checkpoints(alloc)
-    }
-
-    fn moment(&mut self, _alloc: Global) -> Result<u64, WorldError> {
-        self.moment()
-    }
-
-    fn stage(
-        &mut self,
-        alloc: Global,
-        delta: &Delta,
-        facts: &RowFacts,
-    ) -> Result<Staged, WorldError> {
-        self.stage(alloc, delta, facts)
-    }
-
-    fn upload(
-        &mut self,
-        alloc: Global,
-        staged: Staged,
-        content: &[u8],
-    ) -> Result<Uploaded, WorldError> {
-        self.upload(alloc, staged, content)
-    }
-
-    fn publish(&mut self, alloc: Global, uploaded: Uploaded) -> Result<u64, WorldError> {
-        self.publish(alloc, uploaded)
-    }
-
-    fn plan(&mut self, alloc: Global, choice: &Choice) -> Result<Plan, WorldError> {
-        self.plan(alloc, choice)
-    }
-
-    fn fetch(
-        &mut self,
-        alloc: Global,
-        plan: &Plan,
-        place: u32,
-        from: u64,
-        len: u64,
-    ) -> Result<Piece, WorldError> {
-        self.fetch(alloc, plan, place, from, len)
+        match self.world.fetch(alloc, plan, place, from, len) {
+            Ok(piece) => {
+                self.fetched = self.fetched.saturating_add(piece.bytes.len() as u128);
+                Ok(piece)
+            }
+            Err(error) => Err(error),
+        }
     }
 }

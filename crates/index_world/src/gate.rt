@@ -6,7 +6,7 @@ ghost use Rattle.meta_journal.specs.Spelling.{CanSpellFacts};
 ghost use Rattle.source_log.specs.Log.{Log};
 ghost use Rattle.index_world.specs.Calls.{asked, looked, asked_and_looked, fetched, upload_made};
 ghost use Rattle.index_world.specs.Core.{Core, IsConfigured, IsUnusedIn, IsUploadedIn};
-ghost use Rattle.index_world.specs.Gate.{Does, IsSoundCore, IsTrouble, IsUnmade, AreMarks, IsMoment, stage_call, WasStaged, WasUploaded, publish_call, IsPublishable, IsRevision, IsPlan, IsPieceGiven};
+ghost use Rattle.index_world.specs.Gate.{Does, fetched_more, IsSoundCore, IsTrouble, IsUnmade, AreMarks, IsMoment, stage_call, WasStaged, WasUploaded, publish_call, IsPublishable, IsRevision, IsPlan, IsPieceGiven};
 ghost use Rattle.meta_store.specs.declared.planning.PlanRow.{PlanRow};
 
 use crate::tokens::{Marks, Plan, Staged, Uploaded};
@@ -26,19 +26,28 @@ pub trait Gate {
     /// What other actors may do before the turn of a call.
     ghost Between: { Core → Core → Type 0 };
 
+    /// How many bytes were fetched through it.
+    ghost bytes_fetched: { Self → ℕ };
+
     /// The configuration of the index, which stays. It is no event.
     fn config(&self) -> &IndexConfig
         ensures schema { ∥ IsSchema result.now.schema ∥₁ }
         ensures step { (core : Core) (log : Log) → Stands self.now core log → IsConfigured result.now core };
 
+    /// How many bytes were fetched through this gate since it was made, at most 2^128 - 1. It is no event.
+    fn fetched_bytes(&self) -> u128
+        ensures { result ≡ bytes_fetched self.now };
+
     /// The checkpoints, the last opstamp and the revision.
     fn checkpoints(&mut self, alloc: Global) -> Result<Marks, WorldError>
-        ensures { (core : Core) (log : Log) → Stands self.old core log →
+        ensures same { bytes_fetched self.new ≡ bytes_fetched self.old }
+        ensures step { (core : Core) (log : Log) → Stands self.old core log →
             Does Stands Between None looked IsTrouble AreMarks result core log self.new };
 
     /// Asks the clock, and gives the greatest moment.
     fn moment(&mut self, alloc: Global) -> Result<u64, WorldError>
         ensures below { IfOk result (λ moment. moment < 2 ^ 62) }
+        ensures same { bytes_fetched self.new ≡ bytes_fetched self.old }
         ensures step { (core : Core) (log : Log) → Stands self.old core log →
             Does Stands Between None asked IsTrouble IsMoment result core log self.new };
 
@@ -50,7 +59,8 @@ pub trait Gate {
         facts: &RowFacts,
     ) -> Result<Staged, WorldError>
         requires { CanSpellFacts facts.now }
-        ensures { (core : Core) (log : Log) → Stands self.old core log →
+        ensures same { bytes_fetched self.new ≡ bytes_fetched self.old }
+        ensures step { (core : Core) (log : Log) → Stands self.old core log →
             Does Stands Between None (stage_call delta.now facts.now) IsUnmade (WasStaged core delta.now facts.now) result core log self.new };
 
     /// Makes the file of a staged row.
@@ -60,18 +70,21 @@ pub trait Gate {
         staged: Staged,
         content: &[u8],
     ) -> Result<Uploaded, WorldError>
-        ensures { (core : Core) (log : Log) → Stands self.old core log → IsUnusedIn core staged.number →
+        ensures same { bytes_fetched self.new ≡ bytes_fetched self.old }
+        ensures step { (core : Core) (log : Log) → Stands self.old core log → IsUnusedIn core staged.number →
             Does Stands Between (Some staged.number) (λ fate c. upload_made fate staged.number content.now c) IsTrouble
             (WasUploaded staged.number content.now) result core log self.new };
 
     /// Publishes an uploaded file: its checkpoints move with it. Gives the revision.
     fn publish(&mut self, alloc: Global, uploaded: Uploaded) -> Result<u64, WorldError>
-        ensures { (core : Core) (log : Log) → Stands self.old core log → IsPublishable log core uploaded.number →
+        ensures same { bytes_fetched self.new ≡ bytes_fetched self.old }
+        ensures step { (core : Core) (log : Log) → Stands self.old core log → IsPublishable log core uploaded.number →
             Does Stands Between None (publish_call uploaded.number) IsUnmade IsRevision result core log self.new };
 
     /// Plans rows over the newest state.
     fn plan(&mut self, alloc: Global, choice: &Choice) -> Result<Plan, WorldError>
-        ensures { (core : Core) (log : Log) → Stands self.old core log →
+        ensures same { bytes_fetched self.new ≡ bytes_fetched self.old }
+        ensures step { (core : Core) (log : Log) → Stands self.old core log →
             Does Stands Between None asked_and_looked IsTrouble (IsPlan choice.now) result core log self.new };
 
     /// Bytes of a planned row's file, from a place on, as many as there are up to `len`.
@@ -84,7 +97,8 @@ pub trait Gate {
         len: u64,
     ) -> Result<Piece, WorldError>
         requires { place < length plan.now.rows }
-        ensures { (core : Core) (log : Log) (row : PlanRow) (bytes : List ℕ) → Stands self.old core log →
+        ensures counts { bytes_fetched self.new ≡ fetched_more result (bytes_fetched self.old) }
+        ensures step { (core : Core) (log : Log) (row : PlanRow) (bytes : List ℕ) → Stands self.old core log →
             slice_get plan.now.rows place ≡ Some row → IsUploadedIn core row.number bytes →
             Does Stands Between None fetched IsTrouble (IsPieceGiven bytes from len) result core log self.new };
 

@@ -1,5 +1,6 @@
--- What documents are gathered: one more of the schema, what it weighs, and what is built of all.
-use Rattle.std.proofs.Common.{◌≡◌, ℕ, ◌+◌, ◌*◌, ◌^◌, ◌<◌, ◌≤◌, List, [], ◌∷◌, ◌++◌, length, false, Some, Ok, refl, ap, ◌∙◌, inl, inr, arith, nat_lt}
+-- What documents are gathered: what one more weighs, and that none is refused that is light.
+use Rattle.std.proofs.Common.{◌≡◌, ℕ, ◌+◌, ◌*◌, ◌^◌, ◌<◌, ◌≤◌, List, [], ◌∷◌, ◌++◌, length, false, Some, Ok, refl, inl, inr, arith, nat_lt}
+use Rattle.std.proofs.Math.Logic.{∥∥₁_elim}
 use Rattle.std.proofs.lemmas.Bool.{cases_Bool}
 use Rattle.std.proofs.lemmas.Bool.Decides.{nat_tests}
 use Rattle.std.specs.declared.alloc.AllocError.{AllocError}
@@ -11,35 +12,29 @@ use Rattle.doc_value.specs.declared.schema.Schema.{Schema}
 use Rattle.document_laws.proofs.Sized.{record_size}
 use Rattle.index_config.specs.declared.config.IndexConfig.{IndexConfig}
 use Rattle.index_world.specs.Accepted.{accepted}
-use Rattle.split_build.specs.Bodies.{body_of}
+use Rattle.split_build.proofs.Mere.{schema_prop}
+use Rattle.split_build.specs.Builders.{HasTaken}
 use Rattle.split_build.specs.Limits.{MakeNone}
 use Rattle.split_build.specs.declared.build_error.BuildError.{BuildError}
+use Rattle.split_build.specs.declared.builder.Builder.{Builder}
 use Rattle.split_build.specs.declared.build_error.BuildError.TheVariants.{Memory, TooManyDocs, TooLarge}
 use Rattle.split_bundle.specs.Documents.{weight as weight_of, total_weight}
 use Rattle.split_bundle.specs.declared.placed.Placed.{Placed}
 use Rattle.weight_laws.proofs.Fitting.{record_numbers}
 use Rattle.weight_laws.proofs.Weighed.{document_weight}
 use Rattle.indexing_run.proofs.Light.{accepted_as}
-use Rattle.indexing_run.proofs.Once.{AreOfSchema, schema_is, of_schema_is}
 
 -- ---- a document more
-
-pub weighs_as : (p : Placed) (body : List ℕ) (n : ℕ) → body ≡ body_of p → n ≡ length body → 257 + n ≡ weight_of p
-weighs_as p body n e l = let long : n ≡ length (body_of p) = l ∙ ap length e in omega (arith, long)
 
 pub total_more : (documents : List Placed) (p : Placed) → total_weight (documents ++ p ∷ []) ≡ total_weight documents + weight_of p
 total_more [] p = omega arith
 total_more (d ∷ documents) p = let more = total_more documents p in omega (arith, more)
 
-pub of_schema_more : (s : Schema) (documents : List Placed) (p : Placed) → AreOfSchema s documents → IsOfSchema s p.doc → AreOfSchema s (documents ++ p ∷ [])
-of_schema_more s [] p all one = (one, tt)
-of_schema_more s (d ∷ documents) p all one = (all.0, of_schema_more s documents p all.1 one)
+pub room_left : (w : ℕ) → nat_lt 134217728 w ≡ false → w ≤ 134217728
+room_left w e = grind (e, arith, nat_tests)
 
-pub kept_more : (s : Schema) (documents : List Placed) (p : Placed) → ∥ AreOfSchema s documents ∥₁ → IsOfSchema s p.doc → ∥ AreOfSchema s (documents ++ p ∷ []) ∥₁
-kept_more s documents p all one = ∣ of_schema_more s documents p (of_schema_is s documents all) one ∣₁
-
-pub room_left : (documents : List Placed) (w : ℕ) → w ≡ total_weight documents → nat_lt 134217728 (total_weight documents) ≡ false → w ≤ 134217728
-room_left documents w same e = grind (same, e, arith, nat_tests)
+pub schema_is : (s : Schema) → ∥ IsSchema s ∥₁ → IsSchema s
+schema_is s h = ∥∥₁_elim h (schema_prop s) (λ x. x)
 
 -- ---- a document that is accepted
 
@@ -62,14 +57,21 @@ accepted_light config bytes p kept e offset =
     let whole = document_weight config.schema p schema (accepted-fits config bytes p.doc said) (record_numbers config bytes p.doc said) (omega (arith, size, short)) offset in
     omega (arith, whole, size, short)
 
--- ---- what is built of documents that are light
+-- ---- documents that are light
 
 weighs_much : (documents : List Placed) → 257 * length documents ≤ total_weight documents
 weighs_much [] = omega arith
 weighs_much (d ∷ documents) = let more = weighs_much documents in omega (arith, more)
 
 -- documents that are light make a split, but for want of memory
-pub makes_one : (documents : List Placed) (w : ℕ) (e : BuildError) → w ≡ total_weight documents → w ≤ 268435456 → MakeNone documents e → ((a : AllocError) → e ≡ Memory a → ⊥) → ⊥
+makes_one : (documents : List Placed) (w : ℕ) (e : BuildError) → w ≡ total_weight documents → w ≤ 268435456 → MakeNone documents e → ((a : AllocError) → e ≡ Memory a → ⊥) → ⊥
 makes_one documents w (Memory a) same light h other = other a refl
 makes_one documents w (TooManyDocs count) same light h other = let much = weighs_much documents in omega (arith, much, h.0, same, light)
 makes_one documents w (TooLarge weight) same light h other = omega (arith, h.1, same, light)
+
+-- a builder refuses no document with which its documents are light
+pub refuses_none : (b : Builder) (s : Schema) (documents : List Placed) (p : Placed) (e : BuildError) → HasTaken b s documents → b.weight ≤ 134217728 → weight_of p ≤ 134217728 → MakeNone (documents ++ p ∷ []) e → ((a : AllocError) → e ≡ Memory a → ⊥) → ⊥
+refuses_none b s documents p e h room light none other =
+    let all = total_more documents p in
+    let same = h.weight in
+    makes_one (documents ++ p ∷ []) (b.weight + weight_of p) e (omega (arith, all, same)) (omega (arith, room, light)) none other

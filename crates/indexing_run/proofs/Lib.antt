@@ -1,7 +1,6 @@
 pub mod Slices
 pub mod Batches
 pub mod Light
-pub mod Once
 pub mod Gathered
 pub mod Spelling
 pub mod Queues

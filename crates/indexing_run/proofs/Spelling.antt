@@ -1,6 +1,8 @@
 -- The facts of what was built can be spelled in an entry.
 use Rattle.std.proofs.Common.{◌≡◌, ℕ, suc, ◌+◌, ◌*◌, ◌^◌, ◌<◌, ◌≤◌, List, [], ◌∷◌, ◌++◌, length, map, Bool, true, false, cond, Option, Some, None, refl, sym, ◌∙◌, subst, arith, lit<, ◌==◌}
+use Rattle.std.proofs.Props.{props}
 use Rattle.std.proofs.lemmas.Bool.{leb-true}
+use Rattle.std.specs.Coded.{×_prop, Unit-prop}
 use Rattle.std.specs.Int.{int_min, int_max}
 use Rattle.std.specs.List.{AllByRecursion, flat_map}
 use Rattle.std.specs.Ordering.{nat_cmp, is_lt}
@@ -13,12 +15,15 @@ use Rattle.doc_value.specs.declared.doc.DocField.{DocField}
 use Rattle.doc_value.specs.declared.doc.Value.{Value}
 use Rattle.doc_value.specs.declared.doc.Value.TheVariants as values
 use Rattle.doc_value.specs.declared.facts.FieldTags.{FieldTags}
+use Rattle.doc_value.specs.declared.facts.Tags.{Tags}
 use Rattle.doc_value.specs.declared.facts.Tags.TheVariants.{Listed, Many}
 use Rattle.doc_value.specs.declared.schema.Field.{Field}
 use Rattle.doc_value.specs.declared.schema.Schema.{Schema}
 use Rattle.meta_journal.specs.Spelling.{IsTime, IsString, IsIfGiven, CanSpellTimes, CanSpellTags, CanSpellField, CanSpellFacts, IsTermBelow, IsFieldBelow, IsBehind, Rises, RisesFrom}
 use Rattle.query_ast.specs.Meaning.{values_in}
 use Rattle.split_build.specs.Builders.{IsBuilt}
+use Rattle.split_states.specs.declared.facts.RowFacts.{RowFacts}
+use Rattle.split_states.specs.declared.facts.Times.{Times}
 use Rattle.split_build.specs.declared.builder.BuiltSplit.{BuiltSplit}
 use Rattle.split_bundle.specs.Documents.{total_weight}
 use Rattle.split_bundle.specs.Held.{IsHeld, AreHeld, IsHeldValue}
@@ -209,3 +214,49 @@ can_spell s documents split b file facts =
     let light = parts.are_documents.light in
     subst CanSpellFacts (sym facts)
     (facts_can s documents few parts.are_documents.held light (subst (λ (bs : List ℕ). length bs < 2 ^ 64) (sym b.split.bytes_are ∙ file) parts.size))
+
+-- ---- it has one proof at most, and so comes out of what is merely known
+
+number_prop : (a b : ℕ) → IsProp (a < b)
+number_prop a b = hlevel props
+
+each_prop : {A : Type 0} (P : A → Type 0) → ((a : A) → IsProp (P a)) → (xs : List A) → IsProp (AllByRecursion P xs)
+each_prop P one [] = Unit-prop
+each_prop P one (x ∷ xs) = ×_prop (one x) (each_prop P one xs)
+
+behind_prop : {A : Type 0} (Below : A → A → Type 0) → ((a b : A) → IsProp (Below a b)) → (before : Option A) (x : A) → IsProp (IsBehind Below before x)
+behind_prop Below one None x = Unit-prop
+behind_prop Below one (Some before) x = one before x
+
+rises_prop : {A : Type 0} (Below : A → A → Type 0) → ((a b : A) → IsProp (Below a b)) → (before : Option A) (xs : List A) → IsProp (RisesFrom Below before xs)
+rises_prop Below one before [] = Unit-prop
+rises_prop Below one before (x ∷ xs) = ×_prop (behind_prop Below one before x) (rises_prop Below one (Some x) xs)
+
+term_prop : (a b : List ℕ) → IsProp (IsTermBelow a b)
+term_prop a b = hlevel props
+
+tags_prop : (tags : Tags) → IsProp (CanSpellTags tags)
+tags_prop Many = Unit-prop
+tags_prop (Listed terms) = ×_prop (×_prop (number_prop (length terms) (2 ^ 64)) (each_prop (λ t. length t < 2 ^ 64) (λ t. number_prop (length t) (2 ^ 64)) terms)) (rises_prop IsTermBelow term_prop None terms)
+
+field_prop : (field : FieldTags) → IsProp (CanSpellField field)
+field_prop field = ×_prop (number_prop field.number (2 ^ 64)) (tags_prop field.tags)
+
+times_prop : (times : Option Times) → IsProp (IsIfGiven CanSpellTimes times)
+times_prop None = Unit-prop
+times_prop (Some times) = ×_prop (hlevel props) (hlevel props)
+
+digest_prop : (n : ℕ) → IsProp (n ≡ 32)
+digest_prop n = hlevel props
+
+pub can_spell_prop : (facts : RowFacts) → IsProp (CanSpellFacts facts)
+can_spell_prop facts a b = λ i. record {
+  docs = number_prop facts.docs (2 ^ 64) a.docs b.docs i;
+  rejected = number_prop facts.rejected (2 ^ 64) a.rejected b.rejected i;
+  weight = number_prop facts.weight (2 ^ 64) a.weight b.weight i;
+  size = number_prop facts.size (2 ^ 64) a.size b.size i;
+  digest = digest_prop (length facts.digest) a.digest b.digest i;
+  times = times_prop facts.times a.times b.times i;
+  tags = ×_prop (number_prop (length facts.tags) (2 ^ 64)) (each_prop CanSpellField field_prop facts.tags) a.tags b.tags i;
+  rising = rises_prop IsFieldBelow (λ f g. number_prop f.number g.number) None facts.tags a.rising b.rising i;
+}

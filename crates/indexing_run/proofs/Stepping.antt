@@ -302,12 +302,10 @@ staged_facts batch documents built given count rejected d c b r g few target =
     as_kept : record (facts_of batch.config documents 0) { rejected = rejected } ≡ facts_of batch.config documents (batch.count - length documents)
     as_kept = ap (λ n. with_rejected n (facts_of batch.config documents 0)) kept ∙ rejected_as batch.config documents (batch.count - length documents)
 
--- what was built of the documents that are held is a split of those of the batch
-pub built_splits : (config mapping : IndexConfig) (documents list : List Placed) (split : BuiltSplit) → mapping ≡ config → list ≡ documents → IsBuilt mapping.schema list split → split.bytes ≡ form.file_of mapping.schema list →
-    AreSplit config documents
-built_splits config mapping documents list split m l b e =
-    subst (λ (x : IndexConfig). AreSplit x documents) m (subst (λ (d : List Placed). AreSplit mapping d) l
-    (record { stands = subst (λ (bs : List ℕ). IsSplit mapping.schema bs list) e b.split; few = b.within.few }))
+-- what was built of documents is their split under the configuration of the batch
+pub built_splits : (config mapping : IndexConfig) (list : List Placed) (split : BuiltSplit) → mapping ≡ config → IsBuilt mapping.schema list split → split.bytes ≡ form.file_of mapping.schema list → AreSplit config list
+built_splits config mapping list split m b e =
+    subst (λ (x : IndexConfig). AreSplit x list) m (record { stands = subst (λ (bs : List ℕ). IsSplit mapping.schema bs list) e b.split; few = b.within.few })
 
 -- ---- a whole step
 

@@ -1,5 +1,6 @@
 pub mod Places
 pub mod Outcomes
 pub mod Steps
+pub mod Gathering
 pub mod Making
 pub mod Standing

@@ -1,5 +1,5 @@
 -- What an indexer of the code stands for, and what its step says.
-use Rattle.std.specs.Prelude.{◌≡◌, ℕ, ◌+◌, ◌≤◌, nat_lt, true, List, [], ◌∷◌, length, drop, decimal, codes, Option, Some, None, Result, Ok, Err, ⊤}
+use Rattle.std.specs.Prelude.{◌≡◌, ℕ, ◌+◌, ◌≤◌, true, List, [], ◌∷◌, length, drop, decimal, codes, Option, Some, None, Result, Ok, Err, ⊤}
 use Rattle.source_checkpoint.specs.declared.ledger.Checkpoint.{Checkpoint as Mark}
 use Rattle.std.specs.declared.alloc.AllocError.{AllocError}
 use Rattle.source_log.specs.Log.{Log, names_of}
@@ -7,7 +7,6 @@ use Rattle.byte_fields.specs.Causes.{Rose}
 use Rattle.source_log.specs.declared.log.ReadError.{ReadError}
 use Rattle.source_log.specs.declared.log.ReadError.TheVariants as errors
 use Rattle.source_log.specs.declared.lists.Records.{Records}
-use Rattle.split_bundle.specs.declared.placed.Placed.{Placed}
 use Rattle.index_world.specs.Calls.{Fault, faulted}
 use Rattle.index_world.specs.Core.{Core, journal_of, IsConfigured}
 use Rattle.index_world.specs.Gate.{IsTrouble}
@@ -24,10 +23,11 @@ use Rattle.indexing_run.specs.declared.indexer.Place.TheVariants as places
 use Rattle.indexing_run.specs.declared.queue.Queue.{Queue}
 use Rattle.indexing_run.specs.declared.outcome.IndexerOutcome.{IndexerOutcome as Said}
 use Rattle.indexing_run.specs.declared.outcome.IndexerOutcome.TheVariants as said
+use Rattle.indexing_run.specs.Gathering.{HasDocuments}
 use Rattle.indexing_run.specs.Making.{Follows, IsBatch, IsAssigned}
 use Rattle.indexing_run.specs.Outcomes.{IndexerOutcome, Checkpoint, Read, Staged, Uploaded, Published, CaughtUp, Stale, Lost, Refused, SourceFault, Faulted}
 use Rattle.indexing_run.specs.Places.{Batch, Held, Place, idle, reading, staged, uploaded, Indexer, IsStagedHeld, IsUploadedHeld, number_held}
-use Rattle.indexing_run.specs.Steps.{Taken, taken_from, max_batch_weight, start_of, batch_after, Luck, step_indexer}
+use Rattle.indexing_run.specs.Steps.{taken_from, max_batch_weight, start_of, batch_after, Luck, step_indexer}
 
 -- ---- outcomes
 
@@ -72,16 +72,11 @@ Answers (Err refused) None = ⊤
 abbrev pub left_of : Queue → List Mark
 left_of queue = drop queue.current queue.marks.items
 
--- what was taken so far of a read
-abbrev pub taken_so_far : ℕ → List Placed → Taken
-taken_so_far count documents =
-    record { count = count; documents = documents; weight = total_weight documents; heavy = nat_lt max_batch_weight (total_weight documents) }
-
 pub record BatchStands (held : HeldBatch) (batch : Batch) : Type 0 where
   pub config : held.documents.mapping ≡ batch.config
   pub queue : left_of held.queue ≡ batch.queue
   pub parts : held.parts.items ≡ batch.parts
-  pub documents : held.documents.list ≡ batch.documents
+  pub documents : HasDocuments held.documents batch.documents
   pub count : held.count ≡ batch.count
   pub first_read : held.first_read ≡ batch.first_read
   pub closed : held.closed ≡ batch.closed

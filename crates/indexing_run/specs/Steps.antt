@@ -115,6 +115,11 @@ pub record Taken : Type 0 where
   pub weight : ℕ
   pub heavy : Bool
 
+-- what was taken so far of a read
+abbrev pub taken_so_far : ℕ → List Placed → Taken
+taken_so_far count documents =
+    record { count = count; documents = documents; weight = total_weight documents; heavy = nat_lt max_batch_weight (total_weight documents) }
+
 abbrev pub with_document : Placed → Taken → Taken
 with_document placed taken =
     record {

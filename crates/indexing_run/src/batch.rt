@@ -3,11 +3,10 @@
 ghost use Rattle.std.specs.Prelude.{◌≡◌, ◌≤◌, ◌<◌, ◌+◌, ◌^◌, ℕ, suc, List, length, nat_lt, OnOk, IfOk, IfSome};
 ghost use Rattle.doc_value.specs.Documents.{IsSchema};
 ghost use Rattle.source_checkpoint.specs.declared.ledger.Checkpoint.{Checkpoint};
+ghost use Rattle.indexing_run.specs.Gathering.{HasDocuments};
 ghost use Rattle.indexing_run.specs.Making.{Follows};
-ghost use Rattle.indexing_run.specs.Places.{Batch as Made};
-ghost use Rattle.indexing_run.specs.Steps.{marks_at, fresh_batch, extended, parts_after, taken_from, start_of, read_limit, is_closed};
-ghost use Rattle.indexing_run.specs.Standing.{left_of, taken_so_far, BatchStands, next_read, ReadsOn, batch_read};
-ghost use Rattle.split_bundle.specs.Documents.{total_weight};
+ghost use Rattle.indexing_run.specs.Steps.{extended, parts_after, taken_from, taken_so_far, is_closed};
+ghost use Rattle.split_bundle.specs.declared.placed.Placed.{Placed};
 
 use crate::documents::Documents;
 use crate::queue::Queue;
@@ -37,6 +36,7 @@ pub struct Batch {
     pub count: u64,
     first_read: Option<u64>,
     pub closed: bool,
+    ghost taken: { ∥ ((list : List Placed) × HasDocuments documents list) ∥₁ },
 }
 
 // Appends the records from `from` up to and without `to` of a partition, which is the last part's where it is read on.
@@ -87,11 +87,12 @@ fn take_records(
     records: &[Bytes],
     documents: &mut Documents,
 ) -> Result<u64, AllocError>
-    requires { from + length records.now < 2 ^ 64 }
+    requires low { from + length records.now < 2 ^ 64 }
+    requires taken { ∥ ((list : List Placed) × HasDocuments documents.old list) ∥₁ }
     ensures mapping { documents.new.mapping ≡ documents.old.mapping }
     ensures within { IfOk result (λ taken. taken ≤ length records.now) }
-    ensures taken { IfOk result (λ taken. taken_from documents.old.mapping partition.now from records.now (taken_so_far 0 documents.old.list)
-        ≡ taken_so_far taken documents.new.list) }
+    ensures taken { (list : List Placed) → HasDocuments documents.old list → IfOk result (λ taken. (after : List Placed) × HasDocuments documents.new after
+        × (taken_from documents.old.mapping partition.now from records.now (taken_so_far 0 list) ≡ taken_so_far taken after)) }
 {
     for (i, record) in records.iter().enumerate() {
         if documents.are_heavy() {
@@ -103,6 +104,11 @@ fn take_records(
 }
 
 impl Batch {
+    ghost use Rattle.source_checkpoint.specs.declared.ledger.Checkpoint.{Checkpoint};
+    ghost use Rattle.indexing_run.specs.Places.{Batch as Made};
+    ghost use Rattle.indexing_run.specs.Steps.{marks_at, fresh_batch, start_of, read_limit};
+    ghost use Rattle.indexing_run.specs.Standing.{left_of, BatchStands, next_read, ReadsOn, batch_read};
+
     /// An empty batch of these partitions under the index's configuration, from the checkpoints on.
     pub fn begin(
         alloc: Global,
@@ -118,7 +124,7 @@ impl Batch {
         Ok(Batch {
             queue,
             parts: Vec::new(alloc),
-            documents: Documents::vacant(alloc, config),
+            documents: Documents::vacant(alloc, config)?,
             count: 0,
             first_read: None,
             closed,
@@ -144,7 +150,7 @@ impl Batch {
     // Whether a batch is to be read no further behind a read at this moment.
     fn is_full(&self, since: u64, now: u64) -> bool
         requires { now < 2 ^ 62 }
-        ensures { result ≡ is_closed self.now.documents.mapping (left_of self.now.queue) self.now.count (nat_lt 134217728 (total_weight self.now.documents.list)) since now }
+        ensures { result ≡ is_closed self.now.documents.mapping (left_of self.now.queue) self.now.count (nat_lt 134217728 self.now.documents.builder.weight) since now }
     {
         let target = self.documents.config().docs_target;
         let timeout = self.documents.config().commit_timeout;
@@ -154,35 +160,44 @@ impl Batch {
             || (self.count > 0 && now >= since.saturating_add(timeout))
     }
 
-    /// Takes what was read of a partition from a place on, at a moment. Gives how many records were taken.
+    /// With what was read of a partition from a place on, at a moment, and how many records were taken.
     pub fn take(
-        &mut self,
+        self,
         alloc: Global,
         partition: &Partition,
         from: u64,
         records: &Records,
         now: u64,
-    ) -> Result<u64, AllocError>
+    ) -> Result<(Batch, u64), AllocError>
         requires low { from + length records.now.list < 2 ^ 64 }
         requires moment { now < 2 ^ 62 }
-        ensures { (batch : Made) (mark : Checkpoint) (rest : List Checkpoint) → BatchStands self.old batch →
+        ensures { (batch : Made) (mark : Checkpoint) (rest : List Checkpoint) → BatchStands self batch →
             ReadsOn batch mark rest records.now → partition.now ≡ mark.partition → from ≡ mark.at →
-            IfOk result (λ count. (count ≡ (taken_from batch.config mark.partition mark.at records.now.list (start_of batch)).count)
-            × BatchStands self.new (batch_read batch mark rest records.now now)) }
+            IfOk result (λ r. (r.1 ≡ (taken_from batch.config mark.partition mark.at records.now.list (start_of batch)).count)
+            × BatchStands r.0 (batch_read batch mark rest records.now now)) }
     {
-        let taken = take_records(
-            alloc,
-            partition,
-            from,
-            records.list.as_slice(),
-            &mut self.documents,
-        )?;
-        extend_taken(&mut self.parts, partition, from, taken)?;
-        let since = self.first_read.unwrap_or(now);
-        self.first_read = Some(since);
-        self.count = self.count.saturating_add(taken);
-        self.queue.move_on(taken, records.end);
-        self.closed = self.is_full(since, now);
-        Ok(taken)
+        let Batch {
+            mut queue,
+            mut parts,
+            mut documents,
+            count,
+            first_read,
+            ..
+        } = self;
+        let list = records.list.as_slice();
+        let taken = take_records(alloc, partition, from, list, &mut documents)?;
+        extend_taken(&mut parts, partition, from, taken)?;
+        let since = first_read.unwrap_or(now);
+        queue.move_on(taken, records.end);
+        let mut batch = Batch {
+            queue,
+            parts,
+            documents,
+            count: count.saturating_add(taken),
+            first_read: Some(since),
+            closed: false,
+        };
+        batch.closed = batch.is_full(since, now);
+        Ok((batch, taken))
     }
 }

@@ -218,7 +218,6 @@ impl<L: SourceLog> Indexer<L> {
             IndexerStands L.told L.fault_count self.old (record indexer { place = idle }) core read → G.Stands gate.old core read → BatchStands batch made → IsBatch read made → IsConfigured made.config core → made.closed ≡ false →
             StepsAs L.told L.fault_count G.Stands G.Between result (record indexer { place = reading made }) core read self.new gate.new }
     {
-        let mut batch = batch;
         let now = match gate.moment(alloc) {
             Ok(now) => now,
             Err(error) => return faulted(error),
@@ -231,7 +230,7 @@ impl<L: SourceLog> Indexer<L> {
         let after = self.log.faults();
         match records {
             Ok(records) => {
-                let count = batch.take(alloc, &next.partition, next.from, &records, now)?;
+                let (batch, count) = batch.take(alloc, &next.partition, next.from, &records, now)?;
                 self.place = Place::Reading(batch);
                 Ok(IndexerOutcome::Read { count })
             }

@@ -66,7 +66,43 @@ fn add_placed(
     }
 }
 
-/// The documents of such texts with `|` between; what gives none is left out.
+// Adds so many documents of one record, at the offsets from 0 on of a partition.
+fn add_many(
+    alloc: Global,
+    config: &IndexConfig,
+    list: &mut PlacedList,
+    count: u64,
+    text: &str,
+) -> Result<(), AllocError>
+    ensures { AllByRecursion (λ d. IsOfSchema config.now.schema d.doc) list.old → OnOk result (AllByRecursion (λ d. IsOfSchema config.now.schema d.doc) list.new) }
+{
+    let (name, record) = text.split_once(' ').unwrap_or((text, ""));
+    for offset in 0..count {
+        let text = format!(in alloc; "{name} {offset} {record}")?;
+        add_placed(alloc, config, list, text.as_str())?;
+    }
+    Ok(())
+}
+
+// Adds the documents of a piece: `COUNT times NAME RECORD`, or one document.
+fn add_piece(
+    alloc: Global,
+    config: &IndexConfig,
+    list: &mut PlacedList,
+    piece: &str,
+) -> Result<(), AllocError>
+    ensures { AllByRecursion (λ d. IsOfSchema config.now.schema d.doc) list.old → OnOk result (AllByRecursion (λ d. IsOfSchema config.now.schema d.doc) list.new) }
+{
+    match piece.split_once(" times ") {
+        Some((count, text)) => {
+            let count = count.parse::<u64>().unwrap_or(0);
+            add_many(alloc, config, list, count, text)
+        }
+        None => add_placed(alloc, config, list, piece),
+    }
+}
+
+/// The documents of such pieces with `|` between; what gives none is left out.
 pub fn documents_of(
     alloc: Global,
     config: &IndexConfig,
@@ -82,7 +118,7 @@ pub fn documents_of(
         };
         let (piece, behind) = first_of(left);
         rest = behind;
-        add_placed(alloc, config, &mut list, piece)?;
+        add_piece(alloc, config, &mut list, piece)?;
     }
     Ok(list)
 }

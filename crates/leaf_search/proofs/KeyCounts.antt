@@ -122,7 +122,7 @@ module _ (s : Schema) (few : length s.fields ≤ 256) (key : List ℕ) (d : List
 
 -- ---- a request that only counts
 
-and_both : (a b : Bool) → a && b ≡ true → (a ≡ true) × (b ≡ true)
+pub and_both : (a b : Bool) → a && b ≡ true → (a ≡ true) × (b ≡ true)
 and_both true b h = (refl, h)
 and_both false b h = absurd (cc)
 
@@ -132,7 +132,7 @@ pub record OnlyCounts (s : Schema) (r : LeafRequest) (key : List ℕ) : Type 0 w
   pub aggs : r.aggs ≡ []
   pub query : one_key s (view r.query) ≡ some key
 
-no_aggs : (aggs : List NamedAgg) → (length aggs == 0) ≡ true → aggs ≡ []
+pub no_aggs : (aggs : List NamedAgg) → (length aggs == 0) ≡ true → aggs ≡ []
 no_aggs [] e = refl
 no_aggs (a ∷ aggs) e = absurd (let none : length (a ∷ aggs) ≡ 0 = eqb-true (length (a ∷ aggs)) 0 e in omega arith)
 
@@ -169,7 +169,7 @@ none_posted s key n (d ∷ ds) h =
 pub no_posting : (s : Schema) (key : List ℕ) (ds : List Placed) → stands_in s key ds ≡ false → length (posting_list s ds key) ≡ 0
 no_posting s key ds h = none_posted s key 0 ds h
 
-many_posted : (s : Schema) (key : List ℕ) (test : List DocField → Bool) (n : ℕ) (ds : List Placed) → AllByRecursion (λ d. test d.doc ≡ has_key key (keys_of s d.doc)) ds
+pub many_posted : (s : Schema) (key : List ℕ) (test : List DocField → Bool) (n : ℕ) (ds : List Placed) → AllByRecursion (λ d. test d.doc ≡ has_key key (keys_of s d.doc)) ds
     → length (posted s key n ds) ≡ length (filter (λ d. test d.doc) ds)
 many_posted s key test n [] all = refl
 many_posted s key test n (d ∷ ds) all =
@@ -186,14 +186,14 @@ no_parts : (documents : ℕ) (docs : List (List DocField)) (parts : List Counts)
 no_parts documents docs [] h = tt
 no_parts documents docs (x ∷ xs) h = absurd h
 
-stands_for : (aggs : List NamedAgg) (partial : Partial) (docs : List (List DocField)) → aggs ≡ [] → IsPartialOf aggs partial → documents_in partial ≡ length docs → StandsFor aggs partial docs
+pub stands_for : (aggs : List NamedAgg) (partial : Partial) (docs : List (List DocField)) → aggs ≡ [] → IsPartialOf aggs partial → documents_in partial ≡ length docs → StandsFor aggs partial docs
 stands_for aggs partial docs none is many = record {
   many = many;
   parts = subst (λ (l : List NamedAgg). AllZip (λ (named : NamedAgg) (part : Counts). CountsFor named.agg part docs) l partial.parts.items) (sym none)
       (no_parts partial.documents docs partial.parts.items (subst (λ (l : List NamedAgg). AllZip (λ (named : NamedAgg) (part : Counts). IsPart partial.documents named.agg part) l partial.parts.items) none is.parts));
 }
 
-many_docs : (ds : List Placed) → length ds ≡ length (docs_of ds)
+pub many_docs : (ds : List Placed) → length ds ≡ length (docs_of ds)
 many_docs [] = refl
 many_docs (d ∷ ds) = ap suc (many_docs ds)
 

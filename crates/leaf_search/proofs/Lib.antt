@@ -10,3 +10,5 @@ pub mod ColumnParts
 pub mod Suffices
 pub mod ReadBounds
 pub mod ColumnNames
+pub mod SetCounts
+pub mod QueryCounts

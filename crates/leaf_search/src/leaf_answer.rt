@@ -1,6 +1,6 @@
 //! The answer of one split.
 
-ghost use Rattle.std.specs.Prelude.{◌≡◌, ◌≤◌, length, List, IfOk, MatchResult};
+ghost use Rattle.std.specs.Prelude.{◌≡◌, ◌≤◌, true, length, List, IfOk, MatchResult};
 ghost use Rattle.agg_model.specs.Checking.{HaveIntervals};
 ghost use Rattle.agg_model.specs.Partials.{IsPartialOf, documents_in};
 ghost use Rattle.split_bundle.specs.declared.placed.Placed.{Placed};
@@ -8,19 +8,23 @@ ghost use Rattle.split_bundle.specs.Files.{Parts, file_bytes};
 ghost use Rattle.split_bundle.specs.Lending.{IsPartOf};
 ghost use Rattle.split_bundle.specs.Wholes.{HaveAll};
 ghost use Rattle.doc_sets.specs.Faults.{HasCause, IsMemory};
+ghost use Rattle.doc_sets.specs.Sets.{IsSetOf};
+ghost use Rattle.query_ast.specs.Meaning.{meaning};
 ghost use Rattle.query_ast.specs.Sought.{view as query_view};
 ghost use Rattle.leaf_search.specs.Answers.{AsksLeaf, AsksWith, IsAnswerOf, IsAsked};
 ghost use Rattle.leaf_search.specs.Asks.{lookups_of};
+ghost use Rattle.leaf_search.specs.Counts as counts;
 ghost use Rattle.leaf_search.specs.FileRanges.{AreRangesOf};
 ghost use Rattle.leaf_search.specs.Needs.{AreHeld, NeedsBlocks, NeedsLists};
 ghost use Rattle.leaf_search.specs.declared.file_ranges.FileRange.{FileRange};
 
 use crate::evaluate::matching;
 use crate::numbers::numbers_in;
+use crate::query_counts::matching_count;
 use crate::request::{LeafAnswer, LeafRequest};
 use crate::timed::timed_numbers;
-use crate::token_counts::{counted, counted_key};
-use doc_sets::LeafError;
+use crate::token_counts::{answer_of_many, counted, counted_key, only_counts};
+use doc_sets::{DocBits, LeafError};
 use doc_tallies::{first_hits, partial_of};
 use doc_value::Schema;
 use split_bundle::PartView;
@@ -72,9 +76,55 @@ fn evaluated(
     ensures partial { IfOk result (λ a. IsPartialOf request.now.aggs a.partial) }
     ensures many { IfOk result (λ a. documents_in a.partial ≡ a.count) }
 {
+    if only_counts(request) {
+        return query_counted(alloc, schema, request, view);
+    }
     let index = view.footer().index();
     let bits = matching(alloc, index, view, schema, &request.query)?;
-    let matched = numbers_in(alloc, &bits)?;
+    listed(alloc, schema, request, view, &bits)
+}
+
+// The answer by the number of the documents that match the query, where nothing else is asked.
+fn query_counted(
+    alloc: Global,
+    schema: &Schema,
+    request: &LeafRequest,
+    view: &PartView,
+) -> Result<LeafAnswer, LeafError>
+    requires fields { length schema.now.fields ≤ 256 }
+    requires intervals { HaveIntervals request.now.aggs }
+    requires counts { counts.only_counts request.now ≡ true }
+    ensures only { (documents : List Placed) (p : Parts) → IsPartOf view.now schema.now documents p → IsAsked schema.now request.now
+        → MatchResult result (IsAnswerOf schema.now request.now documents)
+        (HasCause (AsksWith view.now schema.now documents p request.now (lookups_of schema.now (query_view request.now.query))) view.now.pieces) }
+    ensures there { (documents : List Placed) (p : Parts) → IsPartOf view.now schema.now documents p → HaveAll (file_bytes p) view.now.pieces → IsAsked schema.now request.now
+        → MatchResult result (IsAnswerOf schema.now request.now documents) IsMemory }
+    ensures partial { IfOk result (λ a. IsPartialOf request.now.aggs a.partial) }
+    ensures many { IfOk result (λ a. documents_in a.partial ≡ a.count) }
+{
+    let count = matching_count(alloc, view, schema, &request.query)?;
+    Ok(answer_of_many(alloc, request, count)?)
+}
+
+// The answer by the numbers of the documents that match the query.
+fn listed(
+    alloc: Global,
+    schema: &Schema,
+    request: &LeafRequest,
+    view: &PartView,
+    bits: &DocBits,
+) -> Result<LeafAnswer, LeafError>
+    requires intervals { HaveIntervals request.now.aggs }
+    requires size { bits.now.size ≡ view.now.footer.layout.docs }
+    ensures only { (documents : List Placed) (p : Parts) → IsPartOf view.now schema.now documents p → IsAsked schema.now request.now
+        → IsSetOf (λ d. meaning schema.now d (query_view request.now.query)) documents bits.now → MatchResult result (IsAnswerOf schema.now request.now documents)
+        (HasCause (AsksWith view.now schema.now documents p request.now (lookups_of schema.now (query_view request.now.query))) view.now.pieces) }
+    ensures there { (documents : List Placed) (p : Parts) → IsPartOf view.now schema.now documents p → HaveAll (file_bytes p) view.now.pieces → IsAsked schema.now request.now
+        → IsSetOf (λ d. meaning schema.now d (query_view request.now.query)) documents bits.now → MatchResult result (IsAnswerOf schema.now request.now documents) IsMemory }
+    ensures partial { IfOk result (λ a. IsPartialOf request.now.aggs a.partial) }
+    ensures many { IfOk result (λ a. documents_in a.partial ≡ a.count) }
+{
+    let matched = numbers_in(alloc, bits)?;
     let numbers = timed_numbers(alloc, schema, view, request.times, matched)?;
     let partial = partial_of(alloc, schema, view, &request.aggs, numbers.as_slice())?;
     let hits = first_hits(

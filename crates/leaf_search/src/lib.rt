@@ -13,6 +13,7 @@ mod list_ranges;
 mod lookups;
 mod needed;
 mod numbers;
+mod query_counts;
 mod request;
 mod timed;
 mod token_counts;

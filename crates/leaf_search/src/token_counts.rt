@@ -17,7 +17,6 @@ ghost use Rattle.leaf_search.specs.Counts as counts;
 use crate::fields::field_at;
 use crate::request::{LeafAnswer, LeafRequest};
 use crate::timed::is_unlimited;
-use agg_model::{AggRequest, Partial};
 use byte_fields::Bytes;
 use doc_sets::{LeafError, one_token, term_at};
 use doc_tallies::valueless_partial;
@@ -27,7 +26,7 @@ use split_bundle::{PartView, PlacedList};
 use std::alloc::{AllocError, Global};
 
 // Whether no hit is wanted, the times have no edge, and nothing is aggregated.
-fn only_counts(request: &LeafRequest) -> bool
+pub(crate) fn only_counts(request: &LeafRequest) -> bool
     ensures { result ≡ counts.only_counts request.now }
 {
     request.wanted == 0 && is_unlimited(request.times) && request.aggs.as_slice().is_empty()
@@ -50,7 +49,11 @@ fn key_of(
 }
 
 // The key of the token of a query that is one text of one token.
-fn one_key(alloc: Global, schema: &Schema, query: &Query) -> Result<Option<Bytes>, AllocError>
+pub(crate) fn one_key(
+    alloc: Global,
+    schema: &Schema,
+    query: &Query,
+) -> Result<Option<Bytes>, AllocError>
     requires { length schema.now.fields ≤ 256 }
     ensures { IfOk result (λ key. key ≡ counts.one_key schema.now (query_view query.now)) }
 {
@@ -85,17 +88,28 @@ pub(crate) fn counted_key(
     }
 }
 
-// A partial of so many documents without values.
-fn partial_of_many(alloc: Global, aggs: &AggRequest, count: u32) -> Result<Partial, AllocError>
-    requires { HaveIntervals aggs.now }
-    ensures partial { IfOk result (IsPartialOf aggs.now) }
-    ensures many { IfOk result (λ partial. documents_in partial ≡ count) }
+// The answer of so many documents to a request that only counts them.
+pub(crate) fn answer_of_many(
+    alloc: Global,
+    request: &LeafRequest,
+    count: u32,
+) -> Result<LeafAnswer, AllocError>
+    requires { HaveIntervals request.now.aggs }
+    ensures count { IfOk result (λ a. a.count ≡ count) }
+    ensures hits { IfOk result (λ a. a.hits ≡ []) }
+    ensures partial { IfOk result (λ a. IsPartialOf request.now.aggs a.partial) }
+    ensures many { IfOk result (λ a. documents_in a.partial ≡ a.count) }
 {
-    valueless_partial(alloc, aggs, u64::from(count))
+    let partial = valueless_partial(alloc, &request.aggs, u64::from(count))?;
+    Ok(LeafAnswer {
+        count: u64::from(count),
+        hits: PlacedList::vacant(alloc),
+        partial,
+    })
 }
 
 // How many documents have a key, by the dictionary alone.
-fn key_count(view: &PartView, key: &[u8]) -> Result<u32, LeafError>
+pub(crate) fn key_count(view: &PartView, key: &[u8]) -> Result<u32, LeafError>
     ensures { (s : Schema) (documents : List Placed) (p : Parts) → IsSearched view.now s documents p
         → MatchResult result (λ n. n ≡ length (posting_list s documents key.now)) (HasCause (IsBlockFor view.now s documents p key.now) view.now.pieces) }
 {
@@ -120,10 +134,5 @@ pub(crate) fn counted(
     ensures many { IfOk result (λ a. documents_in a.partial ≡ a.count) }
 {
     let count = key_count(view, key)?;
-    let partial = partial_of_many(alloc, &request.aggs, count)?;
-    Ok(LeafAnswer {
-        count: u64::from(count),
-        hits: PlacedList::vacant(alloc),
-        partial,
-    })
+    Ok(answer_of_many(alloc, request, count)?)
 }

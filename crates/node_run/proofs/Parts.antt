@@ -13,7 +13,7 @@ use Rattle.index_world.specs.declared.world_error.WorldError.{WorldError}
 use Rattle.index_world.specs.Calls as calls
 use Rattle.index_world.specs.Calls.{Fate, Fault, Trouble, faulted, no_memory, not_read, Unread, Gives, gives, loaded, calm_fate, asked_and_looked}
 use Rattle.root_search.specs.Requests.{asked_of}
-use Rattle.index_world.specs.Core.{Core, journal_of}
+use Rattle.index_world.specs.Core.{Core, journal_of, KeepsBut}
 use Rattle.index_world.specs.Gate.{NoneBetween}
 use Rattle.index_world.specs.Index.{has_staged}
 use Rattle.index_world.specs.World.{Keeping, WorldStands, GoesOn}
@@ -21,6 +21,7 @@ use Rattle.indexing_run.proofs.Holding.{indexer_stays}
 use Rattle.indexing_run.specs.Outcomes.{IndexerOutcome}
 use Rattle.indexing_run.specs.Making.{IsAssigned}
 use Rattle.indexing_run.specs.Places.{Indexer, Place, reading, staged, uploaded, idle, is_idle, number_held}
+use Rattle.node_run.specs.Alone.{SearchesAlone}
 use Rattle.node_run.specs.Lines.{AreNames}
 use Rattle.node_run.specs.Seen.{seen}
 use Rattle.node_run.specs.declared.line.Line.{Line as CodeLine}
@@ -32,7 +33,7 @@ use Rattle.indexing_run.specs.declared.indexer.Place.{Place as HeldPlace}
 use Rattle.indexing_run.specs.declared.indexer.Place.TheVariants as places
 use Rattle.indexing_run.specs.declared.outcome.IndexerOutcome.{IndexerOutcome as Said}
 use Rattle.root_search.proofs.Stands.{searcher_goes_on}
-use Rattle.root_search.specs.Searching.{SearcherStands, SearchesAs, IsRequest}
+use Rattle.root_search.specs.Searching.{SearcherStands, IsRequest}
 use Rattle.root_search.specs.declared.searcher.Request.{Request as KeptRequest}
 use Rattle.root_search.specs.declared.searcher.Request.TheVariants as requests
 use Rattle.root_search.specs.Steps.{Client, without_request}
@@ -228,13 +229,13 @@ module _ {L : Type 0} (told : L → Option Log) (count : L → ℕ) (since : L �
   -- it took a step
   pub searched_parts : (name : List ℕ) (known : List Searcher) (found : List (List ℕ × ℕ)) (m : Client) (place : ℕ) (new : Searcher) (world' : Keeping) (result : Result SearchStep AllocError) →
       m.name ≡ name → AllZip C known (with_client m node.clients) → HasPlaces found (names_of (with_client m node.clients)) → NamedAt name known place →
-      (s : SearchesAs WorldStands NoneBetween result new world' m node.core node.log) → s.later.name ≡ name →
+      (s : SearchesAlone result new world' m node.core node.log) → s.later.name ≡ name →
       PartsStand told count since firsts world' readers (slice_set known place new) found clock down (record (keep_client s.later node) { core = s.after })
   searched_parts name known found m place new world' result em zip has at s el =
       record {
-        world_stands = s.gate_stands;
+        world_stands = s.world_stands;
         is_log = p.is_log;
-        moment = p.moment ∙ sym (ap (λ c. c.clock) s.passed) ∙ sym (client_moves s.luck node.log m s.mid).ticks ∙ ap (λ step. step.core.clock) s.did;
+        moment = p.moment ∙ sym (client_moves s.luck node.log m node.core).ticks ∙ ap (λ step. step.core.clock) s.did;
         down = p.down;
         indexers = zip_weaker R (λ reader indexer. IndexerStands told count reader indexer s.after node.log) readers node.indexers
             (λ reader indexer stands. indexer_stays told count reader indexer node.core s.after node.log None s.goes_on (λ n held. tt) stands) p.indexers;
@@ -338,13 +339,12 @@ indexer_turns told count node i new world' result up s =
     ∙ ap (indexer_stepped i node) s.did
 
 pub client_turns : (node : Node) (name : List ℕ) (new : Searcher) (world' : Keeping) (result : Result SearchStep AllocError) → node.down ≡ false →
-    (s : SearchesAs WorldStands NoneBetween result new world' (client_named name node.clients) node.core node.log) →
+    (s : SearchesAlone result new world' (client_named name node.clients) node.core node.log) →
     full_turn (record { log = calm.log; world = s.luck.world; more = s.luck.more; inner = s.luck.short; early = false; short = false }) node (StepClient name)
     ≡ record { said = said_by_client name s.outcome; node = record (keep_client s.later node) { core = s.after } }
 client_turns node name new world' result up s =
     let luck : Luck = record { log = calm.log; world = s.luck.world; more = s.luck.more; inner = s.luck.short; early = false; short = false } in
     ap (λ b. client_turn_by b luck name node) up
-    ∙ ap (λ core. client_stepped name node (searching.step_client s.luck node.log (client_named name node.clients) core)) (sym s.passed)
     ∙ ap (client_stepped name node) s.did
 
 pub said_some : (given : Said) (o : Option IndexerOutcome) → Answers (Ok given) o → (x : IndexerOutcome) × (o ≡ Some x) × IsIndexerSaid given x
@@ -506,29 +506,36 @@ all_idle_over told count (r ∷ readers) [] core after log z = absurd z
 all_idle_over told count (r ∷ readers) (i ∷ indexers) core after log z =
     (idle_over told count r i core after log z.0, all_idle_over told count readers indexers core after log z.1)
 
-without_over : (searcher : Searcher) (client : Client) (core after : Core) (log : Log) →
+without_over : (searcher : Searcher) (client : Client) (core after : Core) (log : Log) → KeepsBut None core after →
     SearcherStands searcher (without_request client) core log → SearcherStands searcher (without_request client) after log
-without_over searcher client core after log s = record { name = s.name; front = s.front; request = by searcher.request s.request } where
-  by : (kept : KeptRequest) → IsRequest kept searching.no_request core log → IsRequest kept searching.no_request after log
-  by requests.Vacant p = p
-  by (requests.Opened text) p = p
-  by (requests.Planned search) p = absurd (cc p.1)
+without_over searcher client core after log keeps s =
+    record {
+      name = s.name;
+      front = s.front;
+      footers = λ number footer among. let k = s.footers number footer among in record { bytes = k.bytes; uploaded = keeps.uploaded number k.bytes k.uploaded; footer_is = k.footer_is };
+      request = by searcher.request s.request;
+    }
+  where
+    by : (kept : KeptRequest) → IsRequest kept searching.no_request core log → IsRequest kept searching.no_request after log
+    by requests.Vacant p = p
+    by (requests.Opened text) p = p
+    by (requests.Planned search) p = absurd (cc p.1)
 
-pub all_without_over : (searchers : List Searcher) (clients : List Client) (core after : Core) (log : Log) →
+pub all_without_over : (searchers : List Searcher) (clients : List Client) (core after : Core) (log : Log) → KeepsBut None core after →
     AllZip (λ searcher client. SearcherStands searcher client core log) searchers (map without_request clients) →
     AllZip (λ searcher client. SearcherStands searcher client after log) searchers (map without_request clients)
-all_without_over [] [] core after log z = z
-all_without_over [] (c ∷ clients) core after log z = absurd z
-all_without_over (s ∷ searchers) [] core after log z = absurd z
-all_without_over (s ∷ searchers) (c ∷ clients) core after log z =
-    (without_over s c core after log z.0, all_without_over searchers clients core after log z.1)
+all_without_over [] [] core after log keeps z = z
+all_without_over [] (c ∷ clients) core after log keeps z = absurd z
+all_without_over (s ∷ searchers) [] core after log keeps z = absurd z
+all_without_over (s ∷ searchers) (c ∷ clients) core after log keeps z =
+    (without_over s c core after log keeps z.0, all_without_over searchers clients core after log keeps z.1)
 
 -- a stopped node whose world was loaded, or stayed
 pub loaded_parts : {L : Type 0} (told : L → Option Log) (count : L → ℕ) (since : L → L → Type 0) (firsts : List L) (world world' : Keeping) (readers : List (Reader L))
     (searchers : List Searcher) (places : List (List ℕ × ℕ)) (clock : ℕ) (down kept_down down' : Bool) (node : Node) (after : Core) (fate : Fate) (answer : Result ⊤ Unread) →
-    PartsStand told count since firsts world readers searchers places clock down (stopped node.core node) → loaded fate node.core ≡ gives answer after →
+    PartsStand told count since firsts world readers searchers places clock down (stopped node.core node) → loaded fate node.core ≡ gives answer after → KeepsBut None node.core after →
     WorldStands world' after node.log → kept_down ≡ down' → PartsStand told count since firsts world' readers searchers places clock kept_down (record (restarted node) { core = after; down = down' })
-loaded_parts told count since firsts world world' readers searchers places clock down kept_down down' node after fate answer p did stands same =
+loaded_parts told count since firsts world world' readers searchers places clock down kept_down down' node after fate answer p did keeps stands same =
     record {
       world_stands = stands;
       is_log = p.is_log;
@@ -536,7 +543,7 @@ loaded_parts told count since firsts world world' readers searchers places clock
       down = same;
       indexers = all_idle_over told count readers node.indexers node.core after node.log p.indexers;
       apart = p.apart;
-      clients = all_without_over searchers node.clients node.core after node.log p.clients;
+      clients = all_without_over searchers node.clients node.core after node.log keeps p.clients;
       placed = p.placed;
       later = p.later;
     }

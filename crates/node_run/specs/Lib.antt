@@ -5,6 +5,7 @@ pub mod Calm
 pub mod Fitting
 pub mod Seen
 pub mod Pieces
+pub mod Alone
 pub mod Standing
 pub mod Named
 pub mod Each

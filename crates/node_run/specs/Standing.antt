@@ -52,7 +52,7 @@ IsFresh told count log reader =
 -- a node of the code stands for this one
 abbrev pub NodeStands : {S L : Type 0} → (L → Option Log) → (L → ℕ) → (L → L → Type 0) → List L → DriveNode S L → Node → Type 0
 NodeStands {S} {L} told count since firsts drive node =
-    PartsStand told count since firsts drive.world drive.indexers.items drive.clients.items drive.places.entries drive.moment drive.down node
+    PartsStand told count since firsts drive.gate.world drive.indexers.items drive.clients.items drive.places.entries drive.moment drive.down node
 
 -- ---- start
 

@@ -11,8 +11,9 @@ ghost use Rattle.index_world.specs.World.{WorldStands};
 ghost use Rattle.indexing_run.specs.Making.{IsAssigned};
 ghost use Rattle.indexing_run.specs.Places.{Indexer as Actor, is_idle};
 ghost use Rattle.indexing_run.specs.Standing.{IndexerStands, StepsAs};
-ghost use Rattle.root_search.specs.Searching.{SearcherStands, SearchesAs};
+ghost use Rattle.root_search.specs.Searching.{SearcherStands};
 ghost use Rattle.root_search.specs.Steps.{Client as Asker, without_request};
+ghost use Rattle.node_run.specs.Alone.{SearchesAlone};
 ghost use Rattle.node_run.specs.Calm.{log_counts};
 ghost use Rattle.node_run.specs.Fitting.{IsNumbered, IsYes};
 ghost use Rattle.node_run.specs.Lines.{IsWellFormed, AreNames, outcome_text};
@@ -30,7 +31,7 @@ use crate::name::Name;
 use crate::out_line::OutLine;
 use byte_fields::{Client, Text};
 use clock_time::ScriptClock;
-use index_world::{World, WorldError};
+use index_world::{Direct, World, WorldError};
 use indexing_run::{Indexer, IndexerOutcome};
 use object_store::ObjectStore;
 use root_search::{SearchStep, Searcher};
@@ -46,7 +47,7 @@ const MOMENT_END: u64 = 1 << 62;
 
 /// A node: a world, one indexer for each log, and one searcher for each client that a line named.
 pub struct DriveNode<S: ObjectStore, L: SourceLog> {
-    world: World<S, ScriptClock>,
+    gate: Direct<S, ScriptClock>,
     indexers: Vec<Indexer<L>>,
     clients: Vec<Searcher>,
     // The place of each client among the searchers.
@@ -75,28 +76,28 @@ pub enum Accepts {
 
 fn step_indexer<S: ObjectStore, L: SourceLog>(
     alloc: Global,
-    world: &mut World<S, ScriptClock>,
+    gate: &mut Direct<S, ScriptClock>,
     indexer: &mut Indexer<L>,
 ) -> Result<IndexerOutcome, AllocError>
     ensures later { L.since indexer.old.log indexer.new.log }
     ensures step { (actor : Actor) (core : Core) (log : Log) → IndexerStands L.told L.fault_count indexer.old actor core log →
-        WorldStands world.old core log →
-        StepsAs L.told L.fault_count WorldStands NoneBetween result actor core log indexer.new world.new }
+        WorldStands gate.old.world core log →
+        StepsAs L.told L.fault_count WorldStands NoneBetween result actor core log indexer.new gate.new.world }
 {
-    indexer.step(alloc, world)
+    indexer.step(alloc, gate)
 }
 
 fn step_searcher<Rt: Threads + Sync, S: ObjectStore>(
     rt: &Rt,
     alloc: Global,
-    world: &mut World<S, ScriptClock>,
+    gate: &mut Direct<S, ScriptClock>,
     searcher: &mut Searcher,
 ) -> Result<SearchStep, AllocError>
-    ensures { (client : Asker) (core : Core) (log : Log) → IsLog log → WorldStands world.old core log →
+    ensures { (client : Asker) (core : Core) (log : Log) → IsLog log → WorldStands gate.old.world core log →
         SearcherStands searcher.old client core log →
-        SearchesAs WorldStands NoneBetween result searcher.new world.new client core log }
+        SearchesAlone result searcher.new gate.new.world client core log }
 {
-    searcher.step(rt, alloc, world)
+    searcher.step(rt, alloc, gate)
 }
 
 fn copied(alloc: Global, names: &Partitions) -> Result<Partitions, AllocError>
@@ -246,7 +247,7 @@ impl<S: ObjectStore, L: SourceLog> DriveNode<S, L> {
         };
         let indexers = readers_of(indexers, logs);
         Ok(DriveNode {
-            world,
+            gate: Direct::over(world),
             indexers,
             clients: Vec::new(alloc),
             places: BTreeMap::new(alloc),
@@ -265,14 +266,14 @@ impl<S: ObjectStore, L: SourceLog> DriveNode<S, L> {
         ensures same { logs_in result.1 ≡ map (λ reader. reader.log) self.indexers.items }
     {
         let DriveNode {
-            world,
+            gate,
             indexers,
             clients: _,
             places: _,
             moment: _,
             down: _,
         } = self;
-        (world.unload().0, Logs::Read(indexers))
+        (gate.into_world().unload().0, Logs::Read(indexers))
     }
 
     /// Ends the node. Gives the store, and the sum of the logs' counts of faults, at most 2 ^ 64 - 1.
@@ -351,10 +352,10 @@ impl<S: ObjectStore, L: SourceLog> DriveNode<S, L> {
             DoesMost L.told L.fault_count L.since firsts node said.RestartNode result self.new }
     {
         self.stop();
-        match self.world.reload(alloc) {
+        match self.gate.world.reload(alloc) {
             Ok(()) => {
                 self.down = false;
-                OutLine::node_restarted(alloc, self.world.meta().revision())
+                OutLine::node_restarted(alloc, self.gate.world.meta().revision())
             }
             Err(error) => fault_line(alloc, error),
         }
@@ -369,7 +370,7 @@ impl<S: ObjectStore, L: SourceLog> DriveNode<S, L> {
         if self.down {
             return OutLine::indexer_down(alloc, number);
         }
-        let outcome = step_indexer(alloc, &mut self.world, &mut self.indexers[number as usize])?;
+        let outcome = step_indexer(alloc, &mut self.gate, &mut self.indexers[number as usize])?;
         OutLine::indexer(alloc, number, &outcome)
     }
 
@@ -387,7 +388,7 @@ impl<S: ObjectStore, L: SourceLog> DriveNode<S, L> {
         if self.down {
             return OutLine::client_down(alloc, client);
         }
-        let outcome = step_searcher(rt, alloc, &mut self.world, &mut self.clients[place])?;
+        let outcome = step_searcher(rt, alloc, &mut self.gate, &mut self.clients[place])?;
         OutLine::client(alloc, client, &outcome)
     }
 
@@ -433,7 +434,7 @@ impl<S: ObjectStore, L: SourceLog> DriveNode<S, L> {
     {
         if moment < MOMENT_END {
             self.moment = moment;
-            self.world.clock_mut().set(moment);
+            self.gate.world.clock_mut().set(moment);
         }
         OutLine::at(alloc, moment)
     }

@@ -88,7 +88,7 @@ begins history before e =
 -- ---- logs that were never read
 
 module _ {L : Type 0} (count : L → ℕ) (since : L → L → Type 0) (itself : (log : L) → since log log) where
-  all_later : (logs : List L) → AllZip since logs logs
+  pub all_later : (logs : List L) → AllZip since logs logs
   all_later [] = tt
   all_later (log ∷ logs) = (itself log, all_later logs)
 

@@ -31,3 +31,4 @@ pub mod Founded
 pub mod Printing
 pub mod Printed
 mod CausedReports
+mod Unread

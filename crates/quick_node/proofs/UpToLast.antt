@@ -218,6 +218,26 @@ module _ (before : Before) (fresh opened : Node) (opens : Opens fresh (Ok tt) op
 
 -- ---- a store that wasn't opened
 
+-- for want of memory, before anything was done
+pub met_unread : (before : Before) (fresh : Node) (read write : ℕ) → Met before fresh ended.Memory read write [] fresh
+met_unread before fresh read write = record {
+  end = out_of_memory;
+  lines = [];
+  outcomes = [];
+  status_is = refl;
+  ends = λ after ra wa. none;
+  wrote = λ low high piece l. inl (silent low high piece l);
+  lives = inl (refl, refl, refl);
+  tell = tt;
+  printed_all = inl refl;
+  reads = none;
+  front = inl refl;
+  short = inl (refl, refl, refl);
+}
+  where
+    none : Reads (length before.log_faults) before.input [] stopped
+    none = none_from (length before.log_faults) (length before.input) 0 [] (raw_lines before.input)
+
 module _ (before : Before) (fresh last : Node) (moment : fresh.core.moment ≡ moment_of (history fresh.core.history)) (unsure : fresh.core.unsure ≡ false) (read write : ℕ) where
   unopened : (why : Unread) → Opens fresh (Err why) last → Unopened fresh [] [] why last
   unopened why opens = record { no_lines = refl; no_outcomes = refl; opens = opens }

@@ -154,4 +154,6 @@ mod report_rows;
 #[cfg(test)]
 mod script;
 #[cfg(test)]
+mod search_rows;
+#[cfg(test)]
 mod tests;

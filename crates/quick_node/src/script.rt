@@ -1,12 +1,12 @@
 //! The rows of the tests.
 //!
-//! A line `row` begins one, with a new index, no log and nothing that is to fail. `vacant` takes an empty store in its place, and
-//! `object` makes an object in it. `command` takes another command than `drive`, and `word` a word more. `log` adds a log, and
-//! `record` a record at its end. `failkey`, `failcall`, `failread`, `failwrite` and `faillog` make the create of a key, or the call with
-//! a number, fail, of a create with when it lands; `room` bounds the output. `>` is a line of the input, and `<` one that must be
-//! written; `>>` and `<<` are the same without a line feed; `config` is the configuration of an index, behind a line of its own if
-//! there is one. `run` does the command with this input, and compares what was written, the status, and the counts of faults; what
-//! stands then is the store of a second life.
+//! A line `row` begins one, with a new index, no log and nothing that is to fail. `vacant` takes an empty store in its place,
+//! `object` makes an object in it, and `cut` takes the last byte of one away. `command` takes another command than `drive`, and
+//! `word` a word more. `log` adds a log, and `record` a record at its end. `failkey`, `failcall`, `failread`, `failwrite` and
+//! `faillog` make the create of a key, or the call with a number, fail, of a create with when it lands; `room` bounds the output.
+//! `>` is a line of the input, and `<` one that must be written; `>>` and `<<` are the same without a line feed; `config` is the
+//! configuration of an index, behind a line of its own if there is one. `run` does the command with this input, and compares what
+//! was written, the status, and the counts of faults; what stands then is the store of a second life.
 
 pub const ROWS: &str = r#"row two hits
 log

@@ -1,6 +1,7 @@
 //! The top call: one command over a store, logs, a clock, an input and an output.
 
-ghost use Rattle.std.specs.Prelude.{◌≡◌, ◌⊎◌, ◌≤◌, ◌↔◌, ℕ, List, Some, Ok, IsTrue, IfSome, IfNone, map, min, sum};
+ghost use Rattle.std.specs.Prelude.{◌≡◌, ◌⊎◌, ◌≤◌, ℕ, List, Some, Ok, map, min, sum};
+ghost use Rattle.std.specs.List.{AllZip};
 ghost use Rattle.std.specs.String.{string_bytes};
 ghost use Rattle.meta_journal.specs.declared.entry.Entry.{Entry};
 ghost use Rattle.object_store.specs.Store.{HasLanded, WhereTold};
@@ -23,6 +24,7 @@ use crate::running::run;
 use crate::writing::write_all;
 use byte_fields::{Sink, Source};
 use clock_time::{Clock, ScriptClock};
+use command_words::{Command, read_words};
 use index_world::{Unopened, World};
 use node_run::{DriveNode, Logs, Unstarted};
 use object_store::ObjectStore;
@@ -52,6 +54,7 @@ fn ended<S: ObjectStore, L: SourceLog, W: Sink>(
     ensures store { result.0.store ≡ store }
     ensures store_faults { result.0.store_faults ≡ S.fault_count store }
     ensures logs { logs_in result.1 ≡ logs_in logs }
+    ensures later { AllZip L.since (logs_in logs) (logs_in result.1) }
     ensures log_sum { result.0.log_faults ≡ min (sum (map L.fault_count (logs_in result.1))) last_count }
     ensures counted { W.fault_count output.old ≤ W.fault_count output.new }
     ensures status { (result.0.status ≡ ended_status end.now) ⊎ (result.0.status ≡ 11) }
@@ -74,56 +77,6 @@ fn ended<S: ObjectStore, L: SourceLog, W: Sink>(
         log_faults,
     };
     (finished, logs)
-}
-
-fn is_drive(words: &[String]) -> bool
-    ensures { IsTrue result ↔ IsDrive (map string_bytes words.now) }
-{
-    match words {
-        [word] => word.as_str() == "drive",
-        _ => false,
-    }
-}
-
-fn is_create(words: &[String]) -> bool
-    ensures { IsTrue result ↔ IsCreate (map string_bytes words.now) }
-{
-    match words {
-        [word] => word.as_str() == "create",
-        _ => false,
-    }
-}
-
-fn is_splits(words: &[String]) -> bool
-    ensures { IsTrue result ↔ IsSplits (map string_bytes words.now) }
-{
-    match words {
-        [word] => word.as_str() == "splits",
-        _ => false,
-    }
-}
-
-fn is_describe(words: &[String]) -> bool
-    ensures { IsTrue result ↔ IsDescribe (map string_bytes words.now) }
-{
-    match words {
-        [word] => word.as_str() == "describe",
-        _ => false,
-    }
-}
-
-// The report that the words ask for, if they ask for one.
-fn report_of(words: &[String]) -> Option<Report>
-    ensures asked { IfSome result (λ asked. AsksFor asked (map string_bytes words.now)) }
-    ensures none { IfNone result ((asked : Report) → AsksFor asked (map string_bytes words.now) → ⊥) }
-{
-    if is_splits(words) {
-        return Some(Report::Splits);
-    }
-    if is_describe(words) {
-        return Some(Report::Describe);
-    }
-    None
 }
 
 // Answers other words.
@@ -352,16 +305,18 @@ pub fn serve_with_logs<
     // Other words leave the logs as they were.
     ensures unread { (IsDrive (map string_bytes words.now) → ⊥) → logs_in result.1 ≡ logs.items }
 {
-    if is_create(words) {
-        return create(alloc, store, logs, clock, input, output);
-    }
-    if let Some(asked) = report_of(words) {
-        return report(alloc, asked, store, logs, input, output);
-    }
-    if !is_drive(words) {
+    let Ok(named) = read_words(alloc, words) else {
+        return ended(alloc, store, Logs::Unread(logs), &End::Memory, output);
+    };
+    let Some(command) = named else {
         return refuse(alloc, store, logs, output);
+    };
+    match command {
+        Command::Create => create(alloc, store, logs, clock, input, output),
+        Command::Drive => drive(rt, alloc, store, logs, input, output),
+        Command::Splits => report(alloc, Report::Splits, store, logs, input, output),
+        Command::Describe => report(alloc, Report::Describe, store, logs, input, output),
     }
-    drive(rt, alloc, store, logs, input, output)
 }
 
 /// Does the command that the words name, as `serve_with_logs`, and lets the logs go.

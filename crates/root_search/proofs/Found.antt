@@ -31,7 +31,7 @@ use Rattle.search_api.specs.Resolved.{Search}
 use Rattle.root_search.specs.LeafAsks.{Asks}
 use Rattle.root_search.specs.Leaves.{all_of}
 use Rattle.root_search.specs.Places.{OneAtEach}
-use Rattle.root_search.specs.SplitFiles.{AreFound}
+use Rattle.root_search.specs.PartAnswers.{AreFound}
 use Rattle.root_search.specs.declared.leaf_asks.LeafAsk.{LeafAsk}
 use Rattle.root_search.specs.Searching.{AreInHand, IsInHand, documents_at, history_at, published_at, rows_at}
 use Rattle.root_search.specs.Steps.{config_at}

@@ -12,10 +12,11 @@ use Rattle.split_bundle.specs.declared.placed.Placed.{Placed}
 use Rattle.doc_sets.specs.Faults.{IsMemory}
 use Rattle.doc_sets.specs.declared.leaf_error.LeafError.{LeafError}
 use Rattle.doc_sets.specs.declared.leaf_error.LeafError.TheVariants as leaf
-use Rattle.leaf_search.specs.Answers.{IsAnswerOf, IsAsked, found, passes}
+use Rattle.leaf_search.specs.Answers.{AsksLeaf, IsAnswerOf, IsAsked, found, passes}
 use Rattle.leaf_search.specs.declared.request.LeafAnswer.{LeafAnswer}
 use Rattle.leaf_search.specs.declared.request.LeafRequest.{LeafRequest}
-use Rattle.root_search.specs.Leaves.{HasCauseIn, IsCounted, IsFaultIn, IsFull, IsLeafAnswer, IsViewOf, IsWholeViewOf, WantsMemory, all_of, count_in, placed_fault}
+use Rattle.leaf_search.proofs.Suffices.{held_memory}
+use Rattle.root_search.specs.Leaves.{HasAsked, HasCauseIn, IsCounted, IsFaultIn, IsFull, IsLeafAnswer, IsViewOf, IsWholeViewOf, WantsMemory, all_of, count_in, placed_fault}
 use Rattle.root_search.specs.declared.splits_error.SplitsError.{SplitsError}
 use Rattle.root_search.specs.declared.splits_error.SplitsError.TheVariants.{Corrupt, Memory, Missing, TooMany}
 
@@ -286,3 +287,37 @@ pub whole_searched : (s : Schema) (r : LeafRequest) (views : List PartView) (lis
     → MatchResult result (IsAnswerOf s r (all_of lists)) WantsMemory
 whole_searched s r views lists answers (Ok a) leaves ok err are few asked = ok lists (are_answers s r views lists answers leaves (whole_views s views lists are) asked)
 whole_searched s r views lists answers (Err e) leaves ok err are few asked = whole_cause s r views lists answers e leaves are few asked err
+
+-- ---- views that have what is asked for
+
+asked_views : (s : Schema) (r : LeafRequest) (views : List PartView) (lists : List (List Placed)) → AllZip (HasAsked s r) views lists → AllZip (IsViewOf s) views lists
+asked_views s r [] [] are = tt
+asked_views s r [] (ds ∷ lists) are = absurd are
+asked_views s r (v ∷ views) [] are = absurd are
+asked_views s r (v ∷ views) (ds ∷ lists) are = (record { parts = are.0.parts; is_part = are.0.is_part }, asked_views s r views lists are.1)
+
+asked_fault : (s : Schema) (r : LeafRequest) (views : List PartView) (lists : List (List Placed)) (answers : List (Result LeafAnswer LeafError)) (place : ℕ) (fault : LeafError) → AllZip (IsLeafAnswer s r) views answers → AllZip (HasAsked s r) views lists
+    → IsAsked s r → slice_get answers place ≡ Some (Err fault) → IsMemory fault
+asked_fault s r [] [] [] place fault leaves are asked h = absurd (cc)
+asked_fault s r [] [] (a ∷ answers) place fault leaves are asked h = absurd leaves
+asked_fault s r [] (ds ∷ lists) answers place fault leaves are asked h = absurd are
+asked_fault s r (v ∷ views) [] answers place fault leaves are asked h = absurd are
+asked_fault s r (v ∷ views) (ds ∷ lists) [] place fault leaves are asked h = absurd leaves
+asked_fault s r (v ∷ views) (ds ∷ lists) (a ∷ answers) zero fault leaves are asked h =
+    let here : a ≡ Err fault = cc in
+    held_memory (AsksLeaf v s ds are.0.parts r) v.pieces fault are.0.held ((subst (IsLeafAnswer s r v) here leaves.0).only ds are.0.parts are.0.is_part asked)
+asked_fault s r (v ∷ views) (ds ∷ lists) (a ∷ answers) (suc place) fault leaves are asked h = asked_fault s r views lists answers place fault leaves.1 are.1 asked h
+
+asked_cause : (s : Schema) (r : LeafRequest) (views : List PartView) (lists : List (List Placed)) (answers : List (Result LeafAnswer LeafError)) (e : SplitsError) → AllZip (IsLeafAnswer s r) views answers → AllZip (HasAsked s r) views lists
+    → length (all_of lists) < 2 ^ 62 → IsAsked s r → IsFaultIn answers e → WantsMemory e
+asked_cause s r views lists answers (Memory a) leaves are few asked h = tt
+asked_cause s r views lists answers (Missing place at) leaves are few asked h = asked_fault s r views lists answers place (leaf.Missing at) leaves are asked h
+asked_cause s r views lists answers (Corrupt place section) leaves are few asked h = asked_fault s r views lists answers place (leaf.Corrupt section) leaves are asked h
+asked_cause s r views lists answers TooMany leaves are few asked h =
+    absurd (omega (arith, h, few, counts_few s r answers lists (are_answers s r views lists answers leaves (asked_views s r views lists are) asked)))
+
+pub asked_searched : (s : Schema) (r : LeafRequest) (views : List PartView) (lists : List (List Placed)) (answers : List (Result LeafAnswer LeafError)) (result : Result LeafAnswer SplitsError) → AllZip (IsLeafAnswer s r) views answers
+    → ((lists : List (List Placed)) → AreAnswers s r answers lists → IfOk result (IsAnswerOf s r (all_of lists))) → IfErr result (IsFaultIn answers) → AllZip (HasAsked s r) views lists → length (all_of lists) < 2 ^ 62 → IsAsked s r
+    → MatchResult result (IsAnswerOf s r (all_of lists)) WantsMemory
+asked_searched s r views lists answers (Ok a) leaves ok err are few asked = ok lists (are_answers s r views lists answers leaves (asked_views s r views lists are) asked)
+asked_searched s r views lists answers (Err e) leaves ok err are few asked = asked_cause s r views lists answers e leaves are few asked err

@@ -6,6 +6,15 @@ pub mod Showing
 pub mod Joining
 pub mod Wholes
 pub mod Zipped
+pub mod SameFooters
+pub mod PartViews
+pub mod Fetches
+pub mod Tails
+pub mod Kept
+pub mod Parting
+pub mod Puts
+pub mod Needed
+pub mod Bounds
 pub mod Schemas
 pub mod Orders
 pub mod Records

@@ -16,8 +16,6 @@ use Rattle.meta_store.specs.declared.config.Config.{Config}
 use Rattle.meta_store.specs.declared.planning.Choice.{Choice}
 use Rattle.meta_store.specs.declared.planning.Choice.TheVariants as choices
 use Rattle.meta_store.specs.declared.planning.PlanRow.{PlanRow}
-use Rattle.object_store.specs.Store.{IsPieceOf}
-use Rattle.object_store.specs.declared.store.Piece.{Piece}
 use Rattle.source_log.specs.Log.{Log}
 use Rattle.split_states.specs.Rows.{is_published}
 use Rattle.split_states.specs.declared.facts.RowFacts.{RowFacts}
@@ -36,17 +34,18 @@ use Rattle.split_bundle.specs.declared.placed.Placed.{Placed}
 use Rattle.search_api.specs.Resolved.{Search}
 use Rattle.leaf_search.specs.Answers.{IsAsked}
 use Rattle.meta_journal.specs.declared.entry.Entry.{Entry}
-use Rattle.split_bundle.specs.Splits.{IsSplit}
+use Rattle.split_bundle.specs.Files.{Parts, file_bytes}
+use Rattle.root_search.specs.Fetching.{IsFileAt}
 use Rattle.root_search.specs.LeafAsks.{Asks}
 use Rattle.root_search.specs.ReadSearches.{IsChoiceOf, IsRead}
 use Rattle.root_search.specs.declared.leaf_asks.LeafAsk.{LeafAsk}
 use Rattle.root_search.specs.declared.reads.ReadSearch.{ReadSearch}
-use Rattle.root_search.specs.SplitFiles.{IsFileOf}
+use Rattle.root_search.specs.SplitParts.{HasNeeded}
 use Rattle.root_search.specs.declared.outcome.SearchStep.TheVariants as steps
 use Rattle.root_search.specs.declared.planned.Planned.{Planned as GivenPlan}
 use Rattle.root_search.specs.declared.searcher.Request.TheVariants as given
 use Rattle.root_search.specs.declared.searcher.Searcher.{Searcher}
-use Rattle.root_search.specs.declared.split_files.SplitFile.{SplitFile}
+use Rattle.root_search.specs.declared.split_parts.SplitPart.{SplitPart}
 use Rattle.root_search.specs.Searching.{IsInHand, history_at, rows_at, documents_at, IsPlanned, IsAtWork, Ends}
 use Rattle.root_search.specs.Steps.{Plan, Client, config_at, config_in, planned_numbers, with_plan}
 use Rattle.root_search.proofs.Zipped.{zip_last}
@@ -66,14 +65,15 @@ numbers_are [] = refl
 numbers_are (row ∷ list) = ap (λ l. row.number ∷ l) (numbers_are list)
 
 pub plan_ends : (searcher : Searcher) (client : Client) (search : Search) (read : ReadSearch) (held : GivenPlan) (count : ℕ) (config : IndexConfig) (after : Core) (log : Log) → IsSoundCore after log → IsConfigured config after →
-    IsPlan read.choice held.plan after → IsRead config.schema search read → held.ask ≡ read.ask → held.next ≡ 0 → held.files ≡ [] → count ≡ length held.plan.rows → IsAtWork searcher client →
-    Ends (Ok (steps.Planned held.plan.revision count)) (record { client = searcher.client; front = searcher.front; request = given.Planned held }) (with_plan search client after) log
+    IsPlan read.choice held.plan after → IsRead config.schema search read → held.ask ≡ read.ask → held.next ≡ 0 → held.parts ≡ [] → count ≡ length held.plan.rows → IsAtWork searcher client after →
+    Ends (Ok (steps.Planned held.plan.revision count)) (record { client = searcher.client; front = searcher.front; footers = searcher.footers; request = given.Planned held }) (with_plan search client after) log
 plan_ends searcher client search read held count config after log s configured p r same first none counted w =
     record {
       says = ap₂ (λ (n m : ℕ). Some (steps.Planned n m)) (sym p.revision) (sym (counted ∙ many));
       stands = record {
         name = w.name;
         front = w.front;
+        footers = w.footers;
         request = (
           record { search = search; revision = length after.history; unfetched = planned_numbers (config_in after) search (history after.history) },
           refl,
@@ -85,8 +85,8 @@ plan_ends searcher client search read held count config after log s configured p
             rows = chosen ∙ ap (map planned_row) (sym (ap (λ (seen : List Entry). rows_seen seen search) all));
             place = omega (arith, first);
             unfetched = sym (ap (λ (n : ℕ). map (λ (row : PlanRow). row.number) (drop n held.plan.rows)) first ∙ (ap (map (λ (row : PlanRow). row.number)) chosen ∙ numbers_are list));
-            files = subst (λ (n : ℕ). AllZip (IsFileOf (config_at (length after.history) after).schema) held.files (map (documents_at (length after.history) after log) (take n (rows_at (length after.history) search after)))) (sym first)
-                (subst (λ (files : List SplitFile). AllZip (IsFileOf (config_at (length after.history) after).schema) files []) (sym none) tt);
+            parts = subst (λ (n : ℕ). AllZip (HasNeeded (config_at (length after.history) after).schema held.ask.request) held.parts (map (documents_at (length after.history) after log) (take n (rows_at (length after.history) search after)))) (sym first)
+                (subst (λ (parts : List SplitPart). AllZip (HasNeeded (config_at (length after.history) after).schema held.ask.request) parts []) (sym none) tt);
             in_hand = sound_in_hand after log s;
           },
         );
@@ -170,6 +170,13 @@ next_row held plan core log row p found =
     split : drop held.next held.plan.rows ≡ row ∷ drop (held.next + 1) held.plan.rows
     split = let lt = within in rw (add-one, drop-cons held.plan.rows held.next row, get_or_from_slice_get held.plan.rows held.next row row found)
 
+-- its file stands
+pub file_of_next : (held : GivenPlan) (plan : Plan) (core : Core) (log : Log) (row : PlanRow) (p : Parts) → (next : IsNext held plan core log row.number row.size) → slice_get held.plan.rows held.next ≡ Some row
+    → file_of (config_at plan.revision core) (documents_at plan.revision core log next.row) ≡ file_bytes p → IsUploadedIn core row.number (file_bytes p) × IsFileAt core held.plan held.next (file_bytes p)
+file_of_next held plan core log row p next found same =
+    let up = subst (IsUploadedIn core row.number) same next.uploaded in
+    (up, record { row = row; stands = found; uploaded = up; size = next.long ∙ ap (λ (l : List ℕ). length l) same })
+
 -- ---- how many rows there are
 
 pub searched_few : (s : Schema) (q : Sought) (t : TimeRange) (rs : List Row) → length (searched s q t rs) ≤ length rs
@@ -187,17 +194,13 @@ planned_few held plan core log p =
     let fewer = searched_few (config_at plan.revision core).schema plan.search.query plan.search.times (rows (history_at plan.revision core)) in
     omega (arith, most, fewer, ap length p.rows, length-map list planned_row)
 
--- ---- one more file
+-- ---- one more split
 
--- all bytes of a file that is as long as what was asked for
-pub whole_piece : (bytes : List ℕ) (len : ℕ) (piece : Piece) → IsPieceOf bytes 0 len piece → len ≡ length bytes → piece.bytes ≡ bytes
-whole_piece bytes len piece p long = p.bytes_are ∙ take_all len bytes (omega (arith, long))
-
-pub one_more : (held more : GivenPlan) (plan : Plan) (core after : Core) (log : Log) (number size : ℕ) (file : SplitFile) → IsPlanned held plan core log → (next : IsNext held plan core log number size) →
-    GoesOn None core after → more.ask ≡ held.ask → more.plan ≡ held.plan → more.next ≡ held.next + 1 → more.files ≡ held.files ++ file ∷ [] →
-    file.bytes ≡ file_of (config_at plan.revision core) (documents_at plan.revision core log next.row) →
+pub one_more : (held more : GivenPlan) (plan : Plan) (core after : Core) (log : Log) (number size : ℕ) (part : SplitPart) → IsPlanned held plan core log → (next : IsNext held plan core log number size) →
+    GoesOn None core after → more.ask ≡ held.ask → more.plan ≡ held.plan → more.next ≡ held.next + 1 → more.parts ≡ held.parts ++ part ∷ [] →
+    HasNeeded (config_at plan.revision core).schema held.ask.request part (documents_at plan.revision core log next.row) →
     IsPlanned more (record plan { unfetched = map (λ (r : PlanRow). r.number) (drop (held.next + 1) held.plan.rows) }) after log
-one_more held more plan core after log number size file p next on ask same further behind bytes =
+one_more held more plan core after log number size part p next on ask same further behind needed =
     planned_goes_on None more later core after log on
     (record {
       asks = subst (λ (a : LeafAsk). Asks plan.search a) (sym ask) p.asks;
@@ -206,9 +209,10 @@ one_more held more plan core after log number size file p next on ask same furth
       rows = rows_same ∙ p.rows;
       place = omega (arith, further, within, ap length rows_same);
       unfetched = ap₂ (λ n l. map (λ (r : PlanRow). r.number) (drop n l)) (sym further) (sym rows_same);
-      files = subst (λ (files : List SplitFile). AllZip (IsFileOf s) files (map docs (take more.next list))) (sym behind)
-          (subst (λ (lists : List (List Placed)). AllZip (IsFileOf s) (held.files ++ file ∷ []) lists) (sym (map-append docs (take held.next list) (next.row ∷ [])) ∙ ap (map docs) (sym taken))
-          (zip_last (IsFileOf s) held.files (map docs (take held.next list)) file (docs next.row) p.files (subst (λ (bs : List ℕ). IsSplit s bs (docs next.row)) (sym bytes) next.split.stands)));
+      parts = subst (λ (a : LeafAsk). AllZip (HasNeeded s a.request) more.parts (map docs (take more.next list))) (sym ask)
+          (subst (λ (parts : List SplitPart). AllZip (HasNeeded s held.ask.request) parts (map docs (take more.next list))) (sym behind)
+          (subst (λ (lists : List (List Placed)). AllZip (HasNeeded s held.ask.request) (held.parts ++ part ∷ []) lists) (sym (map-append docs (take held.next list) (next.row ∷ [])) ∙ ap (map docs) (sym taken))
+          (zip_last (HasNeeded s held.ask.request) held.parts (map docs (take held.next list)) part (docs next.row) p.parts needed)));
       in_hand = p.in_hand;
     })
   where
@@ -247,9 +251,9 @@ drop_past (x ∷ xs) (suc n) le = drop_past xs n (omega (arith, le))
 pub all_fetched : (held : GivenPlan) (plan : Plan) (core : Core) (log : Log) → IsPlanned held plan core log → length held.plan.rows ≤ held.next → plan.unfetched ≡ []
 all_fetched held plan core log p over = p.unfetched ∙ ap (map (λ (r : PlanRow). r.number)) (drop_past held.plan.rows held.next over)
 
--- and all of the files are there
-pub all_files : (held : GivenPlan) (plan : Plan) (core : Core) (log : Log) → IsPlanned held plan core log → length held.plan.rows ≤ held.next →
-    AllZip (IsFileOf (config_at plan.revision core).schema) held.files (map (documents_at plan.revision core log) (rows_at plan.revision plan.search core))
-all_files held plan core log p over =
-    subst (λ (list : List Row). AllZip (IsFileOf (config_at plan.revision core).schema) held.files (map (documents_at plan.revision core log) list))
-    (take_all held.next (rows_at plan.revision plan.search core) (omega (arith, over, ap length p.rows, length-map (rows_at plan.revision plan.search core) planned_row))) p.files
+-- and what is needed of each is there
+pub all_parts : (held : GivenPlan) (plan : Plan) (core : Core) (log : Log) → IsPlanned held plan core log → length held.plan.rows ≤ held.next →
+    AllZip (HasNeeded (config_at plan.revision core).schema held.ask.request) held.parts (map (documents_at plan.revision core log) (rows_at plan.revision plan.search core))
+all_parts held plan core log p over =
+    subst (λ (list : List Row). AllZip (HasNeeded (config_at plan.revision core).schema held.ask.request) held.parts (map (documents_at plan.revision core log) list))
+    (take_all held.next (rows_at plan.revision plan.search core) (omega (arith, over, ap length p.rows, length-map (rows_at plan.revision plan.search core) planned_row))) p.parts

@@ -24,12 +24,13 @@ use Rattle.root_search.specs.RowFacts.{HasFactsOf}
 use Rattle.search_api.specs.Resolved.{Search}
 use Rattle.index_world.proofs.Configured.{configured-take, configured-unread}
 use Rattle.index_world.proofs.StoreChanges.{All-each}
-use Rattle.root_search.specs.SplitFiles.{IsFileOf}
+use Rattle.root_search.specs.SplitParts.{HasNeeded}
 use Rattle.root_search.specs.declared.planned.Planned.{Planned as GivenPlan}
 use Rattle.root_search.specs.declared.searcher.Request.{Request as GivenRequest}
 use Rattle.root_search.specs.declared.searcher.Request.TheVariants as given
+use Rattle.root_search.specs.declared.footers.Footers.{Footers}
 use Rattle.root_search.specs.declared.searcher.Searcher.{Searcher}
-use Rattle.root_search.specs.Searching.{IsInHand, AreInHand, published_at, documents_at, IsPlanned, IsRequest, SearcherStands}
+use Rattle.root_search.specs.Searching.{AreKept, IsAtWork, IsInHand, AreInHand, published_at, documents_at, IsPlanned, IsRequest, SearcherStands}
 use Rattle.root_search.specs.Steps.{Plan, Request, Client, config_at, config_in}
 use Rattle.root_search.proofs.Rows.{AreShown, IsHeld, world_shown, world_few, world_legal, world_configured}
 
@@ -82,7 +83,7 @@ planned_goes_on one given plan core after log g p =
       rows = subst (λ (seen : List Entry). given.plan.rows ≡ map planned_row (rows_seen seen plan.search)) (sym same) p.rows;
       place = p.place;
       unfetched = p.unfetched;
-      files = subst (λ (seen : List Entry). AllZip (IsFileOf (config_seen seen).schema) given.files (map (documents_seen seen log) (take given.next (rows_seen seen plan.search)))) (sym same) p.files;
+      parts = subst (λ (seen : List Entry). AllZip (HasNeeded (config_seen seen).schema given.ask.request) given.parts (map (documents_seen seen log) (take given.next (rows_seen seen plan.search)))) (sym same) p.parts;
       in_hand = in_hand_goes_on one core after log plan.revision g p.in_hand;
     }
   where
@@ -94,10 +95,20 @@ request_goes_on one given.Vacant asked core after log g r = r
 request_goes_on one (given.Opened text) asked core after log g r = r
 request_goes_on one (given.Planned search) asked core after log g r = (r.0, r.1, planned_goes_on one search r.0 core after log g r.2)
 
+-- footers that are kept stay those of their splits
+pub footers_go_on : (one : Option ℕ) (footers : Footers) (core after : Core) → GoesOn one core after → AreKept footers core → AreKept footers after
+footers_go_on one footers core after g kept = λ number footer among.
+    let k = kept number footer among in
+    record { bytes = k.bytes; uploaded = g.keeps.uploaded number k.bytes k.uploaded; footer_is = k.footer_is }
+
 -- whatever number the world went on about, a searcher stands for its client as before
 pub searcher_goes_on : (one : Option ℕ) (searcher : Searcher) (client : Client) (core after : Core) (log : Log) → GoesOn one core after → SearcherStands searcher client core log → SearcherStands searcher client after log
 searcher_goes_on one searcher client core after log g s =
-    record { name = s.name; front = s.front; request = request_goes_on one searcher.request client.request core after log g s.request }
+    record { name = s.name; front = s.front; footers = footers_go_on one searcher.footers core after g s.footers; request = request_goes_on one searcher.request client.request core after log g s.request }
+
+-- and so does one that is at work
+pub work_goes_on : (searcher : Searcher) (client : Client) (core after : Core) → GoesOn None core after → IsAtWork searcher client core → IsAtWork searcher client after
+work_goes_on searcher client core after g w = record { vacant = w.vacant; name = w.name; front = w.front; footers = footers_go_on None searcher.footers core after g w.footers }
 
 -- ---- a sound core
 
@@ -140,6 +151,10 @@ configured_is core log config s i =
     let whole : IsConfigured c.0 core = configured-unread s.kept core log c.0 s.world c.1 in
     subst (λ (x : IndexConfig). configuration core.history ≡ Some x) (same_config (configuration (journal_of core)) c.0 config whole i) c.1
 
+-- and it has one
+pub configured_here : (core : Core) (log : Log) → IsSoundCore core log → (config : IndexConfig) × IsConfigured config core
+configured_here core log s = let c = world_configured s.kept core log s.world s.opened in (c.0, configured-unread s.kept core log c.0 s.world c.1)
+
 pub config_is : (core : Core) (log : Log) (config : IndexConfig) → IsSoundCore core log → IsConfigured config core → config_in core ≡ config
 config_is core log config s i = ap config_or (configured_is core log config s i)
 
@@ -148,6 +163,11 @@ pub config_then : (core : Core) (log : Log) (config : IndexConfig) (revision : �
 config_then core log config revision s i a =
     let later = configured-take revision core.history (world_legal s.kept core log s.world) a.configured.0 a.configured.1 in
     ap config_or a.configured.1 ∙ same_config (configuration core.history) a.configured.0 config later (configured_is core log config s i)
+
+pub configured_then : (core : Core) (log : Log) (revision : ℕ) → IsSoundCore core log → AreInHand revision core log → IsConfigured (config_at revision core) core
+configured_then core log revision s a =
+    let here = configured_here core log s in
+    subst (λ (x : IndexConfig). IsConfigured x core) (sym (config_then core log here.0 revision s here.1 a)) here.1
 
 -- ---- behind a call
 

@@ -1,30 +1,29 @@
 -- A step of a client, by what a call of a gate did and what is answered.
-use Rattle.std.proofs.Common.{◌≡◌, ℕ, Bool, true, false, List, [], ◌∷◌, refl, sym, ap, ap₂, ◌∙◌, subst, arith, Some, None, Result, Ok, Err}
+use Rattle.std.proofs.Common.{◌≡◌, ℕ, ◌<◌, Bool, true, false, List, [], ◌∷◌, length, map, refl, sym, ap, ap₂, ◌∙◌, subst, arith, Some, None, Result, Ok, Err}
 use Rattle.std.specs.Prelude.{⊤, IsErr}
 use Rattle.std.specs.declared.alloc.AllocError.{AllocError}
-use Rattle.std.proofs.lemmas.List.{append-nil}
 use Rattle.index_config.specs.declared.config.IndexConfig.{IndexConfig}
 use Rattle.source_log.specs.Log.{Log}
-use Rattle.index_world.specs.Calls.{Fate, gives, Trouble, faulted, no_memory, asked_and_looked, fetched, calm_fate}
+use Rattle.index_world.specs.Calls.{Fate, Gives, gives, Trouble, faulted, no_memory, asked_and_looked, fetched, calm_fate}
 use Rattle.index_world.specs.Core.{Core}
-use Rattle.index_world.specs.Gate.{Says, IsTrouble}
+use Rattle.index_world.specs.Gate.{NoneBetween, Says, IsTrouble}
 use Rattle.index_world.specs.World.{GoesOn}
 use Rattle.index_world.specs.declared.world_error.WorldError.{WorldError}
-use Rattle.index_world.proofs.InCore.{KeepsBut-refl}
 use Rattle.search_api.specs.Resolved.{Search}
 use Rattle.search_api.specs.Unanswered.{WantsMemory}
 use Rattle.search_api.specs.declared.reply.Refusal.{Refusal}
 use Rattle.search_api.specs.declared.unanswered.Unanswered.{Unanswered}
 use Rattle.search_api.specs.declared.unanswered.Unanswered.TheVariants as reasons
 use Rattle.root_search.specs.Requests.{asked_of}
+use Rattle.root_search.specs.Fetching.{FetchesAs}
+use Rattle.root_search.specs.declared.fetching.FetchError.{FetchError}
+use Rattle.root_search.specs.declared.fetching.FetchError.TheVariants.{Memory, World, Corrupt}
 use Rattle.root_search.specs.declared.outcome.SearchStep.{SearchStep}
 use Rattle.root_search.specs.declared.outcome.SearchStep.TheVariants as said
 use Rattle.root_search.specs.declared.searcher.Searcher.{Searcher}
-use Rattle.root_search.specs.Searching.{IsRequest, SearcherStands, SearchesAs, IsAtWork, Ends, searched_as}
-use Rattle.root_search.specs.Steps.{Plan, no_request, opened, planned, Client, Luck, Searched, config_in, without_memory, without_request, step_client, step_request, plan_by, plan_given, fetch_by, fetch_given, next_step, or_short, trouble_replied, refused_over, reply_with, answer_of}
-
-GoesOn-refl : (core : Core) → GoesOn None core core
-GoesOn-refl core = record { grown = ([], sym (append-nil core.history)); faults = omega arith; moment = omega arith; keeps = KeepsBut-refl core }
+use Rattle.root_search.specs.Searching.{IsRequest, SearcherStands, SearchesAs, IsAtWork, Ends, FaultEnds, searched_as}
+use Rattle.root_search.specs.Steps.{ArePassed, Plan, Request, no_request, opened, planned, Client, Luck, Searched, Passage, config_in, without_memory, without_request, fetched_at, fetched_each, luck_of, next_at, next_step, request_at, step_at, step_client, step_request, plan_by, plan_given, fetch_by, fetch_given, or_short, trouble_replied, unless_fault, refused_over, reply_with, answer_of}
+use Rattle.root_search.proofs.Fetches.{on_refl, some_passages}
 
 -- ---- the core behind a step
 
@@ -54,20 +53,20 @@ short_core false client step = refl
 
 -- ---- a client that has no request any more
 
-pub dropped : (searcher : Searcher) (client : Client) (core : Core) (log : Log) → IsAtWork searcher client → SearcherStands searcher (without_request client) core log
+pub dropped : (searcher : Searcher) (client : Client) (core : Core) (log : Log) → IsAtWork searcher client core → SearcherStands searcher (without_request client) core log
 dropped searcher client core log w =
-    record { name = w.name; front = w.front; request = subst (λ r. IsRequest r no_request core log) (sym w.vacant) refl }
+    record { name = w.name; front = w.front; footers = w.footers; request = subst (λ r. IsRequest r no_request core log) (sym w.vacant) refl }
 
 -- a step that finds no memory ends so
-pub ends_short : (r : Result SearchStep AllocError) (searcher : Searcher) (client : Client) (core : Core) (log : Log) → IsErr r → IsAtWork searcher client → Ends r searcher (without_memory client core) log
+pub ends_short : (r : Result SearchStep AllocError) (searcher : Searcher) (client : Client) (core : Core) (log : Log) → IsErr r → IsAtWork searcher client core → Ends r searcher (without_memory client core) log
 ends_short (Ok step) searcher client core log h w = absurd cc
 ends_short (Err e) searcher client core log h w = record { says = refl; stands = dropped searcher client core log w }
 
 -- whatever the step would have said
-pub ends_without : (r : Result SearchStep AllocError) (searcher : Searcher) (client : Client) (step : Searched) (log : Log) → IsErr r → IsAtWork searcher client → Ends r searcher (or_short true client step) log
+pub ends_without : (r : Result SearchStep AllocError) (searcher : Searcher) (client : Client) (step : Searched) (log : Log) → IsErr r → IsAtWork searcher client step.core → Ends r searcher (or_short true client step) log
 ends_without r searcher client step log h w = ends_short r searcher client step.core log h w
 
-ends_unasked : (r : Result SearchStep AllocError) (asked : Result Search Unanswered) (searcher : Searcher) (client : Client) (core : Core) (log : Log) → IsErr r → IsAtWork searcher client →
+ends_unasked : (r : Result SearchStep AllocError) (asked : Result Search Unanswered) (searcher : Searcher) (client : Client) (core : Core) (log : Log) → IsErr r → IsAtWork searcher client core →
     Ends r searcher (plan_by (Err no_memory) asked client core) log
 ends_unasked r (Ok search) searcher client core log h w = ends_short r searcher client core log h w
 ends_unasked r (Err (reasons.Refused refusal)) searcher client core log h w = ends_short r searcher client core log h w
@@ -84,6 +83,11 @@ pub says_err : {A : Type 0} (holds : A → Core → Type 0) (error : WorldError)
 says_err holds error (Ok done) after s = absurd s
 says_err holds error (Err trouble) after s = (trouble, refl, s)
 
+-- ---- what is planned
+
+pub planned_is : (asked : Request) (one other : Plan) → asked ≡ planned one → asked ≡ planned other → one ≡ other
+planned_is asked one other e f = cc
+
 -- ---- what was read of a text
 
 pub refused_is : (asked : Result Search Unanswered) (reason : Unanswered) (refusal : Refusal) → reason ≡ reasons.Refused refusal → (¬ WantsMemory reason → asked ≡ Err reason) → asked ≡ Err (reasons.Refused refusal)
@@ -92,14 +96,15 @@ refused_is asked reason refusal e h = subst (λ (r : Unanswered). asked ≡ Err 
 -- ---- steps
 
 module _ {W : Type 0} (Stands : W → Core → Log → Type 0) (Between : Core → Core → Type 0) (result : Result SearchStep AllocError) (new : Searcher) (gate : W) (client : Client) (core : Core) (log : Log) where
-  -- what a step says, behind the core that its call left
-  step_as : (mid after : Core) (luck : Luck) (step : Searched) → Between core mid → step_client luck log client mid ≡ step → step.core ≡ after → GoesOn None core after → Stands gate after log → Ends result new step log →
-      SearchesAs Stands Between result new gate client core log
-  step_as mid after luck step passed did same on stands ends =
+  -- what a step says, behind the core that its calls left
+  step_as : (passage : Passage) (more : List Passage) (short : Bool) (after : Core) (step : Searched) → ArePassed Between core (passage ∷ more) → step_at passage more short log client ≡ step → step.core ≡ after → GoesOn None core after → Stands gate after log
+      → Ends result new step log → SearchesAs Stands Between result new gate client core log
+  step_as passage more short after step passed did same on stands ends =
       record {
-        mid = mid;
+        passage = passage;
+        more = more;
         passed = passed;
-        luck = luck;
+        short = short;
         outcome = step.outcome;
         later = step.client;
         after = after;
@@ -113,36 +118,93 @@ module _ {W : Type 0} (Stands : W → Core → Log → Type 0) (Between : Core �
   pub planned_as : (text : List ℕ) (config : IndexConfig) (mid : Core) (fate : Fate) (answer a : Result ⊤ Trouble) (o : Result Search Unanswered) (after : Core) → Between core mid → asked_and_looked fate mid ≡ gives answer after → GoesOn None core after →
       Stands gate after log → client.request ≡ opened text → config_in after ≡ config → asked_of config text ≡ o → answer ≡ a → Ends result new (plan_by a o client after) log → SearchesAs Stands Between result new gate client core log
   planned_as text config mid fate answer a o after passed did on stands asked is word said ends =
-      let luck : Luck = record { world = fate; more = []; short = false } in
-      step_as mid after luck (plan_by a o client after) passed
-      (ap (λ r. step_request r luck log client mid) asked ∙ (ap (plan_given text client) did ∙ ap₂ (λ x y. plan_by x y client after) said (ap (λ (c : IndexConfig). asked_of c text) is ∙ word)))
+      let passage : Passage = record { core = mid; fate = fate } in
+      step_as passage [] false after (plan_by a o client after) (passed, tt)
+      (ap (λ r. request_at r passage [] log client) asked ∙ (ap (plan_given text client) did ∙ ap₂ (λ x y. plan_by x y client after) said (ap (λ (c : IndexConfig). asked_of c text) is ∙ word)))
       (plan_core a o client after) on stands ends
 
   -- where there was no memory before the call
-  pub unasked_as : (text : List ℕ) → Between core core → Stands gate core log → client.request ≡ opened text → IsErr result → IsAtWork new client → SearchesAs Stands Between result new gate client core log
+  pub unasked_as : (text : List ℕ) → Between core core → Stands gate core log → client.request ≡ opened text → IsErr result → IsAtWork new client core → SearchesAs Stands Between result new gate client core log
   unasked_as text between stands asked short w =
-      planned_as text (config_in core) core (record calm_fate { unasked = true }) (Err no_memory) (Err no_memory) (asked_of (config_in core) text) core between refl (GoesOn-refl core) stands asked refl refl refl
+      planned_as text (config_in core) core (record calm_fate { unasked = true }) (Err no_memory) (Err no_memory) (asked_of (config_in core) text) core between refl (on_refl core) stands asked refl refl refl
       (ends_unasked result (asked_of (config_in core) text) new client core log short w)
 
-  pub fetched_as : (plan : Plan) (number : ℕ) (more : List ℕ) (short : Bool) (mid : Core) (fate : Fate) (answer a : Result ⊤ Trouble) (after : Core) → Between core mid → fetched fate mid ≡ gives answer after → GoesOn None core after →
-      Stands gate after log → client.request ≡ planned plan → plan.unfetched ≡ number ∷ more → answer ≡ a → Ends result new (or_short short client (fetch_by a plan number more client after)) log →
+  pub fetched_as : (plan : Plan) (number : ℕ) (left : List ℕ) (short : Bool) (passages : List Passage) (answer a : Result ⊤ Trouble) (after : Core) → 0 < length passages → ArePassed Between core passages → fetched_at core passages ≡ gives answer after → GoesOn None core after →
+      Stands gate after log → client.request ≡ planned plan → plan.unfetched ≡ number ∷ left → answer ≡ a → Ends result new (or_short short client (fetch_by a plan number left client after)) log →
       SearchesAs Stands Between result new gate client core log
-  fetched_as plan number more short mid fate answer a after passed did on stands asked left said ends =
-      let luck : Luck = record { world = fate; more = []; short = short } in
-      step_as mid after luck (or_short short client (fetch_by a plan number more client after)) passed
-      (ap (λ r. or_short short client (step_request r luck log client mid)) asked ∙ (ap (λ l. or_short short client (next_step luck log plan l client mid)) left
-      ∙ (ap (λ given. or_short short client (fetch_given plan number more client given)) did ∙ ap (λ x. or_short short client (fetch_by x plan number more client after)) said)))
-      (short_core short client (fetch_by a plan number more client after) ∙ fetch_core a plan number more client after) on stands ends
+  fetched_as plan number left short [] answer a after some passed did on stands asked unfetched said ends = absurd (omega arith)
+  fetched_as plan number left short (passage ∷ more) answer a after some passed did on stands asked unfetched said ends =
+      step_as passage more short after (or_short short client (fetch_by a plan number left client after)) passed
+      (ap (λ r. or_short short client (request_at r passage more log client)) asked ∙ (ap (λ l. or_short short client (next_at passage more log plan l client)) unfetched
+      ∙ (ap (λ given. or_short short client (fetch_given plan number left client given)) did ∙ ap (λ x. or_short short client (fetch_by x plan number left client after)) said)))
+      (short_core short client (fetch_by a plan number left client after) ∙ fetch_core a plan number left client after) on stands ends
+
+  -- where no memory is found behind some fetches, or before them
+  pub short_as : (plan : Plan) (number : ℕ) (left : List ℕ) (passages : List Passage) (answer : Result ⊤ Trouble) (after : Core) → Between core core → ArePassed Between core passages → fetched_at core passages ≡ gives answer after → GoesOn None core after →
+      Stands gate after log → client.request ≡ planned plan → plan.unfetched ≡ number ∷ left → IsErr result → IsAtWork new client after → SearchesAs Stands Between result new gate client core log
+  short_as plan number left [] answer after between passed did on stands asked unfetched short w =
+      let same : after ≡ core = ap (λ (g : Gives Trouble ⊤). g.core) (sym did) in
+      let passage : Passage = record { core = core; fate = record calm_fate { unasked = true } } in
+      fetched_as plan number left true (passage ∷ []) (Err no_memory) (Err no_memory) core (omega arith) (between, tt) refl (on_refl core) (subst (λ c. Stands gate c log) same stands) asked unfetched refl
+      (ends_without result new client (fetch_by (Err no_memory) plan number left client core) log short (subst (IsAtWork new client) same w))
+  short_as plan number left (passage ∷ more) answer after between passed did on stands asked unfetched short w =
+      fetched_as plan number left true (passage ∷ more) answer answer after (omega arith) passed did on stands asked unfetched refl
+      (ends_without result new client (fetch_by answer plan number left client after) log short (subst (IsAtWork new client) (sym (fetch_core answer plan number left client after)) w))
+
+  -- where fetches gave nothing
+  pub fault_as : {A : Type 0} (bytes_fetched : W → ℕ) (holds : A → ℕ → ℕ → Type 0) (old : W) (fault : FetchError) (plan : Plan) (number : ℕ) (left : List ℕ) → Between core core → (f : FetchesAs Stands Between bytes_fetched holds (Err fault) core log old gate)
+      → FaultEnds fault result new plan.revision client f.after log → client.request ≡ planned plan → plan.unfetched ≡ number ∷ left → SearchesAs Stands Between result new gate client core log
+  fault_as bytes_fetched holds old (World error) plan number left between f ends asked unfetched =
+      fetched_as plan number left false f.passages f.answer (Err f.says.0) f.after (some_passages core f.passages f.answer f.after f.says.0 f.did f.says.1) f.passed f.did f.goes_on f.stands asked unfetched f.says.1 (ends f.says.0 f.says.2)
+  fault_as bytes_fetched holds old (Memory e) plan number left between f ends asked unfetched = short_as plan number left f.passages f.answer f.after between f.passed f.did f.goes_on f.stands asked unfetched ends.0 ends.1
+  fault_as bytes_fetched holds old Corrupt plan number left between f ends asked unfetched = absurd f.says
 
   pub answered_as : (plan : Plan) (short : Bool) → Between core core → Stands gate core log → client.request ≡ planned plan → plan.unfetched ≡ [] →
       Ends result new (or_short short client (reply_with plan.revision (answer_of plan log core) client core)) log → SearchesAs Stands Between result new gate client core log
   answered_as plan short between stands asked left ends =
-      let luck : Luck = record { world = calm_fate; more = []; short = short } in
-      step_as core core luck (or_short short client (reply_with plan.revision (answer_of plan log core) client core)) between
-      (ap (λ r. or_short short client (step_request r luck log client core)) asked ∙ ap (λ l. or_short short client (next_step luck log plan l client core)) left)
-      (short_core short client (reply_with plan.revision (answer_of plan log core) client core)) (GoesOn-refl core) stands ends
+      let passage : Passage = record { core = core; fate = calm_fate } in
+      step_as passage [] short core (or_short short client (reply_with plan.revision (answer_of plan log core) client core)) (between, tt)
+      (ap (λ r. or_short short client (request_at r passage [] log client)) asked ∙ ap (λ l. or_short short client (next_at passage [] log plan l client)) left)
+      (short_core short client (reply_with plan.revision (answer_of plan log core) client core)) (on_refl core) stands ends
 
   pub idle_as : Between core core → Stands gate core log → client.request ≡ no_request → Ends result new (record { outcome = Some said.Idle; client = client; core = core }) log → SearchesAs Stands Between result new gate client core log
   idle_as between stands asked ends =
-      let luck : Luck = record { world = calm_fate; more = []; short = false } in
-      step_as core core luck (record { outcome = Some said.Idle; client = client; core = core }) between (ap (λ r. step_request r luck log client core) asked) refl (GoesOn-refl core) stands ends
+      let passage : Passage = record { core = core; fate = calm_fate } in
+      step_as passage [] false core (record { outcome = Some said.Idle; client = client; core = core }) (between, tt) (ap (λ r. request_at r passage [] log client) asked) refl (on_refl core) stands ends
+
+-- ---- a step while no other actor acts
+
+last_gives : (g : Gives Trouble ⊤) → unless_fault g.answer g.core (λ left. gives (Ok tt) left) ≡ g
+last_gives g = by g.answer g.core
+  where
+    by : (r : Result ⊤ Trouble) (core : Core) → unless_fault r core (λ left. gives (Ok tt) left) ≡ gives r core
+    by (Ok done) core = refl
+    by (Err trouble) core = refl
+
+each_alone : (passage : Passage) (more : List Passage) (core : Core) → ArePassed NoneBetween core (passage ∷ more) → fetched_at core (passage ∷ more) ≡ fetched_each passage.fate (map (λ (p : Passage). p.fate) more) core
+each_alone passage [] core p = last_gives (fetched passage.fate passage.core) ∙ ap (fetched passage.fate) p.0
+each_alone passage (next ∷ more) core p =
+    ap (λ (c : Core). unless_fault (fetched passage.fate c).answer (fetched passage.fate c).core (λ left. fetched_at left (next ∷ more))) p.0
+    ∙ by (fetched passage.fate core).answer (fetched passage.fate core).core (each_alone next more (fetched passage.fate core).core (subst (λ (c : Core). ArePassed NoneBetween (fetched passage.fate c).core (next ∷ more)) p.0 p.1))
+  where
+    by : (r : Result ⊤ Trouble) (left : Core) → fetched_at left (next ∷ more) ≡ fetched_each next.fate (map (λ (p : Passage). p.fate) more) left
+        → unless_fault r left (λ c. fetched_at c (next ∷ more)) ≡ unless_fault r left (fetched_each next.fate (map (λ (p : Passage). p.fate) more))
+    by (Ok done) left q = q
+    by (Err trouble) left q = refl
+
+-- it is the machine's step with these fates
+pub step_alone : (passage : Passage) (more : List Passage) (short : Bool) (log : Log) (client : Client) (core : Core) → ArePassed NoneBetween core (passage ∷ more)
+    → step_client (luck_of passage more short) log client core ≡ step_at passage more short log client
+step_alone passage more short log client core p = ap (or_short short client) (by client.request)
+  where
+    luck : Luck
+    luck = luck_of passage more short
+
+    next : (plan : Plan) (left : List ℕ) → next_step luck log plan left client core ≡ next_at passage more log plan left client
+    next plan [] = ap (λ (c : Core). reply_with plan.revision (answer_of plan log c) client c) (sym p.0)
+    next plan (number ∷ left) = ap (fetch_given plan number left client) (sym (each_alone passage more core p))
+
+    by : (request : Request) → step_request request luck log client core ≡ request_at request passage more log client
+    by no_request = ap (λ (c : Core). searched_as (Some said.Idle) client c) (sym p.0)
+    by (opened text) = ap (λ (c : Core). plan_given text client (asked_and_looked passage.fate c)) (sym p.0)
+    by (planned plan) = next plan plan.unfetched

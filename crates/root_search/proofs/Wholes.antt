@@ -1,4 +1,4 @@
--- What is answered over whole files is the answer to the search.
+-- What is answered over splits is the answer to the search.
 use Rattle.std.proofs.Common.{◌≡◌, ℕ, Bool, true, false, List, length, nat_lt, refl, sym, ap, subst, ◌∙◌, Ok, Err, Result, ap₂, if◌then◌else◌}
 use Rattle.std.specs.Result.{IfOk}
 use Rattle.std.specs.declared.alloc.AllocError.{AllocError}
@@ -25,7 +25,7 @@ use Rattle.split_bundle.specs.declared.placed.Placed.{Placed}
 use Rattle.root_search.specs.Answer.{IsAnswer, IsFound, answer, matching, printed, shown}
 use Rattle.root_search.specs.Leaves.{all_of}
 use Rattle.root_search.specs.declared.leaf_asks.LeafAsk.{LeafAsk}
-use Rattle.root_search.specs.SplitFiles.{AreFound}
+use Rattle.root_search.specs.PartAnswers.{AreFound}
 use Rattle.root_search.proofs.Counting.{answer_moved}
 
 -- ---- the one answer

@@ -1,5 +1,5 @@
 -- The answers of many splits.
-use Rattle.std.specs.Prelude.{◌≡◌, ℕ, ◌^◌, ◌≤◌, List, flat_map, sum_by, slice_get, Some, None, Result, Ok, Err, IfOk, MatchResult}
+use Rattle.std.specs.Prelude.{◌≡◌, ◌≢◌, ℕ, ◌^◌, ◌≤◌, List, flat_map, sum_by, slice_get, Some, None, Result, Ok, Err, IfOk, MatchResult}
 use Rattle.doc_value.specs.declared.schema.Schema.{Schema}
 use Rattle.agg_model.specs.Partials.{IsPartialOf, documents_in}
 use Rattle.split_bundle.specs.Files.{Parts, file_bytes}
@@ -36,6 +36,12 @@ pub record IsWholeViewOf (s : Schema) (v : PartView) (documents : List Placed) :
   pub parts : Parts
   pub is_part : IsPartOf v s documents parts
   pub all : HaveAll (file_bytes parts) v.pieces
+
+-- the same, and its pieces have each part that a request asks for
+pub record HasAsked (s : Schema) (r : LeafRequest) (v : PartView) (documents : List Placed) : Type 0 where
+  pub parts : Parts
+  pub is_part : IsPartOf v s documents parts
+  pub held : (at len : ℕ) → AsksLeaf v s documents parts r at len → held_in v.pieces at len ≢ None
 
 -- what a leaf answers over a view
 pub record IsLeafAnswer (s : Schema) (r : LeafRequest) (v : PartView) (answer : Result LeafAnswer LeafError) : Type 0 where

@@ -5,7 +5,11 @@ pub mod Examples
 pub mod Places
 pub mod LeafAsks
 pub mod Leaves
-pub mod SplitFiles
+pub mod SplitParts
+pub mod PartAnswers
 pub mod ReadSearches
 pub mod Steps
+pub mod Fetching
+pub mod Footers
+pub mod Drawing
 pub mod Searching

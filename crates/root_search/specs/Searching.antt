@@ -1,5 +1,5 @@
 -- When a searcher stands for a client of the model, and what its step does.
-use Rattle.std.specs.Prelude.{◌≡◌, ℕ, ◌≤◌, List, length, map, flat_map, take, drop, Option, Some, None, Result, Ok, Err, IsPermutation}
+use Rattle.std.specs.Prelude.{◌≡◌, ℕ, ◌≤◌, Bool, List, ◌∷◌, Contains, length, map, flat_map, take, drop, Option, Some, None, Result, Ok, Err, IsErr, IsPermutation, ⊤}
 use Rattle.std.specs.List.{AllByRecursion, AllZip}
 use Rattle.std.specs.declared.alloc.AllocError.{AllocError}
 use Rattle.meta_store.specs.Contents.{published_rows}
@@ -14,18 +14,24 @@ use Rattle.source_log.specs.Log.{Log}
 use Rattle.split_states.specs.declared.rows.Row.{Row}
 use Rattle.index_world.specs.Calls.{Fault, Trouble, faulted, no_memory}
 use Rattle.index_world.specs.Core.{Core, IsUploadedIn}
+use Rattle.index_world.specs.Gate.{IsTrouble}
 use Rattle.index_world.specs.Seen.{contents, visible_at}
 use Rattle.index_world.specs.SplitFile.{AreSplit, file_of}
 use Rattle.index_world.specs.World.{GoesOn}
 use Rattle.root_search.specs.RowFacts.{HasFactsOf}
 use Rattle.leaf_search.specs.Answers.{IsAsked}
+use Rattle.split_bundle.specs.declared.footer.Footer.{Footer}
 use Rattle.split_bundle.specs.declared.placed.Placed.{Placed}
 use Rattle.search_api.specs.Resolved.{Search}
 use Rattle.search_api.specs.declared.reply.Refusal.{Refusal}
 use Rattle.root_search.specs.LeafAsks.{Asks}
-use Rattle.root_search.specs.SplitFiles.{IsFileOf}
-use Rattle.root_search.specs.Steps.{Plan, Request, no_request, opened, planned, Client, Luck, Searched, config_at, fault_refusal, step_client}
+use Rattle.root_search.specs.Footers.{entries}
+use Rattle.root_search.specs.SplitParts.{HasNeeded, IsFooterIn}
+use Rattle.root_search.specs.Steps.{ArePassed, Plan, Request, no_request, opened, planned, Client, Searched, Passage, config_at, fault_refusal, step_at, trouble_replied}
 use Rattle.root_search.specs.declared.outcome.SearchStep.{SearchStep}
+use Rattle.root_search.specs.declared.fetching.FetchError.{FetchError}
+use Rattle.root_search.specs.declared.fetching.FetchError.TheVariants.{Memory, World, Corrupt}
+use Rattle.root_search.specs.declared.footers.Footers.{Footers}
 use Rattle.root_search.specs.declared.searcher.Busy.{Busy}
 use Rattle.root_search.specs.declared.planned.Planned.{Planned as GivenPlan}
 use Rattle.root_search.specs.declared.searcher.Request.{Request as GivenRequest}
@@ -64,7 +70,8 @@ pub record AreInHand (revision : ℕ) (core : Core) (log : Log) : Type 0 where
 
 -- ---- a searcher and a client
 
--- Of the planned rows the first ones are fetched, whose files are kept, and the others are still to be fetched.
+-- Of the planned rows the first ones are fetched: of each its footer is kept and exactly the ranges of its file that the search
+-- needs. The others are still to be fetched.
 pub record IsPlanned (given : GivenPlan) (plan : Plan) (core : Core) (log : Log) : Type 0 where
   pub asks : Asks plan.search given.ask
   pub asked : IsAsked (config_at plan.revision core).schema given.ask.request
@@ -72,7 +79,7 @@ pub record IsPlanned (given : GivenPlan) (plan : Plan) (core : Core) (log : Log)
   pub rows : given.plan.rows ≡ map planned_row (rows_at plan.revision plan.search core)
   pub place : given.next ≤ length given.plan.rows
   pub unfetched : plan.unfetched ≡ map (λ row. row.number) (drop given.next given.plan.rows)
-  pub files : AllZip (IsFileOf (config_at plan.revision core).schema) given.files (map (documents_at plan.revision core log) (take given.next (rows_at plan.revision plan.search core)))
+  pub parts : AllZip (HasNeeded (config_at plan.revision core).schema given.ask.request) given.parts (map (documents_at plan.revision core log) (take given.next (rows_at plan.revision plan.search core)))
   pub in_hand : AreInHand plan.revision core log
 
 abbrev pub IsRequest : GivenRequest → Request → Core → Log → Type 0
@@ -80,10 +87,20 @@ IsRequest given.Vacant request core log = request ≡ no_request
 IsRequest (given.Opened text) request core log = request ≡ opened text
 IsRequest (given.Planned search) request core log = (plan : Plan) × (request ≡ planned plan) × IsPlanned search plan core log
 
+-- a footer that is kept is that of the split with its number, whose file stands
+pub record IsKept (core : Core) (number : ℕ) (footer : Footer) : Type 0 where
+  pub bytes : List ℕ
+  pub uploaded : IsUploadedIn core number bytes
+  pub footer_is : IsFooterIn bytes footer
+
+abbrev pub AreKept : Footers → Core → Type 0
+AreKept footers core = (number : ℕ) (footer : Footer) → Contains (entries footers) (number, footer) → IsKept core number footer
+
 -- the searcher stands for the client, over this core and this log
 pub record SearcherStands (searcher : Searcher) (client : Client) (core : Core) (log : Log) : Type 0 where
   pub name : searcher.client ≡ client.name
   pub front : searcher.front ≡ client.front
+  pub footers : AreKept searcher.footers core
   pub request : IsRequest searcher.request client.request core log
 
 abbrev pub new_client : List ℕ → Client
@@ -104,16 +121,17 @@ abbrev pub IsAnswer : Result SearchStep AllocError → Option SearchStep → Typ
 IsAnswer (Ok step) outcome = outcome ≡ Some step
 IsAnswer (Err e) outcome = outcome ≡ None
 
--- A step of the code is the client's step: other actors' events before the call's turn, and then with some luck its own.
+-- A step of the code is the client's step, with a passage for each of its calls, before which other actors may have acted.
 pub record SearchesAs {W : Type 0} (Stands : W → Core → Log → Type 0) (Between : Core → Core → Type 0)
     (result : Result SearchStep AllocError) (new : Searcher) (gate : W) (client : Client) (core : Core) (log : Log) : Type 0 where
-  pub mid : Core
-  pub passed : Between core mid
-  pub luck : Luck
+  pub passage : Passage
+  pub more : List Passage
+  pub passed : ArePassed Between core (passage ∷ more)
+  pub short : Bool
   pub outcome : Option SearchStep
   pub later : Client
   pub after : Core
-  pub did : step_client luck log client mid ≡ searched_as outcome later after
+  pub did : step_at passage more short log client ≡ searched_as outcome later after
   pub says : IsAnswer result outcome
   pub searcher : SearcherStands new later after log
   pub gate_stands : Stands gate after log
@@ -122,10 +140,11 @@ pub record SearchesAs {W : Type 0} (Stands : W → Core → Log → Type 0) (Bet
 -- ---- the parts of a step
 
 -- the searcher is the client's, and has no request while a step works on it
-pub record IsAtWork (searcher : Searcher) (client : Client) : Type 0 where
+pub record IsAtWork (searcher : Searcher) (client : Client) (core : Core) : Type 0 where
   pub vacant : searcher.request ≡ given.Vacant
   pub name : searcher.client ≡ client.name
   pub front : searcher.front ≡ client.front
+  pub footers : AreKept searcher.footers core
 
 -- what is answered is what the client's step says, and the searcher stands for the client that it leaves
 pub record Ends (result : Result SearchStep AllocError) (new : Searcher) (step : Searched) (log : Log) : Type 0 where
@@ -136,3 +155,9 @@ pub record Ends (result : Result SearchStep AllocError) (new : Searcher) (step :
 abbrev pub IsRefusalOf : Result Refusal AllocError → Trouble → Type 0
 IsRefusalOf (Ok refusal) trouble = (fault : Fault) × (trouble ≡ faulted fault) × (refusal ≡ fault_refusal fault)
 IsRefusalOf (Err e) trouble = trouble ≡ no_memory
+
+-- what is answered where fetches gave nothing: their fault is replied, and without memory there is no answer
+abbrev pub FaultEnds : FetchError → Result SearchStep AllocError → Searcher → ℕ → Client → Core → Log → Type 0
+FaultEnds (World error) result new revision client core log = (trouble : Trouble) → IsTrouble error trouble → Ends result new (trouble_replied revision trouble client core) log
+FaultEnds (Memory e) result new revision client core log = IsErr result × IsAtWork new client core
+FaultEnds Corrupt result new revision client core log = ⊤

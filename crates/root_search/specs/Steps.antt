@@ -167,3 +167,37 @@ step_words steps.Idle = codes "idle" ∷ []
 step_words (steps.Planned revision count) = codes "planned" ∷ decimal revision ∷ decimal count ∷ []
 step_words (steps.Fetched number) = codes "fetched" ∷ decimal number ∷ []
 step_words (steps.Replied reply) = reply_text reply ∷ []
+
+-- ---- a step between whose calls other actors act
+
+-- a call behind what other actors did before it: the core that it finds, and its fate
+pub record Passage : Type 0 where
+  pub core : Core
+  pub fate : Fate
+
+-- fetches with these passages, until one fails: the answer, and the core that the last one leaves
+abbrev pub fetched_at : Core → List Passage → Gives Trouble ⊤
+fetched_at core [] = gives (Ok tt) core
+fetched_at core (passage ∷ more) = unless_fault (fetched passage.fate passage.core).answer (fetched passage.fate passage.core).core (λ left. fetched_at left more)
+
+-- before each call other actors may have acted on the core that the call before it left
+abbrev pub ArePassed : (Core → Core → Type 0) → Core → List Passage → Type 0
+ArePassed Between core [] = ⊤
+ArePassed Between core (passage ∷ more) = Between core passage.core × ArePassed Between (fetched passage.fate passage.core).core more
+
+abbrev pub next_at : Passage → List Passage → Log → Plan → List ℕ → Client → Searched
+next_at passage more log plan [] client = reply_with plan.revision (answer_of plan log passage.core) client passage.core
+next_at passage more log plan (number ∷ left) client = fetch_given plan number left client (fetched_at passage.core (passage ∷ more))
+
+abbrev pub request_at : Request → Passage → List Passage → Log → Client → Searched
+request_at no_request passage more log client = record { outcome = Some steps.Idle; client = client; core = passage.core }
+request_at (opened text) passage more log client = plan_given text client (asked_and_looked passage.fate passage.core)
+request_at (planned plan) passage more log client = next_at passage more log plan plan.unfetched client
+
+-- the step of a client whose calls have these passages
+abbrev pub step_at : Passage → List Passage → Bool → Log → Client → Searched
+step_at passage more short log client = or_short short client (request_at client.request passage more log client)
+
+-- Where no other actor acts between the calls it is `step_client` with this luck.
+abbrev pub luck_of : Passage → List Passage → Bool → Luck
+luck_of passage more short = record { world = passage.fate; more = map (λ (p : Passage). p.fate) more; short = short }

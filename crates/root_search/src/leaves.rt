@@ -6,16 +6,28 @@ ghost use Rattle.doc_value.specs.declared.schema.Schema.{Schema};
 ghost use Rattle.agg_model.specs.Checking.{HaveIntervals};
 ghost use Rattle.split_bundle.specs.declared.placed.Placed.{Placed};
 ghost use Rattle.leaf_search.specs.Answers.{IsAnswerOf, IsAsked};
-ghost use Rattle.root_search.specs.Leaves.{HasCauseIn, IsCounted, IsFaultIn, IsFull, IsLeafAnswer, IsViewOf, IsWholeViewOf, WantsMemory, all_of, placed_fault};
+ghost use Rattle.root_search.specs.Leaves.{HasAsked, HasCauseIn, IsCounted, IsFaultIn, IsFull, IsLeafAnswer, IsViewOf, IsWholeViewOf, WantsMemory, all_of, placed_fault};
 
 use crate::joins::merged;
 use crate::splits_error::SplitsError;
 use agg_model::vacant_partial;
 use doc_value::Schema;
 use leaf_search::{LeafAnswer, LeafError, LeafRequest, leaf};
+use rayon::prelude::*;
 use split_bundle::{PartView, PlacedList};
 use std::alloc::{AllocError, Global};
 use std::collections::VecDeque;
+use std::thread::Threads;
+
+/// How splits are asked: one after the other in this thread, or in as many threads as there are processors.
+#[derive(Clone, Copy, Debug)]
+pub enum Manner {
+    InTurn,
+    InThreads,
+}
+
+// What each of some splits answers.
+type LeafAnswers = Vec<Result<LeafAnswer, LeafError>>;
 
 // So many documents are too many to be counted.
 const TOO_MANY: u64 = 1 << 62;
@@ -69,7 +81,7 @@ fn fault_at(place: usize, fault: LeafError) -> SplitsError
 fn joined(
     alloc: Global,
     request: &LeafRequest,
-    answers: Vec<Result<LeafAnswer, LeafError>>,
+    answers: LeafAnswers,
 ) -> Result<LeafAnswer, SplitsError>
     requires { All (λ answer. IfOk answer (IsCounted request.now)) answers.items }
     ensures only { (s : Schema) (lists : List (List Placed)) → AllZip (λ answer documents. IfOk answer (IsAnswerOf s request.now documents)) answers.items lists
@@ -90,27 +102,87 @@ fn joined(
     Ok(all)
 }
 
-// What each split answers.
-fn answers_of(
+// What a split answers.
+fn leaf_of(
+    alloc: Global,
+    schema: &Schema,
+    request: &LeafRequest,
+    view: &PartView<'_>,
+) -> Result<LeafAnswer, LeafError>
+    requires fields { length schema.now.fields ≤ 256 }
+    requires intervals { HaveIntervals request.now.aggs }
+    ensures { IsLeafAnswer schema.now request.now view.now result }
+{
+    leaf(alloc, schema, request, view)
+}
+
+// What each split answers, where one is asked after the other.
+fn answers_in_turn(
     alloc: Global,
     schema: &Schema,
     request: &LeafRequest,
     views: &[PartView<'_>],
-) -> Result<Vec<Result<LeafAnswer, LeafError>>, AllocError>
+) -> Result<LeafAnswers, AllocError>
     requires fields { length schema.now.fields ≤ 256 }
     requires intervals { HaveIntervals request.now.aggs }
     ensures { IfOk result (λ answers. AllZip (IsLeafAnswer schema.now request.now) views.now answers.items) }
 {
     let mut answers = Vec::new(alloc);
     for view in views {
-        answers.push(leaf(alloc, schema, request, view))?;
+        answers.push(leaf_of(alloc, schema, request, view))?;
     }
     Ok(answers)
 }
 
-/// What splits answer to a request together: the answer over the documents of the first one, then those of the second, and so on.
-pub fn search_all(
+// The same, where they are asked in threads.
+fn answers_in_threads<Rt: Threads + Sync>(
+    rt: &Rt,
     alloc: Global,
+    schema: &Schema,
+    request: &LeafRequest,
+    views: &[PartView<'_>],
+) -> Result<LeafAnswers, AllocError>
+    requires fields { length schema.now.fields ≤ 256 }
+    requires intervals { HaveIntervals request.now.aggs }
+    ensures { IfOk result (λ answers. AllZip (IsLeafAnswer schema.now request.now) views.now answers.items) }
+{
+    let asked = views.par_iter().with_min_len(1);
+    asked
+        .map(
+            |view: &PartView<'_>| -> Result<LeafAnswer, LeafError>
+                requires fields { length schema.now.fields ≤ 256 }
+                requires intervals { HaveIntervals request.now.aggs }
+                ensures { IsLeafAnswer schema.entry.now request.entry.now view.now result }
+            { leaf_of(alloc, schema, request, view) },
+        )
+        .collect(rt, alloc)
+}
+
+// What each split answers, in their order.
+fn answers_of<Rt: Threads + Sync>(
+    rt: &Rt,
+    alloc: Global,
+    manner: Manner,
+    schema: &Schema,
+    request: &LeafRequest,
+    views: &[PartView<'_>],
+) -> Result<LeafAnswers, AllocError>
+    requires fields { length schema.now.fields ≤ 256 }
+    requires intervals { HaveIntervals request.now.aggs }
+    ensures { IfOk result (λ answers. AllZip (IsLeafAnswer schema.now request.now) views.now answers.items) }
+{
+    match manner {
+        Manner::InTurn => answers_in_turn(alloc, schema, request, views),
+        Manner::InThreads => answers_in_threads(rt, alloc, schema, request, views),
+    }
+}
+
+/// What splits answer to a request together: the answer over the documents of the first one, then those of the second, and so on.
+/// In whatever manner they are asked, it is the same.
+pub fn search_all<Rt: Threads + Sync>(
+    rt: &Rt,
+    alloc: Global,
+    manner: Manner,
     schema: &Schema,
     request: &LeafRequest,
     views: &[PartView<'_>],
@@ -120,12 +192,15 @@ pub fn search_all(
     // Of splits of documents, of which there are fewer than 2^62 together.
     ensures only { (lists : List (List Placed)) → AllZip (IsViewOf schema.now) views.now lists → length (all_of lists) < 2 ^ 62 → IsAsked schema.now request.now
         → MatchResult result (IsAnswerOf schema.now request.now (all_of lists)) (HasCauseIn schema.now request.now views.now lists) }
+    // Where each view has what the request asks for.
+    ensures asked { (lists : List (List Placed)) → AllZip (HasAsked schema.now request.now) views.now lists → length (all_of lists) < 2 ^ 62 → IsAsked schema.now request.now
+        → MatchResult result (IsAnswerOf schema.now request.now (all_of lists)) WantsMemory }
     // Where each view has its whole file.
     ensures there { (lists : List (List Placed)) → AllZip (IsWholeViewOf schema.now) views.now lists → length (all_of lists) < 2 ^ 62 → IsAsked schema.now request.now
         → MatchResult result (IsAnswerOf schema.now request.now (all_of lists)) WantsMemory }
     // Over any bytes.
     ensures counted { IfOk result (IsCounted request.now) }
 {
-    let answers = answers_of(alloc, schema, request, views)?;
+    let answers = answers_of(rt, alloc, manner, schema, request, views)?;
     joined(alloc, request, answers)
 }

@@ -9,19 +9,24 @@ ghost use Rattle.index_world.specs.Gate.{IsTrouble};
 ghost use Rattle.index_config.specs.declared.config.IndexConfig as configs;
 ghost use Rattle.search_api.specs.Resolved.{Search};
 ghost use Rattle.search_api.specs.declared.unanswered.Unanswered.TheVariants as reasons;
+ghost use Rattle.root_search.specs.Drawing.{NeverFetched, StepDraws};
 ghost use Rattle.root_search.specs.ReadSearches.{IsRead};
 ghost use Rattle.root_search.specs.Requests.{asked_of};
-ghost use Rattle.root_search.specs.Searching.{IsPlanned, SearcherStands, new_client, Submits, SearchesAs, IsAtWork, Ends, IsRefusalOf};
+ghost use Rattle.root_search.specs.Searching.{IsPlanned, SearcherStands, new_client, Submits, SearchesAs, IsAtWork, Ends, FaultEnds, IsRefusalOf};
 ghost use Rattle.root_search.specs.Steps as steps;
 ghost use Rattle.root_search.specs.Steps.{opened, without_request, reply_with, trouble_replied, refused_over};
 
 use crate::asking::read_search;
+use crate::fetching::{FetchError, fetch_part};
+use crate::footers::Footers;
 use crate::outcome::SearchStep;
+use crate::part_answers::answer_over;
 use crate::planned::Planned;
 use crate::reads::ReadSearch;
-use crate::split_files::{SplitFile, SplitFiles, answer_over};
+use crate::split_parts::SplitParts;
 use byte_fields::{Client, Text};
 use index_world::{Gate, WorldError};
+use meta_journal::split_key;
 use meta_store::Choice;
 use search_api::{Refusal, Reply, Said, Unanswered};
 use std::alloc::{AllocError, Global};
@@ -47,6 +52,7 @@ pub struct Searcher {
     client: Client,
     // The revision of the last reply.
     front: u64,
+    footers: Footers,
     request: Request,
 }
 
@@ -77,6 +83,7 @@ impl Searcher {
         Searcher {
             client,
             front: 0,
+            footers: Footers::vacant(),
             request: Request::Vacant,
         }
     }
@@ -94,13 +101,14 @@ impl Searcher {
         &self.client
     }
 
-    /// Drops the request. The client and its front stay.
+    /// Drops the request and the footers that are kept. The client and its front stay.
     pub fn restart(&mut self)
         // Whatever the world is then.
         ensures { (client : steps.Client) (core after : Core) (log : Log) → SearcherStands self.old client core log →
             SearcherStands self.new (without_request client) after log }
     {
         self.request = Request::Vacant;
+        self.footers = Footers::vacant();
     }
 
     /// Opens a request. Where one is unanswered the text is dropped.
@@ -118,8 +126,9 @@ impl Searcher {
     }
 
     fn reply(&mut self, revision: u64, said: Said) -> SearchStep
-        ensures { (client : steps.Client) (core : Core) (log : Log) → IsAtWork self.old client →
+        ensures step { (client : steps.Client) (core : Core) (log : Log) → IsAtWork self.old client core →
             Ends (Ok result) self.new (reply_with revision said client core) log }
+        ensures replied { NeverFetched (Ok result) }
     {
         self.front = revision;
         SearchStep::Replied(Reply {
@@ -130,11 +139,33 @@ impl Searcher {
     }
 
     fn refuse(&mut self, revision: u64, error: WorldError) -> Result<SearchStep, AllocError>
-        ensures { (trouble : Trouble) (client : steps.Client) (core : Core) (log : Log) → IsTrouble error trouble → IsAtWork self.old client →
+        ensures step { (trouble : Trouble) (client : steps.Client) (core : Core) (log : Log) → IsTrouble error trouble → IsAtWork self.old client core →
             Ends result self.new (trouble_replied revision trouble client core) log }
+        ensures replied { NeverFetched result }
     {
         let refusal = refused_by(error)?;
         Ok(self.reply(revision, Said::Refused(refusal)))
+    }
+
+    // What is answered where nothing is fetched of the split with a number.
+    fn refuse_fetch(
+        &mut self,
+        number: u64,
+        revision: u64,
+        fault: FetchError,
+    ) -> Result<SearchStep, AllocError>
+        ensures step { (client : steps.Client) (core : Core) (log : Log) → IsAtWork self.old client core →
+            FaultEnds fault result self.new revision client core log }
+        ensures replied { NeverFetched result }
+    {
+        match fault {
+            FetchError::World(error) => self.refuse(revision, error),
+            FetchError::Memory(refused) => Err(refused),
+            FetchError::Corrupt => {
+                let key = split_key(number);
+                Ok(self.reply(revision, Said::Refused(Refusal::Corrupt { key })))
+            }
+        }
     }
 
     // Where no plan is made the request is refused all the same, over the last reply's revision.
@@ -143,7 +174,7 @@ impl Searcher {
         refusal: Refusal,
         error: WorldError,
     ) -> Result<SearchStep, AllocError>
-        ensures { (trouble : Trouble) (client : steps.Client) (core : Core) (log : Log) → IsTrouble error trouble → IsAtWork self.old client →
+        ensures { (trouble : Trouble) (client : steps.Client) (core : Core) (log : Log) → IsTrouble error trouble → IsAtWork self.old client core →
             Ends result self.new (refused_over client.front refusal trouble client core) log }
     {
         let _fault = refused_by(error)?;
@@ -159,7 +190,7 @@ impl Searcher {
     ) -> Result<SearchStep, AllocError>
         ensures { (text : List ℕ) (config : configs.IndexConfig) (client : steps.Client) (core : Core) (log : Log) →
             IsConfigured config core → asked_of config text ≡ Err (reasons.Refused refusal) → client.request ≡ opened text →
-            G.Stands gate.old core log → IsAtWork self.old client →
+            G.Stands gate.old core log → IsAtWork self.old client core →
             SearchesAs G.Stands G.Between result self.new gate.new client core log }
     {
         match gate.plan(alloc, &Choice::Look) {
@@ -176,7 +207,7 @@ impl Searcher {
     ) -> Result<SearchStep, AllocError>
         ensures { (text : List ℕ) (search : Search) (config : configs.IndexConfig) (client : steps.Client) (core : Core) (log : Log) →
             IsConfigured config core → asked_of config text ≡ Ok search → IsRead config.schema search read → client.request ≡ opened text →
-            G.Stands gate.old core log → IsAtWork self.old client →
+            G.Stands gate.old core log → IsAtWork self.old client core →
             SearchesAs G.Stands G.Between result self.new gate.new client core log }
     {
         match gate.plan(alloc, &read.choice) {
@@ -187,7 +218,7 @@ impl Searcher {
                     ask: read.ask,
                     plan,
                     next: 0,
-                    files: SplitFiles::vacant(alloc),
+                    parts: SplitParts::vacant(alloc),
                 });
                 Ok(SearchStep::Planned { revision, count })
             }
@@ -202,7 +233,7 @@ impl Searcher {
         text: &Text,
     ) -> Result<SearchStep, AllocError>
         ensures { (client : steps.Client) (core : Core) (log : Log) → client.request ≡ opened text.now → G.Stands gate.old core log →
-            IsAtWork self.old client → SearchesAs G.Stands G.Between result self.new gate.new client core log }
+            IsAtWork self.old client core → SearchesAs G.Stands G.Between result self.new gate.new client core log }
     {
         match read_search(alloc, gate.config(), text.as_slice()) {
             Ok(read) => self.plan_read(alloc, gate, read),
@@ -218,61 +249,70 @@ impl Searcher {
         mut planned: Planned,
     ) -> Result<SearchStep, AllocError>
         requires { planned.next < length planned.plan.rows }
-        ensures { (search : steps.Plan) (client : steps.Client) (core : Core) (log : Log) → IsLog log → client.request ≡ steps.planned search →
-            IsPlanned planned search core log → G.Stands gate.old core log → IsAtWork self.old client →
+        ensures step { (search : steps.Plan) (client : steps.Client) (core : Core) (log : Log) → IsLog log → client.request ≡ steps.planned search →
+            IsPlanned planned search core log → G.Stands gate.old core log → IsAtWork self.old client core →
             SearchesAs G.Stands G.Between result self.new gate.new client core log }
+        ensures draws { (search : steps.Plan) (client : steps.Client) (core : Core) (log : Log) → IsPlanned planned search core log →
+            G.Stands gate.old core log → IsAtWork self.old client core →
+            StepDraws self.old search result (G.bytes_fetched gate.old) (G.bytes_fetched gate.new) core }
     {
         let place = planned.next;
-        let row = planned.plan.rows.at(place as usize);
-        let (number, size) = (row.number, row.size);
-        match gate.fetch(alloc, &planned.plan, place, 0, size) {
-            Ok(piece) => {
-                let file = SplitFile {
-                    number,
-                    bytes: piece.bytes,
-                };
-                planned.files.push(file)?;
+        let number = planned.plan.rows.at(place as usize).number;
+        let known = self.footers.take(number);
+        let request = &planned.ask.request;
+        match fetch_part(alloc, gate, &planned.plan, place, request, known) {
+            Ok(part) => {
+                self.footers.keep(alloc, number, &part.footer);
+                planned.parts.push(part)?;
                 planned.next = place.saturating_add(1);
                 self.request = Request::Planned(planned);
                 Ok(SearchStep::Fetched { number })
             }
-            Err(error) => self.refuse(planned.plan.revision, error),
+            Err(fault) => self.refuse_fetch(number, planned.plan.revision, fault),
         }
     }
 
-    fn go_on<G: Gate>(
+    fn go_on<Rt: Threads + Sync, G: Gate>(
         &mut self,
+        rt: &Rt,
         alloc: Global,
         gate: &mut G,
         planned: Planned,
     ) -> Result<SearchStep, AllocError>
-        ensures { (search : steps.Plan) (client : steps.Client) (core : Core) (log : Log) → IsLog log → client.request ≡ steps.planned search →
-            IsPlanned planned search core log → G.Stands gate.old core log → IsAtWork self.old client →
+        ensures step { (search : steps.Plan) (client : steps.Client) (core : Core) (log : Log) → IsLog log → client.request ≡ steps.planned search →
+            IsPlanned planned search core log → G.Stands gate.old core log → IsAtWork self.old client core →
             SearchesAs G.Stands G.Between result self.new gate.new client core log }
+        ensures draws { (search : steps.Plan) (client : steps.Client) (core : Core) (log : Log) → IsPlanned planned search core log →
+            G.Stands gate.old core log → IsAtWork self.old client core →
+            StepDraws self.old search result (G.bytes_fetched gate.old) (G.bytes_fetched gate.new) core }
     {
         if (planned.next as usize) < planned.plan.rows.len() {
             return self.fetch(alloc, gate, planned);
         }
-        let files = planned.files.as_slice();
-        let said = answer_over(alloc, &gate.config().schema, &planned.ask, files)?;
+        let parts = planned.parts;
+        let said = answer_over(rt, alloc, &gate.config().schema, &planned.ask, parts)?;
         Ok(self.reply(planned.plan.revision, said))
     }
 
     /// One step. After want of memory there is no request any more.
     pub fn step<Rt: Threads + Sync, G: Gate>(
         &mut self,
-        _rt: &Rt,
+        rt: &Rt,
         alloc: Global,
         gate: &mut G,
     ) -> Result<SearchStep, AllocError>
-        ensures { (client : steps.Client) (core : Core) (log : Log) → IsLog log → G.Stands gate.old core log →
+        ensures step { (client : steps.Client) (core : Core) (log : Log) → IsLog log → G.Stands gate.old core log →
             SearcherStands self.old client core log →
             SearchesAs G.Stands G.Between result self.new gate.new client core log }
+        // How many bytes are drawn where it fetches of a planned split.
+        ensures draws { (search : steps.Plan) (client : steps.Client) (core : Core) (log : Log) → client.request ≡ steps.planned search →
+            G.Stands gate.old core log → SearcherStands self.old client core log →
+            StepDraws self.old search result (G.bytes_fetched gate.old) (G.bytes_fetched gate.new) core }
     {
         match mem::replace(&mut self.request, Request::Vacant) {
             Request::Vacant => Ok(SearchStep::Idle),
             Request::Opened(text) => self.plan(alloc, gate, &text),
-            Request::Planned(planned) => self.go_on(alloc, gate, planned),
+            Request::Planned(planned) => self.go_on(rt, alloc, gate, planned),
         }
     }
 }

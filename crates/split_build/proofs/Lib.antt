@@ -5,6 +5,7 @@ pub mod PostedLemmas
 pub mod PlacesLemmas
 pub mod GroupedLemmas
 pub mod TermLemmas
+pub mod Mere
 pub mod KeysLemmas
 pub mod WrittenLemmas
 pub mod OnWay

@@ -72,6 +72,9 @@ get_key (x ∷ xs) (suc n) k e = get_key xs n k e
 pub key_stored : (ks : List (Vec ℕ Global)) (k other : Vec ℕ Global) (key : List ℕ) (n : ℕ) → k.items ≡ key → slice_get ks n ≡ Some other → same_keys k other ≡ true → slice_get (key_bytes ks) n ≡ Some key
 key_stored ks k other key n text at same = get_key ks n other at ∙ ap (λ (m : List ℕ). Some m) (sym (eq_same k.items other.items same) ∙ text)
 
+pub key_known : (ks : List (Vec ℕ Global)) (n : ℕ) (k : Vec ℕ Global) (given key : List ℕ) → slice_get ks n ≡ Some k → given ≡ k.items → bytes_eq given key ≡ true → slice_get (key_bytes ks) n ≡ Some key
+key_known ks n k given key at is same = get_key ks n k at ∙ ap (λ (m : List ℕ). Some m) (sym is ∙ eq_same given key same)
+
 found_by : (ks : List (Vec ℕ Global)) (key : List ℕ) (n : ℕ) (d : Vec ℕ Global) → position (λ (k : Vec ℕ Global). bytes_eq key k.items) ks ≡ Some n → slice_get (key_bytes ks) n ≡ Some key
 found_by ks key n d is =
     let there = position-Some (λ (k : Vec ℕ Global). bytes_eq key k.items) ks n d is in

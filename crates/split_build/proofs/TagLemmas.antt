@@ -38,10 +38,16 @@ term_more listed terms t h = record {
   ];
 }
 
-pub term_past : (listed terms : List (List ℕ)) (t : List ℕ) → max_tags < length listed → HasTerms listed terms → HasTerms listed (terms ++ t ∷ [])
-term_past listed terms t many h = record {
+among_front : (xs ys : List (List ℕ)) (x : List ℕ) → IsAmong xs x → IsAmong (xs ++ ys) x
+among_front [] ys x h = absurd h
+among_front (y ∷ xs) ys x (inl same) = inl same
+among_front (y ∷ xs) ys x (inr later) = inr (among_front xs ys x later)
+
+-- where there are too many to be listed no further one is looked at
+pub terms_past : (listed terms more : List (List ℕ)) → max_tags < length listed → HasTerms listed terms → HasTerms listed (terms ++ more)
+terms_past listed terms more many h = record {
   rising = h.rising;
-  among = λ x here. among_more terms t x (h.among x here);
+  among = λ x here. among_front terms more x (h.among x here);
   all = λ few x here. absurd (omega (arith, few, many));
 }
 

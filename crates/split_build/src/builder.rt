@@ -70,7 +70,7 @@ impl Builder {
             count: 0,
             weight: 0,
             documents: DocumentLog::vacant(alloc),
-            terms: TermLog::vacant(alloc),
+            terms: TermLog::vacant(alloc)?,
             columns: column_logs(alloc, schema)?,
             tags: tag_logs(alloc, schema)?,
             times: None,
@@ -92,7 +92,7 @@ impl Builder {
 
     // Takes a document that stands in bytes in the buffer and is within the limits.
     fn take(&mut self, alloc: Global, placed: &Placed) -> Result<(), AllocError>
-        requires { (s : Schema) × (documents : List Placed) × CanTake self.old s documents placed.now }
+        requires { ∥ ((s : Schema) × (documents : List Placed) × CanTake self.old s documents placed.now) ∥₁ }
         ensures { (s : Schema) (documents : List Placed) → CanTake self.old s documents placed.now → OnOk result (HasTaken self.new s (documents ++ placed.now ∷ [])) }
     {
         let document = self.count;
@@ -111,7 +111,7 @@ impl Builder {
     /// Adds a document behind the others. With it they have to be within the limits of a split, or it is refused and the
     /// builder stays as it was. After want of memory nothing is said of the builder.
     pub fn add(&mut self, alloc: Global, placed: &Placed) -> Result<(), BuildError>
-        requires { (s : Schema) × (documents : List Placed) × HasTaken self.old s documents × IsOfSchema s placed.now.doc }
+        requires { ∥ ((s : Schema) × (documents : List Placed) × HasTaken self.old s documents × IsOfSchema s placed.now.doc) ∥₁ }
         ensures { (s : Schema) (documents : List Placed) → HasTaken self.old s documents → IsOfSchema s placed.now.doc
             → MatchResult result (λ _. HasTaken self.new s (documents ++ placed.now ∷ []))
             (λ e. MakeNone (documents ++ placed.now ∷ []) e × KeepsTaken self.new s documents e) }
@@ -128,7 +128,7 @@ impl Builder {
 
     /// The split of the documents that were added.
     pub fn finish(self, alloc: Global) -> Result<BuiltSplit, AllocError>
-        requires { (s : Schema) × (documents : List Placed) × HasTaken self s documents }
+        requires { ∥ ((s : Schema) × (documents : List Placed) × HasTaken self s documents) ∥₁ }
         ensures { (s : Schema) (documents : List Placed) → HasTaken self s documents → IfOk result (IsBuilt s documents) }
     {
         let Builder {

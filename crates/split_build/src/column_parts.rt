@@ -61,7 +61,7 @@ pub(crate) fn write_columns(
     schema: &Schema,
     logs: &[ColumnLog],
 ) -> Result<ColumnSection, AllocError>
-    requires { (documents : List Placed) × AreDocumentsOf schema.now documents × HasColumns documents (fast_fields schema.now) logs.now }
+    requires { ∥ ((documents : List Placed) × AreDocumentsOf schema.now documents × HasColumns documents (fast_fields schema.now) logs.now) ∥₁ }
     ensures { (documents : List Placed) → AreDocumentsOf schema.now documents → HasColumns documents (fast_fields schema.now) logs.now
         → IfOk result (λ c. AreColumns documents 0 (fast_fields schema.now) c.starts.items c.bytes.items) }
 {

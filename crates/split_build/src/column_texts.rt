@@ -70,7 +70,7 @@ fn put_texts(
     field: &Field,
     log: &ColumnLog,
 ) -> Result<(), AllocError>
-    requires can { (cs : List Cell) × CanWrite field.now.kind log.now cs }
+    requires can { ∥ ((cs : List Cell) × CanWrite field.now.kind log.now cs) ∥₁ }
     requires texted { has_texts field.now.kind ≡ true }
     ensures { (cs : List Cell) → CanWrite field.now.kind log.now cs → OnOk result (IsPut field.now.kind cs out.old.items out.new.items) }
 {
@@ -84,7 +84,7 @@ fn put_texts(
 
 // Appends the column of a field of numbers, datetimes or truth values.
 fn put_numbers(out: &mut Vec<u8>, field: &Field, log: &ColumnLog) -> Result<(), AllocError>
-    requires can { (cs : List Cell) × CanWrite field.now.kind log.now cs }
+    requires can { ∥ ((cs : List Cell) × CanWrite field.now.kind log.now cs) ∥₁ }
     requires plain { has_texts field.now.kind ≡ false }
     ensures { (cs : List Cell) → CanWrite field.now.kind log.now cs → OnOk result (IsPut field.now.kind cs out.old.items out.new.items) }
 {
@@ -108,7 +108,7 @@ pub(crate) fn put_log(
     field: &Field,
     log: &ColumnLog,
 ) -> Result<(), AllocError>
-    requires { (cs : List Cell) × CanWrite field.now.kind log.now cs }
+    requires { ∥ ((cs : List Cell) × CanWrite field.now.kind log.now cs) ∥₁ }
     ensures { (cs : List Cell) → CanWrite field.now.kind log.now cs → OnOk result (IsPut field.now.kind cs out.old.items out.new.items) }
 {
     if has_texts(field.kind) {

@@ -89,7 +89,7 @@ impl DocumentLog {
         partitions: &[Partition],
         out: &mut Vec<u8>,
     ) -> Result<(), AllocError>
-        requires { (documents : List Placed) × HasDocuments self.now documents }
+        requires { ∥ ((documents : List Placed) × HasDocuments self.now documents) ∥₁ }
         ensures { (documents : List Placed) → HasDocuments self.now documents → OnOk result (out.new.items ≡ out.old.items ++ documents_section partitions.now documents) }
     {
         let places = places_of(alloc, &self.names, partitions)?;

@@ -22,7 +22,7 @@ fn section_of(
     documents: DocumentLog,
     partitions: &[Partition],
 ) -> Result<Vec<u8>, AllocError>
-    requires { (ds : List Placed) × HasDocuments documents ds }
+    requires { ∥ ((ds : List Placed) × HasDocuments documents ds) ∥₁ }
     ensures { (ds : List Placed) → HasDocuments documents ds → IfOk result (λ out. out.items ≡ documents_section partitions.now ds) }
 {
     let mut out = Vec::new(alloc);
@@ -39,7 +39,7 @@ pub(crate) fn write_parts(
     terms: TermLog,
     columns: Vec<ColumnLog>,
 ) -> Result<FileParts, AllocError>
-    requires { (ds : List Placed) × AreLogs schema.now ds documents terms columns.items }
+    requires { ∥ ((ds : List Placed) × AreLogs schema.now ds documents terms columns.items) ∥₁ }
     ensures count { IfOk result (λ f. f.docs ≡ count) }
     ensures parts { (ds : List Placed) → AreLogs schema.now ds documents terms columns.items → IfOk result (ArePartsOf schema.now ds) }
 {

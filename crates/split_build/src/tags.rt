@@ -54,9 +54,6 @@ impl TagLog {
         ensures number { self.new.number ≡ self.old.number }
         ensures terms { (terms : List (List ℕ)) → HasTerms self.old.terms.items terms → OnOk result (HasTerms self.new.terms.items (terms ++ term.now ∷ [])) }
     {
-        if self.terms.len() > MAX_TAGS {
-            return Ok(());
-        }
         if let Some(place) = place_for(self.terms.as_slice(), term) {
             self.terms.insert(place, Bytes::from_slice(alloc, term)?)?;
         }
@@ -67,6 +64,9 @@ impl TagLog {
         ensures number { self.new.number ≡ self.old.number }
         ensures terms { (terms : List (List ℕ)) → HasTerms self.old.terms.items terms → OnOk result (HasTerms self.new.terms.items (terms ++ term_of value.now)) }
     {
+        if self.terms.len() > MAX_TAGS {
+            return Ok(());
+        }
         if let Value::Text(text) = value {
             if text.len() > MAX_TOKEN {
                 return Ok(());

@@ -123,7 +123,7 @@ impl TermWriter {
         documents: &[u32],
         places: &[u64],
     ) -> Result<(), AllocError>
-        requires { (ds : List Placed) × IsListOf schema.now ds key.now documents.now places.now }
+        requires { ∥ ((ds : List Placed) × IsListOf schema.now ds key.now documents.now places.now) ∥₁ }
         ensures { (ds : List Placed) (keys : List (List ℕ)) → IsListOf schema.now ds key.now documents.now places.now → AreRising (keys ++ key.now ∷ [])
             → HasWritten self.old schema.now ds keys → OnOk result (HasWritten self.new schema.now ds (keys ++ key.now ∷ [])) }
     {
@@ -159,7 +159,7 @@ fn write_groups(
     placed: &KeyGroups,
     plain: &KeyGroups,
 ) -> Result<TermParts, AllocError>
-    requires { (documents : List Placed) × AreGrouped schema.now documents (key_bytes keys.now) placed.now plain.now }
+    requires { ∥ ((documents : List Placed) × AreGrouped schema.now documents (key_bytes keys.now) placed.now plain.now) ∥₁ }
     ensures { (documents : List Placed) → AreGrouped schema.now documents (key_bytes keys.now) placed.now plain.now → IfOk result (AreTermParts schema.now documents) }
 {
     let order = in_order(alloc, keys)?;
@@ -187,13 +187,14 @@ fn write_groups(
 
 /// The parts of a split that the keys of the documents make.
 pub fn write_terms(alloc: Global, schema: &Schema, log: TermLog) -> Result<TermParts, AllocError>
-    requires { (documents : List Placed) × IsLogOf log schema.now documents }
+    requires { ∥ ((documents : List Placed) × IsLogOf log schema.now documents) ∥₁ }
     ensures { (documents : List Placed) → IsLogOf log schema.now documents → IfOk result (AreTermParts schema.now documents) }
 {
     let TermLog {
         keys,
         placed,
         plain,
+        ..
     } = log;
     let plain = groups_of(alloc, keys.len(), false, plain)?;
     let placed = groups_of(alloc, keys.len(), true, placed)?;

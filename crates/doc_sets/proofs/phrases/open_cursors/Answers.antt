@@ -1,9 +1,4 @@
-use Rattle.std.proofs.Common.{◌≡◌, ◌∙◌, ◌+◌, ◌<◌, ◌≢◌, ◌⊎◌, inl, inr, ◌∷◌, [], ℕ, true, length, get_or, ap, sym, subst, arith}
-use Rattle.std.proofs.lemmas.Bool.{cases_lt}
-use Rattle.std.proofs.Math.ListN.{get_or-append}
-use Rattle.std.proofs.Math.Seq.{get_or-append_seam}
-use Rattle.text_tokens.specs.declared.tokens.Token.{Token}
-use Rattle.term_postings.specs.declared.cursor.Cursor.{Cursor}
+use Rattle.std.proofs.Common.{◌≡◌, ◌∙◌, ◌+◌, ◌∷◌, [], ℕ, true, ap, subst, arith}
 use Rattle.split_bundle.specs.Keys.{field_key}
 use Rattle.split_bundle.specs.Lists.{keeps_places, posting_list}
 use Rattle.doc_sets.specs.Needed.{AsksPlaces, LacksPlaces, token_keys}

@@ -1,107 +1,87 @@
-use Rattle.std.proofs.Common.{◌≡◌, map, sum, refl, sym, ap, ◌∙◌, subst, arith}
+use Rattle.std.proofs.Common.{◌≡◌, Option, Some, None, map, sum, refl, sym, ap, ◌∙◌, subst, inl, inr, arith}
 use Rattle.std.specs.Prelude.{min}
+use Rattle.command_words.specs.declared.command.Command.TheVariants as commands
+use Rattle.command_words.proofs.Naming.{names_alone}
 use Rattle.index_world.specs.Core.{last_count}
-use Rattle.quick_node.proofs.Words.{not_both, drive_no_create, report_no_create, report_no_drive, one_report, some_report, not_asked}
+use Rattle.node_run.specs.Logs.{logs_in}
 use Rattle.quick_node.specs.Causes.{faults_of}
 use Rattle.quick_node.specs.Reporting.{Reports}
+use Rattle.quick_node.specs.declared.reporting.Report.{Report}
+use Rattle.quick_node.specs.declared.reporting.Report.TheVariants as kinds
 use Rattle.quick_node.proofs.Caused.{other_causes}
+use Rattle.quick_node.proofs.Unread.{is_short, short_status, wrote_none, landed_itself, unread_drives, unread_creates, unread_reports}
+use Rattle.quick_node.proofs.Words.{named_so, asked_so}
 use Rattle.quick_node.proofs.serving.serve_with_logs.Goals as goal
 
--- ---- the word is `create`
+-- ---- the words found no memory
 
-pub returns-then-is_create-clause-drives : goal.returns-then-is_create-clause-drives
-returns-then-is_create-clause-drives g c history before drive shows enters = absurd (drive_no_create _ drive (c.is_create.ensures.0 c.if-is_create.true))
+pub returns-in_default-clause-drives : goal.returns-in_default-clause-drives
+returns-in_default-clause-drives g c history before drive shows enters =
+    unread_drives g.S.ObjectStore.told g.S.ObjectStore.fault_count g.L.SourceLog.told g.L.SourceLog.fault_count g.L.SourceLog.since g.R.Source.left g.R.Source.fault_count g.W.Sink.content g.W.Sink.fault_count
+    history before c.args.store c.ended.result.0.store c.ended.result.0.store_faults c.ended.result.0.log_faults c.ended.result.0.status c.args.logs.items (logs_in c.ended.result.1) c.args.input.now c.args.output.now c.ended.new.output
+    shows enters c.ended.ensures.store c.ended.ensures.store_faults c.ended.ensures.logs c.ended.ensures.later c.ended.ensures.log_sum c.ended.ensures.counted c.ended.ensures.writes
 
-pub returns-then-is_create-clause-creates : goal.returns-then-is_create-clause-creates
-returns-then-is_create-clause-creates g c history before moment create shows enters ticks = c.create.ensures.creates history before moment shows enters ticks
+pub returns-in_default-clause-creates : goal.returns-in_default-clause-creates
+returns-in_default-clause-creates g c history before moment create shows enters ticks =
+    unread_creates g.S.ObjectStore.told g.S.ObjectStore.fault_count g.L.SourceLog.told g.L.SourceLog.fault_count g.L.SourceLog.since g.R.Source.left g.R.Source.fault_count g.W.Sink.content g.W.Sink.fault_count
+    history before c.args.store c.ended.result.0.store c.ended.result.0.store_faults c.ended.result.0.log_faults c.ended.result.0.status c.args.logs.items (logs_in c.ended.result.1) c.args.input.now c.args.output.now c.ended.new.output
+    shows enters c.ended.ensures.store c.ended.ensures.store_faults c.ended.ensures.logs c.ended.ensures.later c.ended.ensures.log_sum c.ended.ensures.counted c.ended.ensures.writes moment
 
-pub returns-then-is_create-clause-refuses : goal.returns-then-is_create-clause-refuses
-returns-then-is_create-clause-refuses g c other none splits describe = absurd (none (c.is_create.ensures.0 c.if-is_create.true))
+pub returns-in_default-clause-reports : goal.returns-in_default-clause-reports
+returns-in_default-clause-reports g c asked history before asks shows enters =
+    unread_reports g.S.ObjectStore.told g.S.ObjectStore.fault_count g.L.SourceLog.told g.L.SourceLog.fault_count g.L.SourceLog.since g.R.Source.left g.R.Source.fault_count g.W.Sink.content g.W.Sink.fault_count
+    history before c.args.store c.ended.result.0.store c.ended.result.0.store_faults c.ended.result.0.log_faults c.ended.result.0.status c.args.logs.items (logs_in c.ended.result.1) c.args.input.now c.args.output.now c.ended.new.output
+    shows enters c.ended.ensures.store c.ended.ensures.store_faults c.ended.ensures.logs c.ended.ensures.later c.ended.ensures.log_sum c.ended.ensures.counted c.ended.ensures.writes asked
 
-pub returns-then-is_create-clause-reports : goal.returns-then-is_create-clause-reports
-returns-then-is_create-clause-reports g c asked history before asks shows enters = absurd (report_no_create asked _ asks (c.is_create.ensures.0 c.if-is_create.true))
+pub returns-in_default-clause-only_reads : goal.returns-in_default-clause-only_reads
+returns-in_default-clause-only_reads g c asked asks = record { kept = landed_itself _ _ (ap g.S.ObjectStore.told c.ended.ensures.store); left_same = refl; read_same = refl }
 
-pub returns-then-is_create-clause-only_reads : goal.returns-then-is_create-clause-only_reads
-returns-then-is_create-clause-only_reads g c asked asks = absurd (report_no_create asked _ asks (c.is_create.ensures.0 c.if-is_create.true))
+pub returns-in_default-clause-refuses : goal.returns-in_default-clause-refuses
+returns-in_default-clause-refuses g c other none splits describe = (
+  record {
+    kept = ap g.S.ObjectStore.told c.ended.ensures.store;
+    store_count = ap g.S.ObjectStore.fault_count c.ended.ensures.store;
+    reported = c.ended.ensures.store_faults;
+    log_sum = c.ended.ensures.log_sum ∙ ap (λ ls. min (sum (map g.L.SourceLog.fault_count ls)) last_count) c.ended.ensures.logs;
+    left_same = refl;
+    read_same = refl;
+  },
+  wrote_none _ _ _ _ _ c.ended.ensures.writes,
+)
 
-pub returns-then-is_create-clause-causes : goal.returns-then-is_create-clause-causes
-returns-then-is_create-clause-causes g c = c.create.ensures.causes.causes
+pub returns-in_default-clause-causes : goal.returns-in_default-clause-causes
+returns-in_default-clause-causes g c =
+    other_causes (faults_of (g.S.ObjectStore.fault_count c.args.store) (g.R.Source.fault_count c.args.input.now) (g.W.Sink.fault_count c.args.output.now)) (faults_of (g.S.ObjectStore.fault_count c.ended.result.0.store) (g.R.Source.fault_count c.args.input.now) (g.W.Sink.fault_count c.ended.new.output))
+    c.ended.result.0.status (omega arith) c.ended.ensures.counted (inr (inl (is_short _ c.ended.ensures.status)))
 
-pub returns-then-is_create-clause-statuses : goal.returns-then-is_create-clause-statuses
-returns-then-is_create-clause-statuses g c = record {
-  drive = λ drive. absurd (drive_no_create _ drive (c.is_create.ensures.0 c.if-is_create.true));
-  create = λ create. c.create.ensures.causes.known;
-  report = λ asked asks. absurd (report_no_create asked _ asks (c.is_create.ensures.0 c.if-is_create.true));
-  other = λ other none splits describe. absurd (none (c.is_create.ensures.0 c.if-is_create.true));
-}
+pub returns-in_default-clause-statuses : goal.returns-in_default-clause-statuses
+returns-in_default-clause-statuses g c = short_status _ _ (is_short _ c.ended.ensures.status)
 
-pub returns-then-is_create-clause-counts : goal.returns-then-is_create-clause-counts
-returns-then-is_create-clause-counts g c = c.create.ensures.store_faults
+pub returns-in_default-clause-counts : goal.returns-in_default-clause-counts
+returns-in_default-clause-counts g c = c.ended.ensures.store_faults ∙ sym (ap g.S.ObjectStore.fault_count c.ended.ensures.store)
 
-pub returns-then-is_create-clause-log_sum : goal.returns-then-is_create-clause-log_sum
-returns-then-is_create-clause-log_sum g c = c.create.ensures.log_sum
+pub returns-in_default-clause-log_sum : goal.returns-in_default-clause-log_sum
+returns-in_default-clause-log_sum g c = c.ended.ensures.log_sum
 
-pub returns-then-is_create-clause-unread : goal.returns-then-is_create-clause-unread
-returns-then-is_create-clause-unread g c other = c.create.ensures.unread
+pub returns-in_default-clause-unread : goal.returns-in_default-clause-unread
+returns-in_default-clause-unread g c other = c.ended.ensures.logs
 
--- ---- the word asks for a report
+-- ---- the words name no command
 
-pub returns-in-Some-clause-drives : goal.returns-in-Some-clause-drives
-returns-in-Some-clause-drives g c history before drive shows enters = absurd (report_no_drive c.in-Some.asked _ c.in-Some.ensures.asked drive)
+pub returns-in_default-named-clause-drives : goal.returns-in_default-named-clause-drives
+returns-in_default-named-clause-drives g c history before drive shows enters = let no = named_so _ _ None commands.Drive c.in-Ok.ensures c.in_default-named.is drive in cc
 
-pub returns-in-Some-clause-creates : goal.returns-in-Some-clause-creates
-returns-in-Some-clause-creates g c history before moment create shows enters ticks = absurd (report_no_create c.in-Some.asked _ c.in-Some.ensures.asked create)
+pub returns-in_default-named-clause-creates : goal.returns-in_default-named-clause-creates
+returns-in_default-named-clause-creates g c history before moment create shows enters ticks = let no = named_so _ _ None commands.Create c.in-Ok.ensures c.in_default-named.is create in cc
 
-pub returns-in-Some-clause-reports : goal.returns-in-Some-clause-reports
-returns-in-Some-clause-reports g c asked history before asks shows enters =
-    let same : asked ≡ c.in-Some.asked = one_report c.in-Some.asked asked _ c.in-Some.ensures.asked asks in
-    let done = c.report.ensures.reports history before shows enters in
-    (done.0, done.1, subst (λ a. Reports a history before done.0 c.report.result.0.status) (sym same) done.2, done.3)
+pub returns-in_default-named-clause-reports : goal.returns-in_default-named-clause-reports
+returns-in_default-named-clause-reports g c asked history before asks shows enters = let no = asked_so _ _ None asked c.in-Ok.ensures c.in_default-named.is asks in cc
 
-pub returns-in-Some-clause-only_reads : goal.returns-in-Some-clause-only_reads
-returns-in-Some-clause-only_reads g c asked asks = record { kept = c.report.ensures.landed; left_same = refl; read_same = refl }
+pub returns-in_default-named-clause-only_reads : goal.returns-in_default-named-clause-only_reads
+returns-in_default-named-clause-only_reads g c asked asks = let no = asked_so _ _ None asked c.in-Ok.ensures c.in_default-named.is asks in cc
 
-pub returns-in-Some-clause-refuses : goal.returns-in-Some-clause-refuses
-returns-in-Some-clause-refuses g c other none splits describe = absurd (some_report c.in-Some.asked _ c.in-Some.ensures.asked splits describe)
-
-pub returns-in-Some-clause-causes : goal.returns-in-Some-clause-causes
-returns-in-Some-clause-causes g c = c.report.ensures.causes.causes
-
-pub returns-in-Some-clause-statuses : goal.returns-in-Some-clause-statuses
-returns-in-Some-clause-statuses g c = record {
-  drive = λ drive. absurd (report_no_drive c.in-Some.asked _ c.in-Some.ensures.asked drive);
-  create = λ create. absurd (report_no_create c.in-Some.asked _ c.in-Some.ensures.asked create);
-  report = λ asked asks. c.report.ensures.causes.known;
-  other = λ other none splits describe. absurd (some_report c.in-Some.asked _ c.in-Some.ensures.asked splits describe);
-}
-
-pub returns-in-Some-clause-counts : goal.returns-in-Some-clause-counts
-returns-in-Some-clause-counts g c = c.report.ensures.store_faults
-
-pub returns-in-Some-clause-log_sum : goal.returns-in-Some-clause-log_sum
-returns-in-Some-clause-log_sum g c = c.report.ensures.log_sum
-
-pub returns-in-Some-clause-unread : goal.returns-in-Some-clause-unread
-returns-in-Some-clause-unread g c other = c.report.ensures.unread
-
--- ---- other words
-
-pub returns-then-not-is_drive-clause-drives : goal.returns-then-not-is_drive-clause-drives
-returns-then-not-is_drive-clause-drives g c history before drive shows enters =
-    absurd (not_both c.is_drive.result c.if-not-is_drive.true (c.is_drive.ensures.1 drive))
-
-pub returns-then-not-is_drive-clause-creates : goal.returns-then-not-is_drive-clause-creates
-returns-then-not-is_drive-clause-creates g c history before moment create shows enters ticks =
-    absurd (not_both c.is_create.result c.if-is_create.false (c.is_create.ensures.1 create))
-
-pub returns-then-not-is_drive-clause-reports : goal.returns-then-not-is_drive-clause-reports
-returns-then-not-is_drive-clause-reports g c asked history before asks shows enters = absurd (not_asked c.report_of.result _ c.report_of.ensures.none c.in_default.is asked asks)
-
-pub returns-then-not-is_drive-clause-only_reads : goal.returns-then-not-is_drive-clause-only_reads
-returns-then-not-is_drive-clause-only_reads g c asked asks = absurd (not_asked c.report_of.result _ c.report_of.ensures.none c.in_default.is asked asks)
-
-pub returns-then-not-is_drive-clause-refuses : goal.returns-then-not-is_drive-clause-refuses
-returns-then-not-is_drive-clause-refuses g c other none splits describe = (
+pub returns-in_default-named-clause-refuses : goal.returns-in_default-named-clause-refuses
+returns-in_default-named-clause-refuses g c other none splits describe = (
   record {
     kept = ap g.S.ObjectStore.told c.refuse.ensures.store;
     store_count = ap g.S.ObjectStore.fault_count c.refuse.ensures.store;
@@ -113,61 +93,180 @@ returns-then-not-is_drive-clause-refuses g c other none splits describe = (
   c.refuse.ensures.writes,
 )
 
-pub returns-then-not-is_drive-clause-causes : goal.returns-then-not-is_drive-clause-causes
-returns-then-not-is_drive-clause-causes g c =
+pub returns-in_default-named-clause-causes : goal.returns-in_default-named-clause-causes
+returns-in_default-named-clause-causes g c =
     other_causes (faults_of (g.S.ObjectStore.fault_count c.args.store) (g.R.Source.fault_count c.args.input.now) (g.W.Sink.fault_count c.args.output.now)) (faults_of (g.S.ObjectStore.fault_count c.refuse.result.0.store) (g.R.Source.fault_count c.args.input.now) (g.W.Sink.fault_count c.refuse.new.output))
     c.refuse.result.0.status (omega arith) c.refuse.ensures.counted c.refuse.ensures.status
 
-pub returns-then-not-is_drive-clause-statuses : goal.returns-then-not-is_drive-clause-statuses
-returns-then-not-is_drive-clause-statuses g c = record {
-  drive = λ drive. absurd (not_both c.is_drive.result c.if-not-is_drive.true (c.is_drive.ensures.1 drive));
-  create = λ create. absurd (not_both c.is_create.result c.if-is_create.false (c.is_create.ensures.1 create));
-  report = λ asked asks. absurd (not_asked c.report_of.result _ c.report_of.ensures.none c.in_default.is asked asks);
+pub returns-in_default-named-clause-statuses : goal.returns-in_default-named-clause-statuses
+returns-in_default-named-clause-statuses g c = record {
+  drive = λ drive. let no = named_so _ _ None commands.Drive c.in-Ok.ensures c.in_default-named.is drive in cc;
+  create = λ create. let no = named_so _ _ None commands.Create c.in-Ok.ensures c.in_default-named.is create in cc;
+  report = λ asked asks. let no = asked_so _ _ None asked c.in-Ok.ensures c.in_default-named.is asks in cc;
   other = λ other none splits describe. c.refuse.ensures.status;
 }
 
-pub returns-then-not-is_drive-clause-counts : goal.returns-then-not-is_drive-clause-counts
-returns-then-not-is_drive-clause-counts g c = c.refuse.ensures.store_faults ∙ sym (ap g.S.ObjectStore.fault_count c.refuse.ensures.store)
+pub returns-in_default-named-clause-counts : goal.returns-in_default-named-clause-counts
+returns-in_default-named-clause-counts g c = c.refuse.ensures.store_faults ∙ sym (ap g.S.ObjectStore.fault_count c.refuse.ensures.store)
 
-pub returns-then-not-is_drive-clause-log_sum : goal.returns-then-not-is_drive-clause-log_sum
-returns-then-not-is_drive-clause-log_sum g c = c.refuse.ensures.log_sum
+pub returns-in_default-named-clause-log_sum : goal.returns-in_default-named-clause-log_sum
+returns-in_default-named-clause-log_sum g c = c.refuse.ensures.log_sum
 
-pub returns-then-not-is_drive-clause-unread : goal.returns-then-not-is_drive-clause-unread
-returns-then-not-is_drive-clause-unread g c other = c.refuse.ensures.logs
+pub returns-in_default-named-clause-unread : goal.returns-in_default-named-clause-unread
+returns-in_default-named-clause-unread g c other = c.refuse.ensures.logs
 
--- ---- the word is `drive`
+-- ---- the command is `create`
 
-pub returns-clause-drives : goal.returns-clause-drives
-returns-clause-drives g c history before drive shows enters = c.drive.ensures.drives history before shows enters
+pub returns-in-Create-clause-drives : goal.returns-in-Create-clause-drives
+returns-in-Create-clause-drives g c history before drive shows enters = let no = named_so _ _ (Some commands.Create) commands.Drive c.in-Ok.ensures (c.in-Some.is ∙ ap Some c.in-Create.is) drive in cc
 
-pub returns-clause-creates : goal.returns-clause-creates
-returns-clause-creates g c history before moment create shows enters ticks = absurd (not_both c.is_create.result c.if-is_create.false (c.is_create.ensures.1 create))
+pub returns-in-Create-clause-creates : goal.returns-in-Create-clause-creates
+returns-in-Create-clause-creates g c history before moment create shows enters ticks = c.create.ensures.creates history before moment shows enters ticks
 
-pub returns-clause-reports : goal.returns-clause-reports
-returns-clause-reports g c asked history before asks shows enters = absurd (report_no_drive asked _ asks (c.is_drive.ensures.0 c.if-not-is_drive.false))
+pub returns-in-Create-clause-reports : goal.returns-in-Create-clause-reports
+returns-in-Create-clause-reports g c asked history before asks shows enters = let no = asked_so _ _ (Some commands.Create) asked c.in-Ok.ensures (c.in-Some.is ∙ ap Some c.in-Create.is) asks in cc
 
-pub returns-clause-only_reads : goal.returns-clause-only_reads
-returns-clause-only_reads g c asked asks = absurd (report_no_drive asked _ asks (c.is_drive.ensures.0 c.if-not-is_drive.false))
+pub returns-in-Create-clause-only_reads : goal.returns-in-Create-clause-only_reads
+returns-in-Create-clause-only_reads g c asked asks = let no = asked_so _ _ (Some commands.Create) asked c.in-Ok.ensures (c.in-Some.is ∙ ap Some c.in-Create.is) asks in cc
 
-pub returns-clause-refuses : goal.returns-clause-refuses
-returns-clause-refuses g c other none splits describe = absurd (other (c.is_drive.ensures.0 c.if-not-is_drive.false))
+pub returns-in-Create-clause-refuses : goal.returns-in-Create-clause-refuses
+returns-in-Create-clause-refuses g c other none splits describe = absurd (none (names_alone _ commands.Create (sym c.in-Ok.ensures ∙ c.in-Some.is ∙ ap Some c.in-Create.is)))
 
-pub returns-clause-causes : goal.returns-clause-causes
-returns-clause-causes g c = c.drive.ensures.causes.causes
+pub returns-in-Create-clause-causes : goal.returns-in-Create-clause-causes
+returns-in-Create-clause-causes g c = c.create.ensures.causes.causes
 
-pub returns-clause-statuses : goal.returns-clause-statuses
-returns-clause-statuses g c = record {
-  drive = λ drive. c.drive.ensures.causes.known;
-  create = λ create. absurd (not_both c.is_create.result c.if-is_create.false (c.is_create.ensures.1 create));
-  report = λ asked asks. absurd (report_no_drive asked _ asks (c.is_drive.ensures.0 c.if-not-is_drive.false));
-  other = λ other none splits describe. absurd (other (c.is_drive.ensures.0 c.if-not-is_drive.false));
+pub returns-in-Create-clause-statuses : goal.returns-in-Create-clause-statuses
+returns-in-Create-clause-statuses g c = record {
+  drive = λ drive. let no = named_so _ _ (Some commands.Create) commands.Drive c.in-Ok.ensures (c.in-Some.is ∙ ap Some c.in-Create.is) drive in cc;
+  create = λ create. c.create.ensures.causes.known;
+  report = λ asked asks. let no = asked_so _ _ (Some commands.Create) asked c.in-Ok.ensures (c.in-Some.is ∙ ap Some c.in-Create.is) asks in cc;
+  other = λ other none splits describe. absurd (none (names_alone _ commands.Create (sym c.in-Ok.ensures ∙ c.in-Some.is ∙ ap Some c.in-Create.is)));
 }
 
-pub returns-clause-counts : goal.returns-clause-counts
-returns-clause-counts g c = c.drive.ensures.store_faults
+pub returns-in-Create-clause-counts : goal.returns-in-Create-clause-counts
+returns-in-Create-clause-counts g c = c.create.ensures.store_faults
 
-pub returns-clause-log_sum : goal.returns-clause-log_sum
-returns-clause-log_sum g c = c.drive.ensures.log_sum
+pub returns-in-Create-clause-log_sum : goal.returns-in-Create-clause-log_sum
+returns-in-Create-clause-log_sum g c = c.create.ensures.log_sum
 
-pub returns-clause-unread : goal.returns-clause-unread
-returns-clause-unread g c other = absurd (other (c.is_drive.ensures.0 c.if-not-is_drive.false))
+pub returns-in-Create-clause-unread : goal.returns-in-Create-clause-unread
+returns-in-Create-clause-unread g c other = c.create.ensures.unread
+
+-- ---- the command is `drive`
+
+pub returns-in-Drive-clause-drives : goal.returns-in-Drive-clause-drives
+returns-in-Drive-clause-drives g c history before drive shows enters = c.drive.ensures.drives history before shows enters
+
+pub returns-in-Drive-clause-creates : goal.returns-in-Drive-clause-creates
+returns-in-Drive-clause-creates g c history before moment create shows enters ticks = let no = named_so _ _ (Some commands.Drive) commands.Create c.in-Ok.ensures (c.in-Some.is ∙ ap Some c.in-Drive.is) create in cc
+
+pub returns-in-Drive-clause-reports : goal.returns-in-Drive-clause-reports
+returns-in-Drive-clause-reports g c asked history before asks shows enters = let no = asked_so _ _ (Some commands.Drive) asked c.in-Ok.ensures (c.in-Some.is ∙ ap Some c.in-Drive.is) asks in cc
+
+pub returns-in-Drive-clause-only_reads : goal.returns-in-Drive-clause-only_reads
+returns-in-Drive-clause-only_reads g c asked asks = let no = asked_so _ _ (Some commands.Drive) asked c.in-Ok.ensures (c.in-Some.is ∙ ap Some c.in-Drive.is) asks in cc
+
+pub returns-in-Drive-clause-refuses : goal.returns-in-Drive-clause-refuses
+returns-in-Drive-clause-refuses g c other none splits describe = absurd (other (names_alone _ commands.Drive (sym c.in-Ok.ensures ∙ c.in-Some.is ∙ ap Some c.in-Drive.is)))
+
+pub returns-in-Drive-clause-causes : goal.returns-in-Drive-clause-causes
+returns-in-Drive-clause-causes g c = c.drive.ensures.causes.causes
+
+pub returns-in-Drive-clause-statuses : goal.returns-in-Drive-clause-statuses
+returns-in-Drive-clause-statuses g c = record {
+  drive = λ drive. c.drive.ensures.causes.known;
+  create = λ create. let no = named_so _ _ (Some commands.Drive) commands.Create c.in-Ok.ensures (c.in-Some.is ∙ ap Some c.in-Drive.is) create in cc;
+  report = λ asked asks. let no = asked_so _ _ (Some commands.Drive) asked c.in-Ok.ensures (c.in-Some.is ∙ ap Some c.in-Drive.is) asks in cc;
+  other = λ other none splits describe. absurd (other (names_alone _ commands.Drive (sym c.in-Ok.ensures ∙ c.in-Some.is ∙ ap Some c.in-Drive.is)));
+}
+
+pub returns-in-Drive-clause-counts : goal.returns-in-Drive-clause-counts
+returns-in-Drive-clause-counts g c = c.drive.ensures.store_faults
+
+pub returns-in-Drive-clause-log_sum : goal.returns-in-Drive-clause-log_sum
+returns-in-Drive-clause-log_sum g c = c.drive.ensures.log_sum
+
+pub returns-in-Drive-clause-unread : goal.returns-in-Drive-clause-unread
+returns-in-Drive-clause-unread g c other = absurd (other (names_alone _ commands.Drive (sym c.in-Ok.ensures ∙ c.in-Some.is ∙ ap Some c.in-Drive.is)))
+
+-- ---- the command is `splits`
+
+pub returns-in-Splits-clause-drives : goal.returns-in-Splits-clause-drives
+returns-in-Splits-clause-drives g c history before drive shows enters = let no = named_so _ _ (Some commands.Splits) commands.Drive c.in-Ok.ensures (c.in-Some.is ∙ ap Some c.in-Splits.is) drive in cc
+
+pub returns-in-Splits-clause-creates : goal.returns-in-Splits-clause-creates
+returns-in-Splits-clause-creates g c history before moment create shows enters ticks = let no = named_so _ _ (Some commands.Splits) commands.Create c.in-Ok.ensures (c.in-Some.is ∙ ap Some c.in-Splits.is) create in cc
+
+pub returns-in-Splits-clause-reports : goal.returns-in-Splits-clause-reports
+returns-in-Splits-clause-reports g c asked history before asks shows enters =
+    let same : ◌≡◌ {A = Option Report} (Some kinds.Splits) (Some asked) = asked_so _ _ (Some commands.Splits) asked c.in-Ok.ensures (c.in-Some.is ∙ ap Some c.in-Splits.is) asks in
+    let is : kinds.Splits ≡ asked = cc same in
+    let done = c.report.ensures.reports history before shows enters in
+    (done.0, done.1, subst (λ a. Reports a history before done.0 c.report.result.0.status) is done.2, done.3)
+
+pub returns-in-Splits-clause-only_reads : goal.returns-in-Splits-clause-only_reads
+returns-in-Splits-clause-only_reads g c asked asks = record { kept = c.report.ensures.landed; left_same = refl; read_same = refl }
+
+pub returns-in-Splits-clause-refuses : goal.returns-in-Splits-clause-refuses
+returns-in-Splits-clause-refuses g c other none splits describe = absurd (splits (names_alone _ commands.Splits (sym c.in-Ok.ensures ∙ c.in-Some.is ∙ ap Some c.in-Splits.is)))
+
+pub returns-in-Splits-clause-causes : goal.returns-in-Splits-clause-causes
+returns-in-Splits-clause-causes g c = c.report.ensures.causes.causes
+
+pub returns-in-Splits-clause-statuses : goal.returns-in-Splits-clause-statuses
+returns-in-Splits-clause-statuses g c = record {
+  drive = λ drive. let no = named_so _ _ (Some commands.Splits) commands.Drive c.in-Ok.ensures (c.in-Some.is ∙ ap Some c.in-Splits.is) drive in cc;
+  create = λ create. let no = named_so _ _ (Some commands.Splits) commands.Create c.in-Ok.ensures (c.in-Some.is ∙ ap Some c.in-Splits.is) create in cc;
+  report = λ asked asks. c.report.ensures.causes.known;
+  other = λ other none splits describe. absurd (splits (names_alone _ commands.Splits (sym c.in-Ok.ensures ∙ c.in-Some.is ∙ ap Some c.in-Splits.is)));
+}
+
+pub returns-in-Splits-clause-counts : goal.returns-in-Splits-clause-counts
+returns-in-Splits-clause-counts g c = c.report.ensures.store_faults
+
+pub returns-in-Splits-clause-log_sum : goal.returns-in-Splits-clause-log_sum
+returns-in-Splits-clause-log_sum g c = c.report.ensures.log_sum
+
+pub returns-in-Splits-clause-unread : goal.returns-in-Splits-clause-unread
+returns-in-Splits-clause-unread g c other = c.report.ensures.unread
+
+-- ---- the command is `describe`
+
+pub returns-in-Describe-clause-drives : goal.returns-in-Describe-clause-drives
+returns-in-Describe-clause-drives g c history before drive shows enters = let no = named_so _ _ (Some commands.Describe) commands.Drive c.in-Ok.ensures (c.in-Some.is ∙ ap Some c.in-Describe.is) drive in cc
+
+pub returns-in-Describe-clause-creates : goal.returns-in-Describe-clause-creates
+returns-in-Describe-clause-creates g c history before moment create shows enters ticks = let no = named_so _ _ (Some commands.Describe) commands.Create c.in-Ok.ensures (c.in-Some.is ∙ ap Some c.in-Describe.is) create in cc
+
+pub returns-in-Describe-clause-reports : goal.returns-in-Describe-clause-reports
+returns-in-Describe-clause-reports g c asked history before asks shows enters =
+    let same : ◌≡◌ {A = Option Report} (Some kinds.Describe) (Some asked) = asked_so _ _ (Some commands.Describe) asked c.in-Ok.ensures (c.in-Some.is ∙ ap Some c.in-Describe.is) asks in
+    let is : kinds.Describe ≡ asked = cc same in
+    let done = c.report-in-Describe.ensures.reports history before shows enters in
+    (done.0, done.1, subst (λ a. Reports a history before done.0 c.report-in-Describe.result.0.status) is done.2, done.3)
+
+pub returns-in-Describe-clause-only_reads : goal.returns-in-Describe-clause-only_reads
+returns-in-Describe-clause-only_reads g c asked asks = record { kept = c.report-in-Describe.ensures.landed; left_same = refl; read_same = refl }
+
+pub returns-in-Describe-clause-refuses : goal.returns-in-Describe-clause-refuses
+returns-in-Describe-clause-refuses g c other none splits describe = absurd (describe (names_alone _ commands.Describe (sym c.in-Ok.ensures ∙ c.in-Some.is ∙ ap Some c.in-Describe.is)))
+
+pub returns-in-Describe-clause-causes : goal.returns-in-Describe-clause-causes
+returns-in-Describe-clause-causes g c = c.report-in-Describe.ensures.causes.causes
+
+pub returns-in-Describe-clause-statuses : goal.returns-in-Describe-clause-statuses
+returns-in-Describe-clause-statuses g c = record {
+  drive = λ drive. let no = named_so _ _ (Some commands.Describe) commands.Drive c.in-Ok.ensures (c.in-Some.is ∙ ap Some c.in-Describe.is) drive in cc;
+  create = λ create. let no = named_so _ _ (Some commands.Describe) commands.Create c.in-Ok.ensures (c.in-Some.is ∙ ap Some c.in-Describe.is) create in cc;
+  report = λ asked asks. c.report-in-Describe.ensures.causes.known;
+  other = λ other none splits describe. absurd (describe (names_alone _ commands.Describe (sym c.in-Ok.ensures ∙ c.in-Some.is ∙ ap Some c.in-Describe.is)));
+}
+
+pub returns-in-Describe-clause-counts : goal.returns-in-Describe-clause-counts
+returns-in-Describe-clause-counts g c = c.report-in-Describe.ensures.store_faults
+
+pub returns-in-Describe-clause-log_sum : goal.returns-in-Describe-clause-log_sum
+returns-in-Describe-clause-log_sum g c = c.report-in-Describe.ensures.log_sum
+
+pub returns-in-Describe-clause-unread : goal.returns-in-Describe-clause-unread
+returns-in-Describe-clause-unread g c other = c.report-in-Describe.ensures.unread

@@ -17,7 +17,7 @@ add-requires c =
     let whole : inv.done ++ (c.in-Some.placed.now ∷ c.in-Some.behind.now) ≡ c.args.documents.now = ap (λ (xs : List Placed). inv.done ++ xs) (sym c.in-Some.ensures.cases.0) ∙ inv.whole_is in
     let all = all_behind (λ (d : Placed). IsOfSchema c.args.schema.now d.doc) inv.done (c.in-Some.placed.now ∷ c.in-Some.behind.now)
     (subst (λ (xs : List Placed). AllByRecursion (λ (d : Placed). IsOfSchema c.args.schema.now d.doc) xs) (sym whole) c.requires.documents) in
-    (c.args.schema.now, inv.done, inv.holds, all.0)
+    ∣ (c.args.schema.now, inv.done, inv.holds, all.0) ∣₁
 
 pub loop-placed-preserved : goal.loop-placed-preserved
 loop-placed-preserved c =

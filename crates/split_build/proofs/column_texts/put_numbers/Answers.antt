@@ -1,14 +1,16 @@
 use Rattle.std.proofs.Common.{[], List, sym, subst}
+use Rattle.std.proofs.Math.Logic.{∥∥₁_elim}
 use Rattle.fast_fields.specs.Columns.{Fits, IsSpelled, has_texts}
 use Rattle.fast_fields.specs.declared.entries.Entry.{Entry}
 use Rattle.split_build.specs.HeldColumns.{texts_of}
 use Rattle.split_build.proofs.CellLemmas.{fit, put_plain}
+use Rattle.split_build.proofs.Mere.{fits_prop}
 use Rattle.split_build.proofs.column_texts.put_numbers.Goals as goal
 
 pub put_column-requires : goal.put_column-requires
 put_column-requires c =
     subst (λ (es : List Entry). Fits es) (sym c.deref.ensures.value)
-    (fit (texts_of c.args.log.now.texts.keys) c.requires.can.1.document c.requires.can.0 c.args.log.now.entries.items c.requires.can.1.few c.requires.can.1.cells_are)
+    (∥∥₁_elim c.requires.can (fits_prop c.args.log.now.entries.items) (λ r. fit (texts_of c.args.log.now.texts.keys) r.1.document r.0 c.args.log.now.entries.items r.1.few r.1.cells_are))
 
 pub returns : goal.returns
 returns c = λ cs can.

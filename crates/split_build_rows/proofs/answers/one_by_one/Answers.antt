@@ -13,7 +13,7 @@ loop-placed-init c = record {
 pub add-requires : goal.add-requires
 add-requires c =
     let left = subst (λ (ds : List Placed). AllByRecursion (λ (d : Placed). IsOfSchema c.args.config.now.schema d.doc) ds) c.in-Some.ensures.cases.0 c.loop-placed.invariant.left in
-    (c.args.config.now.schema, c.loop-placed.invariant.taken.0, c.loop-placed.invariant.taken.1, left.0)
+    ∣ (c.args.config.now.schema, c.loop-placed.invariant.taken.0, c.loop-placed.invariant.taken.1, left.0) ∣₁
 
 pub loop-placed-preserved : goal.loop-placed-preserved
 loop-placed-preserved c =
@@ -24,4 +24,4 @@ loop-placed-preserved c =
     }
 
 pub finish-requires : goal.finish-requires
-finish-requires c = (c.args.config.now.schema, c.loop-placed.invariant.taken.0, c.loop-placed.invariant.taken.1)
+finish-requires c = ∣ (c.args.config.now.schema, c.loop-placed.invariant.taken.0, c.loop-placed.invariant.taken.1) ∣₁

@@ -9,12 +9,12 @@ pub returns-in-Ok-clause-step : goal.returns-in-Ok-clause-step
 returns-in-Ok-clause-step g c = λ indexer core read held s stands same u.
     publishes g.L.SourceLog.told g.L.SourceLog.fault_count g.G.Gate.Stands g.G.Gate.Between indexer core read c.args.self.now c.publish.new.self s held c.args.uploaded.number
     (Ok c.in-Ok.field-0) (Ok (said.Published c.args.uploaded.number)) same
-    (c.in-Ok.ensures core read stands (subst (IsPublishable read core) (sym same) (held_is_publishable read core held u)))
+    (c.in-Ok.ensures.step core read stands (subst (IsPublishable read core) (sym same) (held_is_publishable read core held u)))
     (published_answers held c.args.uploaded.number indexer c.in-Ok.field-0 same)
 
 pub returns-in-Err-clause-step : goal.returns-in-Err-clause-step
 returns-in-Err-clause-step g c = λ indexer core read held s stands same u.
     publishes g.L.SourceLog.told g.L.SourceLog.fault_count g.G.Gate.Stands g.G.Gate.Between indexer core read c.args.self.now c.publish.new.self s held c.args.uploaded.number
     (Err c.in-Err.error) c.unpublished.result same
-    (c.in-Err.ensures core read stands (subst (IsPublishable read core) (sym same) (held_is_publishable read core held u)))
+    (c.in-Err.ensures.step core read stands (subst (IsPublishable read core) (sym same) (held_is_publishable read core held u)))
     (unpublished_answers held c.args.uploaded.number indexer c.in-Err.error c.unpublished.result same c.unpublished.ensures)

@@ -13,8 +13,8 @@ returns-in-Err-clause-step g c = λ indexer core read made s stands b m k closed
     moment_fails g.L.SourceLog.told g.L.SourceLog.fault_count g.G.Gate.Stands g.G.Gate.Between indexer core read c.args.self.now c.moment.new.self s made closed (m.ahead closed) c.in-Err.error
     c.faulted.result c.faulted.ensures (c.in-Err.ensures.step core read stands)
 
-pub returns-in_err-count-in-Ok-records-clause-step : goal.returns-in_err-count-in-Ok-records-clause-step
-returns-in_err-count-in-Ok-records-clause-step g c = λ indexer core read made s stands b m k closed.
+pub returns-in_err-batch-in-Ok-records-clause-step : goal.returns-in_err-batch-in-Ok-records-clause-step
+returns-in_err-batch-in-Ok-records-clause-step g c = λ indexer core read made s stands b m k closed.
     let nx = next_is made c.in-Some.next (m.ahead closed) (c.in-Some.ensures.next made b (m.room closed)) in
     let a = asked_of g.G.Gate.Stands g.G.Gate.Between c.in-Ok.now core read c.moment.new.self (c.in-Ok.ensures.step core read stands) in
     let t = log_read (g.L.SourceLog.told c.args.self.now.log) (g.L.SourceLog.told c.read-records.new.self) read c.in-Some.next.partition c.in-Some.next.from c.in-Some.next.room c.in-Ok-records.records s.told
@@ -26,19 +26,19 @@ returns-in_err-count-in-Ok-records-clause-step g c = λ indexer core read made s
     made nx.mark nx.rest nx.queue closed c.in-Ok.now a c.args.self.now.place c.from_residual.result (idle_stays read core a.behind c.args.self.now.place s.place)
     (no_answer c.from_residual.result c.from_residual.ensures.0)
 
-pub returns-in_ok-count-in-Ok-records-clause-step : goal.returns-in_ok-count-in-Ok-records-clause-step
-returns-in_ok-count-in-Ok-records-clause-step g c = λ indexer core read made s stands b m k closed.
+pub returns-in_ok-batch-in-Ok-records-clause-step : goal.returns-in_ok-batch-in-Ok-records-clause-step
+returns-in_ok-batch-in-Ok-records-clause-step g c = λ indexer core read made s stands b m k closed.
     let nx = next_is made c.in-Some.next (m.ahead closed) (c.in-Some.ensures.next made b (m.room closed)) in
     let a = asked_of g.G.Gate.Stands g.G.Gate.Between c.in-Ok.now core read c.moment.new.self (c.in-Ok.ensures.step core read stands) in
     let t = log_read (g.L.SourceLog.told c.args.self.now.log) (g.L.SourceLog.told c.read-records.new.self) read c.in-Some.next.partition c.in-Some.next.from c.in-Some.next.room c.in-Ok-records.records s.told
     c.in-Ok-records.ensures.slice in
     let later : indexer.log_faults ≤ c.faults-after.result = (let l = c.in-Ok-records.ensures.cause.later in let n = c.faults-after.ensures.count in let f = s.log_faults in omega (arith, l, n, f)) in
     let within : c.faults-after.result ≤ last_count = (let i = c.faults-after.type_inv in omega (arith, i)) in
-    let taken = c.in_ok-count-in-Ok-records.ensures made nx.mark nx.rest b (reads_on read core made c.in-Some.next nx c.in-Ok-records.records m k closed c.in-Ok-records.ensures.bound) nx.name nx.from in
+    let taken = c.in_ok-batch-in-Ok-records.ensures made nx.mark nx.rest b (reads_on read core made c.in-Some.next nx c.in-Ok-records.records m k closed c.in-Ok-records.ensures.bound) nx.name nx.from in
     reads_some g.L.SourceLog.told g.L.SourceLog.fault_count g.G.Gate.Stands g.G.Gate.Between indexer core read c.args.self.now c.moment.new.self s c.faults-after.result
     (record { log = c.read-records.new.self; assignment = c.args.self.now.assignment; place = c.args.self.now.place }) t.is (sym c.faults-after.ensures.count) refl later within
     made nx.mark nx.rest nx.queue closed c.in-Ok.now a (subst IsToldLog s.told c.faults-before.ensures.sound) m k c.in-Ok-records.records (slice_is read made c.in-Some.next nx c.in-Ok-records.records t.slice)
-    c.in_ok-count-in-Ok-records.count c.take.new.self taken.0 taken.1
+    c.in_ok-batch-in-Ok-records.count c.in_ok-batch-in-Ok-records.batch taken.0 taken.1
 
 pub returns-in-Err-Memory-clause-step : goal.returns-in-Err-Memory-clause-step
 returns-in-Err-Memory-clause-step g c = λ indexer core read made s stands b m k closed.

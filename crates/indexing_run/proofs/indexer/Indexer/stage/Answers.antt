@@ -1,4 +1,4 @@
-use Rattle.std.proofs.Common.{◌∙◌, ap}
+use Rattle.std.proofs.Common.{◌∙◌, ap, refl}
 use Rattle.index_config.specs.declared.config.IndexConfig.{IndexConfig}
 use Rattle.index_world.specs.SplitFile.{file_of, facts_of}
 use Rattle.index_world.proofs.InHand.{number_apart}
@@ -13,23 +13,23 @@ returns-in_err-bytes-clause-step g c = λ indexer core read made s stands b m k 
 
 pub returns-in-Ok-clause-step : goal.returns-in-Ok-clause-step
 returns-in-Ok-clause-step g c = λ indexer core read made s stands b m k closed some.
-    let list = c.args.batch.documents.list in
+    let list = made.documents in
     let mapping = c.args.batch.documents.mapping in
     let split = c.in_ok-bytes.field-0 in
-    let built = c.in_ok-bytes.ensures.facts ∙ ap (λ (x : IndexConfig). facts_of x list 0) b.config in
+    let built = c.in_ok-bytes.ensures.facts list b.documents ∙ ap (λ (x : IndexConfig). facts_of x list 0) b.config in
     stages g.L.SourceLog.told g.L.SourceLog.fault_count g.G.Gate.Stands g.G.Gate.Between indexer core read c.args.self.now c.stage.new.self s made closed (number_apart made.count 0 some)
     c.from_vec-delta.result c.with_rejected-facts.result (c.from_vec-delta.ensures ∙ b.parts)
-    (staged_facts made list split.facts c.with_rejected-facts.result c.args.batch.count c.saturating_sub-rejected.result b.documents b.count
+    (staged_facts made list split.facts c.with_rejected-facts.result c.args.batch.count c.saturating_sub-rejected.result refl b.count
     built c.saturating_sub-rejected.ensures c.with_rejected-facts.ensures.facts m.few (target_ranges core made.config k).1)
-    c.in-Ok.staged split.bytes (c.in_ok-bytes.ensures.bytes ∙ ap (λ (x : IndexConfig). file_of x list) b.config ∙ ap (file_of made.config) b.documents) m
-    (built_splits made.config mapping made.documents list split b.config b.documents c.in_ok-bytes.ensures.built c.in_ok-bytes.ensures.bytes) k (c.in-Ok.ensures core read stands)
+    c.in-Ok.staged split.bytes (c.in_ok-bytes.ensures.bytes list b.documents ∙ ap (λ (x : IndexConfig). file_of x list) b.config) m
+    (built_splits made.config mapping list split b.config (c.in_ok-bytes.ensures.built list b.documents) (c.in_ok-bytes.ensures.bytes list b.documents)) k (c.in-Ok.ensures.step core read stands)
 
 pub returns-clause-step : goal.returns-clause-step
 returns-clause-step g c = λ indexer core read made s stands b m k closed some.
-    let list = c.args.batch.documents.list in
-    let built = c.in_ok-bytes.ensures.facts ∙ ap (λ (x : IndexConfig). facts_of x list 0) b.config in
+    let list = made.documents in
+    let built = c.in_ok-bytes.ensures.facts list b.documents ∙ ap (λ (x : IndexConfig). facts_of x list 0) b.config in
     stage_fails g.L.SourceLog.told g.L.SourceLog.fault_count g.G.Gate.Stands g.G.Gate.Between indexer core read c.args.self.now c.stage.new.self s made closed (number_apart made.count 0 some)
     c.from_vec-delta.result c.with_rejected-facts.result (c.from_vec-delta.ensures ∙ b.parts)
-    (staged_facts made list c.in_ok-bytes.field-0.facts c.with_rejected-facts.result c.args.batch.count c.saturating_sub-rejected.result b.documents b.count
+    (staged_facts made list c.in_ok-bytes.field-0.facts c.with_rejected-facts.result c.args.batch.count c.saturating_sub-rejected.result refl b.count
     built c.saturating_sub-rejected.ensures c.with_rejected-facts.ensures.facts m.few (target_ranges core made.config k).1)
-    c.in-Err.error c.unstaged.result c.unstaged.ensures (c.in-Err.ensures core read stands)
+    c.in-Err.error c.unstaged.result c.unstaged.ensures (c.in-Err.ensures.step core read stands)

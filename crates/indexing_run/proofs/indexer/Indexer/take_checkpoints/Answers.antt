@@ -48,7 +48,7 @@ returns-in_err-config-in-Ok-checkpoints-clause-step g c = λ indexer core read s
     c.faults-after.result read s.assignment c.in-Ok.is s.log_faults (sym c.faults-after.ensures.count) given in
     marks_short g.L.SourceLog.told g.L.SourceLog.fault_count g.G.Gate.Stands g.G.Gate.Between indexer core read c.args.self.now c.checkpoints.new.self s c.faults-after.result
     next (c.names-names.ensures.told read s.told) (sym c.faults-after.ensures.count) c.names-names.ensures.assignment later within c.in-Ok.names here next.place c.in-Ok-checkpoints.marks c.from_residual.result
-    (λ after. idle_stays read core after next.place place) (no_answer c.from_residual.result c.from_residual.ensures.0) (c.in-Ok-checkpoints.ensures core read stands)
+    (λ after. idle_stays read core after next.place place) (no_answer c.from_residual.result c.from_residual.ensures.0) (c.in-Ok-checkpoints.ensures.step core read stands)
 
 pub returns-in_err-begin-in-Ok-checkpoints-clause-step : goal.returns-in_err-begin-in-Ok-checkpoints-clause-step
 returns-in_err-begin-in-Ok-checkpoints-clause-step g c = λ indexer core read s stands.
@@ -62,7 +62,7 @@ returns-in_err-begin-in-Ok-checkpoints-clause-step g c = λ indexer core read s 
     c.faults-after.result read s.assignment c.in-Ok.is s.log_faults (sym c.faults-after.ensures.count) given in
     marks_short g.L.SourceLog.told g.L.SourceLog.fault_count g.G.Gate.Stands g.G.Gate.Between indexer core read c.args.self.now c.checkpoints.new.self s c.faults-after.result
     next (c.names-names.ensures.told read s.told) (sym c.faults-after.ensures.count) c.names-names.ensures.assignment later within c.in-Ok.names here next.place c.in-Ok-checkpoints.marks c.from_residual-in_err-begin-in-Ok-checkpoints.result
-    (λ after. idle_stays read core after next.place place) (no_answer c.from_residual-in_err-begin-in-Ok-checkpoints.result c.from_residual-in_err-begin-in-Ok-checkpoints.ensures.0) (c.in-Ok-checkpoints.ensures core read stands)
+    (λ after. idle_stays read core after next.place place) (no_answer c.from_residual-in_err-begin-in-Ok-checkpoints.result c.from_residual-in_err-begin-in-Ok-checkpoints.ensures.0) (c.in-Ok-checkpoints.ensures.step core read stands)
 
 pub returns-in-Ok-checkpoints-clause-step : goal.returns-in-Ok-checkpoints-clause-step
 returns-in-Ok-checkpoints-clause-step g c = λ indexer core read s stands.
@@ -77,7 +77,7 @@ returns-in-Ok-checkpoints-clause-step g c = λ indexer core read s stands.
     begins g.L.SourceLog.told g.L.SourceLog.fault_count g.G.Gate.Stands g.G.Gate.Between indexer core read c.args.self.now c.checkpoints.new.self s c.faults-after.result
     next (c.names-names.ensures.told read s.told) (sym c.faults-after.ensures.count) c.names-names.ensures.assignment later within c.in-Ok.names here c.in_ok-config-in-Ok-checkpoints.config c.in_ok-begin-in-Ok-checkpoints.field-0 c.in-Ok-checkpoints.marks
     (subst IsToldLog s.told c.faults-before.ensures.sound)
-    (λ after st. subst (λ (x : IndexConfig). IsConfigured x after) (sym c.in_ok-config-in-Ok-checkpoints.ensures) (c.config.ensures.step after read st)) c.in_ok-begin-in-Ok-checkpoints.ensures (c.in-Ok-checkpoints.ensures core read stands)
+    (λ after st. subst (λ (x : IndexConfig). IsConfigured x after) (sym c.in_ok-config-in-Ok-checkpoints.ensures) (c.config.ensures.step after read st)) c.in_ok-begin-in-Ok-checkpoints.ensures (c.in-Ok-checkpoints.ensures.step core read stands)
 
 pub returns-clause-step : goal.returns-clause-step
 returns-clause-step g c = λ indexer core read s stands.
@@ -91,7 +91,7 @@ returns-clause-step g c = λ indexer core read s stands.
     c.faults-after.result read s.assignment c.in-Ok.is s.log_faults (sym c.faults-after.ensures.count) given in
     marks_fail g.L.SourceLog.told g.L.SourceLog.fault_count g.G.Gate.Stands g.G.Gate.Between indexer core read c.args.self.now c.checkpoints.new.self s c.faults-after.result
     next (c.names-names.ensures.told read s.told) (sym c.faults-after.ensures.count) c.names-names.ensures.assignment later within c.in-Ok.names here next.place c.in-Err.error c.faulted.result
-    (λ after. idle_stays read core after next.place place) c.faulted.ensures (c.in-Err.ensures core read stands)
+    (λ after. idle_stays read core after next.place place) c.faulted.ensures (c.in-Err.ensures.step core read stands)
 
 pub begin-requires : goal.begin-requires
 begin-requires g c = subst (λ (x : IndexConfig). ∥ IsSchema x.schema ∥₁) (sym c.in_ok-config-in-Ok-checkpoints.ensures) c.config.ensures.schema

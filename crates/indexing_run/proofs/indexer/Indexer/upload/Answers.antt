@@ -5,12 +5,12 @@ use Rattle.indexing_run.proofs.indexer.Indexer.upload.Goals as goal
 
 pub returns-in-Ok-clause-step : goal.returns-in-Ok-clause-step
 returns-in-Ok-clause-step g c = λ indexer core read held s stands same file h.
-    let e = c.in-Ok.ensures core read stands (subst (IsUnusedIn core) (sym same) h.unused) in
+    let e = c.in-Ok.ensures.step core read stands (subst (IsUnusedIn core) (sym same) h.unused) in
     uploads g.L.SourceLog.told g.L.SourceLog.fault_count g.G.Gate.Stands g.G.Gate.Between indexer core read c.args.self.now c.upload.new.self s held c.args.staged.number c.as_slice.result.now same
     (c.as_slice.ensures ∙ file) c.in-Ok.uploaded h e
 
 pub returns-in-Err-clause-step : goal.returns-in-Err-clause-step
 returns-in-Err-clause-step g c = λ indexer core read held s stands same file h.
-    let e = c.in-Err.ensures core read stands (subst (IsUnusedIn core) (sym same) h.unused) in
+    let e = c.in-Err.ensures.step core read stands (subst (IsUnusedIn core) (sym same) h.unused) in
     upload_fails g.L.SourceLog.told g.L.SourceLog.fault_count g.G.Gate.Stands g.G.Gate.Between indexer core read c.args.self.now c.upload.new.self s held c.args.staged.number c.as_slice.result.now same
     (c.as_slice.ensures ∙ file) c.in-Err.error c.faulted.result c.faulted.ensures e

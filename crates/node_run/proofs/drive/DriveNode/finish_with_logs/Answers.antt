@@ -1,4 +1,5 @@
-use Rattle.std.proofs.Common.{◌∙◌, refl, sym}
+use Rattle.std.proofs.Common.{◌∙◌, refl, subst, sym}
+use Rattle.index_world.specs.World.{Keeping, WorldStands}
 use Rattle.indexing_run.specs.Standing.{IndexerStands}
 use Rattle.node_run.proofs.Parts.{map_twice}
 use Rattle.node_run.proofs.Zips.{zip_same}
@@ -6,11 +7,12 @@ use Rattle.node_run.proofs.drive.DriveNode.finish_with_logs.Goals as goal
 
 pub returns-clause-store : goal.returns-clause-store
 returns-clause-store g c = λ firsts node p.
+    let stands = subst (λ (w : Keeping). WorldStands w node.core node.log) (sym c.into_world.ensures) p.world_stands in
     record {
-      kept = p.world_stands.kept;
-      tells = c.unload.ensures.told ∙ p.world_stands.told;
-      world = p.world_stands.world;
-      faults = c.unload.ensures.faults ∙ p.world_stands.store_faults;
+      kept = stands.kept;
+      tells = c.unload.ensures.told ∙ stands.told;
+      world = stands.world;
+      faults = c.unload.ensures.faults ∙ stands.store_faults;
     }
 
 pub returns-clause-logs : goal.returns-clause-logs

@@ -1,53 +1,96 @@
-use Rattle.std.proofs.Common.{◌+◌, refl, subst, Ok, Err, true, false, map, drop, arith}
-use Rattle.index_world.specs.Gate.{IsPieceGiven}
-use Rattle.index_world.specs.SplitFile.{file_of}
+use Rattle.std.proofs.Common.{◌≡◌, ◌+◌, ℕ, length, nat_eq, refl, sym, ap, subst, ◌∙◌, Ok, None, false, map, drop, arith}
+use Rattle.std.specs.Map.{lookup}
+use Rattle.index_world.specs.Core.{IsUploadedIn}
 use Rattle.meta_store.specs.declared.planning.PlanRow.{PlanRow}
-use Rattle.root_search.specs.Searching.{Ends, documents_at}
-use Rattle.root_search.specs.Steps.{config_at, fetch_by, trouble_replied}
-use Rattle.root_search.proofs.PlannedRows.{next_row, planned_few, whole_piece, one_more}
-use Rattle.root_search.proofs.Steps.{says_ok, says_err, fetched_as, ends_without}
+use Rattle.split_bundle.specs.Files.{file_bytes}
+use Rattle.root_search.specs.Fetching.{IsPartFetched, part_calls}
+use Rattle.root_search.specs.Footers.{entries}
+use Rattle.root_search.specs.Searching.{FaultEnds, documents_at}
+use Rattle.root_search.specs.Steps.{config_at}
+use Rattle.root_search.specs.declared.outcome.SearchStep.TheVariants.{Fetched}
+use Rattle.root_search.proofs.Bounds.{no_answer, no_draw, step_draws}
+use Rattle.root_search.proofs.Kept.{fewer_kept, known_footer, more_kept, same_bytes}
+use Rattle.root_search.proofs.PlannedRows.{file_of_next, next_row, planned_few, one_more}
+use Rattle.root_search.proofs.Stands.{configured_then, footers_go_on, work_goes_on}
+use Rattle.root_search.proofs.Steps.{fault_as, fetched_as, short_as}
 use Rattle.root_search.proofs.searcher.Searcher.fetch.Goals as goal
 
-pub returns-in_err-push-in-Ok : goal.returns-in_err-push-in-Ok
-returns-in_err-push-in-Ok g c plan client core log good asked planned stands w =
-    let row = c.at-row.result.now in
-    let next = next_row c.args.planned plan core log row planned c.at-row.ensures in
-    let d = c.in-Ok.ensures core log row (file_of (config_at plan.revision core) (documents_at plan.revision core log next.row)) stands c.at-row.ensures next.uploaded in
-    fetched_as g.G.Gate.Stands g.G.Gate.Between _ _ _ client core log plan row.number
-    (map (λ (r : PlanRow). r.number) (drop (c.args.planned.next + 1) c.args.planned.plan.rows)) true d.mid d.fate d.answer d.answer d.after d.passed d.did d.goes_on d.stands asked next.left refl
-    (ends_without c.from_residual.result c.args.self.now client
-    (fetch_by d.answer plan row.number (map (λ (r : PlanRow). r.number) (drop (c.args.planned.next + 1) c.args.planned.plan.rows)) client d.after) log c.from_residual.ensures.0 w)
+pub returns-in_err-push-in-Ok-clause-step : goal.returns-in_err-push-in-Ok-clause-step
+returns-in_err-push-in-Ok-clause-step g c plan client core log good asked planned stands w =
+    let row = c.at.result.now in
+    let next = next_row c.args.planned plan core log row planned c.at.ensures in
+    let left = map (λ (r : PlanRow). r.number) (drop (c.args.planned.next + 1) c.args.planned.plan.rows) in
+    let configured = configured_then core log plan.revision (g.met.G.Gate.is_sound c.args.gate.now core log stands) planned.in_hand in
+    let docs = documents_at plan.revision core log next.row in
+    let p = next.split.stands.parts in
+    let there = file_of_next c.args.planned plan core log row p next c.at.ensures next.split.stands.bytes_are in
+    let known = known_footer c.args.self.now.footers core row.number (file_bytes p) c.take-known.result w.footers there.0 c.take-known.ensures.found in
+    let f = c.in-Ok.ensures (config_at plan.revision core) docs p core log stands configured there.1 next.split.stands.is_split planned.asked known in
+    let kept = more_kept c.take-known.new.self c.keep.new.self f.after row.number c.in-Ok.part.footer c.keep.ensures (record { bytes = file_bytes p; uploaded = f.goes_on.keeps.uploaded row.number (file_bytes p) there.0; footer_is = f.says.1.footer })
+    (footers_go_on None c.take-known.new.self core f.after f.goes_on (fewer_kept c.args.self.now.footers c.take-known.new.self core row.number c.take-known.ensures.left w.footers)) in
+    short_as g.G.Gate.Stands g.G.Gate.Between _ _ _ client core log plan row.number left f.passages f.answer f.after (g.met.G.Gate.none_between core) f.passed f.did f.goes_on f.stands asked next.left c.from_residual.ensures.0
+    (record { vacant = w.vacant; name = w.name; front = w.front; footers = kept })
 
-pub returns-in_ok-push-in-Ok : goal.returns-in_ok-push-in-Ok
-returns-in_ok-push-in-Ok g c plan client core log good asked planned stands w =
-    let row = c.at-row.result.now in
-    let next = next_row c.args.planned plan core log row planned c.at-row.ensures in
-    let file = file_of (config_at plan.revision core) (documents_at plan.revision core log next.row) in
-    let d = c.in-Ok.ensures core log row file stands c.at-row.ensures next.uploaded in
-    let s = says_ok (IsPieceGiven file 0 row.size) c.in-Ok.piece d.answer d.after d.says in
+pub returns-in_err-push-in-Ok-clause-draws : goal.returns-in_err-push-in-Ok-clause-draws
+returns-in_err-push-in-Ok-clause-draws g c plan client core log planned stands w number documents p fetched uploaded is =
+    absurd (no_answer c.from_residual.result (Fetched number) c.from_residual.ensures.0 fetched)
+
+pub returns-in_ok-push-in-Ok-clause-step : goal.returns-in_ok-push-in-Ok-clause-step
+returns-in_ok-push-in-Ok-clause-step g c plan client core log good asked planned stands w =
+    let row = c.at.result.now in
+    let next = next_row c.args.planned plan core log row planned c.at.ensures in
+    let left = map (λ (r : PlanRow). r.number) (drop (c.args.planned.next + 1) c.args.planned.plan.rows) in
+    let configured = configured_then core log plan.revision (g.met.G.Gate.is_sound c.args.gate.now core log stands) planned.in_hand in
+    let docs = documents_at plan.revision core log next.row in
+    let p = next.split.stands.parts in
+    let there = file_of_next c.args.planned plan core log row p next c.at.ensures next.split.stands.bytes_are in
+    let known = known_footer c.args.self.now.footers core row.number (file_bytes p) c.take-known.result w.footers there.0 c.take-known.ensures.found in
+    let f = c.in-Ok.ensures (config_at plan.revision core) docs p core log stands configured there.1 next.split.stands.is_split planned.asked known in
+    let kept = more_kept c.take-known.new.self c.keep.new.self f.after row.number c.in-Ok.part.footer c.keep.ensures (record { bytes = file_bytes p; uploaded = f.goes_on.keeps.uploaded row.number (file_bytes p) there.0; footer_is = f.says.1.footer })
+    (footers_go_on None c.take-known.new.self core f.after f.goes_on (fewer_kept c.args.self.now.footers c.take-known.new.self core row.number c.take-known.ensures.left w.footers)) in
     let many = planned_few c.args.planned plan core log planned in
-    fetched_as g.G.Gate.Stands g.G.Gate.Between _ _ _ client core log plan row.number
-    (map (λ (r : PlanRow). r.number) (drop (c.args.planned.next + 1) c.args.planned.plan.rows)) false d.mid d.fate d.answer (Ok tt) d.after d.passed d.did d.goes_on d.stands asked next.left s.0
+    let calls : length f.passages ≡ part_calls c.take-known.result c.in-Ok.part = f.says.1.calls_are in
+    fetched_as g.G.Gate.Stands g.G.Gate.Between _ _ _ client core log plan row.number left false f.passages f.answer (Ok tt) f.after (omega (arith, calls)) f.passed f.did f.goes_on f.stands asked next.left f.says.0
     (record {
       says = refl;
       stands = record {
         name = w.name;
         front = w.front;
+        footers = kept;
         request = (
-          record plan { unfetched = map (λ (r : PlanRow). r.number) (drop (c.args.planned.next + 1) c.args.planned.plan.rows) },
+          record plan { unfetched = left },
           refl,
-          one_more c.args.planned _ plan core d.after log row.number row.size _ planned next d.goes_on refl refl (omega (arith, c.saturating_add.ensures, c.requires, many)) c.in_ok-push-in-Ok.ensures.ok (whole_piece file row.size c.in-Ok.piece s.1 next.long),
+          one_more c.args.planned _ plan core f.after log row.number row.size c.in-Ok.part planned next f.goes_on refl refl (omega (arith, c.saturating_add.ensures, c.requires, many)) c.in_ok-push-in-Ok.ensures.ok f.says.1.needed,
         );
       };
     })
 
-pub returns-in-Err : goal.returns-in-Err
-returns-in-Err g c plan client core log good asked planned stands w =
-    let row = c.at-row.result.now in
-    let next = next_row c.args.planned plan core log row planned c.at-row.ensures in
-    let file = file_of (config_at plan.revision core) (documents_at plan.revision core log next.row) in
-    let d = c.in-Err.ensures core log row file stands c.at-row.ensures next.uploaded in
-    let s = says_err (IsPieceGiven file 0 row.size) c.in-Err.error d.answer d.after d.says in
-    fetched_as g.G.Gate.Stands g.G.Gate.Between _ _ _ client core log plan row.number
-    (map (λ (r : PlanRow). r.number) (drop (c.args.planned.next + 1) c.args.planned.plan.rows)) false d.mid d.fate d.answer (Err s.0) d.after d.passed d.did d.goes_on d.stands asked next.left s.1
-    (subst (λ r. Ends c.refuse.result c.refuse.new.self (trouble_replied r s.0 client d.after) log) planned.revision (c.refuse.ensures s.0 client d.after log s.2 w))
+pub returns-in_ok-push-in-Ok-clause-draws : goal.returns-in_ok-push-in-Ok-clause-draws
+returns-in_ok-push-in-Ok-clause-draws g c plan client core log planned stands w number documents p fetched uploaded is =
+    let row = c.at.result.now in
+    let next = next_row c.args.planned plan core log row planned c.at.ensures in
+    let configured = configured_then core log plan.revision (g.met.G.Gate.is_sound c.args.gate.now core log stands) planned.in_hand in
+    let same : row.number ≡ number = cc in
+    let there = file_of_next c.args.planned plan core log row p next c.at.ensures (same_bytes core row.number _ (file_bytes p) next.uploaded (subst (λ (n : ℕ). IsUploadedIn core n (file_bytes p)) (sym same) uploaded)) in
+    let known = known_footer c.args.self.now.footers core row.number (file_bytes p) c.take-known.result w.footers there.0 c.take-known.ensures.found in
+    let f = c.in-Ok.ensures (config_at plan.revision core) documents p core log stands configured there.1 is planned.asked known in
+    step_draws c.args.self.now (config_at plan.revision core).schema plan.search c.args.planned.ask c.take-known.result number documents p c.in-Ok.part.footer f.drawn _ _ is (f.says.1.footer (config_at plan.revision core).schema documents p is refl) planned.asks planned.asked f.says.1.draws f.count
+    (c.take-known.ensures.found ∙ ap (λ (n : ℕ). lookup (nat_eq n) (entries c.args.self.now.footers)) same)
+
+pub returns-in-Err-clause-step : goal.returns-in-Err-clause-step
+returns-in-Err-clause-step g c plan client core log good asked planned stands w =
+    let row = c.at.result.now in
+    let next = next_row c.args.planned plan core log row planned c.at.ensures in
+    let left = map (λ (r : PlanRow). r.number) (drop (c.args.planned.next + 1) c.args.planned.plan.rows) in
+    let configured = configured_then core log plan.revision (g.met.G.Gate.is_sound c.args.gate.now core log stands) planned.in_hand in
+    let docs = documents_at plan.revision core log next.row in
+    let p = next.split.stands.parts in
+    let there = file_of_next c.args.planned plan core log row p next c.at.ensures next.split.stands.bytes_are in
+    let known = known_footer c.args.self.now.footers core row.number (file_bytes p) c.take-known.result w.footers there.0 c.take-known.ensures.found in
+    let f = c.in-Err.ensures (config_at plan.revision core) docs p core log stands configured there.1 next.split.stands.is_split planned.asked known in
+    let ends = c.refuse_fetch.ensures.step client f.after log (work_goes_on _ client core f.after f.goes_on (record { vacant = w.vacant; name = w.name; front = w.front; footers = fewer_kept c.args.self.now.footers c.take-known.new.self core row.number c.take-known.ensures.left w.footers })) in
+    fault_as g.G.Gate.Stands g.G.Gate.Between _ _ _ client core log g.G.Gate.bytes_fetched (IsPartFetched (config_at plan.revision core).schema c.args.planned.ask.request c.take-known.result docs p (part_calls c.take-known.result)) c.args.gate.now c.in-Err.fault plan row.number left
+    (g.met.G.Gate.none_between core) f (subst (λ (r : ℕ). FaultEnds c.in-Err.fault c.refuse_fetch.result c.refuse_fetch.new.self r client f.after log) planned.revision ends) asked next.left
+
+pub returns-in-Err-clause-draws : goal.returns-in-Err-clause-draws
+returns-in-Err-clause-draws g c plan client core log planned stands w number documents p fetched uploaded is = absurd (no_draw c.refuse_fetch.result number c.refuse_fetch.ensures.replied fetched)

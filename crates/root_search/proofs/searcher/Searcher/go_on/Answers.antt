@@ -1,46 +1,54 @@
-use Rattle.std.proofs.Common.{◌≡◌, ◌≤◌, ap, sym, subst, Ok, true, false, map, length, List, arith, ◌∙◌}
+use Rattle.std.proofs.Common.{◌≡◌, ◌≤◌, ap, sym, subst, Ok, true, false, map, length, arith, ◌∙◌}
 use Rattle.std.specs.List.{AllZip}
 use Rattle.index_config.specs.declared.config.IndexConfig.{IndexConfig}
 use Rattle.leaf_search.specs.Answers.{IsAsked}
 use Rattle.index_world.specs.Seen.{visible_at}
 use Rattle.root_search.specs.Answer.{answer}
 use Rattle.root_search.specs.Searching.{Ends, rows_at, documents_at}
-use Rattle.root_search.specs.SplitFiles.{AreFound, IsFileOf}
-use Rattle.root_search.specs.Steps.{answer_of, config_at, reply_with}
-use Rattle.root_search.specs.declared.split_files.SplitFile.{SplitFile}
+use Rattle.root_search.specs.PartAnswers.{AreFound}
+use Rattle.root_search.specs.SplitParts.{HasNeeded}
+use Rattle.root_search.specs.Steps.{answer_of, reply_with}
+use Rattle.root_search.specs.declared.outcome.SearchStep.TheVariants.{Fetched}
+use Rattle.root_search.proofs.Bounds.{no_answer, no_draw}
 use Rattle.root_search.proofs.Found.{are_found, found_few}
-use Rattle.root_search.proofs.PlannedRows.{all_fetched, all_files}
+use Rattle.root_search.proofs.PlannedRows.{all_fetched, all_parts}
 use Rattle.root_search.proofs.Schemas.{few_fields, intervals_there}
 use Rattle.root_search.proofs.Stands.{config_then}
 use Rattle.root_search.proofs.Steps.{answered_as, ends_without}
 use Rattle.root_search.proofs.searcher.Searcher.go_on.Goals as goal
 
 pub answer_over-requires-clause-fields : goal.answer_over-requires-clause-fields
-answer_over-requires-clause-fields g c = few_fields c.config.result.now.schema c.config.ensures.schema
+answer_over-requires-clause-fields g c = λ lifetimes there. few_fields c.config.result.now.schema c.config.ensures.schema
 
 pub answer_over-requires-clause-intervals : goal.answer_over-requires-clause-intervals
-answer_over-requires-clause-intervals g c = intervals_there c.args.planned.ask.request.aggs c.args.planned.intervals
+answer_over-requires-clause-intervals g c = λ lifetimes there. intervals_there c.args.planned.ask.request.aggs c.args.planned.intervals
 
-pub returns-in_err-said : goal.returns-in_err-said
-returns-in_err-said g c plan client core log good asked planned stands w =
+pub returns-in_err-said-clause-step : goal.returns-in_err-said-clause-step
+returns-in_err-said-clause-step g c plan client core log good asked planned stands w =
     let over : length c.args.planned.plan.rows ≤ c.args.planned.next = omega (arith, c.len.ensures, c.if-planned-len.false) in
     answered_as g.G.Gate.Stands g.G.Gate.Between _ _ _ client core log plan true (g.met.G.Gate.none_between core) stands asked (all_fetched c.args.planned plan core log planned over)
     (ends_without c.from_residual.result c.args.self.now client (reply_with plan.revision (answer_of plan log core) client core) log c.from_residual.ensures.0 w)
 
-pub returns : goal.returns
-returns g c plan client core log good asked planned stands w =
+pub returns-clause-step : goal.returns-clause-step
+returns-clause-step g c plan client core log good asked planned stands w =
     let over : length c.args.planned.plan.rows ≤ c.args.planned.next = omega (arith, c.len.ensures, c.if-planned-len.false) in
     let lists = map (documents_at plan.revision core log) (rows_at plan.revision plan.search core) in
     let config = config_then core log c.config.result.now plan.revision (g.met.G.Gate.is_sound c.args.gate.now core log stands) (c.config.ensures.step core log stands) planned.in_hand in
-    let files = all_files c.args.planned plan core log planned over in
+    let parts = all_parts c.args.planned plan core log planned over in
     let found = are_found plan.revision plan.search c.args.planned.ask core log good planned.asks planned.in_hand in
     let said : c.in_ok-said.said ≡ answer c.config.result.now.schema plan.search (visible_at plan.revision core.history log) =
     c.in_ok-said.ensures plan.search lists (visible_at plan.revision core.history log) planned.asks
     (subst (λ (x : IndexConfig). IsAsked x.schema c.args.planned.ask.request) config planned.asked)
-    (subst (λ (x : IndexConfig). AllZip (IsFileOf x.schema) c.as_slice-files.result.now lists) config (subst (λ (fs : List SplitFile). AllZip (IsFileOf (config_at plan.revision core).schema) fs lists) (sym c.as_slice-files.ensures) files))
+    (subst (λ (x : IndexConfig). AllZip (HasNeeded x.schema c.args.planned.ask.request) c.args.planned.parts lists) config parts)
     (found_few plan.revision plan.search core log planned.in_hand)
     (subst (λ (x : IndexConfig). AreFound x.schema c.args.planned.ask.request lists (visible_at plan.revision core.history log)) config found) in
     let same : c.in_ok-said.said ≡ answer_of plan log core = said ∙ ap (λ (x : IndexConfig). answer x.schema plan.search (visible_at plan.revision core.history log)) (sym config) in
     answered_as g.G.Gate.Stands g.G.Gate.Between _ _ _ client core log plan false (g.met.G.Gate.none_between core) stands asked (all_fetched c.args.planned plan core log planned over)
     (subst (λ r. Ends (Ok c.reply.result) c.reply.new.self (reply_with r (answer_of plan log core) client core) log) planned.revision
-    (subst (λ x. Ends (Ok c.reply.result) c.reply.new.self (reply_with c.args.planned.plan.revision x client core) log) same (c.reply.ensures client core log w)))
+    (subst (λ x. Ends (Ok c.reply.result) c.reply.new.self (reply_with c.args.planned.plan.revision x client core) log) same (c.reply.ensures.step client core log w)))
+
+pub returns-in_err-said-clause-draws : goal.returns-in_err-said-clause-draws
+returns-in_err-said-clause-draws g c plan client core log planned stands w number documents p fetched uploaded is = absurd (no_answer c.from_residual.result (Fetched number) c.from_residual.ensures.0 fetched)
+
+pub returns-clause-draws : goal.returns-clause-draws
+returns-clause-draws g c plan client core log planned stands w number documents p fetched uploaded is = absurd (no_draw (Ok c.reply.result) number c.reply.ensures.replied fetched)

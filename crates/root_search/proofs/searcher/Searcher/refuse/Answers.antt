@@ -5,13 +5,13 @@ use Rattle.root_search.specs.Steps.{reply_with, trouble_replied}
 use Rattle.root_search.proofs.Steps.{ends_short}
 use Rattle.root_search.proofs.searcher.Searcher.refuse.Goals as goal
 
-pub returns-in_err-refusal : goal.returns-in_err-refusal
-returns-in_err-refusal c trouble client core log is w =
+pub returns-in_err-refusal-clause-step : goal.returns-in_err-refusal-clause-step
+returns-in_err-refusal-clause-step c trouble client core log is w =
     subst (λ t. Ends c.from_residual.result c.args.self.now (trouble_replied c.args.revision t client core) log) (sym (c.in_err-refusal.ensures trouble is))
     (ends_short c.from_residual.result c.args.self.now client core log c.from_residual.ensures.0 w)
 
-pub returns : goal.returns
-returns c trouble client core log is w =
+pub returns-clause-step : goal.returns-clause-step
+returns-clause-step c trouble client core log is w =
     let r = c.in_ok-refusal.ensures trouble is in
     subst (λ t. Ends (Ok c.reply.result) c.reply.new.self (trouble_replied c.args.revision t client core) log) (sym r.1)
-    (subst (λ x. Ends (Ok c.reply.result) c.reply.new.self (reply_with c.args.revision (Refused x) client core) log) r.2 (c.reply.ensures client core log w))
+    (subst (λ x. Ends (Ok c.reply.result) c.reply.new.self (reply_with c.args.revision (Refused x) client core) log) r.2 (c.reply.ensures.step client core log w))

@@ -14,4 +14,4 @@ pub returns : goal.returns
 returns c trouble client core log is w =
     let r = c.in_ok-_fault.ensures trouble is in
     subst (λ t. Ends (Ok c.reply.result) c.reply.new.self (refused_over client.front c.args.refusal t client core) log) (sym r.1)
-    (subst (λ n. Ends (Ok c.reply.result) c.reply.new.self (reply_with n (Refused c.args.refusal) client core) log) w.front (c.reply.ensures client core log w))
+    (subst (λ n. Ends (Ok c.reply.result) c.reply.new.self (reply_with n (Refused c.args.refusal) client core) log) w.front (c.reply.ensures.step client core log w))

@@ -1,16 +1,44 @@
 use Rattle.std.proofs.Common.{◌≡◌, refl, subst, sym, ◌∙◌}
-use Rattle.root_search.specs.declared.searcher.Request.TheVariants.{Vacant}
-use Rattle.root_search.specs.Searching.{IsRequest}
-use Rattle.root_search.specs.Steps.{no_request}
-use Rattle.root_search.proofs.Steps.{idle_as}
+use Rattle.root_search.specs.declared.searcher.Request.TheVariants.{Opened, Planned, Vacant}
+use Rattle.root_search.specs.Searching.{IsPlanned, IsRequest}
+use Rattle.root_search.specs.Steps.{no_request, opened}
+use Rattle.root_search.proofs.Steps.{idle_as, planned_is}
 use Rattle.root_search.proofs.searcher.Searcher.step.Goals as goal
 
-pub returns-in-Vacant : goal.returns-in-Vacant
-returns-in-Vacant g c client core log good stands s =
+pub returns-in-Vacant-clause-step : goal.returns-in-Vacant-clause-step
+returns-in-Vacant-clause-step g c client core log good stands s =
     let was : c.args.self.now.request ≡ Vacant = sym c.replace.ensures.value ∙ c.in-Vacant.is in
     let none : client.request ≡ no_request = subst (λ r. IsRequest r client.request core log) was s.request in
     idle_as g.G.Gate.Stands g.G.Gate.Between _ _ _ client core log (g.met.G.Gate.none_between core) stands none
     (record {
       says = refl;
-      stands = record { name = s.name; front = s.front; request = subst (λ r. IsRequest r client.request core log) (sym c.replace.ensures.after) none };
+      stands = record { name = s.name; front = s.front; footers = s.footers; request = subst (λ r. IsRequest r client.request core log) (sym c.replace.ensures.after) none };
     })
+
+pub returns-in-Vacant-clause-draws : goal.returns-in-Vacant-clause-draws
+returns-in-Vacant-clause-draws g c plan client core log asked stands s number documents p fetched uploaded is = absurd (cc)
+
+pub returns-in-Opened-clause-step : goal.returns-in-Opened-clause-step
+returns-in-Opened-clause-step g c client core log good stands s =
+    let was : c.args.self.now.request ≡ Opened c.in-Opened.text = sym c.replace.ensures.value ∙ c.in-Opened.is in
+    let asked : client.request ≡ opened c.in-Opened.text = subst (λ r. IsRequest r client.request core log) was s.request in
+    c.plan.ensures client core log asked stands (record { vacant = c.replace.ensures.after; name = s.name; front = s.front; footers = s.footers })
+
+pub returns-in-Opened-clause-draws : goal.returns-in-Opened-clause-draws
+returns-in-Opened-clause-draws g c plan client core log asked stands s =
+    let was : c.args.self.now.request ≡ Opened c.in-Opened.text = sym c.replace.ensures.value ∙ c.in-Opened.is in
+    let other : client.request ≡ opened c.in-Opened.text = subst (λ r. IsRequest r client.request core log) was s.request in
+    absurd (cc)
+
+pub returns-in-Planned-clause-step : goal.returns-in-Planned-clause-step
+returns-in-Planned-clause-step g c client core log good stands s =
+    let was : c.args.self.now.request ≡ Planned c.in-Planned.planned = sym c.replace.ensures.value ∙ c.in-Planned.is in
+    let held = subst (λ r. IsRequest r client.request core log) was s.request in
+    c.go_on.ensures.step held.0 client core log good held.1 held.2 stands (record { vacant = c.replace.ensures.after; name = s.name; front = s.front; footers = s.footers })
+
+pub returns-in-Planned-clause-draws : goal.returns-in-Planned-clause-draws
+returns-in-Planned-clause-draws g c plan client core log asked stands s =
+    let was : c.args.self.now.request ≡ Planned c.in-Planned.planned = sym c.replace.ensures.value ∙ c.in-Planned.is in
+    let held = subst (λ r. IsRequest r client.request core log) was s.request in
+    let same = planned_is client.request held.0 plan held.1 asked in
+    c.go_on.ensures.draws plan client core log (subst (λ q. IsPlanned c.in-Planned.planned q core log) same held.2) stands (record { vacant = c.replace.ensures.after; name = s.name; front = s.front; footers = s.footers })

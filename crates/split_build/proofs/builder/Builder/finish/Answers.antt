@@ -1,10 +1,11 @@
 use Rattle.std.proofs.Common.{◌∙◌, List, ℕ, ap, refl, arith}
+use Rattle.std.proofs.Math.Logic.{∥∥₁_map}
 use Rattle.sha2.specs.Sha256.{sha256}
 use Rattle.split_build.proofs.BuilderLemmas.{are_logs, built}
 use Rattle.split_build.proofs.builder.Builder.finish.Goals as goal
 
 pub write_parts-requires : goal.write_parts-requires
-write_parts-requires c = (c.requires.1, are_logs c.args.self c.requires.0 c.requires.1 c.requires.2)
+write_parts-requires c = ∥∥₁_map c.requires (λ r. (r.1, are_logs c.args.self r.0 r.1 r.2))
 
 pub returns : goal.returns
 returns c = λ s ds h.

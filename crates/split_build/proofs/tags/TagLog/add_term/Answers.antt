@@ -1,13 +1,9 @@
-use Rattle.std.proofs.Common.{◌≡◌, ◌∙◌, ◌++◌, ◌∷◌, [], List, ℕ, ap, sym, subst, arith}
+use Rattle.std.proofs.Common.{◌≡◌, ◌∙◌, ◌++◌, ◌∷◌, [], List, ℕ, ap, sym, subst}
 use Rattle.std.specs.List.{insert}
 use Rattle.split_build.specs.HeldDocuments.{with_name}
 use Rattle.split_build.specs.HeldTags.{HasTerms}
-use Rattle.split_build.proofs.TagLemmas.{term_more, term_past}
+use Rattle.split_build.proofs.TagLemmas.{term_more}
 use Rattle.split_build.proofs.tags.TagLog.add_term.Goals as goal
-
-pub returns-then-len-gt-MAX_TAGS-clause-terms : goal.returns-then-len-gt-MAX_TAGS-clause-terms
-returns-then-len-gt-MAX_TAGS-clause-terms c = λ terms h.
-    term_past c.args.self.now.terms.items terms c.args.term.now (omega (arith, c.len.ensures, c.args.self.now.terms.ok.0, c.if-len-gt-MAX_TAGS.true)) h
 
 pub returns-in_ok-insert-clause-terms : goal.returns-in_ok-insert-clause-terms
 returns-in_ok-insert-clause-terms c = λ terms h.

@@ -1,4 +1,6 @@
 use Rattle.std.proofs.Common.{◌≡◌, ◌∙◌, ◌-◌, Bool, List, ap, sym, subst, length, arith}
+use Rattle.std.proofs.Props.{props}
+use Rattle.std.proofs.Math.Logic.{∥∥₁_elim}
 use Rattle.std.proofs.lemmas.List.{length-map}
 use Rattle.term_postings.specs.declared.list.Posting.{Posting}
 use Rattle.term_postings.specs.declared.list.Row.{Row}
@@ -6,28 +8,29 @@ use Rattle.term_postings.specs.Postings.{AreRising as NumbersRise, documents}
 use Rattle.term_postings.specs.Rows.{lent, lent_one}
 use Rattle.term_dict.specs.declared.term.TermInfo.{TermInfo}
 use Rattle.split_bundle.specs.Lists.{keeps_places, posting_list, terms_of}
-use Rattle.split_build.proofs.TermLemmas.{rows_posted, list_rises, list_posts, list_few, CanPost}
+use Rattle.split_build.proofs.TermLemmas.{rows_posted, list_rises, list_posts, list_few, list_sizes, CanPost}
 use Rattle.split_build.proofs.WrittenLemmas.{IsInfo, listed, term_is, terms_go_on, written_more}
+use Rattle.split_build.proofs.Mere.{nat_set, post_prop, rising_prop}
 use Rattle.split_build.proofs.term_parts.TermWriter.write.Goals as goal
 
 pub append_postings-requires-clause-documents : goal.append_postings-requires-clause-documents
-append_postings-requires-clause-documents c =
-    let posted = ap (λ (l : List Row). lent l) c.deref.ensures.value ∙ rows_posted c.args.schema.now c.requires.0 c.args.key.now c.args.documents.now c.args.places.now c.keeps_places-kept.result (lent c.in_ok-rows.rows.items) c.requires.1 c.keeps_places-kept.ensures c.in_ok-rows.ensures in
-    subst (λ (ps : List Posting). NumbersRise (documents ps)) (sym posted) (list_rises c.args.schema.now c.requires.0 c.args.key.now)
+append_postings-requires-clause-documents c = ∥∥₁_elim c.requires (rising_prop _) (λ r.
+    let posted = ap (λ (l : List Row). lent l) c.deref.ensures.value ∙ rows_posted c.args.schema.now r.0 c.args.key.now c.args.documents.now c.args.places.now c.keeps_places-kept.result (lent c.in_ok-rows.rows.items) r.1 c.keeps_places-kept.ensures c.in_ok-rows.ensures in
+    subst (λ (ps : List Posting). NumbersRise (documents ps)) (sym posted) (list_rises c.args.schema.now r.0 c.args.key.now))
 
 pub append_postings-requires-clause-each : goal.append_postings-requires-clause-each
-append_postings-requires-clause-each c =
-    let posted = ap (λ (l : List Row). lent l) c.deref.ensures.value ∙ rows_posted c.args.schema.now c.requires.0 c.args.key.now c.args.documents.now c.args.places.now c.keeps_places-kept.result (lent c.in_ok-rows.rows.items) c.requires.1 c.keeps_places-kept.ensures c.in_ok-rows.ensures in
+append_postings-requires-clause-each c = ∥∥₁_elim c.requires (post_prop _ _) (λ r.
+    let posted = ap (λ (l : List Row). lent l) c.deref.ensures.value ∙ rows_posted c.args.schema.now r.0 c.args.key.now c.args.documents.now c.args.places.now c.keeps_places-kept.result (lent c.in_ok-rows.rows.items) r.1 c.keeps_places-kept.ensures c.in_ok-rows.ensures in
     subst (λ (b : Bool). CanPost b (lent c.deref.result.now)) (sym c.keeps_places-kept.ensures)
-    (subst (λ (ps : List Posting). CanPost (keeps_places c.args.schema.now c.args.key.now) ps) (sym posted) (list_posts c.args.schema.now c.requires.0 c.args.key.now c.requires.1.can))
+    (subst (λ (ps : List Posting). CanPost (keeps_places c.args.schema.now c.args.key.now) ps) (sym posted) (list_posts c.args.schema.now r.0 c.args.key.now r.1.can)))
 
 pub overflow_cast-info : goal.overflow_cast-info
-overflow_cast-info c =
-    let posted = rows_posted c.args.schema.now c.requires.0 c.args.key.now c.args.documents.now c.args.places.now c.keeps_places-kept.result (lent c.in_ok-rows.rows.items) c.requires.1 c.keeps_places-kept.ensures c.in_ok-rows.ensures in
-    let few = list_few c.args.schema.now c.requires.0 c.args.key.now c.requires.1.can in
-    let count : length (lent c.in_ok-rows.rows.items) ≡ length (posting_list c.args.schema.now c.requires.0 c.args.key.now) = ap (λ (ps : List Posting). length ps) posted in
+overflow_cast-info c = ∥∥₁_elim c.requires (hlevel props) (λ r.
+    let posted = rows_posted c.args.schema.now r.0 c.args.key.now c.args.documents.now c.args.places.now c.keeps_places-kept.result (lent c.in_ok-rows.rows.items) r.1 c.keeps_places-kept.ensures c.in_ok-rows.ensures in
+    let few = list_few c.args.schema.now r.0 c.args.key.now r.1.can in
+    let count : length (lent c.in_ok-rows.rows.items) ≡ length (posting_list c.args.schema.now r.0 c.args.key.now) = ap (λ (ps : List Posting). length ps) posted in
     let rows : length (lent c.in_ok-rows.rows.items) ≡ length c.in_ok-rows.rows.items = length-map c.in_ok-rows.rows.items lent_one in
-    omega (arith, c.len.ensures, c.in_ok-rows.rows.ok.0, count, rows, few)
+    omega (arith, c.len.ensures, c.in_ok-rows.rows.ok.0, count, rows, few))
 
 pub returns : goal.returns
 returns c = λ ds keys h rise w.
@@ -47,3 +50,7 @@ returns c = λ ds keys h rise w.
     } in
     let is = term_is c.args.schema.now ds keys c.args.key.now _ c.args.self.now c.append_postings.new.postings.items c.append_postings.new.places.items w l i in
     written_more c.args.schema.now ds keys c.args.key.now _ c.args.self.now _ w l is (c.in_ok-append.ensures (terms_of c.args.schema.now ds keys) w.taken (terms_go_on c.args.schema.now ds keys c.args.key.now _ rise is))
+
+pub rows_of-requires : goal.rows_of-requires
+rows_of-requires c on =
+    ∥∥₁_elim c.requires (nat_set _ _) (λ r. list_sizes c.args.schema.now r.0 c.args.key.now c.args.documents.now c.args.places.now r.1 (sym c.keeps_places-kept.ensures ∙ on))

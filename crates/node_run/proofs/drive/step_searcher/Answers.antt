@@ -1,0 +1,19 @@
+use Rattle.std.proofs.Common.{◌∙◌}
+use Rattle.root_search.specs.Steps.{luck_of}
+use Rattle.root_search.proofs.Steps.{step_alone}
+use Rattle.node_run.proofs.drive.step_searcher.Goals as goal
+
+pub returns : goal.returns
+returns g c client core log is_log stands searcher =
+    let s = c.step.ensures.step client core log is_log stands searcher in
+    record {
+      luck = luck_of s.passage s.more s.short;
+      outcome = s.outcome;
+      later = s.later;
+      after = s.after;
+      did = step_alone s.passage s.more s.short log client core s.passed ∙ s.did;
+      says = s.says;
+      searcher = s.searcher;
+      world_stands = s.gate_stands;
+      goes_on = s.goes_on;
+    }

@@ -1,0 +1,138 @@
+-- A view of what is kept of a split has each part that a request asks for.
+use Rattle.std.proofs.Common.{◌≡◌, ◌≢◌, ℕ, ◌+◌, ◌-◌, ◌≤◌, inl, inr, min, List, [], ◌∷◌, ◌++◌, length, take, drop, Option, Some, None, ap, sym, ◌∙◌, subst, arith, length-drop, length-take}
+use Rattle.std.specs.List.{AllZip}
+use Rattle.std.proofs.lemmas.List.{take-append-drop}
+use Rattle.doc_value.specs.declared.schema.Schema.{Schema}
+use Rattle.agg_model.specs.Checking.{field_of}
+use Rattle.agg_model.specs.declared.request.NamedAgg.{NamedAgg}
+use Rattle.split_bundle.specs.Files.{Parts, file_bytes}
+use Rattle.split_bundle.specs.Lending.{IsPartOf}
+use Rattle.split_bundle.specs.Pieces.{ArePieces, IsPieceOf, held_in, part_in}
+use Rattle.split_bundle.specs.Splits.{IsSplitOf}
+use Rattle.split_bundle.specs.Views.{IsFooterOf}
+use Rattle.split_bundle.specs.declared.footer.Footer.{Footer}
+use Rattle.split_bundle.specs.declared.part_view.PartView.{PartView}
+use Rattle.split_bundle.specs.declared.pieces.FilePiece.{FilePiece}
+use Rattle.split_bundle.specs.declared.placed.Placed.{Placed}
+use Rattle.split_bundle.specs.declared.pieces.Section.TheVariants.{Documents}
+use Rattle.split_bundle.proofs.SectionBytes.{section_within}
+use Rattle.doc_sets.proofs.WithinFile.{lookups_within}
+use Rattle.doc_tallies.specs.Cells.{IsFast}
+use Rattle.doc_tallies.specs.Causes.{AsksHits}
+use Rattle.doc_tallies.specs.Orders.{IsSortable, sort_field}
+use Rattle.doc_tallies.specs.declared.hit_order.HitOrder.{HitOrder}
+use Rattle.leaf_search.specs.Answers.{AsksLeaf, IsAsked, passes}
+use Rattle.leaf_search.specs.Counts.{request_lookups}
+use Rattle.leaf_search.specs.FileRanges.{HasPart, SomeRange}
+use Rattle.leaf_search.specs.Needs.{NeedsBlocks}
+use Rattle.leaf_search.specs.Numbers.{numbers_of}
+use Rattle.leaf_search.specs.declared.file_ranges.FileRange.{FileRange}
+use Rattle.leaf_search.specs.declared.request.LeafRequest.{LeafRequest}
+use Rattle.leaf_search.proofs.ColumnParts.{timestamp_fast}
+use Rattle.leaf_search.proofs.Counted.{over_fast}
+use Rattle.leaf_search.proofs.ReadBounds.{column_between}
+use Rattle.leaf_search.proofs.Suffices.{behind_there, document_within, else_there, inside_there, none, numbers_below, part_needed}
+use Rattle.root_search.specs.Leaves.{HasAsked}
+use Rattle.root_search.specs.SplitParts.{HasNeeded, HoldsBlocks, IsLentOf, over, piece_at, pieces_at}
+use Rattle.root_search.specs.declared.split_parts.KeptPiece.{KeptPiece}
+use Rattle.root_search.specs.declared.split_parts.SplitPart.{SplitPart}
+use Rattle.root_search.proofs.SameFooters.{blocks_alike, lists_alike}
+
+-- ---- pieces of a file
+
+lent_piece : (file : List ℕ) (r : FileRange) (piece : FilePiece) → IsLentOf (piece_at file r) piece → IsPieceOf file piece
+lent_piece file r piece is =
+    let rest : List ℕ = drop r.start file in
+    let two : rest ≡ piece.bytes.now ++ drop r.len rest = sym (take-append-drop r.len rest) ∙ ap (λ (l : List ℕ). l ++ drop r.len rest) (sym is.bytes) in
+    record {
+      before = take r.start file;
+      behind = drop r.len rest;
+      parts = sym (take-append-drop r.start file) ∙ ap (λ (l : List ℕ). take r.start file ++ l) two;
+      start = is.start ∙ sym (length-take r.start file);
+    }
+
+pub lent_pieces : (file : List ℕ) (rs : List FileRange) (lent : List FilePiece) → AllZip IsLentOf (pieces_at file rs) lent → ArePieces file lent
+lent_pieces file [] [] h = tt
+lent_pieces file [] (x ∷ xs) h = absurd h
+lent_pieces file (r ∷ rs) [] h = absurd h
+lent_pieces file (r ∷ rs) (x ∷ xs) h = (lent_piece file r x h.0, lent_pieces file rs xs h.1)
+
+part_lent : (file : List ℕ) (r : FileRange) (piece : FilePiece) (at len : ℕ) → IsLentOf (piece_at file r) piece → at + len ≤ length file → HasPart at len r → part_in piece at len ≢ none
+part_lent file r piece at len is within has =
+    let long : length piece.bytes.now ≡ min r.len (length file - r.start) = ap length is.bytes ∙ (length-take r.len (drop r.start file) ∙ ap (min r.len) (length-drop r.start file)) in
+    inside_there piece at len (record { behind = omega (arith, is.start, has.0); before = omega (arith, is.start, long, has.0, has.1, within); room = omega (arith, is.start, long, has.0, has.1, within) })
+
+pub part_kept : (file : List ℕ) (rs : List FileRange) (lent : List FilePiece) (at len : ℕ) → AllZip IsLentOf (pieces_at file rs) lent → at + len ≤ length file → SomeRange (HasPart at len) rs → held_in lent at len ≢ none
+part_kept file [] lent at len h within has = absurd has
+part_kept file (r ∷ rs) [] at len h within has = absurd h
+part_kept file (r ∷ rs) (x ∷ xs) at len h within (inl has) = else_there (part_in x at len) (held_in xs at len) (part_lent file r x at len h.0 within has)
+part_kept file (r ∷ rs) (x ∷ xs) at len h within (inr has) = behind_there (part_in x at len) (held_in xs at len) (part_kept file rs xs at len h.1 within has)
+
+-- ---- what is asked for lies within the file
+
+sorted_fast : (s : Schema) (order : Option HitOrder) (number : ℕ) → IsSortable s order → sort_field order ≡ Some number → IsFast s number
+sorted_fast s None number h e = absurd (cc)
+sorted_fast s (Some order) number h e = let same : order.field ≡ number = cc in subst (IsFast s) same h
+
+module _ (v : PartView) (s : Schema) (ds : List Placed) (p : Parts) (part : IsPartOf v s ds p) (r : LeafRequest) (ask : IsAsked s r) where
+  hits_within : (at len : ℕ) → AsksHits v p ds (sort_field r.order) (numbers_of (passes s r) ds) at len → at + len ≤ length (file_bytes p)
+  hits_within at len (inl f) = (column_between v s ds p part f.number at len (sorted_fast s r.order f.number ask.order f.is_field) f.column).1
+  hits_within at len (inr d) =
+      let number = numbers_below (passes s r) 0 ds d.among.0 d.number d.among.1 d.among.2 in
+      let inside = document_within v s ds p part d.number at len (omega (arith, number)) d.document in
+      let long : v.footer.layout.sections.documents ≡ length p.documents = ap (λ (l : _). l.documents) part.footer.layout.sections in
+      omega (arith, inside.1, long, section_within Documents p)
+
+  pub asked_within : (at len : ℕ) → AsksLeaf v s ds p r at len → at + len ≤ length (file_bytes p)
+  asked_within at len (inl h) = lookups_within v s ds p part (request_lookups s r) at len (inl h)
+  asked_within at len (inr (inl h)) = lookups_within v s ds p part (request_lookups s r) at len (inr h)
+  asked_within at len (inr (inr (inl h))) =
+      (column_between v s ds p part h.asks.number at len (timestamp_fast s h.asks.number part.is_split.are_documents.schema h.asks.is_field) h.asks.column).1
+  asked_within at len (inr (inr (inr (inl h)))) =
+      let fast : IsFast s (field_of h.named.agg) = subst (λ (n : NamedAgg). IsFast s (field_of n.agg)) h.among.2 (over_fast s r.aggs ask.aggs h.among.0 h.named h.among.1) in
+      (column_between v s ds p part (field_of h.named.agg) at len fast h.column).1
+  asked_within at len (inr (inr (inr (inr h)))) = hits_within at len h.asks
+
+-- ---- views
+
+some_front : (P : FileRange → Type 0) (xs ys : List FileRange) → SomeRange P xs → SomeRange P (xs ++ ys)
+some_front P [] ys h = absurd h
+some_front P (x ∷ xs) ys (inl h) = inl h
+some_front P (x ∷ xs) ys (inr h) = inr (some_front P xs ys h)
+
+some_behind : (P : FileRange → Type 0) (xs ys : List FileRange) → SomeRange P ys → SomeRange P (xs ++ ys)
+some_behind P [] ys h = h
+some_behind P (x ∷ xs) ys h = inr (some_behind P xs ys h)
+
+pub part_of : (v : PartView) (s : Schema) (ds : List Placed) (p : Parts) (footer : Footer) (kept : List KeptPiece) (rs : List FileRange) → IsSplitOf s ds p → IsFooterOf p footer → v.footer ≡ footer → kept ≡ pieces_at (file_bytes p) rs → AllZip IsLentOf kept v.pieces
+    → IsPartOf v s ds p
+part_of v s ds p footer kept rs is foot same pieces lent =
+    record {
+      is_split = is;
+      footer = subst (IsFooterOf p) (sym same) foot;
+      pieces = lent_pieces (file_bytes p) rs v.pieces (subst (λ (ks : List KeptPiece). AllZip IsLentOf ks v.pieces) pieces lent);
+    }
+
+pub has_asked : (s : Schema) (r : LeafRequest) (part : SplitPart) (documents : List Placed) (v : PartView) → IsAsked s r → HasNeeded s r part documents → v.footer ≡ part.footer → AllZip IsLentOf part.pieces v.pieces → HasAsked s r v documents
+has_asked s r part ds v ask h same lent =
+    let p = h.parts in
+    let is = part_of v s ds p part.footer part.pieces (h.blocks ++ h.lists) h.is_split h.footer same h.pieces lent in
+    let zipped : AllZip IsLentOf (pieces_at (file_bytes p) (h.blocks ++ h.lists)) v.pieces = subst (λ (ks : List KeptPiece). AllZip IsLentOf ks v.pieces) h.pieces lent in
+    let b = blocks_alike (over part.footer) v s ds p r h.blocks (sym same) h.are_blocks in
+    let l = lists_alike (over part.footer) v s ds p r h.lists (sym same) h.are_lists in
+    record {
+      parts = p;
+      is_part = is;
+      held = λ at len asked.
+          let within = asked_within v s ds p is r ask at len asked in
+          part_kept (file_bytes p) (h.blocks ++ h.lists) v.pieces at len zipped within
+          (elim (part_needed v s ds p is r h.blocks h.lists b l at len asked) [ inl x ↦ some_front (HasPart at len) h.blocks h.lists x | inr y ↦ some_behind (HasPart at len) h.blocks h.lists y ]);
+    }
+
+-- the blocks that are needed are there
+pub blocks_held : (s : Schema) (r : LeafRequest) (ds : List Placed) (p : Parts) (footer : Footer) (kept : List KeptPiece) (v : PartView) → IsAsked s r → (h : HoldsBlocks s r ds p footer kept) → IsPartOf v s ds p → v.footer ≡ footer → AllZip IsLentOf kept v.pieces
+    → (at len : ℕ) → NeedsBlocks v s ds p r at len → held_in v.pieces at len ≢ none
+blocks_held s r ds p footer kept v ask h is same lent at len asked =
+    let zipped : AllZip IsLentOf (pieces_at (file_bytes p) h.blocks) v.pieces = subst (λ (ks : List KeptPiece). AllZip IsLentOf ks v.pieces) h.pieces lent in
+    let b = blocks_alike (over footer) v s ds p r h.blocks (sym same) h.are_blocks in
+    part_kept (file_bytes p) h.blocks v.pieces at len zipped (asked_within v s ds p is r ask at len (inl asked)) (b.cover at len asked)

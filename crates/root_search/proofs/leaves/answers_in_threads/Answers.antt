@@ -1,0 +1,12 @@
+use Rattle.std.proofs.Common.{ap, ◌∙◌}
+use Rattle.rayon.proofs.ListFacts.{IfOk-then}
+use Rattle.rayon.proofs.ToStd.{slice-AllZip}
+use Rattle.root_search.specs.Leaves.{IsLeafAnswer}
+use Rattle.root_search.proofs.leaves.answers_in_threads.Goals as goal
+
+pub returns : goal.returns
+returns g c =
+    let slice = ap (λ it. it.base.slice.now) c.map.ensures.base ∙ (ap (λ it. it.slice.now) c.with_min_len-asked.ensures.base ∙ c.par_iter.ensures) in
+    IfOk-then c.collect.result _ _ c.collect.ensures (λ v h.
+    let chain = rw c.map.ensures.f at h.1 in
+    rw h.2 (slice-AllZip chain.0 c.args.views.now (chain.1 ∙ slice) (IsLeafAnswer c.args.schema.now c.args.request.now) h.0 chain.2))

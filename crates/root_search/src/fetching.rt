@@ -1,0 +1,329 @@
+// What is fetched of a planned split: its footer, and the ranges of its file that a request needs.
+
+ghost use Rattle.std.specs.Prelude.{◌≡◌, ◌==◌, ◌&&◌, ◌+◌, ◌-◌, ◌<◌, ◌≤◌, ◌++◌, ℕ, List, [], drop, length, slice_get, None, Some, MatchResult};
+ghost use Rattle.doc_value.specs.declared.schema.Schema.{Schema};
+ghost use Rattle.index_config.specs.declared.config.IndexConfig as configs;
+ghost use Rattle.index_world.specs.Core.{Core, IsConfigured};
+ghost use Rattle.doc_sets.specs.Faults.{IsMemory};
+ghost use Rattle.leaf_search.specs.Answers.{IsAsked};
+ghost use Rattle.leaf_search.specs.FileRanges.{AreRangesOf};
+ghost use Rattle.leaf_search.specs.Needs.{NeedsLists};
+ghost use Rattle.source_log.specs.Log.{Log};
+ghost use Rattle.split_bundle.specs.declared.placed.Placed.{Placed};
+ghost use Rattle.split_bundle.specs.Files.{Parts, file_bytes};
+ghost use Rattle.split_bundle.specs.Splits.{IsSplitOf};
+ghost use Rattle.split_bundle.specs.Views.{IsFooterOf, ReadsCut};
+ghost use Rattle.root_search.specs.Fetching.{AreBlocksFetched, AreListsFetched, AreRangesFetched, FetchesAs, IsFileAt, IsFooterFetched, IsLooked, IsPartFetched, IsPieceFetched, IsWant, WantsRoom, needed_calls, part_calls};
+ghost use Rattle.root_search.specs.SplitParts.{HoldsBlocks, IsFile, IsFooterIn, IsKnown, StartsFooter, over};
+
+use crate::split_parts::{KeptPiece, KeptPieces, SplitPart, lent_pieces};
+use doc_sets::LeafError;
+use doc_value::Schema;
+use index_world::{Gate, Plan, WorldError};
+use leaf_search::{FileRange, LeafRequest, Ranges, blocks_needed, lists_needed};
+use split_bundle::{Footer, PartView, SplitError};
+use std::alloc::{AllocError, Global};
+
+// How many bytes stand behind the footer: its length, and the foot.
+const TRAILER: u64 = 12;
+
+// Why nothing is fetched of a split.
+#[derive(Drop)]
+pub(crate) enum FetchError {
+    Memory(AllocError),
+    // A call of the world gave nothing.
+    World(WorldError),
+    // The bytes are not of a split's form.
+    Corrupt,
+}
+
+impl From<AllocError> for FetchError {
+    ghost use Rattle.std.specs.Prelude.{◌≡◌};
+    ghost use Rattle.root_search.specs.declared.fetching.FetchError.TheVariants.{Memory};
+
+    ghost from_gives = { λ a e. e ≡ Memory a };
+
+    fn from(refused: AllocError) -> Self {
+        FetchError::Memory(refused)
+    }
+}
+
+// One fetch: so many bytes of the file from a place on, as far as it has them.
+fn fetch_piece<G: Gate>(
+    alloc: Global,
+    gate: &mut G,
+    plan: &Plan,
+    place: u32,
+    start: u64,
+    len: u64,
+) -> Result<KeptPiece, FetchError>
+    requires { place < length plan.now.rows }
+    ensures { (bytes : List ℕ) (core : Core) (log : Log) → G.Stands gate.old core log → IsFileAt core plan.now place bytes →
+        FetchesAs G.Stands G.Between G.bytes_fetched (IsPieceFetched bytes start len) result core log gate.old gate.new }
+{
+    match gate.fetch(alloc, plan, place, start, len) {
+        Ok(piece) => Ok(KeptPiece {
+            start: start.min(piece.size),
+            bytes: piece.bytes,
+        }),
+        Err(error) => Err(FetchError::World(error)),
+    }
+}
+
+// Where a footer starts, by what is read where it isn't there.
+fn start_in(read: Result<Footer, SplitError>) -> Result<u64, FetchError>
+    ensures { (place : ℕ) → ReadsCut place read → MatchResult result (λ start. start ≡ place) WantsRoom }
+{
+    match read {
+        Ok(_) => Err(FetchError::Corrupt),
+        Err(SplitError::Memory(refused)) => Err(FetchError::Memory(refused)),
+        Err(SplitError::Truncated { at }) => Ok(at),
+        Err(SplitError::BadMagic) => Err(FetchError::Corrupt),
+        Err(SplitError::BadSection { .. }) => Err(FetchError::Corrupt),
+        Err(SplitError::BadVersion { .. }) => Err(FetchError::Corrupt),
+    }
+}
+
+// Where the footer starts, by what stands behind it.
+fn footer_start(alloc: Global, trailer: &[u8], size: u64) -> Result<u64, FetchError>
+    ensures { (bytes : List ℕ) → IsFile bytes → size ≡ length bytes → trailer.now ≡ drop (size - 12) bytes →
+        MatchResult result (StartsFooter bytes) WantsRoom }
+{
+    start_in(Footer::read(alloc, trailer, size))
+}
+
+// The fault of a footer.
+fn footer_fault(fault: SplitError) -> FetchError
+    ensures { IsWant fault → WantsRoom result }
+{
+    match fault {
+        SplitError::Memory(refused) => FetchError::Memory(refused),
+        SplitError::Truncated { .. } => FetchError::Corrupt,
+        SplitError::BadMagic => FetchError::Corrupt,
+        SplitError::BadSection { .. } => FetchError::Corrupt,
+        SplitError::BadVersion { .. } => FetchError::Corrupt,
+    }
+}
+
+// The footer at the end of a file.
+fn footer_at(alloc: Global, tail: &[u8], size: u64) -> Result<Footer, FetchError>
+    ensures { (bytes : List ℕ) (start : ℕ) → IsFile bytes → size ≡ length bytes → StartsFooter bytes start → tail.now ≡ drop start bytes →
+        MatchResult result (IsFooterIn bytes) WantsRoom }
+{
+    match Footer::read(alloc, tail, size) {
+        Ok(footer) => Ok(footer),
+        Err(fault) => Err(footer_fault(fault)),
+    }
+}
+
+// The footer of a split: what stands behind it is fetched first, and then the footer.
+fn read_footer<G: Gate>(
+    alloc: Global,
+    gate: &mut G,
+    plan: &Plan,
+    place: u32,
+    size: u64,
+) -> Result<Footer, FetchError>
+    requires { place < length plan.now.rows }
+    ensures { (s : Schema) (documents : List Placed) (p : Parts) (core : Core) (log : Log) → G.Stands gate.old core log →
+        IsFileAt core plan.now place (file_bytes p) → IsSplitOf s documents p → size ≡ length (file_bytes p) →
+        FetchesAs G.Stands G.Between G.bytes_fetched (IsFooterFetched None p) result core log gate.old gate.new }
+{
+    let end = size.saturating_sub(TRAILER);
+    let trailer = fetch_piece(alloc, gate, plan, place, end, TRAILER)?;
+    let start = footer_start(alloc, trailer.bytes.as_slice(), size)?;
+    let footer = fetch_piece(alloc, gate, plan, place, start, end.saturating_sub(start))?;
+    let mut tail = footer.bytes;
+    tail.append(trailer.bytes.as_slice())?;
+    footer_at(alloc, tail.as_slice(), size)
+}
+
+// The footer of a split, if it isn't known yet.
+fn footer_of<G: Gate>(
+    alloc: Global,
+    gate: &mut G,
+    plan: &Plan,
+    place: u32,
+    known: Option<Footer>,
+) -> Result<Footer, FetchError>
+    requires { place < length plan.now.rows }
+    ensures { (s : Schema) (documents : List Placed) (p : Parts) (core : Core) (log : Log) → G.Stands gate.old core log →
+        IsFileAt core plan.now place (file_bytes p) → IsSplitOf s documents p → IsKnown (file_bytes p) known →
+        FetchesAs G.Stands G.Between G.bytes_fetched (IsFooterFetched known p) result core log gate.old gate.new }
+{
+    match known {
+        Some(footer) => Ok(footer),
+        None => {
+            let size = plan.rows.at(place as usize).size;
+            read_footer(alloc, gate, plan, place, size)
+        }
+    }
+}
+
+// Fetches ranges of the file, one after another.
+fn fetch_ranges<G: Gate>(
+    alloc: Global,
+    gate: &mut G,
+    plan: &Plan,
+    place: u32,
+    ranges: &[FileRange],
+    pieces: &mut KeptPieces,
+) -> Result<(), FetchError>
+    requires { place < length plan.now.rows }
+    ensures { (bytes : List ℕ) (core : Core) (log : Log) → G.Stands gate.old core log → IsFileAt core plan.now place bytes →
+        FetchesAs G.Stands G.Between G.bytes_fetched (λ done. AreRangesFetched bytes ranges.now pieces.old pieces.new) result core log gate.old gate.new }
+{
+    for range in ranges {
+        let piece = fetch_piece(alloc, gate, plan, place, range.start, range.len)?;
+        pieces.push(piece)?;
+    }
+    Ok(())
+}
+
+// The fault of a leaf.
+fn leaf_fault(fault: LeafError) -> FetchError
+    ensures { IsMemory fault → WantsRoom result }
+{
+    match fault {
+        LeafError::Memory(refused) => FetchError::Memory(refused),
+        LeafError::Missing { .. } => FetchError::Corrupt,
+        LeafError::Corrupt { .. } => FetchError::Corrupt,
+    }
+}
+
+// The ranges of the lists, the columns and the documents that a request needs, of a split whose blocks were fetched.
+fn lists_of(
+    alloc: Global,
+    schema: &Schema,
+    request: &LeafRequest,
+    footer: &Footer,
+    blocks: &[KeptPiece],
+) -> Result<Ranges, FetchError>
+    requires { length schema.now.fields ≤ 256 }
+    ensures { (documents : List Placed) (p : Parts) → IsSplitOf schema.now documents p → IsFooterOf p footer.now → IsAsked schema.now request.now →
+        HoldsBlocks schema.now request.now documents p footer.now blocks.now →
+        MatchResult result (AreRangesOf (NeedsLists (over footer.now) schema.now documents p request.now)) WantsRoom }
+{
+    let pieces = lent_pieces(alloc, blocks)?;
+    let view = PartView::gather(footer.copy(alloc)?, pieces);
+    match lists_needed(alloc, schema, request, &view) {
+        Ok(lists) => Ok(lists),
+        Err(fault) => Err(leaf_fault(fault)),
+    }
+}
+
+// Fetches the blocks of the dictionary that a request needs.
+fn fetch_blocks<G: Gate>(
+    alloc: Global,
+    gate: &mut G,
+    plan: &Plan,
+    place: u32,
+    request: &LeafRequest,
+    footer: &Footer,
+) -> Result<KeptPieces, FetchError>
+    requires { place < length plan.now.rows }
+    ensures { (config : configs.IndexConfig) (documents : List Placed) (p : Parts) (core : Core) (log : Log) → G.Stands gate.old core log → IsConfigured config core →
+        IsFileAt core plan.now place (file_bytes p) → IsSplitOf config.schema documents p → IsFooterOf p footer.now →
+        FetchesAs G.Stands G.Between G.bytes_fetched (AreBlocksFetched config.schema request.now documents p footer.now) result core log gate.old gate.new }
+{
+    let blocks = blocks_needed(alloc, &gate.config().schema, request, footer)?;
+    let mut pieces = KeptPieces::vacant(alloc);
+    fetch_ranges(alloc, gate, plan, place, blocks.as_slice(), &mut pieces)?;
+    Ok(pieces)
+}
+
+// Fetches the lists, the columns and the documents that a request needs, behind the blocks.
+fn fetch_lists<G: Gate>(
+    alloc: Global,
+    gate: &mut G,
+    plan: &Plan,
+    place: u32,
+    request: &LeafRequest,
+    footer: &Footer,
+    blocks: KeptPieces,
+) -> Result<KeptPieces, FetchError>
+    requires { place < length plan.now.rows }
+    ensures { (config : configs.IndexConfig) (documents : List Placed) (p : Parts) (core : Core) (log : Log) → G.Stands gate.old core log → IsConfigured config core →
+        IsFileAt core plan.now place (file_bytes p) → IsSplitOf config.schema documents p → IsFooterOf p footer.now → IsAsked config.schema request.now →
+        HoldsBlocks config.schema request.now documents p footer.now blocks →
+        FetchesAs G.Stands G.Between G.bytes_fetched (AreListsFetched config.schema request.now documents p footer.now blocks) result core log gate.old gate.new }
+{
+    let schema = &gate.config().schema;
+    let lists = lists_of(alloc, schema, request, footer, blocks.as_slice())?;
+    let mut pieces = blocks;
+    fetch_ranges(alloc, gate, plan, place, lists.as_slice(), &mut pieces)?;
+    Ok(pieces)
+}
+
+// What a request needs of a split: its footer, if it isn't known yet, the blocks of its dictionary, and then its lists.
+fn fetch_needed<G: Gate>(
+    alloc: Global,
+    gate: &mut G,
+    plan: &Plan,
+    place: u32,
+    request: &LeafRequest,
+    known: Option<Footer>,
+) -> Result<SplitPart, FetchError>
+    requires { place < length plan.now.rows }
+    ensures { (config : configs.IndexConfig) (documents : List Placed) (p : Parts) (core : Core) (log : Log) → G.Stands gate.old core log → IsConfigured config core →
+        IsFileAt core plan.now place (file_bytes p) → IsSplitOf config.schema documents p → IsAsked config.schema request.now → IsKnown (file_bytes p) known →
+        FetchesAs G.Stands G.Between G.bytes_fetched (IsPartFetched config.schema request.now known documents p (needed_calls known)) result core log gate.old gate.new }
+{
+    let number = plan.rows.at(place as usize).number;
+    let footer = footer_of(alloc, gate, plan, place, known)?;
+    let blocks = fetch_blocks(alloc, gate, plan, place, request, &footer)?;
+    let pieces = fetch_lists(alloc, gate, plan, place, request, &footer, blocks)?;
+    Ok(SplitPart {
+        number,
+        footer,
+        pieces,
+    })
+}
+
+// Whether no fetch was made: the footer was known, and no piece is needed.
+fn asked_nothing(was_known: bool, pieces: &KeptPieces) -> bool
+    ensures { result ≡ (was_known && (length pieces.now == 0)) }
+{
+    was_known && pieces.as_slice().is_empty()
+}
+
+// Fetches no byte, in one fetch.
+fn look<G: Gate>(
+    alloc: Global,
+    gate: &mut G,
+    plan: &Plan,
+    place: u32,
+    part: SplitPart,
+) -> Result<SplitPart, FetchError>
+    requires { place < length plan.now.rows }
+    ensures { (bytes : List ℕ) (core : Core) (log : Log) → G.Stands gate.old core log → IsFileAt core plan.now place bytes →
+        FetchesAs G.Stands G.Between G.bytes_fetched (IsLooked part) result core log gate.old gate.new }
+{
+    match fetch_piece(alloc, gate, plan, place, 0, 0) {
+        Ok(_) => Ok(part),
+        Err(error) => Err(error),
+    }
+}
+
+/// What a request needs of a planned split. Where it needs nothing more than a footer that is known, no byte is fetched, in one
+/// fetch, so that the file is asked for all the same.
+pub(crate) fn fetch_part<G: Gate>(
+    alloc: Global,
+    gate: &mut G,
+    plan: &Plan,
+    place: u32,
+    request: &LeafRequest,
+    known: Option<Footer>,
+) -> Result<SplitPart, FetchError>
+    requires { place < length plan.now.rows }
+    ensures { (config : configs.IndexConfig) (documents : List Placed) (p : Parts) (core : Core) (log : Log) → G.Stands gate.old core log → IsConfigured config core →
+        IsFileAt core plan.now place (file_bytes p) → IsSplitOf config.schema documents p → IsAsked config.schema request.now → IsKnown (file_bytes p) known →
+        FetchesAs G.Stands G.Between G.bytes_fetched (IsPartFetched config.schema request.now known documents p (part_calls known)) result core log gate.old gate.new }
+{
+    let was_known = known.is_some();
+    let part = fetch_needed(alloc, gate, plan, place, request, known)?;
+    if asked_nothing(was_known, &part.pieces) {
+        return look(alloc, gate, plan, place, part);
+    }
+    Ok(part)
+}

@@ -1,0 +1,141 @@
+//! The answer over what was fetched of splits.
+
+ghost use Rattle.std.specs.Prelude.{◌≡◌, ◌<◌, ◌≤◌, ◌^◌, List, length, IfOk, MatchResult};
+ghost use Rattle.std.specs.List.{AllZip};
+ghost use Rattle.agg_model.specs.Checking.{HaveIntervals};
+ghost use Rattle.split_bundle.specs.declared.placed.Placed.{Placed};
+ghost use Rattle.leaf_search.specs.Answers.{IsAnswerOf, IsAsked};
+ghost use Rattle.search_api.specs.Resolved.{Search};
+ghost use Rattle.root_search.specs.Answer.{answer};
+ghost use Rattle.root_search.specs.LeafAsks.{Asks};
+ghost use Rattle.root_search.specs.Leaves.{IsCounted, WantsMemory, all_of};
+ghost use Rattle.root_search.specs.PartAnswers.{AreFound, WantsRoom};
+ghost use Rattle.root_search.specs.SplitParts.{HasNeeded};
+ghost use Rattle.root_search.specs.declared.leaves.Manner.TheVariants.{InTurn};
+
+use crate::answers::shown;
+use crate::leaf_asks::LeafAsk;
+use crate::leaves::{Manner, search_all};
+use crate::split_parts::{KeptSplit, SplitParts, part_ways, views_of};
+use crate::splits_error::SplitsError;
+use doc_value::Schema;
+use leaf_search::LeafAnswer;
+use meta_journal::split_key;
+use search_api::{Refusal, Said};
+use std::alloc::{AllocError, Global};
+use std::thread::Threads;
+
+// Threads take some tenths of a millisecond to start, in which about so many bytes of splits are read.
+const WORTH_THREADS: usize = 256 * 1024;
+
+// Why parts of splits give no answer.
+#[derive(Debug, Drop)]
+enum PartError {
+    Memory(AllocError),
+    // The bytes of the split with this number are not of its form.
+    Corrupt { number: u64 },
+}
+
+impl From<AllocError> for PartError {
+    ghost use Rattle.std.specs.Prelude.{◌≡◌};
+    ghost use Rattle.root_search.specs.declared.part_answers.PartError.TheVariants.{Memory};
+
+    ghost from_gives = { λ a e. e ≡ Memory a };
+
+    fn from(refused: AllocError) -> Self {
+        PartError::Memory(refused)
+    }
+}
+
+// The fault of the split at a place. So many documents that they are not counted are more than a memory has.
+fn fault_of(splits: &[KeptSplit], error: SplitsError) -> PartError
+    ensures { WantsMemory error → WantsRoom result }
+{
+    match error {
+        SplitsError::Memory(refused) => PartError::Memory(refused),
+        SplitsError::Missing { place, .. } => corrupt_at(splits, place),
+        SplitsError::Corrupt { place, .. } => corrupt_at(splits, place),
+        SplitsError::TooMany => PartError::Memory(AllocError),
+    }
+}
+
+fn corrupt_at(splits: &[KeptSplit], place: usize) -> PartError {
+    match splits.get(place) {
+        Some(split) => PartError::Corrupt {
+            number: split.number,
+        },
+        None => PartError::Memory(AllocError),
+    }
+}
+
+// How many bytes of a split are kept.
+fn bytes_of(split: &KeptSplit) -> usize {
+    split.pieces.as_slice().iter().fold(
+        0,
+        |bytes: usize, piece| bytes.saturating_add(piece.bytes.len()),
+    )
+}
+
+// In threads where several splits are asked and enough of them is read that it pays.
+fn manner_for(splits: &[KeptSplit]) -> Manner
+    ensures alone { length splits.now ≤ 1 → result ≡ InTurn }
+{
+    let bytes = splits.iter().fold(
+        0,
+        |bytes: usize, split| bytes.saturating_add(bytes_of(split)),
+    );
+    if splits.len() > 1 && bytes > WORTH_THREADS {
+        Manner::InThreads
+    } else {
+        Manner::InTurn
+    }
+}
+
+// What the splits answer together. No footer is copied.
+fn leaf_answer<Rt: Threads + Sync>(
+    rt: &Rt,
+    alloc: Global,
+    schema: &Schema,
+    ask: &LeafAsk,
+    parts: SplitParts,
+) -> Result<LeafAnswer, PartError>
+    requires fields { length schema.now.fields ≤ 256 }
+    requires intervals { HaveIntervals ask.now.request.aggs }
+    ensures only { (lists : List (List Placed)) → AllZip (HasNeeded schema.now ask.now.request) parts lists → length (all_of lists) < 2 ^ 62 → IsAsked schema.now ask.now.request
+        → MatchResult result (IsAnswerOf schema.now ask.now.request (all_of lists)) WantsRoom }
+    ensures counted { IfOk result (IsCounted ask.now.request) }
+{
+    let parted = part_ways(alloc, parts)?;
+    let footers = parted.footers;
+    let splits = parted.splits.as_slice();
+    let views = views_of(alloc, footers, splits)?;
+    let manner = manner_for(splits);
+    match search_all(rt, alloc, manner, schema, &ask.request, views.as_slice()) {
+        Ok(answer) => Ok(answer),
+        Err(error) => Err(fault_of(splits, error)),
+    }
+}
+
+/// What a search is answered over what was fetched of splits: that of the documents of which they have what is found. A split
+/// whose bytes are not of its form is replied as Corrupt.
+pub fn answer_over<Rt: Threads + Sync>(
+    rt: &Rt,
+    alloc: Global,
+    schema: &Schema,
+    ask: &LeafAsk,
+    parts: SplitParts,
+) -> Result<Said, AllocError>
+    requires fields { length schema.now.fields ≤ 256 }
+    requires intervals { HaveIntervals ask.now.request.aggs }
+    ensures { (search : Search) (lists : List (List Placed)) (documents : List Placed) → Asks search ask.now → IsAsked schema.now ask.now.request
+        → AllZip (HasNeeded schema.now ask.now.request) parts lists → length (all_of lists) < 2 ^ 62 → AreFound schema.now ask.now.request lists documents
+        → IfOk result (λ said. said ≡ answer schema.now search documents) }
+{
+    match leaf_answer(rt, alloc, schema, ask, parts) {
+        Ok(answer) => shown(alloc, schema, ask, &answer),
+        Err(PartError::Memory(refused)) => Err(refused),
+        Err(PartError::Corrupt { number }) => Ok(Said::Refused(Refusal::Corrupt {
+            key: split_key(number),
+        })),
+    }
+}

@@ -1,0 +1,111 @@
+//! What is fetched of split files.
+
+ghost use Rattle.std.specs.Prelude.{◌≡◌, IfOk, List, ℕ};
+ghost use Rattle.std.specs.List.{AllZip};
+ghost use Rattle.doc_value.specs.declared.schema.Schema.{Schema};
+ghost use Rattle.leaf_search.specs.Answers.{IsAsked};
+ghost use Rattle.leaf_search.specs.declared.request.LeafRequest.{LeafRequest};
+ghost use Rattle.split_bundle.specs.declared.placed.Placed.{Placed};
+ghost use Rattle.root_search.specs.Leaves.{HasAsked};
+ghost use Rattle.root_search.specs.SplitParts.{HasNeeded, IsLentOf, IsParted};
+ghost use Rattle.root_search.specs.declared.split_parts.SplitPart.{SplitPart as Part};
+
+use byte_fields::{Bytes, List};
+use split_bundle::{FilePiece, Footer, PartView, Pieces};
+use std::alloc::{AllocError, Global};
+use std::collections::VecDeque;
+
+/// Bytes of a file, and where they start.
+#[derive(Debug, Drop)]
+pub struct KeptPiece {
+    pub start: u64,
+    pub bytes: Bytes,
+}
+
+/// Pieces of a file.
+pub type KeptPieces = List<KeptPiece>;
+
+/// What is fetched of a split: its footer, and the pieces of its file that are needed.
+#[derive(Debug, Drop)]
+pub struct SplitPart {
+    pub number: u64,
+    pub footer: Footer,
+    pub pieces: KeptPieces,
+}
+
+/// Parts of splits in their order.
+pub type SplitParts = List<SplitPart>;
+
+// What is kept of a split beside its footer.
+#[derive(Debug, Drop)]
+pub(crate) struct KeptSplit {
+    pub(crate) number: u64,
+    pub(crate) pieces: KeptPieces,
+}
+
+// Footers, and what else is kept of their splits, in the same order.
+#[derive(Drop)]
+pub(crate) struct PartedSplits {
+    pub(crate) footers: Vec<Footer>,
+    pub(crate) splits: List<KeptSplit>,
+}
+
+// Parts footers from what else is kept, so that a view can have its footer and borrow its pieces.
+pub(crate) fn part_ways(alloc: Global, parts: SplitParts) -> Result<PartedSplits, AllocError>
+    ensures { IfOk result (λ parted. IsParted parts parted.footers.items parted.splits) }
+{
+    let mut left = VecDeque::from_vec(parts.into_vec());
+    let mut footers = Vec::new(alloc);
+    let mut splits = List::vacant(alloc);
+    while let Some(part) = left.pop_front() {
+        footers.push(part.footer)?;
+        splits.push(KeptSplit {
+            number: part.number,
+            pieces: part.pieces,
+        })?;
+    }
+    Ok(PartedSplits { footers, splits })
+}
+
+// The pieces as a view takes them.
+pub(crate) fn lent_pieces(alloc: Global, pieces: &[KeptPiece]) -> Result<Pieces<'_>, AllocError>
+    ensures { IfOk result (λ lent. AllZip IsLentOf pieces.now lent) }
+{
+    let mut lent = Pieces::vacant(alloc);
+    for piece in pieces {
+        lent.push(FilePiece {
+            start: piece.start,
+            bytes: piece.bytes.as_slice(),
+        })?;
+    }
+    Ok(lent)
+}
+
+// The view of what was fetched of a split.
+fn view_of(alloc: Global, footer: Footer, pieces: &[KeptPiece]) -> Result<PartView<'_>, AllocError>
+    ensures { (s : Schema) (r : LeafRequest) (part : Part) (documents : List Placed) → IsAsked s r → part.footer ≡ footer → part.pieces ≡ pieces.now → HasNeeded s r part documents
+        → IfOk result (λ view. HasAsked s r view documents) }
+{
+    let pieces = lent_pieces(alloc, pieces)?;
+    Ok(PartView::gather(footer, pieces))
+}
+
+// The views of what was fetched of splits. Each footer is moved into its view.
+pub(crate) fn views_of(
+    alloc: Global,
+    footers: Vec<Footer>,
+    splits: &[KeptSplit],
+) -> Result<List<PartView<'_>>, AllocError>
+    ensures { (s : Schema) (r : LeafRequest) (parts : List Part) (lists : List (List Placed)) → IsAsked s r → IsParted parts footers.items splits.now → AllZip (HasNeeded s r) parts lists
+        → IfOk result (λ views. AllZip (HasAsked s r) views lists) }
+{
+    let mut left = VecDeque::from_vec(footers);
+    let mut views = List::vacant(alloc);
+    for split in splits {
+        let Some(footer) = left.pop_front() else {
+            return Ok(views);
+        };
+        views.push(view_of(alloc, footer, split.pieces.as_slice())?)?;
+    }
+    Ok(views)
+}
