@@ -178,28 +178,33 @@ class Program:
 
     def __init__(self, path, store, logs):
         self.work = subprocess.Popen([path, store, logs, "drive"], stdin=subprocess.PIPE, stdout=subprocess.PIPE, bufsize=0)
-        self.lines = self.work.stdout
+        self.said = self.work.stdout
         self.rest = b""
 
-    def line(self, text):
-        self.work.stdin.write(text.encode() + b"\n")
-        while b"\n" not in self.rest:
-            piece = os.read(self.lines.fileno(), 1 << 20)
+    def lines(self, text, count):
+        """Writes so many lines at once, and reads what is said to each."""
+        self.work.stdin.write((text + "\n").encode() * count)
+        while self.rest.count(b"\n") < count:
+            piece = os.read(self.said.fileno(), 1 << 20)
             if not piece:
                 raise SystemExit(f"the program ended: {self.rest.decode()}")
             self.rest += piece
-        said, self.rest = self.rest.split(b"\n", 1)
-        return said.decode()
+        *said, self.rest = self.rest.split(b"\n", count)
+        return [it.decode() for it in said]
+
+    def line(self, text):
+        return self.lines(text, 1)[0]
 
     def ask(self, asked):
+        """A search is opened and planned, and then each of its splits is fetched and it is replied, in one write."""
         self.line("client a " + json.dumps({"search": asked}))
-        while True:
-            said = self.line("client a")
-            if said.startswith("{"):
-                found = json.loads(said)
-                if "error" in found:
-                    raise SystemExit(f"refused: {said}")
-                return found
+        said = self.line("client a")
+        if said.startswith("a planned "):
+            said = self.lines("client a", int(said.split()[3]) + 1)[-1]
+        found = json.loads(said)
+        if "error" in found:
+            raise SystemExit(f"refused: {said}")
+        return found
 
     def end(self):
         self.work.stdin.close()
