@@ -54,7 +54,7 @@ pub next_written : (w more : TermWriter) (s : Schema) (ds : List Placed) (keys :
 next_written w more s ds keys order left behind e is placed plain g o step h =
     let whole : (h.done ++ e.0.now ∷ []) ++ ordered_keys behind ≡ ordered_keys order =
     append_assoc h.done (e.0.now ∷ []) (ordered_keys behind) ∙ ap (λ (es : List Numbered). h.done ++ ordered_keys es) (sym is) ∙ h.whole in
-    let rising : AreRising ((h.done ++ e.0.now ∷ []) ++ ordered_keys behind) = subst (λ (ks : List (List ℕ)). AreRising ks) (sym whole) (o.rising g.distinct) in
+    let rising : AreRising ((h.done ++ e.0.now ∷ []) ++ ordered_keys behind) = subst (λ (ks : List (List ℕ)). AreRising ks) (sym whole) o.rising in
     record {
       done = h.done ++ e.0.now ∷ [];
       written = step h.done (front_rises (h.done ++ e.0.now ∷ []) (ordered_keys behind) rising) h.written;
@@ -77,7 +77,7 @@ at_among (x ∷ xs) (suc n) k at = inr (at_among xs n k at)
 
 pub are_keys : (s : Schema) (ds : List Placed) (keys : List (List ℕ)) (order : List Numbered) (placed plain : KeyGroups) → AreGrouped s ds keys placed plain → AreOrdered keys order → AreKeys s ds (ordered_keys order)
 are_keys s ds keys order placed plain g o = record {
-  rising = o.rising g.distinct;
+  rising = o.rising;
   exact = λ key. (
     λ has. (let there = among_from keys order key o.each (among_contains (ordered_keys order) key has) in (g.exact key).0 (at_among keys there.0 key there.1)),
     λ stands. contains_among (ordered_keys order) key (o.all key ((g.exact key).1 stands)),

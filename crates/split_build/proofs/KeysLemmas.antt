@@ -1,19 +1,18 @@
 -- Which keys occur, and sorted keys.
-use Rattle.std.proofs.Common.{◌≡◌, ℕ, zero, suc, ◌<◌, Bool, true, false, List, [], ◌∷◌, ◌++◌, map, length, get_or, refl, ◌∙◌, ap, subst, arith, inl, inr}
+use Rattle.std.proofs.Common.{◌≡◌, ℕ, zero, suc, ◌<◌, Bool, true, false, List, [], ◌∷◌, ◌++◌, map, length, get_or, refl, sym, ◌∙◌, ap, subst, arith, inl, inr}
 use Rattle.std.specs.Prelude.{◌↔◌, Contains, IsTrue}
 use Rattle.std.specs.List.{AllByRecursion, IsDistinct}
 use Rattle.std.specs.Str.{bytes_eq}
-use Rattle.std.proofs.lemmas.Map.Keys.{IsDistinct-head, IsDistinct-tail}
 use Rattle.term_dict.specs.Keys.{is_below}
 use Rattle.doc_value.specs.declared.schema.Schema.{Schema}
 use Rattle.split_bundle.specs.declared.placed.Placed.{Placed}
 use Rattle.split_bundle.specs.Keys.{Occurrence, keys_of as occurrences_of}
 use Rattle.split_bundle.specs.Lists.{has_key, stands_in}
 use Rattle.split_bundle.specs.Splits.{AreRising}
-use Rattle.fast_fields.proofs.Below.{below_then, neither_below}
+use Rattle.fast_fields.proofs.Below.{below_then, below_itself}
 use Rattle.split_build.specs.Said.{Said, in_document, said_from, with_key}
 use Rattle.split_build.specs.Members.{IsAmong}
-use Rattle.split_build.proofs.SaidLemmas.{eq_same, false_ne}
+use Rattle.split_build.proofs.SaidLemmas.{eq_false, eq_same, false_ne}
 use Rattle.split_build.proofs.PostedLemmas.{with_key-append}
 
 -- ---- membership
@@ -107,21 +106,23 @@ pub above_all : (x y : List ℕ) (ks : List (List ℕ)) → is_below x y ≡ tru
 above_all x y [] lt h = tt
 above_all x y (k ∷ ks) lt h = (below_then x y k lt h.0, above_all x y ks lt h.1)
 
--- each key is not above the next
-abbrev pub AreInOrder : List (List ℕ) → Type 0
-AreInOrder [] = Unit {0}
-AreInOrder (x ∷ []) = Unit {0}
-AreInOrder (x ∷ y ∷ ys) = (is_below y x ≡ false) × AreInOrder (y ∷ ys)
+-- each key is below the next
+abbrev pub AreAdjacent : List (List ℕ) → Type 0
+AreAdjacent [] = Unit {0}
+AreAdjacent (x ∷ []) = Unit {0}
+AreAdjacent (x ∷ y ∷ ys) = (is_below x y ≡ true) × AreAdjacent (y ∷ ys)
 
-pub rising_of : (ks : List (List ℕ)) → AreInOrder ks → IsDistinct bytes_eq ks → AreRising ks
-rising_of [] order apart = tt
-rising_of (x ∷ []) order apart = (tt, tt)
-rising_of (x ∷ y ∷ ys) order apart =
-    let rest = rising_of (y ∷ ys) order.1 (IsDistinct-tail bytes_eq x (y ∷ ys) apart) in
-    let head = IsDistinct-head bytes_eq x (y ∷ ys) apart in
-    let lt : is_below x y ≡ true = below (is_below x y) refl order.0 head.0 in
-    ((lt, above_all x y ys lt rest.0), rest)
+pub rising_of : (ks : List (List ℕ)) → AreAdjacent ks → AreRising ks
+rising_of [] h = tt
+rising_of (x ∷ []) h = (tt, tt)
+rising_of (x ∷ y ∷ ys) h = let rest = rising_of (y ∷ ys) h.1 in ((h.0, above_all x y ys h.0 rest.0), rest)
+
+-- keys that rise differ
+pub rising_differ : (ks : List (List ℕ)) → AreRising ks → IsDistinct bytes_eq ks
+unfolding IsDistinct
+rising_differ [] h = tt
+rising_differ (k ∷ ks) h = (others ks h.0, rising_differ ks h.1)
   where
-    below : (b : Bool) → is_below x y ≡ b → is_below y x ≡ false → bytes_eq x y ≡ false → is_below x y ≡ true
-    below true is not differ = is
-    below false is not differ = absurd (false_ne x y differ (neither_below x y is not))
+    others : (ls : List (List ℕ)) → AllByRecursion (λ u. is_below k u ≡ true) ls → AllByRecursion (λ l. bytes_eq k l ≡ false) ls
+    others [] p = tt
+    others (l ∷ ls) p = (eq_false k l (λ same. below_itself k (subst (λ (u : List ℕ). is_below k u ≡ true) (sym same) p.0)), others ls p.1)

@@ -1,29 +1,22 @@
 -- Equal texts, and how the occurrences of keys change with one more.
-use Rattle.std.proofs.Common.{◌≡◌, ℕ, zero, suc, Bool, true, false, cond, List, [], ◌∷◌, ◌++◌, map, get_or, Some, refl, sym, ◌∙◌, ap, subst, inl, inr}
-use Rattle.std.specs.Prelude.{Vec, Result, Ok, Err, IfOk, OnOk, slice_get, position, if◌then◌else◌}
+use Rattle.std.proofs.Common.{◌≡◌, ℕ, zero, suc, Bool, true, false, cond, List, [], ◌∷◌, ◌++◌, map, length, Some, refl, sym, ◌∙◌, ap, subst, inl, inr}
+use Rattle.std.specs.Prelude.{Result, Ok, Err, IfOk, OnOk, slice_get, if◌then◌else◌}
 use Rattle.std.specs.Bool.{beq}
-use Rattle.std.specs.List.{AllByRecursion, AllZip, list_any}
+use Rattle.std.specs.List.{AllByRecursion, AllZip}
 use Rattle.std.specs.Str.{bytes_eq}
-use Rattle.std.specs.declared.alloc.Global.{Global}
-use Rattle.std.proofs.lemmas.List.{append-nil, map_push}
-use Rattle.std.proofs.lemmas.List.Quantifiers.{position-Some}
-use Rattle.std.proofs.lemmas.Option.{slice_get-get_or}
+use Rattle.std.proofs.lemmas.List.{length-map, map_push}
 use Rattle.std.proofs.lemmas.Slice.Eq.{bytes_eq-Decides}
-use Rattle.indexmap.specs.IndexSet.{insert_key}
 use Rattle.doc_value.specs.declared.schema.Schema.{Schema}
 use Rattle.split_bundle.specs.Lists.{keeps_places}
 use Rattle.split_build.specs.declared.terms.Occurrences.{Occurrences}
 use Rattle.split_build.specs.declared.terms.TermLog.{TermLog}
 use Rattle.split_build.specs.Said.{Said, places_kept}
-use Rattle.split_build.specs.HeldKeys.{key_bytes}
+use Rattle.split_build.specs.HeldKeys.{Key, key_bytes}
 use Rattle.split_build.specs.HeldTerms.{said_with, IsNumberOf, HasOccurrences, HasSaid}
 use Rattle.split_build.specs.Members.{IsAmong}
 use Rattle.split_build.proofs.Zipped.{zip_push}
 
 -- ---- equal texts
-
-abbrev pub same_keys : Vec ℕ Global → Vec ℕ Global → Bool
-same_keys a b = bytes_eq a.items b.items
 
 pub eq_itself : (a : List ℕ) → bytes_eq a a ≡ true
 eq_itself a = (bytes_eq-Decides a a).1 refl
@@ -53,36 +46,28 @@ get_more [] more i x e = absurd cc
 get_more (k ∷ ks) more zero x e = e
 get_more (k ∷ ks) more (suc i) x e = get_more ks more i x e
 
-pub keys_inserted : (old new : List (Vec ℕ Global)) (k : Vec ℕ Global) (key : List ℕ) → k.items ≡ key → new ≡ insert_key same_keys old k → (more : List (List ℕ)) × (key_bytes new ≡ key_bytes old ++ more) × AllByRecursion (λ m. m ≡ key) more
-keys_inserted old new k key text is = by (list_any (same_keys k) old) refl
-  where
-    by : (b : Bool) → list_any (same_keys k) old ≡ b → (more : List (List ℕ)) × (key_bytes new ≡ key_bytes old ++ more) × AllByRecursion (λ m. m ≡ key) more
-    by true there = ([], ap key_bytes (is ∙ ap (λ (b : Bool). if b then old else old ++ k ∷ []) there) ∙ sym (append-nil (key_bytes old)), tt)
-    by false there = (
-      key ∷ [],
-      ap key_bytes (is ∙ ap (λ (b : Bool). if b then old else old ++ k ∷ []) there) ∙ map_push (λ (v : Vec ℕ Global). v.items) old k ∙ ap (λ (m : List ℕ). key_bytes old ++ m ∷ []) text,
-      (refl, tt),
-    )
-
-get_key : (ks : List (Vec ℕ Global)) (n : ℕ) (k : Vec ℕ Global) → slice_get ks n ≡ Some k → slice_get (key_bytes ks) n ≡ Some k.items
+get_key : (ks : List Key) (n : ℕ) (k : Key) → slice_get ks n ≡ Some k → slice_get (key_bytes ks) n ≡ Some k.items
 get_key [] n k e = absurd cc
-get_key (x ∷ xs) zero k e = let same : x ≡ k = cc in ap (λ (v : Vec ℕ Global). Some v.items) same
+get_key (x ∷ xs) zero k e = let same : x ≡ k = cc in ap (λ (v : Key). Some v.items) same
 get_key (x ∷ xs) (suc n) k e = get_key xs n k e
 
-pub key_stored : (ks : List (Vec ℕ Global)) (k other : Vec ℕ Global) (key : List ℕ) (n : ℕ) → k.items ≡ key → slice_get ks n ≡ Some other → same_keys k other ≡ true → slice_get (key_bytes ks) n ≡ Some key
-key_stored ks k other key n text at same = get_key ks n other at ∙ ap (λ (m : List ℕ). Some m) (sym (eq_same k.items other.items same) ∙ text)
-
-pub key_known : (ks : List (Vec ℕ Global)) (n : ℕ) (k : Vec ℕ Global) (given key : List ℕ) → slice_get ks n ≡ Some k → given ≡ k.items → bytes_eq given key ≡ true → slice_get (key_bytes ks) n ≡ Some key
+pub key_known : (ks : List Key) (n : ℕ) (k : Key) (given key : List ℕ) → slice_get ks n ≡ Some k → given ≡ k.items → bytes_eq given key ≡ true → slice_get (key_bytes ks) n ≡ Some key
 key_known ks n k given key at is same = get_key ks n k at ∙ ap (λ (m : List ℕ). Some m) (sym is ∙ eq_same given key same)
 
-found_by : (ks : List (Vec ℕ Global)) (key : List ℕ) (n : ℕ) (d : Vec ℕ Global) → position (λ (k : Vec ℕ Global). bytes_eq key k.items) ks ≡ Some n → slice_get (key_bytes ks) n ≡ Some key
-found_by ks key n d is =
-    let there = position-Some (λ (k : Vec ℕ Global). bytes_eq key k.items) ks n d is in
-    get_key ks n (get_or ks n d) (slice_get-get_or ks n d there.0) ∙ ap (λ (m : List ℕ). Some m) (sym (eq_same key (get_or ks n d).items there.1))
+pub at_end : (ks : List (List ℕ)) (k : List ℕ) → slice_get (ks ++ k ∷ []) (length ks) ≡ Some k
+at_end [] k = refl
+at_end (x ∷ xs) k = at_end xs k
 
-pub key_found : (ks : List (Vec ℕ Global)) (key : List ℕ) (n : ℕ) → position (λ (k : Vec ℕ Global). bytes_eq key k.items) ks ≡ Some n → slice_get (key_bytes ks) n ≡ Some key
-key_found [] key n is = absurd cc
-key_found (k ∷ ks) key n is = found_by (k ∷ ks) key n k is
+-- a key was put behind the others, and its number is their count
+pub key_pushed : (old new : List Key) (k : Key) (key : List ℕ) (n : ℕ) → k.items ≡ key → new ≡ old ++ k ∷ [] → n ≡ length old → slice_get (key_bytes new) n ≡ Some key
+key_pushed old new k key n text is at =
+    let place : n ≡ length (key_bytes old) = at ∙ sym (length-map old (λ (v : Key). v.items)) in
+    ap (λ (l : List Key). slice_get (key_bytes l) n) is ∙ ap (λ (l : List (List ℕ)). slice_get l n) (map_push (λ (v : Key). v.items) old k) ∙ ap (λ (i : ℕ). slice_get (key_bytes old ++ k.items ∷ []) i) place
+    ∙ at_end (key_bytes old) k.items ∙ ap (λ (m : List ℕ). Some m) text
+
+pub keys_pushed : (old new : List Key) (k : Key) (key : List ℕ) → k.items ≡ key → new ≡ old ++ k ∷ [] → (more : List (List ℕ)) × (key_bytes new ≡ key_bytes old ++ more) × AllByRecursion (λ m. m ≡ key) more
+keys_pushed old new k key text is =
+    (key ∷ [], ap key_bytes is ∙ map_push (λ (v : Key). v.items) old k ∙ ap (λ (m : List ℕ). key_bytes old ++ m ∷ []) text, (refl, tt))
 
 -- ---- of an `Ok`
 
@@ -189,26 +174,26 @@ elsewhere kept other s log o apart is =
     let no : beq (keeps_places s o.key) other ≡ false = ap (λ (b : Bool). beq b other) (sym is) ∙ apart in
     said_push other s log o ∙ rw no refl
 
-pub added_placed : (s : Schema) (log : List Said) (o : Said) (kept : Bool) (number : ℕ) (old new : TermLog) → kept ≡ true → kept ≡ keeps_places s o.key → Comes (key_bytes old.keys.keys) (key_bytes new.keys.keys) o.key → slice_get (key_bytes new.keys.keys) number ≡ Some o.key
+pub added_placed : (s : Schema) (log : List Said) (o : Said) (kept : Bool) (number : ℕ) (old new : TermLog) → kept ≡ true → kept ≡ keeps_places s o.key → Comes (key_bytes old.keys.keys.items) (key_bytes new.keys.keys.items) o.key → slice_get (key_bytes new.keys.keys.items) number ≡ Some o.key
     → IsPushed true number o old.placed new.placed → new.plain ≡ old.plain → HasSaid old s log → HasSaid new s (log ++ o ∷ [])
 added_placed s log o kept number old new on is comes at p same h =
     let kept_is : true ≡ keeps_places s o.key = sym on ∙ is in
     record {
-      placed = subst (λ (os : List Said). HasOccurrences (key_bytes new.keys.keys) true os new.placed) (sym (here true s log o kept_is))
-          (pushed (key_bytes new.keys.keys) true number o (said_with true s log) old.placed new.placed at p (again (key_bytes old.keys.keys) (key_bytes new.keys.keys) o.key true (said_with true s log) old.placed comes h.placed));
-      plain = subst (λ (os : List Said). HasOccurrences (key_bytes new.keys.keys) false os new.plain) (sym (elsewhere true false s log o refl kept_is))
-          (subst (λ (l : Occurrences). HasOccurrences (key_bytes new.keys.keys) false (said_with false s log) l) (sym same) (again (key_bytes old.keys.keys) (key_bytes new.keys.keys) o.key false (said_with false s log) old.plain comes h.plain));
-      used = used_more log o (key_bytes old.keys.keys) comes.0 (key_bytes new.keys.keys) comes.1 comes.2 h.used;
+      placed = subst (λ (os : List Said). HasOccurrences (key_bytes new.keys.keys.items) true os new.placed) (sym (here true s log o kept_is))
+          (pushed (key_bytes new.keys.keys.items) true number o (said_with true s log) old.placed new.placed at p (again (key_bytes old.keys.keys.items) (key_bytes new.keys.keys.items) o.key true (said_with true s log) old.placed comes h.placed));
+      plain = subst (λ (os : List Said). HasOccurrences (key_bytes new.keys.keys.items) false os new.plain) (sym (elsewhere true false s log o refl kept_is))
+          (subst (λ (l : Occurrences). HasOccurrences (key_bytes new.keys.keys.items) false (said_with false s log) l) (sym same) (again (key_bytes old.keys.keys.items) (key_bytes new.keys.keys.items) o.key false (said_with false s log) old.plain comes h.plain));
+      used = used_more log o (key_bytes old.keys.keys.items) comes.0 (key_bytes new.keys.keys.items) comes.1 comes.2 h.used;
     }
 
-pub added_plain : (s : Schema) (log : List Said) (o : Said) (kept : Bool) (number : ℕ) (old new : TermLog) → kept ≡ false → kept ≡ keeps_places s o.key → Comes (key_bytes old.keys.keys) (key_bytes new.keys.keys) o.key → slice_get (key_bytes new.keys.keys) number ≡ Some o.key
+pub added_plain : (s : Schema) (log : List Said) (o : Said) (kept : Bool) (number : ℕ) (old new : TermLog) → kept ≡ false → kept ≡ keeps_places s o.key → Comes (key_bytes old.keys.keys.items) (key_bytes new.keys.keys.items) o.key → slice_get (key_bytes new.keys.keys.items) number ≡ Some o.key
     → IsPushed false number o old.plain new.plain → new.placed ≡ old.placed → HasSaid old s log → HasSaid new s (log ++ o ∷ [])
 added_plain s log o kept number old new off is comes at p same h =
     let kept_is : false ≡ keeps_places s o.key = sym off ∙ is in
     record {
-      placed = subst (λ (os : List Said). HasOccurrences (key_bytes new.keys.keys) true os new.placed) (sym (elsewhere false true s log o refl kept_is))
-          (subst (λ (l : Occurrences). HasOccurrences (key_bytes new.keys.keys) true (said_with true s log) l) (sym same) (again (key_bytes old.keys.keys) (key_bytes new.keys.keys) o.key true (said_with true s log) old.placed comes h.placed));
-      plain = subst (λ (os : List Said). HasOccurrences (key_bytes new.keys.keys) false os new.plain) (sym (here false s log o kept_is))
-          (pushed (key_bytes new.keys.keys) false number o (said_with false s log) old.plain new.plain at p (again (key_bytes old.keys.keys) (key_bytes new.keys.keys) o.key false (said_with false s log) old.plain comes h.plain));
-      used = used_more log o (key_bytes old.keys.keys) comes.0 (key_bytes new.keys.keys) comes.1 comes.2 h.used;
+      placed = subst (λ (os : List Said). HasOccurrences (key_bytes new.keys.keys.items) true os new.placed) (sym (elsewhere false true s log o refl kept_is))
+          (subst (λ (l : Occurrences). HasOccurrences (key_bytes new.keys.keys.items) true (said_with true s log) l) (sym same) (again (key_bytes old.keys.keys.items) (key_bytes new.keys.keys.items) o.key true (said_with true s log) old.placed comes h.placed));
+      plain = subst (λ (os : List Said). HasOccurrences (key_bytes new.keys.keys.items) false os new.plain) (sym (here false s log o kept_is))
+          (pushed (key_bytes new.keys.keys.items) false number o (said_with false s log) old.plain new.plain at p (again (key_bytes old.keys.keys.items) (key_bytes new.keys.keys.items) o.key false (said_with false s log) old.plain comes h.plain));
+      used = used_more log o (key_bytes old.keys.keys.items) comes.0 (key_bytes new.keys.keys.items) comes.1 comes.2 h.used;
     }

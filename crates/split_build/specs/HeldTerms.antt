@@ -26,6 +26,6 @@ pub record HasOccurrences (keys : List (List ℕ)) (kept : Bool) (os : List Said
 
 -- what was said, and the keys that occur there
 pub record HasSaid (t : TermLog) (s : Schema) (log : List Said) : Type 0 where
-  pub placed : HasOccurrences (key_bytes t.keys.keys) true (said_with true s log) t.placed
-  pub plain : HasOccurrences (key_bytes t.keys.keys) false (said_with false s log) t.plain
-  pub used : AllByRecursion (IsAmong (map (λ o. o.key) log)) (key_bytes t.keys.keys)
+  pub placed : HasOccurrences (key_bytes t.keys.keys.items) true (said_with true s log) t.placed
+  pub plain : HasOccurrences (key_bytes t.keys.keys.items) false (said_with false s log) t.plain
+  pub used : AllByRecursion (IsAmong (map (λ o. o.key) log)) (key_bytes t.keys.keys.items)

@@ -70,7 +70,7 @@ impl Builder {
             count: 0,
             weight: 0,
             documents: DocumentLog::vacant(alloc),
-            terms: TermLog::vacant(alloc)?,
+            terms: TermLog::vacant(alloc),
             columns: column_logs(alloc, schema)?,
             tags: tag_logs(alloc, schema)?,
             times: None,

@@ -7,11 +7,12 @@ ghost use Rattle.split_bundle.specs.Splits.{AreRising};
 ghost use Rattle.term_postings.specs.Rows.{lent};
 ghost use Rattle.split_bundle.specs.Lists.{keeps_places};
 ghost use Rattle.split_build.specs.Grouped.{grouped, run_of};
-ghost use Rattle.split_build.specs.HeldKeys.{key_bytes};
+ghost use Rattle.split_build.specs.KeyGroups.{AreOrdered};
 ghost use Rattle.split_build.specs.WrittenTerms.{AreGrouped, AreTermParts, IsLogOf, HasWritten, IsListOf};
 
 use crate::key_groups::{KeyGroups, groups_of};
 use crate::key_order::in_order;
+use crate::key_table::KeyTable;
 use crate::terms::TermLog;
 use byte_fields::Bytes;
 use doc_value::Schema;
@@ -151,18 +152,17 @@ fn groups_for<'a>(kept: bool, placed: &'a KeyGroups, plain: &'a KeyGroups) -> &'
     if kept { placed } else { plain }
 }
 
-// The parts of a split that these keys make, whose occurrences stand together.
+// The parts of a split that these keys make in their order, whose occurrences stand together.
 fn write_groups(
     alloc: Global,
     schema: &Schema,
-    keys: &[Vec<u8>],
+    order: &[(&[u8], usize)],
     placed: &KeyGroups,
     plain: &KeyGroups,
 ) -> Result<TermParts, AllocError>
-    requires { ∥ ((documents : List Placed) × AreGrouped schema.now documents (key_bytes keys.now) placed.now plain.now) ∥₁ }
-    ensures { (documents : List Placed) → AreGrouped schema.now documents (key_bytes keys.now) placed.now plain.now → IfOk result (AreTermParts schema.now documents) }
+    requires { ∥ ((documents : List Placed) × (keys : List (List ℕ)) × AreGrouped schema.now documents keys placed.now plain.now × AreOrdered keys order.now) ∥₁ }
+    ensures { (documents : List Placed) (keys : List (List ℕ)) → AreGrouped schema.now documents keys placed.now plain.now → AreOrdered keys order.now → IfOk result (AreTermParts schema.now documents) }
 {
-    let order = in_order(alloc, keys)?;
     let mut writer = TermWriter::vacant(alloc);
     for i in 0..order.len() {
         let (key, number) = order[i];
@@ -194,9 +194,11 @@ pub fn write_terms(alloc: Global, schema: &Schema, log: TermLog) -> Result<TermP
         keys,
         placed,
         plain,
-        ..
     } = log;
+    let KeyTable { keys, slots } = keys;
+    drop(slots);
     let plain = groups_of(alloc, keys.len(), false, plain)?;
     let placed = groups_of(alloc, keys.len(), true, placed)?;
-    write_groups(alloc, schema, keys.as_slice(), &placed, &plain)
+    let order = in_order(alloc, keys.as_slice())?;
+    write_groups(alloc, schema, order.as_slice(), &placed, &plain)
 }

@@ -1,12 +1,10 @@
 //! The occurrences of keys in the documents taken so far.
 
-ghost use Rattle.std.specs.Prelude.{◌≡◌, ◌∷◌, ◌++◌, [], ℕ, List, Some, IfOk, OnOk, slice_get, true, if◌then◌else◌};
-ghost use Rattle.std.specs.List.{AllByRecursion};
+ghost use Rattle.std.specs.Prelude.{◌≡◌, ◌∷◌, ◌++◌, [], OnOk, if◌then◌else◌};
 ghost use Rattle.doc_value.specs.declared.schema.Schema.{Schema};
 ghost use Rattle.split_bundle.specs.Lists.{keeps_places};
-ghost use Rattle.split_build.specs.HeldKeys.{key_bytes};
 
-use indexmap::IndexSet;
+use crate::key_table::KeyTable;
 use std::alloc::{AllocError, Global};
 
 /// Occurrences in the order of documents: of each the number of its key and the document, and, where they are kept, the
@@ -45,116 +43,26 @@ impl Occurrences {
     }
 }
 
-// So many numbers are kept as hints.
-const HINTS: usize = 65_536;
-
-/// The numbers of keys that were found last, each where the bytes of its key say. A number is tried before it is taken, so
-/// any may stand there.
-#[derive(Drop)]
-pub struct Hints {
-    numbers: Vec<u32>,
-}
-
-impl Hints {
-    fn vacant(alloc: Global) -> Result<Hints, AllocError> {
-        let numbers = vec![in alloc; 0u32; HINTS]?;
-        Ok(Hints { numbers })
-    }
-
-    fn get(&self, place: usize) -> u32 {
-        self.numbers.get(place).copied().unwrap_or(0)
-    }
-
-    fn set(&mut self, place: usize, number: u32) {
-        if let Some(hint) = self.numbers.get_mut(place) {
-            *hint = number;
-        }
-    }
-}
-
-// Where the hint for a key stands.
-fn hint_place(key: &[u8]) -> usize {
-    let mut mixed: u32 = 0x811c_9dc5;
-    for byte in key {
-        mixed = (mixed ^ u32::from(*byte)).wrapping_mul(0x0100_0193);
-    }
-    (mixed ^ (mixed >> 16)) as usize % HINTS
-}
-
 /// Each key that occurs, in the order of first sight, and where: the occurrences whose places are kept, and the others.
 #[derive(Drop)]
 pub struct TermLog {
-    pub keys: IndexSet<Vec<u8>>,
-    pub hints: Hints,
+    pub keys: KeyTable,
     pub placed: Occurrences,
     pub plain: Occurrences,
-}
-
-// A number in 32 bits. There is no room for more keys.
-fn narrow(number: usize) -> Result<u32, AllocError>
-    ensures { IfOk result (λ n. n ≡ number) }
-{
-    match u32::try_from(number) {
-        Ok(narrow) => Ok(narrow),
-        Err(_) => Err(AllocError),
-    }
-}
-
-// Whether a key has this number among these.
-fn has_number(keys: &IndexSet<Vec<u8>>, number: u32, key: &[u8]) -> bool
-    ensures { result ≡ true → slice_get (key_bytes keys.now.keys) number ≡ Some key.now }
-{
-    match keys.get_index(number as usize) {
-        Some(known) => known.as_slice() == key,
-        None => false,
-    }
-}
-
-// The number of a key among these, behind which it is put where it is none of them.
-fn sought(alloc: Global, keys: &mut IndexSet<Vec<u8>>, key: &[u8]) -> Result<u32, AllocError>
-    ensures grown { OnOk result ((more : List (List ℕ)) × (key_bytes keys.new.keys ≡ key_bytes keys.old.keys ++ more) × AllByRecursion (λ k. k ≡ key.now) more) }
-    ensures number { IfOk result (λ n. slice_get (key_bytes keys.new.keys) n ≡ Some key.now) }
-{
-    if let Some(number) = keys.get_index_of(key) {
-        return narrow(number);
-    }
-    let (number, _added) = keys.insert_full(Vec::from_slice(alloc, key)?)?;
-    narrow(number)
-}
-
-// The same, where the number that the hint names is tried first.
-fn number_of(
-    alloc: Global,
-    keys: &mut IndexSet<Vec<u8>>,
-    hints: &mut Hints,
-    key: &[u8],
-) -> Result<u32, AllocError>
-    ensures grown { OnOk result ((more : List (List ℕ)) × (key_bytes keys.new.keys ≡ key_bytes keys.old.keys ++ more) × AllByRecursion (λ k. k ≡ key.now) more) }
-    ensures number { IfOk result (λ n. slice_get (key_bytes keys.new.keys) n ≡ Some key.now) }
-{
-    let place = hint_place(key);
-    let hint = hints.get(place);
-    if has_number(keys, hint, key) {
-        return Ok(hint);
-    }
-    let number = sought(alloc, keys, key)?;
-    hints.set(place, number);
-    Ok(number)
 }
 
 impl TermLog {
     ghost use Rattle.split_build.specs.HeldTerms.{HasSaid};
     ghost use Rattle.split_build.specs.Walks.{Adds};
 
-    pub fn vacant(alloc: Global) -> Result<TermLog, AllocError>
-        ensures { IfOk result (λ log. (s : Schema) → HasSaid log s []) }
+    pub fn vacant(alloc: Global) -> TermLog
+        ensures { (s : Schema) → HasSaid result s [] }
     {
-        Ok(TermLog {
-            keys: IndexSet::new(alloc),
-            hints: Hints::vacant(alloc)?,
+        TermLog {
+            keys: KeyTable::vacant(alloc),
             placed: Occurrences::vacant(alloc),
             plain: Occurrences::vacant(alloc),
-        })
+        }
     }
 
     /// Adds an occurrence of a key, with its place where `kept` says so. After an `Err` nothing is said of what is held.
@@ -169,7 +77,7 @@ impl TermLog {
         ensures { (s : Schema) → kept ≡ keeps_places s key.now
             → OnOk result (Adds self.old self.new s (record { key = key.now; document = document; place = place } ∷ [])) }
     {
-        let number = number_of(alloc, &mut self.keys, &mut self.hints, key)?;
+        let number = self.keys.number_of(alloc, key)?;
         if kept {
             self.placed.push(true, number, document, place)
         } else {
