@@ -1,18 +1,11 @@
--- Indexes of blocks, copied and read.
-use Rattle.std.proofs.Common.{◌≡◌, ℕ, suc, ◌+◌, ◌-◌, ◌<◌, List, [], ◌∷◌, ◌++◌, take, Some, Result, Ok, Err, refl, sym, ap, ◌∙◌, arith, append_assoc}
-use Rattle.std.specs.List.{slice_get}
-use Rattle.std.proofs.lemmas.Option.{slice_get_within, get_or_from_slice_get}
-use Rattle.std.proofs.lemmas.List.{take_more, append-nil}
+-- Indexes of blocks that are read.
+use Rattle.std.proofs.Common.{◌≡◌, ℕ, suc, ◌+◌, ◌-◌, ◌<◌, List, [], ◌∷◌, ◌++◌, Result, Ok, Err, refl, sym, ap, ◌∙◌, arith, append_assoc}
+use Rattle.std.proofs.lemmas.List.{append-nil}
 use Rattle.byte_fields.specs.declared.corrupt.Corrupt.{Corrupt}
 use Rattle.byte_fields.specs.Steps.{◌>>=◌}
 use Rattle.term_dict.specs.declared.index.BlockStart.{BlockStart}
 use Rattle.split_bundle.specs.declared.split_error.SplitError.TheVariants.{BadSection}
 use Rattle.split_bundle.specs.Reading.{block_start_at, block_starts_at, of_section}
-
-pub take_one_more : (xs : List BlockStart) (n : ℕ) (x : BlockStart) → slice_get xs n ≡ Some x → take n xs ++ x ∷ [] ≡ take (n + 1) xs
-take_one_more xs n x e =
-    let same = get_or_from_slice_get xs n x x e in
-    sym (take_more xs n x (slice_get_within xs n x e) ∙ ap (λ (y : BlockStart). take n xs ++ y ∷ []) same)
 
 -- blocks that were read before others
 abbrev pub prepended : List BlockStart → Result (List BlockStart) Corrupt → Result (List BlockStart) Corrupt
@@ -55,12 +48,6 @@ module _ (bytes : List ℕ) (count taken at : ℕ) (done : List BlockStart) (who
       let here : prepended done (block_starts_at (count - taken) bytes at) ≡ Err c = rw (left, e) refl in
       let is : whole ≡ Err c = sym so_far ∙ here in
       rw is refl
-
--- one more block was copied
-pub copied_more : (xs copy now : List BlockStart) (n : ℕ) (first : List ℕ) (x : BlockStart) → slice_get xs n ≡ Some x → copy ≡ take n xs → first ≡ x.first
-    → now ≡ copy ++ record { first = first; start = x.start } ∷ [] → now ≡ take (n + 1) xs
-copied_more xs copy now n first x here so_far first_is is =
-    is ∙ ap (λ (l : List ℕ). copy ++ record { first = l; start = x.start } ∷ []) first_is ∙ ap (λ (l : List BlockStart). l ++ x ∷ []) so_far ∙ take_one_more xs n x here
 
 -- none was read
 pub blocks_begun : (bytes : List ℕ) (count at : ℕ) (done : List BlockStart) → done ≡ [] → prepended done (block_starts_at (count - 0) bytes at) ≡ block_starts_at count bytes at

@@ -8,6 +8,7 @@ ghost use Rattle.split_bundle.specs.Heads.{head_in};
 
 use crate::SplitError;
 use crate::layout::{Layout, Sections, Table, read_layout};
+use crate::shared::Shared;
 use byte_fields::{Bytes, Corrupt, take_bytes, take_eight, take_varint};
 use std::alloc::{AllocError, Global};
 use term_dict::{BlockIndex, BlockStart};
@@ -30,9 +31,9 @@ pub(crate) struct LaidFooter<'a> {
 /// What the footer of a split file says.
 #[derive(Debug, Drop)]
 pub struct Footer {
-    pub(crate) bytes: Bytes,
+    pub(crate) bytes: Shared<Bytes>,
     pub(crate) layout: Layout,
-    pub(crate) index: BlockIndex,
+    pub(crate) index: Shared<BlockIndex>,
     ghost within: { IsWithin bytes layout },
     ghost room: { 4 + total layout.sections < 2 ^ 64 },
 }
@@ -67,20 +68,20 @@ impl Footer {
         let LaidFooter { bytes, layout } = lay_out(tail, size)?;
         let index = read_index(alloc, bytes, layout.blocks)?;
         Ok(Footer {
-            bytes: Bytes::from_slice(alloc, bytes)?,
+            bytes: Shared::over(alloc, Bytes::from_slice(alloc, bytes)?)?,
             layout,
-            index,
+            index: Shared::over(alloc, index)?,
         })
     }
 
-    /// A footer that equals this one.
-    pub fn copy(&self, alloc: Global) -> Result<Footer, AllocError>
+    /// A footer that equals this one, over the same memory.
+    pub fn copy(&self, _alloc: Global) -> Result<Footer, AllocError>
         ensures { IfOk result (λ copy. copy ≡ self.now) }
     {
         Ok(Footer {
-            bytes: Bytes::from_slice(alloc, self.bytes.as_slice())?,
+            bytes: self.bytes.copy()?,
             layout: self.layout,
-            index: copy_index(alloc, &self.index)?,
+            index: self.index.copy()?,
         })
     }
 
@@ -88,7 +89,14 @@ impl Footer {
     pub fn index(&self) -> &BlockIndex
         ensures { result.now ≡ self.now.index }
     {
-        &self.index
+        self.index.value()
+    }
+
+    // The footer's bytes.
+    pub(crate) fn bytes(&self) -> &[u8]
+        ensures { result.now ≡ self.now.bytes }
+    {
+        self.bytes.value().as_slice()
     }
 
     /// How many documents the split has.
@@ -218,18 +226,4 @@ fn block_start_at(bytes: &[u8], at: usize) -> Result<(LentStart<'_>, usize), Cor
     let (first, next) = take_bytes(bytes, at)?;
     let (start, next) = take_varint(bytes, next)?;
     Ok((LentStart { first, start }, next))
-}
-
-fn copy_index(alloc: Global, index: &BlockIndex) -> Result<BlockIndex, AllocError>
-    ensures { IfOk result (λ copy. copy ≡ index.now) }
-{
-    let mut copy = BlockIndex::vacant(alloc);
-    for number in 0..index.len() {
-        let block = index.at(number);
-        copy.push(BlockStart {
-            first: Bytes::from_slice(alloc, block.first.as_slice())?,
-            start: block.start,
-        })?;
-    }
-    Ok(copy)
 }

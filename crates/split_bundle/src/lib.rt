@@ -8,6 +8,7 @@ mod part_view;
 mod parts;
 mod pieces;
 mod placed;
+mod shared;
 mod split_error;
 mod split_view;
 mod whole;

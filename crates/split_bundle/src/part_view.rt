@@ -168,7 +168,7 @@ impl<'a> PartView<'a> {
         ensures exact { Gives parts_of result (column_read schema.now self.now.footer.layout.sections self.now.pieces self.now.footer.bytes self.now.footer.layout.columns number) }
     {
         let pieces = self.pieces.as_slice();
-        let footer = self.footer.bytes.as_slice();
+        let footer = self.footer.bytes();
         fast_column(pieces, &self.footer.layout, footer, schema, number)
     }
 
@@ -186,7 +186,7 @@ impl<'a> PartView<'a> {
         ensures exact { MayGive (λ d. d) result (placed_in schema.now.fields self.now.footer.layout self.now.footer.bytes self.now.pieces doc) }
     {
         let pieces = self.pieces.as_slice();
-        let footer = self.footer.bytes.as_slice();
+        let footer = self.footer.bytes();
         let layout = &self.footer.layout;
         placed_in(alloc, pieces, layout, footer, &schema.fields, doc)
     }

@@ -11,7 +11,7 @@ use Rattle.split_bundle.proofs.part_view.PartView.placed.Goals as goal
 pub returns-clause-only : goal.returns-clause-only
 returns-clause-only c documents p d part here =
     placed_lent c.args.schema.now documents p part.is_split c.args.self.now.footer.layout part.footer.layout c.args.self.now.pieces part.pieces c.args.doc d here c.args.self.now.footer.bytes part.footer.bytes c.placed_in.result
-    (rw (sym c.as_slice-pieces.ensures, sym c.as_slice-footer.ensures) c.placed_in.ensures)
+    (rw (sym c.as_slice-pieces.ensures, sym c.bytes-footer.ensures) c.placed_in.ensures)
 
 pub returns-clause-there : goal.returns-clause-there
 returns-clause-there c documents p d part all here =
@@ -20,4 +20,4 @@ returns-clause-there c documents p d part all here =
     (returns-clause-only c documents p d part here)
 
 pub returns-clause-of_schema : goal.returns-clause-of_schema
-returns-clause-of_schema c = placed_fits c.args.schema.now c.args.self.now.footer.layout c.as_slice-footer.result.now c.as_slice-pieces.result.now c.args.doc c.placed_in.result c.placed_in.ensures
+returns-clause-of_schema c = placed_fits c.args.schema.now c.args.self.now.footer.layout c.bytes-footer.result.now c.as_slice-pieces.result.now c.args.doc c.placed_in.result c.placed_in.ensures

@@ -1,5 +1,3 @@
-use Rattle.std.proofs.Common.{List, sym, ap, ◌∙◌}
-use Rattle.split_bundle.specs.declared.pieces.FilePiece.{FilePiece}
 use Rattle.split_bundle.specs.Documents.{placed_bytes, weight}
 use Rattle.split_bundle.specs.Files.{file_bytes}
 use Rattle.split_bundle.specs.DocReading.{doc_part, weight_of}
