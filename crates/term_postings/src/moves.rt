@@ -191,9 +191,12 @@ impl<'a> Cursor<'a> {
         ensures exact { passed_all result found.new (walk self.new) ≡ passed_many (length found.old) (walk self.old) }
         ensures given { OnOk result (self.new.given ≡ last_of found.new self.old.given) }
     {
+        // The walk is over a copy, whose fields stay in registers, and is written back once.
+        let mut cursor = *self;
         for number in 0..found.len() {
-            found[number] = self.pass()?;
+            found[number] = cursor.pass()?;
         }
+        *self = cursor;
         Ok(())
     }
 

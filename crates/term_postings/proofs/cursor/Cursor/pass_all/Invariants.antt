@@ -6,7 +6,7 @@ use Rattle.term_postings.specs.declared.list.Posting.{Posting}
 use Rattle.term_postings.proofs.cursor.Cursor.pass_all.Given as goal
 
 abbrev pub invariant-loop-number : goal.invariant-loop-number
-invariant-loop-number l = (l.self.left + l.number ≡ l.fn.self.left) × (l.self.passed ≡ l.fn.self.passed + l.number)
-    × ((told : Bool) (after : List Posting) (left : List ℕ) → StandsBefore told l.fn.self after left → PassesMany told l.self after left (take l.number l.found))
-    × (passed_many (length l.fn.found) (walk l.fn.self) ≡ (passed_many (length l.fn.found - l.number) (walk l.self) >>= λ more. Ok (take l.number l.found ++ more.0, more.1)))
-    × (l.self.given ≡ last_of (take l.number l.found) l.fn.self.given)
+invariant-loop-number l = (l.cursor.left + l.number ≡ l.fn.self.left) × (l.cursor.passed ≡ l.fn.self.passed + l.number)
+    × ((told : Bool) (after : List Posting) (left : List ℕ) → StandsBefore told l.fn.self after left → PassesMany told l.cursor after left (take l.number l.found))
+    × (passed_many (length l.fn.found) (walk l.fn.self) ≡ (passed_many (length l.fn.found - l.number) (walk l.cursor) >>= λ more. Ok (take l.number l.found ++ more.0, more.1)))
+    × (l.cursor.given ≡ last_of (take l.number l.found) l.fn.self.given)
