@@ -10,7 +10,7 @@ use crate::FieldError;
 const HIGH_END: u64 = 1 << 57;
 
 /// The number at a place, and the place behind it.
-#[inline]
+#[inline(always)]
 pub fn take_varint(bytes: &[u8], at: usize) -> Result<(u64, usize), FieldError>
     requires { at ≤ length bytes.now }
     // What is read is spelled there.
@@ -23,8 +23,8 @@ pub fn take_varint(bytes: &[u8], at: usize) -> Result<(u64, usize), FieldError>
     varint_whole(bytes, at)
 }
 
-// A number of one byte, which most are, is read before anything is called.
-#[inline]
+// A number of one byte, which most are, is read where the call stands, before anything is called.
+#[inline(always)]
 #[tactic(auto, using(crate::proofs::Taken::parts), unfolding(crate::specs::Reading::varint_at))]
 fn varint_whole(bytes: &[u8], at: usize) -> Result<(u64, usize), FieldError>
     requires { at ≤ length bytes.now }
@@ -58,7 +58,9 @@ fn last_of(bytes: &[u8], start: usize) -> Result<usize, FieldError>
     Err(FieldError::Short { at: last })
 }
 
-// The number at a place, from its last byte to its first.
+// The number at a place, from its last byte to its first. It stays a call, so that the short case is small enough to
+// stand in line.
+#[inline(never)]
 fn varint_long(bytes: &[u8], start: usize) -> Result<(u64, usize), FieldError>
     requires { start ≤ length bytes.now }
     ensures { result ≡ varint_part 10 bytes.now start start }
