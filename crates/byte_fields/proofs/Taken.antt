@@ -44,6 +44,15 @@ part_too_large left at start high next bytes ne lt large read pos ge =
     let e : varint_part left bytes at start ≡ Err (TooLarge start) = part_more left at start bytes ne lt large ∙ rw (← read, ne_eqb high 0 pos, le-ltb high (2 ^ 57) ge) refl in
     sym e
 
+-- a number of two bytes
+pub two_read : (bytes : List ℕ) (start : ℕ) → start + 1 < length bytes → 128 ≤ get_or bytes start 0 → get_or bytes (start + 1) 0 < 128 → get_or bytes (start + 1) 0 ≢ 0
+    → varint_part 10 bytes start start ≡ Ok (get_or bytes start 0 - 128 + 128 * get_or bytes (start + 1) 0, start + 2)
+two_read bytes start lt large small pos =
+    let below : get_or bytes (start + 1) 0 < 2 ^ 57 = omega arith in
+    let place : (start + 1) + 1 ≡ start + 2 = omega arith in
+    part_more 10 start start bytes (omega arith) (omega arith) large
+    ∙ rw (part_last 9 (start + 1) start bytes (omega arith) lt small, ne_eqb (get_or bytes (start + 1) 0) 0 pos, lt-ltb (get_or bytes (start + 1) 0) (2 ^ 57) below, place) refl
+
 pub ruleset parts = (part_spent, part_short, part_last, part_more)
 
 -- ---- both directions

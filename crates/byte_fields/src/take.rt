@@ -36,7 +36,25 @@ fn varint_whole(bytes: &[u8], at: usize) -> Result<(u64, usize), FieldError>
             return Ok((u64::from(byte), at + 1));
         }
     }
-    varint_long(bytes, at)
+    varint_more(bytes, at)
+}
+
+// The number at a place, which mostly has two bytes. It stays a call, so that what reads one byte is short enough to stand
+// in line.
+#[inline(never)]
+#[tactic(auto, using(crate::proofs::Taken::two_read))]
+fn varint_more(bytes: &[u8], start: usize) -> Result<(u64, usize), FieldError>
+    requires { start ≤ length bytes.now }
+    ensures { result ≡ varint_part 10 bytes.now start start }
+{
+    if bytes.len() - start >= 2 {
+        let low = bytes[start];
+        let high = bytes[start + 1];
+        if low >= 128 && high < 128 && high > 0 {
+            return Ok((u64::from(low - 128) + 128 * u64::from(high), start + 2));
+        }
+    }
+    varint_long(bytes, start)
 }
 
 // Where the number's last byte stands.
@@ -58,9 +76,7 @@ fn last_of(bytes: &[u8], start: usize) -> Result<usize, FieldError>
     Err(FieldError::Short { at: last })
 }
 
-// The number at a place, from its last byte to its first. It stays a call, so that the short case is small enough to
-// stand in line.
-#[inline(never)]
+// The number at a place, from its last byte to its first.
 fn varint_long(bytes: &[u8], start: usize) -> Result<(u64, usize), FieldError>
     requires { start ≤ length bytes.now }
     ensures { result ≡ varint_part 10 bytes.now start start }
