@@ -3,7 +3,7 @@
 use doc_value::{List, Text, Value};
 
 /// What the documents of a bucket have in common.
-#[derive(Debug, Drop)]
+#[derive(Drop)]
 pub enum Key {
     /// A value of the field that was asked for.
     Value(Value),
@@ -12,7 +12,7 @@ pub enum Key {
 }
 
 /// How many documents have a key.
-#[derive(Debug, Drop)]
+#[derive(Drop)]
 pub struct Bucket {
     pub key: Key,
     pub count: u64,
@@ -22,7 +22,7 @@ pub struct Bucket {
 pub type Buckets = List<Bucket>;
 
 /// The answer of one aggregation.
-#[derive(Debug, Drop)]
+#[derive(Drop)]
 pub enum AggAnswer {
     /// The greatest buckets, and the sum of the counts of all others.
     Terms { buckets: Buckets, others: u128 },
@@ -31,7 +31,7 @@ pub enum AggAnswer {
 }
 
 /// The answer of an aggregation under its name.
-#[derive(Debug, Drop)]
+#[derive(Drop)]
 pub struct NamedResult {
     pub name: Text,
     pub result: AggAnswer,

@@ -6,7 +6,7 @@ ghost use Rattle.std.specs.Int.RustNames.{unsigned_abs};
 use std::marker::Model;
 
 /// A whole number with a sign, of less than 2^96 in size: more than a request can name. Contracts see that number.
-#[derive(Clone, Copy, Debug)]
+#[derive(Clone, Copy)]
 pub struct Distance {
     held: i128,
 }

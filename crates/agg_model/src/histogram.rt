@@ -13,7 +13,7 @@ use crate::tallies::StepCounts;
 use std::alloc::{AllocError, Global};
 
 /// Where the steps of a histogram begin: at `offset` and then at each `interval`.
-#[derive(Clone, Copy, Debug)]
+#[derive(Clone, Copy)]
 pub struct Scale {
     pub interval: Distance,
     pub offset: Distance,

@@ -18,7 +18,7 @@ use std::alloc::{AllocError, Global};
 use std::cmp::Ordering;
 
 /// A value, and how many documents have it.
-#[derive(Debug, Drop)]
+#[derive(Drop)]
 pub struct ValueCount {
     pub value: Value,
     pub count: u64,

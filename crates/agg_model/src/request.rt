@@ -5,7 +5,7 @@ use doc_value::{Doc, List, Replica, Text};
 use std::alloc::{AllocError, Global};
 
 /// What is counted over a list of documents. `field` is the field's number in the schema.
-#[derive(Clone, Copy, Debug)]
+#[derive(Clone, Copy)]
 pub enum Agg {
     /// The values that most documents have: the first `size` of them by count downwards, then by value upwards.
     Terms {
@@ -25,7 +25,7 @@ pub enum Agg {
 }
 
 /// An aggregation under the name by which it is answered.
-#[derive(Debug, Drop)]
+#[derive(Drop)]
 pub struct NamedAgg {
     pub name: Text,
     pub agg: Agg,

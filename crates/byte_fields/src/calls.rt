@@ -4,11 +4,11 @@ ghost use Rattle.byte_fields.specs.Causes.{Rose, HasCause, following};
 use std::alloc::{AllocError, Global};
 
 /// A call of the outside failed: its count of faults rose, or stands at its end.
-#[derive(Clone, Copy, Debug, PartialEq, Eq)]
+#[derive(Clone, Copy, PartialEq, Eq)]
 pub struct Failed;
 
 /// The calls of an object in memory: how many it had, which of them fail, and how many did.
-#[derive(Debug, Drop)]
+#[derive(Drop)]
 pub struct Calls {
     made: u64,
     failing: Vec<u64>,

@@ -6,7 +6,6 @@ use std::marker::Model;
 const CLIENT_SIZE: usize = 32;
 
 /// A client's name: 1 to 32 bytes of letters, digits, `_` and `-`.
-#[derive(Debug)]
 pub struct Client {
     bytes: [u8; 32],
     len: usize,

@@ -4,7 +4,7 @@ use crate::FieldError;
 use thiserror::Error;
 
 /// The bytes from this place on are not of the form that was to be read.
-#[derive(Clone, Copy, Debug, PartialEq, Eq, Error)]
+#[derive(Clone, Copy, Debug, Error)]
 #[error("the bytes are corrupt at {at}")]
 pub struct Corrupt {
     pub at: usize,

@@ -6,7 +6,7 @@ use std::alloc::{AllocError, Global};
 use std::marker::Model;
 
 /// A `Vec` that contracts see as the list of its items, so that two with the same items are equal.
-#[derive(Debug, Drop)]
+#[derive(Drop)]
 pub struct List<T> {
     held: Vec<T>,
 }

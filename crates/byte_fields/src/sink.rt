@@ -26,7 +26,7 @@ pub trait Sink {
 }
 
 /// A buffer in memory of a fixed size.
-#[derive(Debug, Drop)]
+#[derive(Drop)]
 pub struct MemorySink {
     content: Bytes,
     room: usize,

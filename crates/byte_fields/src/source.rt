@@ -26,7 +26,7 @@ pub trait Source {
 }
 
 /// Bytes in memory, read from the front.
-#[derive(Debug, Drop)]
+#[derive(Drop)]
 pub struct MemorySource {
     content: Bytes,
     at: usize,

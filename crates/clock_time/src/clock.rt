@@ -16,7 +16,7 @@ pub trait Clock: Drop {
 }
 
 /// A clock that gives the moment that it was set to, and stays as it is.
-#[derive(Debug, Drop)]
+#[derive(Drop)]
 pub struct ScriptClock {
     moment: u64,
 }

@@ -6,7 +6,7 @@ use std::marker::Model;
 
 /// A query and times: each document that the query matches and that lies within the times is removed from what
 /// was taken in before the task. A task of a later number has the greater opstamp.
-#[derive(Debug, Drop)]
+#[derive(Drop)]
 pub struct Task {
     pub opstamp: u64,
     pub query: Query,

@@ -13,7 +13,7 @@ use thiserror::Error;
 pub const MOST_TASKS: usize = 10_000;
 
 /// Tasks, each with an opstamp one more than that of the one before, from 1.
-#[derive(Debug, Drop)]
+#[derive(Drop)]
 pub struct Tasks {
     list: Vec<Task>,
 }

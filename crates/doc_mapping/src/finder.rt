@@ -11,7 +11,7 @@ use std::hash::{FoldHasher, Hasher};
 const PLACES: usize = 2048;
 
 /// Whether fields are regular, whether none of their paths has a dot, and for the hash of a path the number of a field whose path has that hash.
-#[derive(Debug, Drop)]
+#[derive(Drop)]
 pub struct Finder {
     pub regular: bool,
     pub flat: bool,

@@ -10,7 +10,7 @@ use std::alloc::Global;
 use std::marker::Model;
 
 /// A configuration whose paths were looked at once, for many records.
-#[derive(Debug, Drop)]
+#[derive(Drop)]
 pub struct Mapping {
     config: IndexConfig,
     finder: Finder,

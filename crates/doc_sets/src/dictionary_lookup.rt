@@ -4,7 +4,7 @@ use crate::wanted::Wanted;
 use byte_fields::{Bytes, List};
 
 /// What is looked up in the dictionary of a split.
-#[derive(Debug, Drop)]
+#[derive(Drop)]
 pub enum Lookup {
     /// How many documents have a key. Its block says it.
     Count(Bytes),

@@ -7,14 +7,14 @@ use doc_value::{Kind, Value, turned};
 use query_ast::Edge;
 
 /// The numbers from one on up to and without another one.
-#[derive(Clone, Copy, Debug)]
+#[derive(Clone, Copy)]
 pub struct NumberRange {
     pub from: u128,
     pub until: u128,
 }
 
 /// Which of the keys of a walk are wanted: each, or those of numbers in a range.
-#[derive(Clone, Copy, Debug)]
+#[derive(Clone, Copy)]
 pub enum Wanted {
     Each,
     Within(NumberRange),

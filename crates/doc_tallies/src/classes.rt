@@ -23,7 +23,7 @@ use doc_value::Kind;
 use std::alloc::{AllocError, Global};
 
 /// How many documents count alike, by what they count for, and the number of one of them.
-#[derive(Clone, Copy, Debug)]
+#[derive(Clone, Copy)]
 pub(crate) struct Class {
     pub mark: Option<i128>,
     pub count: u64,

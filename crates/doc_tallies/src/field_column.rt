@@ -13,7 +13,7 @@ use fast_fields::Column;
 use split_bundle::{PartView, SplitError};
 
 /// The column of a field, with the field's number and kind.
-#[derive(Clone, Copy, Debug)]
+#[derive(Clone, Copy)]
 pub(crate) struct FieldColumn<'a> {
     pub number: u32,
     pub kind: Kind,

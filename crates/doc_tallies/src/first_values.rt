@@ -8,7 +8,7 @@ ghost use Rattle.doc_tallies.specs.Passed.{IsBehind};
 use fast_fields::Column;
 
 /// A walk over a column by documents. Where each document has one value, the next one's stands at its number.
-#[derive(Clone, Copy, Debug)]
+#[derive(Clone, Copy)]
 pub(crate) struct FirstValues<'a> {
     column: Column<'a>,
     next: u32,

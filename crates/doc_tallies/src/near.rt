@@ -29,7 +29,7 @@ use std::alloc::{AllocError, Global};
 use std::collections::BinaryHeap;
 
 /// The column by which hits are sorted.
-#[derive(Clone, Copy, Debug)]
+#[derive(Clone, Copy)]
 pub(crate) struct SortColumn<'a> {
     pub descending: bool,
     pub field: FieldColumn<'a>,

@@ -3,7 +3,7 @@ use crate::{List, Replica};
 use std::alloc::{AllocError, Global};
 
 /// A value of a field. A datetime is whole seconds from 1970 on.
-#[derive(Debug, Drop)]
+#[derive(Drop)]
 pub enum Value {
     Text(Text),
     I64(i64),
@@ -28,7 +28,7 @@ impl Replica for Value {
 pub type Values = List<Value>;
 
 /// A document's values of one field: the field's number and the values in their order.
-#[derive(Debug, Drop)]
+#[derive(Drop)]
 pub struct DocField {
     pub number: usize,
     pub values: Values,

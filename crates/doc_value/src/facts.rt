@@ -6,7 +6,7 @@ use std::alloc::{AllocError, Global};
 pub type Terms = List<Bytes>;
 
 /// What is known of a tag field's values: that there are many, or the rising list of the distinct ones.
-#[derive(Debug, Drop)]
+#[derive(Drop)]
 pub enum Tags {
     Many,
     Listed(Terms),
@@ -22,7 +22,7 @@ impl Replica for Tags {
 }
 
 /// A tag field by its number, and what is known of its values.
-#[derive(Debug, Drop)]
+#[derive(Drop)]
 pub struct FieldTags {
     pub number: usize,
     pub tags: Tags,
@@ -41,7 +41,7 @@ impl Replica for FieldTags {
 pub type TagFacts = List<FieldTags>;
 
 /// The seconds from `start` on and below `end`, as far as they are given.
-#[derive(Clone, Copy, Debug, Drop)]
+#[derive(Clone, Copy, Drop)]
 pub struct TimeRange {
     pub start: Option<i64>,
     pub end: Option<i64>,

@@ -6,7 +6,7 @@ use std::alloc::{AllocError, Global};
 use std::cmp::Ordering;
 
 /// What the values of a field are. A text field is one of kind Text or TextList.
-#[derive(Clone, Copy, Debug, PartialEq, Eq)]
+#[derive(Clone, Copy)]
 pub enum Kind {
     Text,
     I64,
@@ -17,7 +17,7 @@ pub enum Kind {
 }
 
 /// How a text is cut into tokens.
-#[derive(Clone, Copy, Debug, PartialEq, Eq)]
+#[derive(Clone, Copy)]
 pub enum Tokenizer {
     Raw,
     Whitespace,
@@ -25,7 +25,7 @@ pub enum Tokenizer {
 }
 
 /// A field: where its values stand in a record (names with dots between), and what is kept of them.
-#[derive(Debug, Drop)]
+#[derive(Drop)]
 pub struct Field {
     pub path: Text,
     pub kind: Kind,
@@ -54,7 +54,7 @@ impl Replica for Field {
 pub type Fields = List<Field>;
 
 /// The fields of an index in byte order of their paths, at most 256, and the number of the timestamp field, if any.
-#[derive(Debug, Drop)]
+#[derive(Drop)]
 pub struct Schema {
     pub fields: Fields,
     pub timestamp: Option<usize>,

@@ -10,7 +10,7 @@ use byte_fields::{Corrupt, take_bytes, take_eight, take_piece, take_text, take_v
 use doc_value::{Field, Kind};
 
 /// The values of one field of many documents, over the bytes of the column.
-#[derive(Clone, Copy, Debug)]
+#[derive(Clone, Copy)]
 pub struct Column<'a> {
     pub(crate) texts: &'a [u8],
     pub(crate) text_count: u64,

@@ -9,7 +9,7 @@ use doc_value::Value;
 use std::alloc::{AllocError, Global};
 
 /// A value of a column: its document and a number. A U64 is itself, a signed value is `turned`, a truth is 0 or 1, a text is its ordinal.
-#[derive(Clone, Copy, Debug)]
+#[derive(Clone, Copy)]
 pub struct Entry {
     pub document: u32,
     pub number: u64,

@@ -6,7 +6,7 @@ ghost use Rattle.fast_fields.specs.Readers.{Holds, count_below};
 use crate::Column;
 
 /// A walk over the places of a column in step with rising documents: all of them in one pass.
-#[derive(Clone, Copy, Debug)]
+#[derive(Clone, Copy)]
 pub struct InStep<'a> {
     pub(crate) column: Column<'a>,
     pub(crate) place: u32,

@@ -5,14 +5,14 @@ use std::alloc::{AllocError, Global};
 use std::marker::Model;
 
 /// A document and its values of a field.
-#[derive(Debug, Drop)]
+#[derive(Drop)]
 pub struct ColumnRow {
     pub document: u32,
     pub values: Values,
 }
 
 /// The documents that have values of a field, which contracts see as a list.
-#[derive(Debug, Drop)]
+#[derive(Drop)]
 pub struct ColumnList {
     rows: Vec<ColumnRow>,
 }

@@ -10,7 +10,7 @@ use crate::Column;
 use byte_fields::{take_bytes, take_text};
 
 /// A walk over the distinct texts of a column in their order.
-#[derive(Clone, Copy, Debug)]
+#[derive(Clone, Copy)]
 pub struct TextWalk<'a> {
     pub(crate) column: Column<'a>,
     pub(crate) ordinal: u64,

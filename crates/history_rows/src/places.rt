@@ -50,7 +50,7 @@ fn is_settled<S: ObjectStore>(alloc: Global, store: &mut S) -> Result<bool, Jour
     let (mut journal, _entries) = Journal::load(alloc, store)?;
     let failed = add(alloc, store, &mut journal);
     let given = journal.settle(alloc, store, 9)?;
-    if journal.place() != Place::Given {
+    if !matches!(journal.place(), Place::Given) {
         return Ok(false);
     }
     journal.step_over();

@@ -5,7 +5,7 @@ use doc_value::{Replica, Schema};
 use std::alloc::{AllocError, Global};
 
 /// What becomes of keys that the schema doesn't have.
-#[derive(Clone, Copy, Debug, PartialEq, Eq)]
+#[derive(Clone, Copy)]
 pub enum Mode {
     Strict,
     Lenient,
@@ -13,14 +13,14 @@ pub enum Mode {
 }
 
 /// Which spellings a datetime field takes.
-#[derive(Clone, Copy, Debug, PartialEq, Eq)]
+#[derive(Clone, Copy)]
 pub struct Formats {
     pub rfc3339: bool,
     pub unix: bool,
 }
 
 /// Which splits are merged, and when a split is mature, in seconds.
-#[derive(Clone, Copy, Debug, PartialEq, Eq)]
+#[derive(Clone, Copy)]
 pub enum Policy {
     StableLog {
         min_level_num_docs: u64,
@@ -38,7 +38,7 @@ pub enum Policy {
 }
 
 /// An accepted configuration. `formats` has one member for each field of the schema; times are in seconds.
-#[derive(Debug, Drop)]
+#[derive(Drop)]
 pub struct IndexConfig {
     pub schema: Schema,
     pub mode: Mode,

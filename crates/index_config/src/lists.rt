@@ -5,7 +5,7 @@ use std::alloc::{AllocError, Global};
 use std::marker::Model;
 
 /// Numbers of fields, in a list.
-#[derive(Debug, Drop)]
+#[derive(Drop)]
 pub struct FieldNumbers {
     list: Vec<usize>,
 }
@@ -70,7 +70,7 @@ impl FieldNumbers {
 }
 
 /// The spellings that each field of a schema takes, in the order of the fields.
-#[derive(Debug, Drop)]
+#[derive(Drop)]
 pub struct FieldFormats {
     list: Vec<Formats>,
 }

@@ -7,7 +7,7 @@ use std::alloc::{AllocError, Global};
 use std::marker::Model;
 
 /// A field or object of a configuration: where its name stands, its path, and what its table says. An object has no kind.
-#[derive(Debug, Drop)]
+#[derive(Drop)]
 pub struct RawField {
     pub place: Text,
     pub path: Text,
@@ -20,7 +20,7 @@ pub struct RawField {
 }
 
 /// What a path of the configuration names a field for.
-#[derive(Clone, Copy, Debug, PartialEq, Eq)]
+#[derive(Clone, Copy)]
 pub enum Purpose {
     Timestamp,
     Tag,
@@ -28,7 +28,7 @@ pub enum Purpose {
 }
 
 /// What is wrong with a configuration, in order.
-#[derive(Debug, Drop)]
+#[derive(Drop)]
 pub struct Faults {
     list: Vec<ConfigError>,
 }
@@ -72,7 +72,7 @@ impl Faults {
 }
 
 /// Fields and objects in reading order.
-#[derive(Debug, Drop)]
+#[derive(Drop)]
 pub struct RawFields {
     list: Vec<RawField>,
 }

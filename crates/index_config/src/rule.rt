@@ -1,5 +1,5 @@
 /// What a value of the configuration has to be.
-#[derive(Clone, Copy, Debug, PartialEq, Eq)]
+#[derive(Clone, Copy)]
 pub enum Rule {
     AnyText,
     Truth,
@@ -17,7 +17,7 @@ pub enum Rule {
 }
 
 /// What a table asks of a key: whether it has to be there, whether it is a list, and what its value or each member is.
-#[derive(Clone, Copy, Debug, PartialEq, Eq)]
+#[derive(Clone, Copy)]
 pub struct Ask {
     pub required: bool,
     pub list: bool,
@@ -25,7 +25,7 @@ pub struct Ask {
 }
 
 /// The types of fields.
-#[derive(Clone, Copy, Debug, PartialEq, Eq)]
+#[derive(Clone, Copy)]
 pub enum FieldType {
     Text,
     I64,
@@ -37,7 +37,7 @@ pub enum FieldType {
 }
 
 /// The types of merge policies.
-#[derive(Clone, Copy, Debug, PartialEq, Eq)]
+#[derive(Clone, Copy)]
 pub enum PolicyType {
     StableLog,
     LimitMerge,
@@ -45,7 +45,7 @@ pub enum PolicyType {
 }
 
 /// The tables of a configuration.
-#[derive(Clone, Copy, Debug, PartialEq, Eq)]
+#[derive(Clone, Copy)]
 pub enum Place {
     Top,
     Mapping,
@@ -57,7 +57,7 @@ pub enum Place {
 }
 
 /// The tables that may be left out.
-#[derive(Clone, Copy, Debug, PartialEq, Eq)]
+#[derive(Clone, Copy)]
 pub enum Section {
     Indexing,
     Policy,

@@ -7,7 +7,7 @@ use query_ast::Query;
 use split_bundle::PlacedList;
 
 /// What is asked of a split.
-#[derive(Debug, Drop)]
+#[derive(Drop)]
 pub struct LeafRequest {
     pub query: Query,
     pub times: TimeRange,

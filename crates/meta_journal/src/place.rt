@@ -6,7 +6,7 @@ ghost use Rattle.meta_journal.specs.Journal.{place_refused, place_read, place_ap
 use crate::{Entry, JournalError};
 
 /// What is known of the number behind the entries that were taken in.
-#[derive(Clone, Copy, Debug, PartialEq, Eq)]
+#[derive(Clone, Copy)]
 pub enum Place {
     /// Nothing was tried there.
     Sure,

@@ -15,7 +15,7 @@ use std::alloc::Global;
 const MOMENT_END: u64 = 1 << 62;
 
 /// What kind of entry it is.
-#[derive(Clone, Copy, Debug, PartialEq, Eq)]
+#[derive(Clone, Copy)]
 pub enum Kind {
     Fence,
     Create,

@@ -8,14 +8,14 @@ use std::marker::Model;
 
 /// What a configuration says: the configuration that was read and, where there is one, the age in seconds at which
 /// documents are retired.
-#[derive(Debug, Drop)]
+#[derive(Drop)]
 pub struct Settings {
     pub index: IndexConfig,
     pub period: Option<u64>,
 }
 
 /// The bytes of a configuration as they were given, with what they say.
-#[derive(Debug, Drop)]
+#[derive(Drop)]
 pub struct Config {
     pub text: Bytes,
     pub settings: Settings,
@@ -25,7 +25,7 @@ pub struct Config {
 /// bytes; of a Task its query, read under the configuration so far with its fields as default fields, or why there
 /// is none. Of other entries nothing is read, and what stands here is not looked at. A reader that found no memory
 /// has said nothing: its caller answers that, and does not hand it in here.
-#[derive(Debug, Drop)]
+#[derive(Drop)]
 pub struct Reading {
     pub config: Result<Settings, ConfigError>,
     pub query: Result<Query, QueryError>,

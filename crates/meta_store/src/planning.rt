@@ -23,7 +23,7 @@ pub enum Choice {
 }
 
 /// A row of a plan: its number, and the size of its file in bytes.
-#[derive(Clone, Copy, Debug)]
+#[derive(Clone, Copy)]
 pub struct PlanRow {
     pub number: u64,
     pub size: u64,

@@ -43,7 +43,7 @@ pub fn admit_row(checkpoints: &mut Ledger, row: Option<&Row>)
 }
 
 /// How a range that is kept lies to one that comes in.
-#[derive(Clone, Copy, Debug, PartialEq, Eq)]
+#[derive(Clone, Copy)]
 enum Lies {
     Before,
     /// The kept one ends where the other begins.

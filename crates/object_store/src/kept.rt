@@ -9,7 +9,7 @@ use byte_fields::Bytes;
 use std::alloc::{AllocError, Global};
 
 /// A create that failed.
-#[derive(Debug, Drop)]
+#[derive(Drop)]
 pub struct LateObject {
     pub object: Object,
     /// The number of the call at whose beginning it lands, where it ever does.
@@ -30,7 +30,7 @@ impl LateObject {
 }
 
 /// The objects, and the late creates in the order in which they failed. There is room for each of them to land.
-#[derive(Debug, Drop)]
+#[derive(Drop)]
 pub struct Kept {
     pub shelf: Shelf,
     pub late: Vec<LateObject>,

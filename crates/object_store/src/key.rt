@@ -12,7 +12,6 @@ use thiserror::Error;
 const KEY_SIZE: usize = 128;
 
 /// A key: 1 to 128 bytes of lower-case letters, digits, `/` and `-`. Contracts see it as the list of its bytes.
-#[derive(Debug)]
 pub struct Key {
     bytes: [u8; 128],
     len: usize,
@@ -22,7 +21,7 @@ pub struct Key {
 pub type Keys = List<Key>;
 
 /// Why a text is no key.
-#[derive(Clone, Copy, Debug, PartialEq, Eq, Error)]
+#[derive(Clone, Copy, Debug, Error)]
 pub enum KeyError {
     /// `at` is the first byte that no key has, 0 for the empty text and 128 for a longer one.
     #[error("no key: byte {at}")]

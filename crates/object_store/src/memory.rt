@@ -12,7 +12,7 @@ use byte_fields::Failed;
 use std::alloc::{AllocError, Global};
 
 /// Objects in memory. Some of its calls fail, as `fail_key` and `fail_call` say.
-#[derive(Debug, Drop)]
+#[derive(Drop)]
 pub struct MemoryStore {
     kept: Kept,
     plan: Plan,

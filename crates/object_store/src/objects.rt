@@ -10,7 +10,7 @@ use std::alloc::{AllocError, Global};
 use std::cmp::Ordering;
 
 /// An object and its key.
-#[derive(Debug, Drop)]
+#[derive(Drop)]
 pub struct Object {
     pub key: Key,
     pub content: Bytes,

@@ -7,7 +7,7 @@ use crate::Key;
 use std::alloc::{AllocError, Global};
 
 /// When a failed create takes effect.
-#[derive(Clone, Copy, Debug, PartialEq, Eq)]
+#[derive(Clone, Copy)]
 pub enum Landing {
     /// Within the call that fails.
     AtOnce,
@@ -17,7 +17,7 @@ pub enum Landing {
 }
 
 /// The calls that are to fail, by their numbers and by the keys that they create.
-#[derive(Debug, Drop)]
+#[derive(Drop)]
 pub struct Plan {
     pub made: u64,
     pub faults: u64,

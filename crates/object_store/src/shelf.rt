@@ -10,7 +10,7 @@ use std::alloc::{AllocError, Global};
 use std::marker::Model;
 
 /// Objects in the order of their keys, which contracts see as a finite map, and room for more.
-#[derive(Debug, Drop)]
+#[derive(Drop)]
 pub struct Shelf {
     held: Vec<Object>,
 }

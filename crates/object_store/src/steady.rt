@@ -8,7 +8,7 @@ use byte_fields::Failed;
 use std::alloc::Global;
 
 /// Objects in memory. None of its calls fails.
-#[derive(Debug, Drop)]
+#[derive(Drop)]
 pub struct SteadyStore {
     kept: Kept,
 }

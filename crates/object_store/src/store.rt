@@ -76,7 +76,7 @@ impl From<AllocError> for ListError {
 }
 
 /// Some bytes of an object, and how many it has in all.
-#[derive(Debug, Drop)]
+#[derive(Drop)]
 pub struct Piece {
     pub bytes: Bytes,
     pub size: u64,

@@ -4,7 +4,7 @@ use doc_value::{List, Replica, Text, Value};
 use std::alloc::{AllocError, Global};
 
 /// A member of a set, and whether it is quoted.
-#[derive(Debug, Drop)]
+#[derive(Drop)]
 pub struct Item {
     pub text: Text,
     pub quoted: bool,
@@ -23,7 +23,7 @@ impl Replica for Item {
 pub type Items = List<Item>;
 
 /// An edge of a range.
-#[derive(Debug, Drop)]
+#[derive(Drop)]
 pub enum Edge {
     Unbounded,
     Included(Value),
@@ -41,7 +41,7 @@ impl Replica for Edge {
 }
 
 /// A query. A field is named by its number in the schema. The lists of And and Or have at least two members.
-#[derive(Debug, Drop)]
+#[derive(Drop)]
 pub enum Query {
     All,
     Nothing,

@@ -4,7 +4,7 @@ ghost use Rattle.std.specs.Prelude.{◌≡◌};
 ghost use Rattle.query_reader.specs.Kinds.{kind_of, said, names_set};
 
 /// What a byte is to the grammar.
-#[derive(Clone, Copy, Debug, PartialEq, Eq)]
+#[derive(Clone, Copy)]
 pub enum Kind {
     Blank,
     Quote,
@@ -49,7 +49,7 @@ pub fn byte_kind(byte: u8) -> Kind
 }
 
 /// What a word says.
-#[derive(Clone, Copy, Debug, PartialEq, Eq)]
+#[derive(Clone, Copy)]
 pub enum Said {
     SaidWord,
     SaidAnd,

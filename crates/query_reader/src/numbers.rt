@@ -6,7 +6,7 @@ use std::alloc::{AllocError, Global};
 use std::marker::Model;
 
 /// Numbers of fields of a schema in an order of their own, as the default fields of an index or a request.
-#[derive(Debug, Drop)]
+#[derive(Drop)]
 pub struct FieldNumbers {
     list: Vec<usize>,
 }

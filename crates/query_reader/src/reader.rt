@@ -23,7 +23,7 @@ use std::alloc::Global;
 const LIMIT: usize = 64;
 
 /// An operand, the place behind it, and whether another may begin right there.
-#[derive(Debug, Drop)]
+#[derive(Drop)]
 pub struct Operand {
     pub raw: Raw,
     pub end: usize,
@@ -31,7 +31,7 @@ pub struct Operand {
 }
 
 /// What comes behind an operand: the end, or another operand.
-#[derive(Clone, Copy, Debug)]
+#[derive(Clone, Copy)]
 pub enum Next {
     End(usize),
     And(usize),

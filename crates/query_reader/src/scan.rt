@@ -43,7 +43,7 @@ pub fn skip_blanks(text: &[u8], from: usize) -> usize
 }
 
 /// How far a word goes.
-#[derive(Clone, Copy, Debug)]
+#[derive(Clone, Copy)]
 pub struct Scan {
     pub to: usize,
     pub plain: bool,

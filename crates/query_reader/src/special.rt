@@ -7,14 +7,14 @@ use crate::kind::Kind;
 use crate::tree::Span;
 
 /// A member of a set.
-#[derive(Clone, Copy, Debug, PartialEq, Eq)]
+#[derive(Clone, Copy)]
 pub struct Member {
     pub place: Span,
     pub quoted: bool,
 }
 
 /// An edge as it is written.
-#[derive(Clone, Copy, Debug, PartialEq, Eq)]
+#[derive(Clone, Copy)]
 pub enum Bound {
     Unbounded,
     Quoted(Span),
@@ -22,7 +22,7 @@ pub enum Bound {
 }
 
 /// A sign of a comparison.
-#[derive(Clone, Copy, Debug, PartialEq, Eq)]
+#[derive(Clone, Copy)]
 pub enum Compare {
     AtLeast,
     AtMost,
@@ -31,7 +31,7 @@ pub enum Compare {
 }
 
 /// A range between two edges, or a comparison with one.
-#[derive(Clone, Copy, Debug, PartialEq, Eq)]
+#[derive(Clone, Copy)]
 pub enum Ranged {
     Between {
         low_closed: bool,
@@ -46,7 +46,7 @@ pub enum Ranged {
 }
 
 /// Where an edge stands.
-#[derive(Clone, Copy, Debug, PartialEq, Eq)]
+#[derive(Clone, Copy)]
 pub enum Spot {
     Low(bool),
     High(bool, Bound),
@@ -54,7 +54,7 @@ pub enum Spot {
 }
 
 /// How far a range or a comparison was read.
-#[derive(Clone, Copy, Debug, PartialEq, Eq)]
+#[derive(Clone, Copy)]
 pub enum RangeMode {
     /// An edge comes.
     Wanted(Spot),
@@ -75,7 +75,7 @@ pub enum RangeMode {
 }
 
 /// What a byte does to a range.
-#[derive(Clone, Copy, Debug, PartialEq, Eq)]
+#[derive(Clone, Copy)]
 pub enum RangeStep {
     More(RangeMode),
     /// Its bracket closes at this byte.

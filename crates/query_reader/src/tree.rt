@@ -3,14 +3,14 @@
 use crate::special::{Member, Ranged};
 
 /// A part of the text.
-#[derive(Clone, Copy, Debug, PartialEq, Eq)]
+#[derive(Clone, Copy)]
 pub struct Span {
     pub from: usize,
     pub to: usize,
 }
 
 /// What is asked of a field.
-#[derive(Debug, Drop)]
+#[derive(Drop)]
 pub enum Ask {
     Any,
     Word(Span),
@@ -23,14 +23,14 @@ pub enum Ask {
 }
 
 /// A question to one field, or to the default fields.
-#[derive(Debug, Drop)]
+#[derive(Drop)]
 pub struct Clause {
     pub field: Option<Span>,
     pub ask: Ask,
 }
 
 /// A query as it is written, with its brackets.
-#[derive(Debug, Drop)]
+#[derive(Drop)]
 pub enum Raw {
     Leaf(Clause),
     Group(Box<Raw>),

@@ -10,7 +10,7 @@ fn field(
     tokenizer: Tokenizer,
     positions: bool,
 ) -> Result<Field, AllocError> {
-    let tagged = tokenizer == Tokenizer::Raw;
+    let tagged = matches!(tokenizer, Tokenizer::Raw);
     Ok(Field {
         path: Text::from_str(alloc, path)?,
         kind,

@@ -15,14 +15,14 @@ use leaf_search::LeafRequest;
 use search_api::{SearchAsk, SortField};
 
 /// Which of the hits in order are shown: `shown` of them at most, behind the first `passed`.
-#[derive(Clone, Copy, Debug)]
+#[derive(Clone, Copy)]
 pub struct Page {
     pub passed: usize,
     pub shown: usize,
 }
 
 /// What a search asks of each split, and which of the hits of all of them are shown.
-#[derive(Debug, Drop)]
+#[derive(Drop)]
 pub struct LeafAsk {
     pub request: LeafRequest,
     pub page: Page,

@@ -20,7 +20,7 @@ use std::collections::VecDeque;
 use std::thread::Threads;
 
 /// How splits are asked: one after the other in this thread, or in as many threads as there are processors.
-#[derive(Clone, Copy, Debug)]
+#[derive(Clone, Copy)]
 pub enum Manner {
     InTurn,
     InThreads,

@@ -29,7 +29,7 @@ use std::thread::Threads;
 const WORTH_THREADS: usize = 256 * 1024;
 
 // Why parts of splits give no answer.
-#[derive(Debug, Drop)]
+#[derive(Drop)]
 enum PartError {
     Memory(AllocError),
     // The bytes of the split with this number are not of its form.

@@ -35,7 +35,7 @@ use std::thread::Threads;
 use thiserror::Error;
 
 /// A request is unanswered.
-#[derive(Clone, Copy, Debug, PartialEq, Eq, Error)]
+#[derive(Clone, Copy, Debug, Error)]
 #[error("a request is unanswered")]
 pub struct Busy;
 

@@ -16,7 +16,7 @@ use std::alloc::{AllocError, Global};
 use std::collections::VecDeque;
 
 /// Bytes of a file, and where they start.
-#[derive(Debug, Drop)]
+#[derive(Drop)]
 pub struct KeptPiece {
     pub start: u64,
     pub bytes: Bytes,
@@ -26,7 +26,7 @@ pub struct KeptPiece {
 pub type KeptPieces = List<KeptPiece>;
 
 /// What is fetched of a split: its footer, and the pieces of its file that are needed.
-#[derive(Debug, Drop)]
+#[derive(Drop)]
 pub struct SplitPart {
     pub number: u64,
     pub footer: Footer,
@@ -37,7 +37,7 @@ pub struct SplitPart {
 pub type SplitParts = List<SplitPart>;
 
 // What is kept of a split beside its footer.
-#[derive(Debug, Drop)]
+#[derive(Drop)]
 pub(crate) struct KeptSplit {
     pub(crate) number: u64,
     pub(crate) pieces: KeptPieces,

@@ -90,7 +90,7 @@ fn date_histogram_shape(alloc: Global, object: &Value) -> Result<AggShape, Reque
 }
 
 /// Which kind an aggregation has.
-#[derive(Clone, Copy, Debug, PartialEq, Eq)]
+#[derive(Clone, Copy)]
 enum AggKind {
     Terms,
     Histogram,

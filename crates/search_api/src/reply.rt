@@ -6,7 +6,7 @@ use doc_value::{Bytes, List, Text};
 use object_store::Key;
 
 /// Why a request has no answer, with what is kept of it.
-#[derive(Debug, Drop)]
+#[derive(Drop)]
 pub enum Refusal {
     NotJson,
     UnknownKey { name: Text },
@@ -50,7 +50,7 @@ pub enum Refusal {
 pub type Hits = List<Bytes>;
 
 /// What a request is answered.
-#[derive(Debug, Drop)]
+#[derive(Drop)]
 pub enum Said {
     /// How many documents match, those of them that are shown, each as it is printed, and what was counted.
     Found {
@@ -66,7 +66,7 @@ pub enum Said {
 }
 
 /// An answer to a client's request, over this revision.
-#[derive(Debug, Drop)]
+#[derive(Drop)]
 pub struct Reply {
     pub client: Client,
     pub revision: u64,

@@ -5,7 +5,7 @@ use doc_value::{List, Text, TimeRange};
 pub type Paths = List<Text>;
 
 /// Which documents a search or a delete is about.
-#[derive(Debug, Drop)]
+#[derive(Drop)]
 pub struct Selection {
     /// The query's text.
     pub query: Text,
@@ -16,14 +16,14 @@ pub struct Selection {
 }
 
 /// The field by whose first value hits are sorted.
-#[derive(Debug, Drop)]
+#[derive(Drop)]
 pub struct SortBy {
     pub path: Text,
     pub descending: bool,
 }
 
 /// What an aggregation counts of its field's values.
-#[derive(Debug, Drop)]
+#[derive(Drop)]
 pub enum AggShape {
     /// The `size` values that the most documents have.
     Terms {
@@ -40,7 +40,7 @@ pub enum AggShape {
 }
 
 /// An aggregation under its name, over the field with this path.
-#[derive(Debug, Drop)]
+#[derive(Drop)]
 pub struct AskedAgg {
     pub name: Text,
     pub path: Text,
@@ -51,7 +51,7 @@ pub struct AskedAgg {
 pub type AskedAggs = List<AskedAgg>;
 
 /// A search: which documents, which of them are shown, and what is counted.
-#[derive(Debug, Drop)]
+#[derive(Drop)]
 pub struct SearchRequest {
     pub selection: Selection,
     /// How many hits are passed over.
@@ -63,7 +63,7 @@ pub struct SearchRequest {
 }
 
 /// What a client asks.
-#[derive(Debug, Drop)]
+#[derive(Drop)]
 pub enum Request {
     Search(SearchRequest),
     Delete(Selection),

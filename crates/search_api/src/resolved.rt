@@ -6,14 +6,14 @@ use doc_value::{Text, TimeRange};
 use query_ast::Query;
 
 /// The field by whose first value hits are sorted, by its number.
-#[derive(Clone, Copy, Debug, PartialEq, Eq)]
+#[derive(Clone, Copy)]
 pub struct SortField {
     pub field: usize,
     pub descending: bool,
 }
 
 /// A search over a schema.
-#[derive(Debug, Drop)]
+#[derive(Drop)]
 pub struct SearchAsk {
     pub query: Query,
     pub times: TimeRange,
@@ -25,7 +25,7 @@ pub struct SearchAsk {
 
 /// A delete over a schema: its query's text, which reads over it, and the paths of the text fields that a clause without
 /// a field asks.
-#[derive(Debug, Drop)]
+#[derive(Drop)]
 pub struct Deletion {
     pub text: Text,
     pub fields: Paths,
@@ -33,7 +33,7 @@ pub struct Deletion {
 }
 
 /// A request over a schema.
-#[derive(Debug, Drop)]
+#[derive(Drop)]
 pub enum Resolved {
     Search(SearchAsk),
     Delete(Deletion),

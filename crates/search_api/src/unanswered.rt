@@ -11,7 +11,7 @@ use query_reader::QueryError;
 use std::alloc::AllocError;
 
 /// A refusal, or want of memory, which no reply carries.
-#[derive(Debug, Drop)]
+#[derive(Drop)]
 pub enum Unanswered {
     Refused(Refusal),
     Memory(AllocError),

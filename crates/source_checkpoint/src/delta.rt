@@ -9,7 +9,7 @@ use std::marker::Model;
 use thiserror::Error;
 
 /// The records of one partition from `from` up to and without `to`.
-#[derive(Debug, Drop)]
+#[derive(Drop)]
 pub struct Part {
     pub partition: Partition,
     pub from: u64,
@@ -29,7 +29,7 @@ impl Part {
 }
 
 /// The parts that a split takes in.
-#[derive(Debug, Drop)]
+#[derive(Drop)]
 pub struct Delta {
     parts: Vec<Part>,
 }

@@ -11,14 +11,14 @@ use std::alloc::{AllocError, Global};
 use std::marker::Model;
 
 /// How far a partition was taken in.
-#[derive(Debug, Drop)]
+#[derive(Drop)]
 pub struct Checkpoint {
     pub partition: Partition,
     pub at: u64,
 }
 
 /// How far each partition was taken in, in the order of the names.
-#[derive(Debug, Drop)]
+#[derive(Drop)]
 pub struct Ledger {
     list: Vec<Checkpoint>,
 }

@@ -21,7 +21,7 @@ pub struct Partition {
 
 /// Why a text names no partition: `at` is its first byte outside the letters of a name, 0 for the empty
 /// text, and 64 for a longer one.
-#[derive(Clone, Copy, Debug, PartialEq, Eq, Error)]
+#[derive(Clone, Copy, Debug, Error)]
 #[error("no partition's name at {at}")]
 pub struct PartitionError {
     pub at: usize,

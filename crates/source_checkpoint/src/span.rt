@@ -10,7 +10,7 @@ use std::marker::Model;
 
 /// The records of one partition from `from` up to and without `to`, which were taken in behind the task
 /// `admitted`, 0 for none, and from which the tasks up to `applied` were removed.
-#[derive(Debug, Drop)]
+#[derive(Drop)]
 pub struct Span {
     pub partition: Partition,
     pub from: u64,
@@ -66,7 +66,7 @@ impl Span {
 }
 
 /// A list of spans.
-#[derive(Debug, Drop)]
+#[derive(Drop)]
 pub struct Spans {
     list: Vec<Span>,
 }

@@ -20,7 +20,7 @@ use std::alloc::{AllocError, Global};
 const WEIGHT_BESIDE: u64 = 257;
 
 /// Why a document was not read.
-#[derive(Debug, Drop)]
+#[derive(Drop)]
 pub(crate) enum DocFault {
     NoMemory(AllocError),
     NotOfForm(Corrupt),

@@ -29,7 +29,7 @@ pub(crate) struct LaidFooter<'a> {
 }
 
 /// What the footer of a split file says.
-#[derive(Debug, Drop)]
+#[derive(Drop)]
 pub struct Footer {
     pub(crate) bytes: Shared<Bytes>,
     pub(crate) layout: Layout,

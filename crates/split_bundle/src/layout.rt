@@ -7,7 +7,7 @@ ghost use Rattle.split_bundle.specs.Reading.{IsWithin, sections_at, entry_behind
 use byte_fields::{Corrupt, take_bytes, take_count, take_text, take_varint};
 
 /// How many bytes the five sections have.
-#[derive(Clone, Copy, Debug, PartialEq, Eq)]
+#[derive(Clone, Copy)]
 pub struct Sections {
     pub documents: u64,
     pub dictionary: u64,
@@ -17,7 +17,7 @@ pub struct Sections {
 }
 
 /// What the entries of a list in a footer are.
-#[derive(Clone, Copy, Debug)]
+#[derive(Clone, Copy)]
 pub(crate) enum Entry {
     /// A partition's name.
     Name,
@@ -28,21 +28,21 @@ pub(crate) enum Entry {
 }
 
 /// How many entries a list in a footer has, and where the first one stands.
-#[derive(Clone, Copy, Debug)]
+#[derive(Clone, Copy)]
 pub(crate) struct Table {
     pub count: u64,
     pub at: usize,
 }
 
 /// A fast field's number, and where its column starts in the section of columns.
-#[derive(Clone, Copy, Debug)]
+#[derive(Clone, Copy)]
 pub struct ColumnStart {
     pub number: u64,
     pub start: u64,
 }
 
 /// What a footer says, its lists by their places.
-#[derive(Clone, Copy, Debug)]
+#[derive(Clone, Copy)]
 pub(crate) struct Layout {
     pub docs: u32,
     pub sections: Sections,

@@ -9,7 +9,7 @@ use crate::layout::Sections;
 use byte_fields::List;
 
 /// Bytes of a file, and the place in the file where they start.
-#[derive(Clone, Copy, Debug)]
+#[derive(Clone, Copy)]
 pub struct FilePiece<'a> {
     pub start: u64,
     pub bytes: &'a [u8],
@@ -19,7 +19,7 @@ pub struct FilePiece<'a> {
 pub type Pieces<'a> = List<FilePiece<'a>>;
 
 /// The five sections of a split file.
-#[derive(Clone, Copy, Debug)]
+#[derive(Clone, Copy)]
 pub enum Section {
     Documents,
     Dictionary,

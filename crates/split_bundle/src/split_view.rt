@@ -27,7 +27,7 @@ use term_dict::{BlockIndex, Dict, TermInfo};
 use term_postings::Cursor;
 
 /// A split file whose bytes are all there. It borrows them and copies nothing.
-#[derive(Clone, Copy, Debug)]
+#[derive(Clone, Copy)]
 pub struct SplitView<'a> {
     pub(crate) bytes: &'a [u8],
     pub(crate) footer: &'a [u8],

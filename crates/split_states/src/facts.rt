@@ -6,7 +6,7 @@ use doc_value::{Replica, TagFacts};
 use std::alloc::{AllocError, Global};
 
 /// The least and the greatest second of some documents.
-#[derive(Clone, Copy, Debug, Drop)]
+#[derive(Clone, Copy, Drop)]
 pub struct Times {
     pub least: i64,
     pub greatest: i64,
@@ -15,7 +15,7 @@ pub struct Times {
 /// The documents of a split file, the records of its ranges that were refused, the weight of its documents
 /// in bytes, the size of the file in bytes and its SHA-256, the times of its documents, and what is known of
 /// each tag field.
-#[derive(Debug, Drop)]
+#[derive(Drop)]
 pub struct RowFacts {
     pub docs: u64,
     pub rejected: u64,

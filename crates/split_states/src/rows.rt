@@ -11,7 +11,7 @@ use std::alloc::{AllocError, Global};
 use std::marker::Model;
 
 /// How a row stands: its file may be on its way, it is shown by searches, or it is to be removed.
-#[derive(Clone, Copy, Debug, Drop, PartialEq, Eq)]
+#[derive(Clone, Copy, Drop)]
 pub enum RowState {
     Staged,
     Published,
@@ -20,7 +20,7 @@ pub enum RowState {
 
 /// A split file that was staged. `staged_at` is the moment of its Stage, `marked_at` that of the entry that
 /// marked it, and 0 before. `merge_ops` says how often its records were merged.
-#[derive(Debug, Drop)]
+#[derive(Drop)]
 pub struct Row {
     pub number: u64,
     pub state: RowState,
@@ -32,7 +32,7 @@ pub struct Row {
 }
 
 /// The rows, in the order in which they were staged: their numbers rise.
-#[derive(Debug, Drop)]
+#[derive(Drop)]
 pub struct Rows {
     list: Vec<Row>,
 }

@@ -14,7 +14,7 @@ use crate::{TermInfo, TermRange};
 use byte_fields::{Corrupt, take_bytes, take_varint};
 
 /// The terms of one block, in bytes.
-#[derive(Clone, Copy, Debug)]
+#[derive(Clone, Copy)]
 pub struct Block<'a> {
     pub(crate) bytes: &'a [u8],
 }

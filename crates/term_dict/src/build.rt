@@ -26,7 +26,7 @@ pub fn build_dict(alloc: Global, terms: &TermList) -> Result<(Bytes, BlockIndex)
 }
 
 /// A dictionary that is built term by term, with the bytes of `build_dict`.
-#[derive(Debug, Drop)]
+#[derive(Drop)]
 pub struct DictBuilder {
     pub(crate) area: Vec<u8>,
     pub(crate) index: BlockIndex,

@@ -16,7 +16,7 @@ use crate::{BlockIndex, TermInfo, TermRange};
 use byte_fields::Corrupt;
 
 /// A dictionary over its area of blocks and its index.
-#[derive(Clone, Copy, Debug)]
+#[derive(Clone, Copy)]
 pub struct Dict<'a> {
     pub(crate) area: &'a [u8],
     pub(crate) index: &'a BlockIndex,

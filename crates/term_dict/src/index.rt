@@ -9,14 +9,14 @@ use std::cmp::Ordering;
 use std::marker::Model;
 
 /// The first key of a block, and where the block starts in the area of blocks.
-#[derive(Debug, Drop)]
+#[derive(Drop)]
 pub struct BlockStart {
     pub first: Bytes,
     pub start: u64,
 }
 
 /// The starts of the blocks, which contracts see as a list.
-#[derive(Debug, Drop)]
+#[derive(Drop)]
 pub struct BlockIndex {
     blocks: Vec<BlockStart>,
 }
@@ -107,7 +107,7 @@ impl BlockIndex {
 }
 
 /// Which blocks stand in front, by their first keys.
-#[derive(Clone, Copy, Debug)]
+#[derive(Clone, Copy)]
 pub(crate) enum Edge<'a> {
     /// Those that begin up to a key.
     UpTo(&'a [u8]),

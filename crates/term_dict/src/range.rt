@@ -7,7 +7,7 @@ use crate::index::is_below;
 use byte_fields::Corrupt;
 
 /// Which keys a range has, among those not below its first.
-#[derive(Clone, Copy, Debug)]
+#[derive(Clone, Copy)]
 pub(crate) enum End<'a> {
     Below(&'a [u8]),
     Prefix(&'a [u8]),
@@ -27,7 +27,7 @@ impl End<'_> {
 }
 
 /// Terms of a dictionary, lent one after the other.
-#[derive(Clone, Copy, Debug)]
+#[derive(Clone, Copy)]
 pub struct TermRange<'a> {
     pub(crate) area: &'a [u8],
     pub(crate) at: usize,

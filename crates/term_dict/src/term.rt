@@ -7,7 +7,7 @@ use std::alloc::{AllocError, Global};
 use std::marker::Model;
 
 /// Where the documents and the positions of a term stand.
-#[derive(Clone, Copy, Debug, PartialEq, Eq)]
+#[derive(Clone, Copy, PartialEq, Eq)]
 pub struct TermInfo {
     /// How many documents have the term.
     pub docs: u32,
@@ -20,14 +20,14 @@ pub struct TermInfo {
 }
 
 /// A key and what it leads to.
-#[derive(Debug, Drop)]
+#[derive(Drop)]
 pub struct Term {
     pub key: Bytes,
     pub info: TermInfo,
 }
 
 /// Terms that contracts see as a list.
-#[derive(Debug, Drop)]
+#[derive(Drop)]
 pub struct TermList {
     terms: Vec<Term>,
 }

@@ -3,7 +3,7 @@ ghost use Rattle.std.specs.Prelude.{◌≤◌, length};
 use byte_fields::Corrupt;
 
 /// A walk over the documents of a list, in their order, and over the positions of each.
-#[derive(Clone, Copy, Debug)]
+#[derive(Clone, Copy)]
 pub struct Cursor<'a> {
     pub(crate) postings: &'a [u8],
     pub(crate) positions: &'a [u8],
@@ -32,7 +32,7 @@ pub struct Cursor<'a> {
 }
 
 /// Where the next position of a document is found.
-#[derive(Clone, Copy, Debug)]
+#[derive(Clone, Copy)]
 pub(crate) struct Place {
     /// A place in the positions, and how many of them to pass over from there.
     pub(crate) at: u64,

@@ -4,7 +4,7 @@ use std::alloc::{AllocError, Global};
 use std::marker::Model;
 
 /// Positions of one document, which contracts see as a list.
-#[derive(Debug, Drop)]
+#[derive(Drop)]
 pub struct Positions {
     numbers: Vec<u64>,
 }
@@ -63,21 +63,21 @@ impl Positions {
 }
 
 /// A document and the positions of the term in it.
-#[derive(Debug, Drop)]
+#[derive(Drop)]
 pub struct Posting {
     pub document: u32,
     pub positions: Positions,
 }
 
 /// A document and the positions of the term in it, lent.
-#[derive(Clone, Copy, Debug)]
+#[derive(Clone, Copy)]
 pub struct Row<'a> {
     pub document: u32,
     pub positions: &'a [u64],
 }
 
 /// The documents of a term, which contracts see as a list.
-#[derive(Debug, Drop)]
+#[derive(Drop)]
 pub struct PostingList {
     postings: Vec<Posting>,
 }

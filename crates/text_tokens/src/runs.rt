@@ -7,14 +7,14 @@ use std::alloc::{AllocError, Global};
 use unicode::properties::{GeneralCategory, is_alphabetic};
 
 /// How a text is cut into runs: between blanks, or into words of letters and numbers.
-#[derive(Clone, Copy, Debug, PartialEq, Eq)]
+#[derive(Clone, Copy)]
 pub enum Cut {
     Blanks,
     Words,
 }
 
 /// A run of a text's characters: its bytes, and where it begins and ends in the text, in bytes.
-#[derive(Debug, Drop)]
+#[derive(Drop)]
 pub struct Run {
     pub text: TokenText,
     pub from: usize,

@@ -13,7 +13,7 @@ use std::marker::Model;
 pub const MAX_TOKEN: usize = 255;
 
 /// A token: its text, the bytes `from..to` of the source that it comes of, and its place among the runs.
-#[derive(Debug, Drop)]
+#[derive(Drop)]
 pub struct Token {
     pub text: TokenText,
     pub from: usize,
@@ -22,7 +22,7 @@ pub struct Token {
 }
 
 /// The tokens of a text, in its order.
-#[derive(Debug, Drop)]
+#[derive(Drop)]
 pub struct Tokens {
     list: Vec<Token>,
 }
