@@ -29,12 +29,12 @@ use Rattle.object_store.specs.Store.{State as Kept}
 use Rattle.source_log.specs.Log.{Log}
 use Rattle.split_states.specs.declared.rows.Row.{Row}
 use Rattle.index_world.specs.Configuration.{index_of, configuration, StaysConfigured, no_fields, config_or}
-use Rattle.index_world.specs.Core.{Core, with_unread, IsConfigured}
+use Rattle.index_world.specs.Core.{Core, journal_of, with_unread, IsConfigured}
 use Rattle.index_world.specs.World.{IsWorld, Keeping, WorldStands}
 use Rattle.index_world.specs.Index.{IsAllowed, IsRowKept, AreRowsKept}
-use Rattle.index_world.proofs.Asking.{begun_history}
+use Rattle.index_world.proofs.Asking.{Begun, begun_history}
 use Rattle.index_world.proofs.InHand.{Comes}
-use Rattle.index_world.proofs.Numbers.{history-snoc}
+use Rattle.index_world.proofs.Numbers.{history-snoc, revision_is}
 use Rattle.index_world.proofs.StoreKeys.{true_is_false}
 
 -- ---- it stays
@@ -92,6 +92,28 @@ configured-unread kept core log config w e = by core.standing refl
 pub configured-stands : (keeping : Keeping) (core : Core) (log : Log) (config : IndexConfig) → WorldStands keeping core log → index_of keeping.meta.config ≡ Some config → IsConfigured config core
 configured-stands keeping core log config s e =
     configured-unread s.kept core log config s.world (ap (λ (m : State). index_of m.config) (sym s.meta) ∙ e)
+
+same_config : (o : Option IndexConfig) (one other : IndexConfig) → o ≡ Some one → o ≡ Some other → one ≡ other
+same_config o one other e f = cc
+
+-- and the configuration of its index is what it keeps
+pub configured-kept : (keeping : Keeping) (core : Core) (log : Log) (config : IndexConfig) → WorldStands keeping core log → IsConfigured config core → index_of keeping.meta.config ≡ Some config
+configured-kept keeping core log config s e =
+    subst (λ (c : IndexConfig). index_of keeping.meta.config ≡ Some c) (same_config (configuration (journal_of core)) b.config.settings.index config (configured-stands keeping core log b.config.settings.index s kept) e) kept
+  where
+    legal : Legal reads (history core.history)
+    legal = by core.standing refl
+      where
+        by : (o : Option Entry) → core.standing ≡ o → Legal reads (history core.history)
+        by None q = subst (λ (o : Option Entry). Legal reads (history (with_unread core.history o))) q s.world.index.stands.legal
+        by (Some entry) q =
+            (subst (Legal reads) (history-snoc core.history entry) (subst (λ (o : Option Entry). Legal reads (history (with_unread core.history o))) q s.world.index.stands.legal)).0
+
+    b : Begun (history core.history)
+    b = begun_history (history core.history) legal (let r = revision_is core.history in let some = s.opened in omega (arith, r, some))
+
+    kept : index_of keeping.meta.config ≡ Some b.config.settings.index
+    kept = ap (λ (m : State). index_of m.config) s.meta ∙ ap index_of b.is
 
 -- ---- a Create comes first
 

@@ -14,6 +14,10 @@ use Rattle.meta_journal.specs.declared.place.Place.TheVariants.{Sure, Given}
 use Rattle.meta_store.specs.Answers.{Answer, HasNumbers, answer_to}
 use Rattle.meta_store.specs.History.{history}
 use Rattle.meta_store.specs.Readings.{config_of, reading_of}
+use Rattle.meta_store.specs.Rows.{rows}
+use Rattle.split_states.specs.Rows.{row_at}
+use Rattle.split_states.specs.declared.rows.Row.{Row}
+use Rattle.split_states.specs.declared.rows.RowState.TheVariants.{Staged}
 use Rattle.meta_store.specs.State.{state_of, after}
 use Rattle.meta_store.specs.State as meta
 use Rattle.meta_store.specs.declared.config.Config.{Config}
@@ -29,9 +33,9 @@ use Rattle.index_world.specs.declared.world_error.WorldError.{WorldError}
 use Rattle.index_world.specs.declared.world_error.WorldError.TheVariants as errors
 use Rattle.index_world.specs.Calls.{Unmade, refused, troubled, faulted, is_full, may_append, or_full, full_answer, answer_behind, entry_of}
 use Rattle.index_world.specs.Configuration.{configuration}
-use Rattle.index_world.specs.Core.{Core, last_count}
+use Rattle.index_world.specs.Core.{Core, IsStoredIn, IsUploadedIn, journal_of, last_count}
 use Rattle.index_world.specs.Gate.{IsUnmade}
-use Rattle.index_world.specs.Index.{MayEnter, HasFile, HasStaged, IsUploaded, max_entries}
+use Rattle.index_world.specs.Index.{MayEnter, HasFile, HasStaged, IsAllowed, IsUploaded, IsGivenUp, max_entries}
 use Rattle.index_world.specs.Life.{LifeIs, StandsBy, Creating}
 use Rattle.index_world.specs.Owning.{own_act, MayOwn}
 use Rattle.index_world.specs.Steps.{Counted}
@@ -40,12 +44,14 @@ use Rattle.index_world.specs.Unsure.{is_unsure}
 use Rattle.index_world.specs.World.{IsWorld}
 use Rattle.index_world.proofs.StoreKeys.{true_is_false}
 use Rattle.index_world.proofs.Asking.{made_is_publishable}
-use Rattle.index_world.proofs.InCore.{uploaded-of}
+use Rattle.index_world.proofs.Entering.{staged_row}
+use Rattle.index_world.proofs.GivenUp.{staged_unmarked}
+use Rattle.index_world.proofs.InCore.{stored-of}
 use Rattle.index_world.proofs.JournalCalls.{failed_law}
 use Rattle.index_world.proofs.JournalLaws.{spells_own, appends_made, appends_adopted, appends_foreign, appends_no_corrupt}
 use Rattle.index_world.proofs.Journals.{once}
 use Rattle.index_world.proofs.Lives.{Told, told_of, life_more}
-use Rattle.index_world.proofs.Transacting.{own_enters, fault_tried}
+use Rattle.index_world.proofs.Transacting.{own_allowed, own_enters, fault_tried}
 use Rattle.index_world.proofs.Worlds.{journal_is_history}
 
 -- ---- an entry of one's own may be created
@@ -54,12 +60,20 @@ pub own_numbers : (own : Own) (core : Core) → HasNumbers (own_act own core)
 own_numbers (owns.Stage delta facts) core = tt
 own_numbers (owns.Publish number) core = tt
 
-pub own_file : (kept : State) (core : Core) (log : Log) (own : Own) → IsWorld kept core log → MayOwn own log core → core.standing ≡ None → HasFile kept core.history log (own_act own core)
-own_file kept core log (owns.Stage delta facts) w may none = tt
-own_file kept core log (owns.Publish number) w may none =
+-- the file of a row that is staged stands
+stored_staged : (core : Core) (number : ℕ) (bytes : List ℕ) → (row : Row) × (row_at (rows (history core.history)) number ≡ Some row) × (row.state ≡ Staged) → journal_of core ≡ core.history →
+    IsUploadedIn core number bytes → IsStoredIn core number bytes
+stored_staged core number bytes s j (inl u) = u
+stored_staged core number bytes s j (inr g) =
+    let given_up = subst (λ es. IsGivenUp es number) j g in absurd (staged_unmarked (sym s.2 ∙ given_up.row s.0 s.1))
+
+pub own_file : (kept : State) (core : Core) (log : Log) (own : Own) → IsWorld kept core log → MayOwn own log core → core.standing ≡ None → IsAllowed core.history (entry_of (own_act own core) core) →
+    HasFile kept core.history log (own_act own core)
+own_file kept core log (owns.Stage delta facts) w may none allowed = tt
+own_file kept core log (owns.Publish number) w may none allowed =
     let j = journal_is_history core none in
     made_is_publishable kept core.history log number may.delta may.facts may.bytes may.config (subst (λ es. configuration es ≡ Some may.config) j may.configured) (subst (λ es. HasStaged es number may.delta may.facts) j may.staged) may.made
-    (subst (λ es. IsUploaded kept es number may.bytes) j (uploaded-of kept core number may.bytes w.stands_for may.uploaded))
+    (subst (λ es. IsUploaded kept es number may.bytes) j (stored-of kept core number may.bytes w.stands_for (stored_staged core number may.bytes (staged_row (history core.history) core.moment number allowed.1) j may.uploaded)))
 
 pub may_append_is : (act : Act) (core : Core) → IsOk (answer_behind core.history (entry_of act core)) → length core.history < max_entries → may_append act core ≡ Ok tt
 may_append_is act core ok below = by (answer_behind core.history (entry_of act core)) ok
@@ -143,7 +157,7 @@ module _ (old : State) (core : Core) (log : Log) (count now : ℕ) (life : Life)
     can_own = record { moment = b.timely.moment; act = can }
 
     enters : core.standing ≡ None → MayEnter old core.history log (entry_of (own_act own core) core)
-    enters none = own_enters old core log (own_act own core) b.timely can (own_numbers own core) (own_file old core log own b.world owned none) may
+    enters none = own_enters old core log (own_act own core) b.timely can (own_numbers own core) (own_file old core log own b.world owned none (own_allowed core (own_act own core) (own_numbers own core) may)) may
 
     appends : (r : Result ℕ JournalError) → WhereTold told told' (λ a s. Appends life.journal.next entry r a s) → Told told' (λ s. Appends (length core.history) (entry_of (own_act own core) core) r old s)
     appends r w =

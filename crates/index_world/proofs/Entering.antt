@@ -34,7 +34,7 @@ use Rattle.index_config.specs.declared.config.IndexConfig.{IndexConfig}
 use Rattle.index_world.specs.Config.{reads}
 use Rattle.index_world.specs.Configuration.{index_of, configuration}
 use Rattle.index_world.specs.Index.{Stands, IsRowSound, IsRowKept, AreRowsKept, IsStagedKey, IsLateKey, MayPublish, HasFile, MayEnter, IsBuilt, ranges_of, is_meta, is_split, max_entries}
-use Rattle.index_world.specs.Seen.{contents, accepted_in, accepted_records, record_count, meaning, place_of}
+use Rattle.index_world.specs.Seen.{contents, accepted_in, accepted_records, rejected_in, meaning, place_of}
 use Rattle.index_world.specs.SplitFile.{file_of, facts_of, AreSplit}
 use Rattle.split_bundle.specs.declared.placed.Placed.{Placed}
 use Rattle.index_world.proofs.StoreKeys.{true_is_false, meta_key-injective, meta_begins, meta_no_split, get-same, get-other, absent_at, stood}
@@ -156,7 +156,7 @@ ranges_spans k (part ∷ delta) = ap (λ l. part ∷ l) (ranges_spans k delta)
 -- ---- rows
 
 -- a Publish names a row that is staged
-staged_row : (h : History) (m n : ℕ) → Comes h m (Publish n) → (row : Row) × (row_at (rows h) n ≡ Some row) × (row.state ≡ Staged)
+pub staged_row : (h : History) (m n : ℕ) → Comes h m (Publish n) → (row : Row) × (row_at (rows h) n ≡ Some row) × (row.state ≡ Staged)
 staged_row h m n may = by (config_of reads h) may
   where
     by : (c : Option Config) → MayCome (reading_of reads c (Publish n)) c (state_of reads h) m (Publish n) → (row : Row) × (row_at (rows h) n ≡ Some row) × (row.state ≡ Staged)
@@ -190,8 +190,8 @@ publish_sound : (kept : State) (entries : List Entry) (log : Log) (n : ℕ) (row
 publish_sound kept entries log n row legal at staged found m =
     record {
       file = subst (λ k. get kept.objects (split_key k) ≡ Some (file_of m.config (contents m.config (ledger reads h).tasks row log))) (sym at.number) (m.file ∙ ap (λ xs. Some (file_of m.config xs)) (sym same));
-      facts = m.facts row found ∙ ap (λ xs. facts_of m.config xs (record_count (delta_of h n) - length xs)) (sym same)
-          ∙ ap (λ ps. facts_of m.config (contents m.config (ledger reads h).tasks row log) (record_count ps - length (contents m.config (ledger reads h).tasks row log))) (sym ranges);
+      facts = m.facts row found ∙ ap (λ xs. facts_of m.config xs (rejected_in m.config log (delta_of h n))) (sym same)
+          ∙ ap (λ ps. facts_of m.config (contents m.config (ledger reads h).tasks row log) (rejected_in m.config log ps)) (sym ranges);
       split = subst (AreSplit m.config) (sym same) m.split;
     }
   where

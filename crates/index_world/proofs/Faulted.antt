@@ -15,6 +15,7 @@ no_fault_between before now (errors.Missing key) h = tt
 no_fault_between before now (errors.Corrupt key) h = tt
 no_fault_between before now (errors.Foreign key) h = tt
 no_fault_between before now errors.Full h = tt
+no_fault_between before now (errors.Expired planned_at reached) h = tt
 no_fault_between before now errors.NoIndex h = tt
 no_fault_between before now errors.IndexExists h = tt
 no_fault_between before now (errors.BadConfig bad) h = tt

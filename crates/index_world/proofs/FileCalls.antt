@@ -20,7 +20,7 @@ use Rattle.index_world.specs.Onward.{Onward}
 use Rattle.index_world.proofs.StoreKeys.{true_is_false, split_outside}
 use Rattle.index_world.proofs.Journals.{one-journal}
 use Rattle.index_world.proofs.InHand.{number_apart}
-use Rattle.index_world.proofs.Worlds.{Onward-trans, held-refl, world-same}
+use Rattle.index_world.proofs.Worlds.{Onward-trans, held-refl, world-same, world-unmarked}
 use Rattle.index_world.proofs.WorldCalls.{Filed, world-file, world-file-late, world-taken}
 use Rattle.index_world.proofs.JournalCalls.{Counted, Begun, quiet, failing, rose_may, world-begins}
 
@@ -47,10 +47,10 @@ pub record UploadLaw (old new : State) (core : Core) (log : Log) (n : ℕ) (byte
 
 filed-on : (old mid new : State) (core between after : Core) (log : Log) (n : ℕ) → Onward old mid core between log → Filed mid new between after log n → Filed old new core after log n
 filed-on old mid new core between after log n o f =
-    record { world = f.world; others = record { configured = λ config e. f.others.configured config (o.held.configured config e); unused = λ m apart u. f.others.unused m apart (o.held.unused m u); uploaded = λ m b u. f.others.uploaded m b (o.held.uploaded m b u); staged = λ m d x s. f.others.staged m d x (o.held.staged m d x s) } }
+    record { world = f.world; others = record { configured = λ config e. f.others.configured config (o.held.configured config e); unused = λ m apart u. f.others.unused m apart (o.held.unused m u); uploaded = λ m b u. f.others.uploaded m b (o.held.uploaded m b u); staged = λ m d x s. f.others.staged m d x (o.held.staged m d x s); given_up = λ m g. f.others.given_up m (o.held.given_up m g) } }
 
 filed-of : (old new : State) (core after : Core) (log : Log) (n : ℕ) → Onward old new core after log → Filed old new core after log n
-filed-of old new core after log n o = record { world = o.world; others = record { configured = o.held.configured; unused = λ m apart u. o.held.unused m u; uploaded = o.held.uploaded; staged = o.held.staged } }
+filed-of old new core after log n o = record { world = o.world; others = record { configured = o.held.configured; unused = λ m apart u. o.held.unused m u; uploaded = o.held.uploaded; staged = o.held.staged; given_up = o.held.given_up } }
 
 absent_file : (kept : State) (core : Core) (n : ℕ) → StandsFor kept core → IsUnused kept (journal_of core) n → is_some (file_at core.files (split_key n)) ≡ false
 absent_file kept core n s u = ap is_some (s.files (split_key n) (split_outside n) ∙ u.absent)
@@ -263,7 +263,8 @@ load_law once old mid new core log read now w c t j u =
     there : Onward old mid core whole log
     there = Onward-trans old mid mid core start whole log b.onward
         (record {
-          world = world-same mid (with_standing start.standing start) log (with_standing start.standing start).store_faults (moment_of (told (with_standing start.standing start).history)) (with_standing start.standing start).clock false s.0.world;
+          world = world-unmarked mid (record (with_standing start.standing start) { moment = moment_of (told (with_standing start.standing start).history); unsure = false }) log
+              (world-same mid (with_standing start.standing start) log (with_standing start.standing start).store_faults (moment_of (told (with_standing start.standing start).history)) (with_standing start.standing start).clock false s.0.world);
           held = s.0.held;
         })
 

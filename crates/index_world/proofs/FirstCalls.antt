@@ -77,6 +77,7 @@ want_first entry (errors.Missing key) h s = absurd h
 want_first entry (errors.Corrupt key) h s = absurd h
 want_first entry (errors.Foreign key) h s = absurd h
 want_first entry errors.Full h s = absurd h
+want_first entry (errors.Expired planned_at reached) h s = absurd h
 want_first entry errors.NoIndex h s = absurd h
 want_first entry errors.IndexExists h s = absurd h
 want_first entry (errors.BadConfig bad) h s = absurd h
@@ -102,6 +103,7 @@ want_kind (errors.Missing key) h text = absurd h
 want_kind (errors.Corrupt key) h text = absurd h
 want_kind (errors.Foreign key) h text = absurd h
 want_kind errors.Full h text = absurd h
+want_kind (errors.Expired planned_at reached) h text = absurd h
 want_kind errors.NoIndex h text = absurd h
 want_kind errors.IndexExists h text = absurd h
 want_kind (errors.BadConfig bad) h text = absurd h
@@ -114,6 +116,7 @@ want_no_fault before now (errors.Missing key) h = absurd h
 want_no_fault before now (errors.Corrupt key) h = absurd h
 want_no_fault before now (errors.Foreign key) h = absurd h
 want_no_fault before now errors.Full h = absurd h
+want_no_fault before now (errors.Expired planned_at reached) h = absurd h
 want_no_fault before now errors.NoIndex h = absurd h
 want_no_fault before now errors.IndexExists h = absurd h
 want_no_fault before now (errors.BadConfig bad) h = absurd h
@@ -174,6 +177,7 @@ module _ (text : List ℕ) (clock : Option ℕ) (n now : ℕ) where
   bad_text (errors.Corrupt key) bad old new l = absurd bad
   bad_text (errors.Foreign key) bad old new l = absurd bad
   bad_text errors.Full bad old new l = absurd bad
+  bad_text (errors.Expired planned_at reached) bad old new l = absurd bad
   bad_text errors.NoIndex bad old new l = absurd bad
   bad_text errors.IndexExists bad old new l = absurd bad
 
@@ -208,6 +212,7 @@ module _ (text : List ℕ) (clock : Option ℕ) (n now : ℕ) where
       by (Err (errors.Missing key)) faults knows a = absurd a
       by (Err (errors.Foreign key)) faults knows a = absurd a
       by (Err errors.Full) faults knows a = absurd a
+      by (Err (errors.Expired planned_at reached)) faults knows a = absurd a
       by (Err errors.NoIndex) faults knows a = absurd a
       by (Err (errors.BadConfig bad)) faults knows a = absurd a
 

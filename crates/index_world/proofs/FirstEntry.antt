@@ -299,6 +299,7 @@ module _ (old new : State) (core : Core) (log : Log) (text : List â„•) (now : â„
     not_made (errors.Corrupt key) (inr h) = absurd (load_no_corrupt old new core log now 0 key w counted (HasLanded-trans old h.0 new (landed_first old h.0 h.1.vacant) h.2.0) h.2.1)
     not_made (errors.Foreign key) h = absurd (load_no_foreign old new core log now key w counted h.0 h.1)
     not_made errors.Full h = absurd h
+    not_made (errors.Expired planned_at reached) h = absurd h
     not_made errors.NoIndex h = absurd h
     not_made errors.IndexExists (inl h) = entries_none errors.IndexExists told' h.0 h.1 tells h.2 refl
     not_made errors.IndexExists (inr h) = landed_none h.0 h.1 now later (omega arith) errors.IndexExists told' tells h.2 refl

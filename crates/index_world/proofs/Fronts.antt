@@ -80,6 +80,7 @@ front_refused all left left' e reading s time number f l read is (errors.StoreFa
 front_refused all left left' e reading s time number f l read is (errors.Missing key) u = absurd u
 front_refused all left left' e reading s time number f l read is (errors.Foreign key) u = absurd u
 front_refused all left left' e reading s time number f l read is errors.Full u = absurd u
+front_refused all left left' e reading s time number f l read is (errors.Expired planned_at reached) u = absurd u
 front_refused all left left' e reading s time number f l read is errors.NoIndex u = absurd u
 front_refused all left left' e reading s time number f l read is errors.IndexExists u = absurd u
 front_refused all left left' e reading s time number f l read is (errors.BadConfig bad) u = absurd u

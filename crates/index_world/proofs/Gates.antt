@@ -1,6 +1,6 @@
 -- What a world's calls did, put together from what its life did.
 use Rattle.std.proofs.Common.{append-nil, ◌≡◌, ◌⊎◌, ℕ, ◌+◌, ◌<◌, ◌≤◌, List, [], ◌∷◌, ◌++◌, refl, sym, ap, ◌∙◌, subst, inl, inr, Bool, true, false, length, arith}
-use Rattle.std.specs.Prelude.{Option, Some, None, Result, Ok, Err, IsErrOf, max, ⊤}
+use Rattle.std.specs.Prelude.{Option, Some, None, Result, Ok, Err, IsErrOf, max, nat_le, ⊤}
 use Rattle.std.specs.Result.{IsErrAnd}
 use Rattle.byte_fields.specs.Causes.{HasCause, Rose}
 use Rattle.std.specs.FinMap.{get}
@@ -15,11 +15,11 @@ use Rattle.object_store.specs.declared.store.Piece.{Piece}
 use Rattle.index_world.specs.declared.tokens.Uploaded.{Uploaded}
 use Rattle.index_world.specs.declared.world_error.WorldError.TheVariants as errors
 use Rattle.index_world.specs.Index.{IsUnused}
-use Rattle.index_world.proofs.FileCalls.{UploadLaw, upload_is_made, upload_failed, upload_never_exists, upload_short, got_law, got_failed_law, got_short_law}
-use Rattle.index_world.proofs.InCore.{unused-of, uploaded-of}
+use Rattle.index_world.proofs.FileCalls.{one_call, UploadLaw, upload_is_made, upload_failed, upload_never_exists, upload_short, got_law, got_failed_law, got_short_law}
+use Rattle.index_world.proofs.InCore.{unused-of, stored-of}
 use Rattle.index_world.proofs.Journals.{once}
 use Rattle.index_world.proofs.StoreKeys.{none_some}
-use Rattle.index_world.proofs.WholeFiles.{Fetches, whole_upload, whole_fetched, uploaded_in_hand}
+use Rattle.index_world.proofs.WholeFiles.{Fetches, fetches-within, whole_upload, whole_fetched, uploaded_in_hand}
 use Rattle.meta_store.specs.History.{history, last_number, last_opstamp}
 use Rattle.meta_store.specs.State as meta
 use Rattle.source_checkpoint.specs.declared.delta.Part.{Part}
@@ -32,9 +32,9 @@ use Rattle.index_world.specs.declared.life.Life.{Life}
 use Rattle.index_world.specs.declared.own.Own.{Own}
 use Rattle.index_world.specs.declared.own.Own.TheVariants as owns
 use Rattle.index_world.specs.declared.world_error.WorldError.{WorldError}
-use Rattle.index_world.specs.Calls.{Fate, Gives, Trouble, no_memory, appended, looked, asked, asked_and_looked, asked_clock, asked_moment, entry_of, fetched, upload_made, faulted, store_fault, store_failed}
+use Rattle.index_world.specs.Calls.{Call, Fate, Grace, calm_call, unless_over, file_got, is_expired, gives, Gives, Trouble, no_memory, appended, looked, asked, asked_and_looked, asked_clock, asked_moment, entry_of, fetched, upload_made, faulted, store_fault, store_failed}
 use Rattle.index_world.specs.Config.{reads}
-use Rattle.index_world.specs.Core.{Core, last_count, journal_of, HasStagedIn, IsUnusedIn, IsUploadedIn}
+use Rattle.index_world.specs.Core.{Core, last_count, journal_of, HasStagedIn, IsUnusedIn, IsStoredIn, IsPlannedIn}
 use Rattle.index_world.specs.Gate.{Does, Says, NoneBetween, IsTrouble, IsUnmade, WasStaged, IsStagedIn, WasUploaded, IsMoment, IsPieceGiven}
 use Rattle.index_world.specs.Life.{LifeIs, StandsBy, SettledSure, SettledIn, Settling, OwnMade, Appending}
 use Rattle.index_world.specs.Owning.{own_act}
@@ -42,10 +42,10 @@ use Rattle.index_world.specs.Steps.{Counted, greatest}
 use Rattle.index_world.specs.Taking.{IsWant, of_create, of_get}
 use Rattle.index_world.specs.Unsure.{is_unsure}
 use Rattle.index_world.specs.World.{IsWorld, IsTimely, Keeping, WorldStands}
-use Rattle.index_world.proofs.Asking.{timely_asked}
+use Rattle.index_world.proofs.Asking.{timely_asked, asked_least}
 use Rattle.index_world.proofs.Lives.{Told, told_of, want_trouble, knows_of}
 use Rattle.index_world.proofs.Numbers.{history-snoc, revision_is, staged_le}
-use Rattle.index_world.proofs.WholeCalls.{Whole, Looks, looks_sure, looks_settled, looks_unsettled, whole_appended, whole_asked, whole_looked, whole_asked_and_looked, world_asked, copied}
+use Rattle.index_world.proofs.WholeCalls.{Whole, Looks, looks_sure, looks_settled, looks_unsettled, whole_appended, whole_asked, whole_looked, whole_asked_and_looked, world_asked, stored_asked, copied}
 use Rattle.index_world.proofs.Worlds.{world-same, world-frozen}
 
 -- ---- what a world keeps
@@ -383,11 +383,27 @@ uploads told told' n now clock life frozen core log s number key bytes before af
         subst (λ (x : Result Uploaded WorldError). Does WorldStands NoneBetween (Some number) (λ fate c. upload_made fate number bytes c) IsTrouble (WasUploaded number bytes) x core log (kept_by told' now clock life frozen)) (sym d.2)
         (failed_by t.new t.is d.0 (subst (λ (a : Result ⊤ CreateError). LandsThen (Creates key bytes a) s.kept t.new) d.1 t.says) (λ f. rose (d.1 ∙ ap Err f)))
 
-pub fetches : (told told' : Option State) (n now : ℕ) (clock : Option ℕ) (life : Life) (frozen : Bool) (core : Core) (log : Log) (s : WorldStands (kept_by told n clock life frozen) (asked_clock core) log) (low : IsTimely core) (number : ℕ) (key bytes : List ℕ) (from len before after : ℕ) (answer : Result Piece GetError) (r : Result Piece WorldError) →
-    IsUploadedIn core number bytes → key ≡ split_key number → AfterLanding told told' (Gets key from len answer) → HasCause n now (IsErrOf answer gets.Failed) → now ≤ last_count → before ≡ core.store_faults → after ≡ now →
+-- the grace is over
+pub expires : (grace : Grace) (w : Keeping) (core : Core) (log : Log) (bytes : List ℕ) (from len now : ℕ) → now ≡ w.moment → WorldStands w (asked_clock core) log → IsTimely core → nat_le grace.until w.moment ≡ true →
+    Does WorldStands NoneBetween None (fetched grace) IsTrouble (IsPieceGiven bytes from len) (Err (errors.Expired grace.planned_at now)) core log w
+expires grace w core log bytes from len now at s low over =
+    record {
+      mid = core;
+      passed = refl;
+      fate = one_call calm_call;
+      answer = Err (faulted (is_expired grace.planned_at (asked_clock core).moment));
+      after = asked_clock core;
+      did = ap (λ (b : Bool). unless_over b grace.planned_at (asked_clock core) (file_got calm_call (asked_clock core))) (ap (nat_le grace.until) (sym s.moment) ∙ over);
+      says = ap (λ (m : ℕ). faulted (is_expired grace.planned_at m)) (sym s.moment ∙ sym at);
+      goes_on = (whole_asked s.kept core log (world-same s.kept (asked_clock core) log core.store_faults core.moment core.clock core.unsure s.world) s.opened low).goes_on;
+      stands = s;
+    }
+
+pub fetches : (grace : Grace) (told told' : Option State) (n now : ℕ) (clock : Option ℕ) (life : Life) (frozen : Bool) (core : Core) (log : Log) (s : WorldStands (kept_by told n clock life frozen) (asked_clock core) log) (low : IsTimely core) (number : ℕ) (key bytes : List ℕ) (from len before after : ℕ) (answer : Result Piece GetError) (r : Result Piece WorldError) →
+    (asked_clock core).moment < grace.until → IsPlannedIn core grace.until number bytes → key ≡ split_key number → AfterLanding told told' (Gets key from len answer) → HasCause n now (IsErrOf answer gets.Failed) → now ≤ last_count → before ≡ core.store_faults → after ≡ now →
     ((piece : Piece) × (answer ≡ Ok piece) × (r ≡ Ok piece)) ⊎ ((e : GetError) × (answer ≡ Err e) × (r ≡ Err (of_get key before after e))) →
-    Does WorldStands NoneBetween None fetched IsTrouble (IsPieceGiven bytes from len) r core log (kept_by told' now clock life frozen)
-fetches told told' n now clock life frozen core log s low number key bytes from len before after answer r u ek step cause within at behind rel =
+    Does WorldStands NoneBetween None (fetched grace) IsTrouble (IsPieceGiven bytes from len) r core log (kept_by told' now clock life frozen)
+fetches grace told told' n now clock life frozen core log s low number key bytes from len before after answer r early p ek step cause within at behind rel =
     by answer r rel (told_of told told' s.kept (LandsThen (Gets key from len answer)) s.told step) cause.failed
   where
     w : IsWorld s.kept core log
@@ -399,17 +415,20 @@ fetches told told' n now clock life frozen core log s low number key bytes from 
     knows : LifeIs life core.history (asked_clock core).moment core.unsure
     knows = record { next = s.next; unsure = s.unsure; moment = s.moment; meta = s.meta }
 
-    ends_by : (r : Result Piece WorldError) (new : State) (a : Core → Result ⊤ Trouble) → told' ≡ Some new → (f : Fetches s.kept new core log a now) → Says IsTrouble (IsPieceGiven bytes from len) r (a f.after) f.after →
-        Does WorldStands NoneBetween None fetched IsTrouble (IsPieceGiven bytes from len) r core log (kept_by told' now clock life frozen)
+    ends_by : (r : Result Piece WorldError) (new : State) (a : Core → Result ⊤ Trouble) → told' ≡ Some new → (f : Fetches grace s.kept new core log a now) → Says IsTrouble (IsPieceGiven bytes from len) r (a f.after) f.after →
+        Does WorldStands NoneBetween None (fetched grace) IsTrouble (IsPieceGiven bytes from len) r core log (kept_by told' now clock life frozen)
     ends_by r new a tells f says =
-        does_by fetched None IsTrouble (IsPieceGiven bytes from len) r core (asked_clock core) log new a [] core.unsure now told' clock life frozen
-        (whole_fetched s.kept new core log a now w s.opened low (record { later = counted.later; within = within }) f) tells s.clock s.frozen (same_life life (asked_clock core) knows) says
+        does_by (fetched grace) None IsTrouble (IsPieceGiven bytes from len) r core (asked_clock core) log new a [] core.unsure now told' clock life frozen
+        (whole_fetched grace s.kept new core log a now w s.opened low (record { later = counted.later; within = within }) f) tells s.clock s.frozen (same_life life (asked_clock core) knows) says
+
+    stored : IsStoredIn core number bytes
+    stored = p (let later = asked_least core.frozen core.moment core.clock in omega (arith, later, early))
 
     -- the file stands with its bytes, whatever landed
     stands : (new : State) → HasLanded s.kept new → get new.objects key ≡ Some bytes
     stands new l =
         let g = got_law once s.kept new (asked_clock core) log now s.world counted l in
-        ap (get new.objects) ek ∙ (g.3.onward.held.uploaded number bytes (uploaded-of s.kept (asked_clock core) number bytes s.world.stands_for (record { staged = u.staged; file = u.file; not_late = u.not_late }))).file
+        ap (get new.objects) ek ∙ (g.3.onward.held.uploaded number bytes (stored-of s.kept (asked_clock core) number bytes s.world.stands_for (stored_asked core number bytes stored))).file
 
     found : (new : State) (x : Result Piece GetError) → LandsThen (Gets key from len x) s.kept new → HasLanded s.kept new × Finds (Some bytes) from len x
     found new x l =
@@ -417,26 +436,26 @@ fetches told told' n now clock life frozen core log s low number key bytes from 
         (landed, subst (λ (o : Option (List ℕ)). Finds o from len x) (ap (λ (k : State). get k.objects key) (sym l.2.0) ∙ stands new landed) l.2.1)
 
     failed_by : (new : State) → told' ≡ Some new → (e : GetError) → HasLanded s.kept new × Finds (Some bytes) from len (Err e) → (e ≡ gets.Failed → Rose n now) →
-        Does WorldStands NoneBetween None fetched IsTrouble (IsPieceGiven bytes from len) (Err (of_get key before after e)) core log (kept_by told' now clock life frozen)
+        Does WorldStands NoneBetween None (fetched grace) IsTrouble (IsPieceGiven bytes from len) (Err (of_get key before after e)) core log (kept_by told' now clock life frozen)
     failed_by new tells gets.Absent l rose = absurd (none_some bytes (sym l.1))
     failed_by new tells gets.Failed l rose =
         let g = got_failed_law once s.kept new (asked_clock core) log now s.world counted (subst (λ (m : ℕ). Rose m now) s.store_faults (rose refl)) l.0 in
-        ends_by (Err (errors.StoreFault before after)) new (λ c. Err (store_failed core.store_faults c)) tells (record { call = g.0; after = g.1; did = g.2; begun = g.3 })
+        ends_by (Err (errors.StoreFault before after)) new (λ c. Err (store_failed core.store_faults c)) tells (fetches-within grace s.kept new core log (λ c. Err (store_failed core.store_faults c)) now g.0 g.1 early g.2 g.3)
         (ap (λ (m : ℕ). faulted (store_fault core.store_faults m)) (g.3.faults ∙ sym behind) ∙ ap (λ (m : ℕ). faulted (store_fault m after)) (sym at))
     failed_by new tells (gets.Memory a) l rose =
         let g = got_short_law once s.kept new (asked_clock core) log now s.world counted l.0 in
-        ends_by (Err (errors.Memory a)) new (λ c. Err no_memory) tells (record { call = g.0; after = g.1; did = g.2; begun = g.3 }) refl
+        ends_by (Err (errors.Memory a)) new (λ c. Err no_memory) tells (fetches-within grace s.kept new core log (λ c. Err no_memory) now g.0 g.1 early g.2 g.3) refl
 
     by : (answer : Result Piece GetError) (r : Result Piece WorldError) → ((piece : Piece) × (answer ≡ Ok piece) × (r ≡ Ok piece)) ⊎ ((e : GetError) × (answer ≡ Err e) × (r ≡ Err (of_get key before after e))) →
         Told told' (LandsThen (Gets key from len answer) s.kept) → (IsErrOf answer gets.Failed → Rose n now) →
-        Does WorldStands NoneBetween None fetched IsTrouble (IsPieceGiven bytes from len) r core log (kept_by told' now clock life frozen)
+        Does WorldStands NoneBetween None (fetched grace) IsTrouble (IsPieceGiven bytes from len) r core log (kept_by told' now clock life frozen)
     by answer r (inl d) t rose =
         let f = found t.new (Ok d.0) (subst (λ (a : Result Piece GetError). LandsThen (Gets key from len a) s.kept t.new) d.1 t.says) in
         let g = got_law once s.kept t.new (asked_clock core) log now s.world counted f.0 in
-        subst (λ (x : Result Piece WorldError). Does WorldStands NoneBetween None fetched IsTrouble (IsPieceGiven bytes from len) x core log (kept_by told' now clock life frozen)) (sym d.2)
-        (ends_by (Ok d.0) t.new (λ c. Ok tt) t.is (record { call = g.0; after = g.1; did = g.2; begun = g.3 }) f.1)
+        subst (λ (x : Result Piece WorldError). Does WorldStands NoneBetween None (fetched grace) IsTrouble (IsPieceGiven bytes from len) x core log (kept_by told' now clock life frozen)) (sym d.2)
+        (ends_by (Ok d.0) t.new (λ c. Ok tt) t.is (fetches-within grace s.kept t.new core log (λ c. Ok tt) now g.0 g.1 early g.2 g.3) f.1)
     by answer r (inr d) t rose =
-        subst (λ (x : Result Piece WorldError). Does WorldStands NoneBetween None fetched IsTrouble (IsPieceGiven bytes from len) x core log (kept_by told' now clock life frozen)) (sym d.2)
+        subst (λ (x : Result Piece WorldError). Does WorldStands NoneBetween None (fetched grace) IsTrouble (IsPieceGiven bytes from len) x core log (kept_by told' now clock life frozen)) (sym d.2)
         (failed_by t.new t.is d.0 (found t.new (Err d.0) (subst (λ (a : Result Piece GetError). LandsThen (Gets key from len a) s.kept t.new) d.1 t.says)) (λ f. rose (d.1 ∙ ap Err f)))
 
 -- ---- a gate that holds another

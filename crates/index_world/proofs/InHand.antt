@@ -52,7 +52,7 @@ row_at-append (x ∷ xs) r row n e = by (x.number == n) refl (row_at-append xs r
     by false eb more = let found = rw eb at e in on eb (more found)
 
 -- the row that a Stage makes
-abbrev new_row : History → ℕ → ℕ → List Part → RowFacts → Row
+abbrev pub new_row : History → ℕ → ℕ → List Part → RowFacts → Row
 new_row h moment number delta facts = staged number (spans_of (last_opstamp h) delta) facts moment
 
 -- what the entries note of a number
@@ -67,7 +67,7 @@ changed_facts n row = by (row.number == n)
     by true = refl
     by false = refl
 
-mapped : (f : Row → Row) (o : Option Row) (row : Row) → option_map f o ≡ Some row → (old : Row) × (o ≡ Some old) × (f old ≡ row)
+pub mapped : (f : Row → Row) (o : Option Row) (row : Row) → option_map f o ≡ Some row → (old : Row) × (o ≡ Some old) × (f old ≡ row)
 mapped f None row e = cc
 mapped f (Some old) row e = (old, refl, cc)
 

@@ -29,6 +29,7 @@ use Rattle.index_world.proofs.Journals.{stand-of, Stand-same, Stand-at, StandFro
 use Rattle.index_world.proofs.Numbers.{revision_is, staged_le, last_le, published_le, stage_next}
 use Rattle.index_world.proofs.StoreChanges.{All-snoc, All-each, rows_more, Carries, MayEnter-carried, LateEntries-carried, staged_more, staged_last, unpublished_more}
 use Rattle.index_world.proofs.InHand.{HasStaged-more, HasStaged-new}
+use Rattle.index_world.proofs.GivenUp.{GivenUp-more}
 use Rattle.index_world.proofs.Configured.{configured-more}
 use Rattle.index_world.proofs.Entering.{Stands-enters, built_act, publish_file}
 
@@ -163,6 +164,7 @@ enters-by kept late entries log entry bytes less i spells e =
           not_late = less (λ l. l.0 ≡ split_key n → ⊥) u.not_late;
         };
         staged = λ n delta facts h. HasStaged-more entries entry n delta facts i.stands.legal e.legal (built_act kept entries log entry.act e.file) h;
+        given_up = λ n g. GivenUp-more entries entry n i.stands.legal e.legal (built_act kept entries log entry.act e.file) g;
       };
       fresh = λ n delta facts p. fresh n delta facts p;
     }
@@ -264,6 +266,7 @@ still-lands kept place o entries log at absent outside i =
           not_late = All-remove (λ l. l.0 ≡ split_key n → ⊥) kept.late place u.not_late;
         };
         staged = λ n delta facts h. h;
+        given_up = λ n g. g;
       };
     }
   where
@@ -293,6 +296,7 @@ still-over kept place entries log i =
         unused = λ n u. record { staged = u.staged; unpublished = u.unpublished; absent = u.absent; not_late = All-remove (λ l. l.0 ≡ split_key n → ⊥) kept.late place u.not_late };
         uploaded = λ n bytes u. record { staged = u.staged; file = u.file; not_late = All-remove (λ l. l.0 ≡ split_key n → ⊥) kept.late place u.not_late };
         staged = λ n delta facts h. h;
+        given_up = λ n g. g;
       };
     }
   where
@@ -320,6 +324,7 @@ still-late old entries log n bytes i e =
         unused = λ m u. record { staged = u.staged; unpublished = u.unpublished; absent = u.absent; not_late = not_late m u.not_late };
         uploaded = λ m b u. record { staged = u.staged; file = u.file; not_late = not_late m u.not_late };
         staged = λ m delta facts h. h;
+        given_up = λ m g. g;
       };
     }
   where
@@ -356,11 +361,11 @@ index-dead old entries log n bytes i lt = still-late old entries log n bytes i (
 
 pub Still-refl : (kept : State) (entries : List Entry) (log : Log) → IsIndexOf kept entries log → Still kept kept entries log
 Still-refl kept entries log i =
-    record { index = i; enters = λ entry e. e; held = record { configured = λ config e. e; unused = λ n u. u; uploaded = λ n bytes u. u; staged = λ n delta facts h. h } }
+    record { index = i; enters = λ entry e. e; held = record { configured = λ config e. e; unused = λ n u. u; uploaded = λ n bytes u. u; staged = λ n delta facts h. h; given_up = λ n g. g } }
 
 pub held-trans : (a b c : State) (x y z : List Entry) → KeepsHeld a b x y → KeepsHeld b c y z → KeepsHeld a c x z
 held-trans a b c x y z h k =
-    record { configured = λ config e. k.configured config (h.configured config e); unused = λ n u. k.unused n (h.unused n u); uploaded = λ n bytes u. k.uploaded n bytes (h.uploaded n bytes u); staged = λ n d f s. k.staged n d f (h.staged n d f s) }
+    record { configured = λ config e. k.configured config (h.configured config e); unused = λ n u. k.unused n (h.unused n u); uploaded = λ n bytes u. k.uploaded n bytes (h.uploaded n bytes u); staged = λ n d f s. k.staged n d f (h.staged n d f s); given_up = λ n g. k.given_up n (h.given_up n g) }
 
 pub Still-trans : (a b c : State) (entries : List Entry) (log : Log) → Still a b entries log → Still b c entries log → Still a c entries log
 Still-trans a b c entries log h k =

@@ -7,6 +7,7 @@ pub mod InHand
 pub mod Asking
 pub mod Configured
 pub mod Entering
+pub mod GivenUp
 pub mod Indexing
 pub mod WholeIndex
 pub mod StoreCalls

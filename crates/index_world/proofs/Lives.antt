@@ -56,6 +56,7 @@ want_trouble (errors.Missing key) h = absurd h
 want_trouble (errors.Corrupt key) h = absurd h
 want_trouble (errors.Foreign key) h = absurd h
 want_trouble errors.Full h = absurd h
+want_trouble (errors.Expired planned_at reached) h = absurd h
 want_trouble errors.NoIndex h = absurd h
 want_trouble errors.IndexExists h = absurd h
 want_trouble (errors.BadConfig bad) h = absurd h

@@ -145,6 +145,7 @@ refused_error es n now (errors.StoreFault low high) some r old new l = absurd r
 refused_error es n now (errors.Missing key) some r old new l = absurd r
 refused_error es n now (errors.Foreign key) some r old new l = absurd r
 refused_error es n now errors.Full some r old new l = absurd r
+refused_error es n now (errors.Expired planned_at reached) some r old new l = absurd r
 refused_error es n now errors.NoIndex some r old new l = absurd r
 refused_error es n now errors.IndexExists some r old new l = absurd r
 refused_error es n now (errors.BadConfig bad) some r old new l = absurd r

@@ -43,6 +43,7 @@ want_unread (errors.Missing key) h = absurd h
 want_unread (errors.Corrupt key) h = absurd h
 want_unread (errors.Foreign key) h = absurd h
 want_unread errors.Full h = absurd h
+want_unread (errors.Expired planned_at reached) h = absurd h
 want_unread errors.NoIndex h = absurd h
 want_unread errors.IndexExists h = absurd h
 want_unread (errors.BadConfig bad) h = absurd h

@@ -1,6 +1,6 @@
 -- Words that are appended one by one are words with one blank between.
 use Rattle.std.proofs.Common.{◌≡◌, ℕ, List, [], ◌∷◌, ◌++◌, append_assoc, refl, sym, ap, ◌∙◌}
-use Rattle.index_world.specs.Calls.{Fault, store_fault, is_foreign, is_full, faulted}
+use Rattle.index_world.specs.Calls.{Fault, store_fault, is_foreign, is_full, is_expired, faulted}
 use Rattle.index_world.specs.Gate.{IsTrouble}
 use Rattle.index_world.specs.Saying.{words, with_word, with_words, fault_words, error_words}
 use Rattle.index_world.specs.declared.world_error.WorldError.{WorldError}
@@ -35,6 +35,7 @@ error_words-fault (errors.Missing key) f h = absurd h
 error_words-fault (errors.Corrupt key) f h = absurd h
 error_words-fault (errors.Foreign key) f h = ap fault_words (sym (faulted_same f (is_foreign key) h))
 error_words-fault errors.Full f h = ap fault_words (sym (faulted_same f is_full h))
+error_words-fault (errors.Expired planned_at reached) f h = ap fault_words (sym (faulted_same f (is_expired planned_at reached) h))
 error_words-fault errors.NoIndex f h = absurd h
 error_words-fault errors.IndexExists f h = absurd h
 error_words-fault (errors.BadConfig bad) f h = absurd h

@@ -18,7 +18,7 @@ use Rattle.source_log.specs.Log.{Log}
 use Rattle.index_world.specs.Calls.{Call, gives, Trouble, faulted, no_memory, Unmade, refused, troubled, is_foreign, store_failed, last_create, begun, taken_in, may_append, or_full, full_answer, answer_behind, entry_of, adopted_making}
 use Rattle.index_world.specs.Config.{reads}
 use Rattle.index_world.specs.Core.{Core, journal_of, clock_of}
-use Rattle.index_world.specs.Index.{MayEnter, HasFile, max_entries}
+use Rattle.index_world.specs.Index.{MayEnter, HasFile, max_entries, IsAllowed}
 use Rattle.index_world.specs.World.{IsWorld, IsTimely}
 use Rattle.index_world.specs.Onward.{Onward}
 use Rattle.index_world.proofs.StoreKeys.{true_is_false}
@@ -51,12 +51,16 @@ has_room act core may = by (answer_behind core.history (entry_of act core)) refl
         let f : nat_le max_entries (length core.history) ≡ false = full (nat_le max_entries (length core.history)) (sym (ap (λ r. or_full r core) e) ∙ may) in
         record { allowed = subst IsOk (sym e) refl; below = grind (f, arith, nat_tests) }
 
+pub own_allowed : (core : Core) (act : Act) → HasNumbers act → may_append act core ≡ Ok tt → IsAllowed core.history (entry_of act core)
+own_allowed core act numbers may =
+    (answered (reading_of reads (config_of reads (history core.history)) act) (state_of reads (history core.history)) (entry_of act core) numbers).0 (has_room act core may).allowed
+
 pub own_enters : (kept : State) (core : Core) (log : Log) (act : Act) → IsTimely core → CanSpellAct act → HasNumbers act → HasFile kept core.history log act → may_append act core ≡ Ok tt →
     MayEnter kept core.history log (entry_of act core)
 own_enters kept core log act t can numbers file may =
     record {
       can = record { moment = t.moment; act = can };
-      legal = (answered (reading_of reads (config_of reads (history core.history)) act) (state_of reads (history core.history)) (entry_of act core) numbers).0 (has_room act core may).allowed;
+      legal = own_allowed core act numbers may;
       room = (has_room act core may).below;
       file = file;
     }

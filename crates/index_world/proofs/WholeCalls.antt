@@ -1,5 +1,5 @@
 -- The whole calls of a world: with some fate each is the core's call, and behind it the world stands for the core that it gave.
-use Rattle.std.proofs.Common.{◌≡◌, ℕ, ◌<◌, ◌≤◌, List, [], ◌∷◌, refl, ap, ◌∙◌, Bool, true, false, length, arith}
+use Rattle.std.proofs.Common.{◌≡◌, inl, inr, ℕ, ◌<◌, ◌≤◌, List, [], ◌∷◌, refl, ap, ◌∙◌, Bool, true, false, length, arith}
 use Rattle.std.proofs.lemmas.List.{length-append}
 use Rattle.std.specs.Prelude.{Option, Some, None, Result, Ok, Err, max, ⊤}
 use Rattle.meta_journal.specs.declared.entry.Act.{Act}
@@ -10,7 +10,7 @@ use Rattle.object_store.specs.Store.{State}
 use Rattle.source_log.specs.Log.{Log}
 use Rattle.index_world.specs.Calls.{Call, Fate, Gives, gives, Trouble, no_memory, Unmade, settled, unless_short, looked, asked, asked_and_looked, appended, asked_clock, and_then}
 use Rattle.index_world.specs.Config.{reads}
-use Rattle.index_world.specs.Core.{Core, KeepsBut, journal_of}
+use Rattle.index_world.specs.Core.{Core, IsStoredIn, IsUploadedIn, KeepsBut, journal_of}
 use Rattle.index_world.specs.World.{IsWorld, IsTimely, Keeping, WorldStands, GoesOn}
 use Rattle.index_world.specs.Onward.{Onward}
 use Rattle.index_world.proofs.Asking.{timely_asked, asked_least}
@@ -76,12 +76,21 @@ world_asked kept core log w = world-same kept core log core.store_faults (asked_
 pub counted_asked : (core : Core) (now : ℕ) → Counted core now → Counted (asked_clock core) now
 counted_asked core now c = record { later = c.later; within = c.within }
 
+-- the asking of the clock changes no file
+pub stored_asked : (core : Core) (n : ℕ) (bytes : List ℕ) → IsStoredIn core n bytes → IsStoredIn (asked_clock core) n bytes
+stored_asked core n bytes u = record { staged = u.staged; file = u.file; not_late = u.not_late }
+
+uploaded_asked : (core : Core) (n : ℕ) (bytes : List ℕ) → IsUploadedIn core n bytes → IsUploadedIn (asked_clock core) n bytes
+uploaded_asked core n bytes (inl u) = inl (stored_asked core n bytes u)
+uploaded_asked core n bytes (inr g) = inr g
+
 pub keeps_asked : (core : Core) → KeepsBut None core (asked_clock core)
 keeps_asked core =
     record {
       configured = λ config e. e;
       unused = λ n other u. record { staged = u.staged; unpublished = u.unpublished; absent = u.absent; not_late = u.not_late };
-      uploaded = λ n bytes u. record { staged = u.staged; file = u.file; not_late = u.not_late };
+      stored = stored_asked core;
+      uploaded = uploaded_asked core;
       staged = λ n d f s. s;
     }
 

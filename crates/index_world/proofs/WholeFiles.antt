@@ -1,8 +1,9 @@
 -- The whole calls of a world that create or read a file, and the reading of its journal anew.
-use Rattle.std.proofs.Common.{◌≡◌, ℕ, ◌+◌, ◌<◌, ◌≤◌, ◌^◌, List, [], ◌∷◌, ◌++◌, refl, sym, ap, ◌∙◌, subst, Bool, true, false, length, arith, lit<, fold}
+use Rattle.std.proofs.Common.{◌≡◌, ℕ, ◌+◌, ◌<◌, ◌≤◌, ◌^◌, List, [], ◌∷◌, ◌++◌, refl, sym, ap, ◌∙◌, subst, inl, Bool, true, false, length, arith, lit<, fold}
 use Rattle.std.proofs.lemmas.Bool.{eqb-true, eqb-false}
+use Rattle.std.proofs.lemmas.Bool.Decides.{nat_tests}
 use Rattle.std.specs.FinMap.{get}
-use Rattle.std.specs.Prelude.{Option, Some, None, is_some, Result, Ok, ⊤, ◌==◌}
+use Rattle.std.specs.Prelude.{Option, Some, None, is_some, nat_le, Result, Ok, ⊤, ◌==◌}
 use Rattle.meta_journal.specs.Journal.{IsCorrupt}
 use Rattle.meta_journal.specs.Loading.{IsForeign}
 use Rattle.meta_journal.specs.Places.{meta_key, HasEntry, Stand, IsJournal}
@@ -13,14 +14,14 @@ use Rattle.meta_store.specs.History.{history as told}
 use Rattle.meta_store.specs.History.History.{Start, ◌▸◌}
 use Rattle.object_store.specs.Store.{State, HasLanded}
 use Rattle.source_log.specs.Log.{Log}
-use Rattle.index_world.specs.Calls.{Call, Fate, gives, Trouble, asked_clock, file_got, fetched, loaded, upload_made}
+use Rattle.index_world.specs.Calls.{Call, Fate, Grace, gives, Trouble, asked_clock, file_got, unless_over, fetched, loaded, upload_made}
 use Rattle.index_world.specs.Core.{Core, KeepsBut, IsUploadedIn, journal_of}
 use Rattle.index_world.specs.Index.{IsIndexOf, IsUploaded}
 use Rattle.index_world.specs.World.{IsWorld, IsTimely, WorldStands}
 use Rattle.index_world.proofs.StoreKeys.{true_is_false, meta_begins}
 use Rattle.index_world.proofs.Journals.{stand-of, Stand-at}
 use Rattle.index_world.proofs.Asking.{timely_asked}
-use Rattle.index_world.proofs.InCore.{keeps_all, keeps_others, uploaded-in}
+use Rattle.index_world.proofs.InCore.{keeps_all, file-goes-on, stored-in}
 use Rattle.index_world.proofs.JournalCalls.{Counted, Begun}
 use Rattle.index_world.proofs.JournalLaws.{appends_short}
 use Rattle.index_world.proofs.FileCalls.{one_call, UploadLaw, LoadLaw, load_answer}
@@ -41,12 +42,8 @@ whole_upload old new core log n bytes answer now w some t c u =
       fate = one_call u.call;
       after = u.after;
       did = u.did;
-      goes_on = record {
-        grown = ([], ends.history);
-        faults = let a = c.later in let b = u.faults in omega (arith, a, b);
-        moment = let a = u.moment in omega (arith, a);
-        keeps = keeps_others old new core u.after log n w.stands_for u.filed;
-      };
+      goes_on = file-goes-on old new core u.after log n w.stands_for u.filed ends.history
+          (let a = c.later in let b = u.faults in omega (arith, a, b)) (let a = u.moment in omega (arith, a));
       ends = ends;
       stands = stands_behind new core u.after log [] core.unsure now some u.filed.world (timely_same core u.after core.unsure now t ends t.room) ends;
     }
@@ -54,21 +51,33 @@ whole_upload old new core log n bytes answer now w some t c u =
 -- behind an Ok the file is in hand
 pub uploaded_in_hand : (old new : State) (core : Core) (log : Log) (n : ℕ) (bytes : List ℕ) (now : ℕ) (u : UploadLaw old new core log n bytes (λ after. Ok tt) now) → IsUploaded new (journal_of u.after) n bytes →
     IsUploadedIn u.after n bytes
-uploaded_in_hand old new core log n bytes now u h = uploaded-in new u.after n bytes u.filed.world.stands_for h
+uploaded_in_hand old new core log n bytes now u h = inl (stored-in new u.after n bytes u.filed.world.stands_for h)
 
 -- ---- a fetch
 
--- what the get of a file did, behind the asking of the clock
-pub record Fetches (old new : State) (core : Core) (log : Log) (answer : Core → Result ⊤ Trouble) (now : ℕ) : Type 0 where
+-- what a fetch did behind the asking of the clock
+pub record Fetches (grace : Grace) (old new : State) (core : Core) (log : Log) (answer : Core → Result ⊤ Trouble) (now : ℕ) : Type 0 where
   pub call : Call
   pub after : Core
-  pub did : file_got call (asked_clock core) ≡ gives (answer after) after
+  pub did : unless_over (nat_le grace.until (asked_clock core).moment) grace.planned_at (asked_clock core) (file_got call (asked_clock core)) ≡ gives (answer after) after
   pub begun : Begun old new (asked_clock core) after log now
 
-abbrev pub whole_fetched : (old new : State) (core : Core) (log : Log) (answer : Core → Result ⊤ Trouble) (now : ℕ) →
-    IsWorld old core log → 0 < length core.history → IsTimely core → Counted core now → Fetches old new core log answer now →
-    Whole fetched None new core (asked_clock core) log answer [] core.unsure now
-whole_fetched old new core log answer now w some t c f =
+-- the get of a file, within its grace
+abbrev pub fetches-within : (grace : Grace) (old new : State) (core : Core) (log : Log) (answer : Core → Result ⊤ Trouble) (now : ℕ) (call : Call) (after : Core) → (asked_clock core).moment < grace.until →
+    file_got call (asked_clock core) ≡ gives (answer after) after → Begun old new (asked_clock core) after log now → Fetches grace old new core log answer now
+fetches-within grace old new core log answer now call after low did begun =
+    let within : nat_le grace.until (asked_clock core).moment ≡ false = grind (low, arith, nat_tests) in
+    record {
+      call = call;
+      after = after;
+      did = ap (λ (b : Bool). unless_over b grace.planned_at (asked_clock core) (file_got call (asked_clock core))) within ∙ did;
+      begun = begun;
+    }
+
+abbrev pub whole_fetched : (grace : Grace) (old new : State) (core : Core) (log : Log) (answer : Core → Result ⊤ Trouble) (now : ℕ) →
+    IsWorld old core log → 0 < length core.history → IsTimely core → Counted core now → Fetches grace old new core log answer now →
+    Whole (fetched grace) None new core (asked_clock core) log answer [] core.unsure now
+whole_fetched grace old new core log answer now w some t c f =
     record {
       fate = one_call f.call;
       after = f.after;

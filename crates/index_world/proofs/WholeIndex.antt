@@ -32,7 +32,7 @@ use Rattle.index_config.specs.declared.config.IndexConfig.{IndexConfig}
 use Rattle.index_world.specs.Config.{reads}
 use Rattle.index_world.specs.Configuration.{index_of, configuration}
 use Rattle.index_world.specs.Index.{Stands, ranges_of, IsRowSound, IsRowKept, AreRowsKept, IsSplitKept, IsLateKey, IsLateEntry, IsBelowEnd, IsBelowOrAgain, IsBuilt, MayPublish, MayLand, HasFile, HoldsAgain, IsIndexOf, IsWholeIndexOf, is_split, was_published, max_entries}
-use Rattle.index_world.specs.Seen.{contents, accepted_in, record_count}
+use Rattle.index_world.specs.Seen.{contents, accepted_in, rejected_in}
 use Rattle.index_world.specs.SplitFile.{file_of, facts_of, AreSplit}
 use Rattle.index_world.proofs.StoreKeys.{true_is_false, split_begins, meta_is_no_split, split_key-injective, get-other}
 use Rattle.index_world.proofs.Journals.{stand-of}
@@ -158,8 +158,8 @@ module _ (kept : State) (entries : List Entry) (log : Log) (moment n : ℕ) (byt
         facts = λ other found.
             let both : ◌≡◌ {A = Option Row} (Some other) (Some p.row) = sym found ∙ p.found in
             let is : other ≡ p.row = cc both in
-            ap (λ (r : Row). r.facts) is ∙ row.facts ∙ ap (λ xs. facts_of config xs (record_count (ranges_of p.row) - length xs)) same
-            ∙ ap (λ ps. facts_of config (accepted_in config log (delta_of h n)) (record_count ps - length (accepted_in config log (delta_of h n)))) ranges;
+            ap (λ (r : Row). r.facts) is ∙ row.facts ∙ ap (λ xs. facts_of config xs (rejected_in config log (ranges_of p.row))) same
+            ∙ ap (λ ps. facts_of config (accepted_in config log (delta_of h n)) (rejected_in config log ps)) ranges;
         split = subst (AreSplit config) same row.split;
         not_late = All-each (IsLateKey whole) (λ (late : Object). late.0 ≡ split_key n → ⊥) kept.late (no_late s') s'.late_keys;
       }

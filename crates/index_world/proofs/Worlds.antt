@@ -29,7 +29,7 @@ onward-of once old new core after log more s i h =
     same = one-journal once new 0 more (journal_of after) i.stands.journal s.journal
 
 pub held-refl : (kept : State) (entries : List Entry) → KeepsHeld kept kept entries entries
-held-refl kept entries = record { configured = λ config e. e; unused = λ n u. u; uploaded = λ n bytes u. u; staged = λ n d f s. s }
+held-refl kept entries = record { configured = λ config e. e; unused = λ n u. u; uploaded = λ n bytes u. u; staged = λ n d f s. s; given_up = λ n g. g }
 
 pub SameLife-refl : (core : Core) → SameLife core core
 SameLife-refl core = record { history = refl; store_faults = refl; moment = refl; clock = refl; unsure = refl }
@@ -164,6 +164,11 @@ world-frozen kept core log w =
     }
 
 -- the same journal, files and late creates
+-- the marks of a life are nothing that its store tells
+pub world-unmarked : (kept : State) (core : Core) (log : Log) → IsWorld kept core log → IsWorld kept (record core { marks = [] }) log
+world-unmarked kept core log w =
+    record { stands_for = record { journal = w.stands_for.journal; files = w.stands_for.files; late = w.stands_for.late; called = w.stands_for.called }; index = w.index }
+
 pub world-same : (kept : State) (core : Core) (log : Log) (faults moment clock : ℕ) (unsure : Bool) → IsWorld kept core log →
     IsWorld kept (record core { store_faults = faults; moment = moment; clock = clock; unsure = unsure }) log
 world-same kept core log faults moment clock unsure w =

@@ -1,10 +1,10 @@
 -- What the calls of the store and of the world do to a core, given the fate of each call. With a calm fate (nothing lands,
 -- nothing fails, memory is there) each is a function of the core alone.
-use Rattle.std.specs.Prelude.{ℕ, ◌+◌, ◌==◌, ◌&&◌, ◌||◌, Bool, true, false, List, [], ◌∷◌, ◌++◌, length, min, max, nat_lt, nat_le, remove, slice_get, Option, Some, None, is_some, Result, Ok, Err, ⊤}
+use Rattle.std.specs.Prelude.{ℕ, ◌+◌, ◌==◌, ◌&&◌, ◌||◌, Bool, true, false, List, [], ◌∷◌, ◌++◌, length, map, min, max, nat_lt, nat_le, remove, slice_get, Option, Some, None, is_some, Result, Ok, Err, ⊤}
 use Rattle.meta_journal.specs.Places.{meta_key, split_key}
 use Rattle.meta_journal.specs.Spelling.{spelling}
 use Rattle.meta_journal.specs.declared.entry.Act.{Act}
-use Rattle.meta_journal.specs.declared.entry.Act.TheVariants.{Fence}
+use Rattle.meta_journal.specs.declared.entry.Act.TheVariants.{Fence, Create, Stage, Publish, Replace, Raise, Task, MarkStaged, Remove, Retire}
 use Rattle.meta_journal.specs.declared.entry.Entry.{Entry}
 use Rattle.meta_store.specs.Answers.{answer_to}
 use Rattle.meta_store.specs.History.{history, moment_of}
@@ -13,7 +13,7 @@ use Rattle.meta_store.specs.State.{state_of}
 use Rattle.meta_store.specs.declared.refusal.Refusal.{Refusal}
 use Rattle.index_world.specs.Config.{reads}
 use Rattle.index_world.specs.Index.{max_entries}
-use Rattle.index_world.specs.Core.{file_at, Late, late_entry, late_dead, late_file, Core, last_count}
+use Rattle.index_world.specs.Core.{file_at, Late, late_entry, late_dead, late_file, Core, Marking, last_count}
 
 -- The fate of one store call: which late creates come to stand before it works, by their places in the list of those that
 -- are still late; whether it fails, and if so whether what it makes stands at once; by how much the store's count rises;
@@ -37,6 +37,7 @@ pub data Fault : Type 0 where
   store_fault : (before : ℕ) → (after : ℕ) → Fault
   is_foreign : (key : List ℕ) → Fault
   is_full : Fault
+  is_expired : (planned_at : ℕ) → (now : ℕ) → Fault
 
 -- a fault, or want of memory
 pub data Trouble : Type 0 where
@@ -137,10 +138,32 @@ made_at false at_once entry core = made_behind core.standing entry core
 abbrev pub create_at_end : Call → Entry → Core → Making
 create_at_end call entry core = made_at (may_fail call core.store_faults) call.at_once entry (begun call core)
 
+-- the rows that an entry marks
+abbrev pub marked_by : Act → List ℕ
+marked_by Fence = []
+marked_by (Create config) = []
+marked_by (Stage number delta facts) = []
+marked_by (Publish number) = []
+marked_by (Replace number old upto) = old
+marked_by (Raise number upto) = []
+marked_by (Task opstamp text fields times) = []
+marked_by (MarkStaged numbers) = numbers
+marked_by (Remove numbers) = []
+marked_by (Retire numbers) = numbers
+
+abbrev pub marks_of : Act → ℕ → List Marking
+marks_of act moment = map (λ number. record { number = number; moment = moment }) (marked_by act)
+
 -- the entry that stands behind the history is taken in
 abbrev pub taken_in : Entry → Core → Core
 taken_in entry core =
-    record core { history = core.history ++ entry ∷ []; moment = max core.moment entry.moment; unsure = false; standing = None }
+    record core {
+      history = core.history ++ entry ∷ [];
+      moment = max core.moment entry.moment;
+      unsure = false;
+      standing = None;
+      marks = core.marks ++ marks_of entry.act (max core.moment entry.moment);
+    }
 
 -- ---- want of memory, and the clock
 
@@ -334,9 +357,20 @@ abbrev pub file_got : Call → Core → Gives Trouble ⊤
 file_got call core =
     or_short call.short no_memory call core (got_file (may_fail call core.store_faults) core.store_faults (begun call core))
 
+-- What is planned at a moment is fetched until another, behind which its files may be gone: from then on no call of the store
+-- is made.
+pub record Grace : Type 0 where
+  pub planned_at : ℕ
+  pub until : ℕ
+
+abbrev pub unless_over : Bool → ℕ → Core → Gives Trouble ⊤ → Gives Trouble ⊤
+unless_over true planned_at core otherwise = gives (Err (faulted (is_expired planned_at core.moment))) core
+unless_over false planned_at core otherwise = otherwise
+
 -- a fetch asks the clock, and doesn't settle
-abbrev pub fetched : Fate → Core → Gives Trouble ⊤
-fetched fate core = asking fate.unasked no_memory core (λ c. file_got fate.first c)
+abbrev pub fetched : Grace → Fate → Core → Gives Trouble ⊤
+fetched grace fate core =
+    asking fate.unasked no_memory core (λ c. unless_over (nat_le grace.until c.moment) grace.planned_at c (file_got fate.first c))
 
 -- ---- opening
 
@@ -346,7 +380,7 @@ with_standing (Some entry) core = taken_in entry core
 
 -- a new life: the moments of the old one are forgotten, and nothing is unsure
 abbrev pub reborn : Core → Core
-reborn core = record core { moment = moment_of (history core.history); unsure = false }
+reborn core = record core { moment = moment_of (history core.history); unsure = false; marks = [] }
 
 abbrev pub read_journal : Core → Core
 read_journal core = reborn (with_standing core.standing core)

@@ -1,5 +1,5 @@
 -- What one life of a world knows of its store and its clock, whatever its actors do.
-use Rattle.std.specs.Prelude.{◌≡◌, ℕ, ◌-◌, ◌^◌, Bool, true, false, List, [], ◌∷◌, ◌++◌, Option, Some, None, bytes_eq, if◌then◌else◌}
+use Rattle.std.specs.Prelude.{◌≡◌, ◌⊎◌, ◌<◌, ℕ, ◌-◌, ◌^◌, Bool, true, false, List, [], ◌∷◌, ◌++◌, Option, Some, None, bytes_eq, if◌then◌else◌}
 use Rattle.std.specs.List.{AllByRecursion}
 use Rattle.index_config.specs.declared.config.IndexConfig.{IndexConfig}
 use Rattle.meta_journal.specs.Places.{meta_key, split_key}
@@ -7,7 +7,7 @@ use Rattle.meta_journal.specs.declared.entry.Entry.{Entry}
 use Rattle.source_checkpoint.specs.declared.delta.Part.{Part}
 use Rattle.split_states.specs.declared.facts.RowFacts.{RowFacts}
 use Rattle.index_world.specs.Configuration.{configuration, StaysConfigured}
-use Rattle.index_world.specs.Index.{has_staged, was_published, HasStaged}
+use Rattle.index_world.specs.Index.{has_staged, was_published, HasStaged, IsGivenUp}
 
 -- an object outside the journal
 pub record File : Type 0 where
@@ -35,6 +35,11 @@ late_bytes (late_entry number entry bytes) = bytes
 late_bytes (late_dead key bytes) = bytes
 late_bytes (late_file key bytes) = bytes
 
+-- a row that was marked: its number, and the greatest moment where its marking was taken in
+pub record Marking : Type 0 where
+  pub number : ℕ
+  pub moment : ℕ
+
 pub record Core : Type 0 where
   pub history : List Entry  -- as it was taken in
   pub store_faults : ℕ
@@ -45,6 +50,7 @@ pub record Core : Type 0 where
   pub unsure : Bool  -- whether the number behind the history is unsure
   pub standing : Option Entry  -- the entry that stands there unread
   pub late : List Late  -- the creates that failed and may land later, in the store's order
+  pub marks : List Marking  -- what this life marked
 
 -- a count stands still at its type's end
 abbrev pub last_count : ℕ
@@ -79,11 +85,19 @@ pub record IsUnusedIn (core : Core) (number : ℕ) : Type 0 where
   pub absent : file_at core.files (split_key number) ≡ None
   pub not_late : IsNotLateIn core (split_key number)
 
--- an uploaded value in hand: its file stands with these bytes, and no create of it is late
-pub record IsUploadedIn (core : Core) (number : ℕ) (bytes : List ℕ) : Type 0 where
+-- the file of a staged number stands with these bytes, and no create of it is late
+pub record IsStoredIn (core : Core) (number : ℕ) (bytes : List ℕ) : Type 0 where
   pub staged : has_staged (journal_of core) number ≡ true
   pub file : file_at core.files (split_key number) ≡ Some bytes
   pub not_late : IsNotLateIn core (split_key number)
+
+-- an uploaded value in hand: its file stands, or its row was marked or is gone
+abbrev pub IsUploadedIn : Core → (number : ℕ) → List ℕ → Type 0
+IsUploadedIn core number bytes = IsStoredIn core number bytes ⊎ IsGivenUp (journal_of core) number
+
+-- a planned file: it stands as long as the moment is below this one
+abbrev pub IsPlannedIn : Core → (until number : ℕ) → List ℕ → Type 0
+IsPlannedIn core until number bytes = core.moment < until → IsStoredIn core number bytes
 
 -- what a number in hand was staged with
 abbrev pub HasStagedIn : Core → ℕ → List Part → RowFacts → Type 0
@@ -94,9 +108,10 @@ abbrev pub IsOther : Option ℕ → ℕ → Type 0
 IsOther None number = Unit {0}
 IsOther (Some one) number = number ≡ one → ⊥
 
--- from one call to the next the configuration and numbers in hand stay as they were, all but this one
+-- From one call to the next the configuration and numbers in hand stay as they were, all but this one. No file is deleted yet.
 pub record KeepsBut (one : Option ℕ) (core after : Core) : Type 0 where
   pub configured : StaysConfigured (journal_of core) (journal_of after)
   pub unused : (number : ℕ) → IsOther one number → IsUnusedIn core number → IsUnusedIn after number
+  pub stored : (number : ℕ) (bytes : List ℕ) → IsStoredIn core number bytes → IsStoredIn after number bytes
   pub uploaded : (number : ℕ) (bytes : List ℕ) → IsUploadedIn core number bytes → IsUploadedIn after number bytes
   pub staged : (number : ℕ) (delta : List Part) (facts : RowFacts) → HasStagedIn core number delta facts → HasStagedIn after number delta facts

@@ -23,7 +23,7 @@ use Rattle.index_world.specs.declared.world_error.WorldError.{WorldError}
 use Rattle.index_world.specs.declared.world_error.WorldError.TheVariants as errors
 use Rattle.index_world.specs.Core.{Core, journal_of, IsConfigured, IsUnusedIn, IsUploadedIn, HasStagedIn}
 use Rattle.index_world.specs.Index.{has_staged, IsMade}
-use Rattle.index_world.specs.Calls.{Fate, Gives, gives, Trouble, faulted, no_memory, store_fault, is_foreign, is_full, Unmade, refused, troubled, appended}
+use Rattle.index_world.specs.Calls.{Fate, Grace, Gives, gives, Trouble, faulted, no_memory, store_fault, is_foreign, is_full, is_expired, Unmade, refused, troubled, appended}
 use Rattle.index_world.specs.World.{IsWorld, IsTimely, GoesOn}
 
 -- ---- what an error is in the words of the core
@@ -37,6 +37,7 @@ IsTrouble (errors.Missing key) trouble = ⊥
 IsTrouble (errors.Corrupt key) trouble = ⊥
 IsTrouble (errors.Foreign key) trouble = trouble ≡ faulted (is_foreign key)
 IsTrouble errors.Full trouble = trouble ≡ faulted is_full
+IsTrouble (errors.Expired planned_at reached) trouble = trouble ≡ faulted (is_expired planned_at reached)
 IsTrouble errors.NoIndex trouble = ⊥
 IsTrouble errors.IndexExists trouble = ⊥
 IsTrouble (errors.BadConfig bad) trouble = ⊥
@@ -123,6 +124,10 @@ pub record IsPublishable (log : Log) (core : Core) (number : ℕ) : Type 0 where
   pub staged : HasStagedIn core number delta facts
   pub made : IsMade config log delta facts bytes
   pub uploaded : IsUploadedIn core number bytes
+
+-- a plan's rows are fetched as long as no file that was marked behind it may be gone
+abbrev pub grace_of : IndexConfig → Plan → Grace
+grace_of config plan = record { planned_at = plan.moment; until = plan.moment + config.deletion_grace }
 
 abbrev pub IsRevision : ℕ → Core → Type 0
 IsRevision revision core = revision ≡ length core.history

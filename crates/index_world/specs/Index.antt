@@ -20,11 +20,11 @@ use Rattle.source_log.specs.Log.{Log, records_of}
 use Rattle.split_states.specs.Rows.{row_at}
 use Rattle.split_states.specs.declared.facts.RowFacts.{RowFacts}
 use Rattle.split_states.specs.declared.rows.Row.{Row}
-use Rattle.split_states.specs.declared.rows.RowState.TheVariants.{Published}
+use Rattle.split_states.specs.declared.rows.RowState.TheVariants.{Published, Marked}
 use Rattle.index_config.specs.declared.config.IndexConfig.{IndexConfig}
 use Rattle.index_world.specs.Config.{reads}
 use Rattle.index_world.specs.Configuration.{configuration}
-use Rattle.index_world.specs.Seen.{contents, accepted_in, record_count}
+use Rattle.index_world.specs.Seen.{contents, accepted_in, rejected_in}
 use Rattle.split_bundle.specs.Splits.{IsSplit}
 use Rattle.index_world.specs.SplitFile.{file_of, facts_of, AreSplit}
 
@@ -47,7 +47,7 @@ ranges_of row = map range_of row.spans
 -- the file and the facts of a row are those of its contents, which are a split
 pub record IsRowSound (kept : State) (config : IndexConfig) (tasks : List KeptTask) (log : Log) (row : Row) : Type 0 where
   pub file : get kept.objects (split_key row.number) ≡ Some (file_of config (contents config tasks row log))
-  pub facts : row.facts ≡ facts_of config (contents config tasks row log) (record_count (ranges_of row) - length (contents config tasks row log))
+  pub facts : row.facts ≡ facts_of config (contents config tasks row log) (rejected_in config log (ranges_of row))
   pub split : AreSplit config (contents config tasks row log)
 
 -- where the row is published, it is sound
@@ -126,7 +126,7 @@ pub record MayPublish (kept : State) (entries : List Entry) (log : Log) (number 
   pub ends : AllByRecursion (λ part. part.to ≤ length (records_of log part.partition)) (delta_of (history entries) number)
   pub file : get kept.objects (split_key number) ≡ Some (file_of config (accepted_in config log (delta_of (history entries) number)))
   pub facts : (row : Row) → row_at (rows (history entries)) number ≡ Some row →
-      row.facts ≡ facts_of config (accepted_in config log (delta_of (history entries) number)) (record_count (delta_of (history entries) number) - length (accepted_in config log (delta_of (history entries) number)))
+      row.facts ≡ facts_of config (accepted_in config log (delta_of (history entries) number)) (rejected_in config log (delta_of (history entries) number))
   pub split : AreSplit config (accepted_in config log (delta_of (history entries) number))
   pub not_late : IsNotLate kept (split_key number)
 
@@ -193,6 +193,11 @@ pub record IsUploaded (kept : State) (entries : List Entry) (number : ℕ) (byte
   pub file : get kept.objects (split_key number) ≡ Some bytes
   pub not_late : IsNotLate kept (split_key number)
 
+-- the row of a staged number was marked, or is gone
+pub record IsGivenUp (entries : List Entry) (number : ℕ) : Type 0 where
+  pub staged : has_staged entries number ≡ true
+  pub row : (row : Row) → row_at (rows (history entries)) number ≡ Some row → row.state ≡ Marked
+
 -- what a number in hand was staged with
 pub record HasStaged (entries : List Entry) (number : ℕ) (delta : List Part) (facts : RowFacts) : Type 0 where
   pub staged : has_staged entries number ≡ true
@@ -203,7 +208,7 @@ pub record HasStaged (entries : List Entry) (number : ℕ) (delta : List Part) (
 pub record IsMade (config : IndexConfig) (log : Log) (delta : List Part) (facts : RowFacts) (bytes : List ℕ) : Type 0 where
   pub ends : AllByRecursion (λ part. part.to ≤ length (records_of log part.partition)) delta
   pub file : bytes ≡ file_of config (accepted_in config log delta)
-  pub agree : facts ≡ facts_of config (accepted_in config log delta) (record_count delta - length (accepted_in config log delta))
+  pub agree : facts ≡ facts_of config (accepted_in config log delta) (rejected_in config log delta)
   pub split : AreSplit config (accepted_in config log delta)
 
 -- ---- the index in one sentence

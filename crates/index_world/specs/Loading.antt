@@ -19,6 +19,7 @@ IsUnread (errors.Missing key) unread = ⊥
 IsUnread (errors.Corrupt key) unread = ⊥
 IsUnread (errors.Foreign key) unread = ⊥
 IsUnread errors.Full unread = ⊥
+IsUnread (errors.Expired planned_at reached) unread = ⊥
 IsUnread errors.NoIndex unread = unread ≡ no_index
 IsUnread errors.IndexExists unread = ⊥
 IsUnread (errors.BadConfig bad) unread = ⊥

@@ -101,6 +101,7 @@ OpensNot before now (errors.Memory e) old new = HasLanded old new
 OpensNot before now (errors.Missing key) old new = ⊥
 OpensNot before now (errors.Refused refusal) old new = ⊥
 OpensNot before now errors.Full old new = ⊥
+OpensNot before now (errors.Expired planned_at reached) old new = ⊥
 OpensNot before now errors.IndexExists old new = ⊥
 OpensNot before now (errors.BadConfig bad) old new = ⊥
 

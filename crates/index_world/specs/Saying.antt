@@ -9,7 +9,7 @@ use Rattle.source_checkpoint.specs.declared.delta.StaleDelta.{StaleDelta}
 use Rattle.source_checkpoint.specs.declared.delta.StaleDelta.TheVariants as deltas
 use Rattle.split_states.specs.declared.refusal.StateRefusal.{StateRefusal}
 use Rattle.split_states.specs.declared.refusal.StateRefusal.TheVariants as states
-use Rattle.index_world.specs.Calls.{Fault, store_fault, is_foreign, is_full}
+use Rattle.index_world.specs.Calls.{Fault, store_fault, is_foreign, is_full, is_expired}
 use Rattle.index_world.specs.declared.world_error.WorldError.{WorldError}
 use Rattle.index_world.specs.declared.world_error.WorldError.TheVariants as errors
 
@@ -64,6 +64,7 @@ abbrev pub fault_words : Fault → List (List ℕ)
 fault_words (store_fault before after) = codes "storefault" ∷ decimal before ∷ decimal after ∷ []
 fault_words (is_foreign key) = codes "foreign" ∷ key ∷ []
 fault_words is_full = codes "full" ∷ []
+fault_words (is_expired planned_at now) = codes "expired" ∷ decimal planned_at ∷ decimal now ∷ []
 
 -- what is wrong with a configuration: its kind, and the path of the key where there is one
 abbrev pub config_words : ConfigError → List (List ℕ)
@@ -88,6 +89,7 @@ error_words (errors.Missing key) = codes "missing" ∷ key ∷ []
 error_words (errors.Corrupt key) = codes "corrupt" ∷ key ∷ []
 error_words (errors.Foreign key) = fault_words (is_foreign key)
 error_words errors.Full = fault_words is_full
+error_words (errors.Expired planned_at reached) = fault_words (is_expired planned_at reached)
 error_words errors.NoIndex = codes "noindex" ∷ []
 error_words errors.IndexExists = codes "indexexists" ∷ []
 error_words (errors.BadConfig error) = config_words error

@@ -1,5 +1,5 @@
 -- What this index takes of the log, and what is seen of it.
-use Rattle.std.specs.Prelude.{ℕ, suc, Bool, false, List, [], ◌∷◌, Option, Some, None, ◌-◌, ◌+◌, take, filter, flat_map}
+use Rattle.std.specs.Prelude.{ℕ, suc, Bool, false, List, [], ◌∷◌, length, Option, Some, None, ◌-◌, ◌+◌, take, filter, flat_map}
 use Rattle.doc_value.specs.declared.doc.DocField.{DocField}
 use Rattle.index_config.specs.declared.config.IndexConfig.{IndexConfig}
 use Rattle.source_checkpoint.specs.declared.delta.Part.{Part}
@@ -54,6 +54,10 @@ accepted_in config log delta = flat_map (accepted_part config log) delta
 abbrev pub record_count : List Part → ℕ
 record_count [] = 0
 record_count (part ∷ parts) = part.to - part.from + record_count parts
+
+-- how many of the records of the parts are no documents
+abbrev pub rejected_in : IndexConfig → Log → List Part → ℕ
+rejected_in config log delta = record_count delta - length (accepted_in config log delta)
 
 -- ---- what a history shows of them
 

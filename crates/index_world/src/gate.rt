@@ -2,11 +2,12 @@
 
 ghost use Rattle.std.specs.Prelude.{◌≡◌, ◌<◌, ◌^◌, ℕ, List, IfOk, length, slice_get, None, Some};
 ghost use Rattle.doc_value.specs.Documents.{IsSchema};
+ghost use Rattle.index_config.specs.declared.config.IndexConfig as configs;
 ghost use Rattle.meta_journal.specs.Spelling.{CanSpellFacts};
 ghost use Rattle.source_log.specs.Log.{Log};
 ghost use Rattle.index_world.specs.Calls.{asked, looked, asked_and_looked, fetched, upload_made};
-ghost use Rattle.index_world.specs.Core.{Core, IsConfigured, IsUnusedIn, IsUploadedIn};
-ghost use Rattle.index_world.specs.Gate.{Does, fetched_more, IsSoundCore, IsTrouble, IsUnmade, AreMarks, IsMoment, stage_call, WasStaged, WasUploaded, publish_call, IsPublishable, IsRevision, IsPlan, IsPieceGiven};
+ghost use Rattle.index_world.specs.Core.{Core, IsConfigured, IsUnusedIn, IsPlannedIn};
+ghost use Rattle.index_world.specs.Gate.{Does, fetched_more, grace_of, IsSoundCore, IsTrouble, IsUnmade, AreMarks, IsMoment, stage_call, WasStaged, WasUploaded, publish_call, IsPublishable, IsRevision, IsPlan, IsPieceGiven};
 ghost use Rattle.meta_store.specs.declared.planning.PlanRow.{PlanRow};
 
 use crate::tokens::{Marks, Plan, Staged, Uploaded};
@@ -87,7 +88,8 @@ pub trait Gate {
         ensures step { (core : Core) (log : Log) → Stands self.old core log →
             Does Stands Between None asked_and_looked IsTrouble (IsPlan choice.now) result core log self.new };
 
-    /// Bytes of a planned row's file, from a place on, as many as there are up to `len`.
+    /// Bytes of a planned row's file, from a place on, as many as there are up to `len`. Expired, without a call of the store,
+    /// from the moment on at which files that were marked behind the plan may be gone: the plan's and the deletion grace.
     fn fetch(
         &mut self,
         alloc: Global,
@@ -98,9 +100,9 @@ pub trait Gate {
     ) -> Result<Piece, WorldError>
         requires { place < length plan.now.rows }
         ensures counts { bytes_fetched self.new ≡ fetched_more result (bytes_fetched self.old) }
-        ensures step { (core : Core) (log : Log) (row : PlanRow) (bytes : List ℕ) → Stands self.old core log →
-            slice_get plan.now.rows place ≡ Some row → IsUploadedIn core row.number bytes →
-            Does Stands Between None fetched IsTrouble (IsPieceGiven bytes from len) result core log self.new };
+        ensures step { (core : Core) (log : Log) (config : configs.IndexConfig) (row : PlanRow) (bytes : List ℕ) → Stands self.old core log → IsConfigured config core →
+            slice_get plan.now.rows place ≡ Some row → IsPlannedIn core (grace_of config plan.now).until row.number bytes →
+            Does Stands Between None (fetched (grace_of config plan.now)) IsTrouble (IsPieceGiven bytes from len) result core log self.new };
 
     /// What stands behind it is a sound index.
     ghost is_sound: { (gate : Self) (core : Core) (log : Log) → Stands gate core log → IsSoundCore core log };

@@ -178,6 +178,9 @@ pub fn put_fault(alloc: Global, out: &mut Bytes, error: &WorldError) -> Result<(
         WorldError::StoreFault { before, after } => {
             put_pair(alloc, out, b"storefault", *before, *after)
         }
+        WorldError::Expired { planned_at, now } => {
+            put_pair(alloc, out, b"expired", *planned_at, *now)
+        }
         WorldError::Missing { key } => put_named(out, b"missing", key.as_bytes()),
         WorldError::Corrupt { key } => put_named(out, b"corrupt", key.as_bytes()),
         WorldError::Foreign { key } => put_named(out, b"foreign", key.as_bytes()),

@@ -1,18 +1,19 @@
 //! One life of a world: its store, journal, state and clock. Each call is one event.
 
-ghost use Rattle.std.specs.Prelude.{◌≡◌, ◌<◌, ◌^◌, ℕ, List, IfOk, IfErr, IsOk, MatchResult, None, Some, length, slice_get, max, true, false};
+ghost use Rattle.std.specs.Prelude.{◌≡◌, ◌<◌, ◌^◌, ℕ, List, IfOk, IfErr, IsOk, MatchResult, None, Some, length, slice_get, max, true, false, IfSome, nat_le, ◌+◌};
 ghost use Rattle.std.specs.Borrow.{Lends, sem};
 ghost use Rattle.index_world.specs.contracts.world.World.{the_row};
 ghost use Rattle.doc_value.specs.Documents.{IsSchema};
+ghost use Rattle.index_config.specs.declared.config.IndexConfig as configs;
 ghost use Rattle.meta_journal.specs.Spelling.{CanSpellFacts};
 ghost use Rattle.object_store.specs.Store.{State, WhereTold};
 ghost use Rattle.source_log.specs.Log.{Log};
 ghost use Rattle.index_world.specs.Calls.{asked, asked_moment, looked, asked_and_looked, fetched, upload_made};
 ghost use Rattle.index_world.specs.Configuration.{index_of};
-ghost use Rattle.index_world.specs.Core.{Core, IsConfigured, IsUnusedIn, IsUploadedIn};
+ghost use Rattle.index_world.specs.Core.{Core, IsConfigured, IsUnusedIn, IsPlannedIn};
 ghost use Rattle.index_world.specs.Created.{CreatesIndex, CreatesNot, CreatesWorld, CreatesNone, IsOfCreate};
 ghost use Rattle.index_config.specs.Answer.{config_answer};
-ghost use Rattle.index_world.specs.Gate.{Does, NoneBetween, IsTrouble, IsUnmade, AreMarks, IsMoment, stage_call, WasStaged, WasUploaded, publish_call, IsPublishable, IsRevision, IsPlan, IsPieceGiven};
+ghost use Rattle.index_world.specs.Gate.{Does, NoneBetween, grace_of, IsTrouble, IsUnmade, AreMarks, IsMoment, stage_call, WasStaged, WasUploaded, publish_call, IsPublishable, IsRevision, IsPlan, IsPieceGiven};
 ghost use Rattle.index_world.specs.Loading.{LoadsWorld, LoadsNone, LoadsAnew};
 ghost use Rattle.index_world.specs.Taking.{IsFaultBetween};
 ghost use Rattle.index_world.specs.Opened.{OpensIndex, OpensNot, OpensAnew};
@@ -193,6 +194,14 @@ impl<S: ObjectStore, C: SteadyClock> World<S, C> {
         self.life.config()
     }
 
+    // Whether files that were marked behind a plan of this moment may be gone.
+    fn is_over(&self, planned_at: u64) -> bool
+        ensures { IfSome (index_of self.now.meta.config) (λ config. result ≡ nat_le (planned_at + config.deletion_grace) self.now.moment) }
+    {
+        let until = u128::from(planned_at) + u128::from(self.life.config().deletion_grace);
+        until <= u128::from(self.life.moment)
+    }
+
     /// From here on no call asks the clock, and the moment changes only by an entry that is taken in.
     pub fn freeze(&mut self)
         ensures same { self.new ≡ record self.old { frozen = true } }
@@ -311,7 +320,8 @@ impl<S: ObjectStore, C: SteadyClock> World<S, C> {
         })
     }
 
-    /// Bytes of a planned row's file, from a place on, as many as there are up to `len`.
+    /// Bytes of a planned row's file, from a place on, as many as there are up to `len`. Expired, without a call of the store,
+    /// from the moment on at which files that were marked behind the plan may be gone: the plan's and the deletion grace.
     pub fn fetch(
         &mut self,
         alloc: Global,
@@ -321,12 +331,18 @@ impl<S: ObjectStore, C: SteadyClock> World<S, C> {
         len: u64,
     ) -> Result<Piece, WorldError>
         requires { place < length plan.now.rows }
-        ensures { (core : Core) (log : Log) (row : PlanRow) (bytes : List ℕ) → WorldStands self.old core log →
-            slice_get plan.now.rows place ≡ Some row → IsUploadedIn core row.number bytes →
-            Does WorldStands NoneBetween None fetched IsTrouble (IsPieceGiven bytes from len) result core log self.new }
+        ensures { (core : Core) (log : Log) (config : configs.IndexConfig) (row : PlanRow) (bytes : List ℕ) → WorldStands self.old core log → IsConfigured config core →
+            slice_get plan.now.rows place ≡ Some row → IsPlannedIn core (grace_of config plan.now).until row.number bytes →
+            Does WorldStands NoneBetween None (fetched (grace_of config plan.now)) IsTrouble (IsPieceGiven bytes from len) result core log self.new }
     {
         let before = self.store.faults();
         self.ask();
+        if self.is_over(plan.moment) {
+            return Err(WorldError::Expired {
+                planned_at: plan.moment,
+                now: self.life.moment,
+            });
+        }
         let key = split_key(plan.rows.at(place as usize).number);
         let answer = self.store.get(alloc, &key, from, len);
         let after = self.store.faults();

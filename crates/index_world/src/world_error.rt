@@ -13,6 +13,8 @@ pub enum WorldError {
     Refused(Refusal),
     /// The store failed: its count of faults before the call and after it.
     StoreFault { before: u64, after: u64 },
+    /// So long after the plan that its files may be gone: the moments of the plan and of the call.
+    Expired { planned_at: u64, now: u64 },
     /// A key that stood is absent.
     Missing { key: Key },
     /// The object is no entry of this journal.

@@ -1,7 +1,7 @@
 -- The words of what the code answers.
 use Rattle.std.proofs.Common.{◌≡◌, [], ◌∷◌, sym, ap, ◌∙◌, decimal}
 use Rattle.std.specs.Prelude.{codes}
-use Rattle.index_world.specs.Calls.{Fault, store_fault, is_foreign, is_full, faulted}
+use Rattle.index_world.specs.Calls.{Fault, store_fault, is_foreign, is_full, is_expired, faulted}
 use Rattle.index_world.specs.Gate.{IsTrouble}
 use Rattle.index_world.specs.Saying.{words, with_words, fault_words, error_words, refusal_words}
 use Rattle.index_world.specs.declared.world_error.WorldError.{WorldError}
@@ -23,6 +23,7 @@ fault_said (errors.Missing key) fault h = absurd h
 fault_said (errors.Corrupt key) fault h = absurd h
 fault_said (errors.Foreign key) fault h = ap fault_words (sym (fault_is fault (is_foreign key) h))
 fault_said errors.Full fault h = ap fault_words (sym (fault_is fault is_full h))
+fault_said (errors.Expired planned_at reached) fault h = ap fault_words (sym (fault_is fault (is_expired planned_at reached) h))
 fault_said errors.NoIndex fault h = absurd h
 fault_said errors.IndexExists fault h = absurd h
 fault_said (errors.BadConfig bad) fault h = absurd h
@@ -54,6 +55,7 @@ first_words (SourceFault before after) = with_words-first 115 (codes "ourcefault
 first_words (Faulted (store_fault before after)) = with_words-first 115 (codes "torefault") (decimal before ∷ decimal after ∷ [])
 first_words (Faulted (is_foreign key)) = with_words-first 102 (codes "oreign") (key ∷ [])
 first_words (Faulted is_full) = with_words-first 102 (codes "ull") []
+first_words (Faulted (is_expired planned_at now)) = with_words-first 101 (codes "xpired") (decimal planned_at ∷ decimal now ∷ [])
 
 pub outcome_printed : (given : Said) (outcome : IndexerOutcome) → IsSaid given outcome → with_words [] (said_words given) ≡ words (outcome_words outcome)
 outcome_printed given outcome h = ap (with_words []) (said_is given outcome h) ∙ first_words outcome

@@ -49,7 +49,7 @@ goes_nowhere one core =
       grown = ([], sym (append-nil core.history));
       faults = omega arith;
       moment = omega arith;
-      keeps = record { configured = λ config e. e; unused = λ n o u. u; uploaded = λ n b u. u; staged = λ n d f s. s };
+      keeps = record { configured = λ config e. e; unused = λ n o u. u; stored = λ n b u. u; uploaded = λ n b u. u; staged = λ n d f s. s };
     }
 
 -- what keeps each number keeps all but one
@@ -59,7 +59,7 @@ goes_but one core after g =
       grown = g.grown;
       faults = g.faults;
       moment = g.moment;
-      keeps = record { configured = g.keeps.configured; unused = λ n o u. g.keeps.unused n tt u; uploaded = g.keeps.uploaded; staged = g.keeps.staged };
+      keeps = record { configured = g.keeps.configured; unused = λ n o u. g.keeps.unused n tt u; stored = g.keeps.stored; uploaded = g.keeps.uploaded; staged = g.keeps.staged };
     }
 
 pub idle_stays : (log : Log) (core after : Core) (kept : HeldPlace) → PlaceStands log core kept idle → PlaceStands log after kept idle

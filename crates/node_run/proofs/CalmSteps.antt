@@ -258,9 +258,9 @@ module _ (luck : searching.Luck) (log : Log) (client : Client) (core : Core) (s 
   next_calms : (plan : Plan) (unfetched : List ℕ) → SearchIs (next_step luck log plan unfetched client core) (next_step calm_searching log plan unfetched client core)
   next_calms plan [] same = inr refl
   next_calms plan (number ∷ more) same =
-      let given = fetched_each luck.world luck.more core in
-      fetch_calms plan number more client given (fetched calm_fate core)
-      (each_calms luck.more luck.world core s (handed core given.core _ (fetch_same given.answer plan number more client given.core) same))
+      let given = fetched_each plan.grace luck.world luck.more core in
+      fetch_calms plan number more client given (fetched plan.grace calm_fate core)
+      (each_calms plan.grace luck.more luck.world core s (handed core given.core _ (fetch_same given.answer plan number more client given.core) same))
 
   request_calms : (request : Request) → SearchIs (step_request request luck log client core) (step_request request calm_searching log client core)
   request_calms no_request same = inr refl

@@ -2,10 +2,10 @@
 -- or finds no memory.
 use Rattle.std.proofs.Common.{◌≡◌, ◌⊎◌, ℕ, ◌<◌, ◌≤◌, min, List, [], ◌∷◌, refl, sym, ap, ◌∙◌, Bool, true, false, subst, inl, inr, arith, le-ltb}
 use Rattle.std.proofs.lemmas.Bool.{ne_eqb}
-use Rattle.std.specs.Prelude.{Option, None, Result, Ok, Err, ⊤, is_some, slice_get, nat_lt, ◌==◌, ◌&&◌, ◌||◌}
+use Rattle.std.specs.Prelude.{Option, None, Result, Ok, Err, ⊤, is_some, slice_get, nat_lt, ◌==◌, ◌&&◌, ◌||◌, nat_le}
 use Rattle.meta_journal.specs.declared.entry.Act.{Act}
 use Rattle.meta_journal.specs.declared.entry.Entry.{Entry}
-use Rattle.index_world.specs.Calls.{Fate, Call, Trouble, no_memory, Unmade, troubled, Gives, gives, risen, may_fail, land_at, all_landed, begun, made_behind, made_at, create_at_end, or_short, unless_short, asked_moment, asked_clock, asking, settle_with, settled_and_copied, and_then, entry_of, may_append, adopted_making, first_unless, transact, appended, looked, asked_and_looked, asked, file_by, file_made, got_file, file_got, fetched, calm_call, calm_fate}
+use Rattle.index_world.specs.Calls.{Fate, Call, Trouble, no_memory, Unmade, troubled, Gives, gives, risen, may_fail, land_at, all_landed, begun, made_behind, made_at, create_at_end, or_short, unless_short, asked_moment, asked_clock, asking, settle_with, settled_and_copied, and_then, entry_of, may_append, adopted_making, first_unless, transact, appended, looked, asked_and_looked, asked, file_by, file_made, got_file, file_got, Grace, unless_over, fetched, calm_call, calm_fate}
 use Rattle.index_world.specs.Core.{Core, file_at, last_count}
 use Rattle.node_run.specs.Calm.{IsStill}
 use Rattle.root_search.specs.Steps.{fetched_each, unless_fault}
@@ -182,10 +182,22 @@ file_got_calms call core s same =
     (λ counted. inr (got_still call core s (risen_same call core (ap (λ c. c.store_faults) (sym (got_file_same (may_fail call core.store_faults) core.store_faults (begun call core))) ∙ counted))
     ∙ sym (got_still calm_call core s (calm_risen core.store_faults s.below)))) same
 
-pub fetched_calms : (fate : Fate) (core : Core) → IsStill core → Same core (fetched fate core).core → Calms no_memory (fetched fate core) (fetched calm_fate core)
-fetched_calms fate core s same =
-    asking_calms fate.unasked no_memory core (λ c. file_got fate.first c) (λ c. file_got calm_call c)
-    (λ counted. file_got_calms fate.first (asked_clock core) (asked_still core s) counted) same
+-- behind the asking of the clock
+abbrev got_unless : Grace → Call → Core → Gives Trouble ⊤
+got_unless grace call core = unless_over (nat_le grace.until core.moment) grace.planned_at core (file_got call core)
+
+got_unless_calms : (grace : Grace) (call : Call) (core : Core) → IsStill core → Same core (got_unless grace call core).core → Calms no_memory (got_unless grace call core) (got_unless grace calm_call core)
+got_unless_calms grace call core s = by (nat_le grace.until core.moment)
+  where
+    by : (over : Bool) → Same core (unless_over over grace.planned_at core (file_got call core)).core →
+        Calms no_memory (unless_over over grace.planned_at core (file_got call core)) (unless_over over grace.planned_at core (file_got calm_call core))
+    by true same = inr refl
+    by false same = file_got_calms call core s same
+
+pub fetched_calms : (grace : Grace) (fate : Fate) (core : Core) → IsStill core → Same core (fetched grace fate core).core → Calms no_memory (fetched grace fate core) (fetched grace calm_fate core)
+fetched_calms grace fate core s same =
+    asking_calms fate.unasked no_memory core (got_unless grace fate.first) (got_unless grace calm_call)
+    (λ counted. got_unless_calms grace fate.first (asked_clock core) (asked_still core s) counted) same
 
 -- ---- fetches one after another
 
@@ -196,51 +208,54 @@ asked_twice false moment clock = omega arith
 clock_twice : (core : Core) → asked_clock (asked_clock core) ≡ asked_clock core
 clock_twice core = ap (λ m. record core { moment = m }) (asked_twice core.frozen core.moment core.clock)
 
-fetched_calm : (core : Core) → IsStill core → fetched calm_fate core ≡ gives (Ok tt) (asked_clock core)
-fetched_calm core s = got_still calm_call (asked_clock core) (asked_still core s) (calm_risen core.store_faults s.below)
+pub fetched_calm : (grace : Grace) (core : Core) → IsStill core → (fetched grace calm_fate core).core ≡ asked_clock core
+fetched_calm grace core s = by (nat_le grace.until (asked_clock core).moment)
+  where
+    by : (over : Bool) → (unless_over over grace.planned_at (asked_clock core) (file_got calm_call (asked_clock core))).core ≡ asked_clock core
+    by true = refl
+    by false = ap (λ (g : Gives Trouble ⊤). g.core) (got_still calm_call (asked_clock core) (asked_still core s) (calm_risen core.store_faults s.below))
 
-fetched_twice : (core : Core) → IsStill core → fetched calm_fate (asked_clock core) ≡ fetched calm_fate core
-fetched_twice core s =
-    fetched_calm (asked_clock core) (asked_still core s) ∙ ap (λ c. gives (Ok tt) c) (clock_twice core) ∙ sym (fetched_calm core s)
+fetched_twice : (grace : Grace) (core : Core) → fetched grace calm_fate (asked_clock core) ≡ fetched grace calm_fate core
+fetched_twice grace core = ap (got_unless grace calm_call) (clock_twice core)
 
-err_is_ok : (trouble : Trouble) → ◌≡◌ {A = Result ⊤ Trouble} (Err trouble) (Ok tt) → ⊥
-err_is_ok trouble e = cc
+no_memory_is_ok : ◌≡◌ {A = Result ⊤ Trouble} (Err no_memory) (Ok tt) → ⊥
+no_memory_is_ok e = cc
 
 count_inside : (a b c : ℕ) → c ≡ a → a < last_count → min a last_count ≤ b → min b last_count ≤ c → b ≡ a
 count_inside a b c e below g h = omega (arith, e, below, g, h)
 
-abbrev EachCalms : Fate → List Fate → Core → Type 0
-EachCalms fate more core = Same core (fetched_each fate more core).core → Calms no_memory (fetched_each fate more core) (fetched calm_fate core)
+abbrev EachCalms : Grace → Fate → List Fate → Core → Type 0
+EachCalms grace fate more core = Same core (fetched_each grace fate more core).core → Calms no_memory (fetched_each grace fate more core) (fetched grace calm_fate core)
 
-module _ (fate next : Fate) (more : List Fate) (core : Core) (s : IsStill core) (behind : EachCalms next more (asked_clock core)) where
+module _ (grace : Grace) (fate next : Fate) (more : List Fate) (core : Core) (s : IsStill core) (behind : EachCalms grace next more (asked_clock core)) where
   -- behind a fetch that gave something
-  next_calms : (mid : Core) → mid ≡ asked_clock core → Same core (fetched_each next more mid).core → Calms no_memory (fetched_each next more mid) (fetched calm_fate core)
+  next_calms : (mid : Core) → mid ≡ asked_clock core → Same core (fetched_each grace next more mid).core → Calms no_memory (fetched_each grace next more mid) (fetched grace calm_fate core)
   next_calms mid e =
-      subst (λ m. Same core (fetched_each next more m).core → Calms no_memory (fetched_each next more m) (fetched calm_fate core)) (sym e)
-      (λ same. subst (λ g. Calms no_memory (fetched_each next more (asked_clock core)) g) (fetched_twice core s) (behind same))
+      subst (λ m. Same core (fetched_each grace next more m).core → Calms no_memory (fetched_each grace next more m) (fetched grace calm_fate core)) (sym e)
+      (λ same. subst (λ g. Calms no_memory (fetched_each grace next more (asked_clock core)) g) (fetched_twice grace core) (behind same))
 
-  given_calms : (answer : Result ⊤ Trouble) → (fetched fate core).answer ≡ answer → Same core (unless_fault answer (fetched fate core).core (fetched_each next more)).core →
-      Calms no_memory (unless_fault answer (fetched fate core).core (fetched_each next more)) (fetched calm_fate core)
-  given_calms (Ok done) e same = by (fetched_calms fate core s mid_same)
+  given_calms : (answer : Result ⊤ Trouble) → (fetched grace fate core).answer ≡ answer → Same core (unless_fault answer (fetched grace fate core).core (fetched_each grace next more)).core →
+      Calms no_memory (unless_fault answer (fetched grace fate core).core (fetched_each grace next more)) (fetched grace calm_fate core)
+  given_calms (Ok done) e same = by (fetched_calms grace fate core s mid_same)
     where
       mid : Core
-      mid = (fetched fate core).core
+      mid = (fetched grace fate core).core
 
       mid_same : Same core mid
       mid_same =
-          count_inside core.store_faults mid.store_faults (fetched_each next more mid).core.store_faults same s.below (fetched_moves fate core).later.rises
-          (each_moves more next mid).later.rises
+          count_inside core.store_faults mid.store_faults (fetched_each grace next more mid).core.store_faults same s.below (fetched_moves grace fate core).later.rises
+          (each_moves grace more next mid).later.rises
 
-      by : Calms no_memory (fetched fate core) (fetched calm_fate core) → Calms no_memory (fetched_each next more mid) (fetched calm_fate core)
-      by (inl none) = absurd (err_is_ok no_memory (sym none ∙ e))
-      by (inr is) = next_calms mid (ap (λ g. g.core) (is ∙ fetched_calm core s)) same
-  given_calms (Err trouble) e same = by (fetched_calms fate core s same)
+      by : Calms no_memory (fetched grace fate core) (fetched grace calm_fate core) → Calms no_memory (fetched_each grace next more mid) (fetched grace calm_fate core)
+      by (inl none) = absurd (no_memory_is_ok (sym none ∙ e))
+      by (inr is) = next_calms mid (ap (λ (g : Gives Trouble ⊤). g.core) is ∙ fetched_calm grace core s) same
+  given_calms (Err trouble) e same = by (fetched_calms grace fate core s same)
     where
-      by : Calms no_memory (fetched fate core) (fetched calm_fate core) → Calms no_memory (gives (Err trouble) (fetched fate core).core) (fetched calm_fate core)
+      by : Calms no_memory (fetched grace fate core) (fetched grace calm_fate core) → Calms no_memory (gives (Err trouble) (fetched grace fate core).core) (fetched grace calm_fate core)
       by (inl none) = inl (sym e ∙ none)
-      by (inr is) = absurd (err_is_ok trouble (sym e ∙ ap (λ g. g.answer) (is ∙ fetched_calm core s)))
+      by (inr is) = inr (ap (λ (a : Result ⊤ Trouble). gives a (fetched grace fate core).core) (sym e) ∙ is)
 
-pub each_calms : (more : List Fate) (fate : Fate) (core : Core) → IsStill core → EachCalms fate more core
-each_calms [] fate core s = fetched_calms fate core s
-each_calms (next ∷ more) fate core s =
-    given_calms fate next more core s (each_calms more next (asked_clock core) (asked_still core s)) (fetched fate core).answer refl
+pub each_calms : (grace : Grace) (more : List Fate) (fate : Fate) (core : Core) → IsStill core → EachCalms grace fate more core
+each_calms grace [] fate core s = fetched_calms grace fate core s
+each_calms grace (next ∷ more) fate core s =
+    given_calms grace fate next more core s (each_calms grace more next (asked_clock core) (asked_still core s)) (fetched grace fate core).answer refl

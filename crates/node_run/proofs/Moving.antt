@@ -1,14 +1,14 @@
 -- Whatever lands and fails, a core goes on: its history only grows, its store's count never falls, and no call sets its clock.
 use Rattle.std.proofs.Common.{◌≡◌, ℕ, ◌≤◌, min, List, [], ◌∷◌, ◌++◌, refl, sym, ap, ◌∙◌, Bool, true, false, append_assoc, subst, arith}
 use Rattle.std.proofs.lemmas.List.{append-nil}
-use Rattle.std.specs.Prelude.{Option, Some, None, Result, Ok, Err, ⊤, if◌then◌else◌, ◌==◌, ◌||◌, slice_get, length, is_some}
+use Rattle.std.specs.Prelude.{Option, Some, None, Result, Ok, Err, ⊤, if◌then◌else◌, ◌==◌, ◌||◌, slice_get, length, is_some, nat_le}
 use Rattle.meta_journal.specs.declared.entry.Act.{Act}
 use Rattle.meta_journal.specs.declared.entry.Act.TheVariants.{Publish}
 use Rattle.meta_journal.specs.declared.entry.Entry.{Entry}
 use Rattle.meta_journal.specs.Places.{split_key}
 use Rattle.source_checkpoint.specs.declared.ledger.Checkpoint.{Checkpoint}
 use Rattle.source_log.specs.Log.{Log}
-use Rattle.index_world.specs.Calls.{Fate, Call, Trouble, faulted, no_memory, Unmade, Unread, not_read, Gives, Made, made, exists, failed, risen, may_fail, entry_lands, file_lands, land_at, all_landed, begun, tried, made_behind, made_at, create_at_end, taken_in, or_short, unless_short, asked_clock, asking, and_then_by, taken_unless, got_at, get_at_end, settle_made, settle_with, settled, fence_of, entry_of, may_append, last_made, last_unless, last_create, troubled_by, as_unmade, adopted_made, first_unless, transact, appended, looked, asked_and_looked, asked, file_by, file_made, got_file, file_got, fetched, with_standing, read_journal, unless_empty, load_by, loaded}
+use Rattle.index_world.specs.Calls.{Fate, Call, Trouble, faulted, no_memory, Unmade, Unread, not_read, Gives, Made, made, exists, failed, risen, may_fail, entry_lands, file_lands, land_at, all_landed, begun, tried, made_behind, made_at, create_at_end, taken_in, or_short, unless_short, asked_clock, asking, and_then_by, taken_unless, got_at, get_at_end, settle_made, settle_with, settled, fence_of, entry_of, may_append, last_made, last_unless, last_create, troubled_by, as_unmade, adopted_made, first_unless, transact, appended, looked, asked_and_looked, asked, file_by, file_made, got_file, file_got, Grace, unless_over, fetched, with_standing, read_journal, unless_empty, load_by, loaded}
 use Rattle.index_world.specs.Calls as calls
 use Rattle.index_world.specs.Core.{Core, Late, late_entry, late_dead, late_file, file_at, last_count}
 use Rattle.index_world.specs.Gate.{stage_act}
@@ -249,8 +249,13 @@ file_got_moves call core =
     or_short_moves call.short _ _ _
     (moves_on (begun_moves call core) (same (got_file_same (may_fail call core.store_faults) core.store_faults (begun call core))))
 
-pub fetched_moves : (fate : Fate) (core : Core) → Moves core (fetched fate core).core
-fetched_moves fate core = asking_moves fate.unasked _ _ (λ c. file_got_moves fate.first c)
+unless_over_moves : (over : Bool) (planned_at : ℕ) (core : Core) (otherwise : Gives Trouble ⊤) → Moves core otherwise.core → Moves core (unless_over over planned_at core otherwise).core
+unless_over_moves true planned_at core otherwise m = stays refl
+unless_over_moves false planned_at core otherwise m = m
+
+pub fetched_moves : (grace : Grace) (fate : Fate) (core : Core) → Moves core (fetched grace fate core).core
+fetched_moves grace fate core =
+    asking_moves fate.unasked _ _ (λ c. unless_over_moves (nat_le grace.until c.moment) grace.planned_at c (file_got fate.first c) (file_got_moves fate.first c))
 
 unless_fault_moves : {core : Core} (answer : Result ⊤ Trouble) (mid : Core) (next : Core → Gives Trouble ⊤) → Moves core mid → Moves mid (next mid).core →
     Moves core (unless_fault answer mid next).core
@@ -258,11 +263,11 @@ unless_fault_moves (Ok done) mid next m n = moves_on m n
 unless_fault_moves (Err trouble) mid next m n = m
 
 -- fetches one after another
-pub each_moves : (more : List Fate) (fate : Fate) (core : Core) → Moves core (fetched_each fate more core).core
-each_moves [] fate core = fetched_moves fate core
-each_moves (next ∷ more) fate core =
-    let given = fetched fate core in
-    unless_fault_moves given.answer given.core (fetched_each next more) (fetched_moves fate core) (each_moves more next given.core)
+pub each_moves : (grace : Grace) (more : List Fate) (fate : Fate) (core : Core) → Moves core (fetched_each grace fate more core).core
+each_moves grace [] fate core = fetched_moves grace fate core
+each_moves grace (next ∷ more) fate core =
+    let given = fetched grace fate core in
+    unless_fault_moves given.answer given.core (fetched_each grace next more) (fetched_moves grace fate core) (each_moves grace more next given.core)
 
 standing_moves : (standing : Option Entry) (core : Core) → Moves core (with_standing standing core)
 standing_moves None core = stays refl
@@ -396,7 +401,7 @@ module _ (luck : searching.Luck) (log : Log) (client : Client) (core : Core) whe
   next_moves : (plan : Plan) (unfetched : List ℕ) → Moves core (next_step luck log plan unfetched client core).core
   next_moves plan [] = stays refl
   next_moves plan (number ∷ more) =
-      moves_on (each_moves luck.more luck.world core) (same (fetch_same _ plan number more client _))
+      moves_on (each_moves plan.grace luck.more luck.world core) (same (fetch_same _ plan number more client _))
 
   request_moves : (request : Request) → Moves core (step_request request luck log client core).core
   request_moves no_request = stays refl

@@ -13,7 +13,7 @@ use Rattle.index_world.specs.declared.world_error.WorldError.{WorldError}
 use Rattle.index_world.specs.Calls as calls
 use Rattle.index_world.specs.Calls.{Fate, Fault, Trouble, faulted, no_memory, not_read, Unread, Gives, gives, loaded, calm_fate, asked_and_looked}
 use Rattle.root_search.specs.Requests.{asked_of}
-use Rattle.index_world.specs.Core.{Core, journal_of, KeepsBut}
+use Rattle.index_world.specs.Core.{Core, IsStoredIn, IsUploadedIn, journal_of, KeepsBut}
 use Rattle.index_world.specs.Gate.{NoneBetween}
 use Rattle.index_world.specs.Index.{has_staged}
 use Rattle.index_world.specs.World.{Keeping, WorldStands, GoesOn}
@@ -86,10 +86,18 @@ clock_on core clock =
       keeps = record {
         configured = λ config e. e;
         unused = λ n other u. record { staged = u.staged; unpublished = u.unpublished; absent = u.absent; not_late = u.not_late };
-        uploaded = λ n bytes u. record { staged = u.staged; file = u.file; not_late = u.not_late };
+        stored = stored_then;
+        uploaded = uploaded_then;
         staged = λ n delta facts h. h;
       };
     }
+  where
+    stored_then : (n : ℕ) (bytes : List ℕ) → IsStoredIn core n bytes → IsStoredIn (record core { clock = clock }) n bytes
+    stored_then n bytes u = record { staged = u.staged; file = u.file; not_late = u.not_late }
+
+    uploaded_then : (n : ℕ) (bytes : List ℕ) → IsUploadedIn core n bytes → IsUploadedIn (record core { clock = clock }) n bytes
+    uploaded_then n bytes (inl u) = inl (stored_then n bytes u)
+    uploaded_then n bytes (inr g) = inr g
 
 staged_of : {L : Type 0} (told : L → Option Log) (count : L → ℕ) (reader : Reader L) (indexer : Indexer) (core : Core) (log : Log) (n : ℕ) →
     IndexerStands told count reader indexer core log → number_held indexer.place ≡ Some n → has_staged (journal_of core) n ≡ true
@@ -106,7 +114,7 @@ staged_of {L} told count reader indexer core log n s held = by reader.place s.pl
   by (places.Staged token bytes) p =
       subst (λ m. has_staged (journal_of core) m ≡ true) (some_same p.0.number n (sym (ap number_held p.1) ∙ held)) p.4.unused.staged
   by (places.Uploaded token) p =
-      subst (λ m. has_staged (journal_of core) m ≡ true) (some_same p.0.number n (sym (ap number_held p.1) ∙ held)) p.3.uploaded.staged
+      subst (λ m. has_staged (journal_of core) m ≡ true) (some_same p.0.number n (sym (ap number_held p.1) ∙ held)) p.3.staged.staged
 
 module _ {L : Type 0} (told : L → Option Log) (count : L → ℕ) (since : L → L → Type 0) (on_then : (a b c : L) → since a b → since b c → since a c) (firsts : List L)
     (world : Keeping) (readers : List (Reader L)) (searchers : List Searcher) (places : List (List ℕ × ℕ)) (clock : ℕ) (down : Bool) (node : Node)
@@ -314,7 +322,7 @@ searched_name luck log client core = short luck.short where
 
   next : (p : searching.Plan) (unfetched : List ℕ) → (searching.next_step luck log p unfetched client core).client.name ≡ client.name
   next p [] = refl
-  next p (number ∷ more) = let given = searching.fetched_each luck.world luck.more core in fetch given.answer p number more given.core
+  next p (number ∷ more) = let given = searching.fetched_each p.grace luck.world luck.more core in fetch given.answer p number more given.core
 
   request : (r : searching.Request) → (searching.step_request r luck log client core).client.name ≡ client.name
   request searching.no_request = refl
@@ -512,7 +520,7 @@ without_over searcher client core after log keeps s =
     record {
       name = s.name;
       front = s.front;
-      footers = λ number footer among. let k = s.footers number footer among in record { bytes = k.bytes; uploaded = keeps.uploaded number k.bytes k.uploaded; footer_is = k.footer_is };
+      footers = λ number footer among. let k = s.footers number footer among in record { bytes = k.bytes; stored = keeps.stored number k.bytes k.stored; footer_is = k.footer_is };
       request = by searcher.request s.request;
     }
   where

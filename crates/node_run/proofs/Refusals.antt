@@ -45,6 +45,7 @@ OfText (Err (Memory e)) = Unit {0}
 
 pub text_may : (refusal : Refusal) → IsOfText refusal → RefusalMayTell refusal
 text_may (refusals.StoreFault before after) h = tt
+text_may (refusals.Expired planned_at now) h = absurd h
 text_may refusal h = h
 
 bind_of : {A B : Type 0} (r : Result A Unanswered) (k : A → Result B Unanswered) → OfText r → ((x : A) → OfText (k x)) → OfText (r >>= k)

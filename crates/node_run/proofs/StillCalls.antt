@@ -7,7 +7,7 @@ use Rattle.meta_journal.specs.declared.entry.Entry.{Entry}
 use Rattle.meta_journal.specs.Places.{split_key}
 use Rattle.source_checkpoint.specs.declared.ledger.Checkpoint.{Checkpoint}
 use Rattle.source_log.specs.Log.{Log}
-use Rattle.index_world.specs.Calls.{Unmade, begun, calm_call, calm_fate, made_behind, adopted_making, first_unless, transact, appended, entry_of, may_append, unless_short, and_then, settle_with, looked, asked, asked_clock, asked_and_looked, file_by, file_made, fetched, reborn, unless_empty, loaded}
+use Rattle.index_world.specs.Calls.{Unmade, begun, calm_call, calm_fate, made_behind, adopted_making, first_unless, transact, appended, entry_of, may_append, unless_short, and_then, settle_with, looked, asked, asked_clock, asked_and_looked, file_by, file_made, Grace, fetched, reborn, unless_empty, loaded}
 use Rattle.index_world.specs.Core.{Core, file_at}
 use Rattle.index_world.specs.Gate.{stage_call, publish_call, stage_act}
 use Rattle.index_world.specs.SplitFile.{file_of}
@@ -19,7 +19,7 @@ use Rattle.root_search.specs.Steps.{Request, no_request, opened, planned, Plan, 
 use Rattle.node_run.specs.Calm.{IsStill}
 use Rattle.node_run.specs.Node.{Node, Line, At, Assign, StepIndexer, RestartIndexer, RestartClient, RestartNode, Open, StepClient}
 use Rattle.node_run.specs.Turns.{calm, indexer_at, client_named, indexer_turn_by, client_turn_by, turn}
-use Rattle.node_run.proofs.Calming.{asked_still, calm_risen}
+use Rattle.node_run.proofs.Calming.{asked_still, calm_risen, fetched_calm}
 use Rattle.node_run.proofs.CalmSteps.{calm_indexing, calm_searching, load_still}
 use Rattle.node_run.proofs.Moving.{checkpoints_same, stage_same, upload_same, publish_same, given_same, plan_same, fetch_same, assign_same, open_same, restart_same}
 
@@ -67,8 +67,8 @@ file_still false before key bytes core s = record { late = s.late; standing = s.
 file_made_still : (key bytes : List ℕ) (core : Core) → IsStill core → IsStill (file_made calm_call key bytes core).core
 file_made_still key bytes core s = file_still (is_some (file_at core.files key)) core.store_faults key bytes (begun calm_call core) (begun_still core s)
 
-fetched_still : (core : Core) → IsStill core → IsStill (fetched calm_fate core).core
-fetched_still core s = begun_still (asked_clock core) (asked_still core s)
+fetched_still : (grace : Grace) (core : Core) → IsStill core → IsStill (fetched grace calm_fate core).core
+fetched_still grace core s = subst IsStill (sym (fetched_calm grace core s)) (asked_still core s)
 
 -- ---- an indexer's step
 
@@ -135,8 +135,8 @@ module _ (log : Log) (client : Client) (core : Core) (s : IsStill core) where
   next_still : (plan : Plan) (unfetched : List ℕ) → IsStill (next_step calm_searching log plan unfetched client core).core
   next_still plan [] = s
   next_still plan (number ∷ more) =
-      let given = fetched calm_fate core in
-      handed given.core _ (fetch_same given.answer plan number more client given.core) (fetched_still core s)
+      let given = fetched plan.grace calm_fate core in
+      handed given.core _ (fetch_same given.answer plan number more client given.core) (fetched_still plan.grace core s)
 
   request_still : (request : Request) → IsStill (step_request request calm_searching log client core).core
   request_still no_request = s

@@ -3,7 +3,7 @@ use Rattle.std.proofs.Common.{◌≡◌, ℕ, ◌≤◌, ◌<◌, Bool, true, fa
 use Rattle.std.proofs.lemmas.Bool.{eqb-true}
 use Rattle.std.proofs.lemmas.List.{length-append}
 use Rattle.std.specs.List.{AllByRecursion, AllZip}
-use Rattle.std.specs.Prelude.{Option, Some, None, Result, Ok, Err, ⊤, if◌then◌else◌, ◌==◌, ◌||◌, is_some, slice_get, bytes_eq}
+use Rattle.std.specs.Prelude.{Option, Some, None, Result, Ok, Err, ⊤, if◌then◌else◌, ◌==◌, ◌||◌, is_some, slice_get, bytes_eq, nat_le}
 use Rattle.std.proofs.lemmas.Slice.Eq.{bytes_eq-Decides}
 use Rattle.meta_journal.specs.Places.{split_key}
 use Rattle.meta_journal.specs.declared.entry.Act.{Act}
@@ -15,7 +15,7 @@ use Rattle.source_checkpoint.specs.declared.delta.StaleDelta.{StaleDelta}
 use Rattle.source_checkpoint.specs.declared.delta.StaleDelta.TheVariants as deltas
 use Rattle.source_checkpoint.specs.declared.ledger.Checkpoint.{Checkpoint}
 use Rattle.source_log.specs.Log.{Log}
-use Rattle.index_world.specs.Calls.{Fate, Call, Fault, store_fault, is_foreign, is_full, Trouble, faulted, no_memory, Unmade, refused, troubled, Unread, not_read, Gives, gives, Made, made, exists, failed, Making, risen, may_fail, entry_lands, file_lands, late_lands, without_late, land_at, all_landed, begun, with_file, tried, made_behind, made_at, create_at_end, taken_in, or_short, unless_short, asked_clock, asking, and_then, and_then_by, taken_unless, got_at, get_at_end, settle_made, settle_with, settled, fence_of, entry_of, may_append, last_made, last_unless, last_create, troubled_by, as_unmade, adopted_made, first_unless, transact, appended, looked, settled_and_copied, asked_and_looked, asked, file_by, file_made, got_file, file_got, fetched, unless_empty, read_journal, load_by, loaded}
+use Rattle.index_world.specs.Calls.{Fate, Call, Fault, store_fault, is_foreign, is_full, is_expired, Grace, unless_over, Trouble, faulted, no_memory, Unmade, refused, troubled, Unread, not_read, Gives, gives, Made, made, exists, failed, Making, risen, may_fail, entry_lands, file_lands, late_lands, without_late, land_at, all_landed, begun, with_file, tried, made_behind, made_at, create_at_end, taken_in, or_short, unless_short, asked_clock, asking, and_then, and_then_by, taken_unless, got_at, get_at_end, settle_made, settle_with, settled, fence_of, entry_of, may_append, last_made, last_unless, last_create, troubled_by, as_unmade, adopted_made, first_unless, transact, appended, looked, settled_and_copied, asked_and_looked, asked, file_by, file_made, got_file, file_got, fetched, unless_empty, read_journal, load_by, loaded}
 use Rattle.index_world.specs.Calls as calls
 use Rattle.index_world.specs.Core.{Core, File, Late, late_entry, late_dead, late_file, late_key, file_at, IsNotLateIn}
 use Rattle.index_world.specs.Gate.{stage_act}
@@ -256,6 +256,7 @@ settled_then (Ok done) core again before act s = last_own again before (act core
 settled_then (Err (faulted (store_fault low high))) core again before act s = tt
 settled_then (Err (faulted (is_foreign key))) core again before act s = absurd s
 settled_then (Err (faulted is_full)) core again before act s = absurd s
+settled_then (Err (faulted (is_expired planned_at now))) core again before act s = absurd s
 settled_then (Err no_memory) core again before act s = tt
 
 adopted_own : (get again : Call) (before : ℕ) (act : Core → Act) (entry : Entry) (m : Made) (core : Core) → MadeLow m core → Own (adopted_made get again before act entry m core)
@@ -414,20 +415,54 @@ got_file_own : (b : Bool) (before : ℕ) (core : Core) → OwnTrouble (got_file 
 got_file_own true before core = tt
 got_file_own false before core = tt
 
-fetched_own : (fate : Fate) (core : Core) → OwnTrouble (fetched fate core)
-fetched_own fate core =
-    asking_own fate.unasked core (λ c. file_got fate.first c)
-    (or_short_own fate.first.short fate.first (asked_clock core) _ (got_file_own (may_fail fate.first core.store_faults) core.store_faults (begun fate.first (asked_clock core))))
+-- the store failed, or it comes too late
+abbrev IsFetchTrouble : Trouble → Type 0
+IsFetchTrouble (faulted (store_fault before after)) = Unit {0}
+IsFetchTrouble (faulted (is_foreign key)) = ⊥
+IsFetchTrouble (faulted is_full) = ⊥
+IsFetchTrouble (faulted (is_expired planned_at now)) = Unit {0}
+IsFetchTrouble no_memory = Unit {0}
 
-unless_fault_own : (r : Result ⊤ Trouble) (core : Core) (next : Core → Gives Trouble ⊤) → IfErr IsStoreTrouble r → OwnTrouble (next core) → OwnTrouble (unless_fault r core next)
+abbrev FetchTrouble : Gives Trouble ⊤ → Type 0
+FetchTrouble given = IfErr IsFetchTrouble given.answer
+
+store_fetch : (given : Gives Trouble ⊤) → OwnTrouble given → FetchTrouble given
+store_fetch given own = by given.answer own
+  where
+    by_trouble : (trouble : Trouble) → IsStoreTrouble trouble → IsFetchTrouble trouble
+    by_trouble (faulted (store_fault before after)) h = tt
+    by_trouble (faulted (is_foreign key)) h = h
+    by_trouble (faulted is_full) h = h
+    by_trouble (faulted (is_expired planned_at now)) h = tt
+    by_trouble no_memory h = tt
+
+    by : (r : Result ⊤ Trouble) → IfErr IsStoreTrouble r → IfErr IsFetchTrouble r
+    by (Ok done) h = tt
+    by (Err trouble) h = by_trouble trouble h
+
+fetched_own : (grace : Grace) (fate : Fate) (core : Core) → FetchTrouble (fetched grace fate core)
+fetched_own grace fate core = by fate.unasked
+  where
+    got : FetchTrouble (file_got fate.first (asked_clock core))
+    got = store_fetch (file_got fate.first (asked_clock core)) (or_short_own fate.first.short fate.first (asked_clock core) _ (got_file_own (may_fail fate.first core.store_faults) core.store_faults (begun fate.first (asked_clock core))))
+
+    unless : (over : Bool) → FetchTrouble (unless_over over grace.planned_at (asked_clock core) (file_got fate.first (asked_clock core)))
+    unless true = tt
+    unless false = got
+
+    by : (unasked : Bool) → FetchTrouble (asking unasked no_memory core (λ c. unless_over (nat_le grace.until c.moment) grace.planned_at c (file_got fate.first c)))
+    by true = tt
+    by false = unless (nat_le grace.until (asked_clock core).moment)
+
+unless_fault_own : (r : Result ⊤ Trouble) (core : Core) (next : Core → Gives Trouble ⊤) → IfErr IsFetchTrouble r → FetchTrouble (next core) → FetchTrouble (unless_fault r core next)
 unless_fault_own (Ok done) core next g n = n
 unless_fault_own (Err trouble) core next g n = g
 
-each_own : (more : List Fate) (fate : Fate) (core : Core) → OwnTrouble (fetched_each fate more core)
-each_own [] fate core = fetched_own fate core
-each_own (next ∷ more) fate core =
-    let given = fetched fate core in
-    unless_fault_own given.answer given.core (fetched_each next more) (fetched_own fate core) (each_own more next given.core)
+each_own : (grace : Grace) (more : List Fate) (fate : Fate) (core : Core) → FetchTrouble (fetched_each grace fate more core)
+each_own grace [] fate core = fetched_own grace fate core
+each_own grace (next ∷ more) fate core =
+    let given = fetched grace fate core in
+    unless_fault_own given.answer given.core (fetched_each grace next more) (fetched_own grace fate core) (each_own grace more next given.core)
 
 abbrev IsStoreUnread : Unread → Type 0
 IsStoreUnread (not_read trouble) = IsStoreTrouble trouble
@@ -452,6 +487,7 @@ store_not_foreign : (fault : Fault) → IsOfStore fault → IsNotForeign fault
 store_not_foreign (store_fault low high) h = tt
 store_not_foreign (is_foreign key) h = absurd h
 store_not_foreign is_full h = tt
+store_not_foreign (is_expired planned_at now) h = absurd h
 
 trouble_tells : (trouble : Trouble) → IsStoreTrouble trouble → StepTells (indexing.trouble_outcome trouble)
 trouble_tells (faulted fault) h = store_not_foreign fault h
@@ -569,7 +605,15 @@ replied_tells : (revision : ℕ) (trouble : Trouble) (client : Client) (core : C
 replied_tells revision (faulted (store_fault before after)) client core h = tt
 replied_tells revision (faulted (is_foreign key)) client core h = absurd h
 replied_tells revision (faulted is_full) client core h = absurd h
+replied_tells revision (faulted (is_expired planned_at now)) client core h = absurd h
 replied_tells revision no_memory client core h = tt
+
+too_late_tells : (revision : ℕ) (trouble : Trouble) (client : Client) (core : Core) → IsFetchTrouble trouble → SearchTells (searching.trouble_replied revision trouble client core).outcome
+too_late_tells revision (faulted (store_fault before after)) client core h = tt
+too_late_tells revision (faulted (is_foreign key)) client core h = absurd h
+too_late_tells revision (faulted is_full) client core h = absurd h
+too_late_tells revision (faulted (is_expired planned_at now)) client core h = tt
+too_late_tells revision no_memory client core h = tt
 
 refused_tells : (revision : ℕ) (refusal : Unfit) (trouble : Trouble) (client : Client) (core : Core) → IsOfText refusal →
     SearchTells (searching.refused_over revision refusal trouble client core).outcome
@@ -585,17 +629,17 @@ plan_tells (Err trouble) (Ok search) client core h a = replied_tells client.fron
 plan_tells (Err trouble) (Err (reasons.Refused refusal)) client core h a = refused_tells client.front refusal trouble client core a
 plan_tells (Err trouble) (Err (reasons.Memory e)) client core h a = tt
 
-fetch_tells : (r : Result ⊤ Trouble) (plan : Plan) (number : ℕ) (more : List ℕ) (client : Client) (core : Core) → IfErr IsStoreTrouble r →
+fetch_tells : (r : Result ⊤ Trouble) (plan : Plan) (number : ℕ) (more : List ℕ) (client : Client) (core : Core) → IfErr IsFetchTrouble r →
     SearchTells (fetch_by r plan number more client core).outcome
 fetch_tells (Ok done) plan number more client core h = tt
-fetch_tells (Err trouble) plan number more client core h = replied_tells plan.revision trouble client core h
+fetch_tells (Err trouble) plan number more client core h = too_late_tells plan.revision trouble client core h
 
 module _ (luck : searching.Luck) (log : Log) (client : Client) (core : Core) where
   next_tells : (plan : Plan) (unfetched : List ℕ) → SearchTells (next_step luck log plan unfetched client core).outcome
   next_tells plan [] = answer_may (config_at plan.revision core).schema plan.search (visible_at plan.revision core.history log)
   next_tells plan (number ∷ more) =
-      let given = fetched_each luck.world luck.more core in
-      fetch_tells given.answer plan number more client given.core (each_own luck.more luck.world core)
+      let given = fetched_each plan.grace luck.world luck.more core in
+      fetch_tells given.answer plan number more client given.core (each_own plan.grace luck.more luck.world core)
 
   request_tells : (request : Request) → SearchTells (step_request request luck log client core).outcome
   request_tells no_request = tt

@@ -1,6 +1,7 @@
--- Which faults a node over a sound index tells: no key is foreign to it, and only an indexer's entry meets a full journal.
+-- Which faults a node over a sound index tells: no key is foreign to it, only an indexer's entry meets a full journal, and only a
+-- search comes too late.
 use Rattle.std.specs.Prelude.{Option, Some, None}
-use Rattle.index_world.specs.Calls.{Fault, store_fault, is_foreign, is_full}
+use Rattle.index_world.specs.Calls.{Fault, store_fault, is_foreign, is_full, is_expired}
 use Rattle.indexing_run.specs.Outcomes.{IndexerOutcome}
 use Rattle.indexing_run.specs.Outcomes as indexing
 use Rattle.root_search.specs.declared.outcome.SearchStep.{SearchStep}
@@ -16,11 +17,13 @@ abbrev pub IsOfStore : Fault → Type 0
 IsOfStore (store_fault before after) = Unit {0}
 IsOfStore (is_foreign key) = ⊥
 IsOfStore is_full = ⊥
+IsOfStore (is_expired planned_at now) = ⊥
 
 abbrev pub IsNotForeign : Fault → Type 0
 IsNotForeign (store_fault before after) = Unit {0}
 IsNotForeign (is_foreign key) = ⊥
 IsNotForeign is_full = Unit {0}
+IsNotForeign (is_expired planned_at now) = ⊥
 
 abbrev pub IndexerMayTell : IndexerOutcome → Type 0
 IndexerMayTell indexing.Checkpoint = Unit {0}
@@ -61,9 +64,10 @@ IsOfText (refusals.Foreign key) = ⊥
 IsOfText (refusals.TooManyTasks count) = ⊥
 IsOfText refusals.Full = ⊥
 
--- the store failed, or the text is refused
+-- the store failed, a plan's files may be gone, or the text is refused
 abbrev pub RefusalMayTell : Refusal → Type 0
 RefusalMayTell (refusals.StoreFault before after) = Unit {0}
+RefusalMayTell (refusals.Expired planned_at now) = Unit {0}
 RefusalMayTell refusal = IsOfText refusal
 
 abbrev pub SaidMayTell : Said → Type 0

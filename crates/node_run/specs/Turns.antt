@@ -269,6 +269,7 @@ opened_core o =
       unsure = false;
       standing = None;
       late = o.late;
+      marks = [];
     }
 
 abbrev pub opened_node : Opening → Node

@@ -70,6 +70,7 @@ module _ (before after : Faults) (status : ℕ) (read : before.input ≤ after.i
   not_opened (errors.Corrupt key) f is = refused is
   not_opened (errors.Foreign key) f is = refused is
   not_opened errors.Full f is = refused is
+  not_opened (errors.Expired planned_at reached) f is = refused is
   not_opened errors.NoIndex f is =
       record {
         causes = by_none 8 is (λ e. omega (arith, e)) (λ e. omega (arith, e)) (λ e. omega (arith, e));
@@ -222,6 +223,7 @@ module _ (store read written store' read' mid written' status : ℕ) (on : read 
   not_made (errors.Corrupt key) f is = no_index_made is
   not_made (errors.Foreign key) f is = no_index_made is
   not_made errors.Full f is = no_index_made is
+  not_made (errors.Expired planned_at reached) f is = no_index_made is
   not_made errors.NoIndex f is = no_index_made is
   not_made errors.IndexExists f is =
       record {

@@ -50,6 +50,7 @@ module _ (store read written store' mid written' status : ℕ) (low : written �
   not_opened (errors.Corrupt key) f is = no_index is
   not_opened (errors.Foreign key) f is = no_index is
   not_opened errors.Full f is = no_index is
+  not_opened (errors.Expired planned_at reached) f is = no_index is
   not_opened errors.NoIndex f is =
       record {
         causes = by_none entry exit status on all_on 8 is (λ e. omega (arith, e)) (λ e. omega (arith, e)) (λ e. omega (arith, e));

@@ -41,6 +41,9 @@ module _ (history : List Entry) (before : Before) (fresh : Node) (is : IsFresh b
   pub new_sure : fresh.core.unsure ≡ false
   new_sure = ap (λ n. n.core.unsure) is.is
 
+  pub new_unmarked : fresh.core.marks ≡ []
+  new_unmarked = ap (λ n. n.core.marks) is.is
+
   -- all but the core is that of fresh readers
   pub opened_is : (answer : Result ⊤ Unread) (node : Node) → Opens fresh answer node → node ≡ fresh_node node.core before.log before.log_faults
   opened_is answer node o =

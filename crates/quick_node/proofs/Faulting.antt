@@ -1,6 +1,6 @@
 -- Each fault of the store that a line tells has the counts before the line and behind it, of which the second rose.
 use Rattle.std.proofs.Common.{◌≡◌, ℕ, ◌≤◌, ◌<◌, Bool, true, false, List, [], ◌∷◌, ◌++◌, flat_map, refl, sym, ap, subst, arith}
-use Rattle.std.specs.Prelude.{Option, Some, None, Result, Ok, Err, ⊤, if◌then◌else◌, ◌==◌, ◌||◌, is_some, min, nat_lt, length}
+use Rattle.std.specs.Prelude.{Option, Some, None, Result, Ok, Err, ⊤, if◌then◌else◌, ◌==◌, ◌||◌, is_some, min, nat_lt, length, nat_le}
 use Rattle.byte_fields.specs.Causes.{Rose}
 use Rattle.meta_journal.specs.Places.{split_key}
 use Rattle.meta_journal.specs.declared.entry.Act.{Act}
@@ -12,7 +12,7 @@ use Rattle.source_checkpoint.specs.declared.delta.StaleDelta.{StaleDelta}
 use Rattle.source_checkpoint.specs.declared.delta.StaleDelta.TheVariants as deltas
 use Rattle.source_checkpoint.specs.declared.ledger.Checkpoint.{Checkpoint}
 use Rattle.source_log.specs.Log.{Log}
-use Rattle.index_world.specs.Calls.{Fate, Call, Fault, store_fault, is_foreign, is_full, Trouble, faulted, no_memory, Unmade, refused, troubled, Unread, not_read, Gives, gives, Made, made, exists, failed, Making, risen, may_fail, begun, tried, made_behind, made_at, create_at_end, taken_in, or_short, unless_short, asked_clock, asking, and_then, and_then_by, taken_unless, got_at, get_at_end, settle_made, settle_with, settled, fence_of, entry_of, may_append, last_made, last_unless, last_create, troubled_by, as_unmade, adopted_made, first_unless, transact, appended, looked, settled_and_copied, asked_and_looked, asked, file_by, file_made, got_file, file_got, fetched, with_standing, read_journal, unless_empty, load_by, loaded}
+use Rattle.index_world.specs.Calls.{Fate, Call, Fault, store_fault, is_foreign, is_full, is_expired, Grace, unless_over, Trouble, faulted, no_memory, Unmade, refused, troubled, Unread, not_read, Gives, gives, Made, made, exists, failed, Making, risen, may_fail, begun, tried, made_behind, made_at, create_at_end, taken_in, or_short, unless_short, asked_clock, asking, and_then, and_then_by, taken_unless, got_at, get_at_end, settle_made, settle_with, settled, fence_of, entry_of, may_append, last_made, last_unless, last_create, troubled_by, as_unmade, adopted_made, first_unless, transact, appended, looked, settled_and_copied, asked_and_looked, asked, file_by, file_made, got_file, file_got, fetched, with_standing, read_journal, unless_empty, load_by, loaded}
 use Rattle.index_world.specs.Calls as calls
 use Rattle.index_world.specs.Core.{Core, last_count, file_at}
 use Rattle.index_world.specs.Gate.{stage_act}
@@ -287,9 +287,15 @@ file_got_good call core bound =
     (got_file_good core.store_faults (may_fail call core.store_faults) (begun call core) (begun_on core.store_faults call core (omega arith) bound)
     (begun_bound core.store_faults call core) (λ may. begun_rose core.store_faults call core (omega arith) may))
 
-fetched_good : (fate : Fate) (core : Core) → core.store_faults ≤ last_count → Good trouble_told core.store_faults (fetched fate core)
-fetched_good fate core bound =
-    asking_good trouble_told fate.unasked no_memory core (λ c. file_got fate.first c) refl bound (file_got_good fate.first (asked_clock core) bound)
+unless_over_good : (over : Bool) (planned_at : ℕ) (core : Core) (otherwise : Gives Trouble ⊤) → core.store_faults ≤ last_count → Good trouble_told core.store_faults otherwise →
+    Good trouble_told core.store_faults (unless_over over planned_at core otherwise)
+unless_over_good true planned_at core otherwise bound g = record { says = omega arith; on = omega arith; bound = bound }
+unless_over_good false planned_at core otherwise bound g = g
+
+fetched_good : (grace : Grace) (fate : Fate) (core : Core) → core.store_faults ≤ last_count → Good trouble_told core.store_faults (fetched grace fate core)
+fetched_good grace fate core bound =
+    asking_good trouble_told fate.unasked no_memory core (λ c. unless_over (nat_le grace.until c.moment) grace.planned_at c (file_got fate.first c)) refl bound
+    (unless_over_good (nat_le grace.until (asked_clock core).moment) grace.planned_at (asked_clock core) (file_got fate.first (asked_clock core)) bound (file_got_good fate.first (asked_clock core) bound))
 
 -- ---- fetches one after another
 
@@ -303,13 +309,13 @@ unless_fault_good low (Ok done) mid next g n =
     record { says = lower low mid.store_faults (answer_told trouble_told (next mid).answer) (next mid).core.store_faults g.on n.says; on = omega (arith, g.on, n.on); bound = n.bound }
 unless_fault_good low (Err trouble) mid next g n = g
 
-each_good : (more : List Fate) (fate : Fate) (core : Core) → core.store_faults ≤ last_count → Good trouble_told core.store_faults (fetched_each fate more core)
-each_good [] fate core bound = fetched_good fate core bound
-each_good (next ∷ more) fate core bound =
-    let mid = fetched fate core in
-    let good = fetched_good fate core bound in
-    unless_fault_good core.store_faults mid.answer mid.core (fetched_each next more) (record { says = good.says; on = good.on; bound = good.bound })
-    (each_good more next mid.core good.bound)
+each_good : (grace : Grace) (more : List Fate) (fate : Fate) (core : Core) → core.store_faults ≤ last_count → Good trouble_told core.store_faults (fetched_each grace fate more core)
+each_good grace [] fate core bound = fetched_good grace fate core bound
+each_good grace (next ∷ more) fate core bound =
+    let mid = fetched grace fate core in
+    let good = fetched_good grace fate core bound in
+    unless_fault_good core.store_faults mid.answer mid.core (fetched_each grace next more) (record { says = good.says; on = good.on; bound = good.bound })
+    (each_good grace more next mid.core good.bound)
 
 -- ---- opening anew
 
@@ -517,6 +523,7 @@ replied_said : (low revision : ℕ) (trouble : Trouble) (client : Client) (core 
 replied_said low revision (faulted (store_fault before after)) client core p = p
 replied_said low revision (faulted (is_foreign key)) client core p = p
 replied_said low revision (faulted is_full) client core p = p
+replied_said low revision (faulted (is_expired planned_at now)) client core p = p
 replied_said low revision no_memory client core p = p
 
 -- a refusal of a text tells no fault
@@ -565,8 +572,8 @@ module _ (luck : searching.Luck) (log : Log) (client : Client) (core : Core) (bo
       let documents = visible_at plan.revision core.history log in
       none_said core.store_faults _ core (answer_none (config_at plan.revision core).schema plan.search documents) (omega arith) bound
   next_said plan (number ∷ more) =
-      let given = fetched_each luck.world luck.more core in
-      fetch_said core.store_faults given.answer plan number more client given.core (as_given trouble_told core.store_faults given (each_good luck.more luck.world core bound))
+      let given = fetched_each plan.grace luck.world luck.more core in
+      fetch_said core.store_faults given.answer plan number more client given.core (as_given trouble_told core.store_faults given (each_good plan.grace luck.more luck.world core bound))
 
   request_said : (request : Request) → Searching core.store_faults (step_request request luck log client core)
   request_said no_request = still core bound

@@ -74,6 +74,7 @@ module _ (history : List Entry) (before : Before) (moment : ℕ) (after : After)
   not_made_0 (errors.Corrupt key) z = omega (arith, z)
   not_made_0 (errors.Foreign key) z = omega (arith, z)
   not_made_0 errors.Full z = omega (arith, z)
+  not_made_0 (errors.Expired planned_at reached) z = omega (arith, z)
   not_made_0 errors.NoIndex z = omega (arith, z)
   not_made_0 errors.IndexExists z = omega (arith, z)
   not_made_0 (errors.BadConfig bad) z = omega (arith, z)
@@ -129,6 +130,7 @@ module _ (history : List Entry) (before : Before) (moment : ℕ) (after : After)
     unmade_status (errors.Corrupt key) short n = absurd n
     unmade_status (errors.Foreign key) short n = absurd n
     unmade_status errors.Full short n = absurd n
+    unmade_status (errors.Expired planned_at reached) short n = absurd n
     unmade_status errors.NoIndex short n = absurd n
     unmade_status errors.IndexExists short n = inl (sym (short_status short ∙ some_status history (n.1 none)))
     unmade_status (errors.BadConfig bad) short n = inl (sym (short_status short ∙ empty_status n.0 ∙ ap text_status n.1))

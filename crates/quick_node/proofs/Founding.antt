@@ -69,7 +69,7 @@ module _ (history : List Entry) (before : Before) (moment : ℕ) (i : IsIndexOf 
   -- the core of the store at entry
   abbrev pub first_core : Core
   first_core =
-      record { history = history; store_faults = before.store_faults; moment = moment_of (told_by history); clock = moment; frozen = false; files = o.files; unsure = false; standing = None; late = o.late }
+      record { history = history; store_faults = before.store_faults; moment = moment_of (told_by history); clock = moment; frozen = false; files = o.files; unsure = false; standing = None; late = o.late; marks = [] }
 
   pub first_world : IsWorld before.kept first_core before.log
   first_world = o.world
@@ -132,6 +132,7 @@ module _ (history : List Entry) (before : Before) (moment : ℕ) (i : IsIndexOf 
     why_not (errors.Corrupt key) kept new same l n f = absurd l.says
     why_not (errors.Foreign key) kept new same l n f = absurd l.says
     why_not errors.Full kept new same l n f = absurd l.says
+    why_not (errors.Expired planned_at reached) kept new same l n f = absurd l.says
     why_not errors.NoIndex kept new same l n f = absurd l.says
     why_not errors.IndexExists kept new same l n f = exists_made kept (journal_of l.after) new (subst (λ (w : Uncreated). Leaves before.input w first_core l.after) l.says l.leaves) n
     why_not (errors.BadConfig bad) kept new same l n f =

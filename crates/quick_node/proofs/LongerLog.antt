@@ -1,5 +1,5 @@
 -- An index over a log is one over each log that extends it: what its rows take of a log stands within its checkpoints.
-use Rattle.std.proofs.Common.{◌≡◌, ◌⊎◌, ℕ, ◌+◌, ◌-◌, ◌≤◌, ◌&&◌, Bool, true, false, List, [], ◌∷◌, ◌++◌, length, map, filter, flat_map, take, drop, All, refl, sym, ap, ◌∙◌, subst, inl, inr, cond, not, arith, nat_le, nat_lt, bytes_eq}
+use Rattle.std.proofs.Common.{◌≡◌, ◌⊎◌, ℕ, ◌+◌, ◌-◌, ◌≤◌, ◌&&◌, Bool, true, false, List, [], ◌∷◌, ◌++◌, length, map, filter, flat_map, take, drop, All, refl, sym, ap, ap₂, ◌∙◌, subst, inl, inr, cond, not, arith, nat_le, nat_lt, bytes_eq}
 use Rattle.std.proofs.lemmas.Bool.Decides.{nat_tests}
 use Rattle.std.proofs.lemmas.List.{length-append, take-append-le, drop-append-le, length-drop}
 use Rattle.std.proofs.lemmas.List.Elements.{All-head, All-tail, All-cons, All-nil, recursion_from_All, All-from_recursion}
@@ -128,12 +128,19 @@ module _ (log longer : Log) (is : IsLog log) (was : IsLog longer) (extends : Ext
       ap (λ l. l ++ flat_map (λ t. filter (is_kept meaning tasks t) (accepted_records config log)) spans) (kept_longer config tasks s h.0)
       ∙ ap (λ l. filter (is_kept meaning tasks s) (accepted_records config longer) ++ l) (spans_longer config tasks spans h.1)
 
-  sound_longer : (kept : State) (config : IndexConfig) (tasks : List KeptTask) (row : Row) → contents config tasks row log ≡ contents config tasks row longer → IsRowSound kept config tasks log row → IsRowSound kept config tasks longer row
-  sound_longer kept config tasks row e s = record {
+  ranges_within : (spans : List Span) → AllByRecursion (λ s. Within (range_of s)) spans → AllByRecursion Within (map range_of spans)
+  ranges_within [] h = tt
+  ranges_within (s ∷ spans) h = (h.0, ranges_within spans h.1)
+
+  sound_longer : (kept : State) (config : IndexConfig) (tasks : List KeptTask) (row : Row) → AllByRecursion (λ s. Within (range_of s)) row.spans → IsRowSound kept config tasks log row → IsRowSound kept config tasks longer row
+  sound_longer kept config tasks row within s = record {
     file = s.file ∙ ap (λ xs. Some (file_of config xs)) e;
-    facts = s.facts ∙ ap (λ xs. facts_of config xs (record_count (ranges_of row) - length xs)) e;
+    facts = s.facts ∙ ap₂ (λ xs ys. facts_of config xs (record_count (ranges_of row) - length ys)) e (in_longer config (ranges_of row) (ranges_within row.spans within));
     split = subst (AreSplit config) e s.split;
   }
+    where
+      e : contents config tasks row log ≡ contents config tasks row longer
+      e = spans_longer config tasks row.spans within
 
   -- ---- a late entry
 
@@ -272,8 +279,7 @@ module _ (kept : State) (entries : List Entry) (log longer : Log) (is : IsLog lo
           AllByRecursion (IsRowKept kept config l.tasks longer) all
       rows_longer config [] e h = tt
       rows_longer config (row ∷ all) e h = (
-        λ published. sound_longer log longer is was extends kept config l.tasks row
-            (spans_longer log longer is was extends config l.tasks row.spans (within_log row.spans (e.0 published))) (h.0 published),
+        λ published. sound_longer log longer is was extends kept config l.tasks row (within_log row.spans (e.0 published)) (h.0 published),
         rows_longer config all e.1 h.1,
       )
 

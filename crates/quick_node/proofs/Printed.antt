@@ -71,6 +71,7 @@ module _ (asked : Report) (history : List Entry) (before : Before) (after : Afte
   not_opened_0 (errors.Corrupt key) z = omega (arith, z)
   not_opened_0 (errors.Foreign key) z = omega (arith, z)
   not_opened_0 errors.Full z = omega (arith, z)
+  not_opened_0 (errors.Expired planned_at reached) z = omega (arith, z)
   not_opened_0 errors.NoIndex z = omega (arith, z)
   not_opened_0 errors.IndexExists z = omega (arith, z)
   not_opened_0 (errors.BadConfig bad) z = omega (arith, z)
@@ -101,6 +102,7 @@ module _ (asked : Report) (history : List Entry) (before : Before) (after : Afte
     unopened_some (errors.Corrupt key) n some = absurd n
     unopened_some (errors.Foreign key) n some = absurd n
     unopened_some errors.Full n some = absurd n
+    unopened_some (errors.Expired planned_at reached) n some = absurd n
     unopened_some errors.NoIndex n some = absurd (none_of_some history some n)
     unopened_some errors.IndexExists n some = absurd n
     unopened_some (errors.BadConfig bad) n some = absurd n
@@ -113,6 +115,7 @@ module _ (asked : Report) (history : List Entry) (before : Before) (after : Afte
     unopened_none (errors.Corrupt key) n = absurd n
     unopened_none (errors.Foreign key) n = absurd n
     unopened_none errors.Full n = absurd n
+    unopened_none (errors.Expired planned_at reached) n = absurd n
     unopened_none errors.NoIndex n = inl refl
     unopened_none errors.IndexExists n = absurd n
     unopened_none (errors.BadConfig bad) n = absurd n

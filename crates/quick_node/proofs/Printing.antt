@@ -35,6 +35,7 @@ unopened_landed before now (errors.Missing key) old new n = absurd n
 unopened_landed before now (errors.Corrupt key) old new n = found_landed _ old new n.2
 unopened_landed before now (errors.Foreign key) old new n = n.0
 unopened_landed before now errors.Full old new n = absurd n
+unopened_landed before now (errors.Expired planned_at reached) old new n = absurd n
 unopened_landed before now errors.NoIndex old new n = found_landed none_found old new n
 unopened_landed before now errors.IndexExists old new n = absurd n
 unopened_landed before now (errors.BadConfig bad) old new n = absurd n
@@ -127,6 +128,7 @@ module _ (asked : Report) (history : List Entry) (before : Before) (i : IsIndexO
   why_not (errors.Corrupt key) told count l f = absurd l.says
   why_not (errors.Foreign key) told count l f = absurd l.says
   why_not errors.Full told count l f = absurd l.says
+  why_not (errors.Expired planned_at reached) told count l f = absurd l.says
   why_not errors.NoIndex told count l f =
       none_of history (opening_found l.loads.fate first l.after (l.loads.did ∙ ap (λ (why : Unread). gives (Err why) l.after) l.says))
   why_not errors.IndexExists told count l f = absurd l.says

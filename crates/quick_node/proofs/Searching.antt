@@ -232,8 +232,8 @@ module _ (exit : List Entry) (log : Log) (least : ℕ) (knowns : List Known) (na
       StepWent (next_step luck log plan unfetched client core)
   next_went [] luck plan client core a r p = reply_went plan.revision (answer_of plan log core) client core a r.3 (answered plan client core a r p)
   next_went (number ∷ more) luck plan client core a r p =
-      let given = fetched_each luck.world luck.more core in
-      let h : length core.history ≤ length given.core.history = longer core given.core (each_moves luck.more luck.world core).later.grows in
+      let given = fetched_each plan.grace luck.world luck.more core in
+      let h : length core.history ≤ length given.core.history = longer core given.core (each_moves plan.grace luck.more luck.world core).later.grows in
       fetch_went given.answer plan number more client given.core
       (agrees-more exit least (length core.history) (length given.core.history) name (known_of name knowns) client h a)
       (r.0, r.1, r.2, omega (arith, r.3, h))

@@ -238,12 +238,12 @@ met_unread before fresh read write = record {
     none : Reads (length before.log_faults) before.input [] stopped
     none = none_from (length before.log_faults) (length before.input) 0 [] (raw_lines before.input)
 
-module _ (before : Before) (fresh last : Node) (moment : fresh.core.moment ≡ moment_of (history fresh.core.history)) (unsure : fresh.core.unsure ≡ false) (read write : ℕ) where
+module _ (before : Before) (fresh last : Node) (moment : fresh.core.moment ≡ moment_of (history fresh.core.history)) (unsure : fresh.core.unsure ≡ false) (marks : fresh.core.marks ≡ []) (read write : ℕ) where
   unopened : (why : Unread) → Opens fresh (Err why) last → Unopened fresh [] [] why last
   unopened why opens = record { no_lines = refl; no_outcomes = refl; opens = opens }
 
   unopened_short : (why : Unread) → Opens fresh (Err why) last → Lives before out_of_memory fresh [] [] last
-  unopened_short why opens = inr (inl (unopened (not_read no_memory) (opens_short fresh last why moment unsure opens)))
+  unopened_short why opens = inr (inl (unopened (not_read no_memory) (opens_short fresh last why moment unsure marks opens)))
 
   none_read : Reads (length before.log_faults) before.input [] stopped
   none_read = none_from (length before.log_faults) (length before.input) 0 [] (raw_lines before.input)
@@ -283,6 +283,7 @@ module _ (before : Before) (fresh last : Node) (moment : fresh.core.moment ≡ m
   met_unopened (errors.Corrupt key) why is opens = absurd is
   met_unopened (errors.Foreign key) why is opens = absurd is
   met_unopened errors.Full why is opens = absurd is
+  met_unopened (errors.Expired planned_at reached) why is opens = absurd is
   met_unopened errors.NoIndex why is opens = record {
     end = no_index;
     lines = [];

@@ -58,6 +58,7 @@ NotMade history before kept count exit (errors.Missing key) = ⊥
 NotMade history before kept count exit (errors.Corrupt key) = ⊥
 NotMade history before kept count exit (errors.Foreign key) = ⊥
 NotMade history before kept count exit errors.Full = ⊥
+NotMade history before kept count exit (errors.Expired planned_at reached) = ⊥
 NotMade history before kept count exit errors.NoIndex = ⊥
 NotMade history before kept count exit errors.IndexExists = (0 < length exit) × (before.kept.late ≡ [] → 0 < length history)
 NotMade history before kept count exit (errors.BadConfig error) = (history ≡ []) × (config_answer before.input ≡ Err error) × HasLanded before.kept kept

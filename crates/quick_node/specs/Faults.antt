@@ -1,7 +1,7 @@
 -- Which faults outcomes tell, by the counts before and after them.
 use Rattle.std.specs.Prelude.{ℕ, ◌≤◌, ◌==◌, List, [], ◌∷◌, if◌then◌else◌}
 use Rattle.byte_fields.specs.Causes.{Rose}
-use Rattle.index_world.specs.Calls.{Fault, store_fault, is_foreign, is_full}
+use Rattle.index_world.specs.Calls.{Fault, store_fault, is_foreign, is_full, is_expired}
 use Rattle.indexing_run.specs.Outcomes.{IndexerOutcome}
 use Rattle.indexing_run.specs.Outcomes as indexing
 use Rattle.root_search.specs.declared.outcome.SearchStep.{SearchStep}
@@ -28,6 +28,7 @@ abbrev pub fault_told : Fault → List Interval
 fault_told (store_fault before after) = record { low = before; high = after } ∷ []
 fault_told (is_foreign key) = []
 fault_told is_full = []
+fault_told (is_expired planned_at now) = []
 
 abbrev pub refusal_told : Refusal → List Interval
 refusal_told (StoreFault before after) = record { low = before; high = after } ∷ []

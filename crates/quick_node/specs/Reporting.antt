@@ -60,6 +60,7 @@ NotOpened history before count (errors.Missing key) = ⊥
 NotOpened history before count (errors.Corrupt key) = ⊥
 NotOpened history before count (errors.Foreign key) = ⊥
 NotOpened history before count errors.Full = ⊥
+NotOpened history before count (errors.Expired planned_at reached) = ⊥
 NotOpened history before count errors.NoIndex = history ≡ []
 NotOpened history before count errors.IndexExists = ⊥
 NotOpened history before count (errors.BadConfig bad) = ⊥

@@ -4,11 +4,14 @@ use crate::report_rows::REPORT_ROWS;
 use crate::script::ROWS;
 use crate::search_rows::SEARCH_ROWS;
 use crate::serving::serve_with_logs;
-use byte_fields::{Bytes, Client, MemorySink, MemorySource, Text};
+use byte_fields::{Bytes, Client, Failed, MemorySink, MemorySource, Text};
 use clock_time::ScriptClock;
 use index_world::{Direct, Gate, Unopened, World};
 use meta_journal::{Act, Entry, encode_entry, meta_key};
-use object_store::{Key, Landing, MemoryStore, ObjectStore};
+use object_store::{
+    CreateError, GetError, Key, Keys, Landing, ListError, MemoryStore, ObjectStore, Piece,
+    SteadyStore,
+};
 use root_search::{SearchStep, Searcher};
 use search_api::Said;
 use source_checkpoint::Partition;
@@ -328,18 +331,24 @@ fn rows_of_searches(rt: HostRuntime) -> Result<(), Fail> {
 const SCHEDULE: &str =
     "at 1000\nindexer 0\nindexer 0\nindexer 0\nindexer 0\nindexer 0\nindexer 0\nindexer 0\nindexer 0\nindexer 0\nindexer 0\nindexer 0\nindexer 0\nindexer 0\nindexer 0\nindexer 0\nindexer 0\nindexer 0\nindexer 0\nindexer 0\nindexer 0\nclient a {\"search\":{\"query\":\"red\"}}\nclient a\nclient a\nclient a\nclient a\nclient a\nclient a\nclient a\nclient a\n";
 
+// A log of three records, of which one is none of the index.
+fn fox_logs(alloc: Global) -> Result<Vec<MemoryLog>, Fail> {
+    let mut logs = Vec::new(alloc);
+    logs.push(MemoryLog::vacant(alloc))?;
+    for text in ["{\"body\":\"red fox\"}", "oops", "{\"body\":\"red hen\"}"] {
+        let rest = format!(in alloc; "p0 {text}")?;
+        add_record(alloc, &mut logs, rest.as_str())?;
+    }
+    Ok(logs)
+}
+
 // The store behind one run of the schedule, and whether its search found both records.
 fn lives<Rt: Threads + Wait + Sync>(
     rt: &Rt,
     alloc: Global,
     store: MemoryStore,
 ) -> Result<(MemoryStore, bool), Fail> {
-    let mut log = Vec::new(alloc);
-    log.push(MemoryLog::vacant(alloc))?;
-    for text in ["{\"body\":\"red fox\"}", "oops", "{\"body\":\"red hen\"}"] {
-        let rest = format!(in alloc; "p0 {text}")?;
-        add_record(alloc, &mut log, rest.as_str())?;
-    }
+    let log = fox_logs(alloc)?;
     let mut input = source_of(alloc, SCHEDULE.as_bytes())?;
     let mut output = MemorySink::with_room(alloc, 8192)?;
     let (finished, _) = serve_with_logs(
@@ -454,5 +463,115 @@ fn a_count_fetches_little(rt: HostRuntime) -> Result<(), Fail> {
     assert!(rt; fetched <= 79);
     assert_eq!(rt; second, 1);
     assert!(rt; fetched_again <= 45);
+    Ok(())
+}
+
+// A store that counts how many bytes it gave of split files. It tells nothing.
+#[derive(Drop)]
+struct CountedStore {
+    store: SteadyStore,
+    given: u64,
+}
+
+impl ObjectStore for CountedStore {
+    ghost use Rattle.std.specs.Prelude.{None};
+
+    ghost told = { λ _. None };
+
+    ghost fault_count = { λ _. 0 };
+
+    fn create(&mut self, alloc: Global, key: &Key, content: &[u8]) -> Result<(), CreateError> {
+        self.store.create(alloc, key, content)
+    }
+
+    fn get(&mut self, alloc: Global, key: &Key, from: u64, len: u64) -> Result<Piece, GetError> {
+        let piece = self.store.get(alloc, key, from, len)?;
+        if key.as_bytes().starts_with(b"splits/") {
+            self.given = self.given.saturating_add(piece.bytes.len() as u64);
+        }
+        Ok(piece)
+    }
+
+    fn delete(&mut self, key: &Key) -> Result<(), Failed> {
+        self.store.delete(key)
+    }
+
+    fn list(
+        &mut self,
+        alloc: Global,
+        prefix: &Key,
+        after: Option<&Key>,
+        max: u32,
+    ) -> Result<Keys, ListError> {
+        self.store.list(alloc, prefix, after, max)
+    }
+
+    fn faults(&self) -> u64 {
+        0
+    }
+}
+
+// What `serve` does of a schedule that publishes two of three records and then counts a word so often: how many replies count one
+// record, and how many bytes the store gave of split files.
+fn counts_served<Rt: Threads + Wait + Sync>(
+    rt: &Rt,
+    alloc: Global,
+    searches: u32,
+) -> Result<(u32, u64), Fail> {
+    let mut store = SteadyStore::vacant(alloc);
+    let bytes = new_entry(alloc)?;
+    store
+        .create(alloc, &meta_key(0), bytes.as_slice())
+        .map_err(|_| "no index")?;
+    let mut schedule = Vec::new(alloc);
+    for line in SCHEDULE
+        .lines()
+        .filter(|line: &&str| line.starts_with("indexer"))
+    {
+        add_line(&mut schedule, line)?;
+    }
+    for _ in 0..searches {
+        add_line(
+            &mut schedule,
+            "client a {\"search\":{\"query\":\"fox\",\"max_hits\":0}}",
+        )?;
+        for _ in 0..3 {
+            add_line(&mut schedule, "client a")?;
+        }
+    }
+    let mut input = source_of(alloc, schedule.as_slice())?;
+    let mut output = MemorySink::with_room(alloc, 8192)?;
+    let (finished, _) = serve_with_logs(
+        rt,
+        alloc,
+        one_word(alloc, "drive")?.as_slice(),
+        CountedStore { store, given: 0 },
+        faulty(alloc, fox_logs(alloc)?, None)?,
+        ScriptClock::at(1000),
+        &mut input,
+        &mut output,
+    );
+    let text = str::from_utf8(output.content().as_slice()).map_err(|_| "no text")?;
+    let mut replies = 0u32;
+    for line in text.lines() {
+        if line.contains("\"num_hits\":1,") {
+            replies = replies.saturating_add(1);
+        }
+    }
+    Ok((replies, finished.store.given))
+}
+
+// So few bytes of split files are asked of the store where `serve` counts a word, and again.
+#[test]
+fn a_count_on_serve_fetches_little(rt: HostRuntime) -> Result<(), Fail> {
+    let alloc = rt.alloc();
+    let (none, before) = counts_served(&rt, alloc, 0)?;
+    let (first, once) = counts_served(&rt, alloc, 1)?;
+    let (second, twice) = counts_served(&rt, alloc, 2)?;
+    assert_eq!(rt; none, 0);
+    assert_eq!(rt; first, 1);
+    assert_eq!(rt; second, 2);
+    assert!(rt; before < once && once <= before.saturating_add(79));
+    assert!(rt; once < twice && twice <= once.saturating_add(45));
     Ok(())
 }

@@ -3,7 +3,7 @@ use Rattle.std.proofs.Common.{◌≡◌, ℕ, ◌+◌, ◌≤◌, ◌<◌, min, 
 use Rattle.std.specs.Prelude.{⊤}
 use Rattle.std.proofs.lemmas.List.{append-nil}
 use Rattle.source_log.specs.Log.{Log}
-use Rattle.index_world.specs.Calls.{Gives, Trouble, fetched, gives}
+use Rattle.index_world.specs.Calls.{Gives, Grace, Trouble, fetched, gives}
 use Rattle.index_world.specs.Core.{Core}
 use Rattle.index_world.specs.Gate.{Does, IsPieceGiven, IsTrouble, Says, fetched_more, last_bytes}
 use Rattle.index_world.specs.World.{GoesOn}
@@ -38,25 +38,25 @@ left_of : (answer : Result ⊤ Trouble) (core mid : Core) (next : Core → Gives
 left_of (Ok done) core mid next e = (refl, e)
 left_of (Err trouble) core mid next e = let wrong : ◌≡◌ {A = Result ⊤ Trouble} (Err trouble) (Ok tt) = ap (λ (g : Gives Trouble ⊤). g.answer) e in absurd (cc)
 
-pub fetched_behind : (core mid : Core) (xs ys : List Passage) → fetched_at core xs ≡ gives (Ok tt) mid → fetched_at core (xs ++ ys) ≡ fetched_at mid ys
-fetched_behind core mid [] ys e = ap (λ (c : Core). fetched_at c ys) (ap (λ (g : Gives Trouble ⊤). g.core) e)
-fetched_behind core mid (passage ∷ xs) ys e =
-    let call = fetched passage.fate passage.core in
-    let l = left_of call.answer call.core mid (λ left. fetched_at left xs) e in
-    ap (λ (r : Result ⊤ Trouble). unless_fault r call.core (λ left. fetched_at left (xs ++ ys))) l.0 ∙ fetched_behind call.core mid xs ys l.1
+pub fetched_behind : (grace : Grace) (core mid : Core) (xs ys : List Passage) → fetched_at grace core xs ≡ gives (Ok tt) mid → fetched_at grace core (xs ++ ys) ≡ fetched_at grace mid ys
+fetched_behind grace core mid [] ys e = ap (λ (c : Core). fetched_at grace c ys) (ap (λ (g : Gives Trouble ⊤). g.core) e)
+fetched_behind grace core mid (passage ∷ xs) ys e =
+    let call = fetched grace passage.fate passage.core in
+    let l = left_of call.answer call.core mid (λ left. fetched_at grace left xs) e in
+    ap (λ (r : Result ⊤ Trouble). unless_fault r call.core (λ left. fetched_at grace left (xs ++ ys))) l.0 ∙ fetched_behind grace call.core mid xs ys l.1
 
-pub passed_more : (Between : Core → Core → Type 0) (core mid : Core) (xs ys : List Passage) → fetched_at core xs ≡ gives (Ok tt) mid → ArePassed Between core xs → ArePassed Between mid ys → ArePassed Between core (xs ++ ys)
-passed_more Between core mid [] ys e p q = subst (λ (c : Core). ArePassed Between c ys) (sym (ap (λ (g : Gives Trouble ⊤). g.core) e)) q
-passed_more Between core mid (passage ∷ xs) ys e p q =
-    let call = fetched passage.fate passage.core in
-    let l = left_of call.answer call.core mid (λ left. fetched_at left xs) e in
-    (p.0, passed_more Between call.core mid xs ys l.1 p.1 q)
+pub passed_more : (grace : Grace) (Between : Core → Core → Type 0) (core mid : Core) (xs ys : List Passage) → fetched_at grace core xs ≡ gives (Ok tt) mid → ArePassed grace Between core xs → ArePassed grace Between mid ys → ArePassed grace Between core (xs ++ ys)
+passed_more grace Between core mid [] ys e p q = subst (λ (c : Core). ArePassed grace Between c ys) (sym (ap (λ (g : Gives Trouble ⊤). g.core) e)) q
+passed_more grace Between core mid (passage ∷ xs) ys e p q =
+    let call = fetched grace passage.fate passage.core in
+    let l = left_of call.answer call.core mid (λ left. fetched_at grace left xs) e in
+    (p.0, passed_more grace Between call.core mid xs ys l.1 p.1 q)
 
 -- ---- the file of a row
 
 -- it stands on
 pub file_stands : (core after : Core) (plan : Plan) (place : ℕ) (bytes : List ℕ) → GoesOn None core after → IsFileAt core plan place bytes → IsFileAt after plan place bytes
-file_stands core after plan place bytes g f = record { row = f.row; stands = f.stands; uploaded = g.keeps.uploaded f.row.number bytes f.uploaded; size = f.size }
+file_stands core after plan place bytes g f = record { row = f.row; stands = f.stands; stored = g.keeps.stored f.row.number bytes f.stored; size = f.size }
 
 -- ---- the count of bytes
 
@@ -72,23 +72,28 @@ none_more error old new e = subst (λ (n : ℕ). n ≤ old + 0) (sym e) (omega a
 
 -- ---- so many fetches were made, and each gave something
 
-pub record Made {W : Type 0} (Stands : W → Core → Log → Type 0) (Between : Core → Core → Type 0) (bytes_fetched : W → ℕ) (core : Core) (log : Log) (many drawn : ℕ) (old new : W) : Type 0 where
+-- the same fetches, where their grace is the same
+pub graced : {W A : Type 0} (grace other : Grace) (Stands : W → Core → Log → Type 0) (Between : Core → Core → Type 0) (bytes_fetched : W → ℕ) (holds : A → ℕ → ℕ → Type 0) (r : Result A FetchError) (core : Core) (log : Log) (old new : W)
+    → grace ≡ other → FetchesAs grace Stands Between bytes_fetched holds r core log old new → FetchesAs other Stands Between bytes_fetched holds r core log old new
+graced grace other Stands Between bytes_fetched holds r core log old new e f = subst (λ (g : Grace). FetchesAs g Stands Between bytes_fetched holds r core log old new) e f
+
+pub record Made {W : Type 0} (grace : Grace) (Stands : W → Core → Log → Type 0) (Between : Core → Core → Type 0) (bytes_fetched : W → ℕ) (core : Core) (log : Log) (many drawn : ℕ) (old new : W) : Type 0 where
   pub passages : List Passage
-  pub passed : ArePassed Between core passages
+  pub passed : ArePassed grace Between core passages
   pub after : Core
-  pub did : fetched_at core passages ≡ gives (Ok tt) after
+  pub did : fetched_at grace core passages ≡ gives (Ok tt) after
   pub many_are : length passages ≡ many
   pub counted : bytes_fetched new ≤ bytes_fetched old + drawn
   pub goes_on : GoesOn None core after
   pub stands : Stands new after log
 
-module _ {W : Type 0} (Stands : W → Core → Log → Type 0) (Between : Core → Core → Type 0) (bytes_fetched : W → ℕ) (core : Core) (log : Log) (old : W) where
-  pub none_made : Stands old core log → Made Stands Between bytes_fetched core log 0 0 old old
+module _ {W : Type 0} (grace : Grace) (Stands : W → Core → Log → Type 0) (Between : Core → Core → Type 0) (bytes_fetched : W → ℕ) (core : Core) (log : Log) (old : W) where
+  pub none_made : Stands old core log → Made grace Stands Between bytes_fetched core log 0 0 old old
   none_made stands = record { passages = []; passed = tt; after = core; did = refl; many_are = refl; counted = omega arith; goes_on = on_refl core; stands = stands }
 
   -- fetches that gave something
-  pub made_of : {A : Type 0} (holds : A → ℕ → ℕ → Type 0) (a : A) (many drawn : ℕ) (new : W) → (f : FetchesAs Stands Between bytes_fetched holds (Ok a) core log old new) → length f.passages ≡ many → f.drawn ≤ drawn
-      → Made Stands Between bytes_fetched core log many drawn old new
+  pub made_of : {A : Type 0} (holds : A → ℕ → ℕ → Type 0) (a : A) (many drawn : ℕ) (new : W) → (f : FetchesAs grace Stands Between bytes_fetched holds (Ok a) core log old new) → length f.passages ≡ many → f.drawn ≤ drawn
+      → Made grace Stands Between bytes_fetched core log many drawn old new
   made_of holds a many drawn new f many_are few =
       let count = f.count in
       record {
@@ -103,12 +108,12 @@ module _ {W : Type 0} (Stands : W → Core → Log → Type 0) (Between : Core �
       }
 
   -- the same fetches, of which more bytes are said at most
-  pub made_as : (many drawn most : ℕ) (new : W) → drawn ≤ most → Made Stands Between bytes_fetched core log many drawn old new → Made Stands Between bytes_fetched core log many most old new
+  pub made_as : (many drawn most : ℕ) (new : W) → drawn ≤ most → Made grace Stands Between bytes_fetched core log many drawn old new → Made grace Stands Between bytes_fetched core log many most old new
   made_as many drawn most new le m =
       let counted = m.counted in
       record { passages = m.passages; passed = m.passed; after = m.after; did = m.did; many_are = m.many_are; counted = omega (arith, counted, le); goes_on = m.goes_on; stands = m.stands }
 
-  pub all_done : {A : Type 0} (holds : A → ℕ → ℕ → Type 0) (a : A) (many drawn : ℕ) (new : W) → Made Stands Between bytes_fetched core log many drawn old new → holds a many drawn → FetchesAs Stands Between bytes_fetched holds (Ok a) core log old new
+  pub all_done : {A : Type 0} (holds : A → ℕ → ℕ → Type 0) (a : A) (many drawn : ℕ) (new : W) → Made grace Stands Between bytes_fetched core log many drawn old new → holds a many drawn → FetchesAs grace Stands Between bytes_fetched holds (Ok a) core log old new
   all_done holds a many drawn new m h =
       record {
         passages = m.passages;
@@ -124,8 +129,8 @@ module _ {W : Type 0} (Stands : W → Core → Log → Type 0) (Between : Core �
       }
 
   -- no memory is found behind them
-  pub all_short : {A : Type 0} (holds : A → ℕ → ℕ → Type 0) (r : Result A FetchError) (e : FetchError) (many drawn : ℕ) (new : W) → Made Stands Between bytes_fetched core log many drawn old new → IsErrAnd r (λ y. y ≡ e) → WantsRoom e
-      → FetchesAs Stands Between bytes_fetched holds r core log old new
+  pub all_short : {A : Type 0} (holds : A → ℕ → ℕ → Type 0) (r : Result A FetchError) (e : FetchError) (many drawn : ℕ) (new : W) → Made grace Stands Between bytes_fetched core log many drawn old new → IsErrAnd r (λ y. y ≡ e) → WantsRoom e
+      → FetchesAs grace Stands Between bytes_fetched holds r core log old new
   all_short holds (Ok a) e many drawn new m h room = absurd h
   all_short holds (Err (Memory refused)) e many drawn new m h room =
       record { passages = m.passages; passed = m.passed; answer = Ok tt; after = m.after; did = m.did; drawn = drawn; count = m.counted; says = tt; goes_on = m.goes_on; stands = m.stands }
@@ -133,17 +138,17 @@ module _ {W : Type 0} (Stands : W → Core → Log → Type 0) (Between : Core �
   all_short holds (Err Corrupt) e many drawn new m h room = absurd (subst WantsRoom (sym h) room)
 
   -- further fetches, with what they say
-  pub then_fetched : {A : Type 0} (first holds : A → ℕ → ℕ → Type 0) (r : Result A FetchError) (many drawn : ℕ) (mid new : W) → (m : Made Stands Between bytes_fetched core log many drawn old mid)
-      → ((x : A) (n d : ℕ) → first x n d → holds x (many + n) (drawn + d)) → FetchesAs Stands Between bytes_fetched first r m.after log mid new → FetchesAs Stands Between bytes_fetched holds r core log old new
+  pub then_fetched : {A : Type 0} (first holds : A → ℕ → ℕ → Type 0) (r : Result A FetchError) (many drawn : ℕ) (mid new : W) → (m : Made grace Stands Between bytes_fetched core log many drawn old mid)
+      → ((x : A) (n d : ℕ) → first x n d → holds x (many + n) (drawn + d)) → FetchesAs grace Stands Between bytes_fetched first r m.after log mid new → FetchesAs grace Stands Between bytes_fetched holds r core log old new
   then_fetched first holds r many drawn mid new m more f =
       let before = m.counted in
       let behind = f.count in
       record {
         passages = m.passages ++ f.passages;
-        passed = passed_more Between core m.after m.passages f.passages m.did m.passed f.passed;
+        passed = passed_more grace Between core m.after m.passages f.passages m.did m.passed f.passed;
         answer = f.answer;
         after = f.after;
-        did = fetched_behind core m.after m.passages f.passages m.did ∙ f.did;
+        did = fetched_behind grace core m.after m.passages f.passages m.did ∙ f.did;
         drawn = drawn + f.drawn;
         count = omega (arith, before, behind);
         says = subst (λ (n : ℕ). SaysFetched holds n (drawn + f.drawn) r f.answer) (sym (length-append m.passages f.passages ∙ ap (λ (n : ℕ). n + length f.passages) m.many_are)) (widen r f.says);
@@ -158,8 +163,8 @@ module _ {W : Type 0} (Stands : W → Core → Log → Type 0) (Between : Core �
       widen (Err Corrupt) s = s
 
   -- the same fetches, of which other things are said
-  pub widened : {A : Type 0} (first holds : A → ℕ → ℕ → Type 0) (r : Result A FetchError) (new : W) → ((x : A) (n d : ℕ) → first x n d → holds x n d) → FetchesAs Stands Between bytes_fetched first r core log old new
-      → FetchesAs Stands Between bytes_fetched holds r core log old new
+  pub widened : {A : Type 0} (first holds : A → ℕ → ℕ → Type 0) (r : Result A FetchError) (new : W) → ((x : A) (n d : ℕ) → first x n d → holds x n d) → FetchesAs grace Stands Between bytes_fetched first r core log old new
+      → FetchesAs grace Stands Between bytes_fetched holds r core log old new
   widened first holds r new more f =
       record { passages = f.passages; passed = f.passed; answer = f.answer; after = f.after; did = f.did; drawn = f.drawn; count = f.count; says = widen r f.says; goes_on = f.goes_on; stands = f.stands }
     where
@@ -170,14 +175,14 @@ module _ {W : Type 0} (Stands : W → Core → Log → Type 0) (Between : Core �
       widen (Err Corrupt) s = s
 
   -- what is made of what was fetched
-  pub of_match : {A : Type 0} (good : A → Type 0) (holds : A → ℕ → ℕ → Type 0) (r : Result A FetchError) (many drawn : ℕ) (new : W) → Made Stands Between bytes_fetched core log many drawn old new → MatchResult r good WantsRoom
-      → ((a : A) → good a → holds a many drawn) → FetchesAs Stands Between bytes_fetched holds r core log old new
+  pub of_match : {A : Type 0} (good : A → Type 0) (holds : A → ℕ → ℕ → Type 0) (r : Result A FetchError) (many drawn : ℕ) (new : W) → Made grace Stands Between bytes_fetched core log many drawn old new → MatchResult r good WantsRoom
+      → ((a : A) → good a → holds a many drawn) → FetchesAs grace Stands Between bytes_fetched holds r core log old new
   of_match good holds (Ok a) many drawn new m h have = all_done holds a many drawn new m (have a h)
   of_match good holds (Err e) many drawn new m h have = all_short holds (Err e) e many drawn new m refl h
 
   -- a fault of fetches that is handed on
-  pub handed_on : {A B : Type 0} (first : A → ℕ → ℕ → Type 0) (holds : B → ℕ → ℕ → Type 0) (e : FetchError) (r : Result B FetchError) (new : W) → IsErrAnd r (λ y. y ≡ e) → FetchesAs Stands Between bytes_fetched first (Err e) core log old new
-      → FetchesAs Stands Between bytes_fetched holds r core log old new
+  pub handed_on : {A B : Type 0} (first : A → ℕ → ℕ → Type 0) (holds : B → ℕ → ℕ → Type 0) (e : FetchError) (r : Result B FetchError) (new : W) → IsErrAnd r (λ y. y ≡ e) → FetchesAs grace Stands Between bytes_fetched first (Err e) core log old new
+      → FetchesAs grace Stands Between bytes_fetched holds r core log old new
   handed_on first holds e (Ok b) new h f = absurd h
   handed_on first holds e (Err y) new h f =
       record {
@@ -199,23 +204,23 @@ module _ {W : Type 0} (Stands : W → Core → Log → Type 0) (Between : Core �
       fault Corrupt s = s
 
   -- fetches behind others
-  pub then_made : (many drawn more further : ℕ) (mid new : W) → (m : Made Stands Between bytes_fetched core log many drawn old mid) → Made Stands Between bytes_fetched m.after log more further mid new
-      → Made Stands Between bytes_fetched core log (many + more) (drawn + further) old new
+  pub then_made : (many drawn more further : ℕ) (mid new : W) → (m : Made grace Stands Between bytes_fetched core log many drawn old mid) → Made grace Stands Between bytes_fetched m.after log more further mid new
+      → Made grace Stands Between bytes_fetched core log (many + more) (drawn + further) old new
   then_made many drawn more further mid new m n =
       let before = m.counted in
       let behind = n.counted in
       record {
         passages = m.passages ++ n.passages;
-        passed = passed_more Between core m.after m.passages n.passages m.did m.passed n.passed;
+        passed = passed_more grace Between core m.after m.passages n.passages m.did m.passed n.passed;
         after = n.after;
-        did = fetched_behind core m.after m.passages n.passages m.did ∙ n.did;
+        did = fetched_behind grace core m.after m.passages n.passages m.did ∙ n.did;
         many_are = length-append m.passages n.passages ∙ (ap (λ (k : ℕ). k + length n.passages) m.many_are ∙ ap (λ (k : ℕ). many + k) n.many_are);
         counted = omega (arith, before, behind);
         goes_on = on_trans core m.after n.after m.goes_on n.goes_on;
         stands = n.stands;
       }
 
-module _ {W : Type 0} (Stands : W → Core → Log → Type 0) (Between : Core → Core → Type 0) (bytes_fetched : W → ℕ) (core : Core) (log : Log) (old : W) where
+module _ {W : Type 0} (grace : Grace) (Stands : W → Core → Log → Type 0) (Between : Core → Core → Type 0) (bytes_fetched : W → ℕ) (core : Core) (log : Log) (old : W) where
   abbrev last_left : Core → Gives Trouble ⊤
   last_left left = gives (Ok tt) left
 
@@ -231,8 +236,8 @@ module _ {W : Type 0} (Stands : W → Core → Log → Type 0) (Between : Core �
   taken_few bytes taken from len e = omega (arith, ap (λ (l : List ℕ). length l) e, length-take len (drop from bytes))
 
   -- one fetch of the gate
-  pub one_fetched : (bytes : List ℕ) (from len start : ℕ) (piece : Piece) (new : W) → Does Stands Between None fetched IsTrouble (IsPieceGiven bytes from len) (Ok piece) core log new
-      → bytes_fetched new ≡ fetched_more (Ok piece) (bytes_fetched old) → start ≡ min from piece.size → FetchesAs Stands Between bytes_fetched (IsPieceFetched bytes from len) (Ok (record { start = start; bytes = piece.bytes })) core log old new
+  pub one_fetched : (bytes : List ℕ) (from len start : ℕ) (piece : Piece) (new : W) → Does Stands Between None (fetched grace) IsTrouble (IsPieceGiven bytes from len) (Ok piece) core log new
+      → bytes_fetched new ≡ fetched_more (Ok piece) (bytes_fetched old) → start ≡ min from piece.size → FetchesAs grace Stands Between bytes_fetched (IsPieceFetched bytes from len) (Ok (record { start = start; bytes = piece.bytes })) core log old new
   one_fetched bytes from len start piece new d count at =
       let ok = ok_of (IsPieceGiven bytes from len) piece d.answer d.after d.says in
       record {
@@ -248,8 +253,8 @@ module _ {W : Type 0} (Stands : W → Core → Log → Type 0) (Between : Core �
         stands = d.stands;
       }
 
-  pub one_failed : (bytes : List ℕ) (from len : ℕ) (error : WorldError) (new : W) → Does Stands Between None fetched IsTrouble (IsPieceGiven bytes from len) (Err error) core log new
-      → bytes_fetched new ≡ fetched_more (Err error) (bytes_fetched old) → FetchesAs Stands Between bytes_fetched (IsPieceFetched bytes from len) (Err (World error)) core log old new
+  pub one_failed : (bytes : List ℕ) (from len : ℕ) (error : WorldError) (new : W) → Does Stands Between None (fetched grace) IsTrouble (IsPieceGiven bytes from len) (Err error) core log new
+      → bytes_fetched new ≡ fetched_more (Err error) (bytes_fetched old) → FetchesAs grace Stands Between bytes_fetched (IsPieceFetched bytes from len) (Err (World error)) core log old new
   one_failed bytes from len error new d count =
       let err = err_of (IsPieceGiven bytes from len) error d.answer d.after d.says in
       record {
@@ -266,20 +271,20 @@ module _ {W : Type 0} (Stands : W → Core → Log → Type 0) (Between : Core �
       }
 
   -- fetches behind others, as many and as few bytes as what they say
-  pub then_given : {A : Type 0} (holds : A → ℕ → ℕ → Type 0) (a : A) (many drawn more further : ℕ) (mid new : W) → (m : Made Stands Between bytes_fetched core log many drawn old mid)
-      → (f : FetchesAs Stands Between bytes_fetched holds (Ok a) m.after log mid new) → length f.passages ≡ more → f.drawn ≤ further → Made Stands Between bytes_fetched core log (many + more) (drawn + further) old new
+  pub then_given : {A : Type 0} (holds : A → ℕ → ℕ → Type 0) (a : A) (many drawn more further : ℕ) (mid new : W) → (m : Made grace Stands Between bytes_fetched core log many drawn old mid)
+      → (f : FetchesAs grace Stands Between bytes_fetched holds (Ok a) m.after log mid new) → length f.passages ≡ more → f.drawn ≤ further → Made grace Stands Between bytes_fetched core log (many + more) (drawn + further) old new
   then_given holds a many drawn more further mid new m f calls few =
-      then_made Stands Between bytes_fetched core log old many drawn more further mid new m (made_of Stands Between bytes_fetched m.after log mid holds a more further new f calls few)
+      then_made grace Stands Between bytes_fetched core log old many drawn more further mid new m (made_of grace Stands Between bytes_fetched m.after log mid holds a more further new f calls few)
 
   -- a fault of fetches behind others
-  pub then_failed : {A B : Type 0} (first : A → ℕ → ℕ → Type 0) (holds : B → ℕ → ℕ → Type 0) (e : FetchError) (r : Result B FetchError) (many drawn : ℕ) (mid new : W) → (m : Made Stands Between bytes_fetched core log many drawn old mid)
-      → IsErrAnd r (λ y. y ≡ e) → FetchesAs Stands Between bytes_fetched first (Err e) m.after log mid new → FetchesAs Stands Between bytes_fetched holds r core log old new
+  pub then_failed : {A B : Type 0} (first : A → ℕ → ℕ → Type 0) (holds : B → ℕ → ℕ → Type 0) (e : FetchError) (r : Result B FetchError) (many drawn : ℕ) (mid new : W) → (m : Made grace Stands Between bytes_fetched core log many drawn old mid)
+      → IsErrAnd r (λ y. y ≡ e) → FetchesAs grace Stands Between bytes_fetched first (Err e) m.after log mid new → FetchesAs grace Stands Between bytes_fetched holds r core log old new
   then_failed first holds e r many drawn mid new m h f =
-      then_fetched Stands Between bytes_fetched core log old (λ b n d. ⊥) holds r many drawn mid new m (λ b n d never. absurd never) (handed_on Stands Between bytes_fetched m.after log mid first (λ b n d. ⊥) e r new h f)
+      then_fetched grace Stands Between bytes_fetched core log old (λ b n d. ⊥) holds r many drawn mid new m (λ b n d never. absurd never) (handed_on grace Stands Between bytes_fetched m.after log mid first (λ b n d. ⊥) e r new h f)
 
 -- ---- why nothing was fetched
 
 -- a call did not
-pub some_passages : (core : Core) (passages : List Passage) (answer : Result ⊤ Trouble) (after : Core) (trouble : Trouble) → fetched_at core passages ≡ gives answer after → answer ≡ Err trouble → 0 < length passages
-some_passages core [] answer after trouble did e = let wrong : ◌≡◌ {A = Result ⊤ Trouble} (Ok tt) (Err trouble) = ap (λ (g : Gives Trouble ⊤). g.answer) did ∙ e in absurd (cc)
-some_passages core (passage ∷ more) answer after trouble did e = omega arith
+pub some_passages : (grace : Grace) (core : Core) (passages : List Passage) (answer : Result ⊤ Trouble) (after : Core) (trouble : Trouble) → fetched_at grace core passages ≡ gives answer after → answer ≡ Err trouble → 0 < length passages
+some_passages grace core [] answer after trouble did e = let wrong : ◌≡◌ {A = Result ⊤ Trouble} (Ok tt) (Err trouble) = ap (λ (g : Gives Trouble ⊤). g.answer) did ∙ e in absurd (cc)
+some_passages grace core (passage ∷ more) answer after trouble did e = omega arith

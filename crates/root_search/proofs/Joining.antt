@@ -1,5 +1,5 @@
 -- The answers of splits, joined one after the other, are the answer over their documents.
-use Rattle.std.proofs.Common.{◌≡◌, ℕ, zero, suc, ◌+◌, ◌<◌, ◌≤◌, ◌^◌, List, [], ◌∷◌, ◌++◌, length, drop, sum_by, slice_get, Some, Result, Ok, Err, IfOk, MatchResult, refl, ap, sym, subst, ◌∙◌, arith, add-one, append_assoc, length-append}
+use Rattle.std.proofs.Common.{◌≡◌, ℕ, zero, suc, ◌+◌, ◌<◌, ◌≤◌, ◌^◌, List, [], ◌∷◌, ◌++◌, length, drop, sum_by, slice_get, Some, Result, Ok, Err, IfOk, IsOk, MatchResult, refl, ap, sym, subst, ◌∙◌, arith, add-one, append_assoc, length-append}
 use Rattle.std.specs.List.{All, AllByRecursion, AllZip}
 use Rattle.std.specs.Result.{IfErr}
 use Rattle.std.proofs.lemmas.List.{append-nil}
@@ -16,7 +16,7 @@ use Rattle.leaf_search.specs.Answers.{AsksLeaf, IsAnswerOf, IsAsked, found, pass
 use Rattle.leaf_search.specs.declared.request.LeafAnswer.{LeafAnswer}
 use Rattle.leaf_search.specs.declared.request.LeafRequest.{LeafRequest}
 use Rattle.leaf_search.proofs.Suffices.{held_memory}
-use Rattle.root_search.specs.Leaves.{HasAsked, HasCauseIn, IsCounted, IsFaultIn, IsFull, IsLeafAnswer, IsViewOf, IsWholeViewOf, WantsMemory, all_of, count_in, placed_fault}
+use Rattle.root_search.specs.Leaves.{HasAsked, HasCauseIn, IsCounted, IsFaultIn, IsFull, IsJoinOf, IsLeafAnswer, IsNoLeaf, IsRefusedIn, IsViewOf, IsWholeViewOf, WantsMemory, all_of, count_in, placed_fault}
 use Rattle.root_search.specs.declared.splits_error.SplitsError.{SplitsError}
 use Rattle.root_search.specs.declared.splits_error.SplitsError.TheVariants.{Corrupt, Memory, Missing, TooMany}
 
@@ -58,6 +58,9 @@ pub record IsJoining (r : LeafRequest) (answers left : List (Result LeafAnswer L
   pub rest : drop place answers ≡ left
   pub within : place + length left ≡ length answers
   pub sum : all.count + sum_by count_in left ≡ sum_by count_in answers
+  pub front : List (Result LeafAnswer LeafError)
+  pub answered : AllByRecursion IsOk front
+  pub parts : front ++ left ≡ answers
   pub only : (s : Schema) (lists : List (List Placed)) → AreAnswers s r answers lists → IsJoined s r left lists all
 
 pub joining_begun : (r : LeafRequest) (answers left : List (Result LeafAnswer LeafError)) (all : LeafAnswer) → left ≡ answers → All (λ answer. IfOk answer (IsCounted r)) answers → IsCounted r all → all.count ≡ 0
@@ -69,6 +72,9 @@ joining_begun r answers left all e good counted none only =
       rest = sym e;
       within = omega (arith, ap length e);
       sum = omega (arith, ap (sum_by count_in) e, none);
+      front = [];
+      answered = tt;
+      parts = e;
       only = λ s lists h. record {
         prior = [];
         later = lists;
@@ -93,6 +99,10 @@ joined_more s r left lists all next all' j add = go j.later j.zipped j.joined
           joined = append_assoc j.prior documents (all_of later) ∙ e;
         }
 
+all_answered : (front : List (Result LeafAnswer LeafError)) (next : LeafAnswer) → AllByRecursion IsOk front → AllByRecursion IsOk (front ++ Ok next ∷ [])
+all_answered [] next h = (refl, tt)
+all_answered (x ∷ front) next h = (h.0, all_answered front next h.1)
+
 pub joining_more : (r : LeafRequest) (answers left left' : List (Result LeafAnswer LeafError)) (place : ℕ) (all next all' : LeafAnswer) → IsJoining r answers left place all → left ≡ Ok next ∷ left' → IsCounted r all' → all'.count ≡ all.count + next.count
     → ((s : Schema) (xs ys : List Placed) → IsAnswerOf s r xs all → IsAnswerOf s r ys next → IsAnswerOf s r (xs ++ ys) all') → IsJoining r answers left' (place + 1) all'
 joining_more r answers left left' place all next all' j e counted count add =
@@ -104,6 +114,9 @@ joining_more r answers left left' place all next all' j e counted count add =
       rest = rw add-one (drop_next place answers (Ok next) left' (j.rest ∙ e));
       within = omega (arith, long, j.within);
       sum = omega (arith, more, j.sum, count);
+      front = j.front ++ Ok next ∷ [];
+      answered = all_answered j.front next j.answered;
+      parts = append_assoc j.front (Ok next ∷ []) left' ∙ (ap (λ (l : List (Result LeafAnswer LeafError)). j.front ++ l) (sym e) ∙ j.parts);
       only = λ s lists h. joined_more s r left' lists all next all' (subst (λ ls. IsJoined s r ls lists all) e (j.only s lists h)) (add s);
     }
 
@@ -122,6 +135,15 @@ all_joined r answers left place all j none s lists h = go _ (subst (λ ls. AreAn
     go : (later : List (List Placed)) → AreAnswers s r [] later → joined.prior ++ all_of later ≡ all_of lists → IsAnswerOf s r (all_of lists) all
     go [] zipped e = subst (λ ds. IsAnswerOf s r ds all) (sym (append-nil joined.prior) ∙ e) joined.answer
     go (documents ∷ later) zipped e = absurd zipped
+
+-- each of them answered
+pub each_joined : (r : LeafRequest) (answers left : List (Result LeafAnswer LeafError)) (place : ℕ) (all : LeafAnswer) → IsJoining r answers left place all → left ≡ [] → AllByRecursion IsOk answers × (all.count ≡ sum_by count_in answers)
+each_joined r answers left place all j none =
+    let rest : sum_by count_in left ≡ 0 = ap (sum_by count_in) none in
+    let sum = j.sum in (
+      subst (AllByRecursion IsOk) (sym (append-nil j.front) ∙ (ap (λ (l : List (Result LeafAnswer LeafError)). j.front ++ l) (sym none) ∙ j.parts)) j.answered,
+      omega (arith, sum, rest),
+    )
 
 -- ---- faults
 
@@ -321,3 +343,38 @@ pub asked_searched : (s : Schema) (r : LeafRequest) (views : List PartView) (lis
     → MatchResult result (IsAnswerOf s r (all_of lists)) WantsMemory
 asked_searched s r views lists answers (Ok a) leaves ok err are few asked = ok lists (are_answers s r views lists answers leaves (asked_views s r views lists are) asked)
 asked_searched s r views lists answers (Err e) leaves ok err are few asked = asked_cause s r views lists answers e leaves are few asked err
+
+-- ---- any views
+
+-- the view of the leaf that answered at a place
+view_at : (s : Schema) (r : LeafRequest) (views : List PartView) (answers : List (Result LeafAnswer LeafError)) (place : ℕ) (fault : LeafError) → AllZip (IsLeafAnswer s r) views answers → slice_get answers place ≡ Some (Err fault)
+    → (view : PartView) × (slice_get views place ≡ Some view) × IsLeafAnswer s r view (Err fault)
+view_at s r [] [] place fault leaves h = absurd (cc)
+view_at s r [] (a ∷ answers) place fault leaves h = absurd leaves
+view_at s r (v ∷ views) [] place fault leaves h = absurd leaves
+view_at s r (v ∷ views) (a ∷ answers) zero fault leaves h =
+    let here : a ≡ Err fault = cc in
+    (v, refl, subst (IsLeafAnswer s r v) here leaves.0)
+view_at s r (v ∷ views) (a ∷ answers) (suc place) fault leaves h = view_at s r views answers place fault leaves.1 h
+
+no_leaf : (s : Schema) (r : LeafRequest) (views : List PartView) (answers : List (Result LeafAnswer LeafError)) (place : ℕ) (fault : LeafError) → (IsMemory fault → ⊥) → AllZip (IsLeafAnswer s r) views answers → slice_get answers place ≡ Some (Err fault)
+    → IsNoLeaf s r views place
+no_leaf s r views answers place fault other leaves h =
+    let there = view_at s r views answers place fault leaves h in
+    record {
+      view = there.0;
+      seen = there.1;
+      none = λ documents asked has. other (held_memory (AsksLeaf there.0 s documents has.parts r) there.0.pieces fault has.held (there.2.only documents has.parts has.is_part asked));
+    }
+
+pub refused_in : (s : Schema) (r : LeafRequest) (views : List PartView) (answers : List (Result LeafAnswer LeafError)) (result : Result LeafAnswer SplitsError) → AllZip (IsLeafAnswer s r) views answers → IfErr result (IsFaultIn answers) → IfErr result (IsRefusedIn s r views)
+refused_in s r views answers (Ok a) leaves h = tt
+refused_in s r views answers (Err (Memory a)) leaves h = tt
+refused_in s r views answers (Err (Missing place at)) leaves h = no_leaf s r views answers place (leaf.Missing at) (λ never. never) leaves h
+refused_in s r views answers (Err (Corrupt place section)) leaves h = no_leaf s r views answers place (leaf.Corrupt section) (λ never. never) leaves h
+refused_in s r views answers (Err TooMany) leaves h = tt
+
+pub join_of : (s : Schema) (r : LeafRequest) (views : List PartView) (answers : List (Result LeafAnswer LeafError)) (result : Result LeafAnswer SplitsError) → AllZip (IsLeafAnswer s r) views answers
+    → IfOk result (λ all. AllByRecursion IsOk answers × (all.count ≡ sum_by count_in answers)) → IfOk result (IsJoinOf s r views)
+join_of s r views answers (Ok all) leaves h = record { answers = answers; are_leaves = leaves; answered = h.0; count = h.1 }
+join_of s r views answers (Err e) leaves h = tt

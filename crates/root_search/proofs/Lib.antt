@@ -9,6 +9,9 @@ pub mod Zipped
 pub mod SameFooters
 pub mod PartViews
 pub mod Fetches
+pub mod CallsMade
+pub mod RowReads
+pub mod Unread
 pub mod Tails
 pub mod Kept
 pub mod Parting

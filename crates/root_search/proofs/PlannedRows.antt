@@ -25,8 +25,8 @@ use Rattle.split_form.specs.Form as form
 use Rattle.index_config.specs.declared.config.IndexConfig.{IndexConfig}
 use Rattle.index_world.specs.Config.{reads}
 use Rattle.index_world.specs.Configuration.{index_of}
-use Rattle.index_world.specs.Core.{Core, IsConfigured, IsUploadedIn}
-use Rattle.index_world.specs.Gate.{IsSoundCore, IsPlan}
+use Rattle.index_world.specs.Core.{Core, IsConfigured, IsStoredIn}
+use Rattle.index_world.specs.Gate.{IsSoundCore, IsPlan, grace_of}
 use Rattle.index_world.specs.SplitFile.{AreSplit, file_of}
 use Rattle.index_world.specs.World.{GoesOn}
 use Rattle.index_world.proofs.Indexing.{All-get}
@@ -47,7 +47,7 @@ use Rattle.root_search.specs.declared.searcher.Request.TheVariants as given
 use Rattle.root_search.specs.declared.searcher.Searcher.{Searcher}
 use Rattle.root_search.specs.declared.split_parts.SplitPart.{SplitPart}
 use Rattle.root_search.specs.Searching.{IsInHand, history_at, rows_at, documents_at, IsPlanned, IsAtWork, Ends}
-use Rattle.root_search.specs.Steps.{Plan, Client, config_at, config_in, planned_numbers, with_plan}
+use Rattle.root_search.specs.Steps.{Plan, Client, config_at, config_in, grace_at, planned_numbers, with_plan}
 use Rattle.root_search.proofs.Zipped.{zip_last}
 use Rattle.root_search.proofs.Stands.{rows_seen, config_seen, planned_goes_on, sound_in_hand, config_is, configured_is}
 
@@ -75,13 +75,14 @@ plan_ends searcher client search read held count config after log s configured p
         front = w.front;
         footers = w.footers;
         request = (
-          record { search = search; revision = length after.history; unfetched = planned_numbers (config_in after) search (history after.history) },
+          record { search = search; revision = length after.history; grace = grace_at (config_in after) after.moment; unfetched = planned_numbers (config_in after) search (history after.history) },
           refl,
           record {
             asks = subst (λ (ask : LeafAsk). Asks search ask) (sym same) r.asks;
             asked = subst (λ (ask : LeafAsk). IsAsked (config_at (length after.history) after).schema ask.request) (sym same)
                 (subst (λ (c : IndexConfig). IsAsked c.schema read.ask.request) (sym (ap config_seen all ∙ is)) r.asked);
             revision = p.revision;
+            grace = ap₂ grace_at (sym (ap config_seen all)) (sym p.moment);
             rows = chosen ∙ ap (map planned_row) (sym (ap (λ (seen : List Entry). rows_seen seen search) all));
             place = omega (arith, first);
             unfetched = sym (ap (λ (n : ℕ). map (λ (row : PlanRow). row.number) (drop n held.plan.rows)) first ∙ (ap (map (λ (row : PlanRow). row.number)) chosen ∙ numbers_are list));
@@ -115,7 +116,7 @@ pub record IsNext (held : GivenPlan) (plan : Plan) (core : Core) (log : Log) (nu
   pub row : Row
   pub stands : slice_get (rows_at plan.revision plan.search core) held.next ≡ Some row
   pub same : row.number ≡ number
-  pub uploaded : IsUploadedIn core number (file_of (config_at plan.revision core) (documents_at plan.revision core log row))
+  pub uploaded : IsStoredIn core number (file_of (config_at plan.revision core) (documents_at plan.revision core log row))
   pub long : size ≡ length (file_of (config_at plan.revision core) (documents_at plan.revision core log row))
   pub split : AreSplit (config_at plan.revision core) (documents_at plan.revision core log row)
   pub left : plan.unfetched ≡ number ∷ map (λ (r : PlanRow). r.number) (drop (held.next + 1) held.plan.rows)
@@ -145,7 +146,7 @@ next_row held plan core log row p found =
       row = m.0;
       stands = m.1;
       same = number;
-      uploaded = subst (λ n. IsUploadedIn core n (file_of (config_at plan.revision core) (documents_at plan.revision core log m.0))) number i.file;
+      uploaded = subst (λ n. IsStoredIn core n (file_of (config_at plan.revision core) (documents_at plan.revision core log m.0))) number i.file;
       long = ap (λ (r : PlanRow). r.size) (sym m.2) ∙ (ap (λ (f : RowFacts). f.size) i.facts.1 ∙ size_is (config_at plan.revision core).schema (documents_at plan.revision core log m.0) i.facts.0);
       split = i.split;
       left = p.unfetched ∙ ap (map (λ (r : PlanRow). r.number)) split;
@@ -172,10 +173,10 @@ next_row held plan core log row p found =
 
 -- its file stands
 pub file_of_next : (held : GivenPlan) (plan : Plan) (core : Core) (log : Log) (row : PlanRow) (p : Parts) → (next : IsNext held plan core log row.number row.size) → slice_get held.plan.rows held.next ≡ Some row
-    → file_of (config_at plan.revision core) (documents_at plan.revision core log next.row) ≡ file_bytes p → IsUploadedIn core row.number (file_bytes p) × IsFileAt core held.plan held.next (file_bytes p)
+    → file_of (config_at plan.revision core) (documents_at plan.revision core log next.row) ≡ file_bytes p → IsStoredIn core row.number (file_bytes p) × IsFileAt core held.plan held.next (file_bytes p)
 file_of_next held plan core log row p next found same =
-    let up = subst (IsUploadedIn core row.number) same next.uploaded in
-    (up, record { row = row; stands = found; uploaded = up; size = next.long ∙ ap (λ (l : List ℕ). length l) same })
+    let up = subst (IsStoredIn core row.number) same next.uploaded in
+    (up, record { row = row; stands = found; stored = up; size = next.long ∙ ap (λ (l : List ℕ). length l) same })
 
 -- ---- how many rows there are
 
@@ -206,6 +207,7 @@ one_more held more plan core after log number size part p next on ask same furth
       asks = subst (λ (a : LeafAsk). Asks plan.search a) (sym ask) p.asks;
       asked = subst (λ (a : LeafAsk). IsAsked (config_at plan.revision core).schema a.request) (sym ask) p.asked;
       revision = ap (λ (q : _). q.revision) same ∙ p.revision;
+      grace = p.grace ∙ ap (grace_of (config_at plan.revision core)) (sym same);
       rows = rows_same ∙ p.rows;
       place = omega (arith, further, within, ap length rows_same);
       unfetched = ap₂ (λ n l. map (λ (r : PlanRow). r.number) (drop n l)) (sym further) (sym rows_same);

@@ -31,7 +31,7 @@ use Rattle.split_states.specs.Rows.{is_published, published, change}
 use Rattle.index_config.specs.declared.config.IndexConfig.{IndexConfig}
 use Rattle.index_world.specs.Config.{reads}
 use Rattle.index_world.specs.Configuration.{configuration, config_or, index_of}
-use Rattle.index_world.specs.Core.{Core, with_unread, journal_of, IsUploadedIn}
+use Rattle.index_world.specs.Core.{Core, with_unread, journal_of, IsStoredIn}
 use Rattle.index_world.specs.Index.{IsBuilt, IsRowKept, IsRowSound, IsLateKey, Stands, is_split, has_staged, was_published}
 use Rattle.index_world.specs.Seen.{contents, meaning, accepted_records, visible}
 use Rattle.index_world.specs.SplitFile.{AreSplit, file_of}
@@ -39,7 +39,7 @@ use Rattle.root_search.specs.RowFacts.{HasFactsOf}
 use Rattle.index_world.specs.World.{IsWorld}
 use Rattle.index_world.proofs.Asking.{begun_history}
 use Rattle.index_world.proofs.Configured.{configured-more, rows_under}
-use Rattle.index_world.proofs.InCore.{uploaded-in}
+use Rattle.index_world.proofs.InCore.{stored-in}
 use Rattle.index_world.proofs.Indexing.{last_within}
 use Rattle.index_world.proofs.Numbers.{history-snoc, revision_is, staged_le}
 use Rattle.index_world.proofs.StoreChanges.{All-snoc, All-each, staged_more}
@@ -199,7 +199,7 @@ shown_rows kept config log h (row ∷ list) k l = by (is_published row.state) re
 
 -- the row's file stands and is the split of its contents, of which it has the facts
 pub record IsHeld (config : IndexConfig) (core : Core) (log : Log) (h : History) (row : Row) : Type 0 where
-  pub file : IsUploadedIn core row.number (file_of config (contents config (ledger reads h).tasks row log))
+  pub file : IsStoredIn core row.number (file_of config (contents config (ledger reads h).tasks row log))
   pub split : AreSplit config (contents config (ledger reads h).tasks row log)
   pub facts : HasFactsOf config.schema (contents config (ledger reads h).tasks row log) row
 
@@ -219,9 +219,9 @@ module _ (kept : State) (core : Core) (log : Log) (w : IsWorld kept core log) wh
       omega (arith, low, last, within)
 
   row_in_hand : (row : Row) → IsRowSound kept config (ledger reads (history core.history)).tasks log row → has_staged (journal_of core) row.number ≡ true → was_published (journal_of core) row.number ≡ true →
-      IsUploadedIn core row.number (file_of config (contents config (ledger reads (history core.history)).tasks row log))
+      IsStoredIn core row.number (file_of config (contents config (ledger reads (history core.history)).tasks row log))
   row_in_hand row s staged published =
-      uploaded-in kept core row.number _ w.stands_for
+      stored-in kept core row.number _ w.stands_for
       (record { staged = staged; file = s.file; not_late = All-each (IsLateKey (journal_of core)) (λ late. late.0 ≡ split_key row.number → ⊥) kept.late apart w.index.stands.late_keys })
     where
       apart : (late : List ℕ × List ℕ) → IsLateKey (journal_of core) late → late.0 ≡ split_key row.number → ⊥

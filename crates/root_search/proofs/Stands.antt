@@ -13,8 +13,8 @@ use Rattle.index_world.specs.Config.{reads}
 use Rattle.index_world.specs.Configuration.{configuration, config_or}
 use Rattle.source_log.specs.Log.{Log}
 use Rattle.split_states.specs.declared.rows.Row.{Row}
-use Rattle.index_world.specs.Core.{Core, IsConfigured, IsUploadedIn, journal_of}
-use Rattle.index_world.specs.Gate.{IsSoundCore}
+use Rattle.index_world.specs.Core.{Core, IsConfigured, IsStoredIn, journal_of}
+use Rattle.index_world.specs.Gate.{IsSoundCore, grace_of}
 use Rattle.index_world.specs.Seen.{contents, visible}
 use Rattle.index_world.specs.SplitFile.{AreSplit, file_of}
 use Rattle.index_world.specs.World.{GoesOn}
@@ -54,8 +54,8 @@ rows_seen seen search = searched (config_seen seen).schema search.query search.t
 row_goes_on : (one : Option ℕ) (core after : Core) (log : Log) (revision : ℕ) → GoesOn one core after → take revision after.history ≡ take revision core.history → (row : Row) → IsInHand revision core log row → IsInHand revision after log row
 row_goes_on one core after log revision g same row i =
     record {
-      file = subst (λ (seen : List Entry). IsUploadedIn after row.number (file_of (config_seen seen) (documents_seen seen log row))) (sym same)
-          (g.keeps.uploaded row.number (file_of (config_at revision core) (documents_at revision core log row)) i.file);
+      file = subst (λ (seen : List Entry). IsStoredIn after row.number (file_of (config_seen seen) (documents_seen seen log row))) (sym same)
+          (g.keeps.stored row.number (file_of (config_at revision core) (documents_at revision core log row)) i.file);
       split = subst (λ (seen : List Entry). AreSplit (config_seen seen) (documents_seen seen log row)) (sym same) i.split;
       facts = subst (λ (seen : List Entry). HasFactsOf (config_seen seen).schema (documents_seen seen log row) row) (sym same) i.facts;
     }
@@ -80,6 +80,7 @@ planned_goes_on one given plan core after log g p =
       asks = p.asks;
       asked = subst (λ (seen : List Entry). IsAsked (config_seen seen).schema given.ask.request) (sym same) p.asked;
       revision = p.revision;
+      grace = p.grace ∙ ap (λ (seen : List Entry). grace_of (config_seen seen) given.plan) (sym same);
       rows = subst (λ (seen : List Entry). given.plan.rows ≡ map planned_row (rows_seen seen plan.search)) (sym same) p.rows;
       place = p.place;
       unfetched = p.unfetched;
@@ -99,7 +100,7 @@ request_goes_on one (given.Planned search) asked core after log g r = (r.0, r.1,
 pub footers_go_on : (one : Option ℕ) (footers : Footers) (core after : Core) → GoesOn one core after → AreKept footers core → AreKept footers after
 footers_go_on one footers core after g kept = λ number footer among.
     let k = kept number footer among in
-    record { bytes = k.bytes; uploaded = g.keeps.uploaded number k.bytes k.uploaded; footer_is = k.footer_is }
+    record { bytes = k.bytes; stored = g.keeps.stored number k.bytes k.stored; footer_is = k.footer_is }
 
 -- whatever number the world went on about, a searcher stands for its client as before
 pub searcher_goes_on : (one : Option ℕ) (searcher : Searcher) (client : Client) (core after : Core) (log : Log) → GoesOn one core after → SearcherStands searcher client core log → SearcherStands searcher client after log
@@ -136,7 +137,7 @@ sound_in_hand core log s =
     held : (row : Row) → IsHeld (config_seen core.history) core log (history core.history) row → IsInHand (length core.history) core log row
     held row i =
         record {
-          file = subst (λ (seen : List Entry). IsUploadedIn core row.number (file_of (config_seen seen) (documents_seen seen log row))) (sym all) i.file;
+          file = subst (λ (seen : List Entry). IsStoredIn core row.number (file_of (config_seen seen) (documents_seen seen log row))) (sym all) i.file;
           split = subst (λ (seen : List Entry). AreSplit (config_seen seen) (documents_seen seen log row)) (sym all) i.split;
           facts = subst (λ (seen : List Entry). HasFactsOf (config_seen seen).schema (documents_seen seen log row) row) (sym all) i.facts;
         }

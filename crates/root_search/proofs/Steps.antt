@@ -4,7 +4,7 @@ use Rattle.std.specs.Prelude.{⊤, IsErr}
 use Rattle.std.specs.declared.alloc.AllocError.{AllocError}
 use Rattle.index_config.specs.declared.config.IndexConfig.{IndexConfig}
 use Rattle.source_log.specs.Log.{Log}
-use Rattle.index_world.specs.Calls.{Fate, Gives, gives, Trouble, faulted, no_memory, asked_and_looked, fetched, calm_fate}
+use Rattle.index_world.specs.Calls.{Fate, Grace, Gives, gives, Trouble, faulted, no_memory, asked_and_looked, fetched, calm_fate}
 use Rattle.index_world.specs.Core.{Core}
 use Rattle.index_world.specs.Gate.{NoneBetween, Says, IsTrouble}
 use Rattle.index_world.specs.World.{GoesOn}
@@ -22,7 +22,7 @@ use Rattle.root_search.specs.declared.outcome.SearchStep.{SearchStep}
 use Rattle.root_search.specs.declared.outcome.SearchStep.TheVariants as said
 use Rattle.root_search.specs.declared.searcher.Searcher.{Searcher}
 use Rattle.root_search.specs.Searching.{IsRequest, SearcherStands, SearchesAs, IsAtWork, Ends, FaultEnds, searched_as}
-use Rattle.root_search.specs.Steps.{ArePassed, Plan, Request, no_request, opened, planned, Client, Luck, Searched, Passage, config_in, without_memory, without_request, fetched_at, fetched_each, luck_of, next_at, next_step, request_at, step_at, step_client, step_request, plan_by, plan_given, fetch_by, fetch_given, or_short, trouble_replied, unless_fault, refused_over, reply_with, answer_of}
+use Rattle.root_search.specs.Steps.{ArePassed, grace_in, Plan, Request, no_request, opened, planned, Client, Luck, Searched, Passage, config_in, without_memory, without_request, fetched_at, fetched_each, luck_of, next_at, next_step, request_at, step_at, step_client, step_request, plan_by, plan_given, fetch_by, fetch_given, or_short, trouble_replied, unless_fault, refused_over, reply_with, answer_of}
 use Rattle.root_search.proofs.Fetches.{on_refl, some_passages}
 
 -- ---- the core behind a step
@@ -97,7 +97,7 @@ refused_is asked reason refusal e h = subst (λ (r : Unanswered). asked ≡ Err 
 
 module _ {W : Type 0} (Stands : W → Core → Log → Type 0) (Between : Core → Core → Type 0) (result : Result SearchStep AllocError) (new : Searcher) (gate : W) (client : Client) (core : Core) (log : Log) where
   -- what a step says, behind the core that its calls left
-  step_as : (passage : Passage) (more : List Passage) (short : Bool) (after : Core) (step : Searched) → ArePassed Between core (passage ∷ more) → step_at passage more short log client ≡ step → step.core ≡ after → GoesOn None core after → Stands gate after log
+  step_as : (passage : Passage) (more : List Passage) (short : Bool) (after : Core) (step : Searched) → ArePassed (grace_in client.request) Between core (passage ∷ more) → step_at passage more short log client ≡ step → step.core ≡ after → GoesOn None core after → Stands gate after log
       → Ends result new step log → SearchesAs Stands Between result new gate client core log
   step_as passage more short after step passed did same on stands ends =
       record {
@@ -129,18 +129,18 @@ module _ {W : Type 0} (Stands : W → Core → Log → Type 0) (Between : Core �
       planned_as text (config_in core) core (record calm_fate { unasked = true }) (Err no_memory) (Err no_memory) (asked_of (config_in core) text) core between refl (on_refl core) stands asked refl refl refl
       (ends_unasked result (asked_of (config_in core) text) new client core log short w)
 
-  pub fetched_as : (plan : Plan) (number : ℕ) (left : List ℕ) (short : Bool) (passages : List Passage) (answer a : Result ⊤ Trouble) (after : Core) → 0 < length passages → ArePassed Between core passages → fetched_at core passages ≡ gives answer after → GoesOn None core after →
+  pub fetched_as : (plan : Plan) (number : ℕ) (left : List ℕ) (short : Bool) (passages : List Passage) (answer a : Result ⊤ Trouble) (after : Core) → 0 < length passages → ArePassed plan.grace Between core passages → fetched_at plan.grace core passages ≡ gives answer after → GoesOn None core after →
       Stands gate after log → client.request ≡ planned plan → plan.unfetched ≡ number ∷ left → answer ≡ a → Ends result new (or_short short client (fetch_by a plan number left client after)) log →
       SearchesAs Stands Between result new gate client core log
   fetched_as plan number left short [] answer a after some passed did on stands asked unfetched said ends = absurd (omega arith)
   fetched_as plan number left short (passage ∷ more) answer a after some passed did on stands asked unfetched said ends =
-      step_as passage more short after (or_short short client (fetch_by a plan number left client after)) passed
+      step_as passage more short after (or_short short client (fetch_by a plan number left client after)) (subst (λ r. ArePassed (grace_in r) Between core (passage ∷ more)) (sym asked) passed)
       (ap (λ r. or_short short client (request_at r passage more log client)) asked ∙ (ap (λ l. or_short short client (next_at passage more log plan l client)) unfetched
       ∙ (ap (λ given. or_short short client (fetch_given plan number left client given)) did ∙ ap (λ x. or_short short client (fetch_by x plan number left client after)) said)))
       (short_core short client (fetch_by a plan number left client after) ∙ fetch_core a plan number left client after) on stands ends
 
   -- where no memory is found behind some fetches, or before them
-  pub short_as : (plan : Plan) (number : ℕ) (left : List ℕ) (passages : List Passage) (answer : Result ⊤ Trouble) (after : Core) → Between core core → ArePassed Between core passages → fetched_at core passages ≡ gives answer after → GoesOn None core after →
+  pub short_as : (plan : Plan) (number : ℕ) (left : List ℕ) (passages : List Passage) (answer : Result ⊤ Trouble) (after : Core) → Between core core → ArePassed plan.grace Between core passages → fetched_at plan.grace core passages ≡ gives answer after → GoesOn None core after →
       Stands gate after log → client.request ≡ planned plan → plan.unfetched ≡ number ∷ left → IsErr result → IsAtWork new client after → SearchesAs Stands Between result new gate client core log
   short_as plan number left [] answer after between passed did on stands asked unfetched short w =
       let same : after ≡ core = ap (λ (g : Gives Trouble ⊤). g.core) (sym did) in
@@ -152,10 +152,10 @@ module _ {W : Type 0} (Stands : W → Core → Log → Type 0) (Between : Core �
       (ends_without result new client (fetch_by answer plan number left client after) log short (subst (IsAtWork new client) (sym (fetch_core answer plan number left client after)) w))
 
   -- where fetches gave nothing
-  pub fault_as : {A : Type 0} (bytes_fetched : W → ℕ) (holds : A → ℕ → ℕ → Type 0) (old : W) (fault : FetchError) (plan : Plan) (number : ℕ) (left : List ℕ) → Between core core → (f : FetchesAs Stands Between bytes_fetched holds (Err fault) core log old gate)
+  pub fault_as : {A : Type 0} (bytes_fetched : W → ℕ) (holds : A → ℕ → ℕ → Type 0) (old : W) (fault : FetchError) (plan : Plan) (number : ℕ) (left : List ℕ) → Between core core → (f : FetchesAs plan.grace Stands Between bytes_fetched holds (Err fault) core log old gate)
       → FaultEnds fault result new plan.revision client f.after log → client.request ≡ planned plan → plan.unfetched ≡ number ∷ left → SearchesAs Stands Between result new gate client core log
   fault_as bytes_fetched holds old (World error) plan number left between f ends asked unfetched =
-      fetched_as plan number left false f.passages f.answer (Err f.says.0) f.after (some_passages core f.passages f.answer f.after f.says.0 f.did f.says.1) f.passed f.did f.goes_on f.stands asked unfetched f.says.1 (ends f.says.0 f.says.2)
+      fetched_as plan number left false f.passages f.answer (Err f.says.0) f.after (some_passages plan.grace core f.passages f.answer f.after f.says.0 f.did f.says.1) f.passed f.did f.goes_on f.stands asked unfetched f.says.1 (ends f.says.0 f.says.2)
   fault_as bytes_fetched holds old (Memory e) plan number left between f ends asked unfetched = short_as plan number left f.passages f.answer f.after between f.passed f.did f.goes_on f.stands asked unfetched ends.0 ends.1
   fault_as bytes_fetched holds old Corrupt plan number left between f ends asked unfetched = absurd f.says
 
@@ -181,30 +181,30 @@ last_gives g = by g.answer g.core
     by (Ok done) core = refl
     by (Err trouble) core = refl
 
-each_alone : (passage : Passage) (more : List Passage) (core : Core) → ArePassed NoneBetween core (passage ∷ more) → fetched_at core (passage ∷ more) ≡ fetched_each passage.fate (map (λ (p : Passage). p.fate) more) core
-each_alone passage [] core p = last_gives (fetched passage.fate passage.core) ∙ ap (fetched passage.fate) p.0
-each_alone passage (next ∷ more) core p =
-    ap (λ (c : Core). unless_fault (fetched passage.fate c).answer (fetched passage.fate c).core (λ left. fetched_at left (next ∷ more))) p.0
-    ∙ by (fetched passage.fate core).answer (fetched passage.fate core).core (each_alone next more (fetched passage.fate core).core (subst (λ (c : Core). ArePassed NoneBetween (fetched passage.fate c).core (next ∷ more)) p.0 p.1))
+each_alone : (grace : Grace) (passage : Passage) (more : List Passage) (core : Core) → ArePassed grace NoneBetween core (passage ∷ more) → fetched_at grace core (passage ∷ more) ≡ fetched_each grace passage.fate (map (λ (p : Passage). p.fate) more) core
+each_alone grace passage [] core p = last_gives (fetched grace passage.fate passage.core) ∙ ap (fetched grace passage.fate) p.0
+each_alone grace passage (next ∷ more) core p =
+    ap (λ (c : Core). unless_fault (fetched grace passage.fate c).answer (fetched grace passage.fate c).core (λ left. fetched_at grace left (next ∷ more))) p.0
+    ∙ by (fetched grace passage.fate core).answer (fetched grace passage.fate core).core (each_alone grace next more (fetched grace passage.fate core).core (subst (λ (c : Core). ArePassed grace NoneBetween (fetched grace passage.fate c).core (next ∷ more)) p.0 p.1))
   where
-    by : (r : Result ⊤ Trouble) (left : Core) → fetched_at left (next ∷ more) ≡ fetched_each next.fate (map (λ (p : Passage). p.fate) more) left
-        → unless_fault r left (λ c. fetched_at c (next ∷ more)) ≡ unless_fault r left (fetched_each next.fate (map (λ (p : Passage). p.fate) more))
+    by : (r : Result ⊤ Trouble) (left : Core) → fetched_at grace left (next ∷ more) ≡ fetched_each grace next.fate (map (λ (p : Passage). p.fate) more) left
+        → unless_fault r left (λ c. fetched_at grace c (next ∷ more)) ≡ unless_fault r left (fetched_each grace next.fate (map (λ (p : Passage). p.fate) more))
     by (Ok done) left q = q
     by (Err trouble) left q = refl
 
 -- it is the machine's step with these fates
-pub step_alone : (passage : Passage) (more : List Passage) (short : Bool) (log : Log) (client : Client) (core : Core) → ArePassed NoneBetween core (passage ∷ more)
+pub step_alone : (passage : Passage) (more : List Passage) (short : Bool) (log : Log) (client : Client) (core : Core) → ArePassed (grace_in client.request) NoneBetween core (passage ∷ more)
     → step_client (luck_of passage more short) log client core ≡ step_at passage more short log client
-step_alone passage more short log client core p = ap (or_short short client) (by client.request)
+step_alone passage more short log client core p = ap (or_short short client) (by client.request p)
   where
     luck : Luck
     luck = luck_of passage more short
 
-    next : (plan : Plan) (left : List ℕ) → next_step luck log plan left client core ≡ next_at passage more log plan left client
-    next plan [] = ap (λ (c : Core). reply_with plan.revision (answer_of plan log c) client c) (sym p.0)
-    next plan (number ∷ left) = ap (fetch_given plan number left client) (sym (each_alone passage more core p))
+    next : (plan : Plan) (left : List ℕ) → ArePassed plan.grace NoneBetween core (passage ∷ more) → next_step luck log plan left client core ≡ next_at passage more log plan left client
+    next plan [] q = ap (λ (c : Core). reply_with plan.revision (answer_of plan log c) client c) (sym p.0)
+    next plan (number ∷ left) q = ap (fetch_given plan number left client) (sym (each_alone plan.grace passage more core q))
 
-    by : (request : Request) → step_request request luck log client core ≡ request_at request passage more log client
-    by no_request = ap (λ (c : Core). searched_as (Some said.Idle) client c) (sym p.0)
-    by (opened text) = ap (λ (c : Core). plan_given text client (asked_and_looked passage.fate c)) (sym p.0)
-    by (planned plan) = next plan plan.unfetched
+    by : (request : Request) → ArePassed (grace_in request) NoneBetween core (passage ∷ more) → step_request request luck log client core ≡ request_at request passage more log client
+    by no_request q = ap (λ (c : Core). searched_as (Some said.Idle) client c) (sym p.0)
+    by (opened text) q = ap (λ (c : Core). plan_given text client (asked_and_looked passage.fate c)) (sym p.0)
+    by (planned plan) q = next plan plan.unfetched q

@@ -12,7 +12,7 @@ use Rattle.split_bundle.specs.Lists.{terms_of}
 use Rattle.split_bundle.specs.Splits.{IsSplitOf}
 use Rattle.split_bundle.specs.declared.placed.Placed.{Placed}
 use Rattle.leaf_search.specs.Counts.{one_key}
-use Rattle.index_world.specs.Core.{Core, IsUploadedIn}
+use Rattle.index_world.specs.Core.{Core, IsStoredIn}
 use Rattle.search_api.specs.Resolved.{Search}
 use Rattle.root_search.specs.Footers.{entries}
 use Rattle.root_search.specs.Steps.{Plan, config_at}
@@ -47,7 +47,7 @@ pub record DrawsFew (s : Schema) (search : Search) (kept : Bool) (documents : Li
 -- A step that answers Fetched and the number of a split draws as few of its file. The count of fetched bytes rises by so many.
 abbrev pub StepDraws : Searcher → Plan → Result SearchStep AllocError → ℕ → ℕ → Core → Type 0
 StepDraws searcher plan result before after core =
-    (number : ℕ) (documents : List Placed) (p : Parts) → result ≡ Ok (Fetched number) → IsUploadedIn core number (file_bytes p) →
+    (number : ℕ) (documents : List Placed) (p : Parts) → result ≡ Ok (Fetched number) → IsStoredIn core number (file_bytes p) →
     IsSplitOf (config_at plan.revision core).schema documents p →
     DrawsFew (config_at plan.revision core).schema plan.search (keeps_footer searcher number) documents p (after - before)
 

@@ -1,8 +1,8 @@
 -- Fetches of a planned split through a gate, one after another.
 use Rattle.std.specs.Prelude.{◌≡◌, ℕ, ◌+◌, ◌≤◌, List, ◌++◌, length, max, min, take, drop, Option, Some, None, Result, Ok, Err, ⊤, slice_get}
 use Rattle.doc_value.specs.declared.schema.Schema.{Schema}
-use Rattle.index_world.specs.Calls.{Trouble, gives}
-use Rattle.index_world.specs.Core.{Core, IsUploadedIn}
+use Rattle.index_world.specs.Calls.{Grace, Trouble, gives}
+use Rattle.index_world.specs.Core.{Core, IsStoredIn}
 use Rattle.index_world.specs.Gate.{IsTrouble}
 use Rattle.index_world.specs.World.{GoesOn}
 use Rattle.index_world.specs.declared.tokens.Plan.{Plan}
@@ -28,7 +28,7 @@ use Rattle.root_search.specs.declared.split_parts.SplitPart.{SplitPart}
 pub record IsFileAt (core : Core) (plan : Plan) (place : ℕ) (bytes : List ℕ) : Type 0 where
   pub row : PlanRow
   pub stands : slice_get plan.rows place ≡ Some row
-  pub uploaded : IsUploadedIn core row.number bytes
+  pub stored : IsStoredIn core row.number bytes
   pub size : row.size ≡ length bytes
 
 -- what is answered of so many fetches that drew so many bytes, and the answer of the last one
@@ -40,13 +40,13 @@ SaysFetched holds many drawn (Err Corrupt) answer = ⊥
 
 -- Fetches were made one after another, with what other actors did before each. By so many bytes at most the count of those that
 -- were fetched through the gate rose, and this holds of what was fetched, of the number of fetches and of these bytes.
-pub record FetchesAs {W A : Type 0} (Stands : W → Core → Log → Type 0) (Between : Core → Core → Type 0) (bytes_fetched : W → ℕ) (holds : A → ℕ → ℕ → Type 0) (result : Result A FetchError)
+pub record FetchesAs {W A : Type 0} (grace : Grace) (Stands : W → Core → Log → Type 0) (Between : Core → Core → Type 0) (bytes_fetched : W → ℕ) (holds : A → ℕ → ℕ → Type 0) (result : Result A FetchError)
     (core : Core) (log : Log) (old new : W) : Type 0 where
   pub passages : List Passage
-  pub passed : ArePassed Between core passages
+  pub passed : ArePassed grace Between core passages
   pub answer : Result ⊤ Trouble
   pub after : Core
-  pub did : fetched_at core passages ≡ gives answer after
+  pub did : fetched_at grace core passages ≡ gives answer after
   pub drawn : ℕ
   pub count : bytes_fetched new ≤ bytes_fetched old + drawn
   pub says : SaysFetched holds (length passages) drawn result answer

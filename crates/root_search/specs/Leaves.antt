@@ -1,5 +1,6 @@
 -- The answers of many splits.
-use Rattle.std.specs.Prelude.{◌≡◌, ◌≢◌, ℕ, ◌^◌, ◌≤◌, List, flat_map, sum_by, slice_get, Some, None, Result, Ok, Err, IfOk, MatchResult}
+use Rattle.std.specs.Prelude.{◌≡◌, ◌≢◌, ℕ, ◌^◌, ◌≤◌, List, flat_map, sum_by, slice_get, Some, None, Result, Ok, Err, IfOk, IsOk, MatchResult}
+use Rattle.std.specs.List.{AllByRecursion, AllZip}
 use Rattle.doc_value.specs.declared.schema.Schema.{Schema}
 use Rattle.agg_model.specs.Partials.{IsPartialOf, documents_in}
 use Rattle.split_bundle.specs.Files.{Parts, file_bytes}
@@ -100,3 +101,25 @@ WantsMemory (Memory a) = Unit {0}
 WantsMemory (Missing place at) = ⊥
 WantsMemory (Corrupt place section) = ⊥
 WantsMemory TooMany = ⊥
+
+-- ---- over any bytes
+
+-- What splits answer is joined: each of them answered, and so many documents are counted as they count together.
+pub record IsJoinOf (s : Schema) (r : LeafRequest) (views : List PartView) (all : LeafAnswer) : Type 0 where
+  pub answers : List (Result LeafAnswer LeafError)
+  pub are_leaves : AllZip (IsLeafAnswer s r) views answers
+  pub answered : AllByRecursion IsOk answers
+  pub count : all.count ≡ sum_by count_in answers
+
+-- the view at a place has not all that the request asks for of a split, of whatever documents
+pub record IsNoLeaf (s : Schema) (r : LeafRequest) (views : List PartView) (place : ℕ) : Type 0 where
+  pub view : PartView
+  pub seen : slice_get views place ≡ Some view
+  pub none : (documents : List Placed) → IsAsked s r → HasAsked s r view documents → ⊥
+
+-- the split at a place is refused only where its view is none of a split
+abbrev pub IsRefusedIn : Schema → LeafRequest → List PartView → SplitsError → Type 0
+IsRefusedIn s r views (Memory a) = Unit {0}
+IsRefusedIn s r views (Missing place at) = IsNoLeaf s r views place
+IsRefusedIn s r views (Corrupt place section) = IsNoLeaf s r views place
+IsRefusedIn s r views TooMany = Unit {0}

@@ -10,6 +10,8 @@ pub mod PartAnswers
 pub mod ReadSearches
 pub mod Steps
 pub mod Fetching
+pub mod FetchCalls
+pub mod StepReads
 pub mod Footers
 pub mod Drawing
 pub mod Searching

@@ -13,8 +13,8 @@ use Rattle.index_world.specs.Configuration.{configuration}
 use Rattle.source_log.specs.Log.{Log}
 use Rattle.split_states.specs.declared.rows.Row.{Row}
 use Rattle.index_world.specs.Calls.{Fault, Trouble, faulted, no_memory}
-use Rattle.index_world.specs.Core.{Core, IsUploadedIn}
-use Rattle.index_world.specs.Gate.{IsTrouble}
+use Rattle.index_world.specs.Core.{Core, IsStoredIn}
+use Rattle.index_world.specs.Gate.{IsTrouble, grace_of}
 use Rattle.index_world.specs.Seen.{contents, visible_at}
 use Rattle.index_world.specs.SplitFile.{AreSplit, file_of}
 use Rattle.index_world.specs.World.{GoesOn}
@@ -27,7 +27,7 @@ use Rattle.search_api.specs.declared.reply.Refusal.{Refusal}
 use Rattle.root_search.specs.LeafAsks.{Asks}
 use Rattle.root_search.specs.Footers.{entries}
 use Rattle.root_search.specs.SplitParts.{HasNeeded, IsFooterIn}
-use Rattle.root_search.specs.Steps.{ArePassed, Plan, Request, no_request, opened, planned, Client, Searched, Passage, config_at, fault_refusal, step_at, trouble_replied}
+use Rattle.root_search.specs.Steps.{ArePassed, Plan, Request, no_request, opened, planned, Client, Searched, Passage, config_at, fault_refusal, grace_in, step_at, trouble_replied}
 use Rattle.root_search.specs.declared.outcome.SearchStep.{SearchStep}
 use Rattle.root_search.specs.declared.fetching.FetchError.{FetchError}
 use Rattle.root_search.specs.declared.fetching.FetchError.TheVariants.{Memory, World, Corrupt}
@@ -56,7 +56,7 @@ documents_at revision core log row = contents (config_at revision core) (ledger 
 
 -- A published row's file stands and is the split of its documents, of which the row has the facts.
 pub record IsInHand (revision : ℕ) (core : Core) (log : Log) (row : Row) : Type 0 where
-  pub file : IsUploadedIn core row.number (file_of (config_at revision core) (documents_at revision core log row))
+  pub file : IsStoredIn core row.number (file_of (config_at revision core) (documents_at revision core log row))
   pub split : AreSplit (config_at revision core) (documents_at revision core log row)
   pub facts : HasFactsOf (config_at revision core).schema (documents_at revision core log row) row
 
@@ -76,6 +76,7 @@ pub record IsPlanned (given : GivenPlan) (plan : Plan) (core : Core) (log : Log)
   pub asks : Asks plan.search given.ask
   pub asked : IsAsked (config_at plan.revision core).schema given.ask.request
   pub revision : given.plan.revision ≡ plan.revision
+  pub grace : plan.grace ≡ grace_of (config_at plan.revision core) given.plan
   pub rows : given.plan.rows ≡ map planned_row (rows_at plan.revision plan.search core)
   pub place : given.next ≤ length given.plan.rows
   pub unfetched : plan.unfetched ≡ map (λ row. row.number) (drop given.next given.plan.rows)
@@ -90,7 +91,7 @@ IsRequest (given.Planned search) request core log = (plan : Plan) × (request �
 -- a footer that is kept is that of the split with its number, whose file stands
 pub record IsKept (core : Core) (number : ℕ) (footer : Footer) : Type 0 where
   pub bytes : List ℕ
-  pub uploaded : IsUploadedIn core number bytes
+  pub stored : IsStoredIn core number bytes
   pub footer_is : IsFooterIn bytes footer
 
 abbrev pub AreKept : Footers → Core → Type 0
@@ -126,7 +127,7 @@ pub record SearchesAs {W : Type 0} (Stands : W → Core → Log → Type 0) (Bet
     (result : Result SearchStep AllocError) (new : Searcher) (gate : W) (client : Client) (core : Core) (log : Log) : Type 0 where
   pub passage : Passage
   pub more : List Passage
-  pub passed : ArePassed Between core (passage ∷ more)
+  pub passed : ArePassed (grace_in client.request) Between core (passage ∷ more)
   pub short : Bool
   pub outcome : Option SearchStep
   pub later : Client

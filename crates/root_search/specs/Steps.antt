@@ -1,5 +1,5 @@
 -- What a client holds, and one step of its search, given the fate of its calls.
-use Rattle.std.specs.Prelude.{ℕ, Bool, true, false, List, [], ◌∷◌, length, map, take, Option, Some, None, Result, Ok, Err, ⊤, decimal, codes}
+use Rattle.std.specs.Prelude.{ℕ, ◌+◌, Bool, true, false, List, [], ◌∷◌, length, map, take, Option, Some, None, Result, Ok, Err, ⊤, decimal, codes}
 use Rattle.index_config.specs.declared.config.IndexConfig.{IndexConfig}
 use Rattle.meta_store.specs.History.{History, history}
 use Rattle.meta_store.specs.Planning.{searched}
@@ -13,7 +13,7 @@ use Rattle.search_api.specs.declared.reply.Said.TheVariants.{Refused}
 use Rattle.search_api.specs.declared.unanswered.Unanswered.{Unanswered}
 use Rattle.search_api.specs.declared.unanswered.Unanswered.TheVariants as reasons
 use Rattle.source_log.specs.Log.{Log}
-use Rattle.index_world.specs.Calls.{Fate, Fault, store_fault, is_foreign, is_full, Trouble, faulted, no_memory, Gives, gives, asked_and_looked, fetched}
+use Rattle.index_world.specs.Calls.{Fate, Fault, store_fault, is_foreign, is_full, is_expired, Grace, Trouble, faulted, no_memory, Gives, gives, asked_and_looked, fetched}
 use Rattle.index_world.specs.Configuration.{configuration, config_or}
 use Rattle.index_world.specs.Core.{Core}
 use Rattle.index_world.specs.Seen.{visible_at}
@@ -22,10 +22,12 @@ use Rattle.root_search.specs.Requests.{asked_of}
 use Rattle.root_search.specs.declared.outcome.SearchStep.{SearchStep}
 use Rattle.root_search.specs.declared.outcome.SearchStep.TheVariants as steps
 
--- a search that was planned: what it asks, its revision, and the splits that are still to be fetched
+-- a search that was planned: what it asks, its revision, until when its files are fetched, and the splits that are still to be
+-- fetched
 pub record Plan : Type 0 where
   pub search : Search
   pub revision : ℕ
+  pub grace : Grace
   pub unfetched : List ℕ
 
 pub data Request : Type 0 where
@@ -51,6 +53,15 @@ pub record Searched : Type 0 where
   pub outcome : Option SearchStep
   pub client : Client
   pub core : Core
+
+abbrev pub no_grace : Grace
+no_grace = record { planned_at = 0; until = 0 }
+
+-- until when the files of a request are fetched, if it is planned
+abbrev pub grace_in : Request → Grace
+grace_in no_request = no_grace
+grace_in (opened text) = no_grace
+grace_in (planned plan) = plan.grace
 
 -- the configuration behind so many entries
 abbrev pub config_at : ℕ → Core → IndexConfig
@@ -83,6 +94,7 @@ abbrev pub fault_refusal : Fault → Refusal
 fault_refusal (store_fault before after) = refusals.StoreFault before after
 fault_refusal (is_foreign key) = refusals.Foreign key
 fault_refusal is_full = refusals.Full
+fault_refusal (is_expired planned_at now) = refusals.Expired planned_at now
 
 -- the world answered a fault, which is replied, or found no memory
 abbrev pub trouble_replied : ℕ → Trouble → Client → Core → Searched
@@ -94,12 +106,21 @@ abbrev pub refused_over : ℕ → Refusal → Trouble → Client → Core → Se
 refused_over revision refusal (faulted fault) client core = reply_with revision (Refused refusal) client core
 refused_over revision refusal no_memory client core = without_memory client core
 
+-- files that are marked behind a plan stand for the configuration's grace
+abbrev pub grace_at : IndexConfig → ℕ → Grace
+grace_at config moment = record { planned_at = moment; until = moment + config.deletion_grace }
+
 abbrev pub with_plan : Search → Client → Core → Searched
 with_plan search client core =
     record {
       outcome = Some (steps.Planned (length core.history) (length (planned_numbers (config_in core) search (history core.history))));
       client = record client {
-        request = planned (record { search = search; revision = length core.history; unfetched = planned_numbers (config_in core) search (history core.history) });
+        request = planned (record {
+          search = search;
+          revision = length core.history;
+          grace = grace_at (config_in core) core.moment;
+          unfetched = planned_numbers (config_in core) search (history core.history);
+        });
       };
       core = core;
     }
@@ -130,9 +151,9 @@ unless_fault (Ok done) core next = next core
 unless_fault (Err trouble) core next = gives (Err trouble) core
 
 -- fetches one after another, until one fails
-abbrev pub fetched_each : Fate → List Fate → Core → Gives Trouble ⊤
-fetched_each fate [] core = fetched fate core
-fetched_each fate (next ∷ more) core = unless_fault (fetched fate core).answer (fetched fate core).core (fetched_each next more)
+abbrev pub fetched_each : Grace → Fate → List Fate → Core → Gives Trouble ⊤
+fetched_each grace fate [] core = fetched grace fate core
+fetched_each grace fate (next ∷ more) core = unless_fault (fetched grace fate core).answer (fetched grace fate core).core (fetched_each grace next more)
 
 abbrev pub with_unfetched : Plan → List ℕ → Client → Client
 with_unfetched plan unfetched client = record client { request = planned (record plan { unfetched = unfetched }) }
@@ -147,7 +168,7 @@ fetch_given plan number more client given = fetch_by given.answer plan number mo
 
 abbrev pub next_step : Luck → Log → Plan → List ℕ → Client → Core → Searched
 next_step luck log plan [] client core = reply_with plan.revision (answer_of plan log core) client core
-next_step luck log plan (number ∷ more) client core = fetch_given plan number more client (fetched_each luck.world luck.more core)
+next_step luck log plan (number ∷ more) client core = fetch_given plan number more client (fetched_each plan.grace luck.world luck.more core)
 
 abbrev pub step_request : Request → Luck → Log → Client → Core → Searched
 step_request no_request luck log client core = record { outcome = Some steps.Idle; client = client; core = core }
@@ -176,18 +197,19 @@ pub record Passage : Type 0 where
   pub fate : Fate
 
 -- fetches with these passages, until one fails: the answer, and the core that the last one leaves
-abbrev pub fetched_at : Core → List Passage → Gives Trouble ⊤
-fetched_at core [] = gives (Ok tt) core
-fetched_at core (passage ∷ more) = unless_fault (fetched passage.fate passage.core).answer (fetched passage.fate passage.core).core (λ left. fetched_at left more)
+abbrev pub fetched_at : Grace → Core → List Passage → Gives Trouble ⊤
+fetched_at grace core [] = gives (Ok tt) core
+fetched_at grace core (passage ∷ more) =
+    unless_fault (fetched grace passage.fate passage.core).answer (fetched grace passage.fate passage.core).core (λ left. fetched_at grace left more)
 
 -- before each call other actors may have acted on the core that the call before it left
-abbrev pub ArePassed : (Core → Core → Type 0) → Core → List Passage → Type 0
-ArePassed Between core [] = ⊤
-ArePassed Between core (passage ∷ more) = Between core passage.core × ArePassed Between (fetched passage.fate passage.core).core more
+abbrev pub ArePassed : Grace → (Core → Core → Type 0) → Core → List Passage → Type 0
+ArePassed grace Between core [] = ⊤
+ArePassed grace Between core (passage ∷ more) = Between core passage.core × ArePassed grace Between (fetched grace passage.fate passage.core).core more
 
 abbrev pub next_at : Passage → List Passage → Log → Plan → List ℕ → Client → Searched
 next_at passage more log plan [] client = reply_with plan.revision (answer_of plan log passage.core) client passage.core
-next_at passage more log plan (number ∷ left) client = fetch_given plan number left client (fetched_at passage.core (passage ∷ more))
+next_at passage more log plan (number ∷ left) client = fetch_given plan number left client (fetched_at plan.grace passage.core (passage ∷ more))
 
 abbrev pub request_at : Request → Passage → List Passage → Log → Client → Searched
 request_at no_request passage more log client = record { outcome = Some steps.Idle; client = client; core = passage.core }

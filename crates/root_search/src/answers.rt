@@ -8,6 +8,7 @@ ghost use Rattle.leaf_search.specs.Answers.{IsAnswerOf};
 ghost use Rattle.search_api.specs.Resolved.{Search};
 ghost use Rattle.root_search.specs.Answer.{IsAnswer, printed};
 ghost use Rattle.root_search.specs.LeafAsks.{Asks};
+ghost use Rattle.root_search.specs.PartAnswers.{IsNotCorrupt};
 
 use crate::leaf_asks::{LeafAsk, Page};
 use agg_model::finish;
@@ -45,8 +46,9 @@ pub fn shown(
 ) -> Result<Said, AllocError>
     requires intervals { HaveIntervals ask.now.request.aggs }
     requires partial { IsPartialOf ask.now.request.aggs answer.now.partial }
-    ensures { (search : Search) (documents : List Placed) → Asks search ask.now → IsAnswerOf schema.now ask.now.request documents answer.now
+    ensures only { (search : Search) (documents : List Placed) → Asks search ask.now → IsAnswerOf schema.now ask.now.request documents answer.now
         → IfOk result (IsAnswer schema.now search documents) }
+    ensures other { IfOk result IsNotCorrupt }
 {
     match finish(alloc, &ask.request.aggs, &answer.partial) {
         Ok(aggregations) => Ok(Said::Found {

@@ -1,18 +1,22 @@
 // What is fetched of a planned split: its footer, and the ranges of its file that a request needs.
 
-ghost use Rattle.std.specs.Prelude.{◌≡◌, ◌==◌, ◌&&◌, ◌+◌, ◌-◌, ◌<◌, ◌≤◌, ◌++◌, ℕ, List, [], drop, length, slice_get, None, Some, MatchResult};
+ghost use Rattle.std.specs.Prelude.{◌≡◌, ◌==◌, ◌&&◌, ◌+◌, ◌-◌, ◌<◌, ◌≤◌, ◌++◌, ℕ, List, [], drop, length, slice_get, None, Some, Result, Ok, Err, IfErr, IsErr, MatchResult, ⊤};
 ghost use Rattle.doc_value.specs.declared.schema.Schema.{Schema};
 ghost use Rattle.index_config.specs.declared.config.IndexConfig as configs;
 ghost use Rattle.index_world.specs.Core.{Core, IsConfigured};
+ghost use Rattle.index_world.specs.Gate.{grace_of};
 ghost use Rattle.doc_sets.specs.Faults.{IsMemory};
 ghost use Rattle.leaf_search.specs.Answers.{IsAsked};
 ghost use Rattle.leaf_search.specs.FileRanges.{AreRangesOf};
 ghost use Rattle.leaf_search.specs.Needs.{NeedsLists};
+ghost use Rattle.meta_store.specs.declared.planning.PlanRow.{PlanRow};
 ghost use Rattle.source_log.specs.Log.{Log};
 ghost use Rattle.split_bundle.specs.declared.placed.Placed.{Placed};
 ghost use Rattle.split_bundle.specs.Files.{Parts, file_bytes};
+ghost use Rattle.split_bundle.specs.Reading.{Held, MayGive, footer_of};
 ghost use Rattle.split_bundle.specs.Splits.{IsSplitOf};
-ghost use Rattle.split_bundle.specs.Views.{IsFooterOf, ReadsCut};
+ghost use Rattle.split_bundle.specs.Views.{IsFooterOf, ReadsCut, held};
+ghost use Rattle.root_search.specs.FetchCalls.{AreKeptBehind, IsFaultWhere, IsFooterGiven, IsNoFooter, IsNoPart, IsPartLooked, IsPartRead, IsPieceRead, NeverRefused, ReadsAs, start_of};
 ghost use Rattle.root_search.specs.Fetching.{AreBlocksFetched, AreListsFetched, AreRangesFetched, FetchesAs, IsFileAt, IsFooterFetched, IsLooked, IsPartFetched, IsPieceFetched, IsWant, WantsRoom, needed_calls, part_calls};
 ghost use Rattle.root_search.specs.SplitParts.{HoldsBlocks, IsFile, IsFooterIn, IsKnown, StartsFooter, over};
 
@@ -58,8 +62,9 @@ fn fetch_piece<G: Gate>(
     len: u64,
 ) -> Result<KeptPiece, FetchError>
     requires { place < length plan.now.rows }
-    ensures { (bytes : List ℕ) (core : Core) (log : Log) → G.Stands gate.old core log → IsFileAt core plan.now place bytes →
-        FetchesAs G.Stands G.Between G.bytes_fetched (IsPieceFetched bytes start len) result core log gate.old gate.new }
+    ensures step { (config : configs.IndexConfig) (bytes : List ℕ) (core : Core) (log : Log) → G.Stands gate.old core log → IsConfigured config core → IsFileAt core plan.now place bytes →
+        FetchesAs (grace_of config plan.now) G.Stands G.Between G.bytes_fetched (IsPieceFetched bytes start len) result core log gate.old gate.new }
+    ensures reads { ReadsAs G.Stands G.Between G.bytes_fetched plan.now place (IsPieceRead start len) NeverRefused result gate.old gate.new }
 {
     match gate.fetch(alloc, plan, place, start, len) {
         Ok(piece) => Ok(KeptPiece {
@@ -72,7 +77,8 @@ fn fetch_piece<G: Gate>(
 
 // Where a footer starts, by what is read where it isn't there.
 fn start_in(read: Result<Footer, SplitError>) -> Result<u64, FetchError>
-    ensures { (place : ℕ) → ReadsCut place read → MatchResult result (λ start. start ≡ place) WantsRoom }
+    ensures step { (place : ℕ) → ReadsCut place read → MatchResult result (λ start. start ≡ place) WantsRoom }
+    ensures exact { (given : Result Held SplitError) → MayGive held read given → MatchResult result (λ start. start_of given ≡ Some start) (IsFaultWhere (start_of given ≡ None)) }
 {
     match read {
         Ok(_) => Err(FetchError::Corrupt),
@@ -86,15 +92,17 @@ fn start_in(read: Result<Footer, SplitError>) -> Result<u64, FetchError>
 
 // Where the footer starts, by what stands behind it.
 fn footer_start(alloc: Global, trailer: &[u8], size: u64) -> Result<u64, FetchError>
-    ensures { (bytes : List ℕ) → IsFile bytes → size ≡ length bytes → trailer.now ≡ drop (size - 12) bytes →
+    ensures step { (bytes : List ℕ) → IsFile bytes → size ≡ length bytes → trailer.now ≡ drop (size - 12) bytes →
         MatchResult result (StartsFooter bytes) WantsRoom }
+    ensures exact { let given = footer_of size trailer.now in MatchResult result (λ start. start_of given ≡ Some start) (IsFaultWhere (start_of given ≡ None)) }
 {
     start_in(Footer::read(alloc, trailer, size))
 }
 
 // The fault of a footer.
 fn footer_fault(fault: SplitError) -> FetchError
-    ensures { IsWant fault → WantsRoom result }
+    ensures step { IsWant fault → WantsRoom result }
+    ensures exact { (given : Result Held SplitError) → MayGive held (Err fault) given → IsFaultWhere (IsErr given) result }
 {
     match fault {
         SplitError::Memory(refused) => FetchError::Memory(refused),
@@ -107,8 +115,9 @@ fn footer_fault(fault: SplitError) -> FetchError
 
 // The footer at the end of a file.
 fn footer_at(alloc: Global, tail: &[u8], size: u64) -> Result<Footer, FetchError>
-    ensures { (bytes : List ℕ) (start : ℕ) → IsFile bytes → size ≡ length bytes → StartsFooter bytes start → tail.now ≡ drop start bytes →
+    ensures step { (bytes : List ℕ) (start : ℕ) → IsFile bytes → size ≡ length bytes → StartsFooter bytes start → tail.now ≡ drop start bytes →
         MatchResult result (IsFooterIn bytes) WantsRoom }
+    ensures exact { let given = footer_of size tail.now in MatchResult result (λ footer. given ≡ Ok (held footer)) (IsFaultWhere (IsErr given)) }
 {
     match Footer::read(alloc, tail, size) {
         Ok(footer) => Ok(footer),
@@ -125,9 +134,10 @@ fn read_footer<G: Gate>(
     size: u64,
 ) -> Result<Footer, FetchError>
     requires { place < length plan.now.rows }
-    ensures { (s : Schema) (documents : List Placed) (p : Parts) (core : Core) (log : Log) → G.Stands gate.old core log →
+    ensures step { (config : configs.IndexConfig) (s : Schema) (documents : List Placed) (p : Parts) (core : Core) (log : Log) → G.Stands gate.old core log → IsConfigured config core →
         IsFileAt core plan.now place (file_bytes p) → IsSplitOf s documents p → size ≡ length (file_bytes p) →
-        FetchesAs G.Stands G.Between G.bytes_fetched (IsFooterFetched None p) result core log gate.old gate.new }
+        FetchesAs (grace_of config plan.now) G.Stands G.Between G.bytes_fetched (IsFooterFetched None p) result core log gate.old gate.new }
+    ensures reads { ReadsAs G.Stands G.Between G.bytes_fetched plan.now place (IsFooterGiven None size) (IsNoFooter None size) result gate.old gate.new }
 {
     let end = size.saturating_sub(TRAILER);
     let trailer = fetch_piece(alloc, gate, plan, place, end, TRAILER)?;
@@ -147,9 +157,11 @@ fn footer_of<G: Gate>(
     known: Option<Footer>,
 ) -> Result<Footer, FetchError>
     requires { place < length plan.now.rows }
-    ensures { (s : Schema) (documents : List Placed) (p : Parts) (core : Core) (log : Log) → G.Stands gate.old core log →
+    ensures step { (config : configs.IndexConfig) (s : Schema) (documents : List Placed) (p : Parts) (core : Core) (log : Log) → G.Stands gate.old core log → IsConfigured config core →
         IsFileAt core plan.now place (file_bytes p) → IsSplitOf s documents p → IsKnown (file_bytes p) known →
-        FetchesAs G.Stands G.Between G.bytes_fetched (IsFooterFetched known p) result core log gate.old gate.new }
+        FetchesAs (grace_of config plan.now) G.Stands G.Between G.bytes_fetched (IsFooterFetched known p) result core log gate.old gate.new }
+    ensures reads { (row : PlanRow) → slice_get plan.now.rows place ≡ Some row →
+        ReadsAs G.Stands G.Between G.bytes_fetched plan.now place (IsFooterGiven known row.size) (IsNoFooter known row.size) result gate.old gate.new }
 {
     match known {
         Some(footer) => Ok(footer),
@@ -170,8 +182,9 @@ fn fetch_ranges<G: Gate>(
     pieces: &mut KeptPieces,
 ) -> Result<(), FetchError>
     requires { place < length plan.now.rows }
-    ensures { (bytes : List ℕ) (core : Core) (log : Log) → G.Stands gate.old core log → IsFileAt core plan.now place bytes →
-        FetchesAs G.Stands G.Between G.bytes_fetched (λ done. AreRangesFetched bytes ranges.now pieces.old pieces.new) result core log gate.old gate.new }
+    ensures step { (config : configs.IndexConfig) (bytes : List ℕ) (core : Core) (log : Log) → G.Stands gate.old core log → IsConfigured config core → IsFileAt core plan.now place bytes →
+        FetchesAs (grace_of config plan.now) G.Stands G.Between G.bytes_fetched (λ done. AreRangesFetched bytes ranges.now pieces.old pieces.new) result core log gate.old gate.new }
+    ensures reads { ReadsAs G.Stands G.Between G.bytes_fetched plan.now place (λ done. AreKeptBehind pieces.old pieces.new) NeverRefused result gate.old gate.new }
 {
     for range in ranges {
         let piece = fetch_piece(alloc, gate, plan, place, range.start, range.len)?;
@@ -182,7 +195,8 @@ fn fetch_ranges<G: Gate>(
 
 // The fault of a leaf.
 fn leaf_fault(fault: LeafError) -> FetchError
-    ensures { IsMemory fault → WantsRoom result }
+    ensures memory { IsMemory fault → WantsRoom result }
+    ensures other { IsFaultWhere (¬ IsMemory fault) result }
 {
     match fault {
         LeafError::Memory(refused) => FetchError::Memory(refused),
@@ -200,9 +214,10 @@ fn lists_of(
     blocks: &[KeptPiece],
 ) -> Result<Ranges, FetchError>
     requires { length schema.now.fields ≤ 256 }
-    ensures { (documents : List Placed) (p : Parts) → IsSplitOf schema.now documents p → IsFooterOf p footer.now → IsAsked schema.now request.now →
+    ensures step { (documents : List Placed) (p : Parts) → IsSplitOf schema.now documents p → IsFooterOf p footer.now → IsAsked schema.now request.now →
         HoldsBlocks schema.now request.now documents p footer.now blocks.now →
         MatchResult result (AreRangesOf (NeedsLists (over footer.now) schema.now documents p request.now)) WantsRoom }
+    ensures fault { IfErr result (IsFaultWhere ⊤) }
 {
     let pieces = lent_pieces(alloc, blocks)?;
     let view = PartView::gather(footer.copy(alloc)?, pieces);
@@ -222,9 +237,10 @@ fn fetch_blocks<G: Gate>(
     footer: &Footer,
 ) -> Result<KeptPieces, FetchError>
     requires { place < length plan.now.rows }
-    ensures { (config : configs.IndexConfig) (documents : List Placed) (p : Parts) (core : Core) (log : Log) → G.Stands gate.old core log → IsConfigured config core →
+    ensures step { (config : configs.IndexConfig) (documents : List Placed) (p : Parts) (core : Core) (log : Log) → G.Stands gate.old core log → IsConfigured config core →
         IsFileAt core plan.now place (file_bytes p) → IsSplitOf config.schema documents p → IsFooterOf p footer.now →
-        FetchesAs G.Stands G.Between G.bytes_fetched (AreBlocksFetched config.schema request.now documents p footer.now) result core log gate.old gate.new }
+        FetchesAs (grace_of config plan.now) G.Stands G.Between G.bytes_fetched (AreBlocksFetched config.schema request.now documents p footer.now) result core log gate.old gate.new }
+    ensures reads { ReadsAs G.Stands G.Between G.bytes_fetched plan.now place (AreKeptBehind []) NeverRefused result gate.old gate.new }
 {
     let blocks = blocks_needed(alloc, &gate.config().schema, request, footer)?;
     let mut pieces = KeptPieces::vacant(alloc);
@@ -243,10 +259,11 @@ fn fetch_lists<G: Gate>(
     blocks: KeptPieces,
 ) -> Result<KeptPieces, FetchError>
     requires { place < length plan.now.rows }
-    ensures { (config : configs.IndexConfig) (documents : List Placed) (p : Parts) (core : Core) (log : Log) → G.Stands gate.old core log → IsConfigured config core →
+    ensures step { (config : configs.IndexConfig) (documents : List Placed) (p : Parts) (core : Core) (log : Log) → G.Stands gate.old core log → IsConfigured config core →
         IsFileAt core plan.now place (file_bytes p) → IsSplitOf config.schema documents p → IsFooterOf p footer.now → IsAsked config.schema request.now →
         HoldsBlocks config.schema request.now documents p footer.now blocks →
-        FetchesAs G.Stands G.Between G.bytes_fetched (AreListsFetched config.schema request.now documents p footer.now blocks) result core log gate.old gate.new }
+        FetchesAs (grace_of config plan.now) G.Stands G.Between G.bytes_fetched (AreListsFetched config.schema request.now documents p footer.now blocks) result core log gate.old gate.new }
+    ensures reads { ReadsAs G.Stands G.Between G.bytes_fetched plan.now place (AreKeptBehind blocks) (λ calls. ⊤) result gate.old gate.new }
 {
     let schema = &gate.config().schema;
     let lists = lists_of(alloc, schema, request, footer, blocks.as_slice())?;
@@ -265,9 +282,11 @@ fn fetch_needed<G: Gate>(
     known: Option<Footer>,
 ) -> Result<SplitPart, FetchError>
     requires { place < length plan.now.rows }
-    ensures { (config : configs.IndexConfig) (documents : List Placed) (p : Parts) (core : Core) (log : Log) → G.Stands gate.old core log → IsConfigured config core →
+    ensures step { (config : configs.IndexConfig) (documents : List Placed) (p : Parts) (core : Core) (log : Log) → G.Stands gate.old core log → IsConfigured config core →
         IsFileAt core plan.now place (file_bytes p) → IsSplitOf config.schema documents p → IsAsked config.schema request.now → IsKnown (file_bytes p) known →
-        FetchesAs G.Stands G.Between G.bytes_fetched (IsPartFetched config.schema request.now known documents p (needed_calls known)) result core log gate.old gate.new }
+        FetchesAs (grace_of config plan.now) G.Stands G.Between G.bytes_fetched (IsPartFetched config.schema request.now known documents p (needed_calls known)) result core log gate.old gate.new }
+    ensures reads { (row : PlanRow) → slice_get plan.now.rows place ≡ Some row →
+        ReadsAs G.Stands G.Between G.bytes_fetched plan.now place (IsPartRead known row.number row.size) (IsNoPart known row.size) result gate.old gate.new }
 {
     let number = plan.rows.at(place as usize).number;
     let footer = footer_of(alloc, gate, plan, place, known)?;
@@ -296,8 +315,9 @@ fn look<G: Gate>(
     part: SplitPart,
 ) -> Result<SplitPart, FetchError>
     requires { place < length plan.now.rows }
-    ensures { (bytes : List ℕ) (core : Core) (log : Log) → G.Stands gate.old core log → IsFileAt core plan.now place bytes →
-        FetchesAs G.Stands G.Between G.bytes_fetched (IsLooked part) result core log gate.old gate.new }
+    ensures step { (config : configs.IndexConfig) (bytes : List ℕ) (core : Core) (log : Log) → G.Stands gate.old core log → IsConfigured config core → IsFileAt core plan.now place bytes →
+        FetchesAs (grace_of config plan.now) G.Stands G.Between G.bytes_fetched (IsLooked part) result core log gate.old gate.new }
+    ensures reads { ReadsAs G.Stands G.Between G.bytes_fetched plan.now place (IsPartLooked part) NeverRefused result gate.old gate.new }
 {
     match fetch_piece(alloc, gate, plan, place, 0, 0) {
         Ok(_) => Ok(part),
@@ -316,9 +336,11 @@ pub(crate) fn fetch_part<G: Gate>(
     known: Option<Footer>,
 ) -> Result<SplitPart, FetchError>
     requires { place < length plan.now.rows }
-    ensures { (config : configs.IndexConfig) (documents : List Placed) (p : Parts) (core : Core) (log : Log) → G.Stands gate.old core log → IsConfigured config core →
+    ensures step { (config : configs.IndexConfig) (documents : List Placed) (p : Parts) (core : Core) (log : Log) → G.Stands gate.old core log → IsConfigured config core →
         IsFileAt core plan.now place (file_bytes p) → IsSplitOf config.schema documents p → IsAsked config.schema request.now → IsKnown (file_bytes p) known →
-        FetchesAs G.Stands G.Between G.bytes_fetched (IsPartFetched config.schema request.now known documents p (part_calls known)) result core log gate.old gate.new }
+        FetchesAs (grace_of config plan.now) G.Stands G.Between G.bytes_fetched (IsPartFetched config.schema request.now known documents p (part_calls known)) result core log gate.old gate.new }
+    ensures reads { (row : PlanRow) → slice_get plan.now.rows place ≡ Some row →
+        ReadsAs G.Stands G.Between G.bytes_fetched plan.now place (IsPartRead known row.number row.size) (IsNoPart known row.size) result gate.old gate.new }
 {
     let was_known = known.is_some();
     let part = fetch_needed(alloc, gate, plan, place, request, known)?;

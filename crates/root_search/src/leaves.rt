@@ -1,12 +1,12 @@
 //! The answer over many splits.
 
-ghost use Rattle.std.specs.Prelude.{◌≡◌, ◌+◌, ◌^◌, ◌<◌, ◌≤◌, ◌++◌, [], List, length, Some, Err, IfErr, IfOk, MatchResult};
-ghost use Rattle.std.specs.List.{All, AllZip};
+ghost use Rattle.std.specs.Prelude.{◌≡◌, ◌+◌, ◌^◌, ◌<◌, ◌≤◌, ◌++◌, [], List, length, sum_by, Some, Err, IfErr, IfOk, IsOk, MatchResult};
+ghost use Rattle.std.specs.List.{All, AllByRecursion, AllZip};
 ghost use Rattle.doc_value.specs.declared.schema.Schema.{Schema};
 ghost use Rattle.agg_model.specs.Checking.{HaveIntervals};
 ghost use Rattle.split_bundle.specs.declared.placed.Placed.{Placed};
 ghost use Rattle.leaf_search.specs.Answers.{IsAnswerOf, IsAsked};
-ghost use Rattle.root_search.specs.Leaves.{HasAsked, HasCauseIn, IsCounted, IsFaultIn, IsFull, IsLeafAnswer, IsViewOf, IsWholeViewOf, WantsMemory, all_of, placed_fault};
+ghost use Rattle.root_search.specs.Leaves.{HasAsked, HasCauseIn, IsCounted, IsFaultIn, IsFull, IsJoinOf, IsLeafAnswer, IsRefusedIn, IsViewOf, IsWholeViewOf, WantsMemory, all_of, count_in, placed_fault};
 
 use crate::joins::merged;
 use crate::splits_error::SplitsError;
@@ -88,6 +88,8 @@ fn joined(
         → IfOk result (IsAnswerOf s request.now (all_of lists)) }
     ensures counted { IfOk result (IsCounted request.now) }
     ensures fault { IfErr result (IsFaultIn answers.items) }
+    // A fault of one is never passed over.
+    ensures each { IfOk result (λ all. AllByRecursion IsOk answers.items × (all.count ≡ sum_by count_in answers.items)) }
 {
     let mut all = vacant_answer(alloc, request)?;
     let mut left = VecDeque::from_vec(answers);
@@ -200,6 +202,9 @@ pub fn search_all<Rt: Threads + Sync>(
         → MatchResult result (IsAnswerOf schema.now request.now (all_of lists)) WantsMemory }
     // Over any bytes.
     ensures counted { IfOk result (IsCounted request.now) }
+    // Over any bytes: there is an answer only where each split has one, and a split is refused only where its view is none of a split.
+    ensures each { IfOk result (IsJoinOf schema.now request.now views.now) }
+    ensures refused { IfErr result (IsRefusedIn schema.now request.now views.now) }
 {
     let answers = answers_of(rt, alloc, manner, schema, request, views)?;
     joined(alloc, request, answers)

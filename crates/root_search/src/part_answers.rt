@@ -1,6 +1,6 @@
 //! The answer over what was fetched of splits.
 
-ghost use Rattle.std.specs.Prelude.{◌≡◌, ◌<◌, ◌≤◌, ◌^◌, List, length, IfOk, MatchResult};
+ghost use Rattle.std.specs.Prelude.{◌≡◌, ◌<◌, ◌≤◌, ◌^◌, List, length, IfErr, IfOk, MatchResult};
 ghost use Rattle.std.specs.List.{AllZip};
 ghost use Rattle.agg_model.specs.Checking.{HaveIntervals};
 ghost use Rattle.split_bundle.specs.declared.placed.Placed.{Placed};
@@ -9,7 +9,7 @@ ghost use Rattle.search_api.specs.Resolved.{Search};
 ghost use Rattle.root_search.specs.Answer.{answer};
 ghost use Rattle.root_search.specs.LeafAsks.{Asks};
 ghost use Rattle.root_search.specs.Leaves.{IsCounted, WantsMemory, all_of};
-ghost use Rattle.root_search.specs.PartAnswers.{AreFound, WantsRoom};
+ghost use Rattle.root_search.specs.PartAnswers.{AreFound, IsCorruptAt, IsCorruptOf, IsFaultAt, IsRefusedPart, IsSaidOf, WantsRoom};
 ghost use Rattle.root_search.specs.SplitParts.{HasNeeded};
 ghost use Rattle.root_search.specs.declared.leaves.Manner.TheVariants.{InTurn};
 
@@ -49,7 +49,8 @@ impl From<AllocError> for PartError {
 
 // The fault of the split at a place. So many documents that they are not counted are more than a memory has.
 fn fault_of(splits: &[KeptSplit], error: SplitsError) -> PartError
-    ensures { WantsMemory error → WantsRoom result }
+    ensures room { WantsMemory error → WantsRoom result }
+    ensures place { IsFaultAt splits.now error result }
 {
     match error {
         SplitsError::Memory(refused) => PartError::Memory(refused),
@@ -59,7 +60,9 @@ fn fault_of(splits: &[KeptSplit], error: SplitsError) -> PartError
     }
 }
 
-fn corrupt_at(splits: &[KeptSplit], place: usize) -> PartError {
+fn corrupt_at(splits: &[KeptSplit], place: usize) -> PartError
+    ensures { IsCorruptAt splits.now place result }
+{
     match splits.get(place) {
         Some(split) => PartError::Corrupt {
             number: split.number,
@@ -104,6 +107,7 @@ fn leaf_answer<Rt: Threads + Sync>(
     ensures only { (lists : List (List Placed)) → AllZip (HasNeeded schema.now ask.now.request) parts lists → length (all_of lists) < 2 ^ 62 → IsAsked schema.now ask.now.request
         → MatchResult result (IsAnswerOf schema.now ask.now.request (all_of lists)) WantsRoom }
     ensures counted { IfOk result (IsCounted ask.now.request) }
+    ensures refused { IfErr result (IsRefusedPart schema.now ask.now.request parts) }
 {
     let parted = part_ways(alloc, parts)?;
     let footers = parted.footers;
@@ -113,6 +117,18 @@ fn leaf_answer<Rt: Threads + Sync>(
     match search_all(rt, alloc, manner, schema, &ask.request, views.as_slice()) {
         Ok(answer) => Ok(answer),
         Err(error) => Err(fault_of(splits, error)),
+    }
+}
+
+// What is answered where parts give no answer.
+fn said_of(fault: PartError) -> Result<Said, AllocError>
+    ensures { IfOk result (IsSaidOf fault) }
+{
+    match fault {
+        PartError::Memory(refused) => Err(refused),
+        PartError::Corrupt { number } => Ok(Said::Refused(Refusal::Corrupt {
+            key: split_key(number),
+        })),
     }
 }
 
@@ -127,15 +143,14 @@ pub fn answer_over<Rt: Threads + Sync>(
 ) -> Result<Said, AllocError>
     requires fields { length schema.now.fields ≤ 256 }
     requires intervals { HaveIntervals ask.now.request.aggs }
-    ensures { (search : Search) (lists : List (List Placed)) (documents : List Placed) → Asks search ask.now → IsAsked schema.now ask.now.request
+    ensures only { (search : Search) (lists : List (List Placed)) (documents : List Placed) → Asks search ask.now → IsAsked schema.now ask.now.request
         → AllZip (HasNeeded schema.now ask.now.request) parts lists → length (all_of lists) < 2 ^ 62 → AreFound schema.now ask.now.request lists documents
         → IfOk result (λ said. said ≡ answer schema.now search documents) }
+    // Over any bytes: Corrupt is replied with the key of a split alone of which what was fetched is none of a split.
+    ensures refused { IfOk result (IsCorruptOf schema.now ask.now.request parts) }
 {
     match leaf_answer(rt, alloc, schema, ask, parts) {
         Ok(answer) => shown(alloc, schema, ask, &answer),
-        Err(PartError::Memory(refused)) => Err(refused),
-        Err(PartError::Corrupt { number }) => Ok(Said::Refused(Refusal::Corrupt {
-            key: split_key(number),
-        })),
+        Err(fault) => said_of(fault),
     }
 }

@@ -1,18 +1,20 @@
 //! A client's searcher and its steps.
 
-ghost use Rattle.std.specs.Prelude.{◌≡◌, ◌<◌, ◌≤◌, ℕ, List, length, Ok, Err};
+ghost use Rattle.std.specs.Prelude.{◌≡◌, ◌<◌, ◌≤◌, ℕ, List, length, slice_get, None, Some, Ok, Err, MatchResult};
 ghost use Rattle.source_log.specs.Log.{Log, IsLog};
 ghost use Rattle.doc_value.specs.Documents.{IsSchema};
 ghost use Rattle.index_world.specs.Calls.{Trouble};
 ghost use Rattle.index_world.specs.Core.{Core, IsConfigured};
 ghost use Rattle.index_world.specs.Gate.{IsTrouble};
 ghost use Rattle.index_config.specs.declared.config.IndexConfig as configs;
+ghost use Rattle.meta_store.specs.declared.planning.PlanRow.{PlanRow};
 ghost use Rattle.search_api.specs.Resolved.{Search};
 ghost use Rattle.search_api.specs.declared.unanswered.Unanswered.TheVariants as reasons;
 ghost use Rattle.root_search.specs.Drawing.{NeverFetched, StepDraws};
 ghost use Rattle.root_search.specs.ReadSearches.{IsRead};
 ghost use Rattle.root_search.specs.Requests.{asked_of};
 ghost use Rattle.root_search.specs.Searching.{IsPlanned, SearcherStands, new_client, Submits, SearchesAs, IsAtWork, Ends, FaultEnds, IsRefusalOf};
+ghost use Rattle.root_search.specs.StepReads.{FetchesRow, IsFetchRefusal, Refuses, SaysOver, StepAnswers, StepReads, refusal_of};
 ghost use Rattle.root_search.specs.Steps as steps;
 ghost use Rattle.root_search.specs.Steps.{opened, without_request, reply_with, trouble_replied, refused_over};
 
@@ -59,11 +61,13 @@ pub struct Searcher {
 // What a request is answered where a call of the world gave nothing; want of memory is the step's own answer. What a
 // sound index never answers is replied as it is, or as an index that has no room.
 fn refused_by(error: WorldError) -> Result<Refusal, AllocError>
-    ensures { (trouble : Trouble) → IsTrouble error trouble → IsRefusalOf result trouble }
+    ensures trouble { (trouble : Trouble) → IsTrouble error trouble → IsRefusalOf result trouble }
+    ensures exact { MatchResult result (λ refusal. refusal_of error ≡ Some refusal) (λ refused. refusal_of error ≡ None) }
 {
     match error {
         WorldError::Memory(refused) => Err(refused),
         WorldError::StoreFault { before, after } => Ok(Refusal::StoreFault { before, after }),
+        WorldError::Expired { planned_at, now } => Ok(Refusal::Expired { planned_at, now }),
         WorldError::Missing { key } => Ok(Refusal::Missing { key }),
         WorldError::Corrupt { key } => Ok(Refusal::Corrupt { key }),
         WorldError::Foreign { key } => Ok(Refusal::Foreign { key }),
@@ -129,6 +133,7 @@ impl Searcher {
         ensures step { (client : steps.Client) (core : Core) (log : Log) → IsAtWork self.old client core →
             Ends (Ok result) self.new (reply_with revision said client core) log }
         ensures replied { NeverFetched (Ok result) }
+        ensures said { result ≡ SearchStep.Replied (record { client = self.old.client; revision = revision; said = said }) }
     {
         self.front = revision;
         SearchStep::Replied(Reply {
@@ -142,6 +147,7 @@ impl Searcher {
         ensures step { (trouble : Trouble) (client : steps.Client) (core : Core) (log : Log) → IsTrouble error trouble → IsAtWork self.old client core →
             Ends result self.new (trouble_replied revision trouble client core) log }
         ensures replied { NeverFetched result }
+        ensures refuses { Refuses (λ refusal. refusal_of error ≡ Some refusal) result }
     {
         let refusal = refused_by(error)?;
         Ok(self.reply(revision, Said::Refused(refusal)))
@@ -157,6 +163,7 @@ impl Searcher {
         ensures step { (client : steps.Client) (core : Core) (log : Log) → IsAtWork self.old client core →
             FaultEnds fault result self.new revision client core log }
         ensures replied { NeverFetched result }
+        ensures refuses { Refuses (IsFetchRefusal number fault) result }
     {
         match fault {
             FetchError::World(error) => self.refuse(revision, error),
@@ -255,6 +262,8 @@ impl Searcher {
         ensures draws { (search : steps.Plan) (client : steps.Client) (core : Core) (log : Log) → IsPlanned planned search core log →
             G.Stands gate.old core log → IsAtWork self.old client core →
             StepDraws self.old search result (G.bytes_fetched gate.old) (G.bytes_fetched gate.new) core }
+        ensures reads { (row : PlanRow) → slice_get planned.plan.rows planned.next ≡ Some row →
+            FetchesRow G.Stands G.Between G.bytes_fetched self.old.footers planned row self.new.request result gate.old gate.new }
     {
         let place = planned.next;
         let number = planned.plan.rows.at(place as usize).number;
@@ -285,6 +294,9 @@ impl Searcher {
         ensures draws { (search : steps.Plan) (client : steps.Client) (core : Core) (log : Log) → IsPlanned planned search core log →
             G.Stands gate.old core log → IsAtWork self.old client core →
             StepDraws self.old search result (G.bytes_fetched gate.old) (G.bytes_fetched gate.new) core }
+        ensures reads { (row : PlanRow) → slice_get planned.plan.rows planned.next ≡ Some row →
+            FetchesRow G.Stands G.Between G.bytes_fetched self.old.footers planned row self.new.request result gate.old gate.new }
+        ensures answers { length planned.plan.rows ≤ planned.next → SaysOver G.Stands planned gate.old result }
     {
         if (planned.next as usize) < planned.plan.rows.len() {
             return self.fetch(alloc, gate, planned);
@@ -308,6 +320,10 @@ impl Searcher {
         ensures draws { (search : steps.Plan) (client : steps.Client) (core : Core) (log : Log) → client.request ≡ steps.planned search →
             G.Stands gate.old core log → SearcherStands self.old client core log →
             StepDraws self.old search result (G.bytes_fetched gate.old) (G.bytes_fetched gate.new) core }
+        // Whatever the gate tells: what it answers where it fetches of a planned split, by the bytes that its calls gave.
+        ensures reads { StepReads G.Stands G.Between G.bytes_fetched self.old self.new result gate.old gate.new }
+        // And where each is fetched.
+        ensures answers { StepAnswers G.Stands self.old result gate.old }
     {
         match mem::replace(&mut self.request, Request::Vacant) {
             Request::Vacant => Ok(SearchStep::Idle),

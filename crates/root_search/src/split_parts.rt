@@ -7,6 +7,7 @@ ghost use Rattle.leaf_search.specs.Answers.{IsAsked};
 ghost use Rattle.leaf_search.specs.declared.request.LeafRequest.{LeafRequest};
 ghost use Rattle.split_bundle.specs.declared.placed.Placed.{Placed};
 ghost use Rattle.root_search.specs.Leaves.{HasAsked};
+ghost use Rattle.root_search.specs.PartAnswers.{AreViewsOf, IsViewOfPart};
 ghost use Rattle.root_search.specs.SplitParts.{HasNeeded, IsLentOf, IsParted};
 ghost use Rattle.root_search.specs.declared.split_parts.SplitPart.{SplitPart as Part};
 
@@ -83,8 +84,7 @@ pub(crate) fn lent_pieces(alloc: Global, pieces: &[KeptPiece]) -> Result<Pieces<
 
 // The view of what was fetched of a split.
 fn view_of(alloc: Global, footer: Footer, pieces: &[KeptPiece]) -> Result<PartView<'_>, AllocError>
-    ensures { (s : Schema) (r : LeafRequest) (part : Part) (documents : List Placed) → IsAsked s r → part.footer ≡ footer → part.pieces ≡ pieces.now → HasNeeded s r part documents
-        → IfOk result (λ view. HasAsked s r view documents) }
+    ensures { (part : Part) → part.footer ≡ footer → part.pieces ≡ pieces.now → IfOk result (IsViewOfPart part) }
 {
     let pieces = lent_pieces(alloc, pieces)?;
     Ok(PartView::gather(footer, pieces))
@@ -96,8 +96,9 @@ pub(crate) fn views_of(
     footers: Vec<Footer>,
     splits: &[KeptSplit],
 ) -> Result<List<PartView<'_>>, AllocError>
-    ensures { (s : Schema) (r : LeafRequest) (parts : List Part) (lists : List (List Placed)) → IsAsked s r → IsParted parts footers.items splits.now → AllZip (HasNeeded s r) parts lists
+    ensures asked { (s : Schema) (r : LeafRequest) (parts : List Part) (lists : List (List Placed)) → IsAsked s r → IsParted parts footers.items splits.now → AllZip (HasNeeded s r) parts lists
         → IfOk result (λ views. AllZip (HasAsked s r) views lists) }
+    ensures each { (parts : List Part) → IsParted parts footers.items splits.now → IfOk result (λ views. AreViewsOf views parts) }
 {
     let mut left = VecDeque::from_vec(footers);
     let mut views = List::vacant(alloc);

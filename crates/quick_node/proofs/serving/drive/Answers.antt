@@ -7,7 +7,7 @@ use Rattle.node_run.specs.Logs.{logs_in}
 use Rattle.node_run.specs.Node.{Node}
 use Rattle.quick_node.specs.Serve.{Opens}
 use Rattle.quick_node.specs.declared.error_line.End.TheVariants as ended
-use Rattle.quick_node.proofs.Driven.{new_moment, new_sure, opened_counts, begins, kept_logs, returned}
+use Rattle.quick_node.proofs.Driven.{new_moment, new_sure, new_unmarked, opened_counts, begins, kept_logs, returned}
 use Rattle.quick_node.proofs.UpToLast.{met_unopened}
 use Rattle.quick_node.specs.Causes.{faults_of}
 use Rattle.quick_node.proofs.Caused.{opening_causes}
@@ -41,7 +41,7 @@ returns-in-Err-clause-drives g c history before shows enters =
     let opens : Opens fresh (Err l.unread) last = record { fate = l.loads.fate; core = l.after; did = l.loads.did; is = refl } in
     returned g.S.ObjectStore.told g.S.ObjectStore.fault_count g.L.SourceLog.fault_count g.L.SourceLog.since g.R.Source.fault_count g.W.Sink.content g.W.Sink.fault_count
     history before fresh last b.is enters.is_log (ended.NotOpened c.in-Err.field-0.error) (g.R.Source.fault_count c.args.input.now) (g.W.Sink.fault_count c.args.output.now) []
-    (met_unopened before fresh last (new_moment history before fresh b.is) (new_sure history before fresh b.is) (g.R.Source.fault_count c.args.input.now) (g.W.Sink.fault_count c.args.output.now)
+    (met_unopened before fresh last (new_moment history before fresh b.is) (new_sure history before fresh b.is) (new_unmarked history before fresh b.is) (g.R.Source.fault_count c.args.input.now) (g.W.Sink.fault_count c.args.output.now)
     c.in-Err.field-0.error l.unread l.says opens)
     c.ended.result.0.store c.ended.result.0.store_faults c.ended.result.0.log_faults c.ended.result.0.status c.args.logs.items c.args.input.now c.ended.new.output
     l.kept (ap g.S.ObjectStore.told c.ended.ensures.store ∙ l.tells) (ap g.S.ObjectStore.fault_count c.ended.ensures.store ∙ sym c.ended.ensures.store_faults) l.world (sym (c.ended.ensures.store_faults ∙ l.counts))

@@ -1,56 +1,101 @@
-use Rattle.std.proofs.Common.{◌+◌, length, refl, arith}
+use Rattle.std.proofs.Common.{◌+◌, length, refl, arith, ◌≡◌, ◌++◌, [], List, inl, inr, ap, sym, ◌∙◌, append_assoc}
+use Rattle.index_world.specs.Gate.{grace_of}
 use Rattle.leaf_search.specs.FileRanges.{total}
 use Rattle.split_bundle.specs.Files.{file_bytes}
 use Rattle.root_search.specs.Fetching.{AreBlocksFetched, AreListsFetched, IsFooterFetched, IsPartFetched, footer_calls, footer_drawn, needed_calls}
 use Rattle.root_search.proofs.Fetches.{all_done, file_stands, handed_on, made_of, then_failed, then_given}
 use Rattle.root_search.proofs.Needed.{all_kept, count_kept}
 use Rattle.root_search.proofs.Stands.{configured_after}
+use Rattle.std.specs.Prelude.{⊤}
+use Rattle.std.proofs.lemmas.List.{append-nil}
+use Rattle.meta_store.specs.declared.planning.PlanRow.{PlanRow}
+use Rattle.root_search.specs.FetchCalls.{AreKeptBehind, FetchCall, IsFooterGiven, IsNoFooter, IsNoPart, IsPartRead, NeverRefused}
+use Rattle.root_search.proofs.CallsMade.{all_of, kept_further, none_called, read_well, then_all, then_lost}
+use Rattle.root_search.proofs.Kept.{same_row}
 use Rattle.root_search.proofs.fetching.fetch_needed.Goals as goal
 
-pub returns-in_err-footer : goal.returns-in_err-footer
-returns-in_err-footer g c = λ config documents p core log stands configured file is asked known.
-    handed_on g.G.Gate.Stands g.G.Gate.Between g.G.Gate.bytes_fetched core log c.args.gate.now (IsFooterFetched c.args.known p) (IsPartFetched config.schema c.args.request.now c.args.known documents p (needed_calls c.args.known)) c.in_err-footer.field-0.0 c.from_residual.result _ c.from_residual.ensures.1
-    (c.in_err-footer.ensures config.schema documents p core log stands file is known)
+pub returns-in_err-footer-clause-step : goal.returns-in_err-footer-clause-step
+returns-in_err-footer-clause-step g c = λ config documents p core log stands configured file is asked known.
+    handed_on (grace_of config c.args.plan.now) g.G.Gate.Stands g.G.Gate.Between g.G.Gate.bytes_fetched core log c.args.gate.now (IsFooterFetched c.args.known p) (IsPartFetched config.schema c.args.request.now c.args.known documents p (needed_calls c.args.known)) c.in_err-footer.field-0.0 c.from_residual.result _ c.from_residual.ensures.1
+    (c.in_err-footer.ensures.step config config.schema documents p core log stands configured file is known)
 
-pub returns-in_err-blocks : goal.returns-in_err-blocks
-returns-in_err-blocks g c = λ config documents p core log stands configured file is asked known.
-    let k = c.in_ok-footer.ensures config.schema documents p core log stands file is known in
-    let one = made_of g.G.Gate.Stands g.G.Gate.Between g.G.Gate.bytes_fetched core log c.args.gate.now (IsFooterFetched c.args.known p) c.in_ok-footer.footer (footer_calls c.args.known) (footer_drawn c.args.known p) _ k k.says.1.calls k.says.1.few in
+pub returns-in_err-blocks-clause-step : goal.returns-in_err-blocks-clause-step
+returns-in_err-blocks-clause-step g c = λ config documents p core log stands configured file is asked known.
+    let k = c.in_ok-footer.ensures.step config config.schema documents p core log stands configured file is known in
+    let one = made_of (grace_of config c.args.plan.now) g.G.Gate.Stands g.G.Gate.Between g.G.Gate.bytes_fetched core log c.args.gate.now (IsFooterFetched c.args.known p) c.in_ok-footer.footer (footer_calls c.args.known) (footer_drawn c.args.known p) _ k k.says.1.calls k.says.1.few in
     let foot = k.says.1.is_footer config.schema documents p is refl in
-    then_failed g.G.Gate.Stands g.G.Gate.Between g.G.Gate.bytes_fetched core log c.args.gate.now (AreBlocksFetched config.schema c.args.request.now documents p c.in_ok-footer.footer) _ c.in_err-blocks.field-0.0 c.from_residual-in_err-blocks.result (footer_calls c.args.known) (footer_drawn c.args.known p) _ _ one
+    then_failed (grace_of config c.args.plan.now) g.G.Gate.Stands g.G.Gate.Between g.G.Gate.bytes_fetched core log c.args.gate.now (AreBlocksFetched config.schema c.args.request.now documents p c.in_ok-footer.footer) _ c.in_err-blocks.field-0.0 c.from_residual-in_err-blocks.result (footer_calls c.args.known) (footer_drawn c.args.known p) _ _ one
     c.from_residual-in_err-blocks.ensures.1
-    (c.in_err-blocks.ensures config documents p one.after log one.stands (configured_after core one.after config configured one.goes_on) (file_stands core one.after c.args.plan.now c.args.place (file_bytes p) one.goes_on file) is foot)
+    (c.in_err-blocks.ensures.step config documents p one.after log one.stands (configured_after core one.after config configured one.goes_on) (file_stands core one.after c.args.plan.now c.args.place (file_bytes p) one.goes_on file) is foot)
 
-pub returns-in_err-pieces : goal.returns-in_err-pieces
-returns-in_err-pieces g c = λ config documents p core log stands configured file is asked known.
-    let k = c.in_ok-footer.ensures config.schema documents p core log stands file is known in
-    let one = made_of g.G.Gate.Stands g.G.Gate.Between g.G.Gate.bytes_fetched core log c.args.gate.now (IsFooterFetched c.args.known p) c.in_ok-footer.footer (footer_calls c.args.known) (footer_drawn c.args.known p) _ k k.says.1.calls k.says.1.few in
+pub returns-in_err-pieces-clause-step : goal.returns-in_err-pieces-clause-step
+returns-in_err-pieces-clause-step g c = λ config documents p core log stands configured file is asked known.
+    let k = c.in_ok-footer.ensures.step config config.schema documents p core log stands configured file is known in
+    let one = made_of (grace_of config c.args.plan.now) g.G.Gate.Stands g.G.Gate.Between g.G.Gate.bytes_fetched core log c.args.gate.now (IsFooterFetched c.args.known p) c.in_ok-footer.footer (footer_calls c.args.known) (footer_drawn c.args.known p) _ k k.says.1.calls k.says.1.few in
     let foot = k.says.1.is_footer config.schema documents p is refl in
-    let b = c.in_ok-blocks.ensures config documents p one.after log one.stands (configured_after core one.after config configured one.goes_on) (file_stands core one.after c.args.plan.now c.args.place (file_bytes p) one.goes_on file) is foot in
-    let two = then_given g.G.Gate.Stands g.G.Gate.Between g.G.Gate.bytes_fetched core log c.args.gate.now (AreBlocksFetched config.schema c.args.request.now documents p c.in_ok-footer.footer) c.in_ok-blocks.blocks (footer_calls c.args.known) (footer_drawn c.args.known p) (length c.in_ok-blocks.blocks) (total b.says.1.held.blocks)
+    let b = c.in_ok-blocks.ensures.step config documents p one.after log one.stands (configured_after core one.after config configured one.goes_on) (file_stands core one.after c.args.plan.now c.args.place (file_bytes p) one.goes_on file) is foot in
+    let two = then_given (grace_of config c.args.plan.now) g.G.Gate.Stands g.G.Gate.Between g.G.Gate.bytes_fetched core log c.args.gate.now (AreBlocksFetched config.schema c.args.request.now documents p c.in_ok-footer.footer) c.in_ok-blocks.blocks (footer_calls c.args.known) (footer_drawn c.args.known p) (length c.in_ok-blocks.blocks) (total b.says.1.held.blocks)
     _ _ one b b.says.1.each b.says.1.few in
-    then_failed g.G.Gate.Stands g.G.Gate.Between g.G.Gate.bytes_fetched core log c.args.gate.now (AreListsFetched config.schema c.args.request.now documents p c.in_ok-footer.footer c.in_ok-blocks.blocks) _ c.in_err-pieces.field-0.0 c.from_residual-in_err-pieces.result (footer_calls c.args.known + length c.in_ok-blocks.blocks)
+    then_failed (grace_of config c.args.plan.now) g.G.Gate.Stands g.G.Gate.Between g.G.Gate.bytes_fetched core log c.args.gate.now (AreListsFetched config.schema c.args.request.now documents p c.in_ok-footer.footer c.in_ok-blocks.blocks) _ c.in_err-pieces.field-0.0 c.from_residual-in_err-pieces.result (footer_calls c.args.known + length c.in_ok-blocks.blocks)
     (footer_drawn c.args.known p + total b.says.1.held.blocks) _ _ two c.from_residual-in_err-pieces.ensures.1
-    (c.in_err-pieces.ensures config documents p two.after log two.stands (configured_after core two.after config configured two.goes_on) (file_stands core two.after c.args.plan.now c.args.place (file_bytes p) two.goes_on file) is foot asked b.says.1.held)
+    (c.in_err-pieces.ensures.step config documents p two.after log two.stands (configured_after core two.after config configured two.goes_on) (file_stands core two.after c.args.plan.now c.args.place (file_bytes p) two.goes_on file) is foot asked b.says.1.held)
 
-pub returns : goal.returns
-returns g c = λ config documents p core log stands configured file is asked known.
+pub returns-clause-step : goal.returns-clause-step
+returns-clause-step g c = λ config documents p core log stands configured file is asked known.
     let footer = c.in_ok-footer.footer in
     let kept = c.in_ok-blocks.blocks in
     let pieces = c.in_ok-pieces.pieces in
-    let k = c.in_ok-footer.ensures config.schema documents p core log stands file is known in
-    let one = made_of g.G.Gate.Stands g.G.Gate.Between g.G.Gate.bytes_fetched core log c.args.gate.now (IsFooterFetched c.args.known p) footer (footer_calls c.args.known) (footer_drawn c.args.known p) _ k k.says.1.calls k.says.1.few in
+    let k = c.in_ok-footer.ensures.step config config.schema documents p core log stands configured file is known in
+    let one = made_of (grace_of config c.args.plan.now) g.G.Gate.Stands g.G.Gate.Between g.G.Gate.bytes_fetched core log c.args.gate.now (IsFooterFetched c.args.known p) footer (footer_calls c.args.known) (footer_drawn c.args.known p) _ k k.says.1.calls k.says.1.few in
     let foot = k.says.1.is_footer config.schema documents p is refl in
-    let b = c.in_ok-blocks.ensures config documents p one.after log one.stands (configured_after core one.after config configured one.goes_on) (file_stands core one.after c.args.plan.now c.args.place (file_bytes p) one.goes_on file) is foot in
+    let b = c.in_ok-blocks.ensures.step config documents p one.after log one.stands (configured_after core one.after config configured one.goes_on) (file_stands core one.after c.args.plan.now c.args.place (file_bytes p) one.goes_on file) is foot in
     let blocks = b.says.1.held.blocks in
-    let two = then_given g.G.Gate.Stands g.G.Gate.Between g.G.Gate.bytes_fetched core log c.args.gate.now (AreBlocksFetched config.schema c.args.request.now documents p footer) kept (footer_calls c.args.known) (footer_drawn c.args.known p) (length kept) (total blocks) _ _ one b b.says.1.each b.says.1.few in
-    let l = c.in_ok-pieces.ensures config documents p two.after log two.stands (configured_after core two.after config configured two.goes_on) (file_stands core two.after c.args.plan.now c.args.place (file_bytes p) two.goes_on file) is foot asked b.says.1.held in
+    let two = then_given (grace_of config c.args.plan.now) g.G.Gate.Stands g.G.Gate.Between g.G.Gate.bytes_fetched core log c.args.gate.now (AreBlocksFetched config.schema c.args.request.now documents p footer) kept (footer_calls c.args.known) (footer_drawn c.args.known p) (length kept) (total blocks) _ _ one b b.says.1.each b.says.1.few in
+    let l = c.in_ok-pieces.ensures.step config documents p two.after log two.stands (configured_after core two.after config configured two.goes_on) (file_stands core two.after c.args.plan.now c.args.place (file_bytes p) two.goes_on file) is foot asked b.says.1.held in
     let lists = l.says.1.lists in
-    let three = then_given g.G.Gate.Stands g.G.Gate.Between g.G.Gate.bytes_fetched core log c.args.gate.now (AreListsFetched config.schema c.args.request.now documents p footer kept) pieces (footer_calls c.args.known + length kept) (footer_drawn c.args.known p + total blocks) (length lists) (total lists) _ _ two l l.says.1.each l.says.1.few in
-    all_done g.G.Gate.Stands g.G.Gate.Between g.G.Gate.bytes_fetched core log c.args.gate.now (IsPartFetched config.schema c.args.request.now c.args.known documents p (needed_calls c.args.known)) _ (footer_calls c.args.known + length kept + length lists) (footer_drawn c.args.known p + total blocks + total lists) _ three
+    let three = then_given (grace_of config c.args.plan.now) g.G.Gate.Stands g.G.Gate.Between g.G.Gate.bytes_fetched core log c.args.gate.now (AreListsFetched config.schema c.args.request.now documents p footer kept) pieces (footer_calls c.args.known + length kept) (footer_drawn c.args.known p + total blocks) (length lists) (total lists) _ _ two l l.says.1.each l.says.1.few in
+    all_done (grace_of config c.args.plan.now) g.G.Gate.Stands g.G.Gate.Between g.G.Gate.bytes_fetched core log c.args.gate.now (IsPartFetched config.schema c.args.request.now c.args.known documents p (needed_calls c.args.known)) _ (footer_calls c.args.known + length kept + length lists) (footer_drawn c.args.known p + total blocks + total lists) _ three
     (record {
       needed = record { parts = p; is_split = is; footer = foot; blocks = blocks; lists = lists; are_blocks = b.says.1.held.are_blocks; are_lists = l.says.1.are_lists; pieces = all_kept pieces kept (file_bytes p) blocks lists b.says.1.held.pieces l.says.1.pieces_are };
       footer = k.says.1.is_footer;
       calls_are = count_kept (footer_calls c.args.known) pieces kept (file_bytes p) lists l.says.1.pieces_are;
       draws = record { blocks = blocks; lists = lists; are_blocks = b.says.1.held.are_blocks; are_lists = l.says.1.are_lists; few = omega arith };
+    })
+
+pub returns-in_err-footer-clause-reads : goal.returns-in_err-footer-clause-reads
+returns-in_err-footer-clause-reads g c = λ row there.
+    then_lost g.G.Gate.Stands g.G.Gate.Between g.G.Gate.bytes_fetched c.args.plan.now c.args.place (IsFooterGiven c.args.known row.size) (IsPartRead c.args.known row.number row.size) (IsNoFooter c.args.known row.size) (IsNoPart c.args.known row.size) c.in_err-footer.field-0.0 c.from_residual.result [] c.args.gate.now c.args.gate.now _
+    (none_called g.G.Gate.Stands g.G.Gate.Between g.G.Gate.bytes_fetched c.args.plan.now c.args.place c.args.gate.now) c.from_residual.ensures.1 (λ ys none. inl none) (c.in_err-footer.ensures.reads row there)
+
+pub returns-in_err-blocks-clause-reads : goal.returns-in_err-blocks-clause-reads
+returns-in_err-blocks-clause-reads g c = λ row there.
+    let k = c.in_ok-footer.ensures.reads row there in
+    then_lost g.G.Gate.Stands g.G.Gate.Between g.G.Gate.bytes_fetched c.args.plan.now c.args.place (AreKeptBehind []) (IsPartRead c.args.known row.number row.size) NeverRefused (IsNoPart c.args.known row.size) c.in_err-blocks.field-0.0 c.from_residual-in_err-blocks.result k.calls c.args.gate.now _ _
+    (all_of g.G.Gate.Stands g.G.Gate.Between g.G.Gate.bytes_fetched c.args.plan.now c.args.place (IsFooterGiven c.args.known row.size) (IsNoFooter c.args.known row.size) c.in_ok-footer.footer c.args.gate.now _ k) c.from_residual-in_err-blocks.ensures.1 (λ ys never. absurd never) c.in_err-blocks.ensures.reads
+
+pub returns-in_err-pieces-clause-reads : goal.returns-in_err-pieces-clause-reads
+returns-in_err-pieces-clause-reads g c = λ row there.
+    let k = c.in_ok-footer.ensures.reads row there in
+    let b = c.in_ok-blocks.ensures.reads in
+    then_lost g.G.Gate.Stands g.G.Gate.Between g.G.Gate.bytes_fetched c.args.plan.now c.args.place (AreKeptBehind c.in_ok-blocks.blocks) (IsPartRead c.args.known row.number row.size) (λ calls. ⊤) (IsNoPart c.args.known row.size) c.in_err-pieces.field-0.0 c.from_residual-in_err-pieces.result (k.calls ++ b.calls) c.args.gate.now _ _
+    (then_all g.G.Gate.Stands g.G.Gate.Between g.G.Gate.bytes_fetched c.args.plan.now c.args.place (AreKeptBehind []) NeverRefused c.in_ok-blocks.blocks k.calls c.args.gate.now _ _ (all_of g.G.Gate.Stands g.G.Gate.Between g.G.Gate.bytes_fetched c.args.plan.now c.args.place (IsFooterGiven c.args.known row.size) (IsNoFooter c.args.known row.size) c.in_ok-footer.footer c.args.gate.now _ k) b) c.from_residual-in_err-pieces.ensures.1
+    (λ ys done. inr (record { footer = c.in_ok-footer.footer; footer_calls = k.calls; rest = b.calls ++ ys; calls_are = append_assoc k.calls b.calls ys; footer_given = k.says.1 })) c.in_err-pieces.ensures.reads
+
+pub returns-clause-reads : goal.returns-clause-reads
+returns-clause-reads g c = λ row there.
+    let k = c.in_ok-footer.ensures.reads row there in
+    let b = c.in_ok-blocks.ensures.reads in
+    let l = c.in_ok-pieces.ensures.reads in
+    let same : c.at.result.now ≡ row = same_row _ c.at.result.now row c.at.ensures there in
+    let two = then_all g.G.Gate.Stands g.G.Gate.Between g.G.Gate.bytes_fetched c.args.plan.now c.args.place (AreKeptBehind []) NeverRefused c.in_ok-blocks.blocks k.calls c.args.gate.now _ _ (all_of g.G.Gate.Stands g.G.Gate.Between g.G.Gate.bytes_fetched c.args.plan.now c.args.place (IsFooterGiven c.args.known row.size) (IsNoFooter c.args.known row.size) c.in_ok-footer.footer c.args.gate.now _ k) b in
+    read_well g.G.Gate.Stands g.G.Gate.Between g.G.Gate.bytes_fetched c.args.plan.now c.args.place (IsPartRead c.args.known row.number row.size) (IsNoPart c.args.known row.size) _ ((k.calls ++ b.calls) ++ l.calls) c.args.gate.now _ (then_all g.G.Gate.Stands g.G.Gate.Between g.G.Gate.bytes_fetched c.args.plan.now c.args.place (AreKeptBehind c.in_ok-blocks.blocks) (λ calls. ⊤) c.in_ok-pieces.pieces (k.calls ++ b.calls) c.args.gate.now _ _ two l)
+    (record {
+      footer_calls = k.calls;
+      piece_calls = b.calls ++ l.calls;
+      looks = [];
+      calls_are = append_assoc k.calls b.calls l.calls ∙ ap (λ (cs : List FetchCall). k.calls ++ cs) (sym (append-nil (b.calls ++ l.calls)));
+      footer_given = k.says.1;
+      pieces_are = kept_further [] c.in_ok-blocks.blocks c.in_ok-pieces.pieces b.calls l.calls b.says.1 l.says.1;
+      number_is = ap (λ (r : PlanRow). r.number) same;
+      no_bytes = tt;
     })

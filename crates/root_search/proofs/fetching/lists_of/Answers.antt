@@ -8,20 +8,20 @@ use Rattle.root_search.proofs.PartViews.{blocks_held, part_of}
 use Rattle.root_search.proofs.SameFooters.{lists_alike}
 use Rattle.root_search.proofs.fetching.lists_of.Goals as goal
 
-pub returns-in-Ok : goal.returns-in-Ok
-returns-in-Ok c = λ documents p is foot ask holds.
+pub returns-in-Ok-clause-step : goal.returns-in-Ok-clause-step
+returns-in-Ok-clause-step c = λ documents p is foot ask holds.
     let v = c.gather-view.result in
     let same : v.footer ≡ c.args.footer.now = c.gather-view.ensures.footer ∙ c.in_ok-copy.ensures in
     let lent : AllZip IsLentOf c.args.blocks.now v.pieces = subst (λ (ps : List FilePiece). AllZip IsLentOf c.args.blocks.now ps) (sym c.gather-view.ensures.pieces) c.in_ok-pieces.ensures in
     let part = part_of v c.args.schema.now documents p c.args.footer.now c.args.blocks.now holds.blocks is foot same holds.pieces lent in
     lists_alike v (over c.args.footer.now) c.args.schema.now documents p c.args.request.now c.in-Ok.lists same (c.in-Ok.ensures.only documents p part ask)
 
-pub returns : goal.returns
-returns c = λ documents p is foot ask holds.
+pub returns-clause-step : goal.returns-clause-step
+returns-clause-step c = λ documents p is foot ask holds.
     let v = c.gather-view.result in
     let same : v.footer ≡ c.args.footer.now = c.gather-view.ensures.footer ∙ c.in_ok-copy.ensures in
     let lent : AllZip IsLentOf c.args.blocks.now v.pieces = subst (λ (ps : List FilePiece). AllZip IsLentOf c.args.blocks.now ps) (sym c.gather-view.ensures.pieces) c.in_ok-pieces.ensures in
     let part = part_of v c.args.schema.now documents p c.args.footer.now c.args.blocks.now holds.blocks is foot same holds.pieces lent in
-    c.leaf_fault.ensures
+    c.leaf_fault.ensures.memory
     (held_memory (NeedsBlocks v c.args.schema.now documents p c.args.request.now) v.pieces c.in-Err.fault (blocks_held c.args.schema.now c.args.request.now documents p c.args.footer.now c.args.blocks.now v ask holds part same lent)
     (c.in-Err.ensures.only documents p part ask))

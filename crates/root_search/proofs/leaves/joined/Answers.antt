@@ -1,5 +1,5 @@
 use Rattle.std.proofs.Common.{ap, ◌∷◌, ◌∙◌}
-use Rattle.root_search.proofs.Joining.{all_joined, fault_joined, joining_begun, joining_more, none_left}
+use Rattle.root_search.proofs.Joining.{all_joined, each_joined, fault_joined, joining_begun, joining_more, none_left}
 use Rattle.root_search.proofs.leaves.joined.Goals as goal
 
 pub loop-answer-init : goal.loop-answer-init
@@ -20,4 +20,9 @@ loop-answer-preserved c =
 pub returns-clause-only : goal.returns-clause-only
 returns-clause-only c =
     all_joined c.args.request.now c.args.answers.items c.loop-answer.left.items c.loop-answer.place c.loop-answer.all c.loop-answer.invariant
+    (none_left c.loop-answer.left.items (c.in_default.ensures.items ∙ c.in_default.ensures.rest))
+
+pub returns-clause-each : goal.returns-clause-each
+returns-clause-each c =
+    each_joined c.args.request.now c.args.answers.items c.loop-answer.left.items c.loop-answer.place c.loop-answer.all c.loop-answer.invariant
     (none_left c.loop-answer.left.items (c.in_default.ensures.items ∙ c.in_default.ensures.rest))

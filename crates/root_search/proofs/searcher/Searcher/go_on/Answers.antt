@@ -15,6 +15,7 @@ use Rattle.root_search.proofs.PlannedRows.{all_fetched, all_parts}
 use Rattle.root_search.proofs.Schemas.{few_fields, intervals_there}
 use Rattle.root_search.proofs.Stands.{config_then}
 use Rattle.root_search.proofs.Steps.{answered_as, ends_without}
+use Rattle.root_search.proofs.RowReads.{no_row, over_reply, over_short}
 use Rattle.root_search.proofs.searcher.Searcher.go_on.Goals as goal
 
 pub answer_over-requires-clause-fields : goal.answer_over-requires-clause-fields
@@ -37,7 +38,7 @@ returns-clause-step g c plan client core log good asked planned stands w =
     let parts = all_parts c.args.planned plan core log planned over in
     let found = are_found plan.revision plan.search c.args.planned.ask core log good planned.asks planned.in_hand in
     let said : c.in_ok-said.said ≡ answer c.config.result.now.schema plan.search (visible_at plan.revision core.history log) =
-    c.in_ok-said.ensures plan.search lists (visible_at plan.revision core.history log) planned.asks
+    c.in_ok-said.ensures.only plan.search lists (visible_at plan.revision core.history log) planned.asks
     (subst (λ (x : IndexConfig). IsAsked x.schema c.args.planned.ask.request) config planned.asked)
     (subst (λ (x : IndexConfig). AllZip (HasNeeded x.schema c.args.planned.ask.request) c.args.planned.parts lists) config parts)
     (found_few plan.revision plan.search core log planned.in_hand)
@@ -52,3 +53,15 @@ returns-in_err-said-clause-draws g c plan client core log planned stands w numbe
 
 pub returns-clause-draws : goal.returns-clause-draws
 returns-clause-draws g c plan client core log planned stands w number documents p fetched uploaded is = absurd (no_draw (Ok c.reply.result) number c.reply.ensures.replied fetched)
+
+pub returns-in_err-said-clause-reads : goal.returns-in_err-said-clause-reads
+returns-in_err-said-clause-reads g c row there = absurd (no_row c.args.planned.plan.rows c.args.planned.next row there (omega (arith, c.len.ensures, c.if-planned-len.false)))
+
+pub returns-clause-reads : goal.returns-clause-reads
+returns-clause-reads g c row there = absurd (no_row c.args.planned.plan.rows c.args.planned.next row there (omega (arith, c.len.ensures, c.if-planned-len.false)))
+
+pub returns-in_err-said-clause-answers : goal.returns-in_err-said-clause-answers
+returns-in_err-said-clause-answers g c over = over_short g.G.Gate.Stands c.args.planned c.args.gate.now c.from_residual.result c.from_residual.ensures.0
+
+pub returns-clause-answers : goal.returns-clause-answers
+returns-clause-answers g c over = over_reply g.G.Gate.Stands c.args.planned c.args.gate.now c.reply.result _ c.in_ok-said.said c.config.result.now c.reply.ensures.said c.config.ensures.step c.in_ok-said.ensures.refused

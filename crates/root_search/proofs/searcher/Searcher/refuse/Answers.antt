@@ -3,15 +3,19 @@ use Rattle.search_api.specs.declared.reply.Said.TheVariants.{Refused}
 use Rattle.root_search.specs.Searching.{Ends}
 use Rattle.root_search.specs.Steps.{reply_with, trouble_replied}
 use Rattle.root_search.proofs.Steps.{ends_short}
+use Rattle.root_search.proofs.RowReads.{refused_reply}
 use Rattle.root_search.proofs.searcher.Searcher.refuse.Goals as goal
 
 pub returns-in_err-refusal-clause-step : goal.returns-in_err-refusal-clause-step
 returns-in_err-refusal-clause-step c trouble client core log is w =
-    subst (λ t. Ends c.from_residual.result c.args.self.now (trouble_replied c.args.revision t client core) log) (sym (c.in_err-refusal.ensures trouble is))
+    subst (λ t. Ends c.from_residual.result c.args.self.now (trouble_replied c.args.revision t client core) log) (sym (c.in_err-refusal.ensures.trouble trouble is))
     (ends_short c.from_residual.result c.args.self.now client core log c.from_residual.ensures.0 w)
 
 pub returns-clause-step : goal.returns-clause-step
 returns-clause-step c trouble client core log is w =
-    let r = c.in_ok-refusal.ensures trouble is in
+    let r = c.in_ok-refusal.ensures.trouble trouble is in
     subst (λ t. Ends (Ok c.reply.result) c.reply.new.self (trouble_replied c.args.revision t client core) log) (sym r.1)
     (subst (λ x. Ends (Ok c.reply.result) c.reply.new.self (reply_with c.args.revision (Refused x) client core) log) r.2 (c.reply.ensures.step client core log w))
+
+pub returns-clause-refuses : goal.returns-clause-refuses
+returns-clause-refuses c = refused_reply _ c.reply.result _ _ c.in_ok-refusal.refusal c.reply.ensures.said c.in_ok-refusal.ensures.exact

@@ -1,8 +1,11 @@
-use Rattle.std.proofs.Common.{◌≡◌, refl, subst, sym, ◌∙◌}
+use Rattle.std.proofs.Common.{◌≡◌, ◌≤◌, length, refl, subst, sym, ◌∙◌, Some}
 use Rattle.root_search.specs.declared.searcher.Request.TheVariants.{Opened, Planned, Vacant}
 use Rattle.root_search.specs.Searching.{IsPlanned, IsRequest}
 use Rattle.root_search.specs.Steps.{no_request, opened}
 use Rattle.root_search.proofs.Steps.{idle_as, planned_is}
+use Rattle.std.specs.Prelude.{slice_get}
+use Rattle.root_search.specs.StepReads.{FetchesRow, SaysOver}
+use Rattle.root_search.specs.declared.planned.Planned.{Planned as GivenPlan}
 use Rattle.root_search.proofs.searcher.Searcher.step.Goals as goal
 
 pub returns-in-Vacant-clause-step : goal.returns-in-Vacant-clause-step
@@ -42,3 +45,26 @@ returns-in-Planned-clause-draws g c plan client core log asked stands s =
     let held = subst (λ r. IsRequest r client.request core log) was s.request in
     let same = planned_is client.request held.0 plan held.1 asked in
     c.go_on.ensures.draws plan client core log (subst (λ q. IsPlanned c.in-Planned.planned q core log) same held.2) stands (record { vacant = c.replace.ensures.after; name = s.name; front = s.front; footers = s.footers })
+
+pub returns-in-Vacant-clause-reads : goal.returns-in-Vacant-clause-reads
+returns-in-Vacant-clause-reads g c planned row is there = absurd (cc)
+
+pub returns-in-Opened-clause-reads : goal.returns-in-Opened-clause-reads
+returns-in-Opened-clause-reads g c planned row is there = absurd (cc)
+
+pub returns-in-Planned-clause-reads : goal.returns-in-Planned-clause-reads
+returns-in-Planned-clause-reads g c planned row is there =
+    let same : planned ≡ c.in-Planned.planned = cc in
+    subst (λ (q : GivenPlan). FetchesRow g.G.Gate.Stands g.G.Gate.Between g.G.Gate.bytes_fetched c.args.self.now.footers q row c.go_on.new.self.request c.go_on.result c.args.gate.now c.go_on.new.gate) (sym same)
+    (c.go_on.ensures.reads row (subst (λ (q : GivenPlan). slice_get q.plan.rows q.next ≡ Some row) same there))
+
+pub returns-in-Vacant-clause-answers : goal.returns-in-Vacant-clause-answers
+returns-in-Vacant-clause-answers g c planned is over = absurd (cc)
+
+pub returns-in-Opened-clause-answers : goal.returns-in-Opened-clause-answers
+returns-in-Opened-clause-answers g c planned is over = absurd (cc)
+
+pub returns-in-Planned-clause-answers : goal.returns-in-Planned-clause-answers
+returns-in-Planned-clause-answers g c planned is over =
+    let same : planned ≡ c.in-Planned.planned = cc in
+    subst (λ (q : GivenPlan). SaysOver g.G.Gate.Stands q c.args.gate.now c.go_on.result) (sym same) (c.go_on.ensures.answers (subst (λ (q : GivenPlan). length q.plan.rows ≤ q.next) same over))
