@@ -10,10 +10,10 @@ use Rattle.meta_store.specs.History.{history as told}
 use Rattle.object_store.specs.Store.{State, with_object, with_late, HasLanded, LandsThen, Creates}
 use Rattle.object_store.specs.declared.store.CreateError.TheVariants as creates
 use Rattle.source_log.specs.Log.{Log}
-use Rattle.index_world.specs.Calls.{Call, Fate, calm_call, Gives, gives, Trouble, no_memory, Unread, not_read, no_index, store_failed, begun, file_by, file_made, upload_made, got_file, file_got, or_short, with_file, taken_in, with_standing, reborn, read_journal, unless_empty, load_by, loaded, may_fail, risen}
+use Rattle.index_world.specs.Calls.{Call, Fate, calm_call, Gives, gives, Trouble, no_memory, Unread, not_read, no_index, store_failed, begun, file_by, file_made, upload_made, sought_by, file_sought, hindered, or_short, with_file, taken_in, with_standing, reborn, read_journal, unless_empty, load_by, loaded, may_fail, risen}
 use Rattle.index_world.specs.Calls as calls
 use Rattle.index_world.specs.Core.{Core, late_file, file_at, last_count, with_unread, journal_of, clock_of}
-use Rattle.index_world.specs.Index.{OneEntry, IsUnused, IsUploaded}
+use Rattle.index_world.specs.Index.{OneEntry, IsUnused, IsUploaded, is_meta}
 use Rattle.index_world.specs.Standing.{StandsFor}
 use Rattle.index_world.specs.World.{IsWorld}
 use Rattle.index_world.specs.Onward.{Onward}
@@ -47,10 +47,10 @@ pub record UploadLaw (old new : State) (core : Core) (log : Log) (n : ℕ) (byte
 
 filed-on : (old mid new : State) (core between after : Core) (log : Log) (n : ℕ) → Onward old mid core between log → Filed mid new between after log n → Filed old new core after log n
 filed-on old mid new core between after log n o f =
-    record { world = f.world; others = record { configured = λ config e. f.others.configured config (o.held.configured config e); unused = λ m apart u. f.others.unused m apart (o.held.unused m u); uploaded = λ m b u. f.others.uploaded m b (o.held.uploaded m b u); staged = λ m d x s. f.others.staged m d x (o.held.staged m d x s); given_up = λ m g. f.others.given_up m (o.held.given_up m g) } }
+    record { world = f.world; others = record { configured = λ config e. f.others.configured config (o.held.configured config e); unused = λ m apart u. f.others.unused m apart (o.held.unused m u); uploaded = λ m b u. f.others.uploaded m b (o.held.uploaded m b u); published = λ m p. f.others.published m (o.held.published m p); staged = λ m d x s. f.others.staged m d x (o.held.staged m d x s); given_up = λ m g. f.others.given_up m (o.held.given_up m g) } }
 
 filed-of : (old new : State) (core after : Core) (log : Log) (n : ℕ) → Onward old new core after log → Filed old new core after log n
-filed-of old new core after log n o = record { world = o.world; others = record { configured = o.held.configured; unused = λ m apart u. o.held.unused m u; uploaded = o.held.uploaded; staged = o.held.staged; given_up = o.held.given_up } }
+filed-of old new core after log n o = record { world = o.world; others = record { configured = o.held.configured; unused = λ m apart u. o.held.unused m u; uploaded = o.held.uploaded; published = o.held.published; staged = o.held.staged; given_up = o.held.given_up } }
 
 absent_file : (kept : State) (core : Core) (n : ℕ) → StandsFor kept core → IsUnused kept (journal_of core) n → is_some (file_at core.files (split_key n)) ≡ false
 absent_file kept core n s u = ap is_some (s.files (split_key n) (split_outside n) ∙ u.absent)
@@ -164,23 +164,27 @@ upload_short once old new core log n bytes now w c t =
 
 -- ---- a get of a file
 
-pub got_law : OneEntry → (old new : State) (core : Core) (log : Log) (now : ℕ) → IsWorld old core log → Counted core now → HasLanded old new →
-    (call : Call) × (after : Core) × (file_got call core ≡ gives (Ok tt) after) × Begun old new core after log now
-got_law once old new core log now w c t =
-    (quiet t.0 (now - core.store_faults) false, begun (quiet t.0 (now - core.store_faults) false) core, refl, world-begins once old new core log now (quiet t.0 (now - core.store_faults) false) w c refl t.1)
+-- whether a file stands in the core as it does in the store
+there_alike : (kept : State) (core : Core) (key : List ℕ) (there : Bool) → is_meta key ≡ false → StandsFor kept core → is_some (get kept.objects key) ≡ there → is_some (file_at core.files key) ≡ there
+there_alike kept core key there outside s e = ap is_some (s.files key outside) ∙ e
 
-pub got_failed_law : OneEntry → (old new : State) (core : Core) (log : Log) (now : ℕ) → IsWorld old core log → Counted core now → Rose core.store_faults now → HasLanded old new →
-    (call : Call) × (after : Core) × (file_got call core ≡ gives (Err (store_failed core.store_faults after)) after) × Begun old new core after log now
-got_failed_law once old new core log now w c rose t = (
-  failing t.0 (now - core.store_faults) false,
-  begun (failing t.0 (now - core.store_faults) false) core,
-  ap (λ f. got_file f core.store_faults (begun (failing t.0 (now - core.store_faults) false) core)) (rose_may core now c rose),
-  world-begins once old new core log now (failing t.0 (now - core.store_faults) false) w c refl t.1,
-)
+pub sought_law : OneEntry → (old new : State) (core : Core) (log : Log) (now : ℕ) (key : List ℕ) (there : Bool) → is_meta key ≡ false → IsWorld old core log → Counted core now → HasLanded old new → is_some (get new.objects key) ≡ there →
+    (call : Call) × (after : Core) × (file_sought call key core ≡ sought_by false there core.store_faults key after) × Begun old new core after log now
+sought_law once old new core log now key there outside w c t e =
+    let call = quiet t.0 (now - core.store_faults) false in
+    let b = world-begins once old new core log now call w c refl t.1 in
+    (call, begun call core, ap (λ (stands : Bool). sought_by false stands core.store_faults key (begun call core)) (there_alike new (begun call core) key there outside b.onward.world.stands_for e), b)
 
-pub got_short_law : OneEntry → (old new : State) (core : Core) (log : Log) (now : ℕ) → IsWorld old core log → Counted core now → HasLanded old new →
-    (call : Call) × (after : Core) × (file_got call core ≡ gives (Err no_memory) after) × Begun old new core after log now
-got_short_law once old new core log now w c t =
+pub sought_failed_law : OneEntry → (old new : State) (core : Core) (log : Log) (now : ℕ) (key : List ℕ) → IsWorld old core log → Counted core now → Rose core.store_faults now → HasLanded old new →
+    (call : Call) × (after : Core) × (file_sought call key core ≡ gives (Err (hindered (store_failed core.store_faults after))) after) × Begun old new core after log now
+sought_failed_law once old new core log now key w c rose t =
+    let call = failing t.0 (now - core.store_faults) false in
+    let left = begun call core in
+    (call, left, ap (λ f. sought_by f (is_some (file_at left.files key)) core.store_faults key left) (rose_may core now c rose), world-begins once old new core log now call w c refl t.1)
+
+pub sought_short_law : OneEntry → (old new : State) (core : Core) (log : Log) (now : ℕ) (key : List ℕ) → IsWorld old core log → Counted core now → HasLanded old new →
+    (call : Call) × (after : Core) × (file_sought call key core ≡ gives (Err (hindered no_memory)) after) × Begun old new core after log now
+sought_short_law once old new core log now key w c t =
     (quiet t.0 (now - core.store_faults) true, begun (quiet t.0 (now - core.store_faults) true) core, refl, world-begins once old new core log now (quiet t.0 (now - core.store_faults) true) w c refl t.1)
 
 -- ---- a load

@@ -1,12 +1,12 @@
 -- What a world's calls did, put together from what its life did.
 use Rattle.std.proofs.Common.{append-nil, ◌≡◌, ◌⊎◌, ℕ, ◌+◌, ◌<◌, ◌≤◌, List, [], ◌∷◌, ◌++◌, refl, sym, ap, ◌∙◌, subst, inl, inr, Bool, true, false, length, arith}
-use Rattle.std.specs.Prelude.{Option, Some, None, Result, Ok, Err, IsErrOf, max, nat_le, ⊤}
+use Rattle.std.specs.Prelude.{Option, Some, None, is_some, Result, Ok, Err, IsErrOf, max, nat_le, ⊤}
 use Rattle.std.specs.Result.{IsErrAnd}
 use Rattle.byte_fields.specs.Causes.{HasCause, Rose}
 use Rattle.std.specs.FinMap.{get}
 use Rattle.meta_journal.specs.Places.{split_key}
 use Rattle.meta_journal.specs.declared.entry.Entry.{Entry}
-use Rattle.object_store.specs.Store.{AfterLanding, Creates, Gets, Finds, HasLanded, LandsThen}
+use Rattle.object_store.specs.Store.{AfterLanding, Creates, Gets, Finds, IsPieceOf, HasLanded, LandsThen}
 use Rattle.object_store.specs.declared.store.CreateError.{CreateError}
 use Rattle.object_store.specs.declared.store.CreateError.TheVariants as creates
 use Rattle.object_store.specs.declared.store.GetError.{GetError}
@@ -14,11 +14,11 @@ use Rattle.object_store.specs.declared.store.GetError.TheVariants as gets
 use Rattle.object_store.specs.declared.store.Piece.{Piece}
 use Rattle.index_world.specs.declared.tokens.Uploaded.{Uploaded}
 use Rattle.index_world.specs.declared.world_error.WorldError.TheVariants as errors
-use Rattle.index_world.specs.Index.{IsUnused}
-use Rattle.index_world.proofs.FileCalls.{one_call, UploadLaw, upload_is_made, upload_failed, upload_never_exists, upload_short, got_law, got_failed_law, got_short_law}
-use Rattle.index_world.proofs.InCore.{unused-of, stored-of}
+use Rattle.index_world.specs.Index.{IsUnused, is_meta}
+use Rattle.index_world.proofs.FileCalls.{one_call, UploadLaw, upload_is_made, upload_failed, upload_never_exists, upload_short, sought_law, sought_failed_law, sought_short_law}
+use Rattle.index_world.proofs.InCore.{unused-of}
 use Rattle.index_world.proofs.Journals.{once}
-use Rattle.index_world.proofs.StoreKeys.{none_some}
+use Rattle.index_world.proofs.StoreKeys.{split_outside}
 use Rattle.index_world.proofs.WholeFiles.{Fetches, fetches-within, whole_upload, whole_fetched, uploaded_in_hand}
 use Rattle.meta_store.specs.History.{history, last_number, last_opstamp}
 use Rattle.meta_store.specs.State as meta
@@ -32,20 +32,22 @@ use Rattle.index_world.specs.declared.life.Life.{Life}
 use Rattle.index_world.specs.declared.own.Own.{Own}
 use Rattle.index_world.specs.declared.own.Own.TheVariants as owns
 use Rattle.index_world.specs.declared.world_error.WorldError.{WorldError}
-use Rattle.index_world.specs.Calls.{Call, Fate, Grace, calm_call, unless_over, file_got, is_expired, gives, Gives, Trouble, no_memory, appended, looked, asked, asked_and_looked, asked_clock, asked_moment, entry_of, fetched, upload_made, faulted, store_fault, store_failed}
+use Rattle.index_world.specs.Calls.{Call, Fate, Grace, calm_call, sought_by, file_sought, sought_unless, fetched_from, Unfetched, absent, hindered, is_expired, gives, Gives, Trouble, no_memory, appended, looked, asked, asked_and_looked, asked_clock, asked_moment, entry_of, upload_made, faulted, store_fault, store_failed}
 use Rattle.index_world.specs.Config.{reads}
-use Rattle.index_world.specs.Core.{Core, last_count, journal_of, HasStagedIn, IsUnusedIn, IsStoredIn, IsPlannedIn}
-use Rattle.index_world.specs.Gate.{Does, Says, NoneBetween, IsTrouble, IsUnmade, WasStaged, IsStagedIn, WasUploaded, IsMoment, IsPieceGiven}
+use Rattle.index_world.specs.Core.{Core, last_count, file_at, journal_of, HasStagedIn, IsUnusedIn}
+use Rattle.index_world.specs.CallsMade.{Ask, made_of}
+use Rattle.index_world.specs.DirectLaws.{AnyNumber, Anything}
+use Rattle.index_world.specs.Gate.{Acts, Does, Says, NoneBetween, IsTrouble, IsUnfetched, IsUnmade, WasStaged, IsStagedIn, WasUploaded, IsMoment, IsPieceGiven}
 use Rattle.index_world.specs.Life.{LifeIs, StandsBy, SettledSure, SettledIn, Settling, OwnMade, Appending}
 use Rattle.index_world.specs.Owning.{own_act}
 use Rattle.index_world.specs.Steps.{Counted, greatest}
 use Rattle.index_world.specs.Taking.{IsWant, of_create, of_get}
 use Rattle.index_world.specs.Unsure.{is_unsure}
 use Rattle.index_world.specs.World.{IsWorld, IsTimely, Keeping, WorldStands}
-use Rattle.index_world.proofs.Asking.{timely_asked, asked_least}
+use Rattle.index_world.proofs.Asking.{timely_asked}
 use Rattle.index_world.proofs.Lives.{Told, told_of, want_trouble, knows_of}
 use Rattle.index_world.proofs.Numbers.{history-snoc, revision_is, staged_le}
-use Rattle.index_world.proofs.WholeCalls.{Whole, Looks, looks_sure, looks_settled, looks_unsettled, whole_appended, whole_asked, whole_looked, whole_asked_and_looked, world_asked, stored_asked, copied}
+use Rattle.index_world.proofs.WholeCalls.{Whole, Looks, looks_sure, looks_settled, looks_unsettled, whole_appended, whole_asked, whole_looked, whole_asked_and_looked, world_asked, copied}
 use Rattle.index_world.proofs.Worlds.{world-same, world-frozen}
 
 -- ---- what a world keeps
@@ -134,11 +136,9 @@ world_by new start after log more doubt now told clock life frozen call one core
 
 pub does_by : {E A : Type 0} (call : Fate → Core → Gives E ⊤) (one : Option ℕ) (is : WorldError → E → Type 0) (holds : A → Core → Type 0) (r : Result A WorldError) (core start : Core) (log : Log) (new : State) (answer : Core → Result ⊤ E) (more : List Entry) (doubt : Bool) (now : ℕ)
     (told : Option State) (clock : Option ℕ) (life : Life) (frozen : Bool) → (u : Whole call one new core start log answer more doubt now) → told ≡ Some new → clock ≡ Some start.clock → frozen ≡ start.frozen → LifeIs life (start.history ++ more) (greatest start.moment more) doubt →
-    Says is holds r (answer u.after) u.after → Does WorldStands NoneBetween one call is holds r core log (kept_by told now clock life frozen)
+    Says is holds r (answer u.after) u.after → Acts WorldStands one call is holds r core log (kept_by told now clock life frozen)
 does_by call one is holds r core start log new answer more doubt now told clock life frozen u t c f k says =
     record {
-      mid = core;
-      passed = refl;
       fate = u.fate;
       answer = answer u.after;
       after = u.after;
@@ -166,7 +166,7 @@ module _ (told told' : Option State) (n now : ℕ) (clock : Option ℕ) (life li
 
   pub appends_ok : {A : Type 0} (Q : A → Core → Type 0) (a : A) → (x : Appending s.kept (asked_clock core) log own (Ok tt) told' now life') →
       ((after : Core) → LifeIs life' after.history after.moment after.unsure → OwnMade own (asked_clock core) tt after → Q a after) →
-      Does WorldStands NoneBetween None (λ fate c. appended fate (own_act own) c) IsUnmade Q (Ok a) core log (kept_by told' now clock life' frozen)
+      Acts WorldStands None (λ fate c. appended fate (own_act own) c) IsUnmade Q (Ok a) core log (kept_by told' now clock life' frozen)
   appends_ok Q a x holds =
       does_by (λ fate c. appended fate (own_act own) c) None IsUnmade Q (Ok a) core (asked_clock core) log x.new x.answer x.more x.doubt now told' clock life' frozen
       (whole_appended s.kept x.new core log (own_act own) x.answer x.more x.doubt now w s.opened (record { later = x.counted.later; within = x.counted.within }) x.did) x.tells s.clock s.frozen
@@ -178,7 +178,7 @@ module _ (told told' : Option State) (n now : ℕ) (clock : Option ℕ) (life li
           knows_of life' x.did.after.history (core.history ++ x.more) x.did.after.moment (greatest (asked_clock core).moment x.more) x.did.after.unsure x.doubt x.did.ends.history x.did.ends.moment x.did.ends.unsure x.stands.knows
 
   pub appends_err : {A : Type 0} (Q : A → Core → Type 0) (e : WorldError) (r : Result A WorldError) (Is : WorldError → Type 0) → (x : Appending s.kept (asked_clock core) log own (Err e) told' now life') → IsErrAnd r Is → ((error : WorldError) → Is error → error ≡ e) →
-      Does WorldStands NoneBetween None (λ fate c. appended fate (own_act own) c) IsUnmade Q r core log (kept_by told' now clock life' frozen)
+      Acts WorldStands None (λ fate c. appended fate (own_act own) c) IsUnmade Q r core log (kept_by told' now clock life' frozen)
   appends_err Q e r Is x h same =
       does_by (λ fate c. appended fate (own_act own) c) None IsUnmade Q r core (asked_clock core) log x.new x.answer x.more x.doubt now told' clock life' frozen
       (whole_appended s.kept x.new core log (own_act own) x.answer x.more x.doubt now w s.opened (record { later = x.counted.later; within = x.counted.within }) x.did) x.tells s.clock s.frozen
@@ -275,7 +275,7 @@ Wholes call core start log old = (new : State) (answer : Core → Result ⊤ Tro
 
 module _ (call : Fate → Core → Gives Trouble ⊤) (told told' : Option State) (n now : ℕ) (clock : Option ℕ) (life life' : Life) (frozen : Bool) (core start : Core) (log : Log) (s : WorldStands (kept_by told n clock life frozen) start log) (within : n ≤ last_count) (wholes : Wholes call core start log s.kept) where
   pub looks_failed : {A : Type 0} (Q : A → Core → Type 0) (e : WorldError) (r : Result A WorldError) (Is : WorldError → Type 0) → Settling s.kept start log (Err e) told' now life' → IsErrAnd r Is → ((error : WorldError) → Is error → error ≡ e) →
-      Does WorldStands NoneBetween None call IsTrouble Q r core log (kept_by told' now clock life' frozen)
+      Acts WorldStands None call IsTrouble Q r core log (kept_by told' now clock life' frozen)
   looks_failed Q e (Ok a) Is x h same = absurd h
   looks_failed Q e (Err error) Is x h same =
       let d = x.did in
@@ -286,7 +286,7 @@ module _ (call : Fate → Core → Gives Trouble ⊤) (told told' : Option State
       (subst (λ (y : WorldError). IsTrouble y (d.trouble u.0.after)) (sym (same error h)) (subst (λ (a : Core). IsTrouble e (d.trouble a)) (sym u.1) d.is))
 
   pub looks_ok : {A : Type 0} (Q : A → Core → Type 0) (a : A) → Settling s.kept start log (Ok tt) told' now life' → ((after : Core) → LifeIs life' after.history after.moment after.unsure → Q a after) →
-      Does WorldStands NoneBetween None call IsTrouble Q (Ok a) core log (kept_by told' now clock life' frozen)
+      Acts WorldStands None call IsTrouble Q (Ok a) core log (kept_by told' now clock life' frozen)
   looks_ok Q a x holds =
       let l = looked_of s.kept start log false told' now life' n life (stands_of told n clock life frozen start log within s) x in
       let u = (wholes l.new (behind_short false) l.more l.doubt now l.counted l.looks).0 in
@@ -294,7 +294,7 @@ module _ (call : Fate → Core → Gives Trouble ⊤) (told told' : Option State
       (holds u.after (knows_of life' (start.history ++ l.more) u.after.history (greatest start.moment l.more) u.after.moment l.doubt u.after.unsure (sym u.ends.history) (sym u.ends.moment) (sym u.ends.unsure) l.knows))
 
   pub looks_wants : {A : Type 0} (Q : A → Core → Type 0) (r : Result A WorldError) (Is : WorldError → Type 0) → Settling s.kept start log (Ok tt) told' now life' → IsErrAnd r Is → ((error : WorldError) → Is error → IsWant error) →
-      Does WorldStands NoneBetween None call IsTrouble Q r core log (kept_by told' now clock life' frozen)
+      Acts WorldStands None call IsTrouble Q r core log (kept_by told' now clock life' frozen)
   looks_wants Q (Ok a) Is x h want = absurd h
   looks_wants Q (Err error) Is x h want =
       let l = looked_of s.kept start log true told' now life' n life (stands_of told n clock life frozen start log within s) x in
@@ -313,12 +313,10 @@ asked_wholes core log old w some new answer more doubt now c l =
 
 -- ---- the clock alone
 
-pub asks_alone : (w w' : Keeping) (core : Core) (log : Log) → WorldStands w core log → w' ≡ record w { moment = asked_moment w.frozen w.moment core.clock } → (m : ℕ) → m ≡ w'.moment → Does WorldStands NoneBetween None asked IsTrouble IsMoment (Ok m) core log w'
+pub asks_alone : (w w' : Keeping) (core : Core) (log : Log) → WorldStands w core log → w' ≡ record w { moment = asked_moment w.frozen w.moment core.clock } → (m : ℕ) → m ≡ w'.moment → Acts WorldStands None asked IsTrouble IsMoment (Ok m) core log w'
 asks_alone w w' core log s e m same =
     let u = whole_asked s.kept core log s.world s.opened s.timely in
     record {
-      mid = core;
-      passed = refl;
       fate = u.fate;
       answer = Ok tt;
       after = asked_clock core;
@@ -339,7 +337,7 @@ landed_then old new mid l e = (l.0, e ∙ l.1)
 pub uploads : (told told' : Option State) (n now : ℕ) (clock : Option ℕ) (life : Life) (frozen : Bool) (core : Core) (log : Log) (s : WorldStands (kept_by told n clock life frozen) core log) (number : ℕ) (key bytes : List ℕ) (before after : ℕ) (answer : Result ⊤ CreateError) (r : Result Uploaded WorldError) →
     IsUnusedIn core number → key ≡ split_key number → AfterLanding told told' (Creates key bytes answer) → HasCause n now (IsErrOf answer creates.Failed) → now ≤ last_count → before ≡ core.store_faults → after ≡ now →
     ((answer ≡ Ok tt) × (r ≡ Ok (record { number = number }))) ⊎ ((e : CreateError) × (answer ≡ Err e) × (r ≡ Err (of_create key before after e))) →
-    Does WorldStands NoneBetween (Some number) (λ fate c. upload_made fate number bytes c) IsTrouble (WasUploaded number bytes) r core log (kept_by told' now clock life frozen)
+    Acts WorldStands (Some number) (λ fate c. upload_made fate number bytes c) IsTrouble (WasUploaded number bytes) r core log (kept_by told' now clock life frozen)
 uploads told told' n now clock life frozen core log s number key bytes before after answer r u ek step cause within at behind rel =
     by answer r rel (told_of told told' s.kept (LandsThen (Creates key bytes answer)) s.told step) cause.failed
   where
@@ -356,13 +354,13 @@ uploads told told' n now clock life frozen core log s number key bytes before af
     lands answer new l = subst (λ (k : List ℕ). LandsThen (Creates k bytes answer) s.kept new) ek l
 
     ends_by : (r : Result Uploaded WorldError) (new : State) (a : Core → Result ⊤ Trouble) → told' ≡ Some new → (l : UploadLaw s.kept new core log number bytes a now) → Says IsTrouble (WasUploaded number bytes) r (a l.after) l.after →
-        Does WorldStands NoneBetween (Some number) (λ fate c. upload_made fate number bytes c) IsTrouble (WasUploaded number bytes) r core log (kept_by told' now clock life frozen)
+        Acts WorldStands (Some number) (λ fate c. upload_made fate number bytes c) IsTrouble (WasUploaded number bytes) r core log (kept_by told' now clock life frozen)
     ends_by r new a tells l says =
         does_by (λ fate c. upload_made fate number bytes c) (Some number) IsTrouble (WasUploaded number bytes) r core core log new a [] core.unsure now told' clock life frozen
         (whole_upload s.kept new core log number bytes a now s.world s.opened s.timely counted l) tells s.clock s.frozen (same_life life core knows) says
 
     failed_by : (new : State) → told' ≡ Some new → (e : CreateError) → LandsThen (Creates key bytes (Err e)) s.kept new → (e ≡ creates.Failed → Rose n now) →
-        Does WorldStands NoneBetween (Some number) (λ fate c. upload_made fate number bytes c) IsTrouble (WasUploaded number bytes) (Err (of_create key before after e)) core log (kept_by told' now clock life frozen)
+        Acts WorldStands (Some number) (λ fate c. upload_made fate number bytes c) IsTrouble (WasUploaded number bytes) (Err (of_create key before after e)) core log (kept_by told' now clock life frozen)
     failed_by new tells creates.Exists l rose =
         absurd (upload_never_exists once s.kept new core log number bytes s.world (let a = counted.later in omega (arith, a, within)) unused (lands (Err creates.Exists) new l))
     failed_by new tells creates.Failed l rose =
@@ -374,36 +372,54 @@ uploads told told' n now clock life frozen core log s number key bytes before af
 
     by : (answer : Result ⊤ CreateError) (r : Result Uploaded WorldError) → ((answer ≡ Ok tt) × (r ≡ Ok (record { number = number }))) ⊎ ((e : CreateError) × (answer ≡ Err e) × (r ≡ Err (of_create key before after e))) →
         Told told' (LandsThen (Creates key bytes answer) s.kept) → (IsErrOf answer creates.Failed → Rose n now) →
-        Does WorldStands NoneBetween (Some number) (λ fate c. upload_made fate number bytes c) IsTrouble (WasUploaded number bytes) r core log (kept_by told' now clock life frozen)
+        Acts WorldStands (Some number) (λ fate c. upload_made fate number bytes c) IsTrouble (WasUploaded number bytes) r core log (kept_by told' now clock life frozen)
     by answer r (inl d) t rose =
         let m = upload_is_made once s.kept t.new core log number bytes now s.world counted unused (lands (Ok tt) t.new (subst (λ (a : Result ⊤ CreateError). LandsThen (Creates key bytes a) s.kept t.new) d.0 t.says)) in
-        subst (λ (x : Result Uploaded WorldError). Does WorldStands NoneBetween (Some number) (λ fate c. upload_made fate number bytes c) IsTrouble (WasUploaded number bytes) x core log (kept_by told' now clock life frozen)) (sym d.1)
+        subst (λ (x : Result Uploaded WorldError). Acts WorldStands (Some number) (λ fate c. upload_made fate number bytes c) IsTrouble (WasUploaded number bytes) x core log (kept_by told' now clock life frozen)) (sym d.1)
         (ends_by (Ok (record { number = number })) t.new (λ c. Ok tt) t.is m.0 (record { same = refl; in_hand = uploaded_in_hand s.kept t.new core log number bytes now m.0 m.1 }))
     by answer r (inr d) t rose =
-        subst (λ (x : Result Uploaded WorldError). Does WorldStands NoneBetween (Some number) (λ fate c. upload_made fate number bytes c) IsTrouble (WasUploaded number bytes) x core log (kept_by told' now clock life frozen)) (sym d.2)
+        subst (λ (x : Result Uploaded WorldError). Acts WorldStands (Some number) (λ fate c. upload_made fate number bytes c) IsTrouble (WasUploaded number bytes) x core log (kept_by told' now clock life frozen)) (sym d.2)
         (failed_by t.new t.is d.0 (subst (λ (a : Result ⊤ CreateError). LandsThen (Creates key bytes a) s.kept t.new) d.1 t.says) (λ f. rose (d.1 ∙ ap Err f)))
 
 -- the grace is over
-pub expires : (grace : Grace) (w : Keeping) (core : Core) (log : Log) (bytes : List ℕ) (from len now : ℕ) → now ≡ w.moment → WorldStands w (asked_clock core) log → IsTimely core → nat_le grace.until w.moment ≡ true →
-    Does WorldStands NoneBetween None (fetched grace) IsTrouble (IsPieceGiven bytes from len) (Err (errors.Expired grace.planned_at now)) core log w
-expires grace w core log bytes from len now at s low over =
+pub expires : (grace : Grace) (number : ℕ) (w : Keeping) (core : Core) (log : Log) (from len now : ℕ) → now ≡ w.moment → WorldStands w (asked_clock core) log → IsTimely core → nat_le grace.until w.moment ≡ true →
+    Acts WorldStands None (fetched_from grace number) IsUnfetched (IsPieceGiven number from len) (Err (errors.Expired grace.planned_at now)) core log w
+expires grace number w core log from len now at s low over =
     record {
-      mid = core;
-      passed = refl;
       fate = one_call calm_call;
-      answer = Err (faulted (is_expired grace.planned_at (asked_clock core).moment));
+      answer = Err (hindered (faulted (is_expired grace.planned_at (asked_clock core).moment)));
       after = asked_clock core;
-      did = ap (λ (b : Bool). unless_over b grace.planned_at (asked_clock core) (file_got calm_call (asked_clock core))) (ap (nat_le grace.until) (sym s.moment) ∙ over);
+      did = ap (λ (b : Bool). sought_unless b grace.planned_at (asked_clock core) (file_sought calm_call (split_key number) (asked_clock core))) (ap (nat_le grace.until) (sym s.moment) ∙ over);
       says = ap (λ (m : ℕ). faulted (is_expired grace.planned_at m)) (sym s.moment ∙ sym at);
       goes_on = (whole_asked s.kept core log (world-same s.kept (asked_clock core) log core.store_faults core.moment core.clock core.unsure s.world) s.opened low).goes_on;
       stands = s;
     }
 
-pub fetches : (grace : Grace) (told told' : Option State) (n now : ℕ) (clock : Option ℕ) (life : Life) (frozen : Bool) (core : Core) (log : Log) (s : WorldStands (kept_by told n clock life frozen) (asked_clock core) log) (low : IsTimely core) (number : ℕ) (key bytes : List ℕ) (from len before after : ℕ) (answer : Result Piece GetError) (r : Result Piece WorldError) →
-    (asked_clock core).moment < grace.until → IsPlannedIn core grace.until number bytes → key ≡ split_key number → AfterLanding told told' (Gets key from len answer) → HasCause n now (IsErrOf answer gets.Failed) → now ≤ last_count → before ≡ core.store_faults → after ≡ now →
+-- a piece is found of what stands, and nothing where nothing stands
+abbrev FindsWhat : Option (List ℕ) → ℕ → ℕ → Result Piece GetError → Type 0
+FindsWhat found from len (Ok piece) = (bytes : List ℕ) × (found ≡ Some bytes) × IsPieceOf bytes from len piece
+FindsWhat found from len (Err gets.Absent) = found ≡ None
+FindsWhat found from len (Err gets.Failed) = ⊤
+FindsWhat found from len (Err (gets.Memory e)) = ⊤
+
+finds_what : (found : Option (List ℕ)) (from len : ℕ) (r : Result Piece GetError) → Finds found from len r → FindsWhat found from len r
+finds_what (Some bytes) from len (Ok piece) f = (bytes, refl, f)
+finds_what None from len (Ok piece) f = absurd f
+finds_what (Some bytes) from len (Err gets.Absent) f = f
+finds_what None from len (Err gets.Absent) f = f
+finds_what (Some bytes) from len (Err gets.Failed) f = tt
+finds_what None from len (Err gets.Failed) f = tt
+finds_what (Some bytes) from len (Err (gets.Memory e)) f = tt
+finds_what None from len (Err (gets.Memory e)) f = tt
+
+abbrev IsFetch : Grace → (number from len : ℕ) → Core → Log → Keeping → Result Piece WorldError → Type 0
+IsFetch grace number from len core log w r = Acts WorldStands None (fetched_from grace number) IsUnfetched (IsPieceGiven number from len) r core log w
+
+pub fetches : (grace : Grace) (told told' : Option State) (n now : ℕ) (clock : Option ℕ) (life : Life) (frozen : Bool) (core : Core) (log : Log) (s : WorldStands (kept_by told n clock life frozen) (asked_clock core) log) (low : IsTimely core) (number : ℕ) (key : List ℕ) (from len before after : ℕ) (answer : Result Piece GetError) (r : Result Piece WorldError) →
+    (asked_clock core).moment < grace.until → key ≡ split_key number → AfterLanding told told' (Gets key from len answer) → HasCause n now (IsErrOf answer gets.Failed) → now ≤ last_count → before ≡ core.store_faults → after ≡ now →
     ((piece : Piece) × (answer ≡ Ok piece) × (r ≡ Ok piece)) ⊎ ((e : GetError) × (answer ≡ Err e) × (r ≡ Err (of_get key before after e))) →
-    Does WorldStands NoneBetween None (fetched grace) IsTrouble (IsPieceGiven bytes from len) r core log (kept_by told' now clock life frozen)
-fetches grace told told' n now clock life frozen core log s low number key bytes from len before after answer r early p ek step cause within at behind rel =
+    Acts WorldStands None (fetched_from grace number) IsUnfetched (IsPieceGiven number from len) r core log (kept_by told' now clock life frozen)
+fetches grace told told' n now clock life frozen core log s low number key from len before after answer r early ek step cause within at behind rel =
     by answer r rel (told_of told told' s.kept (LandsThen (Gets key from len answer)) s.told step) cause.failed
   where
     w : IsWorld s.kept core log
@@ -415,52 +431,63 @@ fetches grace told told' n now clock life frozen core log s low number key bytes
     knows : LifeIs life core.history (asked_clock core).moment core.unsure
     knows = record { next = s.next; unsure = s.unsure; moment = s.moment; meta = s.meta }
 
-    ends_by : (r : Result Piece WorldError) (new : State) (a : Core → Result ⊤ Trouble) → told' ≡ Some new → (f : Fetches grace s.kept new core log a now) → Says IsTrouble (IsPieceGiven bytes from len) r (a f.after) f.after →
-        Does WorldStands NoneBetween None (fetched grace) IsTrouble (IsPieceGiven bytes from len) r core log (kept_by told' now clock life frozen)
+    ends_by : (r : Result Piece WorldError) (new : State) (a : Core → Result ⊤ Unfetched) → told' ≡ Some new → (f : Fetches grace number s.kept new core log a now) → Says IsUnfetched (IsPieceGiven number from len) r (a f.after) f.after → IsFetch grace number from len core log (kept_by told' now clock life frozen) r
     ends_by r new a tells f says =
-        does_by (fetched grace) None IsTrouble (IsPieceGiven bytes from len) r core (asked_clock core) log new a [] core.unsure now told' clock life frozen
-        (whole_fetched grace s.kept new core log a now w s.opened low (record { later = counted.later; within = within }) f) tells s.clock s.frozen (same_life life (asked_clock core) knows) says
+        does_by (fetched_from grace number) None IsUnfetched (IsPieceGiven number from len) r core (asked_clock core) log new a [] core.unsure now told' clock life frozen
+        (whole_fetched grace number s.kept new core log a now w s.opened low (record { later = counted.later; within = within }) f) tells s.clock s.frozen (same_life life (asked_clock core) knows) says
 
-    stored : IsStoredIn core number bytes
-    stored = p (let later = asked_least core.frozen core.moment core.clock in omega (arith, later, early))
+    outside : is_meta key ≡ false
+    outside = ap is_meta ek ∙ split_outside number
 
-    -- the file stands with its bytes, whatever landed
-    stands : (new : State) → HasLanded s.kept new → get new.objects key ≡ Some bytes
-    stands new l =
-        let g = got_law once s.kept new (asked_clock core) log now s.world counted l in
-        ap (get new.objects) ek ∙ (g.3.onward.held.uploaded number bytes (stored-of s.kept (asked_clock core) number bytes s.world.stands_for (stored_asked core number bytes stored))).file
-
-    found : (new : State) (x : Result Piece GetError) → LandsThen (Gets key from len x) s.kept new → HasLanded s.kept new × Finds (Some bytes) from len x
+    -- what the get found, behind what landed before it
+    found : (new : State) (x : Result Piece GetError) → LandsThen (Gets key from len x) s.kept new → HasLanded s.kept new × FindsWhat (get new.objects key) from len x
     found new x l =
-        let landed = landed_then s.kept new l.0 l.1 l.2.0 in
-        (landed, subst (λ (o : Option (List ℕ)). Finds o from len x) (ap (λ (k : State). get k.objects key) (sym l.2.0) ∙ stands new landed) l.2.1)
+        (landed_then s.kept new l.0 l.1 l.2.0, finds_what (get new.objects key) from len x (subst (λ (k : State). Finds (get k.objects key) from len x) (sym l.2.0) l.2.1))
 
-    failed_by : (new : State) → told' ≡ Some new → (e : GetError) → HasLanded s.kept new × Finds (Some bytes) from len (Err e) → (e ≡ gets.Failed → Rose n now) →
-        Does WorldStands NoneBetween None (fetched grace) IsTrouble (IsPieceGiven bytes from len) (Err (of_get key before after e)) core log (kept_by told' now clock life frozen)
-    failed_by new tells gets.Absent l rose = absurd (none_some bytes (sym l.1))
+    sought : (call : Call) (x : Gives Unfetched ⊤) → file_sought call key (asked_clock core) ≡ x → file_sought call (split_key number) (asked_clock core) ≡ x
+    sought call x e = ap (λ (k : List ℕ). file_sought call k (asked_clock core)) (sym ek) ∙ e
+
+    -- a file stands
+    there : (new : State) (piece : Piece) → told' ≡ Some new → HasLanded s.kept new → FindsWhat (get new.objects key) from len (Ok piece) → IsFetch grace number from len core log (kept_by told' now clock life frozen) (Ok piece)
+    there new piece tells l f =
+        let g = sought_law once s.kept new (asked_clock core) log now key true outside s.world counted l (ap is_some f.1) in
+        ends_by (Ok piece) new (λ c. Ok tt) tells (fetches-within grace number s.kept new core log (λ c. Ok tt) now g.0 g.1 early (sought g.0 _ g.2) g.3)
+        (f.0, ap (file_at g.1.files) (sym ek) ∙ g.3.onward.world.stands_for.files key outside ∙ f.1, f.2)
+
+    failed_by : (new : State) → told' ≡ Some new → (e : GetError) → HasLanded s.kept new × FindsWhat (get new.objects key) from len (Err e) → (e ≡ gets.Failed → Rose n now) → IsFetch grace number from len core log (kept_by told' now clock life frozen) (Err (of_get key before after e))
+    failed_by new tells gets.Absent l rose =
+        let g = sought_law once s.kept new (asked_clock core) log now key false outside s.world counted l.0 (ap is_some l.1) in
+        ends_by (Err (errors.Missing key)) new (λ c. Err (absent (split_key number))) tells
+        (fetches-within grace number s.kept new core log (λ c. Err (absent (split_key number))) now g.0 g.1 early (sought g.0 _ g.2 ∙ ap (λ (k : List ℕ). gives (Err (absent k)) g.1) ek) g.3) (ap errors.Missing ek)
     failed_by new tells gets.Failed l rose =
-        let g = got_failed_law once s.kept new (asked_clock core) log now s.world counted (subst (λ (m : ℕ). Rose m now) s.store_faults (rose refl)) l.0 in
-        ends_by (Err (errors.StoreFault before after)) new (λ c. Err (store_failed core.store_faults c)) tells (fetches-within grace s.kept new core log (λ c. Err (store_failed core.store_faults c)) now g.0 g.1 early g.2 g.3)
+        let g = sought_failed_law once s.kept new (asked_clock core) log now key s.world counted (subst (λ (m : ℕ). Rose m now) s.store_faults (rose refl)) l.0 in
+        ends_by (Err (errors.StoreFault before after)) new (λ c. Err (hindered (store_failed core.store_faults c))) tells (fetches-within grace number s.kept new core log (λ c. Err (hindered (store_failed core.store_faults c))) now g.0 g.1 early (sought g.0 _ g.2) g.3)
         (ap (λ (m : ℕ). faulted (store_fault core.store_faults m)) (g.3.faults ∙ sym behind) ∙ ap (λ (m : ℕ). faulted (store_fault m after)) (sym at))
     failed_by new tells (gets.Memory a) l rose =
-        let g = got_short_law once s.kept new (asked_clock core) log now s.world counted l.0 in
-        ends_by (Err (errors.Memory a)) new (λ c. Err no_memory) tells (fetches-within grace s.kept new core log (λ c. Err no_memory) now g.0 g.1 early g.2 g.3) refl
+        let g = sought_short_law once s.kept new (asked_clock core) log now key s.world counted l.0 in
+        ends_by (Err (errors.Memory a)) new (λ c. Err (hindered no_memory)) tells (fetches-within grace number s.kept new core log (λ c. Err (hindered no_memory)) now g.0 g.1 early (sought g.0 _ g.2) g.3) refl
 
     by : (answer : Result Piece GetError) (r : Result Piece WorldError) → ((piece : Piece) × (answer ≡ Ok piece) × (r ≡ Ok piece)) ⊎ ((e : GetError) × (answer ≡ Err e) × (r ≡ Err (of_get key before after e))) →
-        Told told' (LandsThen (Gets key from len answer) s.kept) → (IsErrOf answer gets.Failed → Rose n now) →
-        Does WorldStands NoneBetween None (fetched grace) IsTrouble (IsPieceGiven bytes from len) r core log (kept_by told' now clock life frozen)
+        Told told' (LandsThen (Gets key from len answer) s.kept) → (IsErrOf answer gets.Failed → Rose n now) → IsFetch grace number from len core log (kept_by told' now clock life frozen) r
     by answer r (inl d) t rose =
         let f = found t.new (Ok d.0) (subst (λ (a : Result Piece GetError). LandsThen (Gets key from len a) s.kept t.new) d.1 t.says) in
-        let g = got_law once s.kept t.new (asked_clock core) log now s.world counted f.0 in
-        subst (λ (x : Result Piece WorldError). Does WorldStands NoneBetween None (fetched grace) IsTrouble (IsPieceGiven bytes from len) x core log (kept_by told' now clock life frozen)) (sym d.2)
-        (ends_by (Ok d.0) t.new (λ c. Ok tt) t.is (fetches-within grace s.kept t.new core log (λ c. Ok tt) now g.0 g.1 early g.2 g.3) f.1)
+        subst (λ (x : Result Piece WorldError). IsFetch grace number from len core log (kept_by told' now clock life frozen) x) (sym d.2) (there t.new d.0 t.is f.0 f.1)
     by answer r (inr d) t rose =
-        subst (λ (x : Result Piece WorldError). Does WorldStands NoneBetween None (fetched grace) IsTrouble (IsPieceGiven bytes from len) x core log (kept_by told' now clock life frozen)) (sym d.2)
+        subst (λ (x : Result Piece WorldError). IsFetch grace number from len core log (kept_by told' now clock life frozen) x) (sym d.2)
         (failed_by t.new t.is d.0 (found t.new (Err d.0) (subst (λ (a : Result Piece GetError). LandsThen (Gets key from len a) s.kept t.new) d.1 t.says)) (λ f. rose (d.1 ∙ ap Err f)))
 
--- ---- a gate that holds another
+-- ---- a world as a gate
 
-pub does_held : {W V E A : Type 0} (Stands : W → Core → Log → Type 0) (Held : V → Core → Log → Type 0) (Between : Core → Core → Type 0) (one : Option ℕ) (call : Fate → Core → Gives E ⊤) (is : WorldError → E → Type 0) (holds : A → Core → Type 0) (r : Result A WorldError) (core : Core) (log : Log)
-    (new : W) (held : V) → ((after : Core) → Stands new after log → Held held after log) → Does Stands Between one call is holds r core log new → Does Held Between one call is holds r core log held
-does_held Stands Held Between one call is holds r core log new held on d =
-    record { mid = d.mid; passed = d.passed; fate = d.fate; answer = d.answer; after = d.after; did = d.did; says = d.says; goes_on = d.goes_on; stands = on d.after d.stands }
+-- nobody acted between, and the call may be recorded, as nothing asks for that
+pub does_alone : {W V E A : Type 0} (Stands : W → Core → Log → Type 0) (Held : V → Core → Log → Type 0) (one : Option ℕ) (ask : Ask) (call : Fate → Core → Gives E ⊤) (is : WorldError → E → Type 0) (holds : A → Core → Type 0) (r : Result A WorldError) (core : Core) (log : Log)
+    (new : W) (old held : V) → ((after : Core) → Stands new after log → Held held after log) → Acts Stands one call is holds r core log new → Does Held NoneBetween AnyNumber Anything one ask call is holds r core log old held
+does_alone Stands Held one ask call is holds r core log new old held on d =
+    record {
+      mid = core;
+      passed = refl;
+      owned = λ number own u. u;
+      acts = record { fate = d.fate; answer = d.answer; after = d.after; did = d.did; says = d.says; goes_on = d.goes_on; stands = on d.after d.stands };
+      made = made_of ask d.after ∷ [];
+      own = tt;
+      once = inl refl;
+    }

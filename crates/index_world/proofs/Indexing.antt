@@ -27,7 +27,7 @@ use Rattle.index_world.specs.Held.{NoneAtEnd, KeepsHeld, Still, Enters, AfterLan
 use Rattle.index_world.proofs.StoreKeys.{true_is_false, split_begins, meta_no_split, split_key-injective, meta_is_no_split, outside_apart, none_some, kept_at, absent_at, stood, get-other}
 use Rattle.index_world.proofs.Journals.{stand-of, Stand-same, Stand-at, StandFrom-of, journal-end}
 use Rattle.index_world.proofs.Numbers.{revision_is, staged_le, last_le, published_le, stage_next}
-use Rattle.index_world.proofs.StoreChanges.{All-snoc, All-each, rows_more, Carries, MayEnter-carried, LateEntries-carried, staged_more, staged_last, unpublished_more}
+use Rattle.index_world.proofs.StoreChanges.{All-snoc, All-each, rows_more, Carries, MayEnter-carried, LateEntries-carried, staged_more, staged_last, unpublished_more, published_more}
 use Rattle.index_world.proofs.InHand.{HasStaged-more, HasStaged-new}
 use Rattle.index_world.proofs.GivenUp.{GivenUp-more}
 use Rattle.index_world.proofs.Configured.{configured-more}
@@ -163,6 +163,7 @@ enters-by kept late entries log entry bytes less i spells e =
           file = kept_at kept.objects (meta_key (length entries)) bytes (split_key n) b absent u.file;
           not_late = less (λ l. l.0 ≡ split_key n → ⊥) u.not_late;
         };
+        published = λ n p. published_more entries entry n p;
         staged = λ n delta facts h. HasStaged-more entries entry n delta facts i.stands.legal e.legal (built_act kept entries log entry.act e.file) h;
         given_up = λ n g. GivenUp-more entries entry n i.stands.legal e.legal (built_act kept entries log entry.act e.file) g;
       };
@@ -265,6 +266,7 @@ still-lands kept place o entries log at absent outside i =
           file = kept_at kept.objects o.0 o.1 (split_key n) bytes absent u.file;
           not_late = All-remove (λ l. l.0 ≡ split_key n → ⊥) kept.late place u.not_late;
         };
+        published = λ n p. p;
         staged = λ n delta facts h. h;
         given_up = λ n g. g;
       };
@@ -295,6 +297,7 @@ still-over kept place entries log i =
         configured = λ config e. e;
         unused = λ n u. record { staged = u.staged; unpublished = u.unpublished; absent = u.absent; not_late = All-remove (λ l. l.0 ≡ split_key n → ⊥) kept.late place u.not_late };
         uploaded = λ n bytes u. record { staged = u.staged; file = u.file; not_late = All-remove (λ l. l.0 ≡ split_key n → ⊥) kept.late place u.not_late };
+        published = λ n p. p;
         staged = λ n delta facts h. h;
         given_up = λ n g. g;
       };
@@ -323,6 +326,7 @@ still-late old entries log n bytes i e =
         configured = λ config e. e;
         unused = λ m u. record { staged = u.staged; unpublished = u.unpublished; absent = u.absent; not_late = not_late m u.not_late };
         uploaded = λ m b u. record { staged = u.staged; file = u.file; not_late = not_late m u.not_late };
+        published = λ n p. p;
         staged = λ m delta facts h. h;
         given_up = λ m g. g;
       };
@@ -361,11 +365,11 @@ index-dead old entries log n bytes i lt = still-late old entries log n bytes i (
 
 pub Still-refl : (kept : State) (entries : List Entry) (log : Log) → IsIndexOf kept entries log → Still kept kept entries log
 Still-refl kept entries log i =
-    record { index = i; enters = λ entry e. e; held = record { configured = λ config e. e; unused = λ n u. u; uploaded = λ n bytes u. u; staged = λ n delta facts h. h; given_up = λ n g. g } }
+    record { index = i; enters = λ entry e. e; held = record { configured = λ config e. e; unused = λ n u. u; uploaded = λ n bytes u. u; published = λ n p. p; staged = λ n delta facts h. h; given_up = λ n g. g } }
 
 pub held-trans : (a b c : State) (x y z : List Entry) → KeepsHeld a b x y → KeepsHeld b c y z → KeepsHeld a c x z
 held-trans a b c x y z h k =
-    record { configured = λ config e. k.configured config (h.configured config e); unused = λ n u. k.unused n (h.unused n u); uploaded = λ n bytes u. k.uploaded n bytes (h.uploaded n bytes u); staged = λ n d f s. k.staged n d f (h.staged n d f s); given_up = λ n g. k.given_up n (h.given_up n g) }
+    record { configured = λ config e. k.configured config (h.configured config e); unused = λ n u. k.unused n (h.unused n u); uploaded = λ n bytes u. k.uploaded n bytes (h.uploaded n bytes u); published = λ n p. k.published n (h.published n p); staged = λ n d f s. k.staged n d f (h.staged n d f s); given_up = λ n g. k.given_up n (h.given_up n g) }
 
 pub Still-trans : (a b c : State) (entries : List Entry) (log : Log) → Still a b entries log → Still b c entries log → Still a c entries log
 Still-trans a b c entries log h k =

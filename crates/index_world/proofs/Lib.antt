@@ -34,3 +34,5 @@ pub mod Faulted
 pub mod OpenedLemmas
 pub mod FirstEntry
 pub mod FirstCalls
+pub mod FetchLaws
+pub mod Agreement

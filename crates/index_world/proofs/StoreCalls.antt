@@ -97,6 +97,7 @@ file-stands kept entries log n bytes i u = (
       not_late = v.not_late;
     };
     uploaded = λ m b v. record { staged = v.staged; file = kept_at kept.objects (split_key n) bytes (split_key m) b u.absent v.file; not_late = v.not_late };
+    published = λ m p. p;
     staged = λ m d f s. s;
     given_up = λ m g. g;
   },
@@ -124,6 +125,7 @@ file-late kept entries log n bytes i u = (
       not_late = not_late m v.not_late (split_apart kept entries log m n i.stands v.staged u.staged apart);
     };
     uploaded = λ m b v. record { staged = v.staged; file = v.file; not_late = not_late m v.not_late (stands_apart m b v.file) };
+    published = λ m p. p;
     staged = λ m d f s. s;
     given_up = λ m g. g;
   },
@@ -154,7 +156,7 @@ landed_to old mid entries log (inr (entry, enters)) =
 
 others-on : (old mid new : State) (entries more : List Entry) (n : ℕ) → KeepsHeld old mid entries more → KeepsOthers mid new more more n → KeepsOthers old new entries more n
 others-on old mid new entries more n h k =
-    record { configured = λ config e. k.configured config (h.configured config e); unused = λ m apart u. k.unused m apart (h.unused m u); uploaded = λ m b u. k.uploaded m b (h.uploaded m b u); staged = λ m d f s. k.staged m d f (h.staged m d f s); given_up = λ m g. k.given_up m (h.given_up m g) }
+    record { configured = λ config e. k.configured config (h.configured config e); unused = λ m apart u. k.unused m apart (h.unused m u); uploaded = λ m b u. k.uploaded m b (h.uploaded m b u); published = λ m p. k.published m (h.published m p); staged = λ m d f s. k.staged m d f (h.staged m d f s); given_up = λ m g. k.given_up m (h.given_up m g) }
 
 grown-on : (late late' : List Object) (entries more : List Entry) → (NoneAtEnd late more → NoneAtEnd late' more) →
     (more ≡ entries) ⊎ ((entry : Entry) × (more ≡ entries ++ entry ∷ []) × NoneAtEnd late more) → (more ≡ entries) ⊎ ((entry : Entry) × (more ≡ entries ++ entry ∷ []) × NoneAtEnd late' more)
@@ -190,7 +192,7 @@ uploads-by old mid new entries log n bytes (Err creates.Failed) l u (inr (inl is
 uploads-by old mid new entries log n bytes (Err creates.Failed) l u (inr (inr d)) = absurd (true_is_false (sym d.0 ∙ ap is_some (l.held.unused n u).absent))
 uploads-by old mid new entries log n bytes (Err (creates.Memory a)) l u d =
     subst (λ k. AfterUpload (Err (creates.Memory a)) old k entries log n bytes) (sym d)
-    (record { more = l.more; goes = l.goes; held = record { configured = l.held.configured; unused = λ m apart v. l.held.unused m v; uploaded = l.held.uploaded; staged = l.held.staged; given_up = l.held.given_up } }, l.held.unused n u)
+    (record { more = l.more; goes = l.goes; held = record { configured = l.held.configured; unused = λ m apart v. l.held.unused m v; uploaded = l.held.uploaded; published = l.held.published; staged = l.held.staged; given_up = l.held.given_up } }, l.held.unused n u)
 
 -- 4. an upload
 pub index-uploads : (old new : State) (entries : List Entry) (log : Log) (number : ℕ) (bytes : List ℕ) (answer : Result (Unit {0}) CreateError) → IsIndexOf old entries log →

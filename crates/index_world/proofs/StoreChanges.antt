@@ -150,3 +150,20 @@ pub unpublished_more : (entries : List Entry) (entry : Entry) (n : ℕ) → was_
     was_published (entries ++ entry ∷ []) n ≡ false
 unpublished_more entries entry n e apart =
     ap (λ h. list_any (λ k. k == n) (published_numbers h)) (history-snoc entries entry) ∙ unpublished_on (history entries) entry.moment entry.act n e apart
+
+published_on : (h : History) (moment : ℕ) (act : Act) (n : ℕ) → list_any (λ k. k == n) (published_numbers h) ≡ true →
+    list_any (λ k. k == n) (published_numbers (h ▸ record { moment = moment; act = act })) ≡ true
+published_on h moment Fence n e = e
+published_on h moment (Create config) n e = e
+published_on h moment (Stage number delta facts) n e = e
+published_on h moment (Publish number) n e = list_any-append (λ k. k == n) (published_numbers h) (number ∷ []) ∙ or_true (list_any (λ k. k == n) (published_numbers h)) (list_any (λ k. k == n) (number ∷ [])) e
+published_on h moment (Replace new old upto) n e = e
+published_on h moment (Raise number upto) n e = e
+published_on h moment (Task opstamp text fields times) n e = e
+published_on h moment (MarkStaged numbers) n e = e
+published_on h moment (Remove numbers) n e = e
+published_on h moment (Retire numbers) n e = e
+
+pub published_more : (entries : List Entry) (entry : Entry) (n : ℕ) → was_published entries n ≡ true → was_published (entries ++ entry ∷ []) n ≡ true
+published_more entries entry n e =
+    ap (λ h. list_any (λ k. k == n) (published_numbers h)) (history-snoc entries entry) ∙ published_on (history entries) entry.moment entry.act n e

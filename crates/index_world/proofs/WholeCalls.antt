@@ -90,6 +90,7 @@ keeps_asked core =
       configured = λ config e. e;
       unused = λ n other u. record { staged = u.staged; unpublished = u.unpublished; absent = u.absent; not_late = u.not_late };
       stored = stored_asked core;
+      published = λ n p. p;
       uploaded = uploaded_asked core;
       staged = λ n d f s. s;
     }

@@ -6,7 +6,7 @@ use Rattle.std.specs.FinMap.{get}
 use Rattle.std.specs.Prelude.{Option, Some, None, is_some, nat_le, Result, Ok, ⊤, ◌==◌}
 use Rattle.meta_journal.specs.Journal.{IsCorrupt}
 use Rattle.meta_journal.specs.Loading.{IsForeign}
-use Rattle.meta_journal.specs.Places.{meta_key, HasEntry, Stand, IsJournal}
+use Rattle.meta_journal.specs.Places.{meta_key, split_key, HasEntry, Stand, IsJournal}
 use Rattle.meta_journal.specs.Spelling.{Spells}
 use Rattle.meta_journal.specs.declared.entry.Entry.{Entry}
 use Rattle.meta_store.specs.History.{History, history, moment_of}
@@ -14,7 +14,7 @@ use Rattle.meta_store.specs.History.{history as told}
 use Rattle.meta_store.specs.History.History.{Start, ◌▸◌}
 use Rattle.object_store.specs.Store.{State, HasLanded}
 use Rattle.source_log.specs.Log.{Log}
-use Rattle.index_world.specs.Calls.{Call, Fate, Grace, gives, Trouble, asked_clock, file_got, unless_over, fetched, loaded, upload_made}
+use Rattle.index_world.specs.Calls.{Call, Fate, Grace, gives, Trouble, asked_clock, Unfetched, file_sought, sought_unless, fetched_from, loaded, upload_made}
 use Rattle.index_world.specs.Core.{Core, KeepsBut, IsUploadedIn, journal_of}
 use Rattle.index_world.specs.Index.{IsIndexOf, IsUploaded}
 use Rattle.index_world.specs.World.{IsWorld, IsTimely, WorldStands}
@@ -56,28 +56,28 @@ uploaded_in_hand old new core log n bytes now u h = inl (stored-in new u.after n
 -- ---- a fetch
 
 -- what a fetch did behind the asking of the clock
-pub record Fetches (grace : Grace) (old new : State) (core : Core) (log : Log) (answer : Core → Result ⊤ Trouble) (now : ℕ) : Type 0 where
+pub record Fetches (grace : Grace) (number : ℕ) (old new : State) (core : Core) (log : Log) (answer : Core → Result ⊤ Unfetched) (now : ℕ) : Type 0 where
   pub call : Call
   pub after : Core
-  pub did : unless_over (nat_le grace.until (asked_clock core).moment) grace.planned_at (asked_clock core) (file_got call (asked_clock core)) ≡ gives (answer after) after
+  pub did : sought_unless (nat_le grace.until (asked_clock core).moment) grace.planned_at (asked_clock core) (file_sought call (split_key number) (asked_clock core)) ≡ gives (answer after) after
   pub begun : Begun old new (asked_clock core) after log now
 
 -- the get of a file, within its grace
-abbrev pub fetches-within : (grace : Grace) (old new : State) (core : Core) (log : Log) (answer : Core → Result ⊤ Trouble) (now : ℕ) (call : Call) (after : Core) → (asked_clock core).moment < grace.until →
-    file_got call (asked_clock core) ≡ gives (answer after) after → Begun old new (asked_clock core) after log now → Fetches grace old new core log answer now
-fetches-within grace old new core log answer now call after low did begun =
+abbrev pub fetches-within : (grace : Grace) (number : ℕ) (old new : State) (core : Core) (log : Log) (answer : Core → Result ⊤ Unfetched) (now : ℕ) (call : Call) (after : Core) → (asked_clock core).moment < grace.until →
+    file_sought call (split_key number) (asked_clock core) ≡ gives (answer after) after → Begun old new (asked_clock core) after log now → Fetches grace number old new core log answer now
+fetches-within grace number old new core log answer now call after low did begun =
     let within : nat_le grace.until (asked_clock core).moment ≡ false = grind (low, arith, nat_tests) in
     record {
       call = call;
       after = after;
-      did = ap (λ (b : Bool). unless_over b grace.planned_at (asked_clock core) (file_got call (asked_clock core))) within ∙ did;
+      did = ap (λ (b : Bool). sought_unless b grace.planned_at (asked_clock core) (file_sought call (split_key number) (asked_clock core))) within ∙ did;
       begun = begun;
     }
 
-abbrev pub whole_fetched : (grace : Grace) (old new : State) (core : Core) (log : Log) (answer : Core → Result ⊤ Trouble) (now : ℕ) →
-    IsWorld old core log → 0 < length core.history → IsTimely core → Counted core now → Fetches grace old new core log answer now →
-    Whole (fetched grace) None new core (asked_clock core) log answer [] core.unsure now
-whole_fetched grace old new core log answer now w some t c f =
+abbrev pub whole_fetched : (grace : Grace) (number : ℕ) (old new : State) (core : Core) (log : Log) (answer : Core → Result ⊤ Unfetched) (now : ℕ) →
+    IsWorld old core log → 0 < length core.history → IsTimely core → Counted core now → Fetches grace number old new core log answer now →
+    Whole (fetched_from grace number) None new core (asked_clock core) log answer [] core.unsure now
+whole_fetched grace number old new core log answer now w some t c f =
     record {
       fate = one_call f.call;
       after = f.after;

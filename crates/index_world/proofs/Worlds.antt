@@ -29,7 +29,7 @@ onward-of once old new core after log more s i h =
     same = one-journal once new 0 more (journal_of after) i.stands.journal s.journal
 
 pub held-refl : (kept : State) (entries : List Entry) → KeepsHeld kept kept entries entries
-held-refl kept entries = record { configured = λ config e. e; unused = λ n u. u; uploaded = λ n bytes u. u; staged = λ n d f s. s; given_up = λ n g. g }
+held-refl kept entries = record { configured = λ config e. e; unused = λ n u. u; uploaded = λ n bytes u. u; published = λ n p. p; staged = λ n d f s. s; given_up = λ n g. g }
 
 pub SameLife-refl : (core : Core) → SameLife core core
 SameLife-refl core = record { history = refl; store_faults = refl; moment = refl; clock = refl; unsure = refl }

@@ -49,6 +49,11 @@ pub data Unmade : Type 0 where
   refused : Refusal → Unmade
   troubled : Trouble → Unmade
 
+-- why nothing is fetched: no file stands, or what any call may meet
+pub data Unfetched : Type 0 where
+  absent : (key : List ℕ) → Unfetched
+  hindered : Trouble → Unfetched
+
 -- why an index isn't opened
 pub data Unread : Type 0 where
   not_read : Trouble → Unread
@@ -367,10 +372,30 @@ abbrev pub unless_over : Bool → ℕ → Core → Gives Trouble ⊤ → Gives T
 unless_over true planned_at core otherwise = gives (Err (faulted (is_expired planned_at core.moment))) core
 unless_over false planned_at core otherwise = otherwise
 
--- a fetch asks the clock, and doesn't settle
+-- a fetch of a file that stands asks the clock, and doesn't settle
 abbrev pub fetched : Grace → Fate → Core → Gives Trouble ⊤
 fetched grace fate core =
     asking fate.unasked no_memory core (λ c. unless_over (nat_le grace.until c.moment) grace.planned_at c (file_got fate.first c))
+
+-- a get by whether it fails, and whether a file stands under its key
+abbrev pub sought_by : Bool → Bool → ℕ → List ℕ → Core → Gives Unfetched ⊤
+sought_by true stands before key core = gives (Err (hindered (store_failed before core))) core
+sought_by false true before key core = gives (Ok tt) core
+sought_by false false before key core = gives (Err (absent key)) core
+
+abbrev pub file_sought : Call → List ℕ → Core → Gives Unfetched ⊤
+file_sought call key core =
+    or_short call.short (hindered no_memory) call core
+    (sought_by (may_fail call core.store_faults) (is_some (file_at (begun call core).files key)) core.store_faults key (begun call core))
+
+abbrev pub sought_unless : Bool → ℕ → Core → Gives Unfetched ⊤ → Gives Unfetched ⊤
+sought_unless true planned_at core otherwise = gives (Err (hindered (faulted (is_expired planned_at core.moment)))) core
+sought_unless false planned_at core otherwise = otherwise
+
+-- A fetch of the file of a number, whatever stands under it. Where a file does it is `fetched`.
+abbrev pub fetched_from : Grace → ℕ → Fate → Core → Gives Unfetched ⊤
+fetched_from grace number fate core =
+    asking fate.unasked (hindered no_memory) core (λ c. sought_unless (nat_le grace.until c.moment) grace.planned_at c (file_sought fate.first (split_key number) c))
 
 -- ---- opening
 

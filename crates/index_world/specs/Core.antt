@@ -91,6 +91,11 @@ pub record IsStoredIn (core : Core) (number : ℕ) (bytes : List ℕ) : Type 0 w
   pub file : file_at core.files (split_key number) ≡ Some bytes
   pub not_late : IsNotLateIn core (split_key number)
 
+-- The file that was ever shown under a published number. As no file is deleted yet it stands.
+pub record IsShownIn (core : Core) (number : ℕ) (bytes : List ℕ) : Type 0 where
+  pub published : was_published (journal_of core) number ≡ true
+  pub stored : IsStoredIn core number bytes
+
 -- an uploaded value in hand: its file stands, or its row was marked or is gone
 abbrev pub IsUploadedIn : Core → (number : ℕ) → List ℕ → Type 0
 IsUploadedIn core number bytes = IsStoredIn core number bytes ⊎ IsGivenUp (journal_of core) number
@@ -108,10 +113,20 @@ abbrev pub IsOther : Option ℕ → ℕ → Type 0
 IsOther None number = Unit {0}
 IsOther (Some one) number = number ≡ one → ⊥
 
--- From one call to the next the configuration and numbers in hand stay as they were, all but this one. No file is deleted yet.
-pub record KeepsBut (one : Option ℕ) (core after : Core) : Type 0 where
+-- From one core to a later one the configuration and what is known of numbers stay as they were. An unused number may be used, but
+-- for those that are kept. No file is deleted yet.
+pub record KeepsFor (Kept : ℕ → Type 0) (core after : Core) : Type 0 where
   pub configured : StaysConfigured (journal_of core) (journal_of after)
-  pub unused : (number : ℕ) → IsOther one number → IsUnusedIn core number → IsUnusedIn after number
+  pub unused : (number : ℕ) → Kept number → IsUnusedIn core number → IsUnusedIn after number
   pub stored : (number : ℕ) (bytes : List ℕ) → IsStoredIn core number bytes → IsStoredIn after number bytes
+  pub published : (number : ℕ) → was_published (journal_of core) number ≡ true → was_published (journal_of after) number ≡ true
   pub uploaded : (number : ℕ) (bytes : List ℕ) → IsUploadedIn core number bytes → IsUploadedIn after number bytes
   pub staged : (number : ℕ) (delta : List Part) (facts : RowFacts) → HasStagedIn core number delta facts → HasStagedIn after number delta facts
+
+-- all numbers but this one are kept
+abbrev pub KeepsBut : Option ℕ → Core → Core → Type 0
+KeepsBut one core after = KeepsFor (IsOther one) core after
+
+-- no number is kept
+abbrev pub Nobody : ℕ → Type 0
+Nobody number = ⊥

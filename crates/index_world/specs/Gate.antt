@@ -1,7 +1,8 @@
 -- What the calls of a gate to a world say.
-use Rattle.std.specs.Prelude.{◌≡◌, ◌+◌, ◌-◌, ◌^◌, ◌<◌, true, ℕ, List, length, map, min, Option, Result, Ok, Err, ⊤}
+use Rattle.std.specs.Prelude.{◌≡◌, ◌+◌, ◌-◌, ◌^◌, ◌<◌, true, ℕ, List, length, map, min, Option, Some, Result, Ok, Err, ⊤}
 use Rattle.index_config.specs.declared.config.IndexConfig.{IndexConfig}
 use Rattle.object_store.specs.Store.{State, IsPieceOf}
+use Rattle.meta_journal.specs.Places.{split_key}
 use Rattle.meta_journal.specs.declared.entry.Act.{Act}
 use Rattle.meta_journal.specs.declared.entry.Act.TheVariants.{Stage, Publish}
 use Rattle.meta_store.specs.History.{history, last_number, last_opstamp}
@@ -21,9 +22,10 @@ use Rattle.index_world.specs.declared.tokens.Staged.{Staged}
 use Rattle.index_world.specs.declared.tokens.Uploaded.{Uploaded}
 use Rattle.index_world.specs.declared.world_error.WorldError.{WorldError}
 use Rattle.index_world.specs.declared.world_error.WorldError.TheVariants as errors
-use Rattle.index_world.specs.Core.{Core, journal_of, IsConfigured, IsUnusedIn, IsUploadedIn, HasStagedIn}
+use Rattle.index_world.specs.Core.{Core, file_at, journal_of, IsConfigured, IsUnusedIn, IsUploadedIn, HasStagedIn}
 use Rattle.index_world.specs.Index.{has_staged, IsMade}
-use Rattle.index_world.specs.Calls.{Fate, Grace, Gives, gives, Trouble, faulted, no_memory, store_fault, is_foreign, is_full, is_expired, Unmade, refused, troubled, appended}
+use Rattle.index_world.specs.Calls.{Fate, Grace, Gives, gives, Trouble, faulted, no_memory, store_fault, is_foreign, is_full, is_expired, Unmade, refused, troubled, Unfetched, absent, hindered, appended}
+use Rattle.index_world.specs.CallsMade.{Ask, CallMade, IsRecorded, IsShort}
 use Rattle.index_world.specs.World.{IsWorld, IsTimely, GoesOn}
 
 -- ---- what an error is in the words of the core
@@ -53,19 +55,29 @@ Says is holds (Ok a) (Err e) after = ⊥
 Says is holds (Err error) (Ok done) after = ⊥
 Says is holds (Err error) (Err e) after = is error e
 
--- A call of a gate did this to the core that it stands for. `Between` are the events of other actors before the call's turn;
--- with some fate the call is the core's own, what it answered holds of the core behind it, and the gate stands for that.
-pub record Does {W E A : Type 0} (Stands : W → Core → Log → Type 0) (Between : Core → Core → Type 0) (one : Option ℕ) (call : Fate → Core → Gives E ⊤)
+-- A call did this to the core that its world stands for: with some fate it is the core's own, what it answered holds of the core
+-- behind it, and the world stands for that.
+pub record Acts {W E A : Type 0} (Stands : W → Core → Log → Type 0) (one : Option ℕ) (call : Fate → Core → Gives E ⊤)
     (is : WorldError → E → Type 0) (holds : A → Core → Type 0) (result : Result A WorldError) (core : Core) (log : Log) (new : W) : Type 0 where
-  pub mid : Core
-  pub passed : Between core mid
   pub fate : Fate
   pub answer : Result ⊤ E
   pub after : Core
-  pub did : call fate mid ≡ gives answer after
+  pub did : call fate core ≡ gives answer after
   pub says : Says is holds result answer after
   pub goes_on : GoesOn one core after
   pub stands : Stands new after log
+
+-- A call of a gate came to its turn behind what other actors did, `Between`, which left unused what the caller owns. There it did this
+-- to the core, and the gate recorded it as its own.
+pub record Does {W E A : Type 0} (Stands : W → Core → Log → Type 0) (Between : Core → Core → Type 0) (Owns : W → ℕ → Type 0) (Adds : W → List CallMade → W → Type 0) (one : Option ℕ) (ask : Ask) (call : Fate → Core → Gives E ⊤)
+    (is : WorldError → E → Type 0) (holds : A → Core → Type 0) (result : Result A WorldError) (core : Core) (log : Log) (old new : W) : Type 0 where
+  pub mid : Core
+  pub passed : Between core mid
+  pub owned : (number : ℕ) → Owns old number → IsUnusedIn core number → IsUnusedIn mid number
+  pub acts : Acts Stands one call is holds result mid log new
+  pub made : List CallMade
+  pub own : Adds old made new
+  pub once : IsRecorded ask mid acts.after (IsShort result) made
 
 -- what stands behind a gate: a store that is an index, with this core
 pub record IsSoundCore (core : Core) (log : Log) : Type 0 where
@@ -138,9 +150,14 @@ pub record IsPlan (choice : Choice) (plan : Plan) (core : Core) : Type 0 where
   pub upto : plan.upto ≡ last_opstamp (history core.history)
   pub rows : plan.rows ≡ map planned_row (rows_for (config_of reads (history core.history)) choice (rows (history core.history)))
 
--- these are so many bytes of the file from a place on, and its size
-abbrev pub IsPieceGiven : List ℕ → ℕ → ℕ → Piece → Core → Type 0
-IsPieceGiven bytes from len piece core = IsPieceOf bytes from len piece
+-- these are so many bytes of the number's file from a place on, and its size
+abbrev pub IsPieceGiven : (number from len : ℕ) → Piece → Core → Type 0
+IsPieceGiven number from len piece core = (bytes : List ℕ) × (file_at core.files (split_key number) ≡ Some bytes) × IsPieceOf bytes from len piece
+
+-- a fetch meets no file, or what any call may
+abbrev pub IsUnfetched : WorldError → Unfetched → Type 0
+IsUnfetched error (absent key) = error ≡ errors.Missing key
+IsUnfetched error (hindered trouble) = IsTrouble error trouble
 
 -- a count of fetched bytes stands still at its type's end
 abbrev pub last_bytes : ℕ

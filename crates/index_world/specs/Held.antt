@@ -10,7 +10,7 @@ use Rattle.source_checkpoint.specs.declared.delta.Part.{Part}
 use Rattle.source_log.specs.Log.{Log}
 use Rattle.split_states.specs.declared.facts.RowFacts.{RowFacts}
 use Rattle.index_world.specs.Configuration.{StaysConfigured}
-use Rattle.index_world.specs.Index.{IsIndexOf, MayEnter, IsBelowEnd, IsUnused, IsUploaded, IsGivenUp, HasStaged, is_meta}
+use Rattle.index_world.specs.Index.{IsIndexOf, MayEnter, IsBelowEnd, IsUnused, IsUploaded, IsGivenUp, HasStaged, is_meta, was_published}
 
 -- no late create of the journal can come to stand any more
 abbrev pub NoneAtEnd : List (List ℕ × List ℕ) → List Entry → Type 0
@@ -21,6 +21,7 @@ pub record KeepsHeld (old new : State) (entries more : List Entry) : Type 0 wher
   pub configured : StaysConfigured entries more
   pub unused : (number : ℕ) → IsUnused old entries number → IsUnused new more number
   pub uploaded : (number : ℕ) (bytes : List ℕ) → IsUploaded old entries number bytes → IsUploaded new more number bytes
+  pub published : (number : ℕ) → was_published entries number ≡ true → was_published more number ≡ true
   pub staged : (number : ℕ) (delta : List Part) (facts : RowFacts) → HasStaged entries number delta facts → HasStaged more number delta facts
   pub given_up : (number : ℕ) → IsGivenUp entries number → IsGivenUp more number
 
@@ -29,6 +30,7 @@ pub record KeepsOthers (old new : State) (entries more : List Entry) (number : �
   pub configured : StaysConfigured entries more
   pub unused : (other : ℕ) → (other ≡ number → ⊥) → IsUnused old entries other → IsUnused new more other
   pub uploaded : (other : ℕ) (bytes : List ℕ) → IsUploaded old entries other bytes → IsUploaded new more other bytes
+  pub published : (other : ℕ) → was_published entries other ≡ true → was_published more other ≡ true
   pub staged : (other : ℕ) (delta : List Part) (facts : RowFacts) → HasStaged entries other delta facts → HasStaged more other delta facts
   pub given_up : (other : ℕ) → IsGivenUp entries other → IsGivenUp more other
 

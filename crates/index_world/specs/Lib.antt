@@ -22,3 +22,6 @@ pub mod Onward
 pub mod Owning
 pub mod PlaceMade
 pub mod Saying
+pub mod CallsMade
+pub mod DirectLaws
+pub mod Alike

@@ -6,7 +6,7 @@ use Rattle.object_store.specs.Store.{State}
 use Rattle.source_log.specs.Log.{Log}
 use Rattle.meta_store.specs.State as meta
 use Rattle.index_world.specs.Config.{reads}
-use Rattle.index_world.specs.Core.{Core, KeepsBut, journal_of}
+use Rattle.index_world.specs.Core.{Core, KeepsFor, IsOther, journal_of}
 use Rattle.index_world.specs.Index.{IsIndexOf, max_entries}
 use Rattle.index_world.specs.Standing.{StandsFor}
 
@@ -51,9 +51,13 @@ pub record WorldStands (keeping : Keeping) (core : Core) (log : Log) : Type 0 wh
   -- an index that was opened has an entry
   pub opened : 0 < length core.history
 
--- the core went on: its history grew at its end, its counts didn't fall, and numbers in hand stay, all but this one
-pub record GoesOn (one : Option ℕ) (core after : Core) : Type 0 where
+-- the core went on: its history grew at its end, its counts didn't fall, and numbers in hand stay, of unused ones those that are kept
+pub record GoesFor (Kept : ℕ → Type 0) (core after : Core) : Type 0 where
   pub grown : (more : List Entry) × (after.history ≡ core.history ++ more)
   pub faults : core.store_faults ≤ after.store_faults
   pub moment : core.moment ≤ after.moment
-  pub keeps : KeepsBut one core after
+  pub keeps : KeepsFor Kept core after
+
+-- all but this one
+abbrev pub GoesOn : Option ℕ → Core → Core → Type 0
+GoesOn one core after = GoesFor (IsOther one) core after

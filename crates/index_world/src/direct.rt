@@ -41,6 +41,7 @@ impl<S: ObjectStore, C: SteadyClock> Direct<S, C> {
 
 impl<S: ObjectStore, C: SteadyClock> Gate for Direct<S, C> {
     ghost use Rattle.std.specs.Prelude.{refl};
+    ghost use Rattle.index_world.specs.DirectLaws.{NoLog, Anything, Anyhow, AnyNumber, none_goes};
     ghost use Rattle.index_world.specs.Gate.{NoneBetween};
     ghost use Rattle.index_world.specs.World.{WorldStands};
 
@@ -48,11 +49,33 @@ impl<S: ObjectStore, C: SteadyClock> Gate for Direct<S, C> {
 
     ghost Between = { NoneBetween };
 
+    ghost Owns = { AnyNumber };
+
+    ghost Begins = { NoLog };
+
+    ghost Adds = { Anything };
+
+    ghost since = { Anyhow };
+
     ghost bytes_fetched = { λ direct. direct.fetched };
 
     ghost is_sound = { λ direct core log w. record { kept = w.kept; world = w.world; timely = w.timely; opened = w.opened } };
 
     ghost none_between = { λ core. refl };
+
+    ghost between_goes = { none_goes };
+
+    ghost adds_none = { λ gate. tt };
+
+    ghost adds_more = { λ first mid last made more a b. tt };
+
+    ghost since_same = { λ gate. tt };
+
+    ghost since_more = { λ first mid last a b. tt };
+
+    ghost since_owns = { λ first last number s o. tt };
+
+    ghost since_begins = { λ first last log s b. b };
 
     fn config(&self) -> &IndexConfig {
         self.world.config()

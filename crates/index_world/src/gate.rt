@@ -1,13 +1,15 @@
 //! What the actors of an index ask of its world.
 
-ghost use Rattle.std.specs.Prelude.{◌≡◌, ◌<◌, ◌^◌, ℕ, List, IfOk, length, slice_get, None, Some};
+ghost use Rattle.std.specs.Prelude.{◌≡◌, ◌<◌, ◌^◌, ◌++◌, ℕ, List, [], IfOk, length, slice_get, None, Some};
 ghost use Rattle.doc_value.specs.Documents.{IsSchema};
 ghost use Rattle.index_config.specs.declared.config.IndexConfig as configs;
 ghost use Rattle.meta_journal.specs.Spelling.{CanSpellFacts};
 ghost use Rattle.source_log.specs.Log.{Log};
-ghost use Rattle.index_world.specs.Calls.{asked, looked, asked_and_looked, fetched, upload_made};
-ghost use Rattle.index_world.specs.Core.{Core, IsConfigured, IsUnusedIn, IsPlannedIn};
-ghost use Rattle.index_world.specs.Gate.{Does, fetched_more, grace_of, IsSoundCore, IsTrouble, IsUnmade, AreMarks, IsMoment, stage_call, WasStaged, WasUploaded, publish_call, IsPublishable, IsRevision, IsPlan, IsPieceGiven};
+ghost use Rattle.index_world.specs.Calls.{asked, looked, asked_and_looked, fetched_from, upload_made};
+ghost use Rattle.index_world.specs.CallsMade.{CallMade, of_checkpoints, of_moment, of_stage, of_upload, of_publish, of_plan, of_fetch};
+ghost use Rattle.index_world.specs.Core.{Core, IsConfigured, IsUnusedIn, Nobody};
+ghost use Rattle.index_world.specs.Gate.{Does, fetched_more, grace_of, IsSoundCore, IsTrouble, IsUnmade, IsUnfetched, AreMarks, IsMoment, stage_call, WasStaged, WasUploaded, publish_call, IsPublishable, IsRevision, IsPlan, IsPieceGiven};
+ghost use Rattle.index_world.specs.World.{GoesFor};
 ghost use Rattle.meta_store.specs.declared.planning.PlanRow.{PlanRow};
 
 use crate::tokens::{Marks, Plan, Staged, Uploaded};
@@ -27,6 +29,19 @@ pub trait Gate {
     /// What other actors may do before the turn of a call.
     ghost Between: { Core → Core → Type 0 };
 
+    /// A number that is its caller's own: what others do leaves it unused.
+    ghost Owns: { Self → ℕ → Type 0 };
+
+    /// What its callers may take as given from the beginning on, where a call needs something of the index: that it began over
+    /// this log, and that all others keep to it.
+    ghost Begins: { Self → Log → Type 0 };
+
+    /// From the one state to the other these calls were made through it, in this order.
+    ghost Adds: { Self → List CallMade → Self → Type 0 };
+
+    /// The other state is the same gate's, later or the same.
+    ghost since: { Self → Self → Type 0 };
+
     /// How many bytes were fetched through it.
     ghost bytes_fetched: { Self → ℕ };
 
@@ -41,18 +56,20 @@ pub trait Gate {
 
     /// The checkpoints, the last opstamp and the revision.
     fn checkpoints(&mut self, alloc: Global) -> Result<Marks, WorldError>
+        ensures later { since self.old self.new }
         ensures same { bytes_fetched self.new ≡ bytes_fetched self.old }
         ensures step { (core : Core) (log : Log) → Stands self.old core log →
-            Does Stands Between None looked IsTrouble AreMarks result core log self.new };
+            Does Stands Between Owns Adds None of_checkpoints looked IsTrouble AreMarks result core log self.old self.new };
 
     /// Asks the clock, and gives the greatest moment.
     fn moment(&mut self, alloc: Global) -> Result<u64, WorldError>
+        ensures later { since self.old self.new }
         ensures below { IfOk result (λ moment. moment < 2 ^ 62) }
         ensures same { bytes_fetched self.new ≡ bytes_fetched self.old }
         ensures step { (core : Core) (log : Log) → Stands self.old core log →
-            Does Stands Between None asked IsTrouble IsMoment result core log self.new };
+            Does Stands Between Owns Adds None of_moment asked IsTrouble IsMoment result core log self.old self.new };
 
-    /// Stages a split file of these parts with these facts, under the next number.
+    /// Stages a split file of these parts with these facts, under the next number, which is the caller's own.
     fn stage(
         &mut self,
         alloc: Global,
@@ -60,9 +77,11 @@ pub trait Gate {
         facts: &RowFacts,
     ) -> Result<Staged, WorldError>
         requires { CanSpellFacts facts.now }
+        ensures later { since self.old self.new }
+        ensures owned { IfOk result (λ staged. Owns self.new staged.number) }
         ensures same { bytes_fetched self.new ≡ bytes_fetched self.old }
         ensures step { (core : Core) (log : Log) → Stands self.old core log →
-            Does Stands Between None (stage_call delta.now facts.now) IsUnmade (WasStaged core delta.now facts.now) result core log self.new };
+            Does Stands Between Owns Adds None (of_stage delta.now facts.now) (stage_call delta.now facts.now) IsUnmade (WasStaged core delta.now facts.now) result core log self.old self.new };
 
     /// Makes the file of a staged row.
     fn upload(
@@ -71,25 +90,32 @@ pub trait Gate {
         staged: Staged,
         content: &[u8],
     ) -> Result<Uploaded, WorldError>
+        requires owned { Owns self.old staged.number }
+        requires begun { (log : Log) → Begins self.old log → (core : Core) × Stands self.old core log × IsUnusedIn core staged.number }
+        ensures later { since self.old self.new }
         ensures same { bytes_fetched self.new ≡ bytes_fetched self.old }
         ensures step { (core : Core) (log : Log) → Stands self.old core log → IsUnusedIn core staged.number →
-            Does Stands Between (Some staged.number) (λ fate c. upload_made fate staged.number content.now c) IsTrouble
-            (WasUploaded staged.number content.now) result core log self.new };
+            Does Stands Between Owns Adds (Some staged.number) (of_upload staged.number content.now) (λ fate c. upload_made fate staged.number content.now c) IsTrouble
+            (WasUploaded staged.number content.now) result core log self.old self.new };
 
     /// Publishes an uploaded file: its checkpoints move with it. Gives the revision.
     fn publish(&mut self, alloc: Global, uploaded: Uploaded) -> Result<u64, WorldError>
+        requires begun { (log : Log) → Begins self.old log → (core : Core) × Stands self.old core log × IsPublishable log core uploaded.number }
+        ensures later { since self.old self.new }
         ensures same { bytes_fetched self.new ≡ bytes_fetched self.old }
         ensures step { (core : Core) (log : Log) → Stands self.old core log → IsPublishable log core uploaded.number →
-            Does Stands Between None (publish_call uploaded.number) IsUnmade IsRevision result core log self.new };
+            Does Stands Between Owns Adds None (of_publish uploaded.number) (publish_call uploaded.number) IsUnmade IsRevision result core log self.old self.new };
 
     /// Plans rows over the newest state.
     fn plan(&mut self, alloc: Global, choice: &Choice) -> Result<Plan, WorldError>
+        ensures later { since self.old self.new }
         ensures same { bytes_fetched self.new ≡ bytes_fetched self.old }
         ensures step { (core : Core) (log : Log) → Stands self.old core log →
-            Does Stands Between None asked_and_looked IsTrouble (IsPlan choice.now) result core log self.new };
+            Does Stands Between Owns Adds None (of_plan choice.now) asked_and_looked IsTrouble (IsPlan choice.now) result core log self.old self.new };
 
-    /// Bytes of a planned row's file, from a place on, as many as there are up to `len`. Expired, without a call of the store,
-    /// from the moment on at which files that were marked behind the plan may be gone: the plan's and the deletion grace.
+    /// Bytes of a planned row's file, from a place on, as many as there are up to `len`. Missing where no file stands under its
+    /// number. Expired, without a call of the store, from the moment on at which files that were marked behind the plan may be
+    /// gone: the plan's and the deletion grace.
     fn fetch(
         &mut self,
         alloc: Global,
@@ -99,14 +125,34 @@ pub trait Gate {
         len: u64,
     ) -> Result<Piece, WorldError>
         requires { place < length plan.now.rows }
+        ensures later { since self.old self.new }
         ensures counts { bytes_fetched self.new ≡ fetched_more result (bytes_fetched self.old) }
-        ensures step { (core : Core) (log : Log) (config : configs.IndexConfig) (row : PlanRow) (bytes : List ℕ) → Stands self.old core log → IsConfigured config core →
-            slice_get plan.now.rows place ≡ Some row → IsPlannedIn core (grace_of config plan.now).until row.number bytes →
-            Does Stands Between None (fetched (grace_of config plan.now)) IsTrouble (IsPieceGiven bytes from len) result core log self.new };
+        ensures step { (core : Core) (log : Log) (config : configs.IndexConfig) (row : PlanRow) → Stands self.old core log → IsConfigured config core →
+            slice_get plan.now.rows place ≡ Some row →
+            Does Stands Between Owns Adds None (of_fetch row.number from len) (fetched_from (grace_of config plan.now) row.number) IsUnfetched (IsPieceGiven row.number from len) result core log self.old self.new };
 
     /// What stands behind it is a sound index.
     ghost is_sound: { (gate : Self) (core : Core) (log : Log) → Stands gate core log → IsSoundCore core log };
 
     /// There may be no other actor.
     ghost none_between: { (core : Core) → Between core core };
+
+    /// What others do, the index goes on.
+    ghost between_goes: { (core mid : Core) → Between core mid → GoesFor Nobody core mid };
+
+    /// No call at all.
+    ghost adds_none: { (gate : Self) → Adds gate [] gate };
+
+    /// Calls behind others.
+    ghost adds_more: { (first mid last : Self) (made more : List CallMade) → Adds first made mid → Adds mid more last → Adds first (made ++ more) last };
+
+    ghost since_same: { (gate : Self) → since gate gate };
+
+    ghost since_more: { (first mid last : Self) → since first mid → since mid last → since first last };
+
+    /// What is the caller's own stays so.
+    ghost since_owns: { (first last : Self) (number : ℕ) → since first last → Owns first number → Owns last number };
+
+    /// The beginning stays the beginning.
+    ghost since_begins: { (first last : Self) (log : Log) → since first last → Begins last log → Begins first log };
 }

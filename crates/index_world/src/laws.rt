@@ -24,7 +24,8 @@ ghost use Rattle.index_world.specs.Configuration.{configuration, StaysConfigured
 ghost use Rattle.index_world.specs.Core.{Core};
 ghost use Rattle.index_world.specs.Index.{MayPublish, IsAllowed, HasStaged, IsMade, IsUploaded};
 ghost use Rattle.index_world.specs.Onward.{Landing};
-ghost use Rattle.index_world.specs.World.{IsWorld, IsTimely};
+ghost use Rattle.index_world.specs.Alike.{AreAlike};
+ghost use Rattle.index_world.specs.World.{IsWorld, IsTimely, Keeping, WorldStands};
 ghost use Rattle.index_world.specs.Held.{Still, Enters, AfterLanding, AfterCreate, AfterUpload, Loads};
 
 /// Late creates that come to stand leave an index, of the same entries or with one that was late.
@@ -112,4 +113,9 @@ pub fn a_configuration_stays()
 pub fn made_file_may_be_published()
     ensures { (kept : State) (entries : List Entry) (log : Log) (number : ℕ) (delta : List Part) (facts : RowFacts) (bytes : List ℕ) →
         (config : IndexConfig) → configuration entries ≡ Some config → HasStaged entries number delta facts → IsMade config log delta facts bytes → IsUploaded kept entries number bytes → MayPublish kept entries log number }
+{}
+
+/// Cores for which one world stands agree on all that is seen of the index: so what a caller needs of one holds of each.
+pub fn cores_of_a_world_agree()
+    ensures { (world : Keeping) (core other : Core) (log read : Log) → WorldStands world core log → WorldStands world other read → AreAlike core other }
 {}

@@ -8,12 +8,12 @@ ghost use Rattle.index_config.specs.declared.config.IndexConfig as configs;
 ghost use Rattle.meta_journal.specs.Spelling.{CanSpellFacts};
 ghost use Rattle.object_store.specs.Store.{State, WhereTold};
 ghost use Rattle.source_log.specs.Log.{Log};
-ghost use Rattle.index_world.specs.Calls.{asked, asked_moment, looked, asked_and_looked, fetched, upload_made};
+ghost use Rattle.index_world.specs.Calls.{asked, asked_moment, looked, asked_and_looked, fetched_from, upload_made};
 ghost use Rattle.index_world.specs.Configuration.{index_of};
-ghost use Rattle.index_world.specs.Core.{Core, IsConfigured, IsUnusedIn, IsPlannedIn};
+ghost use Rattle.index_world.specs.Core.{Core, IsConfigured, IsUnusedIn};
 ghost use Rattle.index_world.specs.Created.{CreatesIndex, CreatesNot, CreatesWorld, CreatesNone, IsOfCreate};
 ghost use Rattle.index_config.specs.Answer.{config_answer};
-ghost use Rattle.index_world.specs.Gate.{Does, NoneBetween, grace_of, IsTrouble, IsUnmade, AreMarks, IsMoment, stage_call, WasStaged, WasUploaded, publish_call, IsPublishable, IsRevision, IsPlan, IsPieceGiven};
+ghost use Rattle.index_world.specs.Gate.{Acts, grace_of, IsTrouble, IsUnmade, IsUnfetched, AreMarks, IsMoment, stage_call, WasStaged, WasUploaded, publish_call, IsPublishable, IsRevision, IsPlan, IsPieceGiven};
 ghost use Rattle.index_world.specs.Loading.{LoadsWorld, LoadsNone, LoadsAnew};
 ghost use Rattle.index_world.specs.Taking.{IsFaultBetween};
 ghost use Rattle.index_world.specs.Opened.{OpensIndex, OpensNot, OpensAnew};
@@ -221,7 +221,7 @@ impl<S: ObjectStore, C: SteadyClock> World<S, C> {
     /// The checkpoints, the last opstamp and the revision.
     pub fn checkpoints(&mut self, alloc: Global) -> Result<Marks, WorldError>
         ensures { (core : Core) (log : Log) → WorldStands self.old core log →
-            Does WorldStands NoneBetween None looked IsTrouble AreMarks result core log self.new }
+            Acts WorldStands None looked IsTrouble AreMarks result core log self.new }
     {
         let before = self.store.faults();
         self.life.settle(alloc, &mut self.store, before)?;
@@ -237,7 +237,7 @@ impl<S: ObjectStore, C: SteadyClock> World<S, C> {
     pub fn moment(&mut self) -> Result<u64, WorldError>
         ensures below { IfOk result (λ moment. moment < 2 ^ 62) }
         ensures step { (core : Core) (log : Log) → WorldStands self.old core log →
-            Does WorldStands NoneBetween None asked IsTrouble IsMoment result core log self.new }
+            Acts WorldStands None asked IsTrouble IsMoment result core log self.new }
     {
         self.ask();
         Ok(self.life.moment)
@@ -252,7 +252,7 @@ impl<S: ObjectStore, C: SteadyClock> World<S, C> {
     ) -> Result<Staged, WorldError>
         requires { CanSpellFacts facts.now }
         ensures { (core : Core) (log : Log) → WorldStands self.old core log →
-            Does WorldStands NoneBetween None (stage_call delta.now facts.now) IsUnmade (WasStaged core delta.now facts.now) result core log self.new }
+            Acts WorldStands None (stage_call delta.now facts.now) IsUnmade (WasStaged core delta.now facts.now) result core log self.new }
     {
         let before = self.store.faults();
         self.ask();
@@ -272,7 +272,7 @@ impl<S: ObjectStore, C: SteadyClock> World<S, C> {
         content: &[u8],
     ) -> Result<Uploaded, WorldError>
         ensures { (core : Core) (log : Log) → WorldStands self.old core log → IsUnusedIn core staged.number →
-            Does WorldStands NoneBetween (Some staged.number) (λ fate c. upload_made fate staged.number content.now c) IsTrouble
+            Acts WorldStands (Some staged.number) (λ fate c. upload_made fate staged.number content.now c) IsTrouble
             (WasUploaded staged.number content.now) result core log self.new }
     {
         let before = self.store.faults();
@@ -290,7 +290,7 @@ impl<S: ObjectStore, C: SteadyClock> World<S, C> {
     /// Publishes an uploaded file: its checkpoints move with it. Gives the revision.
     pub fn publish(&mut self, alloc: Global, uploaded: Uploaded) -> Result<u64, WorldError>
         ensures { (core : Core) (log : Log) → WorldStands self.old core log → IsPublishable log core uploaded.number →
-            Does WorldStands NoneBetween None (publish_call uploaded.number) IsUnmade IsRevision result core log self.new }
+            Acts WorldStands None (publish_call uploaded.number) IsUnmade IsRevision result core log self.new }
     {
         let before = self.store.faults();
         self.ask();
@@ -306,7 +306,7 @@ impl<S: ObjectStore, C: SteadyClock> World<S, C> {
     /// Plans rows over the newest state.
     pub fn plan(&mut self, alloc: Global, choice: &Choice) -> Result<Plan, WorldError>
         ensures { (core : Core) (log : Log) → WorldStands self.old core log →
-            Does WorldStands NoneBetween None asked_and_looked IsTrouble (IsPlan choice.now) result core log self.new }
+            Acts WorldStands None asked_and_looked IsTrouble (IsPlan choice.now) result core log self.new }
     {
         let before = self.store.faults();
         self.ask();
@@ -320,8 +320,9 @@ impl<S: ObjectStore, C: SteadyClock> World<S, C> {
         })
     }
 
-    /// Bytes of a planned row's file, from a place on, as many as there are up to `len`. Expired, without a call of the store,
-    /// from the moment on at which files that were marked behind the plan may be gone: the plan's and the deletion grace.
+    /// Bytes of a planned row's file, from a place on, as many as there are up to `len`. Missing where no file stands under its
+    /// number. Expired, without a call of the store, from the moment on at which files that were marked behind the plan may be
+    /// gone: the plan's and the deletion grace.
     pub fn fetch(
         &mut self,
         alloc: Global,
@@ -331,9 +332,9 @@ impl<S: ObjectStore, C: SteadyClock> World<S, C> {
         len: u64,
     ) -> Result<Piece, WorldError>
         requires { place < length plan.now.rows }
-        ensures { (core : Core) (log : Log) (config : configs.IndexConfig) (row : PlanRow) (bytes : List ℕ) → WorldStands self.old core log → IsConfigured config core →
-            slice_get plan.now.rows place ≡ Some row → IsPlannedIn core (grace_of config plan.now).until row.number bytes →
-            Does WorldStands NoneBetween None (fetched (grace_of config plan.now)) IsTrouble (IsPieceGiven bytes from len) result core log self.new }
+        ensures { (core : Core) (log : Log) (config : configs.IndexConfig) (row : PlanRow) → WorldStands self.old core log → IsConfigured config core →
+            slice_get plan.now.rows place ≡ Some row →
+            Acts WorldStands None (fetched_from (grace_of config plan.now) row.number) IsUnfetched (IsPieceGiven row.number from len) result core log self.new }
     {
         let before = self.store.faults();
         self.ask();

@@ -2,13 +2,13 @@
 use Rattle.std.proofs.Common.{◌≡◌, ℕ, ◌-◌, sym, ap, subst, length}
 use Rattle.std.specs.Prelude.{Option, Some}
 use Rattle.source_log.specs.Log.{Log}
-use Rattle.index_world.specs.Core.{Core, IsConfigured, IsUploadedIn, HasStagedIn, KeepsBut, IsOther}
+use Rattle.index_world.specs.Core.{Core, IsConfigured, IsUploadedIn, HasStagedIn, KeepsFor, IsOther}
 use Rattle.index_world.specs.Gate.{IsStagedIn, IsPublishable}
 use Rattle.index_world.specs.Index.{IsMade}
 use Rattle.index_world.specs.SplitFile.{file_of, facts_of, AreSplit}
 use Rattle.indexing_run.specs.Places.{Batch, Held, held_facts, IsStagedHeld, IsUploadedHeld}
 use Rattle.indexing_run.specs.Places.{Place, Indexer, number_held}
-use Rattle.indexing_run.specs.Standing.{PlaceStands, IndexerStands}
+use Rattle.indexing_run.specs.Standing.{PlaceStands, HoldsOwn, IndexerStands}
 use Rattle.indexing_run.specs.Steps.{batch_facts, held_of}
 use Rattle.indexing_run.specs.declared.indexer.Indexer.{Indexer as Reader}
 use Rattle.indexing_run.specs.declared.indexer.Place.{Place as HeldPlace}
@@ -32,8 +32,8 @@ staged_is_held log core batch number b are k s =
     }
 
 -- an upload that was Ok makes it uploaded
-pub uploaded_is_held : (log : Log) (core after : Core) (held : Held) (one : Option ℕ) → KeepsBut one core after → IsStagedHeld log core held → IsUploadedIn after held.number (file_of held.config held.documents) → IsUploadedHeld log after held
-uploaded_is_held log core after held one k s u = record { configured = k.configured held.config s.configured; uploaded = u; staged = k.staged held.number held.delta (held_facts held) s.staged; made = s.made }
+pub uploaded_is_held : (log : Log) (core after : Core) (held : Held) (Kept : ℕ → Type 0) → KeepsFor Kept core after → IsStagedHeld log core held → IsUploadedIn after held.number (file_of held.config held.documents) → IsUploadedHeld log after held
+uploaded_is_held log core after held Kept k s u = record { configured = k.configured held.config s.configured; uploaded = u; staged = k.staged held.number held.delta (held_facts held) s.staged; made = s.made }
 
 -- what is uploaded may be published
 pub held_is_publishable : (log : Log) (core : Core) (held : Held) → IsUploadedHeld log core held → IsPublishable log core held.number
@@ -41,22 +41,22 @@ held_is_publishable log core held u =
     record { config = held.config; configured = u.configured; delta = held.delta; facts = held_facts held; bytes = file_of held.config held.documents; staged = u.staged; made = u.made; uploaded = u.uploaded }
 
 -- the calls of others leave it as it was
-pub staged_stays : (log : Log) (core after : Core) (held : Held) (one : Option ℕ) → KeepsBut one core after → IsOther one held.number → IsStagedHeld log core held → IsStagedHeld log after held
-staged_stays log core after held one k other s =
+pub staged_stays : (log : Log) (core after : Core) (held : Held) (Kept : ℕ → Type 0) → KeepsFor Kept core after → Kept held.number → IsStagedHeld log core held → IsStagedHeld log after held
+staged_stays log core after held Kept k other s =
     record { configured = k.configured held.config s.configured; unused = k.unused held.number other s.unused; staged = k.staged held.number held.delta (held_facts held) s.staged; made = s.made }
 
-pub uploaded_stays : (log : Log) (core after : Core) (held : Held) (one : Option ℕ) → KeepsBut one core after → IsUploadedHeld log core held → IsUploadedHeld log after held
-uploaded_stays log core after held one k u =
+pub uploaded_stays : (log : Log) (core after : Core) (held : Held) (Kept : ℕ → Type 0) → KeepsFor Kept core after → IsUploadedHeld log core held → IsUploadedHeld log after held
+uploaded_stays log core after held Kept k u =
     record { configured = k.configured held.config u.configured; uploaded = k.uploaded held.number (file_of held.config held.documents) u.uploaded; staged = k.staged held.number held.delta (held_facts held) u.staged; made = u.made }
 
-place_stays : (log : Log) (core after : Core) (kept : HeldPlace) (place : Place) (one : Option ℕ) → KeepsBut one core after → ((n : ℕ) → number_held place ≡ Some n → IsOther one n) →
+place_stays : (log : Log) (core after : Core) (kept : HeldPlace) (place : Place) (Kept : ℕ → Type 0) → KeepsFor Kept core after → ((n : ℕ) → number_held place ≡ Some n → Kept n) →
     PlaceStands log core kept place → PlaceStands log after kept place
-place_stays log core after places.Idle place one k other s = s
-place_stays log core after (places.Reading batch) place one k other s = (s.0, s.1, s.2, s.3, k.configured s.0.config s.4)
-place_stays log core after (places.Staged token bytes) place one k other s =
-    (s.0, s.1, s.2, s.3, staged_stays log core after s.0 one k (other s.0.number (ap number_held s.1)) s.4)
-place_stays log core after (places.Uploaded token) place one k other s =
-    (s.0, s.1, s.2, uploaded_stays log core after s.0 one k s.3)
+place_stays log core after places.Idle place Kept k other s = s
+place_stays log core after (places.Reading batch) place Kept k other s = (s.0, s.1, s.2, s.3, k.configured s.0.config s.4)
+place_stays log core after (places.Staged token bytes) place Kept k other s =
+    (s.0, s.1, s.2, s.3, staged_stays log core after s.0 Kept k (other s.0.number (ap number_held s.1)) s.4)
+place_stays log core after (places.Uploaded token) place Kept k other s =
+    (s.0, s.1, s.2, uploaded_stays log core after s.0 Kept k s.3)
 
 -- an indexer stands for the same where the core went on by a call about another number
 pub indexer_stays : {L : Type 0} (tells : L → Option Log) (count : L → ℕ) (reader : Reader L) (indexer : Indexer) (core after : Core) (log : Log) (one : Option ℕ) →
@@ -67,5 +67,20 @@ indexer_stays tells count reader indexer core after log one g other s =
       log_faults = s.log_faults;
       assignment = s.assignment;
       assigned = s.assigned;
-      place = place_stays log core after reader.place indexer.place one g.keeps other s.place;
+      place = place_stays log core after reader.place indexer.place (IsOther one) g.keeps other s.place;
     }
+
+-- what it holds is its own at a later gate
+pub own_later : {W : Type 0} (Owns : W → ℕ → Type 0) (since : W → W → Type 0) → ((first last : W) (number : ℕ) → since first last → Owns first number → Owns last number) → (old new : W) (place : HeldPlace) → since old new →
+    HoldsOwn Owns old place → HoldsOwn Owns new place
+own_later Owns since law old new places.Idle later h = tt
+own_later Owns since law old new (places.Reading batch) later h = tt
+own_later Owns since law old new (places.Staged token bytes) later h = law old new token.number later h
+own_later Owns since law old new (places.Uploaded token) later h = tt
+
+-- at a gate where each number is its caller's own
+pub own_any : {W : Type 0} (Owns : W → ℕ → Type 0) (gate : W) (place : HeldPlace) → ((number : ℕ) → Owns gate number) → HoldsOwn Owns gate place
+own_any Owns gate places.Idle all = tt
+own_any Owns gate (places.Reading batch) all = tt
+own_any Owns gate (places.Staged token bytes) all = all token.number
+own_any Owns gate (places.Uploaded token) all = tt

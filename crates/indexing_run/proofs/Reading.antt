@@ -11,11 +11,12 @@ use Rattle.source_log.specs.declared.log.ReadError.{ReadError}
 use Rattle.source_log.specs.declared.log.ReadError.TheVariants as errors
 use Rattle.meta_store.specs.History.{history}
 use Rattle.meta_store.specs.State.{checkpoints_of}
+use Rattle.index_world.specs.CallsMade.{of_checkpoints, of_moment, of_stage, CallMade, IsShort}
 use Rattle.index_world.specs.Calls.{Fate, calm_fate, Trouble, gives, risen, looked, asked}
-use Rattle.index_world.specs.Core.{Core, last_count, journal_of, IsConfigured}
+use Rattle.index_world.specs.Core.{Core, last_count, journal_of, IsConfigured, Nobody}
 use Rattle.index_config.specs.declared.config.IndexConfig.{IndexConfig}
 use Rattle.index_world.specs.Configuration.{configuration, config_or}
-use Rattle.index_world.specs.World.{GoesOn}
+use Rattle.index_world.specs.World.{GoesFor}
 use Rattle.index_config.proofs.Ranges.{accepted-ranges}
 use Rattle.index_world.proofs.Configured.{configured_read}
 use Rattle.index_world.specs.SplitFile.{max_documents}
@@ -27,18 +28,19 @@ use Rattle.indexing_run.specs.declared.indexer.Place.{Place as HeldPlace}
 use Rattle.indexing_run.specs.declared.indexer.Place.TheVariants as places
 use Rattle.indexing_run.specs.declared.outcome.IndexerOutcome.{IndexerOutcome as Said}
 use Rattle.indexing_run.specs.declared.outcome.IndexerOutcome.TheVariants as said
+use Rattle.indexing_run.specs.Asking.{ask_of, IsCallFree}
 use Rattle.indexing_run.specs.Making.{IsBatch, IsQueue}
 use Rattle.indexing_run.specs.Outcomes as outcomes
 use Rattle.indexing_run.specs.Outcomes.{IndexerOutcome}
 use Rattle.indexing_run.specs.Places.{Batch, Place, idle, reading, Indexer, number_held}
 use Rattle.indexing_run.specs.Standing.{Answers, BatchStands, ReadsOn, PlaceStands, IndexerStands, NamesGiven, StepsAs, batch_read, next_read}
-use Rattle.indexing_run.specs.Steps.{is_empty, Luck, stepped, taken_from, start_of, batch_after, read_limit, fresh_batch, marks_at, partitions_for, log_may_fail, trouble_outcome, checkpoints_given, idle_by, idle_unless, read_by, read_asked, step_read, step_stage, step_place, or_short, step_indexer}
+use Rattle.indexing_run.specs.Steps.{is_empty, Luck, stepped, taken_from, start_of, batch_after, read_limit, fresh_batch, marks_at, partitions_for, log_may_fail, trouble_outcome, batch_facts, checkpoints_given, idle_by, idle_unless, read_by, read_asked, step_read, step_stage, step_place, or_short, step_indexer}
 use Rattle.indexing_run.proofs.Batches.{fresh_is_batch, read_taken, read_keeps, slice_of}
 use Rattle.indexing_run.proofs.Light.{light}
 use Rattle.indexing_run.proofs.Steps.{assigned_apart}
 use Rattle.index_world.specs.declared.tokens.Marks.{Marks}
 use Rattle.index_world.specs.declared.world_error.WorldError.{WorldError}
-use Rattle.indexing_run.proofs.Stepping.{goes_nowhere, by_world, ends_idle}
+use Rattle.indexing_run.proofs.Stepping.{Called, called_of, called_as, called_configured, none_called, trouble_free, by_world, ends_idle}
 
 -- ---- what a log told
 
@@ -90,24 +92,26 @@ end_same false all from some limit h n = by (nat_le (all - from) limit) refl
     by false e = refl
 
 -- the moment was asked for
-pub record Asked {W : Type 0} (Stands : W → Core → Log → Type 0) (Between : Core → Core → Type 0) (moment : ℕ) (core : Core) (log : Log) (caller : W) : Type 0 where
+pub record Asked {W : Type 0} (Stands : W → Core → Log → Type 0) (Between : Core → Core → Type 0) (Owns : W → ℕ → Type 0) (Adds : W → List CallMade → W → Type 0) (moment : ℕ) (core : Core) (log : Log) (old new : W) : Type 0 where
   pub mid : Core
   pub behind : Core
   pub fate : Fate
   pub done : ⊤
-  pub passed : Between core mid
   pub did : asked fate mid ≡ gives (Ok done) behind
   pub is : moment ≡ behind.moment
-  pub goes : GoesOn None core behind
-  pub stands : Stands caller behind log
+  pub called : Called Stands Between Owns Adds None of_moment ⊥ core log old new mid behind
 
-pub asked_of : {W : Type 0} (Stands : W → Core → Log → Type 0) (Between : Core → Core → Type 0) (moment : ℕ) (core : Core) (log : Log) (caller : W) → Does Stands Between None asked IsTrouble IsMoment (Ok moment) core log caller →
-    Asked Stands Between moment core log caller
-asked_of Stands Between moment core log caller d = by d.answer d.did d.says
+pub asked_of : {W : Type 0} (Stands : W → Core → Log → Type 0) (Between : Core → Core → Type 0) (Owns : W → ℕ → Type 0) (Adds : W → List CallMade → W → Type 0) (moment : ℕ) (core : Core) (log : Log) (old new : W) →
+    Does Stands Between Owns Adds None of_moment asked IsTrouble IsMoment (Ok moment) core log old new → Asked Stands Between Owns Adds moment core log old new
+asked_of Stands Between Owns Adds moment core log old new d = by d.acts.answer d.acts.did d.acts.says
   where
-    by : (a : Result ⊤ Trouble) → asked d.fate d.mid ≡ gives a d.after → Says IsTrouble IsMoment (Ok moment) a d.after → Asked Stands Between moment core log caller
-    by (Ok done) did w = record { mid = d.mid; behind = d.after; fate = d.fate; done = done; passed = d.passed; did = did; is = w; goes = d.goes_on; stands = d.stands }
+    by : (a : Result ⊤ Trouble) → asked d.acts.fate d.mid ≡ gives a d.acts.after → Says IsTrouble IsMoment (Ok moment) a d.acts.after → Asked Stands Between Owns Adds moment core log old new
+    by (Ok done) did w = record { mid = d.mid; behind = d.acts.after; fate = d.acts.fate; done = done; did = did; is = w; called = called_of (Ok moment) d ⊥ (λ short. short) }
     by (Err e) did w = absurd w
+
+-- what a step on a batch that isn't closed asks
+asks_moment : (batch : Batch) → batch.closed ≡ false → of_moment ≡ ask_of (reading batch)
+asks_moment batch closed = ap (λ b. if b then of_stage batch.parts (batch_facts batch) else of_moment) (sym closed)
 
 -- what is read next of a batch that isn't closed
 pub record NextIs (batch : Batch) (next : NextRead) : Type 0 where
@@ -162,8 +166,8 @@ reads_on log core batch next nx records b k closed bound =
       target = (target_ranges core batch.config k).1;
     }
 
-module _ {L W : Type 0} (tells : L → Option Log) (count : L → ℕ) (Stands : W → Core → Log → Type 0) (Between : Core → Core → Type 0) (indexer : Indexer) (core : Core) (log : Log)
-    (reader : Reader L) (caller : W) (s : IndexerStands tells count reader (record indexer { place = idle }) core log)
+module _ {L W : Type 0} (tells : L → Option Log) (count : L → ℕ) (Stands : W → Core → Log → Type 0) (Between : Core → Core → Type 0) (Owns : W → ℕ → Type 0) (Adds : W → List CallMade → W → Type 0) (indexer : Indexer) (core : Core) (log : Log)
+    (reader : Reader L) (old new : W) (s : IndexerStands tells count reader (record indexer { place = idle }) core log)
     (now : ℕ) (next : Reader L) (told : tells next.log ≡ Some log) (counted : count next.log ≡ now) (kept : next.assignment ≡ reader.assignment) (later : indexer.log_faults ≤ now) (within : now ≤ last_count) where
   -- the indexer behind the call of its log
   called_stands : (held : HeldPlace) (place : Place) (after : Core) → PlaceStands log after held place →
@@ -172,14 +176,16 @@ module _ {L W : Type 0} (tells : L → Option Log) (count : L → ℕ) (Stands :
       record { told = told; log_faults = counted ∙ sym (risen_is indexer.log_faults now later within); assignment = kept ∙ s.assignment; assigned = s.assigned; place = h }
 
   -- it stands for this, and holds no number
-  ends_called : (before place : Place) (held : HeldPlace) (result : Result Said AllocError) (mid after : Core) (luck : Luck) (outcome : Option IndexerOutcome) → Between core mid →
+  ends_called : (before place : Place) (held : HeldPlace) (result : Result Said AllocError) (mid after : Core) (luck : Luck) (outcome : Option IndexerOutcome) →
+      Called Stands Between Owns Adds (number_held before) (ask_of before) (IsCallFree before outcome) core log old new mid after →
       step_indexer luck log (record indexer { place = before }) mid ≡ record { outcome = outcome; indexer = record indexer { place = place; log_faults = risen indexer.log_faults (now - indexer.log_faults) }; core = after } →
-      Answers result outcome → number_held place ≡ None → PlaceStands log after held place → Stands caller after log → GoesOn (number_held before) core after →
-      StepsAs tells count Stands Between result (record indexer { place = before }) core log (record next { place = held }) caller
-  ends_called before place held result mid after luck outcome passed did answer none h stands goes =
+      Answers result outcome → number_held place ≡ None → PlaceStands log after held place →
+      StepsAs tells count Stands Between Owns Adds result (record indexer { place = before }) core log (record next { place = held }) old new
+  ends_called before place held result mid after luck outcome called did answer none h =
       record {
         mid = mid;
-        passed = passed;
+        passed = called.passed;
+        owned = called.owned;
         luck = luck;
         outcome = outcome;
         after = record indexer { place = place; log_faults = risen indexer.log_faults (now - indexer.log_faults) };
@@ -187,14 +193,20 @@ module _ {L W : Type 0} (tells : L → Option Log) (count : L → ℕ) (Stands :
         did = did;
         answer = answer;
         stands = called_stands held place after h;
-        gate = stands;
-        goes_on = goes;
+        gate = called.stands;
+        goes_on = called.goes;
+        made = called.made;
+        own = called.own;
+        asked = called.asked;
         apart = λ n st e. cc;
       }
 
   -- ---- reading
 
-  module _ (batch : Batch) (mark : Checkpoint) (rest : List Checkpoint) (queue : batch.queue ≡ mark ∷ rest) (closed : batch.closed ≡ false) (moment : ℕ) (a : Asked Stands Between moment core log caller) where
+  module _ (batch : Batch) (mark : Checkpoint) (rest : List Checkpoint) (queue : batch.queue ≡ mark ∷ rest) (closed : batch.closed ≡ false) (moment : ℕ) (a : Asked Stands Between Owns Adds moment core log old new) where
+    asked_called : (free : Type 0) → Called Stands Between Owns Adds None (ask_of (reading batch)) free core log old new a.mid a.behind
+    asked_called free = called_as a.called None (ask_of (reading batch)) free (λ n other. other) (asks_moment batch closed) (λ short. absurd short)
+
     read_did : (luck : Luck) → luck.world ≡ a.fate → step_place (reading batch) luck log (record indexer { place = reading batch }) a.mid
         ≡ read_by (log_may_fail luck.log indexer.log_faults) luck log batch mark rest (record indexer { place = reading batch }) a.behind
     read_did luck same =
@@ -206,22 +218,22 @@ module _ {L W : Type 0} (tells : L → Option Log) (count : L → ℕ) (Stands :
 
     -- the log failed
     pub reads_fault : (before : ℕ) (held : HeldPlace) → before ≡ indexer.log_faults → Rose indexer.log_faults now → PlaceStands log a.behind held (reading batch) →
-        StepsAs tells count Stands Between (Ok (said.SourceFault before now)) (record indexer { place = reading batch }) core log (record next { place = held }) caller
+        StepsAs tells count Stands Between Owns Adds (Ok (said.SourceFault before now)) (record indexer { place = reading batch }) core log (record next { place = held }) old new
     reads_fault before held same rose h =
         ends_called (reading batch) (reading batch) held (Ok (said.SourceFault before now)) a.mid a.behind (log_luck true (now - indexer.log_faults) false a.fate false)
-        (Some (outcomes.SourceFault indexer.log_faults (risen indexer.log_faults (now - indexer.log_faults)))) a.passed
+        (Some (outcomes.SourceFault indexer.log_faults (risen indexer.log_faults (now - indexer.log_faults)))) (asked_called ⊥)
         (read_did (log_luck true (now - indexer.log_faults) false a.fate false) refl
         ∙ ap (λ b. read_by b (log_luck true (now - indexer.log_faults) false a.fate false) log batch mark rest (record indexer { place = reading batch }) a.behind) (rose_may indexer.log_faults now rose later within))
-        (ap (λ n. outcomes.SourceFault n (risen indexer.log_faults (now - indexer.log_faults))) (sym same) ∙ ap (outcomes.SourceFault before) (risen_is indexer.log_faults now later within)) refl h a.stands a.goes
+        (ap (λ n. outcomes.SourceFault n (risen indexer.log_faults (now - indexer.log_faults))) (sym same) ∙ ap (outcomes.SourceFault before) (risen_is indexer.log_faults now later within)) refl h
 
     -- there was no memory
     pub reads_short : (held : HeldPlace) (result : Result Said AllocError) → PlaceStands log a.behind held idle → Answers result None →
-        StepsAs tells count Stands Between result (record indexer { place = reading batch }) core log (record next { place = held }) caller
+        StepsAs tells count Stands Between Owns Adds result (record indexer { place = reading batch }) core log (record next { place = held }) old new
     reads_short held result h answer =
-        ends_called (reading batch) idle held result a.mid a.behind (log_luck false (now - indexer.log_faults) false a.fate true) None a.passed
-        (ap (or_short true) (read_did (log_luck false (now - indexer.log_faults) false a.fate true) refl)) answer refl h a.stands a.goes
+        ends_called (reading batch) idle held result a.mid a.behind (log_luck false (now - indexer.log_faults) false a.fate true) None (asked_called ⊤)
+        (ap (or_short true) (read_did (log_luck false (now - indexer.log_faults) false a.fate true) refl)) answer refl h
 
-    module _ (l : IsLog log) (b : IsBatch log batch) (k : IsConfigured batch.config core) (records : Records) (slice : IsSliceOf (records_of log mark.partition) mark.at (read_limit batch) records) where
+    module _ (between : (core mid : Core) → Between core mid → GoesFor Nobody core mid) (l : IsLog log) (b : IsBatch log batch) (k : IsConfigured batch.config core) (records : Records) (slice : IsSliceOf (records_of log mark.partition) mark.at (read_limit batch) records) where
       read_batch : Batch
       read_batch =
           batch_after batch mark rest (taken_from batch.config mark.partition mark.at (take (read_limit batch) (drop mark.at (records_of log mark.partition))) (start_of batch))
@@ -249,19 +261,19 @@ module _ {L W : Type 0} (tells : L → Option Log) (count : L → ℕ) (Stands :
           (nat_le (length (drop mark.at (records_of log mark.partition))) (read_limit batch)) q.0 q.1 q.2 (read_taken log batch mark (let r = configured_read (journal_of core) batch.config k in light r.0 batch.config r.1) l b closed) a.behind.moment
 
       pub reads_some : (n : ℕ) (held : HeldBatch) → n ≡ (taken_from batch.config mark.partition mark.at records.list (start_of batch)).count → BatchStands held (batch_read batch mark rest records moment) →
-          StepsAs tells count Stands Between (Ok (said.Read n)) (record indexer { place = reading batch }) core log (record next { place = places.Reading held }) caller
+          StepsAs tells count Stands Between Owns Adds (Ok (said.Read n)) (record indexer { place = reading batch }) core log (record next { place = places.Reading held }) old new
       unfolding read_batch
       reads_some n held taken h =
           ends_called (reading batch) (reading read_batch) (places.Reading held) (Ok (said.Read n)) a.mid a.behind (log_luck false (now - indexer.log_faults) false a.fate false)
-          (Some (outcomes.Read (taken_from batch.config mark.partition mark.at (take (read_limit batch) (drop mark.at (records_of log mark.partition))) (start_of batch)).count)) a.passed
+          (Some (outcomes.Read (taken_from batch.config mark.partition mark.at (take (read_limit batch) (drop mark.at (records_of log mark.partition))) (start_of batch)).count)) (asked_called ⊥)
           (read_did (log_luck false (now - indexer.log_faults) false a.fate false) refl)
           (ap (λ rs. outcomes.Read (taken_from batch.config mark.partition mark.at rs (start_of batch)).count) (sym slice.list_is) ∙ ap outcomes.Read (sym taken)) refl
-          (read_batch, refl, subst (BatchStands held) read_is h, batch_stays, a.goes.keeps.configured batch.config k) a.stands a.goes
+          (read_batch, refl, subst (BatchStands held) read_is h, batch_stays, called_configured a.called between batch.config k)
 
 -- ---- the moment was not told
 
-module _ {L W : Type 0} (tells : L → Option Log) (count : L → ℕ) (Stands : W → Core → Log → Type 0) (Between : Core → Core → Type 0) (indexer : Indexer) (core : Core) (log : Log)
-    (reader : Reader L) (caller : W) (s : IndexerStands tells count reader (record indexer { place = idle }) core log) (batch : Batch) (closed : batch.closed ≡ false) where
+module _ {L W : Type 0} (tells : L → Option Log) (count : L → ℕ) (Stands : W → Core → Log → Type 0) (Between : Core → Core → Type 0) (Owns : W → ℕ → Type 0) (Adds : W → List CallMade → W → Type 0) (indexer : Indexer) (core : Core) (log : Log)
+    (reader : Reader L) (old new : W) (s : IndexerStands tells count reader (record indexer { place = idle }) core log) (batch : Batch) (closed : batch.closed ≡ false) where
   asked_did : (queue : List Checkpoint) (fate : Fate) (mid after : Core) (trouble : Trouble) → is_empty queue ≡ false → asked fate mid ≡ gives (Err trouble) after →
       step_read (by_world fate) log batch queue (record indexer { place = reading batch }) mid
       ≡ record { outcome = trouble_outcome trouble; indexer = record indexer { place = idle }; core = after }
@@ -269,18 +281,19 @@ module _ {L W : Type 0} (tells : L → Option Log) (count : L → ℕ) (Stands :
   asked_did (mark ∷ rest) fate mid after trouble h did = ap (read_asked (by_world fate) log batch mark rest (record indexer { place = reading batch })) did
 
   pub moment_fails : is_empty batch.queue ≡ false → (error : WorldError) (answered : Result Said AllocError) → ((trouble : Trouble) → IsTrouble error trouble → Answers answered (trouble_outcome trouble)) →
-      Does Stands Between None asked IsTrouble IsMoment (Err error) core log caller →
-      StepsAs tells count Stands Between answered (record indexer { place = reading batch }) core log reader caller
-  moment_fails ahead error answered answers d = by d.answer d.did d.says
+      Does Stands Between Owns Adds None of_moment asked IsTrouble IsMoment (Err error) core log old new →
+      StepsAs tells count Stands Between Owns Adds answered (record indexer { place = reading batch }) core log reader old new
+  moment_fails ahead error answered answers d = by d.acts.answer d.acts.did d.acts.says
     where
-      by : (a : Result ⊤ Trouble) → asked d.fate d.mid ≡ gives a d.after → Says IsTrouble IsMoment (Err error) a d.after →
-          StepsAs tells count Stands Between answered (record indexer { place = reading batch }) core log reader caller
+      by : (a : Result ⊤ Trouble) → asked d.acts.fate d.mid ≡ gives a d.acts.after → Says IsTrouble IsMoment (Err error) a d.acts.after →
+          StepsAs tells count Stands Between Owns Adds answered (record indexer { place = reading batch }) core log reader old new
       by (Ok done) did w = absurd w
       by (Err e) did w =
-          ends_idle tells count Stands Between indexer core log reader caller s (reading batch) answered d.mid d.after (by_world d.fate) (trouble_outcome e) d.passed
-          (ap (λ b. if b then (if batch.count == 0 then stepped (Some outcomes.CaughtUp) idle (record indexer { place = reading batch }) d.mid else step_stage (by_world d.fate) batch (record indexer { place = reading batch }) d.mid)
-          else step_read (by_world d.fate) log batch batch.queue (record indexer { place = reading batch }) d.mid) closed
-          ∙ asked_did batch.queue d.fate d.mid d.after e ahead did) (answers e w) d.stands d.goes_on
+          ends_idle tells count Stands Between Owns Adds indexer core log reader old new s (reading batch) answered d.mid d.acts.after (by_world d.acts.fate) (trouble_outcome e)
+          (called_as (called_of (Err error) d (IsCallFree (reading batch) (trouble_outcome e)) (trouble_free (reading batch) error e w)) None (ask_of (reading batch)) (IsCallFree (reading batch) (trouble_outcome e)) (λ n other. other) (asks_moment batch closed) (λ short. short))
+          (ap (λ b. if b then (if batch.count == 0 then stepped (Some outcomes.CaughtUp) idle (record indexer { place = reading batch }) d.mid else step_stage (by_world d.acts.fate) batch (record indexer { place = reading batch }) d.mid)
+          else step_read (by_world d.acts.fate) log batch batch.queue (record indexer { place = reading batch }) d.mid) closed
+          ∙ asked_did batch.queue d.acts.fate d.mid d.acts.after e ahead did) (answers e w)
 
 -- ---- idle: the names, and the checkpoints
 
@@ -302,27 +315,28 @@ pub names_failed : (o : Option (List (List ℕ))) (before now : ℕ) (log : Log)
 names_failed None before now log h = (refl, h.0)
 names_failed (Some all) before now log h = absurd h
 
-module _ {L W : Type 0} (tells : L → Option Log) (count : L → ℕ) (Stands : W → Core → Log → Type 0) (Between : Core → Core → Type 0) (indexer : Indexer) (core : Core) (log : Log)
-    (reader : Reader L) (caller : W) (s : IndexerStands tells count reader (record indexer { place = idle }) core log)
+module _ {L W : Type 0} (tells : L → Option Log) (count : L → ℕ) (Stands : W → Core → Log → Type 0) (Between : Core → Core → Type 0) (Owns : W → ℕ → Type 0) (Adds : W → List CallMade → W → Type 0) (indexer : Indexer) (core : Core) (log : Log)
+    (reader : Reader L) (old new : W) (s : IndexerStands tells count reader (record indexer { place = idle }) core log)
     (now : ℕ) (next : Reader L) (told : tells next.log ≡ Some log) (counted : count next.log ≡ now) (kept : next.assignment ≡ reader.assignment) (later : indexer.log_faults ≤ now) (within : now ≤ last_count) where
   -- there was no memory for the names
-  pub names_short : (held : HeldPlace) (result : Result Said AllocError) → PlaceStands log core held idle → Answers result None → Stands caller core log → Between core core →
-      StepsAs tells count Stands Between result (record indexer { place = idle }) core log (record next { place = held }) caller
-  names_short held result h answer stands passed =
-      ends_called tells count Stands Between indexer core log reader caller s now next told counted kept later within
-      idle idle held result core core (log_luck false (now - indexer.log_faults) true calm_fate false) None passed refl answer refl h stands (goes_nowhere None core)
+  pub names_short : (held : HeldPlace) (result : Result Said AllocError) → PlaceStands log core held idle → Answers result None → Stands new core log → Between core core → Adds old [] new →
+      StepsAs tells count Stands Between Owns Adds result (record indexer { place = idle }) core log (record next { place = held }) old new
+  names_short held result h answer stands passed own =
+      ends_called tells count Stands Between Owns Adds indexer core log reader old new s now next told counted kept later within
+      idle idle held result core core (log_luck false (now - indexer.log_faults) true calm_fate false) None
+      (none_called Stands Between Owns Adds None of_checkpoints ⊤ core log old new stands passed own tt) refl answer refl h
 
   -- the log failed
-  pub names_fault : (held : HeldPlace) (before : ℕ) → PlaceStands log core held idle → before ≡ indexer.log_faults → indexer.assignment ≡ None → Rose indexer.log_faults now → Stands caller core log → Between core core →
-      StepsAs tells count Stands Between (Ok (said.SourceFault before now)) (record indexer { place = idle }) core log (record next { place = held }) caller
-  names_fault held before h same none rose stands passed =
-      ends_called tells count Stands Between indexer core log reader caller s now next told counted kept later within
+  pub names_fault : (held : HeldPlace) (before : ℕ) → PlaceStands log core held idle → before ≡ indexer.log_faults → indexer.assignment ≡ None → Rose indexer.log_faults now → Stands new core log → Between core core → Adds old [] new →
+      StepsAs tells count Stands Between Owns Adds (Ok (said.SourceFault before now)) (record indexer { place = idle }) core log (record next { place = held }) old new
+  names_fault held before h same none rose stands passed own =
+      ends_called tells count Stands Between Owns Adds indexer core log reader old new s now next told counted kept later within
       idle idle held (Ok (said.SourceFault before now)) core core (log_luck true (now - indexer.log_faults) false calm_fate false)
-      (Some (outcomes.SourceFault indexer.log_faults (risen indexer.log_faults (now - indexer.log_faults)))) passed
+      (Some (outcomes.SourceFault indexer.log_faults (risen indexer.log_faults (now - indexer.log_faults))))
+      (none_called Stands Between Owns Adds None of_checkpoints ⊤ core log old new stands passed own tt)
       (ap (λ b. idle_by b indexer.assignment (log_luck true (now - indexer.log_faults) false calm_fate false) log (record indexer { place = idle }) core) (rose_may indexer.log_faults now rose later within)
       ∙ ap (λ o. idle_by true o (log_luck true (now - indexer.log_faults) false calm_fate false) log (record indexer { place = idle }) core) none)
-      (ap (λ n. outcomes.SourceFault n (risen indexer.log_faults (now - indexer.log_faults))) (sym same) ∙ ap (outcomes.SourceFault before) (risen_is indexer.log_faults now later within)) refl h stands
-      (goes_nowhere None core)
+      (ap (λ n. outcomes.SourceFault n (risen indexer.log_faults (now - indexer.log_faults))) (sym same) ∙ ap (outcomes.SourceFault before) (risen_is indexer.log_faults now later within)) refl h
 
   module _ (names : List (List ℕ)) (given : NamesGiven indexer.assignment (Ok names) indexer.log_faults now log) where
     names_are : names ≡ partitions_for indexer.assignment log
@@ -353,14 +367,16 @@ module _ {L W : Type 0} (tells : L → Option Log) (count : L → ℕ) (Stands :
     named_stands held place after h =
         record { told = told; log_faults = counted; assignment = kept ∙ s.assignment; assigned = s.assigned; place = h }
 
-    ends_named : (place : Place) (held : HeldPlace) (result : Result Said AllocError) (mid after : Core) (luck : Luck) (outcome : Option IndexerOutcome) → Between core mid →
+    ends_named : (place : Place) (held : HeldPlace) (result : Result Said AllocError) (mid after : Core) (luck : Luck) (outcome : Option IndexerOutcome) →
+        Called Stands Between Owns Adds None of_checkpoints (IsCallFree idle outcome) core log old new mid after →
         step_indexer luck log (record indexer { place = idle }) mid ≡ record { outcome = outcome; indexer = record indexer { place = place; log_faults = now }; core = after } →
-        Answers result outcome → number_held place ≡ None → PlaceStands log after held place → Stands caller after log → GoesOn None core after →
-        StepsAs tells count Stands Between result (record indexer { place = idle }) core log (record next { place = held }) caller
-    ends_named place held result mid after luck outcome passed did answer none h stands goes =
+        Answers result outcome → number_held place ≡ None → PlaceStands log after held place →
+        StepsAs tells count Stands Between Owns Adds result (record indexer { place = idle }) core log (record next { place = held }) old new
+    ends_named place held result mid after luck outcome called did answer none h =
         record {
           mid = mid;
-          passed = passed;
+          passed = called.passed;
+          owned = called.owned;
           luck = luck;
           outcome = outcome;
           after = record indexer { place = place; log_faults = now };
@@ -368,60 +384,63 @@ module _ {L W : Type 0} (tells : L → Option Log) (count : L → ℕ) (Stands :
           did = did;
           answer = answer;
           stands = named_stands held place after h;
-          gate = stands;
-          goes_on = goes;
+          gate = called.stands;
+          goes_on = called.goes;
+          made = called.made;
+          own = called.own;
+          asked = called.asked;
           apart = λ n st e. cc;
         }
 
     -- the checkpoints were not given
     pub marks_fail : (held : HeldPlace) (error : WorldError) (answered : Result Said AllocError) → ((after : Core) → PlaceStands log after held idle) →
         ((trouble : Trouble) → IsTrouble error trouble → Answers answered (trouble_outcome trouble)) →
-        Does Stands Between None looked IsTrouble AreMarks (Err error) core log caller →
-        StepsAs tells count Stands Between answered (record indexer { place = idle }) core log (record next { place = held }) caller
-    marks_fail held error answered h answers d = by d.answer d.did d.says
+        Does Stands Between Owns Adds None of_checkpoints looked IsTrouble AreMarks (Err error) core log old new →
+        StepsAs tells count Stands Between Owns Adds answered (record indexer { place = idle }) core log (record next { place = held }) old new
+    marks_fail held error answered h answers d = by d.acts.answer d.acts.did d.acts.says
       where
-        by : (a : Result ⊤ Trouble) → looked d.fate d.mid ≡ gives a d.after → Says IsTrouble AreMarks (Err error) a d.after →
-            StepsAs tells count Stands Between answered (record indexer { place = idle }) core log (record next { place = held }) caller
+        by : (a : Result ⊤ Trouble) → looked d.acts.fate d.mid ≡ gives a d.acts.after → Says IsTrouble AreMarks (Err error) a d.acts.after →
+            StepsAs tells count Stands Between Owns Adds answered (record indexer { place = idle }) core log (record next { place = held }) old new
         by (Ok done) did w = absurd w
         by (Err e) did w =
-            ends_named idle held answered d.mid d.after (log_luck false (now - indexer.log_faults) false d.fate false) (trouble_outcome e) d.passed
-            (idle_did d.fate false d.mid ∙ ap (checkpoints_given log (record indexer { place = idle; log_faults = now })) did) (answers e w) refl (h d.after) d.stands d.goes_on
+            ends_named idle held answered d.mid d.acts.after (log_luck false (now - indexer.log_faults) false d.acts.fate false) (trouble_outcome e)
+            (called_of (Err error) d (IsCallFree idle (trouble_outcome e)) (trouble_free idle error e w))
+            (idle_did d.acts.fate false d.mid ∙ ap (checkpoints_given log (record indexer { place = idle; log_faults = now })) did) (answers e w) refl (h d.acts.after)
 
     -- there was no memory for the batch
     pub marks_short : (held : HeldPlace) (marks : Marks) (answered : Result Said AllocError) → ((after : Core) → PlaceStands log after held idle) → Answers answered None →
-        Does Stands Between None looked IsTrouble AreMarks (Ok marks) core log caller →
-        StepsAs tells count Stands Between answered (record indexer { place = idle }) core log (record next { place = held }) caller
-    marks_short held marks answered h answer d = by d.answer d.did d.says
+        Does Stands Between Owns Adds None of_checkpoints looked IsTrouble AreMarks (Ok marks) core log old new →
+        StepsAs tells count Stands Between Owns Adds answered (record indexer { place = idle }) core log (record next { place = held }) old new
+    marks_short held marks answered h answer d = by d.acts.answer d.acts.did d.acts.says
       where
-        by : (a : Result ⊤ Trouble) → looked d.fate d.mid ≡ gives a d.after → Says IsTrouble AreMarks (Ok marks) a d.after →
-            StepsAs tells count Stands Between answered (record indexer { place = idle }) core log (record next { place = held }) caller
+        by : (a : Result ⊤ Trouble) → looked d.acts.fate d.mid ≡ gives a d.acts.after → Says IsTrouble AreMarks (Ok marks) a d.acts.after →
+            StepsAs tells count Stands Between Owns Adds answered (record indexer { place = idle }) core log (record next { place = held }) old new
         by (Ok done) did w =
-            ends_named idle held answered d.mid d.after (log_luck false (now - indexer.log_faults) false d.fate true) None d.passed
-            (ap (or_short true) (idle_did d.fate true d.mid ∙ ap (checkpoints_given log (record indexer { place = idle; log_faults = now })) did)) answer refl (h d.after) d.stands d.goes_on
+            ends_named idle held answered d.mid d.acts.after (log_luck false (now - indexer.log_faults) false d.acts.fate true) None (called_of (Ok marks) d ⊤ (λ short. tt))
+            (ap (or_short true) (idle_did d.acts.fate true d.mid ∙ ap (checkpoints_given log (record indexer { place = idle; log_faults = now })) did)) answer refl (h d.acts.after)
         by (Err e) did w = absurd w
 
     -- a batch begins
-    pub begins : (config : IndexConfig) (held : HeldBatch) (marks : Marks) → IsLog log → ((after : Core) → Stands caller after log → IsConfigured config after) →
+    pub begins : (config : IndexConfig) (held : HeldBatch) (marks : Marks) → IsLog log → ((after : Core) → Stands new after log → IsConfigured config after) →
         BatchStands held (fresh_batch config (marks_at marks.checkpoints.items names)) →
-        Does Stands Between None looked IsTrouble AreMarks (Ok marks) core log caller →
-        StepsAs tells count Stands Between (Ok said.Checkpoint) (record indexer { place = idle }) core log (record next { place = places.Reading held }) caller
-    begins config held marks l here b d = by d.answer d.did d.says
+        Does Stands Between Owns Adds None of_checkpoints looked IsTrouble AreMarks (Ok marks) core log old new →
+        StepsAs tells count Stands Between Owns Adds (Ok said.Checkpoint) (record indexer { place = idle }) core log (record next { place = places.Reading held }) old new
+    begins config held marks l here b d = by d.acts.answer d.acts.did d.acts.says
       where
-        by : (a : Result ⊤ Trouble) → looked d.fate d.mid ≡ gives a d.after → Says IsTrouble AreMarks (Ok marks) a d.after →
-            StepsAs tells count Stands Between (Ok said.Checkpoint) (record indexer { place = idle }) core log (record next { place = places.Reading held }) caller
+        by : (a : Result ⊤ Trouble) → looked d.acts.fate d.mid ≡ gives a d.acts.after → Says IsTrouble AreMarks (Ok marks) a d.acts.after →
+            StepsAs tells count Stands Between Owns Adds (Ok said.Checkpoint) (record indexer { place = idle }) core log (record next { place = places.Reading held }) old new
         by (Ok done) did w =
-            let k : IsConfigured config d.after = here d.after d.stands in
-            let same : config ≡ config_or (configuration (journal_of d.after)) = ap config_or (sym k) in
-            ends_named (reading (fresh_batch (config_or (configuration (journal_of d.after))) (marks_at (checkpoints_of (history d.after.history)) (partitions_for indexer.assignment log)))) (places.Reading held) (Ok said.Checkpoint) d.mid d.after
-            (log_luck false (now - indexer.log_faults) false d.fate false) (Some outcomes.Checkpoint) d.passed
-            (idle_did d.fate false d.mid ∙ ap (checkpoints_given log (record indexer { place = idle; log_faults = now })) did) refl refl (
-              fresh_batch (config_or (configuration (journal_of d.after))) (marks_at (checkpoints_of (history d.after.history)) (partitions_for indexer.assignment log)),
+            let k : IsConfigured config d.acts.after = here d.acts.after d.acts.stands in
+            let same : config ≡ config_or (configuration (journal_of d.acts.after)) = ap config_or (sym k) in
+            ends_named (reading (fresh_batch (config_or (configuration (journal_of d.acts.after))) (marks_at (checkpoints_of (history d.acts.after.history)) (partitions_for indexer.assignment log)))) (places.Reading held) (Ok said.Checkpoint) d.mid d.acts.after
+            (log_luck false (now - indexer.log_faults) false d.acts.fate false) (Some outcomes.Checkpoint) (called_of (Ok marks) d ⊥ (λ short. short))
+            (idle_did d.acts.fate false d.mid ∙ ap (checkpoints_given log (record indexer { place = idle; log_faults = now })) did) refl refl (
+              fresh_batch (config_or (configuration (journal_of d.acts.after))) (marks_at (checkpoints_of (history d.acts.after.history)) (partitions_for indexer.assignment log)),
               refl,
-              subst (λ names. BatchStands held (fresh_batch (config_or (configuration (journal_of d.after))) (marks_at (checkpoints_of (history d.after.history)) names))) names_are
-                  (subst (λ checkpoints. BatchStands held (fresh_batch (config_or (configuration (journal_of d.after))) (marks_at checkpoints names))) w.checkpoints
+              subst (λ names. BatchStands held (fresh_batch (config_or (configuration (journal_of d.acts.after))) (marks_at (checkpoints_of (history d.acts.after.history)) names))) names_are
+                  (subst (λ checkpoints. BatchStands held (fresh_batch (config_or (configuration (journal_of d.acts.after))) (marks_at checkpoints names))) w.checkpoints
                   (subst (λ (c : IndexConfig). BatchStands held (fresh_batch c (marks_at marks.checkpoints.items names))) same b)),
-              fresh_is_batch (config_or (configuration (journal_of d.after))) (subst (λ (c : IndexConfig). 0 < c.docs_target) same (target_ranges d.after config k).0) log (checkpoints_of (history d.after.history)) (partitions_for indexer.assignment log) (assigned_apart log indexer.assignment l s.assigned),
-              subst (λ (c : IndexConfig). IsConfigured c d.after) same k,
+              fresh_is_batch (config_or (configuration (journal_of d.acts.after))) (subst (λ (c : IndexConfig). 0 < c.docs_target) same (target_ranges d.acts.after config k).0) log (checkpoints_of (history d.acts.after.history)) (partitions_for indexer.assignment log) (assigned_apart log indexer.assignment l s.assigned),
+              subst (λ (c : IndexConfig). IsConfigured c d.acts.after) same k,
             )
-            d.stands d.goes_on
         by (Err e) did w = absurd w

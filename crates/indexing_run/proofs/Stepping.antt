@@ -1,14 +1,17 @@
 -- A step of an indexer, from what its calls did.
-use Rattle.std.proofs.Common.{◌≡◌, ℕ, ◌-◌, ◌<◌, ◌≤◌, ◌==◌, min, List, [], refl, sym, ap, ◌∙◌, subst, Bool, true, false, not, length, arith, append-nil, Ok, Err, Result, Option, Some, None}
+use Rattle.std.proofs.Common.{◌≡◌, inl, inr, ℕ, ◌-◌, ◌<◌, ◌≤◌, ◌==◌, min, List, [], refl, sym, ap, ◌∙◌, subst, Bool, true, false, not, length, arith, Ok, Err, Result, Option, Some, None}
 use Rattle.std.specs.Prelude.{⊤, if◌then◌else◌}
+use Rattle.std.proofs.lemmas.Bool.{eqb-true}
 use Rattle.std.specs.declared.alloc.AllocError.{AllocError}
 use Rattle.std.specs.Result.{IsErr}
 use Rattle.source_checkpoint.specs.declared.delta.Part.{Part}
 use Rattle.source_log.specs.Log.{Log}
 use Rattle.split_states.specs.declared.facts.RowFacts.{RowFacts}
 use Rattle.meta_store.specs.History.{history, last_number}
-use Rattle.index_world.specs.Calls.{Fate, calm_fate, Trouble, Unmade, gives, upload_made}
-use Rattle.index_world.specs.Core.{Core, IsConfigured, IsUploadedIn}
+use Rattle.index_world.specs.Calls.{Fate, calm_fate, Trouble, Unmade, refused, troubled, Gives, gives, upload_made}
+use Rattle.index_world.specs.CallsMade.{Ask, of_moment, of_stage, of_upload, of_publish, CallMade, IsRecorded, IsShort}
+use Rattle.index_world.specs.Core.{Core, IsConfigured, IsUnusedIn, IsUploadedIn, IsOther, Nobody}
+use Rattle.index_world.specs.DirectLaws.{stays_as_is}
 use Rattle.index_world.specs.Gate.{Does, Says, IsTrouble, IsUnmade, WasStaged, WasUploaded, IsStagedIn, IsRevision, stage_call, publish_call}
 use Rattle.split_bundle.specs.declared.placed.Placed.{Placed}
 use Rattle.index_world.specs.SplitFile.{file_of, facts_of, most, max_documents, AreSplit}
@@ -18,10 +21,14 @@ use Rattle.split_build.specs.declared.builder.BuiltSplit.{BuiltSplit}
 use Rattle.split_bundle.specs.Splits.{IsSplit}
 use Rattle.split_form.specs.Facts.{facts_of as form_facts}
 use Rattle.split_form.specs.Form as form
-use Rattle.index_world.specs.World.{GoesOn}
+use Rattle.index_world.specs.Taking.{IsWant}
+use Rattle.index_world.specs.World.{GoesFor, GoesOn}
+use Rattle.index_world.proofs.InCore.{goes_both, goes_less}
 use Rattle.index_world.specs.declared.tokens.Staged.{Staged}
 use Rattle.index_world.specs.declared.tokens.Uploaded.{Uploaded}
 use Rattle.index_world.specs.declared.world_error.WorldError.{WorldError}
+use Rattle.index_world.specs.declared.world_error.WorldError.TheVariants as errors
+use Rattle.indexing_run.specs.Asking.{ask_of, IsCallFree}
 use Rattle.indexing_run.specs.declared.indexer.Indexer.{Indexer as Reader}
 use Rattle.indexing_run.specs.declared.indexer.Place.{Place as HeldPlace}
 use Rattle.indexing_run.specs.declared.indexer.Place.TheVariants as places
@@ -42,25 +49,98 @@ quiet_log = record { fails = false; rises = 0; short = false }
 abbrev pub by_world : Fate → Luck
 by_world fate = record { log = quiet_log; world = fate; short = false }
 
--- the core stays as it is
-pub goes_nowhere : (one : Option ℕ) (core : Core) → GoesOn one core core
-goes_nowhere one core =
+-- ---- a call, or none
+
+-- what a step knows of its one call of the gate, or that it made none: others went on to `mid`, and the call from there
+pub record Called {W : Type 0} (Stands : W → Core → Log → Type 0) (Between : Core → Core → Type 0) (Owns : W → ℕ → Type 0) (Adds : W → List CallMade → W → Type 0)
+    (one : Option ℕ) (ask : Ask) (free : Type 0) (core : Core) (log : Log) (old new : W) (mid after : Core) : Type 0 where
+  pub passed : Between core mid
+  pub owned : (number : ℕ) → Owns old number → IsUnusedIn core number → IsUnusedIn mid number
+  pub goes : GoesOn one mid after
+  pub stands : Stands new after log
+  pub made : List CallMade
+  pub own : Adds old made new
+  pub asked : IsRecorded ask mid after free made
+
+recorded_where : (ask : Ask) (mid after : Core) (short free : Type 0) (made : List CallMade) → (short → free) → IsRecorded ask mid after short made → IsRecorded ask mid after free made
+recorded_where ask mid after short free made f (inl once) = inl once
+recorded_where ask mid after short free made f (inr none) = inr (none.0, none.1, f none.2)
+
+module _ {W : Type 0} {Stands : W → Core → Log → Type 0} {Between : Core → Core → Type 0} {Owns : W → ℕ → Type 0} {Adds : W → List CallMade → W → Type 0} {one : Option ℕ} {ask : Ask} {core : Core} {log : Log} {old new : W} where
+  pub called_of : {E A : Type 0} {call : Fate → Core → Gives E ⊤} {is : WorldError → E → Type 0} {holds : A → Core → Type 0} (result : Result A WorldError) (d : Does Stands Between Owns Adds one ask call is holds result core log old new)
+      (free : Type 0) → (IsShort result → free) → Called Stands Between Owns Adds one ask free core log old new d.mid d.acts.after
+  called_of result d free f =
+      record {
+        passed = d.passed;
+        owned = d.owned;
+        goes = d.acts.goes_on;
+        stands = d.acts.stands;
+        made = d.made;
+        own = d.own;
+        asked = recorded_where ask d.mid d.acts.after (IsShort result) free d.made f d.once;
+      }
+
+  module _ {free : Type 0} {mid after : Core} (c : Called Stands Between Owns Adds one ask free core log old new mid after) where
+    -- as something else
+    pub called_as : (number : Option ℕ) (question : Ask) (leave : Type 0) → ((n : ℕ) → IsOther number n → IsOther one n) → ask ≡ question → (free → leave) → Called Stands Between Owns Adds number question leave core log old new mid after
+    called_as number question leave less same f =
+        record {
+          passed = c.passed;
+          owned = c.owned;
+          goes = goes_less (IsOther one) (IsOther number) mid after less c.goes;
+          stands = c.stands;
+          made = c.made;
+          own = c.own;
+          asked = subst (λ q. IsRecorded q mid after leave c.made) same (recorded_where ask mid after free leave c.made f c.asked);
+        }
+
+    -- from the core before what others did
+    pub called_goes : ((core mid : Core) → Between core mid → GoesFor Nobody core mid) → GoesFor Nobody core after
+    called_goes between = goes_both Nobody (IsOther one) Nobody core mid after (λ n no. absurd no) (between core mid c.passed) c.goes
+
+    pub called_configured : ((core mid : Core) → Between core mid → GoesFor Nobody core mid) → (config : IndexConfig) → IsConfigured config core → IsConfigured config after
+    called_configured between config k = (called_goes between).keeps.configured config k
+
+-- no call
+pub none_called : {W : Type 0} (Stands : W → Core → Log → Type 0) (Between : Core → Core → Type 0) (Owns : W → ℕ → Type 0) (Adds : W → List CallMade → W → Type 0) (one : Option ℕ) (ask : Ask) (free : Type 0) (core : Core) (log : Log) (old new : W) →
+    Stands new core log → Between core core → Adds old [] new → free → Called Stands Between Owns Adds one ask free core log old new core core
+none_called Stands Between Owns Adds one ask free core log old new stands passed none may =
     record {
-      grown = ([], sym (append-nil core.history));
-      faults = omega arith;
-      moment = omega arith;
-      keeps = record { configured = λ config e. e; unused = λ n o u. u; stored = λ n b u. u; uploaded = λ n b u. u; staged = λ n d f s. s };
+      passed = passed;
+      owned = λ n own u. u;
+      goes = stays_as_is (IsOther one) core;
+      stands = stands;
+      made = [];
+      own = none;
+      asked = inr (refl, refl, may);
     }
 
--- what keeps each number keeps all but one
-pub goes_but : (one : Option ℕ) (core after : Core) → GoesOn None core after → GoesOn one core after
-goes_but one core after g =
-    record {
-      grown = g.grown;
-      faults = g.faults;
-      moment = g.moment;
-      keeps = record { configured = g.keeps.configured; unused = λ n o u. g.keeps.unused n tt u; stored = g.keeps.stored; uploaded = g.keeps.uploaded; staged = g.keeps.staged };
-    }
+-- a call that found no memory leaves its step without an outcome
+pub trouble_free : (place : Place) (error : WorldError) (trouble : Trouble) → IsTrouble error trouble → IsWant error → IsCallFree place (trouble_outcome trouble)
+trouble_free place (errors.Memory e) trouble w short = subst (λ t. IsCallFree place (trouble_outcome t)) (sym w) tt
+trouble_free place (errors.Refused refusal) trouble w short = absurd short
+trouble_free place (errors.StoreFault before after) trouble w short = absurd short
+trouble_free place (errors.Missing key) trouble w short = absurd short
+trouble_free place (errors.Corrupt key) trouble w short = absurd short
+trouble_free place (errors.Foreign key) trouble w short = absurd short
+trouble_free place errors.Full trouble w short = absurd short
+trouble_free place (errors.Expired planned_at reached) trouble w short = absurd short
+trouble_free place errors.NoIndex trouble w short = absurd short
+trouble_free place errors.IndexExists trouble w short = absurd short
+trouble_free place (errors.BadConfig bad) trouble w short = absurd short
+
+stage_free : (place : Place) (error : WorldError) (unmade : Unmade) → IsUnmade error unmade → IsWant error → IsCallFree place (stage_outcome unmade)
+stage_free place error (refused refusal) w short = absurd (subst IsWant w short)
+stage_free place error (troubled trouble) w short = trouble_free place error trouble w short
+
+publish_free : (place : Place) (number : ℕ) (error : WorldError) (unmade : Unmade) → IsUnmade error unmade → IsWant error → IsCallFree place (publish_outcome number unmade)
+publish_free place number error (refused refusal) w short = absurd (subst IsWant w short)
+publish_free place number error (troubled trouble) w short = trouble_free place error trouble w short
+
+published_free : (place : Place) (held : Held) (indexer : Indexer) (result : Result ℕ WorldError) (a : Result ⊤ Unmade) (after : Core) → Says IsUnmade IsRevision result a after → IsShort result → IsCallFree place (publish_by a held indexer after).outcome
+published_free place held indexer (Ok revision) a after w short = absurd short
+published_free place held indexer (Err error) (Ok done) after w short = absurd w
+published_free place held indexer (Err error) (Err unmade) after w short = publish_free place held.number error unmade w short
 
 pub idle_stays : (log : Log) (core after : Core) (kept : HeldPlace) → PlaceStands log core kept idle → PlaceStands log after kept idle
 idle_stays log core after places.Idle s = s
@@ -68,22 +148,23 @@ idle_stays log core after (places.Reading batch) s = let e = s.1 in cc
 idle_stays log core after (places.Staged token bytes) s = let e = s.1 in cc
 idle_stays log core after (places.Uploaded token) s = let e = s.1 in cc
 
-module _ {L W : Type 0} (tells : L → Option Log) (count : L → ℕ) (Stands : W → Core → Log → Type 0) (Between : Core → Core → Type 0) (indexer : Indexer) (core : Core) (log : Log)
-    (reader : Reader L) (caller : W) (s : IndexerStands tells count reader (record indexer { place = idle }) core log) where
+module _ {L W : Type 0} (tells : L → Option Log) (count : L → ℕ) (Stands : W → Core → Log → Type 0) (Between : Core → Core → Type 0) (Owns : W → ℕ → Type 0) (Adds : W → List CallMade → W → Type 0) (indexer : Indexer) (core : Core) (log : Log)
+    (reader : Reader L) (old new : W) (s : IndexerStands tells count reader (record indexer { place = idle }) core log) where
   -- the reader holds nothing, over each core
   idle_over : (after : Core) → IndexerStands tells count reader (record indexer { place = idle }) after log
   idle_over after =
       record { told = s.told; log_faults = s.log_faults; assignment = s.assignment; assigned = s.assigned; place = idle_stays log core after reader.place s.place }
 
   -- a step behind which it is idle
-  pub ends_idle : (place : Place) (result : Result Said AllocError) (mid after : Core) (luck : Luck) (outcome : Option IndexerOutcome) → Between core mid →
-      step_indexer luck log (record indexer { place = place }) mid ≡ record { outcome = outcome; indexer = record indexer { place = idle }; core = after } →
-      Answers result outcome → Stands caller after log → GoesOn (number_held place) core after →
-      StepsAs tells count Stands Between result (record indexer { place = place }) core log reader caller
-  ends_idle place result mid after luck outcome passed did answer stands goes =
+  pub ends_idle : (place : Place) (result : Result Said AllocError) (mid after : Core) (luck : Luck) (outcome : Option IndexerOutcome) →
+      Called Stands Between Owns Adds (number_held place) (ask_of place) (IsCallFree place outcome) core log old new mid after →
+      step_indexer luck log (record indexer { place = place }) mid ≡ record { outcome = outcome; indexer = record indexer { place = idle }; core = after } → Answers result outcome →
+      StepsAs tells count Stands Between Owns Adds result (record indexer { place = place }) core log reader old new
+  ends_idle place result mid after luck outcome called did answer =
       record {
         mid = mid;
-        passed = passed;
+        passed = called.passed;
+        owned = called.owned;
         luck = luck;
         outcome = outcome;
         after = record indexer { place = idle };
@@ -91,8 +172,11 @@ module _ {L W : Type 0} (tells : L → Option Log) (count : L → ℕ) (Stands :
         did = did;
         answer = answer;
         stands = idle_over after;
-        gate = stands;
-        goes_on = goes;
+        gate = called.stands;
+        goes_on = called.goes;
+        made = called.made;
+        own = called.own;
+        asked = called.asked;
         apart = λ n h e. cc;
       }
 
@@ -104,25 +188,29 @@ module _ {L W : Type 0} (tells : L → Option Log) (count : L → ℕ) (Stands :
   -- ---- a Publish
 
   pub publishes : (held : Held) (number : ℕ) (result : Result ℕ WorldError) (answered : Result Said AllocError) → number ≡ held.number →
-      Does Stands Between None (publish_call number) IsUnmade IsRevision result core log caller →
+      Does Stands Between Owns Adds None (of_publish number) (publish_call number) IsUnmade IsRevision result core log old new →
       ((a : Result ⊤ Unmade) (after : Core) → Says IsUnmade IsRevision result a after → Answers answered (publish_by a held indexer after).outcome) →
-      StepsAs tells count Stands Between answered (record indexer { place = uploaded held }) core log reader caller
-  publishes held number result answered same d answers = by d.answer d.did d.says
+      StepsAs tells count Stands Between Owns Adds answered (record indexer { place = uploaded held }) core log reader old new
+  publishes held number result answered same d answers = by d.acts.answer d.acts.did d.acts.says
     where
-      did_as : (a : Result ⊤ Unmade) → publish_call number d.fate d.mid ≡ gives a d.after →
-          step_indexer (by_world d.fate) log (record indexer { place = uploaded held }) d.mid ≡ publish_by a held (record indexer { place = uploaded held }) d.after
+      did_as : (a : Result ⊤ Unmade) → publish_call number d.acts.fate d.mid ≡ gives a d.acts.after →
+          step_indexer (by_world d.acts.fate) log (record indexer { place = uploaded held }) d.mid ≡ publish_by a held (record indexer { place = uploaded held }) d.acts.after
       did_as a did =
-          ap (λ n. publish_given held (record indexer { place = uploaded held }) (publish_call n d.fate d.mid)) (sym same)
+          ap (λ n. publish_given held (record indexer { place = uploaded held }) (publish_call n d.acts.fate d.mid)) (sym same)
           ∙ ap (publish_given held (record indexer { place = uploaded held })) did
 
-      by : (a : Result ⊤ Unmade) → publish_call number d.fate d.mid ≡ gives a d.after → Says IsUnmade IsRevision result a d.after →
-          StepsAs tells count Stands Between answered (record indexer { place = uploaded held }) core log reader caller
+      called : (a : Result ⊤ Unmade) → Says IsUnmade IsRevision result a d.acts.after →
+          Called Stands Between Owns Adds (number_held (uploaded held)) (ask_of (uploaded held)) (IsCallFree (uploaded held) (publish_by a held (record indexer { place = uploaded held }) d.acts.after).outcome) core log old new d.mid d.acts.after
+      called a w =
+          let free = IsCallFree (uploaded held) (publish_by a held (record indexer { place = uploaded held }) d.acts.after).outcome in
+          called_as (called_of result d free (published_free (uploaded held) held (record indexer { place = uploaded held }) result a d.acts.after w)) (Some held.number) (of_publish held.number) free (λ n other. tt) (ap of_publish same) (λ f. f)
+
+      by : (a : Result ⊤ Unmade) → publish_call number d.acts.fate d.mid ≡ gives a d.acts.after → Says IsUnmade IsRevision result a d.acts.after →
+          StepsAs tells count Stands Between Owns Adds answered (record indexer { place = uploaded held }) core log reader old new
       by (Ok done) did w =
-          ends_idle (uploaded held) answered d.mid d.after (by_world d.fate) (Some (outcomes.Published held.number)) d.passed (did_as (Ok done) did) (answers (Ok done) d.after w) d.stands
-          (goes_but (Some held.number) core d.after d.goes_on)
+          ends_idle (uploaded held) answered d.mid d.acts.after (by_world d.acts.fate) (Some (outcomes.Published held.number)) (called (Ok done) w) (did_as (Ok done) did) (answers (Ok done) d.acts.after w)
       by (Err unmade) did w =
-          ends_idle (uploaded held) answered d.mid d.after (by_world d.fate) (publish_outcome held.number unmade) d.passed (did_as (Err unmade) did) (answers (Err unmade) d.after w) d.stands
-          (goes_but (Some held.number) core d.after d.goes_on)
+          ends_idle (uploaded held) answered d.mid d.acts.after (by_world d.acts.fate) (publish_outcome held.number unmade) (called (Err unmade) w) (did_as (Err unmade) did) (answers (Err unmade) d.acts.after w)
 
   -- ---- an upload
 
@@ -134,56 +222,68 @@ module _ {L W : Type 0} (tells : L → Option Log) (count : L → ℕ) (Stands :
         ∙ ap (λ bs. upload_given held (record indexer { place = staged held }) (upload_made fate number bs mid)) (sym file)
         ∙ ap (upload_given held (record indexer { place = staged held })) did
 
-    pub uploads : (token : Uploaded) → IsStagedHeld log core held →
-        Does Stands Between (Some number) (λ fate c. upload_made fate number bytes c) IsTrouble (WasUploaded number bytes) (Ok token) core log caller →
-        StepsAs tells count Stands Between (Ok (said.Uploaded number)) (record indexer { place = staged held }) core log (record reader { place = places.Uploaded token }) caller
-    uploads token h d = by d.answer d.did d.says
+    upload_called : (result : Result Uploaded WorldError) (d : Does Stands Between Owns Adds (Some number) (of_upload number bytes) (λ fate c. upload_made fate number bytes c) IsTrouble (WasUploaded number bytes) result core log old new)
+        (free : Type 0) → (IsShort result → free) → Called Stands Between Owns Adds (number_held (staged held)) (ask_of (staged held)) free core log old new d.mid d.acts.after
+    upload_called result d free f =
+        called_as (called_of result d free f) (Some held.number) (of_upload held.number (file_of held.config held.documents)) free (subst (λ m. (n : ℕ) → (n ≡ held.number → ⊥) → n ≡ m → ⊥) (sym same) (λ n other. other))
+        (ap (λ m. of_upload m bytes) same ∙ ap (of_upload held.number) file) (λ g. g)
+
+    pub uploads : (token : Uploaded) → ((core mid : Core) → Between core mid → GoesFor Nobody core mid) → IsStagedHeld log core held →
+        Does Stands Between Owns Adds (Some number) (of_upload number bytes) (λ fate c. upload_made fate number bytes c) IsTrouble (WasUploaded number bytes) (Ok token) core log old new →
+        StepsAs tells count Stands Between Owns Adds (Ok (said.Uploaded number)) (record indexer { place = staged held }) core log (record reader { place = places.Uploaded token }) old new
+    uploads token between h d = by d.acts.answer d.acts.did d.acts.says
       where
-        by : (a : Result ⊤ Trouble) → upload_made d.fate number bytes d.mid ≡ gives a d.after → Says IsTrouble (WasUploaded number bytes) (Ok token) a d.after →
-            StepsAs tells count Stands Between (Ok (said.Uploaded number)) (record indexer { place = staged held }) core log (record reader { place = places.Uploaded token }) caller
+        by : (a : Result ⊤ Trouble) → upload_made d.acts.fate number bytes d.mid ≡ gives a d.acts.after → Says IsTrouble (WasUploaded number bytes) (Ok token) a d.acts.after →
+            StepsAs tells count Stands Between Owns Adds (Ok (said.Uploaded number)) (record indexer { place = staged held }) core log (record reader { place = places.Uploaded token }) old new
         by (Ok done) did w =
+            let called = upload_called (Ok token) d ⊥ (λ short. short) in
             record {
               mid = d.mid;
-              passed = d.passed;
-              luck = by_world d.fate;
+              passed = called.passed;
+              owned = called.owned;
+              luck = by_world d.acts.fate;
               outcome = Some (outcomes.Uploaded held.number);
               after = record indexer { place = uploaded held };
-              behind = d.after;
-              did = upload_did d.fate d.mid d.after (Ok done) did;
+              behind = d.acts.after;
+              did = upload_did d.acts.fate d.mid d.acts.after (Ok done) did;
               answer = ap outcomes.Uploaded (sym same);
-              stands = holds_on d.after (places.Uploaded token) (uploaded held) (
+              stands = holds_on d.acts.after (places.Uploaded token) (uploaded held) (
                 held,
                 refl,
                 w.same ∙ same,
-                uploaded_is_held log core d.after held (Some number) d.goes_on.keeps h
-                    (subst (λ n. IsUploadedIn d.after n (file_of held.config held.documents)) same (subst (λ bs. IsUploadedIn d.after number bs) file w.in_hand)),
+                uploaded_is_held log core d.acts.after held Nobody (called_goes called between).keeps h
+                    (subst (λ n. IsUploadedIn d.acts.after n (file_of held.config held.documents)) same (subst (λ bs. IsUploadedIn d.acts.after number bs) file w.in_hand)),
               );
-              gate = d.stands;
-              goes_on = subst (λ n. GoesOn (Some n) core d.after) same d.goes_on;
+              gate = called.stands;
+              goes_on = called.goes;
+              made = called.made;
+              own = called.own;
+              asked = called.asked;
               apart = λ n st e. e;
             }
         by (Err e) did w = absurd w
 
     pub upload_fails : (error : WorldError) (answered : Result Said AllocError) → ((trouble : Trouble) → IsTrouble error trouble → Answers answered (trouble_outcome trouble)) →
-        Does Stands Between (Some number) (λ fate c. upload_made fate number bytes c) IsTrouble (WasUploaded number bytes) (Err error) core log caller →
-        StepsAs tells count Stands Between answered (record indexer { place = staged held }) core log reader caller
-    upload_fails error answered answers d = by d.answer d.did d.says
+        Does Stands Between Owns Adds (Some number) (of_upload number bytes) (λ fate c. upload_made fate number bytes c) IsTrouble (WasUploaded number bytes) (Err error) core log old new →
+        StepsAs tells count Stands Between Owns Adds answered (record indexer { place = staged held }) core log reader old new
+    upload_fails error answered answers d = by d.acts.answer d.acts.did d.acts.says
       where
-        by : (a : Result ⊤ Trouble) → upload_made d.fate number bytes d.mid ≡ gives a d.after → Says IsTrouble (WasUploaded number bytes) (Err error) a d.after →
-            StepsAs tells count Stands Between answered (record indexer { place = staged held }) core log reader caller
+        by : (a : Result ⊤ Trouble) → upload_made d.acts.fate number bytes d.mid ≡ gives a d.acts.after → Says IsTrouble (WasUploaded number bytes) (Err error) a d.acts.after →
+            StepsAs tells count Stands Between Owns Adds answered (record indexer { place = staged held }) core log reader old new
         by (Ok done) did w = absurd w
         by (Err e) did w =
-            ends_idle (staged held) answered d.mid d.after (by_world d.fate) (trouble_outcome e) d.passed (upload_did d.fate d.mid d.after (Err e) did) (answers e w) d.stands
-            (subst (λ n. GoesOn (Some n) core d.after) same d.goes_on)
+            ends_idle (staged held) answered d.mid d.acts.after (by_world d.acts.fate) (trouble_outcome e) (upload_called (Err error) d (IsCallFree (staged held) (trouble_outcome e)) (trouble_free (staged held) error e w))
+            (upload_did d.acts.fate d.mid d.acts.after (Err e) did) (answers e w)
 
   -- ---- a closed batch
 
   module _ (batch : Batch) (closed : batch.closed ≡ true) where
     -- one without a record
-    pub ends_empty : (batch.count == 0) ≡ true → Stands caller core log → Between core core →
-        StepsAs tells count Stands Between (Ok said.CaughtUp) (record indexer { place = reading batch }) core log reader caller
-    ends_empty none stands passed =
-        ends_idle (reading batch) (Ok said.CaughtUp) core core (by_world calm_fate) (Some outcomes.CaughtUp) passed did refl stands (goes_nowhere None core)
+    pub ends_empty : (batch.count == 0) ≡ true → Stands new core log → Between core core → Adds old [] new →
+        StepsAs tells count Stands Between Owns Adds (Ok said.CaughtUp) (record indexer { place = reading batch }) core log reader old new
+    ends_empty none stands passed own =
+        ends_idle (reading batch) (Ok said.CaughtUp) core core (by_world calm_fate) (Some outcomes.CaughtUp)
+        (none_called Stands Between Owns Adds None (ask_of (reading batch)) (batch.count ≡ 0) core log old new stands passed own (eqb-true batch.count 0 none)) did refl
       where
         did : step_indexer (by_world calm_fate) log (record indexer { place = reading batch }) core ≡ record { outcome = Some outcomes.CaughtUp; indexer = record indexer { place = idle }; core = core }
         did =
@@ -199,10 +299,11 @@ module _ {L W : Type 0} (tells : L → Option Log) (count : L → ℕ) (Stands :
           ∙ ap (λ b. if b then stepped (Some outcomes.CaughtUp) idle (record indexer { place = reading batch }) mid else step_stage (by_world fate) batch (record indexer { place = reading batch }) mid) some
 
       -- there is no memory for its file
-      pub stage_short : (result : Result Said AllocError) → Answers result None → Stands caller core log → Between core core →
-          StepsAs tells count Stands Between result (record indexer { place = reading batch }) core log reader caller
-      stage_short result answer stands passed =
-          ends_idle (reading batch) result core core (by_world (record calm_fate { unasked = true })) None passed (stage_step (record calm_fate { unasked = true }) core) answer stands (goes_nowhere None core)
+      pub stage_short : (result : Result Said AllocError) → Answers result None → Stands new core log → Between core core → Adds old [] new →
+          StepsAs tells count Stands Between Owns Adds result (record indexer { place = reading batch }) core log reader old new
+      stage_short result answer stands passed own =
+          ends_idle (reading batch) result core core (by_world (record calm_fate { unasked = true })) None
+          (none_called Stands Between Owns Adds None (ask_of (reading batch)) ⊤ core log old new stands passed own tt) (stage_step (record calm_fate { unasked = true }) core) answer
 
       module _ (delta : List Part) (facts : RowFacts) (parts : delta ≡ batch.parts) (noted : facts ≡ batch_facts batch) where
         stage_did : (fate : Fate) (mid after : Core) (a : Result ⊤ Unmade) → stage_call delta facts fate mid ≡ gives a after →
@@ -213,34 +314,45 @@ module _ {L W : Type 0} (tells : L → Option Log) (count : L → ℕ) (Stands :
             ∙ ap (λ f. stage_given batch (record indexer { place = reading batch }) (stage_call delta f fate mid)) (sym noted)
             ∙ ap (stage_given batch (record indexer { place = reading batch })) did
 
-        pub stages : (token : Staged) (bytes : List ℕ) → bytes ≡ file_of batch.config batch.documents → IsBatch log batch → AreSplit batch.config batch.documents → IsConfigured batch.config core →
-            Does Stands Between None (stage_call delta facts) IsUnmade (WasStaged core delta facts) (Ok token) core log caller →
-            StepsAs tells count Stands Between (Ok (said.Staged token.number)) (record indexer { place = reading batch }) core log (record reader { place = places.Staged token bytes }) caller
-        stages token bytes file made are k d = by d.answer d.did d.says
+        stage_called : (result : Result Staged WorldError) (d : Does Stands Between Owns Adds None (of_stage delta facts) (stage_call delta facts) IsUnmade (WasStaged core delta facts) result core log old new)
+            (free : Type 0) → (IsShort result → free) → Called Stands Between Owns Adds None (ask_of (reading batch)) free core log old new d.mid d.acts.after
+        stage_called result d free f =
+            called_as (called_of result d free f) None (ask_of (reading batch)) free (λ n other. other)
+            (ap (λ p. of_stage p facts) parts ∙ ap (of_stage batch.parts) noted ∙ ap (λ b. if b then of_stage batch.parts (batch_facts batch) else of_moment) (sym closed)) (λ g. g)
+
+        pub stages : (token : Staged) (bytes : List ℕ) → ((core mid : Core) → Between core mid → GoesFor Nobody core mid) → bytes ≡ file_of batch.config batch.documents → IsBatch log batch → AreSplit batch.config batch.documents → IsConfigured batch.config core →
+            Does Stands Between Owns Adds None (of_stage delta facts) (stage_call delta facts) IsUnmade (WasStaged core delta facts) (Ok token) core log old new →
+            StepsAs tells count Stands Between Owns Adds (Ok (said.Staged token.number)) (record indexer { place = reading batch }) core log (record reader { place = places.Staged token bytes }) old new
+        stages token bytes between file made are k d = by d.acts.answer d.acts.did d.acts.says
           where
-            by : (a : Result ⊤ Unmade) → stage_call delta facts d.fate d.mid ≡ gives a d.after → Says IsUnmade (WasStaged core delta facts) (Ok token) a d.after →
-                StepsAs tells count Stands Between (Ok (said.Staged token.number)) (record indexer { place = reading batch }) core log (record reader { place = places.Staged token bytes }) caller
+            by : (a : Result ⊤ Unmade) → stage_call delta facts d.acts.fate d.mid ≡ gives a d.acts.after → Says IsUnmade (WasStaged core delta facts) (Ok token) a d.acts.after →
+                StepsAs tells count Stands Between Owns Adds (Ok (said.Staged token.number)) (record indexer { place = reading batch }) core log (record reader { place = places.Staged token bytes }) old new
             by (Ok done) did w =
+                let called = stage_called (Ok token) d ⊥ (λ short. short) in
                 record {
                   mid = d.mid;
-                  passed = d.passed;
-                  luck = by_world d.fate;
-                  outcome = Some (outcomes.Staged (last_number (history d.after.history)));
-                  after = record indexer { place = staged (held_of batch (last_number (history d.after.history))) };
-                  behind = d.after;
-                  did = stage_did d.fate d.mid d.after (Ok done) did;
+                  passed = called.passed;
+                  owned = called.owned;
+                  luck = by_world d.acts.fate;
+                  outcome = Some (outcomes.Staged (last_number (history d.acts.after.history)));
+                  after = record indexer { place = staged (held_of batch (last_number (history d.acts.after.history))) };
+                  behind = d.acts.after;
+                  did = stage_did d.acts.fate d.mid d.acts.after (Ok done) did;
                   answer = ap outcomes.Staged (sym w.number);
-                  stands = holds_on d.after (places.Staged token bytes) (staged (held_of batch (last_number (history d.after.history)))) (
-                    held_of batch (last_number (history d.after.history)),
+                  stands = holds_on d.acts.after (places.Staged token bytes) (staged (held_of batch (last_number (history d.acts.after.history)))) (
+                    held_of batch (last_number (history d.acts.after.history)),
                     refl,
                     w.number,
                     file,
-                    staged_is_held log d.after batch (last_number (history d.after.history)) made are (d.goes_on.keeps.configured batch.config k)
-                        (subst (λ n. IsStagedIn batch.parts (batch_facts batch) d.after n) w.number
-                        (subst (λ f. IsStagedIn batch.parts f d.after token.number) noted (subst (λ p. IsStagedIn p facts d.after token.number) parts w.in_hand))),
+                    staged_is_held log d.acts.after batch (last_number (history d.acts.after.history)) made are (called_configured called between batch.config k)
+                        (subst (λ n. IsStagedIn batch.parts (batch_facts batch) d.acts.after n) w.number
+                        (subst (λ f. IsStagedIn batch.parts f d.acts.after token.number) noted (subst (λ p. IsStagedIn p facts d.acts.after token.number) parts w.in_hand))),
                   );
-                  gate = d.stands;
-                  goes_on = d.goes_on;
+                  gate = called.stands;
+                  goes_on = called.goes;
+                  made = called.made;
+                  own = called.own;
+                  asked = called.asked;
                   apart = λ n st e. absurd (fresh n (w.apart n st) (w.number ∙ same_number e));
                 }
               where
@@ -252,15 +364,16 @@ module _ {L W : Type 0} (tells : L → Option Log) (count : L → ℕ) (Stands :
             by (Err e) did w = absurd w
 
         pub stage_fails : (error : WorldError) (answered : Result Said AllocError) → ((unmade : Unmade) → IsUnmade error unmade → Answers answered (stage_outcome unmade)) →
-            Does Stands Between None (stage_call delta facts) IsUnmade (WasStaged core delta facts) (Err error) core log caller →
-            StepsAs tells count Stands Between answered (record indexer { place = reading batch }) core log reader caller
-        stage_fails error answered answers d = by d.answer d.did d.says
+            Does Stands Between Owns Adds None (of_stage delta facts) (stage_call delta facts) IsUnmade (WasStaged core delta facts) (Err error) core log old new →
+            StepsAs tells count Stands Between Owns Adds answered (record indexer { place = reading batch }) core log reader old new
+        stage_fails error answered answers d = by d.acts.answer d.acts.did d.acts.says
           where
-            by : (a : Result ⊤ Unmade) → stage_call delta facts d.fate d.mid ≡ gives a d.after → Says IsUnmade (WasStaged core delta facts) (Err error) a d.after →
-                StepsAs tells count Stands Between answered (record indexer { place = reading batch }) core log reader caller
+            by : (a : Result ⊤ Unmade) → stage_call delta facts d.acts.fate d.mid ≡ gives a d.acts.after → Says IsUnmade (WasStaged core delta facts) (Err error) a d.acts.after →
+                StepsAs tells count Stands Between Owns Adds answered (record indexer { place = reading batch }) core log reader old new
             by (Ok done) did w = absurd w
             by (Err e) did w =
-                ends_idle (reading batch) answered d.mid d.after (by_world d.fate) (stage_outcome e) d.passed (stage_did d.fate d.mid d.after (Err e) did) (answers e w) d.stands d.goes_on
+                ends_idle (reading batch) answered d.mid d.acts.after (by_world d.acts.fate) (stage_outcome e) (stage_called (Err error) d (IsCallFree (reading batch) (stage_outcome e)) (stage_free (reading batch) error e w))
+                (stage_did d.acts.fate d.mid d.acts.after (Err e) did) (answers e w)
 
 -- ---- what a Publish answers
 
@@ -314,11 +427,11 @@ pub set_idle : {L : Type 0} (tells : L → Option Log) (count : L → ℕ) (read
 set_idle tells count reader indexer core log kept e s =
     record { told = s.told; log_faults = s.log_faults; assignment = s.assignment; assigned = s.assigned; place = subst (λ k. PlaceStands log core k idle) (sym e) refl }
 
-pub as_placed : {L W : Type 0} (tells : L → Option Log) (count : L → ℕ) (Stands : W → Core → Log → Type 0) (Between : Core → Core → Type 0) (result : Result Said AllocError) (indexer : Indexer) (core : Core)
-    (log : Log) (reader : Reader L) (caller : W) (place : Place) → indexer.place ≡ place → StepsAs tells count Stands Between result (record indexer { place = place }) core log reader caller →
-    StepsAs tells count Stands Between result indexer core log reader caller
-as_placed tells count Stands Between result indexer core log reader caller place e h =
-    subst (λ p. StepsAs tells count Stands Between result (record indexer { place = p }) core log reader caller) (sym e) h
+pub as_placed : {L W : Type 0} (tells : L → Option Log) (count : L → ℕ) (Stands : W → Core → Log → Type 0) (Between : Core → Core → Type 0) (Owns : W → ℕ → Type 0) (Adds : W → List CallMade → W → Type 0) (result : Result Said AllocError) (indexer : Indexer) (core : Core)
+    (log : Log) (reader : Reader L) (old new : W) (place : Place) → indexer.place ≡ place → StepsAs tells count Stands Between Owns Adds result (record indexer { place = place }) core log reader old new →
+    StepsAs tells count Stands Between Owns Adds result indexer core log reader old new
+as_placed tells count Stands Between Owns Adds result indexer core log reader old new place e h =
+    subst (λ p. StepsAs tells count Stands Between Owns Adds result (record indexer { place = p }) core log reader old new) (sym e) h
 
 pub no_answer : (result : Result Said AllocError) → IsErr result → Answers result None
 no_answer (Ok given) e = cc

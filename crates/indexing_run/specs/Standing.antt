@@ -8,7 +8,8 @@ use Rattle.source_log.specs.declared.log.ReadError.{ReadError}
 use Rattle.source_log.specs.declared.log.ReadError.TheVariants as errors
 use Rattle.source_log.specs.declared.lists.Records.{Records}
 use Rattle.index_world.specs.Calls.{Fault, faulted}
-use Rattle.index_world.specs.Core.{Core, journal_of, IsConfigured}
+use Rattle.index_world.specs.CallsMade.{CallMade, IsRecorded}
+use Rattle.index_world.specs.Core.{Core, journal_of, IsConfigured, IsUnusedIn}
 use Rattle.index_world.specs.Gate.{IsTrouble}
 use Rattle.index_world.specs.Index.{has_staged}
 use Rattle.index_world.specs.Saying.{refusal_words, error_words}
@@ -23,6 +24,7 @@ use Rattle.indexing_run.specs.declared.indexer.Place.TheVariants as places
 use Rattle.indexing_run.specs.declared.queue.Queue.{Queue}
 use Rattle.indexing_run.specs.declared.outcome.IndexerOutcome.{IndexerOutcome as Said}
 use Rattle.indexing_run.specs.declared.outcome.IndexerOutcome.TheVariants as said
+use Rattle.indexing_run.specs.Asking.{ask_of, IsCallFree}
 use Rattle.indexing_run.specs.Gathering.{HasDocuments}
 use Rattle.indexing_run.specs.Making.{Follows, IsBatch, IsAssigned}
 use Rattle.indexing_run.specs.Outcomes.{IndexerOutcome, Checkpoint, Read, Staged, Uploaded, Published, CaughtUp, Stale, Lost, Refused, SourceFault, Faulted}
@@ -109,6 +111,13 @@ PlaceStands log core (places.Staged token bytes) place =
 PlaceStands log core (places.Uploaded token) place =
     (held : Held) × (place ≡ uploaded held) × (token.number ≡ held.number) × IsUploadedHeld log core held
 
+-- a staged number that it holds is its own at the gate
+abbrev pub HoldsOwn : {W : Type 0} → (W → ℕ → Type 0) → W → HeldPlace → Type 0
+HoldsOwn Owns gate places.Idle = Unit {0}
+HoldsOwn Owns gate (places.Reading held) = Unit {0}
+HoldsOwn Owns gate (places.Staged token bytes) = Owns gate token.number
+HoldsOwn Owns gate (places.Uploaded token) = Unit {0}
+
 -- A reader of a log that tells stands for an indexer, over a core and the log.
 pub record IndexerStands {L : Type 0} (tells : L → Option Log) (count : L → ℕ) (reader : Reader L) (indexer : Indexer) (core : Core) (log : Log) : Type 0 where
   pub told : tells reader.log ≡ Some log
@@ -128,11 +137,14 @@ NamesGiven None (Ok given) before now log = (given ≡ names_of log) × (before 
 NamesGiven None (Err (errors.Memory refused)) before now log = before ≤ now
 NamesGiven None (Err errors.Failed) before now log = Rose before now × (before ≤ now)
 
--- A step is the machine's with some luck, behind what other actors did before its call of the world.
+-- A step is the machine's with some luck, behind what other actors did before its call of the world, which left unused what the caller
+-- owns. The gate recorded the call as its own.
 pub record StepsAs {L W : Type 0} (tells : L → Option Log) (count : L → ℕ) (Stands : W → Core → Log → Type 0) (Between : Core → Core → Type 0)
-    (result : Result Said AllocError) (indexer : Indexer) (core : Core) (log : Log) (reader : Reader L) (caller : W) : Type 0 where
+    (Owns : W → ℕ → Type 0) (Adds : W → List CallMade → W → Type 0)
+    (result : Result Said AllocError) (indexer : Indexer) (core : Core) (log : Log) (reader : Reader L) (old new : W) : Type 0 where
   pub mid : Core
   pub passed : Between core mid
+  pub owned : (number : ℕ) → Owns old number → IsUnusedIn core number → IsUnusedIn mid number
   pub luck : Luck
   pub outcome : Option IndexerOutcome
   pub after : Indexer
@@ -140,7 +152,11 @@ pub record StepsAs {L W : Type 0} (tells : L → Option Log) (count : L → ℕ)
   pub did : step_indexer luck log indexer mid ≡ record { outcome = outcome; indexer = after; core = behind }
   pub answer : Answers result outcome
   pub stands : IndexerStands tells count reader after behind log
-  pub gate : Stands caller behind log
-  pub goes_on : GoesOn (number_held indexer.place) core behind
+  pub gate : Stands new behind log
+  pub goes_on : GoesOn (number_held indexer.place) mid behind
+  pub made : List CallMade
+  pub own : Adds old made new
+  -- the call of its place once, as what it left, or none, where it is free to make none
+  pub asked : IsRecorded (ask_of indexer.place) mid behind (IsCallFree indexer.place outcome) made
   -- a number that it holds from now on was not staged before, or is the one that it held
   pub apart : (n : ℕ) → has_staged (journal_of core) n ≡ true → number_held after.place ≡ Some n → number_held indexer.place ≡ Some n

@@ -7,13 +7,13 @@ ghost use Rattle.meta_store.specs.declared.refusal.Refusal.{Refusal};
 ghost use Rattle.source_log.specs.Log.{Log};
 ghost use Rattle.split_states.specs.declared.facts.RowFacts.{RowFacts};
 ghost use Rattle.index_world.specs.Calls.{Trouble, Unmade};
-ghost use Rattle.index_world.specs.Core.{Core, IsConfigured};
-ghost use Rattle.index_world.specs.Gate.{IsTrouble, IsUnmade};
+ghost use Rattle.index_world.specs.Core.{Core, IsConfigured, IsUnusedIn};
+ghost use Rattle.index_world.specs.Gate.{IsTrouble, IsUnmade, IsPublishable};
 ghost use Rattle.index_world.specs.SplitFile.{file_of};
 ghost use Rattle.indexing_run.specs.Making.{IsBatch, IsAssigned};
 ghost use Rattle.indexing_run.specs.Places.{Batch as Made, Held, Indexer as Actor, IsStagedHeld, IsUploadedHeld, is_idle, idle, reading, staged as staged_at, uploaded as uploaded_at};
 ghost use Rattle.indexing_run.specs.Steps.{trouble_outcome, publish_refused, publish_outcome, stage_outcome};
-ghost use Rattle.indexing_run.specs.Standing.{BatchStands, IndexerStands, IsSaid, Answers, NamesGiven, StepsAs};
+ghost use Rattle.indexing_run.specs.Standing.{BatchStands, IndexerStands, IsSaid, Answers, NamesGiven, HoldsOwn, StepsAs};
 
 use crate::batch::Batch;
 use crate::outcome::IndexerOutcome;
@@ -120,6 +120,7 @@ impl<L: SourceLog> Indexer<L> {
     /// An idle indexer of a log, which reads all its partitions.
     pub fn start(log: L) -> Indexer<L>
         ensures log { result.log ≡ log }
+        ensures idle { result.place ≡ Place.Idle }
         ensures stands { (core : Core) (read : Log) → L.told log ≡ Some read →
             IndexerStands L.told L.fault_count result (record { assignment = None; place = idle; log_faults = L.fault_count log }) core read }
     {
@@ -133,6 +134,7 @@ impl<L: SourceLog> Indexer<L> {
     /// Drops the batch. The log and the assignment stay.
     pub fn restart(&mut self)
         ensures log { self.new.log ≡ self.old.log }
+        ensures idle { self.new.place ≡ Place.Idle }
         ensures stands { (indexer : Actor) (core after : Core) (read : Log) → IndexerStands L.told L.fault_count self.old indexer core read →
             IndexerStands L.told L.fault_count self.new (record indexer { place = idle }) after read }
     {
@@ -159,6 +161,7 @@ impl<L: SourceLog> Indexer<L> {
     /// From here on it reads these partitions alone, in this order.
     pub fn assign(&mut self, partitions: Partitions)
         ensures log { self.new.log ≡ self.old.log }
+        ensures place { self.new.place ≡ self.old.place }
         ensures stands { (indexer : Actor) (core : Core) (read : Log) → IndexerStands L.told L.fault_count self.old indexer core read →
             IsAssigned (Some partitions) → IndexerStands L.told L.fault_count self.new (record indexer { assignment = Some partitions }) core read }
     {
@@ -185,9 +188,11 @@ impl<L: SourceLog> Indexer<L> {
         gate: &mut G,
     ) -> Result<IndexerOutcome, AllocError>
         ensures later { L.since self.old.log self.new.log }
+        ensures later_gate { G.since gate.old gate.new }
+        ensures owns { HoldsOwn G.Owns gate.old self.old.place → HoldsOwn G.Owns gate.new self.new.place }
         ensures step { (indexer : Actor) (core : Core) (read : Log) →
             IndexerStands L.told L.fault_count self.old (record indexer { place = idle }) core read → G.Stands gate.old core read →
-            StepsAs L.told L.fault_count G.Stands G.Between result (record indexer { place = idle }) core read self.new gate.new }
+            StepsAs L.told L.fault_count G.Stands G.Between G.Owns G.Adds result (record indexer { place = idle }) core read self.new gate.old gate.new }
     {
         let before = self.log.faults();
         let names = self.names(alloc);
@@ -214,9 +219,11 @@ impl<L: SourceLog> Indexer<L> {
         batch: Batch,
     ) -> Result<IndexerOutcome, AllocError>
         ensures later { L.since self.old.log self.new.log }
+        ensures later_gate { G.since gate.old gate.new }
+        ensures owns { HoldsOwn G.Owns gate.old self.old.place → HoldsOwn G.Owns gate.new self.new.place }
         ensures step { (indexer : Actor) (core : Core) (read : Log) (made : Made) →
             IndexerStands L.told L.fault_count self.old (record indexer { place = idle }) core read → G.Stands gate.old core read → BatchStands batch made → IsBatch read made → IsConfigured made.config core → made.closed ≡ false →
-            StepsAs L.told L.fault_count G.Stands G.Between result (record indexer { place = reading made }) core read self.new gate.new }
+            StepsAs L.told L.fault_count G.Stands G.Between G.Owns G.Adds result (record indexer { place = reading made }) core read self.new gate.old gate.new }
     {
         let now = match gate.moment(alloc) {
             Ok(now) => now,
@@ -249,9 +256,11 @@ impl<L: SourceLog> Indexer<L> {
         batch: Batch,
     ) -> Result<IndexerOutcome, AllocError>
         ensures later { L.since self.old.log self.new.log }
+        ensures later_gate { G.since gate.old gate.new }
+        ensures owns { HoldsOwn G.Owns gate.old self.old.place → HoldsOwn G.Owns gate.new self.new.place }
         ensures step { (indexer : Actor) (core : Core) (read : Log) (made : Made) →
             IndexerStands L.told L.fault_count self.old (record indexer { place = idle }) core read → G.Stands gate.old core read → BatchStands batch made → IsBatch read made → IsConfigured made.config core → made.closed ≡ true → (made.count ≡ 0 → ⊥) →
-            StepsAs L.told L.fault_count G.Stands G.Between result (record indexer { place = reading made }) core read self.new gate.new }
+            StepsAs L.told L.fault_count G.Stands G.Between G.Owns G.Adds result (record indexer { place = reading made }) core read self.new gate.old gate.new }
     {
         let Batch {
             documents,
@@ -280,10 +289,14 @@ impl<L: SourceLog> Indexer<L> {
         staged: Staged,
         bytes: &Bytes,
     ) -> Result<IndexerOutcome, AllocError>
+        requires owned { G.Owns gate.old staged.number }
+        requires begun { (read : Log) → G.Begins gate.old read → (core : Core) × G.Stands gate.old core read × IsUnusedIn core staged.number }
         ensures later { L.since self.old.log self.new.log }
+        ensures later_gate { G.since gate.old gate.new }
+        ensures owns { HoldsOwn G.Owns gate.old self.old.place → HoldsOwn G.Owns gate.new self.new.place }
         ensures step { (indexer : Actor) (core : Core) (read : Log) (held : Held) →
             IndexerStands L.told L.fault_count self.old (record indexer { place = idle }) core read → G.Stands gate.old core read → staged.number ≡ held.number → bytes.now ≡ file_of held.config held.documents → IsStagedHeld read core held →
-            StepsAs L.told L.fault_count G.Stands G.Between result (record indexer { place = staged_at held }) core read self.new gate.new }
+            StepsAs L.told L.fault_count G.Stands G.Between G.Owns G.Adds result (record indexer { place = staged_at held }) core read self.new gate.old gate.new }
     {
         let number = staged.number;
         match gate.upload(alloc, staged, bytes.as_slice()) {
@@ -301,10 +314,13 @@ impl<L: SourceLog> Indexer<L> {
         gate: &mut G,
         uploaded: Uploaded,
     ) -> Result<IndexerOutcome, AllocError>
+        requires { (read : Log) → G.Begins gate.old read → (core : Core) × G.Stands gate.old core read × IsPublishable read core uploaded.number }
         ensures later { L.since self.old.log self.new.log }
+        ensures later_gate { G.since gate.old gate.new }
+        ensures owns { HoldsOwn G.Owns gate.old self.old.place → HoldsOwn G.Owns gate.new self.new.place }
         ensures step { (indexer : Actor) (core : Core) (read : Log) (held : Held) →
             IndexerStands L.told L.fault_count self.old (record indexer { place = idle }) core read → G.Stands gate.old core read → uploaded.number ≡ held.number → IsUploadedHeld read core held →
-            StepsAs L.told L.fault_count G.Stands G.Between result (record indexer { place = uploaded_at held }) core read self.new gate.new }
+            StepsAs L.told L.fault_count G.Stands G.Between G.Owns G.Adds result (record indexer { place = uploaded_at held }) core read self.new gate.old gate.new }
     {
         let number = uploaded.number;
         match gate.publish(alloc, uploaded) {
@@ -320,9 +336,11 @@ impl<L: SourceLog> Indexer<L> {
         batch: Batch,
     ) -> Result<IndexerOutcome, AllocError>
         ensures later { L.since self.old.log self.new.log }
+        ensures later_gate { G.since gate.old gate.new }
+        ensures owns { HoldsOwn G.Owns gate.old self.old.place → HoldsOwn G.Owns gate.new self.new.place }
         ensures step { (indexer : Actor) (core : Core) (read : Log) (made : Made) →
             IndexerStands L.told L.fault_count self.old (record indexer { place = idle }) core read → G.Stands gate.old core read → BatchStands batch made → IsBatch read made → IsConfigured made.config core →
-            StepsAs L.told L.fault_count G.Stands G.Between result (record indexer { place = reading made }) core read self.new gate.new }
+            StepsAs L.told L.fault_count G.Stands G.Between G.Owns G.Adds result (record indexer { place = reading made }) core read self.new gate.old gate.new }
     {
         if !batch.closed {
             return self.read_on(alloc, gate, batch);
@@ -334,16 +352,21 @@ impl<L: SourceLog> Indexer<L> {
     }
 
     /// One step. After a SourceFault it can be tried again; after every other fault, and after want of memory, the
-    /// batch is dropped and the indexer is idle.
+    /// batch is dropped and the indexer is idle. A staged number that it holds is its own at the gate.
     pub fn step<G: Gate>(
         &mut self,
         alloc: Global,
         gate: &mut G,
     ) -> Result<IndexerOutcome, AllocError>
+        requires owns { HoldsOwn G.Owns gate.old self.old.place }
+        requires begun { (read : Log) → G.Begins gate.old read →
+            (indexer : Actor) × (core : Core) × IndexerStands L.told L.fault_count self.old indexer core read × G.Stands gate.old core read }
         ensures later { L.since self.old.log self.new.log }
+        ensures later_gate { G.since gate.old gate.new }
+        ensures owns { HoldsOwn G.Owns gate.new self.new.place }
         ensures step { (indexer : Actor) (core : Core) (read : Log) →
             IndexerStands L.told L.fault_count self.old indexer core read → G.Stands gate.old core read →
-            StepsAs L.told L.fault_count G.Stands G.Between result indexer core read self.new gate.new }
+            StepsAs L.told L.fault_count G.Stands G.Between G.Owns G.Adds result indexer core read self.new gate.old gate.new }
     {
         match mem::replace(&mut self.place, Place::Idle) {
             Place::Idle => self.take_checkpoints(alloc, gate),

@@ -13,20 +13,20 @@ use Rattle.index_world.specs.declared.world_error.WorldError.{WorldError}
 use Rattle.index_world.specs.Calls as calls
 use Rattle.index_world.specs.Calls.{Fate, Fault, Trouble, faulted, no_memory, not_read, Unread, Gives, gives, loaded, calm_fate, asked_and_looked}
 use Rattle.root_search.specs.Requests.{asked_of}
-use Rattle.index_world.specs.Core.{Core, IsStoredIn, IsUploadedIn, journal_of, KeepsBut}
-use Rattle.index_world.specs.Gate.{NoneBetween}
+use Rattle.index_world.specs.Core.{Core, IsOther, IsStoredIn, IsUploadedIn, journal_of, KeepsBut}
+use Rattle.index_world.proofs.InCore.{shown_keeps}
 use Rattle.index_world.specs.Index.{has_staged}
 use Rattle.index_world.specs.World.{Keeping, WorldStands, GoesOn}
 use Rattle.indexing_run.proofs.Holding.{indexer_stays}
 use Rattle.indexing_run.specs.Outcomes.{IndexerOutcome}
 use Rattle.indexing_run.specs.Making.{IsAssigned}
 use Rattle.indexing_run.specs.Places.{Indexer, Place, reading, staged, uploaded, idle, is_idle, number_held}
-use Rattle.node_run.specs.Alone.{SearchesAlone}
+use Rattle.node_run.specs.Alone.{SearchesAlone, StepsAlone}
 use Rattle.node_run.specs.Lines.{AreNames}
 use Rattle.node_run.specs.Seen.{seen}
 use Rattle.node_run.specs.declared.line.Line.{Line as CodeLine}
 use Rattle.node_run.specs.declared.drive.Accepts.TheVariants as accepts
-use Rattle.indexing_run.specs.Standing.{IndexerStands, PlaceStands, StepsAs, Answers, IsSaid as IsIndexerSaid}
+use Rattle.indexing_run.specs.Standing.{IndexerStands, PlaceStands, Answers, IsSaid as IsIndexerSaid}
 use Rattle.indexing_run.specs.Steps as indexing
 use Rattle.indexing_run.specs.declared.indexer.Indexer.{Indexer as Reader}
 use Rattle.indexing_run.specs.declared.indexer.Place.{Place as HeldPlace}
@@ -87,6 +87,7 @@ clock_on core clock =
         configured = λ config e. e;
         unused = λ n other u. record { staged = u.staged; unpublished = u.unpublished; absent = u.absent; not_late = u.not_late };
         stored = stored_then;
+        published = λ n p. p;
         uploaded = uploaded_then;
         staged = λ n delta facts h. h;
       };
@@ -170,14 +171,14 @@ module _ {L : Type 0} (told : L → Option Log) (count : L → ℕ) (since : L �
 
   -- it took a step
   pub stepped_parts : (i : ℕ) (old new : Reader L) (world' : Keeping) (result : Result Said AllocError) → i < length readers → old ≡ get_or readers i old →
-      since old.log new.log → (s : StepsAs told count WorldStands NoneBetween result (indexer_at node.indexers i) node.core node.log new world') →
+      since old.log new.log → (s : StepsAlone told count result (indexer_at node.indexers i) node.core node.log new world') →
       PartsStand told count since firsts world' (slice_set readers i new) searchers places clock down (record (with_indexer i s.after node) { core = s.behind })
   stepped_parts i old new world' result h e on s =
       let apart = others_apart node.indexers i p.apart (subst (λ n. i < n) (zip_length R readers node.indexers p.indexers) h) in
       record {
-        world_stands = s.gate;
+        world_stands = s.world_stands;
         is_log = p.is_log;
-        moment = p.moment ∙ sym (ap (λ c. c.clock) s.passed) ∙ sym (indexer_moves s.luck node.log (indexer_at node.indexers i) s.mid).ticks ∙ ap (λ step. step.core.clock) s.did;
+        moment = p.moment ∙ sym (indexer_moves s.luck node.log (indexer_at node.indexers i) node.core).ticks ∙ ap (λ step. step.core.clock) s.did;
         down = p.down;
         indexers = zip_step R (λ reader indexer. IndexerStands told count reader indexer s.behind node.log) (HoldApart (indexer_at node.indexers i)) readers node.indexers i new s.after p.indexers apart
             (λ reader indexer stands off. indexer_stays told count reader indexer node.core s.behind node.log (number_held (indexer_at node.indexers i).place) s.goes_on (other_of (indexer_at node.indexers i) indexer off) stands)
@@ -186,7 +187,7 @@ module _ {L : Type 0} (told : L → Option Log) (count : L → ℕ) (since : L �
             (λ reader indexer stands off n at_after at_other.
             off n (s.apart n (staged_of told count reader indexer node.core node.log n stands at_other) at_after) at_other);
         clients = zip_weaker C (λ searcher client. SearcherStands searcher client s.behind node.log)
-            searchers node.clients (λ searcher client stands. searcher_goes_on (number_held (indexer_at node.indexers i).place) searcher client node.core s.behind node.log s.goes_on stands) p.clients;
+            searchers node.clients (λ searcher client stands. searcher_goes_on (IsOther (number_held (indexer_at node.indexers i).place)) searcher client node.core s.behind node.log s.goes_on stands) p.clients;
         placed = p.placed;
         later = later_set i old new e on;
       }
@@ -251,7 +252,7 @@ module _ {L : Type 0} (told : L → Option Log) (count : L → ℕ) (since : L �
         clients = subst (λ (l : List Client). AllZip (λ searcher client. SearcherStands searcher client s.after node.log) (slice_set known place new) l)
             (with_with s.later m node.clients (el ∙ sym em))
             (named_set node.core s.after node.log name known (with_client m node.clients) place new s.later
-            (λ t n w. searcher_goes_on None t n node.core s.after node.log s.goes_on w) el at zip s.searcher);
+            (λ t n w. searcher_goes_on (IsOther None) t n node.core s.after node.log s.goes_on w) el at zip s.searcher);
         placed = subst (HasPlaces found) (names_with m s.later node.clients (em ∙ sym el)) has;
         later = p.later;
       }
@@ -271,7 +272,7 @@ module _ {L : Type 0} (told : L → Option Log) (count : L → ℕ) (since : L �
             (clock_on node.core moment) (λ n held. tt) stands) p.indexers;
         apart = p.apart;
         clients = zip_weaker C (λ searcher client. SearcherStands searcher client (record (node.core) { clock = moment }) node.log) searchers node.clients
-            (λ searcher client w. searcher_goes_on None searcher client node.core (record (node.core) { clock = moment }) node.log (clock_on node.core moment) w) p.clients;
+            (λ searcher client w. searcher_goes_on (IsOther None) searcher client node.core (record (node.core) { clock = moment }) node.log (clock_on node.core moment) w) p.clients;
         placed = p.placed;
         later = p.later;
       }
@@ -337,13 +338,12 @@ searched_name luck log client core = short luck.short where
 -- ---- turns
 
 pub indexer_turns : {L : Type 0} (told : L → Option Log) (count : L → ℕ) (node : Node) (i : ℕ) (new : Reader L) (world' : Keeping) (result : Result Said AllocError) →
-    node.down ≡ false → (s : StepsAs told count WorldStands NoneBetween result (indexer_at node.indexers i) node.core node.log new world') →
+    node.down ≡ false → (s : StepsAlone told count result (indexer_at node.indexers i) node.core node.log new world') →
     full_turn (record { log = s.luck.log; world = s.luck.world; more = []; inner = s.luck.short; early = false; short = false }) node (StepIndexer i)
     ≡ record { said = said_by_indexer i s.outcome; node = record (with_indexer i s.after node) { core = s.behind } }
 indexer_turns told count node i new world' result up s =
     let luck : Luck = record { log = s.luck.log; world = s.luck.world; more = []; inner = s.luck.short; early = false; short = false } in
     ap (λ b. indexer_turn_by b luck i node) up
-    ∙ ap (λ core. indexer_stepped i node (indexing.step_indexer s.luck node.log (indexer_at node.indexers i) core)) (sym s.passed)
     ∙ ap (indexer_stepped i node) s.did
 
 pub client_turns : (node : Node) (name : List ℕ) (new : Searcher) (world' : Keeping) (result : Result SearchStep AllocError) → node.down ≡ false →
@@ -520,7 +520,7 @@ without_over searcher client core after log keeps s =
     record {
       name = s.name;
       front = s.front;
-      footers = λ number footer among. let k = s.footers number footer among in record { bytes = k.bytes; stored = keeps.stored number k.bytes k.stored; footer_is = k.footer_is };
+      footers = λ number footer among. let k = s.footers number footer among in record { bytes = k.bytes; shown = shown_keeps (IsOther None) core after number k.bytes keeps k.shown; footer_is = k.footer_is };
       request = by searcher.request s.request;
     }
   where

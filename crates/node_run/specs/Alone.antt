@@ -1,9 +1,16 @@
--- A client's step over a world that is lent to it, so that nobody acts between its calls.
-use Rattle.std.specs.Prelude.{◌≡◌, Option, None, Result}
+-- Steps over a world that is lent to them, so that nobody acts between their calls.
+use Rattle.std.specs.Prelude.{◌≡◌, ℕ, true, Option, Some, None, Result}
 use Rattle.std.specs.declared.alloc.AllocError.{AllocError}
 use Rattle.source_log.specs.Log.{Log}
-use Rattle.index_world.specs.Core.{Core}
+use Rattle.index_world.specs.Core.{Core, journal_of}
+use Rattle.index_world.specs.Index.{has_staged}
 use Rattle.index_world.specs.World.{Keeping, WorldStands, GoesOn}
+use Rattle.indexing_run.specs.Outcomes.{IndexerOutcome}
+use Rattle.indexing_run.specs.Places.{Indexer, number_held}
+use Rattle.indexing_run.specs.Standing.{Answers, IndexerStands}
+use Rattle.indexing_run.specs.Steps.{Luck as IndexingLuck, step_indexer}
+use Rattle.indexing_run.specs.declared.indexer.Indexer.{Indexer as Reader}
+use Rattle.indexing_run.specs.declared.outcome.IndexerOutcome.{IndexerOutcome as Said}
 use Rattle.root_search.specs.Searching.{SearcherStands, IsAnswer, searched_as}
 use Rattle.root_search.specs.Steps.{Client, Luck, step_client}
 use Rattle.root_search.specs.declared.outcome.SearchStep.{SearchStep}
@@ -20,3 +27,17 @@ pub record SearchesAlone (result : Result SearchStep AllocError) (new : Searcher
   pub searcher : SearcherStands new later after log
   pub world_stands : WorldStands world after log
   pub goes_on : GoesOn None core after
+
+-- it is the indexer's step with some luck, and what it leaves stands for what that leaves
+pub record StepsAlone {L : Type 0} (tells : L → Option Log) (count : L → ℕ) (result : Result Said AllocError) (indexer : Indexer) (core : Core) (log : Log) (reader : Reader L) (world : Keeping) : Type 0 where
+  pub luck : IndexingLuck
+  pub outcome : Option IndexerOutcome
+  pub after : Indexer
+  pub behind : Core
+  pub did : step_indexer luck log indexer core ≡ record { outcome = outcome; indexer = after; core = behind }
+  pub answer : Answers result outcome
+  pub stands : IndexerStands tells count reader after behind log
+  pub world_stands : WorldStands world behind log
+  pub goes_on : GoesOn (number_held indexer.place) core behind
+  -- a number that it holds from now on was not staged before, or is the one that it held
+  pub apart : (n : ℕ) → has_staged (journal_of core) n ≡ true → number_held after.place ≡ Some n → number_held indexer.place ≡ Some n

@@ -5,15 +5,14 @@ ghost use Rattle.std.specs.List.{AllZip};
 ghost use Rattle.source_log.specs.Log.{Log, IsLog};
 ghost use Rattle.index_world.specs.Calls.{Fault, faulted, no_memory, not_read, no_index};
 ghost use Rattle.index_world.specs.Core.{Core, last_count};
-ghost use Rattle.index_world.specs.Gate.{NoneBetween};
 ghost use Rattle.index_world.specs.Loading.{IsUnread};
 ghost use Rattle.index_world.specs.World.{WorldStands};
 ghost use Rattle.indexing_run.specs.Making.{IsAssigned};
 ghost use Rattle.indexing_run.specs.Places.{Indexer as Actor, is_idle};
-ghost use Rattle.indexing_run.specs.Standing.{IndexerStands, StepsAs};
+ghost use Rattle.indexing_run.specs.Standing.{IndexerStands};
 ghost use Rattle.root_search.specs.Searching.{SearcherStands};
 ghost use Rattle.root_search.specs.Steps.{Client as Asker, without_request};
-ghost use Rattle.node_run.specs.Alone.{SearchesAlone};
+ghost use Rattle.node_run.specs.Alone.{SearchesAlone, StepsAlone};
 ghost use Rattle.node_run.specs.Calm.{log_counts};
 ghost use Rattle.node_run.specs.Fitting.{IsNumbered, IsYes};
 ghost use Rattle.node_run.specs.Lines.{IsWellFormed, AreNames, outcome_text};
@@ -82,7 +81,7 @@ fn step_indexer<S: ObjectStore, L: SourceLog>(
     ensures later { L.since indexer.old.log indexer.new.log }
     ensures step { (actor : Actor) (core : Core) (log : Log) → IndexerStands L.told L.fault_count indexer.old actor core log →
         WorldStands gate.old.world core log →
-        StepsAs L.told L.fault_count WorldStands NoneBetween result actor core log indexer.new gate.new.world }
+        StepsAlone L.told L.fault_count result actor core log indexer.new gate.new.world }
 {
     indexer.step(alloc, gate)
 }

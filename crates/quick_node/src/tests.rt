@@ -4,16 +4,13 @@ use crate::report_rows::REPORT_ROWS;
 use crate::script::ROWS;
 use crate::search_rows::SEARCH_ROWS;
 use crate::serving::serve_with_logs;
-use byte_fields::{Bytes, Client, Failed, MemorySink, MemorySource, Text};
+use byte_fields::{Bytes, Failed, MemorySink, MemorySource};
 use clock_time::ScriptClock;
-use index_world::{Direct, Gate, Unopened, World};
 use meta_journal::{Act, Entry, encode_entry, meta_key};
 use object_store::{
     CreateError, GetError, Key, Keys, Landing, ListError, MemoryStore, ObjectStore, Piece,
     SteadyStore,
 };
-use root_search::{SearchStep, Searcher};
-use search_api::Said;
 use source_checkpoint::Partition;
 use source_log::{FaultyLog, MemoryLog};
 use std::alloc::{AllocError, Global};
@@ -394,75 +391,6 @@ fn each_call_fails_alone(rt: HostRuntime) -> Result<(), Fail> {
     // In each way: a list and a get at opening, three creates of the indexer, and the search's gets of what stands behind the
     // footer, the footer, a block of the dictionary, the documents and a list.
     assert_eq!(rt; failed, 40);
-    Ok(())
-}
-
-// The world of an index in which two of three records were published.
-fn world_of<Rt: Threads + Wait + Sync>(
-    rt: &Rt,
-    alloc: Global,
-) -> Result<World<MemoryStore, ScriptClock>, Fail> {
-    let (store, _) = lives(rt, alloc, index_store(alloc)?)?;
-    match World::load(alloc, store, ScriptClock::at(1000)) {
-        Ok(world) => Ok(world),
-        Err(unopened) => {
-            let Unopened { error, store } = unopened;
-            drop((error, store));
-            Err("no index")?
-        }
-    }
-}
-
-// How many documents a client's next search of a word has, which wants no hits, and how many bytes are fetched for it.
-fn count_of<Rt: Threads + Sync>(
-    rt: &Rt,
-    alloc: Global,
-    gate: &mut Direct<MemoryStore, ScriptClock>,
-    searcher: &mut Searcher,
-    text: &str,
-) -> Result<(u64, u128), Fail> {
-    let before = gate.fetched_bytes();
-    let text = Text::from_slice(alloc, text.as_bytes())?;
-    searcher.submit(text).map_err(|_| "busy")?;
-    let mut count = 0;
-    for _ in 0..3 {
-        if let SearchStep::Replied(reply) = searcher.step(rt, alloc, gate)?
-            && let Said::Found { count: found, .. } = reply.said
-        {
-            count = found;
-        }
-    }
-    Ok((count, gate.fetched_bytes().saturating_sub(before)))
-}
-
-// The same, asked twice by one client.
-fn counts_of<Rt: Threads + Sync>(
-    rt: &Rt,
-    alloc: Global,
-    gate: &mut Direct<MemoryStore, ScriptClock>,
-    text: &str,
-) -> Result<[(u64, u128); 2], Fail> {
-    let client = Client::from_text("a").ok_or("no client")?;
-    let mut searcher = Searcher::start(client);
-    let first = count_of(rt, alloc, gate, &mut searcher, text)?;
-    let second = count_of(rt, alloc, gate, &mut searcher, text)?;
-    Ok([first, second])
-}
-
-// A count of one word fetches of a split what stands behind its footer, the footer and a block of its dictionary, and of a
-// footer that is kept the block alone.
-#[test]
-fn a_count_fetches_little(rt: HostRuntime) -> Result<(), Fail> {
-    let alloc = rt.alloc();
-    let text = "{\"search\":{\"query\":\"fox\",\"max_hits\":0}}";
-    let mut gate = Direct::over(world_of(&rt, alloc)?);
-    let counted = counts_of(&rt, alloc, &mut gate, text);
-    let (_store, _clock) = gate.into_world().unload();
-    let [(first, fetched), (second, fetched_again)] = counted?;
-    assert_eq!(rt; first, 1);
-    assert!(rt; fetched <= 79);
-    assert_eq!(rt; second, 1);
-    assert!(rt; fetched_again <= 45);
     Ok(())
 }
 

@@ -48,12 +48,12 @@ few_each : (f : Row → List Placed) (list : List Row) → AllByRecursion (λ ro
 few_each f [] all = omega arith
 few_each f (row ∷ list) all = let here = all.0 in let more = few_each f list all.1 in let both = length-append (f row) (flat_map f list) in omega (arith, here, more, both)
 
-pub found_few : (revision : ℕ) (search : Search) (core : Core) (log : Log) → AreInHand revision core log → length (all_of (map (documents_at revision core log) (rows_at revision search core))) < 2 ^ 62
-found_few revision search core log a =
+pub found_few : (revision until : ℕ) (search : Search) (core : Core) (log : Log) → AreInHand revision until core log → length (all_of (map (documents_at revision core log) (rows_at revision search core))) < 2 ^ 62
+found_few revision until search core log a =
     let docs = documents_at revision core log in
     let list = rows_at revision search core in
     let each = searched_each (λ row. length (docs row) ≤ 16777216) (config_at revision core).schema search.query search.times (rows (history_at revision core))
-    (All-each (IsInHand revision core log) (λ row. length (docs row) ≤ 16777216) (published_at revision core) (λ row i. i.split.few) a.each) in
+    (All-each (IsInHand revision until core log) (λ row. length (docs row) ≤ 16777216) (published_at revision core) (λ row i. i.split.few) a.each) in
     let many = few_each docs list each in
     let fewer = searched_few (config_at revision core).schema search.query search.times (rows (history_at revision core)) in
     let most = a.few in
@@ -104,14 +104,14 @@ facts_each P (row ∷ rs) all = by (is_published row.state) refl all (facts_each
     by true e a more = (λ h. a.0, more a.1)
     by false e a more = (λ h. let wrong : true ≡ false = sym h ∙ e in absurd (cc), more a)
 
-pub are_found : (revision : ℕ) (search : Search) (ask : LeafAsk) (core : Core) (log : Log) → IsLog log → Asks search ask → AreInHand revision core log →
+pub are_found : (revision until : ℕ) (search : Search) (ask : LeafAsk) (core : Core) (log : Log) → IsLog log → Asks search ask → AreInHand revision until core log →
     AreFound (config_at revision core).schema ask.request (map (documents_at revision core log) (rows_at revision search core)) (visible_at revision core.history log)
-are_found revision search ask core log good asks a =
+are_found revision until search ask core log good asks a =
     record {
       all = flat_map docs (published_at revision core);
       same = ap (found s r) (joined docs (rows_at revision search core))
           ∙ (ap₂ (λ (q : Sought) (t : TimeRange). found s r (flat_map docs (searched s q t rs))) (sym asks.query) (sym asks.times)
-          ∙ sym (rows_found s r docs rs (facts_each (λ row. HasFactsOf s (docs row) row) rs (All-each (IsInHand revision core log) (λ row. HasFactsOf s (docs row) row) (published_at revision core) (λ row i. i.facts) a.each))));
+          ∙ sym (rows_found s r docs rs (facts_each (λ row. HasFactsOf s (docs row) row) rs (All-each (IsInHand revision until core log) (λ row. HasFactsOf s (docs row) row) (published_at revision core) (λ row i. i.facts) a.each))));
       one = moved_one (flat_map docs (published_at revision core)) (visible_at revision core.history log) a.shown
           (one_each (visible_at revision core.history log) (visible_in_order (config_at revision core) (ledger reads (history_at revision core)) log good));
       moved = a.shown;

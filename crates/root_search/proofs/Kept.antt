@@ -6,7 +6,8 @@ use Rattle.std.proofs.lemmas.List.{map-append, take_more}
 use Rattle.std.proofs.lemmas.List.Sums.{sum_by_more}
 use Rattle.lru.proofs.CallerLemmas.{Contains-lookup, Contains-remove_entry}
 use Rattle.meta_store.specs.declared.planning.PlanRow.{PlanRow}
-use Rattle.index_world.specs.Core.{Core, IsStoredIn}
+use Rattle.index_world.specs.Core.{Core, IsShownIn, IsStoredIn}
+use Rattle.index_world.proofs.InCore.{planned_is_shown, shown_same}
 use Rattle.leaf_search.specs.FileRanges.{total}
 use Rattle.leaf_search.specs.declared.file_ranges.FileRange.{FileRange}
 use Rattle.split_bundle.specs.declared.footer.Footer.{Footer}
@@ -37,20 +38,18 @@ total_more rs i r lt is = omega (arith, sum_by_more (λ (x : FileRange). x.len) 
 key_is : (number k : ℕ) → nat_eq number k ≡ true → k ≡ number
 key_is number k e = sym (eqb-true number k e)
 
-pub same_bytes : (core : Core) (number : ℕ) (one other : List ℕ) → IsStoredIn core number one → IsStoredIn core number other → one ≡ other
-same_bytes core number one other a b = let first = a.file in let second = b.file in some_is (sym first ∙ second)
-  where
-    some_is : ◌≡◌ {A = Option (List ℕ)} (Some one) (Some other) → one ≡ other
-    some_is e = cc
+-- what stands under a number that was shown is its file
+pub same_bytes : (core : Core) (number : ℕ) (one other : List ℕ) → IsShownIn core number one → IsStoredIn core number other → one ≡ other
+same_bytes core number one other shown up = sym (planned_is_shown core (core.moment + 1) number other one (omega arith) (λ early. up) shown)
 
 -- a footer that is found is the file's
-pub known_footer : (footers : Footers) (core : Core) (number : ℕ) (bytes : List ℕ) (known : Option Footer) → AreKept footers core → IsStoredIn core number bytes → known ≡ lookup (nat_eq number) (entries footers) → IsKnown bytes known
+pub known_footer : (footers : Footers) (core : Core) (number : ℕ) (bytes : List ℕ) (known : Option Footer) → AreKept footers core → IsShownIn core number bytes → known ≡ lookup (nat_eq number) (entries footers) → IsKnown bytes known
 known_footer footers core number bytes None kept up found = tt
 known_footer footers core number bytes (Some footer) kept up found =
     let there = Contains-lookup (nat_eq number) (entries footers) footer (sym found) in
     let k = kept there.0 footer there.1 in
     let same : there.0 ≡ number = key_is number there.0 there.2 in
-    subst (λ (bs : List ℕ). IsFooterIn bs footer) (same_bytes core number k.bytes bytes (subst (λ (n : ℕ). IsStoredIn core n k.bytes) same k.stored) up) k.footer_is
+    subst (λ (bs : List ℕ). IsFooterIn bs footer) (shown_same core number k.bytes bytes (subst (λ (n : ℕ). IsShownIn core n k.bytes) same k.shown) up) k.footer_is
 
 -- one that is taken out is kept no more
 pub fewer_kept : (old new : Footers) (core : Core) (number : ℕ) → entries new ≡ remove_entry (nat_eq number) (entries old) → AreKept old core → AreKept new core

@@ -8,6 +8,7 @@ pub mod Wholes
 pub mod Zipped
 pub mod SameFooters
 pub mod PartViews
+pub mod Recorded
 pub mod Fetches
 pub mod CallsMade
 pub mod RowReads

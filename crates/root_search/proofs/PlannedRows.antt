@@ -25,10 +25,11 @@ use Rattle.split_form.specs.Form as form
 use Rattle.index_config.specs.declared.config.IndexConfig.{IndexConfig}
 use Rattle.index_world.specs.Config.{reads}
 use Rattle.index_world.specs.Configuration.{index_of}
-use Rattle.index_world.specs.Core.{Core, IsConfigured, IsStoredIn}
+use Rattle.index_world.specs.Calls.{Grace}
+use Rattle.index_world.specs.Core.{Core, IsConfigured, IsPlannedIn, IsShownIn, Nobody}
 use Rattle.index_world.specs.Gate.{IsSoundCore, IsPlan, grace_of}
 use Rattle.index_world.specs.SplitFile.{AreSplit, file_of}
-use Rattle.index_world.specs.World.{GoesOn}
+use Rattle.index_world.specs.World.{GoesFor}
 use Rattle.index_world.proofs.Indexing.{All-get}
 use Rattle.split_bundle.specs.declared.placed.Placed.{Placed}
 use Rattle.search_api.specs.Resolved.{Search}
@@ -88,7 +89,7 @@ plan_ends searcher client search read held count config after log s configured p
             unfetched = sym (ap (λ (n : ℕ). map (λ (row : PlanRow). row.number) (drop n held.plan.rows)) first ∙ (ap (map (λ (row : PlanRow). row.number)) chosen ∙ numbers_are list));
             parts = subst (λ (n : ℕ). AllZip (HasNeeded (config_at (length after.history) after).schema held.ask.request) held.parts (map (documents_at (length after.history) after log) (take n (rows_at (length after.history) search after)))) (sym first)
                 (subst (λ (parts : List SplitPart). AllZip (HasNeeded (config_at (length after.history) after).schema held.ask.request) parts []) (sym none) tt);
-            in_hand = sound_in_hand after log s;
+            in_hand = sound_in_hand after log (grace_at (config_in after) after.moment).until s;
           },
         );
       };
@@ -116,7 +117,8 @@ pub record IsNext (held : GivenPlan) (plan : Plan) (core : Core) (log : Log) (nu
   pub row : Row
   pub stands : slice_get (rows_at plan.revision plan.search core) held.next ≡ Some row
   pub same : row.number ≡ number
-  pub uploaded : IsStoredIn core number (file_of (config_at plan.revision core) (documents_at plan.revision core log row))
+  pub shown : IsShownIn core number (file_of (config_at plan.revision core) (documents_at plan.revision core log row))
+  pub planned : IsPlannedIn core (grace_of (config_at plan.revision core) held.plan).until number (file_of (config_at plan.revision core) (documents_at plan.revision core log row))
   pub long : size ≡ length (file_of (config_at plan.revision core) (documents_at plan.revision core log row))
   pub split : AreSplit (config_at plan.revision core) (documents_at plan.revision core log row)
   pub left : plan.unfetched ≡ number ∷ map (λ (r : PlanRow). r.number) (drop (held.next + 1) held.plan.rows)
@@ -146,7 +148,9 @@ next_row held plan core log row p found =
       row = m.0;
       stands = m.1;
       same = number;
-      uploaded = subst (λ n. IsStoredIn core n (file_of (config_at plan.revision core) (documents_at plan.revision core log m.0))) number i.file;
+      shown = subst (λ n. IsShownIn core n (file_of (config_at plan.revision core) (documents_at plan.revision core log m.0))) number i.shown;
+      planned = subst (λ n. IsPlannedIn core (grace_of (config_at plan.revision core) held.plan).until n (file_of (config_at plan.revision core) (documents_at plan.revision core log m.0))) number
+          (subst (λ (g : Grace). IsPlannedIn core g.until m.0.number (file_of (config_at plan.revision core) (documents_at plan.revision core log m.0))) p.grace i.planned);
       long = ap (λ (r : PlanRow). r.size) (sym m.2) ∙ (ap (λ (f : RowFacts). f.size) i.facts.1 ∙ size_is (config_at plan.revision core).schema (documents_at plan.revision core log m.0) i.facts.0);
       split = i.split;
       left = p.unfetched ∙ ap (map (λ (r : PlanRow). r.number)) split;
@@ -158,9 +162,9 @@ next_row held plan core log row p found =
     m : (r : Row) × (slice_get (rows_at plan.revision plan.search core) held.next ≡ Some r) × (planned_row r ≡ row)
     m = mapped planned_row (slice_get list held.next) row (sym (slice_get-map planned_row list held.next) ∙ (ap (λ l. slice_get l held.next) (sym p.rows) ∙ found))
 
-    i : IsInHand plan.revision core log m.0
-    i = All-get (IsInHand plan.revision core log) list held.next m.0
-        (searched_each (IsInHand plan.revision core log) (config_at plan.revision core).schema plan.search.query plan.search.times (rows (history_at plan.revision core)) p.in_hand.each) m.1
+    i : IsInHand plan.revision plan.grace.until core log m.0
+    i = All-get (IsInHand plan.revision plan.grace.until core log) list held.next m.0
+        (searched_each (IsInHand plan.revision plan.grace.until core log) (config_at plan.revision core).schema plan.search.query plan.search.times (rows (history_at plan.revision core)) p.in_hand.each) m.1
 
     number : m.0.number ≡ row.number
     number = ap (λ (r : PlanRow). r.number) m.2
@@ -171,12 +175,18 @@ next_row held plan core log row p found =
     split : drop held.next held.plan.rows ≡ row ∷ drop (held.next + 1) held.plan.rows
     split = let lt = within in rw (add-one, drop-cons held.plan.rows held.next row, get_or_from_slice_get held.plan.rows held.next row row found)
 
--- its file stands
-pub file_of_next : (held : GivenPlan) (plan : Plan) (core : Core) (log : Log) (row : PlanRow) (p : Parts) → (next : IsNext held plan core log row.number row.size) → slice_get held.plan.rows held.next ≡ Some row
-    → file_of (config_at plan.revision core) (documents_at plan.revision core log next.row) ≡ file_bytes p → IsStoredIn core row.number (file_bytes p) × IsFileAt core held.plan held.next (file_bytes p)
-file_of_next held plan core log row p next found same =
-    let up = subst (IsStoredIn core row.number) same next.uploaded in
-    (up, record { row = row; stands = found; stored = up; size = next.long ∙ ap (λ (l : List ℕ). length l) same })
+-- its file was shown, and stands within the plan's grace
+abbrev pub file_of_next : (held : GivenPlan) (plan : Plan) (core : Core) (log : Log) (row : PlanRow) (p : Parts) → (next : IsNext held plan core log row.number row.size) → slice_get held.plan.rows held.next ≡ Some row
+    → file_of (config_at plan.revision core) (documents_at plan.revision core log next.row) ≡ file_bytes p → IsShownIn core row.number (file_bytes p) × IsFileAt core (grace_of (config_at plan.revision core) held.plan).until held.plan held.next (file_bytes p)
+file_of_next held plan core log row p next found same = (
+  subst (IsShownIn core row.number) same next.shown,
+  record {
+    row = row;
+    stands = found;
+    planned = subst (IsPlannedIn core (grace_of (config_at plan.revision core) held.plan).until row.number) same next.planned;
+    size = next.long ∙ ap (λ (l : List ℕ). length l) same;
+  },
+)
 
 -- ---- how many rows there are
 
@@ -198,11 +208,11 @@ planned_few held plan core log p =
 -- ---- one more split
 
 pub one_more : (held more : GivenPlan) (plan : Plan) (core after : Core) (log : Log) (number size : ℕ) (part : SplitPart) → IsPlanned held plan core log → (next : IsNext held plan core log number size) →
-    GoesOn None core after → more.ask ≡ held.ask → more.plan ≡ held.plan → more.next ≡ held.next + 1 → more.parts ≡ held.parts ++ part ∷ [] →
+    GoesFor Nobody core after → more.ask ≡ held.ask → more.plan ≡ held.plan → more.next ≡ held.next + 1 → more.parts ≡ held.parts ++ part ∷ [] →
     HasNeeded (config_at plan.revision core).schema held.ask.request part (documents_at plan.revision core log next.row) →
     IsPlanned more (record plan { unfetched = map (λ (r : PlanRow). r.number) (drop (held.next + 1) held.plan.rows) }) after log
 one_more held more plan core after log number size part p next on ask same further behind needed =
-    planned_goes_on None more later core after log on
+    planned_goes_on Nobody more later core after log on
     (record {
       asks = subst (λ (a : LeafAsk). Asks plan.search a) (sym ask) p.asks;
       asked = subst (λ (a : LeafAsk). IsAsked (config_at plan.revision core).schema a.request) (sym ask) p.asked;

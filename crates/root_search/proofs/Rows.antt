@@ -197,8 +197,9 @@ shown_rows kept config log h (row ∷ list) k l = by (is_published row.state) re
 
 -- ---- the law
 
--- the row's file stands and is the split of its contents, of which it has the facts
+-- the row was published, and its file stands and is the split of its contents, of which it has the facts
 pub record IsHeld (config : IndexConfig) (core : Core) (log : Log) (h : History) (row : Row) : Type 0 where
+  pub published : was_published (journal_of core) row.number ≡ true
   pub file : IsStoredIn core row.number (file_of config (contents config (ledger reads h).tasks row log))
   pub split : AreSplit config (contents config (ledger reads h).tasks row log)
   pub facts : HasFactsOf config.schema (contents config (ledger reads h).tasks row log) row
@@ -235,6 +236,7 @@ module _ (kept : State) (core : Core) (log : Log) (w : IsWorld kept core log) wh
       record {
         each = All-each (IsShown kept config log h) (IsHeld config core log h) (published_rows (rows h))
             (λ row i. record {
+              published = f.published row.number i.published;
               file = row_in_hand row i.sound (f.staged row.number i.staged) (f.published row.number i.published);
               split = i.sound.split;
               facts = (_, i.sound.facts);

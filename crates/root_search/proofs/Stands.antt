@@ -1,5 +1,5 @@
 -- A searcher goes on to stand for its client, and what its files hold is what is visible.
-use Rattle.std.proofs.Common.{◌≡◌, ℕ, ◌≤◌, List, map, flat_map, length, take, sym, ap, ◌∙◌, subst, arith, Option, Some, None, IsPermutation}
+use Rattle.std.proofs.Common.{◌≡◌, ℕ, ◌≤◌, List, map, flat_map, length, take, sym, ap, ◌∙◌, subst, arith, Option, Some, IsPermutation}
 use Rattle.std.specs.List.{AllByRecursion, AllZip}
 use Rattle.std.proofs.lemmas.List.{take-append-le, take_all, length-append}
 use Rattle.meta_journal.specs.declared.entry.Entry.{Entry}
@@ -13,16 +13,17 @@ use Rattle.index_world.specs.Config.{reads}
 use Rattle.index_world.specs.Configuration.{configuration, config_or}
 use Rattle.source_log.specs.Log.{Log}
 use Rattle.split_states.specs.declared.rows.Row.{Row}
-use Rattle.index_world.specs.Core.{Core, IsConfigured, IsStoredIn, journal_of}
+use Rattle.index_world.specs.Core.{Core, IsConfigured, IsPlannedIn, IsShownIn, IsStoredIn, Nobody, journal_of}
 use Rattle.index_world.specs.Gate.{IsSoundCore, grace_of}
 use Rattle.index_world.specs.Seen.{contents, visible}
 use Rattle.index_world.specs.SplitFile.{AreSplit, file_of}
-use Rattle.index_world.specs.World.{GoesOn}
+use Rattle.index_world.specs.World.{GoesFor}
 use Rattle.split_bundle.specs.declared.placed.Placed.{Placed}
 use Rattle.leaf_search.specs.Answers.{IsAsked}
 use Rattle.root_search.specs.RowFacts.{HasFactsOf}
 use Rattle.search_api.specs.Resolved.{Search}
 use Rattle.index_world.proofs.Configured.{configured-take, configured-unread}
+use Rattle.index_world.proofs.InCore.{planned_goes, shown_goes}
 use Rattle.index_world.proofs.StoreChanges.{All-each}
 use Rattle.root_search.specs.SplitParts.{HasNeeded}
 use Rattle.root_search.specs.declared.planned.Planned.{Planned as GivenPlan}
@@ -35,8 +36,8 @@ use Rattle.root_search.specs.Steps.{Plan, Request, Client, config_at, config_in}
 use Rattle.root_search.proofs.Rows.{AreShown, IsHeld, world_shown, world_few, world_legal, world_configured}
 
 -- what a revision shows stays when the history goes on
-pub same_front : (one : Option ℕ) (core after : Core) (revision : ℕ) → GoesOn one core after → revision ≤ length core.history → take revision after.history ≡ take revision core.history
-same_front one core after revision g le = ap (take revision) g.grown.1 ∙ take-append-le revision core.history g.grown.0 le
+pub same_front : (Kept : ℕ → Type 0) (core after : Core) (revision : ℕ) → GoesFor Kept core after → revision ≤ length core.history → take revision after.history ≡ take revision core.history
+same_front Kept core after revision g le = ap (take revision) g.grown.1 ∙ take-append-le revision core.history g.grown.0 le
 
 -- the rows and their documents, by the entries that the plan saw
 abbrev pub config_seen : List Entry → IndexConfig
@@ -51,31 +52,33 @@ published_seen seen = published_rows (rows (history seen))
 abbrev pub rows_seen : List Entry → Search → List Row
 rows_seen seen search = searched (config_seen seen).schema search.query search.times (rows (history seen))
 
-row_goes_on : (one : Option ℕ) (core after : Core) (log : Log) (revision : ℕ) → GoesOn one core after → take revision after.history ≡ take revision core.history → (row : Row) → IsInHand revision core log row → IsInHand revision after log row
-row_goes_on one core after log revision g same row i =
+row_goes_on : (Kept : ℕ → Type 0) (core after : Core) (log : Log) (revision until : ℕ) → GoesFor Kept core after → take revision after.history ≡ take revision core.history → (row : Row) → IsInHand revision until core log row → IsInHand revision until after log row
+row_goes_on Kept core after log revision until g same row i =
     record {
-      file = subst (λ (seen : List Entry). IsStoredIn after row.number (file_of (config_seen seen) (documents_seen seen log row))) (sym same)
-          (g.keeps.stored row.number (file_of (config_at revision core) (documents_at revision core log row)) i.file);
+      shown = subst (λ (seen : List Entry). IsShownIn after row.number (file_of (config_seen seen) (documents_seen seen log row))) (sym same)
+          (shown_goes Kept core after row.number (file_of (config_at revision core) (documents_at revision core log row)) g i.shown);
+      planned = subst (λ (seen : List Entry). IsPlannedIn after until row.number (file_of (config_seen seen) (documents_seen seen log row))) (sym same)
+          (planned_goes Kept core after until row.number (file_of (config_at revision core) (documents_at revision core log row)) g i.planned);
       split = subst (λ (seen : List Entry). AreSplit (config_seen seen) (documents_seen seen log row)) (sym same) i.split;
       facts = subst (λ (seen : List Entry). HasFactsOf (config_seen seen).schema (documents_seen seen log row) row) (sym same) i.facts;
     }
 
-pub in_hand_goes_on : (one : Option ℕ) (core after : Core) (log : Log) (revision : ℕ) → GoesOn one core after → AreInHand revision core log → AreInHand revision after log
-in_hand_goes_on one core after log revision g a =
+pub in_hand_goes_on : (Kept : ℕ → Type 0) (core after : Core) (log : Log) (revision until : ℕ) → GoesFor Kept core after → AreInHand revision until core log → AreInHand revision until after log
+in_hand_goes_on Kept core after log revision until g a =
     record {
       within = (let longer = ap length g.grown.1 ∙ length-append core.history g.grown.0 in let within : revision ≤ length core.history = a.within in omega (arith, longer, within));
       configured = (a.configured.0, ap configuration same ∙ a.configured.1);
-      each = subst (λ (seen : List Entry). AllByRecursion (IsInHand revision after log) (published_seen seen)) (sym same)
-          (All-each (IsInHand revision core log) (IsInHand revision after log) (published_at revision core) (row_goes_on one core after log revision g same) a.each);
+      each = subst (λ (seen : List Entry). AllByRecursion (IsInHand revision until after log) (published_seen seen)) (sym same)
+          (All-each (IsInHand revision until core log) (IsInHand revision until after log) (published_at revision core) (row_goes_on Kept core after log revision until g same) a.each);
       few = subst (λ (seen : List Entry). length (rows (history seen)) ≤ 100000) (sym same) a.few;
       shown = subst (λ (seen : List Entry). IsPermutation (flat_map (documents_seen seen log) (published_seen seen)) (visible (config_seen seen) (ledger reads (history seen)) log)) (sym same) a.shown;
     }
   where
     same : take revision after.history ≡ take revision core.history
-    same = same_front one core after revision g a.within
+    same = same_front Kept core after revision g a.within
 
-pub planned_goes_on : (one : Option ℕ) (given : GivenPlan) (plan : Plan) (core after : Core) (log : Log) → GoesOn one core after → IsPlanned given plan core log → IsPlanned given plan after log
-planned_goes_on one given plan core after log g p =
+pub planned_goes_on : (Kept : ℕ → Type 0) (given : GivenPlan) (plan : Plan) (core after : Core) (log : Log) → GoesFor Kept core after → IsPlanned given plan core log → IsPlanned given plan after log
+planned_goes_on Kept given plan core after log g p =
     record {
       asks = p.asks;
       asked = subst (λ (seen : List Entry). IsAsked (config_seen seen).schema given.ask.request) (sym same) p.asked;
@@ -85,42 +88,42 @@ planned_goes_on one given plan core after log g p =
       place = p.place;
       unfetched = p.unfetched;
       parts = subst (λ (seen : List Entry). AllZip (HasNeeded (config_seen seen).schema given.ask.request) given.parts (map (documents_seen seen log) (take given.next (rows_seen seen plan.search)))) (sym same) p.parts;
-      in_hand = in_hand_goes_on one core after log plan.revision g p.in_hand;
+      in_hand = in_hand_goes_on Kept core after log plan.revision plan.grace.until g p.in_hand;
     }
   where
     same : take plan.revision after.history ≡ take plan.revision core.history
-    same = same_front one core after plan.revision g p.in_hand.within
+    same = same_front Kept core after plan.revision g p.in_hand.within
 
-request_goes_on : (one : Option ℕ) (request : GivenRequest) (asked : Request) (core after : Core) (log : Log) → GoesOn one core after → IsRequest request asked core log → IsRequest request asked after log
-request_goes_on one given.Vacant asked core after log g r = r
-request_goes_on one (given.Opened text) asked core after log g r = r
-request_goes_on one (given.Planned search) asked core after log g r = (r.0, r.1, planned_goes_on one search r.0 core after log g r.2)
+request_goes_on : (Kept : ℕ → Type 0) (request : GivenRequest) (asked : Request) (core after : Core) (log : Log) → GoesFor Kept core after → IsRequest request asked core log → IsRequest request asked after log
+request_goes_on Kept given.Vacant asked core after log g r = r
+request_goes_on Kept (given.Opened text) asked core after log g r = r
+request_goes_on Kept (given.Planned search) asked core after log g r = (r.0, r.1, planned_goes_on Kept search r.0 core after log g r.2)
 
 -- footers that are kept stay those of their splits
-pub footers_go_on : (one : Option ℕ) (footers : Footers) (core after : Core) → GoesOn one core after → AreKept footers core → AreKept footers after
-footers_go_on one footers core after g kept = λ number footer among.
+pub footers_go_on : (Kept : ℕ → Type 0) (footers : Footers) (core after : Core) → GoesFor Kept core after → AreKept footers core → AreKept footers after
+footers_go_on Kept footers core after g kept = λ number footer among.
     let k = kept number footer among in
-    record { bytes = k.bytes; stored = g.keeps.stored number k.bytes k.stored; footer_is = k.footer_is }
+    record { bytes = k.bytes; shown = shown_goes Kept core after number k.bytes g k.shown; footer_is = k.footer_is }
 
 -- whatever number the world went on about, a searcher stands for its client as before
-pub searcher_goes_on : (one : Option ℕ) (searcher : Searcher) (client : Client) (core after : Core) (log : Log) → GoesOn one core after → SearcherStands searcher client core log → SearcherStands searcher client after log
-searcher_goes_on one searcher client core after log g s =
-    record { name = s.name; front = s.front; footers = footers_go_on one searcher.footers core after g s.footers; request = request_goes_on one searcher.request client.request core after log g s.request }
+pub searcher_goes_on : (Kept : ℕ → Type 0) (searcher : Searcher) (client : Client) (core after : Core) (log : Log) → GoesFor Kept core after → SearcherStands searcher client core log → SearcherStands searcher client after log
+searcher_goes_on Kept searcher client core after log g s =
+    record { name = s.name; front = s.front; footers = footers_go_on Kept searcher.footers core after g s.footers; request = request_goes_on Kept searcher.request client.request core after log g s.request }
 
 -- and so does one that is at work
-pub work_goes_on : (searcher : Searcher) (client : Client) (core after : Core) → GoesOn None core after → IsAtWork searcher client core → IsAtWork searcher client after
-work_goes_on searcher client core after g w = record { vacant = w.vacant; name = w.name; front = w.front; footers = footers_go_on None searcher.footers core after g w.footers }
+pub work_goes_on : (searcher : Searcher) (client : Client) (core after : Core) → GoesFor Nobody core after → IsAtWork searcher client core → IsAtWork searcher client after
+work_goes_on searcher client core after g w = record { vacant = w.vacant; name = w.name; front = w.front; footers = footers_go_on Nobody searcher.footers core after g w.footers }
 
 -- ---- a sound core
 
 -- has the files of its published rows in hand
-pub sound_in_hand : (core : Core) (log : Log) → IsSoundCore core log → AreInHand (length core.history) core log
-sound_in_hand core log s =
+pub sound_in_hand : (core : Core) (log : Log) (until : ℕ) → IsSoundCore core log → AreInHand (length core.history) until core log
+sound_in_hand core log until s =
     record {
       within = omega arith;
       configured = (c.0, ap configuration all ∙ c.1);
-      each = subst (λ (seen : List Entry). AllByRecursion (IsInHand (length core.history) core log) (published_seen seen)) (sym all)
-          (All-each (IsHeld (config_seen core.history) core log (history core.history)) (IsInHand (length core.history) core log) (published_seen core.history) held law.each);
+      each = subst (λ (seen : List Entry). AllByRecursion (IsInHand (length core.history) until core log) (published_seen seen)) (sym all)
+          (All-each (IsHeld (config_seen core.history) core log (history core.history)) (IsInHand (length core.history) until core log) (published_seen core.history) held law.each);
       few = subst (λ (seen : List Entry). length (rows (history seen)) ≤ 100000) (sym all) (world_few s.kept core log s.world);
       shown = subst (λ (seen : List Entry). IsPermutation (flat_map (documents_seen seen log) (published_seen seen)) (visible (config_seen seen) (ledger reads (history seen)) log)) (sym all) law.shown;
     }
@@ -134,10 +137,11 @@ sound_in_hand core log s =
     law : AreShown (config_seen core.history) core log (history core.history)
     law = world_shown s.kept core log s.world
 
-    held : (row : Row) → IsHeld (config_seen core.history) core log (history core.history) row → IsInHand (length core.history) core log row
+    held : (row : Row) → IsHeld (config_seen core.history) core log (history core.history) row → IsInHand (length core.history) until core log row
     held row i =
         record {
-          file = subst (λ (seen : List Entry). IsStoredIn core row.number (file_of (config_seen seen) (documents_seen seen log row))) (sym all) i.file;
+          shown = subst (λ (seen : List Entry). IsShownIn core row.number (file_of (config_seen seen) (documents_seen seen log row))) (sym all) (record { published = i.published; stored = i.file });
+          planned = λ early. subst (λ (seen : List Entry). IsStoredIn core row.number (file_of (config_seen seen) (documents_seen seen log row))) (sym all) i.file;
           split = subst (λ (seen : List Entry). AreSplit (config_seen seen) (documents_seen seen log row)) (sym all) i.split;
           facts = subst (λ (seen : List Entry). HasFactsOf (config_seen seen).schema (documents_seen seen log row) row) (sym all) i.facts;
         }
@@ -160,20 +164,20 @@ pub config_is : (core : Core) (log : Log) (config : IndexConfig) → IsSoundCore
 config_is core log config s i = ap config_or (configured_is core log config s i)
 
 -- and what a plan saw had it too
-pub config_then : (core : Core) (log : Log) (config : IndexConfig) (revision : ℕ) → IsSoundCore core log → IsConfigured config core → AreInHand revision core log → config_at revision core ≡ config
-config_then core log config revision s i a =
+pub config_then : (core : Core) (log : Log) (config : IndexConfig) (revision until : ℕ) → IsSoundCore core log → IsConfigured config core → AreInHand revision until core log → config_at revision core ≡ config
+config_then core log config revision until s i a =
     let later = configured-take revision core.history (world_legal s.kept core log s.world) a.configured.0 a.configured.1 in
     ap config_or a.configured.1 ∙ same_config (configuration core.history) a.configured.0 config later (configured_is core log config s i)
 
-pub configured_then : (core : Core) (log : Log) (revision : ℕ) → IsSoundCore core log → AreInHand revision core log → IsConfigured (config_at revision core) core
-configured_then core log revision s a =
+pub configured_then : (core : Core) (log : Log) (revision until : ℕ) → IsSoundCore core log → AreInHand revision until core log → IsConfigured (config_at revision core) core
+configured_then core log revision until s a =
     let here = configured_here core log s in
-    subst (λ (x : IndexConfig). IsConfigured x core) (sym (config_then core log here.0 revision s here.1 a)) here.1
+    subst (λ (x : IndexConfig). IsConfigured x core) (sym (config_then core log here.0 revision until s here.1 a)) here.1
 
 -- ---- behind a call
 
-pub configured_after : (core after : Core) (config : IndexConfig) → IsConfigured config core → GoesOn None core after → IsConfigured config after
+pub configured_after : (core after : Core) (config : IndexConfig) → IsConfigured config core → GoesFor Nobody core after → IsConfigured config after
 configured_after core after config i g = g.keeps.configured config i
 
-pub config_after : (core after : Core) (log : Log) (config : IndexConfig) → IsSoundCore after log → IsConfigured config core → GoesOn None core after → config_in after ≡ config
+pub config_after : (core after : Core) (log : Log) (config : IndexConfig) → IsSoundCore after log → IsConfigured config core → GoesFor Nobody core after → config_in after ≡ config
 config_after core after log config s i g = config_is after log config s (configured_after core after config i g)

@@ -1,13 +1,15 @@
 -- A step of a client, by what a call of a gate did and what is answered.
-use Rattle.std.proofs.Common.{◌≡◌, ℕ, ◌<◌, Bool, true, false, List, [], ◌∷◌, length, map, refl, sym, ap, ap₂, ◌∙◌, subst, arith, Some, None, Result, Ok, Err}
+use Rattle.std.proofs.Common.{◌≡◌, inr, ℕ, ◌<◌, Bool, true, false, List, [], ◌∷◌, length, map, refl, sym, ap, ap₂, ◌∙◌, subst, arith, Some, None, Result, Ok, Err}
 use Rattle.std.specs.Prelude.{⊤, IsErr}
 use Rattle.std.specs.declared.alloc.AllocError.{AllocError}
 use Rattle.index_config.specs.declared.config.IndexConfig.{IndexConfig}
 use Rattle.source_log.specs.Log.{Log}
 use Rattle.index_world.specs.Calls.{Fate, Grace, Gives, gives, Trouble, faulted, no_memory, asked_and_looked, fetched, calm_fate}
+use Rattle.index_world.specs.CallsMade.{CallMade, IsRecorded, of_plan}
 use Rattle.index_world.specs.Core.{Core}
 use Rattle.index_world.specs.Gate.{NoneBetween, Says, IsTrouble}
-use Rattle.index_world.specs.World.{GoesOn}
+use Rattle.meta_store.specs.declared.planning.Choice.{Choice}
+use Rattle.meta_store.specs.declared.planning.Choice.TheVariants.{Look}
 use Rattle.index_world.specs.declared.world_error.WorldError.{WorldError}
 use Rattle.search_api.specs.Resolved.{Search}
 use Rattle.search_api.specs.Unanswered.{WantsMemory}
@@ -23,7 +25,10 @@ use Rattle.root_search.specs.declared.outcome.SearchStep.TheVariants as said
 use Rattle.root_search.specs.declared.searcher.Searcher.{Searcher}
 use Rattle.root_search.specs.Searching.{IsRequest, SearcherStands, SearchesAs, IsAtWork, Ends, FaultEnds, searched_as}
 use Rattle.root_search.specs.Steps.{ArePassed, grace_in, Plan, Request, no_request, opened, planned, Client, Luck, Searched, Passage, config_in, without_memory, without_request, fetched_at, fetched_each, luck_of, next_at, next_step, request_at, step_at, step_client, step_request, plan_by, plan_given, fetch_by, fetch_given, or_short, trouble_replied, unless_fault, refused_over, reply_with, answer_of}
-use Rattle.root_search.proofs.Fetches.{on_refl, some_passages}
+use Rattle.root_search.specs.Goes.{GoesBy}
+use Rattle.root_search.specs.Recorded.{AreCallsOf, AreFetchesOf, AreRecorded}
+use Rattle.root_search.proofs.Recorded.{record_as}
+use Rattle.root_search.proofs.Fetches.{by_refl, some_passages}
 
 -- ---- the core behind a step
 
@@ -42,6 +47,15 @@ plan_core (Ok done) (Err (reasons.Memory e)) client core = refl
 plan_core (Err trouble) (Ok search) client core = trouble_core client.front trouble client core
 plan_core (Err trouble) (Err (reasons.Refused refusal)) client core = refusal_core client.front refusal trouble client core
 plan_core (Err trouble) (Err (reasons.Memory e)) client core = refl
+
+-- a plan that found no memory answers nothing
+plan_short : (answer : Result ⊤ Trouble) (asked : Result Search Unanswered) (client : Client) (core : Core) → answer ≡ Err no_memory → (plan_by answer asked client core).outcome ≡ None
+plan_short answer asked client core e = ap (λ (r : Result ⊤ Trouble). (plan_by r asked client core).outcome) e ∙ by asked
+  where
+    by : (r : Result Search Unanswered) → (plan_by (Err no_memory) r client core).outcome ≡ None
+    by (Ok search) = refl
+    by (Err (reasons.Refused refusal)) = refl
+    by (Err (reasons.Memory m)) = refl
 
 fetch_core : (answer : Result ⊤ Trouble) (plan : Plan) (number : ℕ) (more : List ℕ) (client : Client) (core : Core) → (fetch_by answer plan number more client core).core ≡ core
 fetch_core (Ok done) plan number more client core = refl
@@ -95,11 +109,11 @@ refused_is asked reason refusal e h = subst (λ (r : Unanswered). asked ≡ Err 
 
 -- ---- steps
 
-module _ {W : Type 0} (Stands : W → Core → Log → Type 0) (Between : Core → Core → Type 0) (result : Result SearchStep AllocError) (new : Searcher) (gate : W) (client : Client) (core : Core) (log : Log) where
+module _ {W : Type 0} (Stands : W → Core → Log → Type 0) (Between : Core → Core → Type 0) (Adds : W → List CallMade → W → Type 0) (old : W) (result : Result SearchStep AllocError) (new : Searcher) (gate : W) (client : Client) (core : Core) (log : Log) where
   -- what a step says, behind the core that its calls left
-  step_as : (passage : Passage) (more : List Passage) (short : Bool) (after : Core) (step : Searched) → ArePassed (grace_in client.request) Between core (passage ∷ more) → step_at passage more short log client ≡ step → step.core ≡ after → GoesOn None core after → Stands gate after log
-      → Ends result new step log → SearchesAs Stands Between result new gate client core log
-  step_as passage more short after step passed did same on stands ends =
+  step_as : (passage : Passage) (more : List Passage) (short : Bool) (after : Core) (step : Searched) → ArePassed (grace_in client.request) Between core (passage ∷ more) → step_at passage more short log client ≡ step → step.core ≡ after → GoesBy Between core after → Stands gate after log
+      → Ends result new step log → (made : List CallMade) → Adds old made gate → AreCallsOf client.request passage more after step.outcome made → SearchesAs Stands Between Adds old result new gate client core log
+  step_as passage more short after step passed did same on stands ends made own asks =
       record {
         passage = passage;
         more = more;
@@ -113,64 +127,75 @@ module _ {W : Type 0} (Stands : W → Core → Log → Type 0) (Between : Core �
         searcher = subst (λ c. SearcherStands new step.client c log) same ends.stands;
         gate_stands = stands;
         goes_on = on;
+        made = made;
+        own = own;
+        asks = asks;
       }
 
-  pub planned_as : (text : List ℕ) (config : IndexConfig) (mid : Core) (fate : Fate) (answer a : Result ⊤ Trouble) (o : Result Search Unanswered) (after : Core) → Between core mid → asked_and_looked fate mid ≡ gives answer after → GoesOn None core after →
-      Stands gate after log → client.request ≡ opened text → config_in after ≡ config → asked_of config text ≡ o → answer ≡ a → Ends result new (plan_by a o client after) log → SearchesAs Stands Between result new gate client core log
-  planned_as text config mid fate answer a o after passed did on stands asked is word said ends =
+  pub planned_as : (text : List ℕ) (config : IndexConfig) (mid : Core) (fate : Fate) (answer a : Result ⊤ Trouble) (o : Result Search Unanswered) (after : Core) → Between core mid → asked_and_looked fate mid ≡ gives answer after → GoesBy Between core after →
+      Stands gate after log → client.request ≡ opened text → config_in after ≡ config → asked_of config text ≡ o → answer ≡ a → Ends result new (plan_by a o client after) log →
+      (choice : Choice) (short : Type 0) (made : List CallMade) → (short → a ≡ Err no_memory) → Adds old made gate → IsRecorded (of_plan choice) mid after short made → SearchesAs Stands Between Adds old result new gate client core log
+  planned_as text config mid fate answer a o after passed did on stands asked is word said ends choice short made none own once =
       let passage : Passage = record { core = mid; fate = fate } in
       step_as passage [] false after (plan_by a o client after) (passed, tt)
       (ap (λ r. request_at r passage [] log client) asked ∙ (ap (plan_given text client) did ∙ ap₂ (λ x y. plan_by x y client after) said (ap (λ (c : IndexConfig). asked_of c text) is ∙ word)))
-      (plan_core a o client after) on stands ends
+      (plan_core a o client after) on stands ends made own
+      (subst (λ r. AreCallsOf r passage [] after (plan_by a o client after).outcome made) (sym asked)
+      (choice, record_as (of_plan choice) mid after after short ((plan_by a o client after).outcome ≡ None) made refl (λ is_short. plan_short a o client after (none is_short)) once))
 
   -- where there was no memory before the call
-  pub unasked_as : (text : List ℕ) → Between core core → Stands gate core log → client.request ≡ opened text → IsErr result → IsAtWork new client core → SearchesAs Stands Between result new gate client core log
-  unasked_as text between stands asked short w =
-      planned_as text (config_in core) core (record calm_fate { unasked = true }) (Err no_memory) (Err no_memory) (asked_of (config_in core) text) core between refl (on_refl core) stands asked refl refl refl
-      (ends_unasked result (asked_of (config_in core) text) new client core log short w)
+  pub unasked_as : (text : List ℕ) → Between core core → Adds old [] gate → Stands gate core log → client.request ≡ opened text → IsErr result → IsAtWork new client core → SearchesAs Stands Between Adds old result new gate client core log
+  unasked_as text between own stands asked short w =
+      planned_as text (config_in core) core (record calm_fate { unasked = true }) (Err no_memory) (Err no_memory) (asked_of (config_in core) text) core between refl (by_refl Between core) stands asked refl refl refl
+      (ends_unasked result (asked_of (config_in core) text) new client core log short w) Look ⊤ [] (λ done. refl) own (inr (refl, refl, tt))
 
-  pub fetched_as : (plan : Plan) (number : ℕ) (left : List ℕ) (short : Bool) (passages : List Passage) (answer a : Result ⊤ Trouble) (after : Core) → 0 < length passages → ArePassed plan.grace Between core passages → fetched_at plan.grace core passages ≡ gives answer after → GoesOn None core after →
+  pub fetched_as : (plan : Plan) (number : ℕ) (left : List ℕ) (short : Bool) (passages : List Passage) (answer a : Result ⊤ Trouble) (after : Core) → 0 < length passages → ArePassed plan.grace Between core passages → fetched_at plan.grace core passages ≡ gives answer after → GoesBy Between core after →
       Stands gate after log → client.request ≡ planned plan → plan.unfetched ≡ number ∷ left → answer ≡ a → Ends result new (or_short short client (fetch_by a plan number left client after)) log →
-      SearchesAs Stands Between result new gate client core log
-  fetched_as plan number left short [] answer a after some passed did on stands asked unfetched said ends = absurd (omega arith)
-  fetched_as plan number left short (passage ∷ more) answer a after some passed did on stands asked unfetched said ends =
+      (made : List CallMade) → Adds old made gate → AreRecorded plan.grace number passages made → SearchesAs Stands Between Adds old result new gate client core log
+  fetched_as plan number left short [] answer a after some passed did on stands asked unfetched said ends made own recorded = absurd (omega arith)
+  fetched_as plan number left short (passage ∷ more) answer a after some passed did on stands asked unfetched said ends made own recorded =
       step_as passage more short after (or_short short client (fetch_by a plan number left client after)) (subst (λ r. ArePassed (grace_in r) Between core (passage ∷ more)) (sym asked) passed)
       (ap (λ r. or_short short client (request_at r passage more log client)) asked ∙ (ap (λ l. or_short short client (next_at passage more log plan l client)) unfetched
       ∙ (ap (λ given. or_short short client (fetch_given plan number left client given)) did ∙ ap (λ x. or_short short client (fetch_by x plan number left client after)) said)))
-      (short_core short client (fetch_by a plan number left client after) ∙ fetch_core a plan number left client after) on stands ends
+      (short_core short client (fetch_by a plan number left client after) ∙ fetch_core a plan number left client after) on stands ends made own
+      (subst (λ r. AreCallsOf r passage more after (or_short short client (fetch_by a plan number left client after)).outcome made) (sym asked)
+      (subst (λ l. AreFetchesOf plan.grace l (passage ∷ more) made) (sym unfetched) recorded))
 
   -- where no memory is found behind some fetches, or before them
-  pub short_as : (plan : Plan) (number : ℕ) (left : List ℕ) (passages : List Passage) (answer : Result ⊤ Trouble) (after : Core) → Between core core → ArePassed plan.grace Between core passages → fetched_at plan.grace core passages ≡ gives answer after → GoesOn None core after →
-      Stands gate after log → client.request ≡ planned plan → plan.unfetched ≡ number ∷ left → IsErr result → IsAtWork new client after → SearchesAs Stands Between result new gate client core log
-  short_as plan number left [] answer after between passed did on stands asked unfetched short w =
+  pub short_as : (plan : Plan) (number : ℕ) (left : List ℕ) (passages : List Passage) (answer : Result ⊤ Trouble) (after : Core) → Between core core → ArePassed plan.grace Between core passages → fetched_at plan.grace core passages ≡ gives answer after → GoesBy Between core after →
+      Stands gate after log → client.request ≡ planned plan → plan.unfetched ≡ number ∷ left → IsErr result → IsAtWork new client after →
+      (made : List CallMade) → Adds old made gate → AreRecorded plan.grace number passages made → SearchesAs Stands Between Adds old result new gate client core log
+  short_as plan number left [] answer after between passed did on stands asked unfetched short w made own recorded =
       let same : after ≡ core = ap (λ (g : Gives Trouble ⊤). g.core) (sym did) in
       let passage : Passage = record { core = core; fate = record calm_fate { unasked = true } } in
-      fetched_as plan number left true (passage ∷ []) (Err no_memory) (Err no_memory) core (omega arith) (between, tt) refl (on_refl core) (subst (λ c. Stands gate c log) same stands) asked unfetched refl
-      (ends_without result new client (fetch_by (Err no_memory) plan number left client core) log short (subst (IsAtWork new client) same w))
-  short_as plan number left (passage ∷ more) answer after between passed did on stands asked unfetched short w =
+      fetched_as plan number left true (passage ∷ []) (Err no_memory) (Err no_memory) core (omega arith) (between, tt) refl (by_refl Between core) (subst (λ c. Stands gate c log) same stands) asked unfetched refl
+      (ends_without result new client (fetch_by (Err no_memory) plan number left client core) log short (subst (IsAtWork new client) same w)) made own (0, 0, [], [], recorded, inr (refl, refl, refl), refl)
+  short_as plan number left (passage ∷ more) answer after between passed did on stands asked unfetched short w made own recorded =
       fetched_as plan number left true (passage ∷ more) answer answer after (omega arith) passed did on stands asked unfetched refl
-      (ends_without result new client (fetch_by answer plan number left client after) log short (subst (IsAtWork new client) (sym (fetch_core answer plan number left client after)) w))
+      (ends_without result new client (fetch_by answer plan number left client after) log short (subst (IsAtWork new client) (sym (fetch_core answer plan number left client after)) w)) made own recorded
 
   -- where fetches gave nothing
-  pub fault_as : {A : Type 0} (bytes_fetched : W → ℕ) (holds : A → ℕ → ℕ → Type 0) (old : W) (fault : FetchError) (plan : Plan) (number : ℕ) (left : List ℕ) → Between core core → (f : FetchesAs plan.grace Stands Between bytes_fetched holds (Err fault) core log old gate)
-      → FaultEnds fault result new plan.revision client f.after log → client.request ≡ planned plan → plan.unfetched ≡ number ∷ left → SearchesAs Stands Between result new gate client core log
-  fault_as bytes_fetched holds old (World error) plan number left between f ends asked unfetched =
-      fetched_as plan number left false f.passages f.answer (Err f.says.0) f.after (some_passages plan.grace core f.passages f.answer f.after f.says.0 f.did f.says.1) f.passed f.did f.goes_on f.stands asked unfetched f.says.1 (ends f.says.0 f.says.2)
-  fault_as bytes_fetched holds old (Memory e) plan number left between f ends asked unfetched = short_as plan number left f.passages f.answer f.after between f.passed f.did f.goes_on f.stands asked unfetched ends.0 ends.1
-  fault_as bytes_fetched holds old Corrupt plan number left between f ends asked unfetched = absurd f.says
+  pub fault_as : {A : Type 0} (bytes_fetched : W → ℕ) (holds : A → ℕ → ℕ → Type 0) (fault : FetchError) (plan : Plan) (number : ℕ) (left : List ℕ) → Between core core → (f : FetchesAs plan.grace number Stands Between Adds bytes_fetched holds (Err fault) core log old gate)
+      → FaultEnds fault result new plan.revision client f.after log → client.request ≡ planned plan → plan.unfetched ≡ number ∷ left → SearchesAs Stands Between Adds old result new gate client core log
+  fault_as bytes_fetched holds (World error) plan number left between f ends asked unfetched =
+      fetched_as plan number left false f.passages f.answer (Err f.says.0) f.after (some_passages plan.grace core f.passages f.answer f.after f.says.0 f.did f.says.1) f.passed f.did f.goes_on f.stands asked unfetched f.says.1 (ends f.says.0 f.says.2) f.made f.own f.recorded
+  fault_as bytes_fetched holds (Memory e) plan number left between f ends asked unfetched = short_as plan number left f.passages f.answer f.after between f.passed f.did f.goes_on f.stands asked unfetched ends.0 ends.1 f.made f.own f.recorded
+  fault_as bytes_fetched holds Corrupt plan number left between f ends asked unfetched = absurd f.says
 
-  pub answered_as : (plan : Plan) (short : Bool) → Between core core → Stands gate core log → client.request ≡ planned plan → plan.unfetched ≡ [] →
-      Ends result new (or_short short client (reply_with plan.revision (answer_of plan log core) client core)) log → SearchesAs Stands Between result new gate client core log
-  answered_as plan short between stands asked left ends =
+  pub answered_as : (plan : Plan) (short : Bool) → Between core core → Adds old [] gate → Stands gate core log → client.request ≡ planned plan → plan.unfetched ≡ [] →
+      Ends result new (or_short short client (reply_with plan.revision (answer_of plan log core) client core)) log → SearchesAs Stands Between Adds old result new gate client core log
+  answered_as plan short between own stands asked left ends =
       let passage : Passage = record { core = core; fate = calm_fate } in
       step_as passage [] short core (or_short short client (reply_with plan.revision (answer_of plan log core) client core)) (between, tt)
       (ap (λ r. or_short short client (request_at r passage [] log client)) asked ∙ ap (λ l. or_short short client (next_at passage [] log plan l client)) left)
-      (short_core short client (reply_with plan.revision (answer_of plan log core) client core)) (on_refl core) stands ends
+      (short_core short client (reply_with plan.revision (answer_of plan log core) client core)) (by_refl Between core) stands ends [] own
+      (subst (λ r. AreCallsOf r passage [] core (or_short short client (reply_with plan.revision (answer_of plan log core) client core)).outcome []) (sym asked)
+      (subst (λ l. AreFetchesOf plan.grace l (passage ∷ []) []) (sym left) refl))
 
-  pub idle_as : Between core core → Stands gate core log → client.request ≡ no_request → Ends result new (record { outcome = Some said.Idle; client = client; core = core }) log → SearchesAs Stands Between result new gate client core log
-  idle_as between stands asked ends =
+  pub idle_as : Between core core → Adds old [] gate → Stands gate core log → client.request ≡ no_request → Ends result new (record { outcome = Some said.Idle; client = client; core = core }) log → SearchesAs Stands Between Adds old result new gate client core log
+  idle_as between own stands asked ends =
       let passage : Passage = record { core = core; fate = calm_fate } in
-      step_as passage [] false core (record { outcome = Some said.Idle; client = client; core = core }) (between, tt) (ap (λ r. request_at r passage [] log client) asked) refl (on_refl core) stands ends
+      step_as passage [] false core (record { outcome = Some said.Idle; client = client; core = core }) (between, tt) (ap (λ r. request_at r passage [] log client) asked) refl (by_refl Between core) stands ends [] own (subst (λ r. AreCallsOf r passage [] core (Some said.Idle) []) (sym asked) refl)
 
 -- ---- a step while no other actor acts
 

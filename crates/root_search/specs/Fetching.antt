@@ -2,9 +2,9 @@
 use Rattle.std.specs.Prelude.{◌≡◌, ℕ, ◌+◌, ◌≤◌, List, ◌++◌, length, max, min, take, drop, Option, Some, None, Result, Ok, Err, ⊤, slice_get}
 use Rattle.doc_value.specs.declared.schema.Schema.{Schema}
 use Rattle.index_world.specs.Calls.{Grace, Trouble, gives}
-use Rattle.index_world.specs.Core.{Core, IsStoredIn}
+use Rattle.index_world.specs.CallsMade.{CallMade}
+use Rattle.index_world.specs.Core.{Core, IsPlannedIn}
 use Rattle.index_world.specs.Gate.{IsTrouble}
-use Rattle.index_world.specs.World.{GoesOn}
 use Rattle.index_world.specs.declared.tokens.Plan.{Plan}
 use Rattle.meta_store.specs.declared.planning.PlanRow.{PlanRow}
 use Rattle.source_log.specs.Log.{Log}
@@ -17,6 +17,8 @@ use Rattle.split_bundle.specs.declared.footer.Footer.{Footer}
 use Rattle.split_bundle.specs.declared.placed.Placed.{Placed}
 use Rattle.split_bundle.specs.declared.split_error.SplitError.{SplitError}
 use Rattle.split_bundle.specs.declared.split_error.SplitError.TheVariants as splits
+use Rattle.root_search.specs.Goes.{GoesBy}
+use Rattle.root_search.specs.Recorded.{AreRecorded}
 use Rattle.root_search.specs.SplitParts.{HasNeeded, HoldsBlocks, IsFooterIn, over, pieces_at}
 use Rattle.root_search.specs.Steps.{Passage, fetched_at, ArePassed}
 use Rattle.root_search.specs.declared.fetching.FetchError.{FetchError}
@@ -24,11 +26,12 @@ use Rattle.root_search.specs.declared.fetching.FetchError.TheVariants.{Memory, W
 use Rattle.root_search.specs.declared.split_parts.KeptPiece.{KeptPiece}
 use Rattle.root_search.specs.declared.split_parts.SplitPart.{SplitPart}
 
--- the file of the planned row at a place stands with these bytes, of which the row knows how many they are
-pub record IsFileAt (core : Core) (plan : Plan) (place : ℕ) (bytes : List ℕ) : Type 0 where
+-- as long as the moment is below this one the file of the planned row at a place stands with these bytes, of which the row knows
+-- how many they are
+pub record IsFileAt (core : Core) (until : ℕ) (plan : Plan) (place : ℕ) (bytes : List ℕ) : Type 0 where
   pub row : PlanRow
   pub stands : slice_get plan.rows place ≡ Some row
-  pub stored : IsStoredIn core row.number bytes
+  pub planned : IsPlannedIn core until row.number bytes
   pub size : row.size ≡ length bytes
 
 -- what is answered of so many fetches that drew so many bytes, and the answer of the last one
@@ -38,10 +41,11 @@ SaysFetched holds many drawn (Err (World error)) answer = (trouble : Trouble) ×
 SaysFetched holds many drawn (Err (Memory e)) answer = ⊤
 SaysFetched holds many drawn (Err Corrupt) answer = ⊥
 
--- Fetches were made one after another, with what other actors did before each. By so many bytes at most the count of those that
--- were fetched through the gate rose, and this holds of what was fetched, of the number of fetches and of these bytes.
-pub record FetchesAs {W A : Type 0} (grace : Grace) (Stands : W → Core → Log → Type 0) (Between : Core → Core → Type 0) (bytes_fetched : W → ℕ) (holds : A → ℕ → ℕ → Type 0) (result : Result A FetchError)
-    (core : Core) (log : Log) (old new : W) : Type 0 where
+-- Fetches of the file with a number were made one after another, with what other actors did before each, and the gate recorded them as
+-- its own. By so many bytes at most the count of those that were fetched through the gate rose, and this holds of what was fetched,
+-- of the number of fetches and of these bytes.
+pub record FetchesAs {W A : Type 0} (grace : Grace) (number : ℕ) (Stands : W → Core → Log → Type 0) (Between : Core → Core → Type 0) (Adds : W → List CallMade → W → Type 0) (bytes_fetched : W → ℕ)
+    (holds : A → ℕ → ℕ → Type 0) (result : Result A FetchError) (core : Core) (log : Log) (old new : W) : Type 0 where
   pub passages : List Passage
   pub passed : ArePassed grace Between core passages
   pub answer : Result ⊤ Trouble
@@ -50,8 +54,11 @@ pub record FetchesAs {W A : Type 0} (grace : Grace) (Stands : W → Core → Log
   pub drawn : ℕ
   pub count : bytes_fetched new ≤ bytes_fetched old + drawn
   pub says : SaysFetched holds (length passages) drawn result answer
-  pub goes_on : GoesOn None core after
+  pub goes_on : GoesBy Between core after
   pub stands : Stands new after log
+  pub made : List CallMade
+  pub own : Adds old made new
+  pub recorded : AreRecorded grace number passages made
 
 -- so many bytes of the file from a place on, as far as it has them, in one fetch
 pub record IsPieceFetched (bytes : List ℕ) (from len : ℕ) (piece : KeptPiece) (many drawn : ℕ) : Type 0 where

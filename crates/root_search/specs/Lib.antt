@@ -9,6 +9,8 @@ pub mod SplitParts
 pub mod PartAnswers
 pub mod ReadSearches
 pub mod Steps
+pub mod Goes
+pub mod Recorded
 pub mod Fetching
 pub mod FetchCalls
 pub mod StepReads

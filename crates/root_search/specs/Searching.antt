@@ -13,17 +13,19 @@ use Rattle.index_world.specs.Configuration.{configuration}
 use Rattle.source_log.specs.Log.{Log}
 use Rattle.split_states.specs.declared.rows.Row.{Row}
 use Rattle.index_world.specs.Calls.{Fault, Trouble, faulted, no_memory}
-use Rattle.index_world.specs.Core.{Core, IsStoredIn}
+use Rattle.index_world.specs.CallsMade.{CallMade}
+use Rattle.index_world.specs.Core.{Core, IsPlannedIn, IsShownIn}
 use Rattle.index_world.specs.Gate.{IsTrouble, grace_of}
 use Rattle.index_world.specs.Seen.{contents, visible_at}
 use Rattle.index_world.specs.SplitFile.{AreSplit, file_of}
-use Rattle.index_world.specs.World.{GoesOn}
 use Rattle.root_search.specs.RowFacts.{HasFactsOf}
 use Rattle.leaf_search.specs.Answers.{IsAsked}
 use Rattle.split_bundle.specs.declared.footer.Footer.{Footer}
 use Rattle.split_bundle.specs.declared.placed.Placed.{Placed}
 use Rattle.search_api.specs.Resolved.{Search}
 use Rattle.search_api.specs.declared.reply.Refusal.{Refusal}
+use Rattle.root_search.specs.Goes.{GoesBy}
+use Rattle.root_search.specs.Recorded.{AreCallsOf}
 use Rattle.root_search.specs.LeafAsks.{Asks}
 use Rattle.root_search.specs.Footers.{entries}
 use Rattle.root_search.specs.SplitParts.{HasNeeded, IsFooterIn}
@@ -54,17 +56,19 @@ rows_at revision search core = searched (config_at revision core).schema search.
 abbrev pub documents_at : ℕ → Core → Log → Row → List Placed
 documents_at revision core log row = contents (config_at revision core) (ledger reads (history_at revision core)).tasks row log
 
--- A published row's file stands and is the split of its documents, of which the row has the facts.
-pub record IsInHand (revision : ℕ) (core : Core) (log : Log) (row : Row) : Type 0 where
-  pub file : IsStoredIn core row.number (file_of (config_at revision core) (documents_at revision core log row))
+-- A published row's file is the split of its documents, of which the row has the facts. It was shown, and as long as the moment is
+-- below this one it stands.
+pub record IsInHand (revision until : ℕ) (core : Core) (log : Log) (row : Row) : Type 0 where
+  pub shown : IsShownIn core row.number (file_of (config_at revision core) (documents_at revision core log row))
+  pub planned : IsPlannedIn core until row.number (file_of (config_at revision core) (documents_at revision core log row))
   pub split : AreSplit (config_at revision core) (documents_at revision core log row)
   pub facts : HasFactsOf (config_at revision core).schema (documents_at revision core log row) row
 
--- Each published row's does, and they hold together what is visible at the revision.
-pub record AreInHand (revision : ℕ) (core : Core) (log : Log) : Type 0 where
+-- Each published row's is, and they hold together what is visible at the revision.
+pub record AreInHand (revision until : ℕ) (core : Core) (log : Log) : Type 0 where
   pub within : revision ≤ length core.history
   pub configured : (config : IndexConfig) × (configuration (take revision core.history) ≡ Some config)
-  pub each : AllByRecursion (IsInHand revision core log) (published_at revision core)
+  pub each : AllByRecursion (IsInHand revision until core log) (published_at revision core)
   pub few : length (rows (history_at revision core)) ≤ 100000
   pub shown : IsPermutation (flat_map (documents_at revision core log) (published_at revision core)) (visible_at revision core.history log)
 
@@ -81,17 +85,17 @@ pub record IsPlanned (given : GivenPlan) (plan : Plan) (core : Core) (log : Log)
   pub place : given.next ≤ length given.plan.rows
   pub unfetched : plan.unfetched ≡ map (λ row. row.number) (drop given.next given.plan.rows)
   pub parts : AllZip (HasNeeded (config_at plan.revision core).schema given.ask.request) given.parts (map (documents_at plan.revision core log) (take given.next (rows_at plan.revision plan.search core)))
-  pub in_hand : AreInHand plan.revision core log
+  pub in_hand : AreInHand plan.revision plan.grace.until core log
 
 abbrev pub IsRequest : GivenRequest → Request → Core → Log → Type 0
 IsRequest given.Vacant request core log = request ≡ no_request
 IsRequest (given.Opened text) request core log = request ≡ opened text
 IsRequest (given.Planned search) request core log = (plan : Plan) × (request ≡ planned plan) × IsPlanned search plan core log
 
--- a footer that is kept is that of the split with its number, whose file stands
+-- a footer that is kept is that of the split that was shown under its number
 pub record IsKept (core : Core) (number : ℕ) (footer : Footer) : Type 0 where
   pub bytes : List ℕ
-  pub stored : IsStoredIn core number bytes
+  pub shown : IsShownIn core number bytes
   pub footer_is : IsFooterIn bytes footer
 
 abbrev pub AreKept : Footers → Core → Type 0
@@ -122,9 +126,10 @@ abbrev pub IsAnswer : Result SearchStep AllocError → Option SearchStep → Typ
 IsAnswer (Ok step) outcome = outcome ≡ Some step
 IsAnswer (Err e) outcome = outcome ≡ None
 
--- A step of the code is the client's step, with a passage for each of its calls, before which other actors may have acted.
-pub record SearchesAs {W : Type 0} (Stands : W → Core → Log → Type 0) (Between : Core → Core → Type 0)
-    (result : Result SearchStep AllocError) (new : Searcher) (gate : W) (client : Client) (core : Core) (log : Log) : Type 0 where
+-- A step of the code is the client's step, with a passage for each of its calls, before which other actors may have acted. The gate
+-- recorded these calls as its own.
+pub record SearchesAs {W : Type 0} (Stands : W → Core → Log → Type 0) (Between : Core → Core → Type 0) (Adds : W → List CallMade → W → Type 0)
+    (old : W) (result : Result SearchStep AllocError) (new : Searcher) (gate : W) (client : Client) (core : Core) (log : Log) : Type 0 where
   pub passage : Passage
   pub more : List Passage
   pub passed : ArePassed (grace_in client.request) Between core (passage ∷ more)
@@ -136,7 +141,10 @@ pub record SearchesAs {W : Type 0} (Stands : W → Core → Log → Type 0) (Bet
   pub says : IsAnswer result outcome
   pub searcher : SearcherStands new later after log
   pub gate_stands : Stands gate after log
-  pub goes_on : GoesOn None core after
+  pub goes_on : GoesBy Between core after
+  pub made : List CallMade
+  pub own : Adds old made gate
+  pub asks : AreCallsOf client.request passage more after outcome made
 
 -- ---- the parts of a step
 

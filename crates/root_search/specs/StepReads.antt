@@ -1,11 +1,12 @@
 -- What a step answers over the bytes that its calls gave, whatever the gate tells.
-use Rattle.std.specs.Prelude.{◌≡◌, ◌⊎◌, ℕ, ◌+◌, ◌-◌, ◌^◌, ◌≤◌, min, List, [], ◌∷◌, ◌++◌, Contains, length, Option, Some, None, Result, Ok, Err, ⊤, nat_eq, slice_get}
+use Rattle.std.specs.Prelude.{◌≡◌, ◌⊎◌, ℕ, ◌+◌, ◌-◌, ◌^◌, ◌≤◌, min, List, [], ◌∷◌, ◌++◌, length, Option, Some, None, Result, Ok, Err, ⊤, nat_eq, slice_get}
 use Rattle.std.specs.List.{AllByRecursion}
 use Rattle.std.specs.Map.{lookup}
 use Rattle.std.specs.declared.alloc.AllocError.{AllocError}
-use Rattle.doc_value.specs.declared.schema.Schema.{Schema}
 use Rattle.index_config.specs.declared.config.IndexConfig.{IndexConfig}
+use Rattle.index_world.specs.CallsMade.{CallMade}
 use Rattle.index_world.specs.Core.{Core, IsConfigured}
+use Rattle.index_world.specs.Gate.{grace_of}
 use Rattle.index_world.specs.declared.tokens.Plan.{Plan}
 use Rattle.index_world.specs.declared.world_error.WorldError.{WorldError}
 use Rattle.index_world.specs.declared.world_error.WorldError.TheVariants as errors
@@ -69,11 +70,11 @@ IsFetchRefusal number Corrupt refusal = refusal ≡ refusals.Corrupt (split_key 
 
 -- ---- a step that fetches
 
--- Where the gate stands for a core in which the row's file stands, this file is no split of the index's configuration. A footer
--- that was known may be another file's.
+-- Where the gate stands for a core in which the row's file stands within the plan's grace, this file is no split of the index's
+-- configuration. A footer that was known may be another file's.
 abbrev pub IsNoSplit : {W : Type 0} → (W → Core → Log → Type 0) → Plan → ℕ → LeafRequest → Option Footer → W → Type 0
 IsNoSplit Stands plan place r known gate =
-    (config : IndexConfig) (documents : List Placed) (p : Parts) (core : Core) (log : Log) → Stands gate core log → IsConfigured config core → IsFileAt core plan place (file_bytes p) → IsSplitOf config.schema documents p
+    (config : IndexConfig) (documents : List Placed) (p : Parts) (core : Core) (log : Log) → Stands gate core log → IsConfigured config core → IsFileAt core (grace_of config plan).until plan place (file_bytes p) → IsSplitOf config.schema documents p
     → IsAsked config.schema r → IsKnown (file_bytes p) known → ⊥
 
 -- The refusal is that of the error which the last call answered. Or it is that the file of the row with a number is corrupt, where all calls gave
@@ -104,17 +105,17 @@ SaysFetching Stands known row planned gate calls request (Ok (Replied reply)) = 
 SaysFetching Stands known row planned gate calls request (Err e) = ⊤
 
 -- It calls the gate for bytes of the row's file and answers by these. Its footer may be kept.
-pub record FetchesRow {W : Type 0} (Stands : W → Core → Log → Type 0) (Between : Core → Core → Type 0) (bytes_fetched : W → ℕ) (footers : Footers) (planned : GivenPlan) (row : PlanRow) (request : GivenRequest)
+pub record FetchesRow {W : Type 0} (Stands : W → Core → Log → Type 0) (Between : Core → Core → Type 0) (Owns : W → ℕ → Type 0) (Adds : W → List CallMade → W → Type 0) (bytes_fetched : W → ℕ) (footers : Footers) (planned : GivenPlan) (row : PlanRow) (request : GivenRequest)
     (result : Result SearchStep AllocError) (old new : W) : Type 0 where
   pub calls : List FetchCall
-  pub are : AreFetches Stands Between bytes_fetched planned.plan planned.next old calls new
+  pub are : AreFetches Stands Between Owns Adds bytes_fetched planned.plan planned.next old calls new
   pub says : SaysFetching Stands (lookup (nat_eq row.number) (entries footers)) row planned old calls request result
 
 -- a step of a planned search fetches of the next row, where there is one
-abbrev pub StepReads : {W : Type 0} → (W → Core → Log → Type 0) → (Core → Core → Type 0) → (W → ℕ) → Searcher → Searcher → Result SearchStep AllocError → W → W → Type 0
-StepReads Stands Between bytes_fetched searcher after result old new =
+abbrev pub StepReads : {W : Type 0} → (W → Core → Log → Type 0) → (Core → Core → Type 0) → (W → ℕ → Type 0) → (W → List CallMade → W → Type 0) → (W → ℕ) → Searcher → Searcher → Result SearchStep AllocError → W → W → Type 0
+StepReads Stands Between Owns Adds bytes_fetched searcher after result old new =
     (planned : GivenPlan) (row : PlanRow) → searcher.request ≡ requests.Planned planned → slice_get planned.plan.rows planned.next ≡ Some row →
-    FetchesRow Stands Between bytes_fetched searcher.footers planned row after.request result old new
+    FetchesRow Stands Between Owns Adds bytes_fetched searcher.footers planned row after.request result old new
 
 -- ---- the last step
 

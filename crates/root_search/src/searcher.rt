@@ -198,7 +198,7 @@ impl Searcher {
         ensures { (text : List ℕ) (config : configs.IndexConfig) (client : steps.Client) (core : Core) (log : Log) →
             IsConfigured config core → asked_of config text ≡ Err (reasons.Refused refusal) → client.request ≡ opened text →
             G.Stands gate.old core log → IsAtWork self.old client core →
-            SearchesAs G.Stands G.Between result self.new gate.new client core log }
+            SearchesAs G.Stands G.Between G.Adds gate.old result self.new gate.new client core log }
     {
         match gate.plan(alloc, &Choice::Look) {
             Ok(plan) => Ok(self.reply(plan.revision, Said::Refused(refusal))),
@@ -215,7 +215,7 @@ impl Searcher {
         ensures { (text : List ℕ) (search : Search) (config : configs.IndexConfig) (client : steps.Client) (core : Core) (log : Log) →
             IsConfigured config core → asked_of config text ≡ Ok search → IsRead config.schema search read → client.request ≡ opened text →
             G.Stands gate.old core log → IsAtWork self.old client core →
-            SearchesAs G.Stands G.Between result self.new gate.new client core log }
+            SearchesAs G.Stands G.Between G.Adds gate.old result self.new gate.new client core log }
     {
         match gate.plan(alloc, &read.choice) {
             Ok(plan) => {
@@ -240,7 +240,7 @@ impl Searcher {
         text: &Text,
     ) -> Result<SearchStep, AllocError>
         ensures { (client : steps.Client) (core : Core) (log : Log) → client.request ≡ opened text.now → G.Stands gate.old core log →
-            IsAtWork self.old client core → SearchesAs G.Stands G.Between result self.new gate.new client core log }
+            IsAtWork self.old client core → SearchesAs G.Stands G.Between G.Adds gate.old result self.new gate.new client core log }
     {
         match read_search(alloc, gate.config(), text.as_slice()) {
             Ok(read) => self.plan_read(alloc, gate, read),
@@ -258,12 +258,12 @@ impl Searcher {
         requires { planned.next < length planned.plan.rows }
         ensures step { (search : steps.Plan) (client : steps.Client) (core : Core) (log : Log) → IsLog log → client.request ≡ steps.planned search →
             IsPlanned planned search core log → G.Stands gate.old core log → IsAtWork self.old client core →
-            SearchesAs G.Stands G.Between result self.new gate.new client core log }
+            SearchesAs G.Stands G.Between G.Adds gate.old result self.new gate.new client core log }
         ensures draws { (search : steps.Plan) (client : steps.Client) (core : Core) (log : Log) → IsPlanned planned search core log →
             G.Stands gate.old core log → IsAtWork self.old client core →
             StepDraws self.old search result (G.bytes_fetched gate.old) (G.bytes_fetched gate.new) core }
         ensures reads { (row : PlanRow) → slice_get planned.plan.rows planned.next ≡ Some row →
-            FetchesRow G.Stands G.Between G.bytes_fetched self.old.footers planned row self.new.request result gate.old gate.new }
+            FetchesRow G.Stands G.Between G.Owns G.Adds G.bytes_fetched self.old.footers planned row self.new.request result gate.old gate.new }
     {
         let place = planned.next;
         let number = planned.plan.rows.at(place as usize).number;
@@ -290,12 +290,12 @@ impl Searcher {
     ) -> Result<SearchStep, AllocError>
         ensures step { (search : steps.Plan) (client : steps.Client) (core : Core) (log : Log) → IsLog log → client.request ≡ steps.planned search →
             IsPlanned planned search core log → G.Stands gate.old core log → IsAtWork self.old client core →
-            SearchesAs G.Stands G.Between result self.new gate.new client core log }
+            SearchesAs G.Stands G.Between G.Adds gate.old result self.new gate.new client core log }
         ensures draws { (search : steps.Plan) (client : steps.Client) (core : Core) (log : Log) → IsPlanned planned search core log →
             G.Stands gate.old core log → IsAtWork self.old client core →
             StepDraws self.old search result (G.bytes_fetched gate.old) (G.bytes_fetched gate.new) core }
         ensures reads { (row : PlanRow) → slice_get planned.plan.rows planned.next ≡ Some row →
-            FetchesRow G.Stands G.Between G.bytes_fetched self.old.footers planned row self.new.request result gate.old gate.new }
+            FetchesRow G.Stands G.Between G.Owns G.Adds G.bytes_fetched self.old.footers planned row self.new.request result gate.old gate.new }
         ensures answers { length planned.plan.rows ≤ planned.next → SaysOver G.Stands planned gate.old result }
     {
         if (planned.next as usize) < planned.plan.rows.len() {
@@ -315,13 +315,13 @@ impl Searcher {
     ) -> Result<SearchStep, AllocError>
         ensures step { (client : steps.Client) (core : Core) (log : Log) → IsLog log → G.Stands gate.old core log →
             SearcherStands self.old client core log →
-            SearchesAs G.Stands G.Between result self.new gate.new client core log }
+            SearchesAs G.Stands G.Between G.Adds gate.old result self.new gate.new client core log }
         // How many bytes are drawn where it fetches of a planned split.
         ensures draws { (search : steps.Plan) (client : steps.Client) (core : Core) (log : Log) → client.request ≡ steps.planned search →
             G.Stands gate.old core log → SearcherStands self.old client core log →
             StepDraws self.old search result (G.bytes_fetched gate.old) (G.bytes_fetched gate.new) core }
         // Whatever the gate tells: what it answers where it fetches of a planned split, by the bytes that its calls gave.
-        ensures reads { StepReads G.Stands G.Between G.bytes_fetched self.old self.new result gate.old gate.new }
+        ensures reads { StepReads G.Stands G.Between G.Owns G.Adds G.bytes_fetched self.old self.new result gate.old gate.new }
         // And where each is fetched.
         ensures answers { StepAnswers G.Stands self.old result gate.old }
     {

@@ -15,5 +15,5 @@ returns g c client core log is_log stands searcher =
       says = s.says;
       searcher = s.searcher;
       world_stands = s.gate_stands;
-      goes_on = s.goes_on;
+      goes_on = s.goes_on.alone (λ before behind same. same);
     }

@@ -16,29 +16,29 @@ use Rattle.root_search.proofs.fetching.fetch_needed.Goals as goal
 
 pub returns-in_err-footer-clause-step : goal.returns-in_err-footer-clause-step
 returns-in_err-footer-clause-step g c = λ config documents p core log stands configured file is asked known.
-    handed_on (grace_of config c.args.plan.now) g.G.Gate.Stands g.G.Gate.Between g.G.Gate.bytes_fetched core log c.args.gate.now (IsFooterFetched c.args.known p) (IsPartFetched config.schema c.args.request.now c.args.known documents p (needed_calls c.args.known)) c.in_err-footer.field-0.0 c.from_residual.result _ c.from_residual.ensures.1
+    handed_on (grace_of config c.args.plan.now) file.row.number g.G.Gate.Stands g.G.Gate.Between g.G.Gate.Adds g.G.Gate.bytes_fetched core log c.args.gate.now (IsFooterFetched c.args.known p) (IsPartFetched config.schema c.args.request.now c.args.known documents p (needed_calls c.args.known)) c.in_err-footer.field-0.0 c.from_residual.result _ c.from_residual.ensures.1
     (c.in_err-footer.ensures.step config config.schema documents p core log stands configured file is known)
 
 pub returns-in_err-blocks-clause-step : goal.returns-in_err-blocks-clause-step
 returns-in_err-blocks-clause-step g c = λ config documents p core log stands configured file is asked known.
     let k = c.in_ok-footer.ensures.step config config.schema documents p core log stands configured file is known in
-    let one = made_of (grace_of config c.args.plan.now) g.G.Gate.Stands g.G.Gate.Between g.G.Gate.bytes_fetched core log c.args.gate.now (IsFooterFetched c.args.known p) c.in_ok-footer.footer (footer_calls c.args.known) (footer_drawn c.args.known p) _ k k.says.1.calls k.says.1.few in
+    let one = made_of (grace_of config c.args.plan.now) file.row.number g.G.Gate.Stands g.G.Gate.Between g.G.Gate.Adds g.G.Gate.bytes_fetched core log c.args.gate.now (IsFooterFetched c.args.known p) c.in_ok-footer.footer (footer_calls c.args.known) (footer_drawn c.args.known p) _ k k.says.1.calls k.says.1.few in
     let foot = k.says.1.is_footer config.schema documents p is refl in
-    then_failed (grace_of config c.args.plan.now) g.G.Gate.Stands g.G.Gate.Between g.G.Gate.bytes_fetched core log c.args.gate.now (AreBlocksFetched config.schema c.args.request.now documents p c.in_ok-footer.footer) _ c.in_err-blocks.field-0.0 c.from_residual-in_err-blocks.result (footer_calls c.args.known) (footer_drawn c.args.known p) _ _ one
+    then_failed (grace_of config c.args.plan.now) file.row.number g.G.Gate.Stands g.G.Gate.Between g.G.Gate.Adds g.G.Gate.bytes_fetched core log c.args.gate.now g.met.G.Gate.adds_more (AreBlocksFetched config.schema c.args.request.now documents p c.in_ok-footer.footer) _ c.in_err-blocks.field-0.0 c.from_residual-in_err-blocks.result (footer_calls c.args.known) (footer_drawn c.args.known p) _ _ one
     c.from_residual-in_err-blocks.ensures.1
-    (c.in_err-blocks.ensures.step config documents p one.after log one.stands (configured_after core one.after config configured one.goes_on) (file_stands core one.after c.args.plan.now c.args.place (file_bytes p) one.goes_on file) is foot)
+    (c.in_err-blocks.ensures.step config documents p one.after log one.stands (configured_after core one.after config configured one.goes_on.always) (file_stands core one.after (grace_of config c.args.plan.now).until c.args.plan.now c.args.place (file_bytes p) one.goes_on.always file) is foot)
 
 pub returns-in_err-pieces-clause-step : goal.returns-in_err-pieces-clause-step
 returns-in_err-pieces-clause-step g c = λ config documents p core log stands configured file is asked known.
     let k = c.in_ok-footer.ensures.step config config.schema documents p core log stands configured file is known in
-    let one = made_of (grace_of config c.args.plan.now) g.G.Gate.Stands g.G.Gate.Between g.G.Gate.bytes_fetched core log c.args.gate.now (IsFooterFetched c.args.known p) c.in_ok-footer.footer (footer_calls c.args.known) (footer_drawn c.args.known p) _ k k.says.1.calls k.says.1.few in
+    let one = made_of (grace_of config c.args.plan.now) file.row.number g.G.Gate.Stands g.G.Gate.Between g.G.Gate.Adds g.G.Gate.bytes_fetched core log c.args.gate.now (IsFooterFetched c.args.known p) c.in_ok-footer.footer (footer_calls c.args.known) (footer_drawn c.args.known p) _ k k.says.1.calls k.says.1.few in
     let foot = k.says.1.is_footer config.schema documents p is refl in
-    let b = c.in_ok-blocks.ensures.step config documents p one.after log one.stands (configured_after core one.after config configured one.goes_on) (file_stands core one.after c.args.plan.now c.args.place (file_bytes p) one.goes_on file) is foot in
-    let two = then_given (grace_of config c.args.plan.now) g.G.Gate.Stands g.G.Gate.Between g.G.Gate.bytes_fetched core log c.args.gate.now (AreBlocksFetched config.schema c.args.request.now documents p c.in_ok-footer.footer) c.in_ok-blocks.blocks (footer_calls c.args.known) (footer_drawn c.args.known p) (length c.in_ok-blocks.blocks) (total b.says.1.held.blocks)
+    let b = c.in_ok-blocks.ensures.step config documents p one.after log one.stands (configured_after core one.after config configured one.goes_on.always) (file_stands core one.after (grace_of config c.args.plan.now).until c.args.plan.now c.args.place (file_bytes p) one.goes_on.always file) is foot in
+    let two = then_given (grace_of config c.args.plan.now) file.row.number g.G.Gate.Stands g.G.Gate.Between g.G.Gate.Adds g.G.Gate.bytes_fetched core log c.args.gate.now g.met.G.Gate.adds_more (AreBlocksFetched config.schema c.args.request.now documents p c.in_ok-footer.footer) c.in_ok-blocks.blocks (footer_calls c.args.known) (footer_drawn c.args.known p) (length c.in_ok-blocks.blocks) (total b.says.1.held.blocks)
     _ _ one b b.says.1.each b.says.1.few in
-    then_failed (grace_of config c.args.plan.now) g.G.Gate.Stands g.G.Gate.Between g.G.Gate.bytes_fetched core log c.args.gate.now (AreListsFetched config.schema c.args.request.now documents p c.in_ok-footer.footer c.in_ok-blocks.blocks) _ c.in_err-pieces.field-0.0 c.from_residual-in_err-pieces.result (footer_calls c.args.known + length c.in_ok-blocks.blocks)
+    then_failed (grace_of config c.args.plan.now) file.row.number g.G.Gate.Stands g.G.Gate.Between g.G.Gate.Adds g.G.Gate.bytes_fetched core log c.args.gate.now g.met.G.Gate.adds_more (AreListsFetched config.schema c.args.request.now documents p c.in_ok-footer.footer c.in_ok-blocks.blocks) _ c.in_err-pieces.field-0.0 c.from_residual-in_err-pieces.result (footer_calls c.args.known + length c.in_ok-blocks.blocks)
     (footer_drawn c.args.known p + total b.says.1.held.blocks) _ _ two c.from_residual-in_err-pieces.ensures.1
-    (c.in_err-pieces.ensures.step config documents p two.after log two.stands (configured_after core two.after config configured two.goes_on) (file_stands core two.after c.args.plan.now c.args.place (file_bytes p) two.goes_on file) is foot asked b.says.1.held)
+    (c.in_err-pieces.ensures.step config documents p two.after log two.stands (configured_after core two.after config configured two.goes_on.always) (file_stands core two.after (grace_of config c.args.plan.now).until c.args.plan.now c.args.place (file_bytes p) two.goes_on.always file) is foot asked b.says.1.held)
 
 pub returns-clause-step : goal.returns-clause-step
 returns-clause-step g c = λ config documents p core log stands configured file is asked known.
@@ -46,15 +46,15 @@ returns-clause-step g c = λ config documents p core log stands configured file 
     let kept = c.in_ok-blocks.blocks in
     let pieces = c.in_ok-pieces.pieces in
     let k = c.in_ok-footer.ensures.step config config.schema documents p core log stands configured file is known in
-    let one = made_of (grace_of config c.args.plan.now) g.G.Gate.Stands g.G.Gate.Between g.G.Gate.bytes_fetched core log c.args.gate.now (IsFooterFetched c.args.known p) footer (footer_calls c.args.known) (footer_drawn c.args.known p) _ k k.says.1.calls k.says.1.few in
+    let one = made_of (grace_of config c.args.plan.now) file.row.number g.G.Gate.Stands g.G.Gate.Between g.G.Gate.Adds g.G.Gate.bytes_fetched core log c.args.gate.now (IsFooterFetched c.args.known p) footer (footer_calls c.args.known) (footer_drawn c.args.known p) _ k k.says.1.calls k.says.1.few in
     let foot = k.says.1.is_footer config.schema documents p is refl in
-    let b = c.in_ok-blocks.ensures.step config documents p one.after log one.stands (configured_after core one.after config configured one.goes_on) (file_stands core one.after c.args.plan.now c.args.place (file_bytes p) one.goes_on file) is foot in
+    let b = c.in_ok-blocks.ensures.step config documents p one.after log one.stands (configured_after core one.after config configured one.goes_on.always) (file_stands core one.after (grace_of config c.args.plan.now).until c.args.plan.now c.args.place (file_bytes p) one.goes_on.always file) is foot in
     let blocks = b.says.1.held.blocks in
-    let two = then_given (grace_of config c.args.plan.now) g.G.Gate.Stands g.G.Gate.Between g.G.Gate.bytes_fetched core log c.args.gate.now (AreBlocksFetched config.schema c.args.request.now documents p footer) kept (footer_calls c.args.known) (footer_drawn c.args.known p) (length kept) (total blocks) _ _ one b b.says.1.each b.says.1.few in
-    let l = c.in_ok-pieces.ensures.step config documents p two.after log two.stands (configured_after core two.after config configured two.goes_on) (file_stands core two.after c.args.plan.now c.args.place (file_bytes p) two.goes_on file) is foot asked b.says.1.held in
+    let two = then_given (grace_of config c.args.plan.now) file.row.number g.G.Gate.Stands g.G.Gate.Between g.G.Gate.Adds g.G.Gate.bytes_fetched core log c.args.gate.now g.met.G.Gate.adds_more (AreBlocksFetched config.schema c.args.request.now documents p footer) kept (footer_calls c.args.known) (footer_drawn c.args.known p) (length kept) (total blocks) _ _ one b b.says.1.each b.says.1.few in
+    let l = c.in_ok-pieces.ensures.step config documents p two.after log two.stands (configured_after core two.after config configured two.goes_on.always) (file_stands core two.after (grace_of config c.args.plan.now).until c.args.plan.now c.args.place (file_bytes p) two.goes_on.always file) is foot asked b.says.1.held in
     let lists = l.says.1.lists in
-    let three = then_given (grace_of config c.args.plan.now) g.G.Gate.Stands g.G.Gate.Between g.G.Gate.bytes_fetched core log c.args.gate.now (AreListsFetched config.schema c.args.request.now documents p footer kept) pieces (footer_calls c.args.known + length kept) (footer_drawn c.args.known p + total blocks) (length lists) (total lists) _ _ two l l.says.1.each l.says.1.few in
-    all_done (grace_of config c.args.plan.now) g.G.Gate.Stands g.G.Gate.Between g.G.Gate.bytes_fetched core log c.args.gate.now (IsPartFetched config.schema c.args.request.now c.args.known documents p (needed_calls c.args.known)) _ (footer_calls c.args.known + length kept + length lists) (footer_drawn c.args.known p + total blocks + total lists) _ three
+    let three = then_given (grace_of config c.args.plan.now) file.row.number g.G.Gate.Stands g.G.Gate.Between g.G.Gate.Adds g.G.Gate.bytes_fetched core log c.args.gate.now g.met.G.Gate.adds_more (AreListsFetched config.schema c.args.request.now documents p footer kept) pieces (footer_calls c.args.known + length kept) (footer_drawn c.args.known p + total blocks) (length lists) (total lists) _ _ two l l.says.1.each l.says.1.few in
+    all_done (grace_of config c.args.plan.now) file.row.number g.G.Gate.Stands g.G.Gate.Between g.G.Gate.Adds g.G.Gate.bytes_fetched core log c.args.gate.now (IsPartFetched config.schema c.args.request.now c.args.known documents p (needed_calls c.args.known)) _ (footer_calls c.args.known + length kept + length lists) (footer_drawn c.args.known p + total blocks + total lists) _ three
     (record {
       needed = record { parts = p; is_split = is; footer = foot; blocks = blocks; lists = lists; are_blocks = b.says.1.held.are_blocks; are_lists = l.says.1.are_lists; pieces = all_kept pieces kept (file_bytes p) blocks lists b.says.1.held.pieces l.says.1.pieces_are };
       footer = k.says.1.is_footer;
@@ -64,21 +64,21 @@ returns-clause-step g c = λ config documents p core log stands configured file 
 
 pub returns-in_err-footer-clause-reads : goal.returns-in_err-footer-clause-reads
 returns-in_err-footer-clause-reads g c = λ row there.
-    then_lost g.G.Gate.Stands g.G.Gate.Between g.G.Gate.bytes_fetched c.args.plan.now c.args.place (IsFooterGiven c.args.known row.size) (IsPartRead c.args.known row.number row.size) (IsNoFooter c.args.known row.size) (IsNoPart c.args.known row.size) c.in_err-footer.field-0.0 c.from_residual.result [] c.args.gate.now c.args.gate.now _
-    (none_called g.G.Gate.Stands g.G.Gate.Between g.G.Gate.bytes_fetched c.args.plan.now c.args.place c.args.gate.now) c.from_residual.ensures.1 (λ ys none. inl none) (c.in_err-footer.ensures.reads row there)
+    then_lost g.G.Gate.Stands g.G.Gate.Between g.G.Gate.Owns g.G.Gate.Adds g.G.Gate.bytes_fetched c.args.plan.now c.args.place (IsFooterGiven c.args.known row.size) (IsPartRead c.args.known row.number row.size) (IsNoFooter c.args.known row.size) (IsNoPart c.args.known row.size) c.in_err-footer.field-0.0 c.from_residual.result [] c.args.gate.now c.args.gate.now _
+    (none_called g.G.Gate.Stands g.G.Gate.Between g.G.Gate.Owns g.G.Gate.Adds g.G.Gate.bytes_fetched c.args.plan.now c.args.place c.args.gate.now) c.from_residual.ensures.1 (λ ys none. inl none) (c.in_err-footer.ensures.reads row there)
 
 pub returns-in_err-blocks-clause-reads : goal.returns-in_err-blocks-clause-reads
 returns-in_err-blocks-clause-reads g c = λ row there.
     let k = c.in_ok-footer.ensures.reads row there in
-    then_lost g.G.Gate.Stands g.G.Gate.Between g.G.Gate.bytes_fetched c.args.plan.now c.args.place (AreKeptBehind []) (IsPartRead c.args.known row.number row.size) NeverRefused (IsNoPart c.args.known row.size) c.in_err-blocks.field-0.0 c.from_residual-in_err-blocks.result k.calls c.args.gate.now _ _
-    (all_of g.G.Gate.Stands g.G.Gate.Between g.G.Gate.bytes_fetched c.args.plan.now c.args.place (IsFooterGiven c.args.known row.size) (IsNoFooter c.args.known row.size) c.in_ok-footer.footer c.args.gate.now _ k) c.from_residual-in_err-blocks.ensures.1 (λ ys never. absurd never) c.in_err-blocks.ensures.reads
+    then_lost g.G.Gate.Stands g.G.Gate.Between g.G.Gate.Owns g.G.Gate.Adds g.G.Gate.bytes_fetched c.args.plan.now c.args.place (AreKeptBehind []) (IsPartRead c.args.known row.number row.size) NeverRefused (IsNoPart c.args.known row.size) c.in_err-blocks.field-0.0 c.from_residual-in_err-blocks.result k.calls c.args.gate.now _ _
+    (all_of g.G.Gate.Stands g.G.Gate.Between g.G.Gate.Owns g.G.Gate.Adds g.G.Gate.bytes_fetched c.args.plan.now c.args.place (IsFooterGiven c.args.known row.size) (IsNoFooter c.args.known row.size) c.in_ok-footer.footer c.args.gate.now _ k) c.from_residual-in_err-blocks.ensures.1 (λ ys never. absurd never) c.in_err-blocks.ensures.reads
 
 pub returns-in_err-pieces-clause-reads : goal.returns-in_err-pieces-clause-reads
 returns-in_err-pieces-clause-reads g c = λ row there.
     let k = c.in_ok-footer.ensures.reads row there in
     let b = c.in_ok-blocks.ensures.reads in
-    then_lost g.G.Gate.Stands g.G.Gate.Between g.G.Gate.bytes_fetched c.args.plan.now c.args.place (AreKeptBehind c.in_ok-blocks.blocks) (IsPartRead c.args.known row.number row.size) (λ calls. ⊤) (IsNoPart c.args.known row.size) c.in_err-pieces.field-0.0 c.from_residual-in_err-pieces.result (k.calls ++ b.calls) c.args.gate.now _ _
-    (then_all g.G.Gate.Stands g.G.Gate.Between g.G.Gate.bytes_fetched c.args.plan.now c.args.place (AreKeptBehind []) NeverRefused c.in_ok-blocks.blocks k.calls c.args.gate.now _ _ (all_of g.G.Gate.Stands g.G.Gate.Between g.G.Gate.bytes_fetched c.args.plan.now c.args.place (IsFooterGiven c.args.known row.size) (IsNoFooter c.args.known row.size) c.in_ok-footer.footer c.args.gate.now _ k) b) c.from_residual-in_err-pieces.ensures.1
+    then_lost g.G.Gate.Stands g.G.Gate.Between g.G.Gate.Owns g.G.Gate.Adds g.G.Gate.bytes_fetched c.args.plan.now c.args.place (AreKeptBehind c.in_ok-blocks.blocks) (IsPartRead c.args.known row.number row.size) (λ calls. ⊤) (IsNoPart c.args.known row.size) c.in_err-pieces.field-0.0 c.from_residual-in_err-pieces.result (k.calls ++ b.calls) c.args.gate.now _ _
+    (then_all g.G.Gate.Stands g.G.Gate.Between g.G.Gate.Owns g.G.Gate.Adds g.G.Gate.bytes_fetched c.args.plan.now c.args.place (AreKeptBehind []) NeverRefused c.in_ok-blocks.blocks k.calls c.args.gate.now _ _ (all_of g.G.Gate.Stands g.G.Gate.Between g.G.Gate.Owns g.G.Gate.Adds g.G.Gate.bytes_fetched c.args.plan.now c.args.place (IsFooterGiven c.args.known row.size) (IsNoFooter c.args.known row.size) c.in_ok-footer.footer c.args.gate.now _ k) b) c.from_residual-in_err-pieces.ensures.1
     (λ ys done. inr (record { footer = c.in_ok-footer.footer; footer_calls = k.calls; rest = b.calls ++ ys; calls_are = append_assoc k.calls b.calls ys; footer_given = k.says.1 })) c.in_err-pieces.ensures.reads
 
 pub returns-clause-reads : goal.returns-clause-reads
@@ -87,8 +87,8 @@ returns-clause-reads g c = λ row there.
     let b = c.in_ok-blocks.ensures.reads in
     let l = c.in_ok-pieces.ensures.reads in
     let same : c.at.result.now ≡ row = same_row _ c.at.result.now row c.at.ensures there in
-    let two = then_all g.G.Gate.Stands g.G.Gate.Between g.G.Gate.bytes_fetched c.args.plan.now c.args.place (AreKeptBehind []) NeverRefused c.in_ok-blocks.blocks k.calls c.args.gate.now _ _ (all_of g.G.Gate.Stands g.G.Gate.Between g.G.Gate.bytes_fetched c.args.plan.now c.args.place (IsFooterGiven c.args.known row.size) (IsNoFooter c.args.known row.size) c.in_ok-footer.footer c.args.gate.now _ k) b in
-    read_well g.G.Gate.Stands g.G.Gate.Between g.G.Gate.bytes_fetched c.args.plan.now c.args.place (IsPartRead c.args.known row.number row.size) (IsNoPart c.args.known row.size) _ ((k.calls ++ b.calls) ++ l.calls) c.args.gate.now _ (then_all g.G.Gate.Stands g.G.Gate.Between g.G.Gate.bytes_fetched c.args.plan.now c.args.place (AreKeptBehind c.in_ok-blocks.blocks) (λ calls. ⊤) c.in_ok-pieces.pieces (k.calls ++ b.calls) c.args.gate.now _ _ two l)
+    let two = then_all g.G.Gate.Stands g.G.Gate.Between g.G.Gate.Owns g.G.Gate.Adds g.G.Gate.bytes_fetched c.args.plan.now c.args.place (AreKeptBehind []) NeverRefused c.in_ok-blocks.blocks k.calls c.args.gate.now _ _ (all_of g.G.Gate.Stands g.G.Gate.Between g.G.Gate.Owns g.G.Gate.Adds g.G.Gate.bytes_fetched c.args.plan.now c.args.place (IsFooterGiven c.args.known row.size) (IsNoFooter c.args.known row.size) c.in_ok-footer.footer c.args.gate.now _ k) b in
+    read_well g.G.Gate.Stands g.G.Gate.Between g.G.Gate.Owns g.G.Gate.Adds g.G.Gate.bytes_fetched c.args.plan.now c.args.place (IsPartRead c.args.known row.number row.size) (IsNoPart c.args.known row.size) _ ((k.calls ++ b.calls) ++ l.calls) c.args.gate.now _ (then_all g.G.Gate.Stands g.G.Gate.Between g.G.Gate.Owns g.G.Gate.Adds g.G.Gate.bytes_fetched c.args.plan.now c.args.place (AreKeptBehind c.in_ok-blocks.blocks) (λ calls. ⊤) c.in_ok-pieces.pieces (k.calls ++ b.calls) c.args.gate.now _ _ two l)
     (record {
       footer_calls = k.calls;
       piece_calls = b.calls ++ l.calls;

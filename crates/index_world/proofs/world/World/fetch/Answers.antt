@@ -17,14 +17,14 @@ over_at : (o : Option IndexConfig) (planned_at : ℕ) (config : IndexConfig) →
 over_at o planned_at config e over moment h = subst (λ (o : Option IndexConfig). IfSome o (λ config. over ≡ nat_le (planned_at + config.deletion_grace) moment)) e h
 
 pub returns-then-is_over : goal.returns-then-is_over
-returns-then-is_over g c core log config row bytes s configured found p =
+returns-then-is_over g c core log config row s configured found =
     let asks = c.ask.ensures core.clock s.clock in
     let asked = world_asks _ _ core log s asks in
     let at = over_at _ _ config (configured-kept _ (asked_clock core) log config asked configured) _ _ c.is_over.ensures in
-    expires (grace_of config c.args.plan.now) _ core log bytes c.args.from c.args.len _ (ap (λ (k : Keeping). k.moment) c.self-2.view_is) asked s.timely (sym at ∙ c.if-is_over.true)
+    expires (grace_of config c.args.plan.now) row.number _ core log c.args.from c.args.len _ (ap (λ (k : Keeping). k.moment) c.self-2.view_is) asked s.timely (sym at ∙ c.if-is_over.true)
 
 pub returns : goal.returns
-returns g c core log config row bytes s configured found p =
+returns g c core log config row s configured found =
     let asks = c.ask.ensures core.clock s.clock in
     let asked = world_asks _ _ core log s asks in
     let t = subst (λ (k : Keeping). WorldStands k (asked_clock core) log) (sym c.self-2.view_is) asked in
@@ -36,6 +36,6 @@ returns g c core log config row bytes s configured found p =
     let at = over_at _ _ config (configured-kept _ (asked_clock core) log config asked configured) _ _ c.is_over.ensures in
     let within = ap (nat_le (c.args.plan.now.moment + config.deletion_grace)) (sym asked.moment) ∙ sym at ∙ c.if-is_over.false in
     let early : (asked_clock core).moment < c.args.plan.now.moment + config.deletion_grace = grind (within, arith, nat_tests) in
-    fetches (grace_of config c.args.plan.now) _ _ _ _ _ c.self-2.inside.life _ core log t s.timely row.number _ bytes c.args.from c.args.len c.faults-before.result c.faults-after.result c.get-answer.result c.match-answer.result early p (c.split_key-key.ensures ∙ ap (λ (r : PlanRow). split_key r.number) is)
+    fetches (grace_of config c.args.plan.now) _ _ _ _ _ c.self-2.inside.life _ core log t s.timely row.number _ c.args.from c.args.len c.faults-before.result c.faults-after.result c.get-answer.result c.match-answer.result early (c.split_key-key.ensures ∙ ap (λ (r : PlanRow). split_key r.number) is)
     c.get-answer.ensures.step c.get-answer.ensures.cause (omega (arith, count, fits)) (c.faults-before.ensures ∙ counts ∙ s.store_faults) count
     (elim c.match-answer.branch [ in-Ok v ↦ inl (v.in-Ok.piece, v.in-Ok.is, v.result-is) | in-Err v ↦ inr (v.in-Err.error, v.in-Err.is, v.result-is ∙ ap Err v.get_error.ensures) ])

@@ -8,9 +8,12 @@ returns-then-not-batch-clause-step g c = λ indexer core read made s stands b m 
 
 pub returns-then-batch-eq0-clause-step : goal.returns-then-batch-eq0-clause-step
 returns-then-batch-eq0-clause-step g c = λ indexer core read made s stands b m k.
-    ends_empty g.L.SourceLog.told g.L.SourceLog.fault_count g.G.Gate.Stands g.G.Gate.Between indexer core read c.args.self.now c.args.gate.now s made (sym b.closed ∙ not_false c.args.batch.closed c.if-not-batch.false)
-    (eq-eqb made.count 0 (sym b.count ∙ c.if-batch-eq0.true)) stands (g.met.G.Gate.none_between core)
+    ends_empty g.L.SourceLog.told g.L.SourceLog.fault_count g.G.Gate.Stands g.G.Gate.Between g.G.Gate.Owns g.G.Gate.Adds indexer core read c.args.self.now c.args.gate.now c.args.gate.now s made (sym b.closed ∙ not_false c.args.batch.closed c.if-not-batch.false)
+    (eq-eqb made.count 0 (sym b.count ∙ c.if-batch-eq0.true)) stands (g.met.G.Gate.none_between core) (g.met.G.Gate.adds_none c.args.gate.now)
 
 pub returns-clause-step : goal.returns-clause-step
 returns-clause-step g c = λ indexer core read made s stands b m k.
     c.stage.ensures.step indexer core read made s stands b m k (sym b.closed ∙ not_false c.args.batch.closed c.if-not-batch.false) (λ e. c.if-batch-eq0.false (b.count ∙ e))
+
+pub returns-then-batch-eq0-clause-later_gate : goal.returns-then-batch-eq0-clause-later_gate
+returns-then-batch-eq0-clause-later_gate g c = g.met.G.Gate.since_same c.args.gate.now

@@ -5,9 +5,10 @@ use Rattle.doc_value.specs.Documents.{IsSchema}
 use Rattle.index_config.specs.declared.config.IndexConfig.{IndexConfig}
 use Rattle.index_world.specs.Core.{last_count, IsConfigured}
 use Rattle.indexing_run.specs.Places.{idle}
-use Rattle.indexing_run.specs.Standing.{PlaceStands}
+use Rattle.indexing_run.specs.Standing.{PlaceStands, HoldsOwn}
 use Rattle.indexing_run.proofs.Stepping.{idle_stays, no_answer}
 use Rattle.indexing_run.proofs.Reading.{names_later, names_as, names_failed, names_short, names_fault, marks_fail, marks_short, begins}
+use Rattle.indexing_run.proofs.Holding.{own_later}
 use Rattle.indexing_run.proofs.indexer.Indexer.take_checkpoints.Goals as goal
 
 pub returns-in-Err-Memory-clause-step : goal.returns-in-Err-Memory-clause-step
@@ -18,8 +19,8 @@ returns-in-Err-Memory-clause-step g c = λ indexer core read s stands.
     let later : indexer.log_faults ≤ c.faults-after.result = (let n = c.faults-after.ensures.count in let f = s.log_faults in omega (arith, first, n, f)) in
     let within : c.faults-after.result ≤ last_count = (let i = c.faults-after.type_inv in omega (arith, i)) in
     let place = subst (λ k. PlaceStands read core k idle) (sym c.names-names.ensures.place) s.place in
-    names_short g.L.SourceLog.told g.L.SourceLog.fault_count g.G.Gate.Stands g.G.Gate.Between indexer core read c.args.self.now c.args.gate.now s c.faults-after.result
-    next (c.names-names.ensures.told read s.told) (sym c.faults-after.ensures.count) c.names-names.ensures.assignment later within next.place (Err c.in-Err-Memory.refused) place tt stands (g.met.G.Gate.none_between core)
+    names_short g.L.SourceLog.told g.L.SourceLog.fault_count g.G.Gate.Stands g.G.Gate.Between g.G.Gate.Owns g.G.Gate.Adds indexer core read c.args.self.now c.args.gate.now c.args.gate.now s c.faults-after.result
+    next (c.names-names.ensures.told read s.told) (sym c.faults-after.ensures.count) c.names-names.ensures.assignment later within next.place (Err c.in-Err-Memory.refused) place tt stands (g.met.G.Gate.none_between core) (g.met.G.Gate.adds_none c.args.gate.now)
 
 pub returns-in-Err-Failed-clause-step : goal.returns-in-Err-Failed-clause-step
 returns-in-Err-Failed-clause-step g c = λ indexer core read s stands.
@@ -33,8 +34,8 @@ returns-in-Err-Failed-clause-step g c = λ indexer core read s stands.
     let here = names_as c.args.self.now.assignment indexer.assignment c.names-names.result (Err Failed) (g.L.SourceLog.fault_count c.args.self.now.log) indexer.log_faults (g.L.SourceLog.fault_count c.names-names.new.self.log)
     c.faults-after.result read s.assignment (c.in-Err-Failed.is ∙ ap Err field) s.log_faults (sym c.faults-after.ensures.count) given in
     let failed = names_failed indexer.assignment indexer.log_faults c.faults-after.result read here in
-    names_fault g.L.SourceLog.told g.L.SourceLog.fault_count g.G.Gate.Stands g.G.Gate.Between indexer core read c.args.self.now c.args.gate.now s c.faults-after.result
-    next (c.names-names.ensures.told read s.told) (sym c.faults-after.ensures.count) c.names-names.ensures.assignment later within next.place c.faults-before.result place (c.faults-before.ensures.count ∙ s.log_faults) failed.0 failed.1 stands (g.met.G.Gate.none_between core)
+    names_fault g.L.SourceLog.told g.L.SourceLog.fault_count g.G.Gate.Stands g.G.Gate.Between g.G.Gate.Owns g.G.Gate.Adds indexer core read c.args.self.now c.args.gate.now c.args.gate.now s c.faults-after.result
+    next (c.names-names.ensures.told read s.told) (sym c.faults-after.ensures.count) c.names-names.ensures.assignment later within next.place c.faults-before.result place (c.faults-before.ensures.count ∙ s.log_faults) failed.0 failed.1 stands (g.met.G.Gate.none_between core) (g.met.G.Gate.adds_none c.args.gate.now)
 
 pub returns-in_err-config-in-Ok-checkpoints-clause-step : goal.returns-in_err-config-in-Ok-checkpoints-clause-step
 returns-in_err-config-in-Ok-checkpoints-clause-step g c = λ indexer core read s stands.
@@ -46,7 +47,7 @@ returns-in_err-config-in-Ok-checkpoints-clause-step g c = λ indexer core read s
     let place = subst (λ k. PlaceStands read core k idle) (sym c.names-names.ensures.place) s.place in
     let here = names_as c.args.self.now.assignment indexer.assignment c.names-names.result (Ok c.in-Ok.names) (g.L.SourceLog.fault_count c.args.self.now.log) indexer.log_faults (g.L.SourceLog.fault_count c.names-names.new.self.log)
     c.faults-after.result read s.assignment c.in-Ok.is s.log_faults (sym c.faults-after.ensures.count) given in
-    marks_short g.L.SourceLog.told g.L.SourceLog.fault_count g.G.Gate.Stands g.G.Gate.Between indexer core read c.args.self.now c.checkpoints.new.self s c.faults-after.result
+    marks_short g.L.SourceLog.told g.L.SourceLog.fault_count g.G.Gate.Stands g.G.Gate.Between g.G.Gate.Owns g.G.Gate.Adds indexer core read c.args.self.now c.args.gate.now c.checkpoints.new.self s c.faults-after.result
     next (c.names-names.ensures.told read s.told) (sym c.faults-after.ensures.count) c.names-names.ensures.assignment later within c.in-Ok.names here next.place c.in-Ok-checkpoints.marks c.from_residual.result
     (λ after. idle_stays read core after next.place place) (no_answer c.from_residual.result c.from_residual.ensures.0) (c.in-Ok-checkpoints.ensures.step core read stands)
 
@@ -60,7 +61,7 @@ returns-in_err-begin-in-Ok-checkpoints-clause-step g c = λ indexer core read s 
     let place = subst (λ k. PlaceStands read core k idle) (sym c.names-names.ensures.place) s.place in
     let here = names_as c.args.self.now.assignment indexer.assignment c.names-names.result (Ok c.in-Ok.names) (g.L.SourceLog.fault_count c.args.self.now.log) indexer.log_faults (g.L.SourceLog.fault_count c.names-names.new.self.log)
     c.faults-after.result read s.assignment c.in-Ok.is s.log_faults (sym c.faults-after.ensures.count) given in
-    marks_short g.L.SourceLog.told g.L.SourceLog.fault_count g.G.Gate.Stands g.G.Gate.Between indexer core read c.args.self.now c.checkpoints.new.self s c.faults-after.result
+    marks_short g.L.SourceLog.told g.L.SourceLog.fault_count g.G.Gate.Stands g.G.Gate.Between g.G.Gate.Owns g.G.Gate.Adds indexer core read c.args.self.now c.args.gate.now c.checkpoints.new.self s c.faults-after.result
     next (c.names-names.ensures.told read s.told) (sym c.faults-after.ensures.count) c.names-names.ensures.assignment later within c.in-Ok.names here next.place c.in-Ok-checkpoints.marks c.from_residual-in_err-begin-in-Ok-checkpoints.result
     (λ after. idle_stays read core after next.place place) (no_answer c.from_residual-in_err-begin-in-Ok-checkpoints.result c.from_residual-in_err-begin-in-Ok-checkpoints.ensures.0) (c.in-Ok-checkpoints.ensures.step core read stands)
 
@@ -74,7 +75,7 @@ returns-in-Ok-checkpoints-clause-step g c = λ indexer core read s stands.
     let place = subst (λ k. PlaceStands read core k idle) (sym c.names-names.ensures.place) s.place in
     let here = names_as c.args.self.now.assignment indexer.assignment c.names-names.result (Ok c.in-Ok.names) (g.L.SourceLog.fault_count c.args.self.now.log) indexer.log_faults (g.L.SourceLog.fault_count c.names-names.new.self.log)
     c.faults-after.result read s.assignment c.in-Ok.is s.log_faults (sym c.faults-after.ensures.count) given in
-    begins g.L.SourceLog.told g.L.SourceLog.fault_count g.G.Gate.Stands g.G.Gate.Between indexer core read c.args.self.now c.checkpoints.new.self s c.faults-after.result
+    begins g.L.SourceLog.told g.L.SourceLog.fault_count g.G.Gate.Stands g.G.Gate.Between g.G.Gate.Owns g.G.Gate.Adds indexer core read c.args.self.now c.args.gate.now c.checkpoints.new.self s c.faults-after.result
     next (c.names-names.ensures.told read s.told) (sym c.faults-after.ensures.count) c.names-names.ensures.assignment later within c.in-Ok.names here c.in_ok-config-in-Ok-checkpoints.config c.in_ok-begin-in-Ok-checkpoints.field-0 c.in-Ok-checkpoints.marks
     (subst IsToldLog s.told c.faults-before.ensures.sound)
     (λ after st. subst (λ (x : IndexConfig). IsConfigured x after) (sym c.in_ok-config-in-Ok-checkpoints.ensures) (c.config.ensures.step after read st)) c.in_ok-begin-in-Ok-checkpoints.ensures (c.in-Ok-checkpoints.ensures.step core read stands)
@@ -89,9 +90,30 @@ returns-clause-step g c = λ indexer core read s stands.
     let place = subst (λ k. PlaceStands read core k idle) (sym c.names-names.ensures.place) s.place in
     let here = names_as c.args.self.now.assignment indexer.assignment c.names-names.result (Ok c.in-Ok.names) (g.L.SourceLog.fault_count c.args.self.now.log) indexer.log_faults (g.L.SourceLog.fault_count c.names-names.new.self.log)
     c.faults-after.result read s.assignment c.in-Ok.is s.log_faults (sym c.faults-after.ensures.count) given in
-    marks_fail g.L.SourceLog.told g.L.SourceLog.fault_count g.G.Gate.Stands g.G.Gate.Between indexer core read c.args.self.now c.checkpoints.new.self s c.faults-after.result
+    marks_fail g.L.SourceLog.told g.L.SourceLog.fault_count g.G.Gate.Stands g.G.Gate.Between g.G.Gate.Owns g.G.Gate.Adds indexer core read c.args.self.now c.args.gate.now c.checkpoints.new.self s c.faults-after.result
     next (c.names-names.ensures.told read s.told) (sym c.faults-after.ensures.count) c.names-names.ensures.assignment later within c.in-Ok.names here next.place c.in-Err.error c.faulted.result
     (λ after. idle_stays read core after next.place place) c.faulted.ensures (c.in-Err.ensures.step core read stands)
 
 pub begin-requires : goal.begin-requires
 begin-requires g c = subst (λ (x : IndexConfig). ∥ IsSchema x.schema ∥₁) (sym c.in_ok-config-in-Ok-checkpoints.ensures) c.config.ensures.schema
+
+pub returns-in-Err-Memory-clause-later_gate : goal.returns-in-Err-Memory-clause-later_gate
+returns-in-Err-Memory-clause-later_gate g c = g.met.G.Gate.since_same c.args.gate.now
+
+pub returns-in-Err-Failed-clause-later_gate : goal.returns-in-Err-Failed-clause-later_gate
+returns-in-Err-Failed-clause-later_gate g c = g.met.G.Gate.since_same c.args.gate.now
+
+pub returns-in-Err-Memory-clause-owns : goal.returns-in-Err-Memory-clause-owns
+returns-in-Err-Memory-clause-owns g c = λ h. subst (HoldsOwn g.G.Gate.Owns c.args.gate.now) (sym c.names-names.ensures.place) h
+
+pub returns-in-Err-Failed-clause-owns : goal.returns-in-Err-Failed-clause-owns
+returns-in-Err-Failed-clause-owns g c = λ h. subst (HoldsOwn g.G.Gate.Owns c.args.gate.now) (sym c.names-names.ensures.place) h
+
+pub returns-in_err-config-in-Ok-checkpoints-clause-owns : goal.returns-in_err-config-in-Ok-checkpoints-clause-owns
+returns-in_err-config-in-Ok-checkpoints-clause-owns g c = λ h. own_later g.G.Gate.Owns g.G.Gate.since g.met.G.Gate.since_owns c.args.gate.now c.checkpoints.new.self c.names-names.new.self.place c.checkpoints.ensures.later (subst (HoldsOwn g.G.Gate.Owns c.args.gate.now) (sym c.names-names.ensures.place) h)
+
+pub returns-in_err-begin-in-Ok-checkpoints-clause-owns : goal.returns-in_err-begin-in-Ok-checkpoints-clause-owns
+returns-in_err-begin-in-Ok-checkpoints-clause-owns g c = λ h. own_later g.G.Gate.Owns g.G.Gate.since g.met.G.Gate.since_owns c.args.gate.now c.checkpoints.new.self c.names-names.new.self.place c.checkpoints.ensures.later (subst (HoldsOwn g.G.Gate.Owns c.args.gate.now) (sym c.names-names.ensures.place) h)
+
+pub returns-clause-owns : goal.returns-clause-owns
+returns-clause-owns g c = λ h. own_later g.G.Gate.Owns g.G.Gate.since g.met.G.Gate.since_owns c.args.gate.now c.checkpoints.new.self c.names-names.new.self.place c.checkpoints.ensures.later (subst (HoldsOwn g.G.Gate.Owns c.args.gate.now) (sym c.names-names.ensures.place) h)

@@ -1,7 +1,8 @@
-use Rattle.std.proofs.Common.{◌≡◌, ◌+◌, ℕ, length, nat_eq, refl, sym, ap, subst, ◌∙◌, Ok, None, false, map, drop, arith, Option, Some}
+use Rattle.std.proofs.Common.{◌≡◌, ◌+◌, ℕ, length, nat_eq, refl, sym, ap, subst, ◌∙◌, Ok, false, map, drop, arith}
 use Rattle.std.specs.Map.{lookup}
 use Rattle.index_world.specs.Gate.{grace_of}
-use Rattle.index_world.specs.Core.{IsStoredIn}
+use Rattle.index_world.specs.Core.{IsStoredIn, Nobody}
+use Rattle.index_world.proofs.InCore.{shown_goes}
 use Rattle.meta_store.specs.declared.planning.PlanRow.{PlanRow}
 use Rattle.split_bundle.specs.Files.{file_bytes}
 use Rattle.root_search.specs.Fetching.{IsPartFetched, part_calls}
@@ -25,16 +26,16 @@ returns-in_err-push-in-Ok-clause-step g c plan client core log good asked planne
     let row = c.at.result.now in
     let next = next_row c.args.planned plan core log row planned c.at.ensures in
     let left = map (λ (r : PlanRow). r.number) (drop (c.args.planned.next + 1) c.args.planned.plan.rows) in
-    let configured = configured_then core log plan.revision (g.met.G.Gate.is_sound c.args.gate.now core log stands) planned.in_hand in
+    let configured = configured_then core log plan.revision plan.grace.until (g.met.G.Gate.is_sound c.args.gate.now core log stands) planned.in_hand in
     let docs = documents_at plan.revision core log next.row in
     let p = next.split.stands.parts in
     let there = file_of_next c.args.planned plan core log row p next c.at.ensures next.split.stands.bytes_are in
     let known = known_footer c.args.self.now.footers core row.number (file_bytes p) c.take-known.result w.footers there.0 c.take-known.ensures.found in
-    let f = graced _ _ _ _ _ _ _ _ _ _ _ (sym planned.grace) (c.in-Ok.ensures.step (config_at plan.revision core) docs p core log stands configured there.1 next.split.stands.is_split planned.asked known) in
-    let kept = more_kept c.take-known.new.self c.keep.new.self f.after row.number c.in-Ok.part.footer c.keep.ensures (record { bytes = file_bytes p; stored = f.goes_on.keeps.stored row.number (file_bytes p) there.0; footer_is = f.says.1.footer })
-    (footers_go_on None c.take-known.new.self core f.after f.goes_on (fewer_kept c.args.self.now.footers c.take-known.new.self core row.number c.take-known.ensures.left w.footers)) in
-    short_as g.G.Gate.Stands g.G.Gate.Between _ _ _ client core log plan row.number left f.passages f.answer f.after (g.met.G.Gate.none_between core) f.passed f.did f.goes_on f.stands asked next.left c.from_residual.ensures.0
-    (record { vacant = w.vacant; name = w.name; front = w.front; footers = kept })
+    let f = graced _ _ _ _ _ _ _ _ _ _ _ _ _ (sym planned.grace) (c.in-Ok.ensures.step (config_at plan.revision core) docs p core log stands configured there.1 next.split.stands.is_split planned.asked known) in
+    let kept = more_kept c.take-known.new.self c.keep.new.self f.after row.number c.in-Ok.part.footer c.keep.ensures (record { bytes = file_bytes p; shown = shown_goes Nobody core f.after row.number (file_bytes p) f.goes_on.always there.0; footer_is = f.says.1.footer })
+    (footers_go_on Nobody c.take-known.new.self core f.after f.goes_on.always (fewer_kept c.args.self.now.footers c.take-known.new.self core row.number c.take-known.ensures.left w.footers)) in
+    short_as g.G.Gate.Stands g.G.Gate.Between g.G.Gate.Adds c.args.gate.now _ _ _ client core log plan row.number left f.passages f.answer f.after (g.met.G.Gate.none_between core) f.passed f.did f.goes_on f.stands asked next.left c.from_residual.ensures.0
+    (record { vacant = w.vacant; name = w.name; front = w.front; footers = kept }) f.made f.own f.recorded
 
 pub returns-in_err-push-in-Ok-clause-draws : goal.returns-in_err-push-in-Ok-clause-draws
 returns-in_err-push-in-Ok-clause-draws g c plan client core log planned stands w number documents p fetched uploaded is =
@@ -45,17 +46,17 @@ returns-in_ok-push-in-Ok-clause-step g c plan client core log good asked planned
     let row = c.at.result.now in
     let next = next_row c.args.planned plan core log row planned c.at.ensures in
     let left = map (λ (r : PlanRow). r.number) (drop (c.args.planned.next + 1) c.args.planned.plan.rows) in
-    let configured = configured_then core log plan.revision (g.met.G.Gate.is_sound c.args.gate.now core log stands) planned.in_hand in
+    let configured = configured_then core log plan.revision plan.grace.until (g.met.G.Gate.is_sound c.args.gate.now core log stands) planned.in_hand in
     let docs = documents_at plan.revision core log next.row in
     let p = next.split.stands.parts in
     let there = file_of_next c.args.planned plan core log row p next c.at.ensures next.split.stands.bytes_are in
     let known = known_footer c.args.self.now.footers core row.number (file_bytes p) c.take-known.result w.footers there.0 c.take-known.ensures.found in
-    let f = graced _ _ _ _ _ _ _ _ _ _ _ (sym planned.grace) (c.in-Ok.ensures.step (config_at plan.revision core) docs p core log stands configured there.1 next.split.stands.is_split planned.asked known) in
-    let kept = more_kept c.take-known.new.self c.keep.new.self f.after row.number c.in-Ok.part.footer c.keep.ensures (record { bytes = file_bytes p; stored = f.goes_on.keeps.stored row.number (file_bytes p) there.0; footer_is = f.says.1.footer })
-    (footers_go_on None c.take-known.new.self core f.after f.goes_on (fewer_kept c.args.self.now.footers c.take-known.new.self core row.number c.take-known.ensures.left w.footers)) in
+    let f = graced _ _ _ _ _ _ _ _ _ _ _ _ _ (sym planned.grace) (c.in-Ok.ensures.step (config_at plan.revision core) docs p core log stands configured there.1 next.split.stands.is_split planned.asked known) in
+    let kept = more_kept c.take-known.new.self c.keep.new.self f.after row.number c.in-Ok.part.footer c.keep.ensures (record { bytes = file_bytes p; shown = shown_goes Nobody core f.after row.number (file_bytes p) f.goes_on.always there.0; footer_is = f.says.1.footer })
+    (footers_go_on Nobody c.take-known.new.self core f.after f.goes_on.always (fewer_kept c.args.self.now.footers c.take-known.new.self core row.number c.take-known.ensures.left w.footers)) in
     let many = planned_few c.args.planned plan core log planned in
     let calls : length f.passages ≡ part_calls c.take-known.result c.in-Ok.part = f.says.1.calls_are in
-    fetched_as g.G.Gate.Stands g.G.Gate.Between _ _ _ client core log plan row.number left false f.passages f.answer (Ok tt) f.after (omega (arith, calls)) f.passed f.did f.goes_on f.stands asked next.left f.says.0
+    fetched_as g.G.Gate.Stands g.G.Gate.Between g.G.Gate.Adds c.args.gate.now _ _ _ client core log plan row.number left false f.passages f.answer (Ok tt) f.after (omega (arith, calls)) f.passed f.did f.goes_on f.stands asked next.left f.says.0
     (record {
       says = refl;
       stands = record {
@@ -65,20 +66,20 @@ returns-in_ok-push-in-Ok-clause-step g c plan client core log good asked planned
         request = (
           record plan { unfetched = left },
           refl,
-          one_more c.args.planned _ plan core f.after log row.number row.size c.in-Ok.part planned next f.goes_on refl refl (omega (arith, c.saturating_add.ensures, c.requires, many)) c.in_ok-push-in-Ok.ensures.ok f.says.1.needed,
+          one_more c.args.planned _ plan core f.after log row.number row.size c.in-Ok.part planned next f.goes_on.always refl refl (omega (arith, c.saturating_add.ensures, c.requires, many)) c.in_ok-push-in-Ok.ensures.ok f.says.1.needed,
         );
       };
-    })
+    }) f.made f.own f.recorded
 
 pub returns-in_ok-push-in-Ok-clause-draws : goal.returns-in_ok-push-in-Ok-clause-draws
 returns-in_ok-push-in-Ok-clause-draws g c plan client core log planned stands w number documents p fetched uploaded is =
     let row = c.at.result.now in
     let next = next_row c.args.planned plan core log row planned c.at.ensures in
-    let configured = configured_then core log plan.revision (g.met.G.Gate.is_sound c.args.gate.now core log stands) planned.in_hand in
+    let configured = configured_then core log plan.revision plan.grace.until (g.met.G.Gate.is_sound c.args.gate.now core log stands) planned.in_hand in
     let same : row.number ≡ number = cc in
-    let there = file_of_next c.args.planned plan core log row p next c.at.ensures (same_bytes core row.number _ (file_bytes p) next.uploaded (subst (λ (n : ℕ). IsStoredIn core n (file_bytes p)) (sym same) uploaded)) in
+    let there = file_of_next c.args.planned plan core log row p next c.at.ensures (same_bytes core row.number _ (file_bytes p) next.shown (subst (λ (n : ℕ). IsStoredIn core n (file_bytes p)) (sym same) uploaded)) in
     let known = known_footer c.args.self.now.footers core row.number (file_bytes p) c.take-known.result w.footers there.0 c.take-known.ensures.found in
-    let f = graced _ _ _ _ _ _ _ _ _ _ _ (sym planned.grace) (c.in-Ok.ensures.step (config_at plan.revision core) documents p core log stands configured there.1 is planned.asked known) in
+    let f = graced _ _ _ _ _ _ _ _ _ _ _ _ _ (sym planned.grace) (c.in-Ok.ensures.step (config_at plan.revision core) documents p core log stands configured there.1 is planned.asked known) in
     step_draws c.args.self.now (config_at plan.revision core).schema plan.search c.args.planned.ask c.take-known.result number documents p c.in-Ok.part.footer f.drawn _ _ is (f.says.1.footer (config_at plan.revision core).schema documents p is refl) planned.asks planned.asked f.says.1.draws f.count
     (c.take-known.ensures.found ∙ ap (λ (n : ℕ). lookup (nat_eq n) (entries c.args.self.now.footers)) same)
 
@@ -87,14 +88,14 @@ returns-in-Err-clause-step g c plan client core log good asked planned stands w 
     let row = c.at.result.now in
     let next = next_row c.args.planned plan core log row planned c.at.ensures in
     let left = map (λ (r : PlanRow). r.number) (drop (c.args.planned.next + 1) c.args.planned.plan.rows) in
-    let configured = configured_then core log plan.revision (g.met.G.Gate.is_sound c.args.gate.now core log stands) planned.in_hand in
+    let configured = configured_then core log plan.revision plan.grace.until (g.met.G.Gate.is_sound c.args.gate.now core log stands) planned.in_hand in
     let docs = documents_at plan.revision core log next.row in
     let p = next.split.stands.parts in
     let there = file_of_next c.args.planned plan core log row p next c.at.ensures next.split.stands.bytes_are in
     let known = known_footer c.args.self.now.footers core row.number (file_bytes p) c.take-known.result w.footers there.0 c.take-known.ensures.found in
-    let f = graced _ _ _ _ _ _ _ _ _ _ _ (sym planned.grace) (c.in-Err.ensures.step (config_at plan.revision core) docs p core log stands configured there.1 next.split.stands.is_split planned.asked known) in
-    let ends = c.refuse_fetch.ensures.step client f.after log (work_goes_on _ client core f.after f.goes_on (record { vacant = w.vacant; name = w.name; front = w.front; footers = fewer_kept c.args.self.now.footers c.take-known.new.self core row.number c.take-known.ensures.left w.footers })) in
-    fault_as g.G.Gate.Stands g.G.Gate.Between _ _ _ client core log g.G.Gate.bytes_fetched (IsPartFetched (config_at plan.revision core).schema c.args.planned.ask.request c.take-known.result docs p (part_calls c.take-known.result)) c.args.gate.now c.in-Err.fault plan row.number left
+    let f = graced _ _ _ _ _ _ _ _ _ _ _ _ _ (sym planned.grace) (c.in-Err.ensures.step (config_at plan.revision core) docs p core log stands configured there.1 next.split.stands.is_split planned.asked known) in
+    let ends = c.refuse_fetch.ensures.step client f.after log (work_goes_on _ client core f.after f.goes_on.always (record { vacant = w.vacant; name = w.name; front = w.front; footers = fewer_kept c.args.self.now.footers c.take-known.new.self core row.number c.take-known.ensures.left w.footers })) in
+    fault_as g.G.Gate.Stands g.G.Gate.Between g.G.Gate.Adds c.args.gate.now _ _ _ client core log g.G.Gate.bytes_fetched (IsPartFetched (config_at plan.revision core).schema c.args.planned.ask.request c.take-known.result docs p (part_calls c.take-known.result)) c.in-Err.fault plan row.number left
     (g.met.G.Gate.none_between core) f (subst (λ (r : ℕ). FaultEnds c.in-Err.fault c.refuse_fetch.result c.refuse_fetch.new.self r client f.after log) planned.revision ends) asked next.left
 
 pub returns-in-Err-clause-draws : goal.returns-in-Err-clause-draws
@@ -105,21 +106,21 @@ returns-in_err-push-in-Ok-clause-reads g c row there =
     let same : c.at.result.now ≡ row = same_row _ c.at.result.now row c.at.ensures there in
     let number : c.at.result.now.number ≡ row.number = ap (λ (r : PlanRow). r.number) same in
     let found = c.take-known.ensures.found ∙ ap (λ (n : ℕ). lookup (nat_eq n) (entries c.args.self.now.footers)) number in
-    row_short g.G.Gate.Stands g.G.Gate.Between g.G.Gate.bytes_fetched c.args.self.now.footers c.args.planned row _ c.args.gate.now _ c.take-known.result found (IsPartRead c.take-known.result row.number row.size) (IsNoPart c.take-known.result row.size) _ c.from_residual.result (c.in-Ok.ensures.reads row there) c.from_residual.ensures.0
+    row_short g.G.Gate.Stands g.G.Gate.Between g.G.Gate.Owns g.G.Gate.Adds g.G.Gate.bytes_fetched c.args.self.now.footers c.args.planned row _ c.args.gate.now _ c.take-known.result found (IsPartRead c.take-known.result row.number row.size) (IsNoPart c.take-known.result row.size) _ c.from_residual.result (c.in-Ok.ensures.reads row there) c.from_residual.ensures.0
 
 pub returns-in_ok-push-in-Ok-clause-reads : goal.returns-in_ok-push-in-Ok-clause-reads
 returns-in_ok-push-in-Ok-clause-reads g c row there =
     let same : c.at.result.now ≡ row = same_row _ c.at.result.now row c.at.ensures there in
     let number : c.at.result.now.number ≡ row.number = ap (λ (r : PlanRow). r.number) same in
     let found = c.take-known.ensures.found ∙ ap (λ (n : ℕ). lookup (nat_eq n) (entries c.args.self.now.footers)) number in
-    row_read g.G.Gate.Stands g.G.Gate.Between g.G.Gate.bytes_fetched c.args.self.now.footers c.args.planned row _ c.args.gate.now _ c.take-known.result found c.in-Ok.part _ c.at.result.now.number (c.in-Ok.ensures.reads row there) number refl refl refl (omega (arith, c.saturating_add.ensures)) c.in_ok-push-in-Ok.ensures.ok
+    row_read g.G.Gate.Stands g.G.Gate.Between g.G.Gate.Owns g.G.Gate.Adds g.G.Gate.bytes_fetched c.args.self.now.footers c.args.planned row _ c.args.gate.now _ c.take-known.result found c.in-Ok.part _ c.at.result.now.number (c.in-Ok.ensures.reads row there) number refl refl refl (omega (arith, c.saturating_add.ensures)) c.in_ok-push-in-Ok.ensures.ok
 
 pub returns-in-Err-clause-reads : goal.returns-in-Err-clause-reads
 returns-in-Err-clause-reads g c row there =
     let same : c.at.result.now ≡ row = same_row _ c.at.result.now row c.at.ensures there in
     let number : c.at.result.now.number ≡ row.number = ap (λ (r : PlanRow). r.number) same in
     let found = c.take-known.ensures.found ∙ ap (λ (n : ℕ). lookup (nat_eq n) (entries c.args.self.now.footers)) number in
-    row_refused g.G.Gate.Stands g.G.Gate.Between g.G.Gate.bytes_fetched c.args.self.now.footers c.args.planned row _ c.args.gate.now _ c.take-known.result found c.in-Err.fault c.refuse_fetch.result (c.in-Err.ensures.reads row there)
+    row_refused g.G.Gate.Stands g.G.Gate.Between g.G.Gate.Owns g.G.Gate.Adds g.G.Gate.bytes_fetched c.args.self.now.footers c.args.planned row _ c.args.gate.now _ c.take-known.result found c.in-Err.fault c.refuse_fetch.result (c.in-Err.ensures.reads row there)
     (subst (λ (n : ℕ). Refuses (IsFetchRefusal n c.in-Err.fault) c.refuse_fetch.result) number c.refuse_fetch.ensures.refuses)
     (λ is_corrupt config documents p core log stands configured file is asked known.
-    never_corrupt (grace_of config c.args.planned.plan) g.G.Gate.Stands g.G.Gate.Between g.G.Gate.bytes_fetched (IsPartFetched config.schema c.args.planned.ask.request c.take-known.result documents p (part_calls c.take-known.result)) c.in-Err.fault core log c.args.gate.now _ (c.in-Err.ensures.step config documents p core log stands configured file is asked known) is_corrupt)
+    never_corrupt (grace_of config c.args.planned.plan) file.row.number g.G.Gate.Stands g.G.Gate.Between g.G.Gate.Adds g.G.Gate.bytes_fetched (IsPartFetched config.schema c.args.planned.ask.request c.take-known.result documents p (part_calls c.take-known.result)) c.in-Err.fault core log c.args.gate.now _ (c.in-Err.ensures.step config documents p core log stands configured file is asked known) is_corrupt)

@@ -27,24 +27,24 @@ answer_over-requires-clause-intervals g c = λ lifetimes there. intervals_there 
 pub returns-in_err-said-clause-step : goal.returns-in_err-said-clause-step
 returns-in_err-said-clause-step g c plan client core log good asked planned stands w =
     let over : length c.args.planned.plan.rows ≤ c.args.planned.next = omega (arith, c.len.ensures, c.if-planned-len.false) in
-    answered_as g.G.Gate.Stands g.G.Gate.Between _ _ _ client core log plan true (g.met.G.Gate.none_between core) stands asked (all_fetched c.args.planned plan core log planned over)
+    answered_as g.G.Gate.Stands g.G.Gate.Between g.G.Gate.Adds c.args.gate.now _ _ _ client core log plan true (g.met.G.Gate.none_between core) (g.met.G.Gate.adds_none c.args.gate.now) stands asked (all_fetched c.args.planned plan core log planned over)
     (ends_without c.from_residual.result c.args.self.now client (reply_with plan.revision (answer_of plan log core) client core) log c.from_residual.ensures.0 w)
 
 pub returns-clause-step : goal.returns-clause-step
 returns-clause-step g c plan client core log good asked planned stands w =
     let over : length c.args.planned.plan.rows ≤ c.args.planned.next = omega (arith, c.len.ensures, c.if-planned-len.false) in
     let lists = map (documents_at plan.revision core log) (rows_at plan.revision plan.search core) in
-    let config = config_then core log c.config.result.now plan.revision (g.met.G.Gate.is_sound c.args.gate.now core log stands) (c.config.ensures.step core log stands) planned.in_hand in
+    let config = config_then core log c.config.result.now plan.revision plan.grace.until (g.met.G.Gate.is_sound c.args.gate.now core log stands) (c.config.ensures.step core log stands) planned.in_hand in
     let parts = all_parts c.args.planned plan core log planned over in
-    let found = are_found plan.revision plan.search c.args.planned.ask core log good planned.asks planned.in_hand in
+    let found = are_found plan.revision plan.grace.until plan.search c.args.planned.ask core log good planned.asks planned.in_hand in
     let said : c.in_ok-said.said ≡ answer c.config.result.now.schema plan.search (visible_at plan.revision core.history log) =
     c.in_ok-said.ensures.only plan.search lists (visible_at plan.revision core.history log) planned.asks
     (subst (λ (x : IndexConfig). IsAsked x.schema c.args.planned.ask.request) config planned.asked)
     (subst (λ (x : IndexConfig). AllZip (HasNeeded x.schema c.args.planned.ask.request) c.args.planned.parts lists) config parts)
-    (found_few plan.revision plan.search core log planned.in_hand)
+    (found_few plan.revision plan.grace.until plan.search core log planned.in_hand)
     (subst (λ (x : IndexConfig). AreFound x.schema c.args.planned.ask.request lists (visible_at plan.revision core.history log)) config found) in
     let same : c.in_ok-said.said ≡ answer_of plan log core = said ∙ ap (λ (x : IndexConfig). answer x.schema plan.search (visible_at plan.revision core.history log)) (sym config) in
-    answered_as g.G.Gate.Stands g.G.Gate.Between _ _ _ client core log plan false (g.met.G.Gate.none_between core) stands asked (all_fetched c.args.planned plan core log planned over)
+    answered_as g.G.Gate.Stands g.G.Gate.Between g.G.Gate.Adds c.args.gate.now _ _ _ client core log plan false (g.met.G.Gate.none_between core) (g.met.G.Gate.adds_none c.args.gate.now) stands asked (all_fetched c.args.planned plan core log planned over)
     (subst (λ r. Ends (Ok c.reply.result) c.reply.new.self (reply_with r (answer_of plan log core) client core) log) planned.revision
     (subst (λ x. Ends (Ok c.reply.result) c.reply.new.self (reply_with c.args.planned.plan.revision x client core) log) same (c.reply.ensures.step client core log w)))
 

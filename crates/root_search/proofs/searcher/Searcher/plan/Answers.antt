@@ -15,4 +15,4 @@ returns-in-Err-Refused g c client core log asked stands w =
 
 pub returns-in-Err-Memory : goal.returns-in-Err-Memory
 returns-in-Err-Memory g c client core log asked stands w =
-    unasked_as g.G.Gate.Stands g.G.Gate.Between (Err c.in-Err-Memory.refused) c.args.self.now c.args.gate.now client core log c.args.text.now (g.met.G.Gate.none_between core) stands asked refl w
+    unasked_as g.G.Gate.Stands g.G.Gate.Between g.G.Gate.Adds c.args.gate.now (Err c.in-Err-Memory.refused) c.args.self.now c.args.gate.now client core log c.args.text.now (g.met.G.Gate.none_between core) (g.met.G.Gate.adds_none c.args.gate.now) stands asked refl w

@@ -12,7 +12,7 @@ pub returns-in-Vacant-clause-step : goal.returns-in-Vacant-clause-step
 returns-in-Vacant-clause-step g c client core log good stands s =
     let was : c.args.self.now.request ≡ Vacant = sym c.replace.ensures.value ∙ c.in-Vacant.is in
     let none : client.request ≡ no_request = subst (λ r. IsRequest r client.request core log) was s.request in
-    idle_as g.G.Gate.Stands g.G.Gate.Between _ _ _ client core log (g.met.G.Gate.none_between core) stands none
+    idle_as g.G.Gate.Stands g.G.Gate.Between g.G.Gate.Adds c.args.gate.now _ _ _ client core log (g.met.G.Gate.none_between core) (g.met.G.Gate.adds_none c.args.gate.now) stands none
     (record {
       says = refl;
       stands = record { name = s.name; front = s.front; footers = s.footers; request = subst (λ r. IsRequest r client.request core log) (sym c.replace.ensures.after) none };
@@ -55,7 +55,7 @@ returns-in-Opened-clause-reads g c planned row is there = absurd (cc)
 pub returns-in-Planned-clause-reads : goal.returns-in-Planned-clause-reads
 returns-in-Planned-clause-reads g c planned row is there =
     let same : planned ≡ c.in-Planned.planned = cc in
-    subst (λ (q : GivenPlan). FetchesRow g.G.Gate.Stands g.G.Gate.Between g.G.Gate.bytes_fetched c.args.self.now.footers q row c.go_on.new.self.request c.go_on.result c.args.gate.now c.go_on.new.gate) (sym same)
+    subst (λ (q : GivenPlan). FetchesRow g.G.Gate.Stands g.G.Gate.Between g.G.Gate.Owns g.G.Gate.Adds g.G.Gate.bytes_fetched c.args.self.now.footers q row c.go_on.new.self.request c.go_on.result c.args.gate.now c.go_on.new.gate) (sym same)
     (c.go_on.ensures.reads row (subst (λ (q : GivenPlan). slice_get q.plan.rows q.next ≡ Some row) same there))
 
 pub returns-in-Vacant-clause-answers : goal.returns-in-Vacant-clause-answers
