@@ -3,10 +3,12 @@
 use Rattle.std.proofs.Common.{◌≡◌, ℕ, List, [], sym, subst, append-nil}
 use Rattle.std.proofs.Math.Nat.{le_refl}
 use Rattle.source_log.specs.Log.{Log}
+use Rattle.index_config.specs.declared.config.IndexConfig.{IndexConfig}
 use Rattle.index_world.specs.CallsMade.{CallMade}
+use Rattle.index_world.specs.Configuration.{config_or, index_of}
 use Rattle.index_world.specs.Core.{Core, Nobody}
 use Rattle.index_world.specs.Gate.{NoneBetween}
-use Rattle.index_world.specs.World.{GoesFor}
+use Rattle.index_world.specs.World.{GoesFor, Keeping}
 
 abbrev pub AnyNumber : {W : Type 0} → W → ℕ → Type 0
 AnyNumber gate number = Unit {0}
@@ -19,6 +21,10 @@ Anything old made new = Unit {0}
 
 abbrev pub Anyhow : {W : Type 0} → W → W → Type 0
 Anyhow old new = Unit {0}
+
+-- the configuration of the state that it keeps
+abbrev pub config_kept : Keeping → IndexConfig
+config_kept world = config_or (index_of world.meta.config)
 
 -- the core stays as it is
 pub stays_as_is : (Kept : ℕ → Type 0) (core : Core) → GoesFor Kept core core

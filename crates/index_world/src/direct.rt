@@ -41,7 +41,7 @@ impl<S: ObjectStore, C: SteadyClock> Direct<S, C> {
 
 impl<S: ObjectStore, C: SteadyClock> Gate for Direct<S, C> {
     ghost use Rattle.std.specs.Prelude.{refl};
-    ghost use Rattle.index_world.specs.DirectLaws.{NoLog, Anything, Anyhow, AnyNumber, none_goes};
+    ghost use Rattle.index_world.specs.DirectLaws.{NoLog, Anything, Anyhow, AnyNumber, config_kept, none_goes};
     ghost use Rattle.index_world.specs.Gate.{NoneBetween};
     ghost use Rattle.index_world.specs.World.{WorldStands};
 
@@ -56,6 +56,8 @@ impl<S: ObjectStore, C: SteadyClock> Gate for Direct<S, C> {
     ghost Adds = { Anything };
 
     ghost since = { Anyhow };
+
+    ghost configured = { λ direct. config_kept direct.world };
 
     ghost bytes_fetched = { λ direct. direct.fetched };
 

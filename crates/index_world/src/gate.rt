@@ -42,11 +42,15 @@ pub trait Gate {
     /// The other state is the same gate's, later or the same.
     ghost since: { Self → Self → Type 0 };
 
+    /// The configuration that it keeps.
+    ghost configured: { Self → configs.IndexConfig };
+
     /// How many bytes were fetched through it.
     ghost bytes_fetched: { Self → ℕ };
 
     /// The configuration of the index, which stays. It is no event.
     fn config(&self) -> &IndexConfig
+        ensures value { result.now ≡ configured self.now }
         ensures schema { ∥ IsSchema result.now.schema ∥₁ }
         ensures step { (core : Core) (log : Log) → Stands self.now core log → IsConfigured result.now core };
 

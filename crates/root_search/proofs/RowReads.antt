@@ -7,7 +7,7 @@ use Rattle.std.specs.declared.alloc.AllocError.{AllocError}
 use Rattle.source_log.specs.Log.{Log}
 use Rattle.index_config.specs.declared.config.IndexConfig.{IndexConfig}
 use Rattle.index_world.specs.CallsMade.{CallMade}
-use Rattle.index_world.specs.Core.{Core, IsConfigured}
+use Rattle.index_world.specs.Core.{Core}
 use Rattle.meta_store.specs.declared.planning.PlanRow.{PlanRow}
 use Rattle.search_api.specs.declared.reply.Refusal.{Refusal}
 use Rattle.search_api.specs.declared.reply.Said.{Said}
@@ -80,10 +80,11 @@ module _ {W : Type 0} (Stands : W → Core → Log → Type 0) (Between : Core �
 
 -- ---- the last step
 
-pub over_reply : {W : Type 0} (Stands : W → Core → Log → Type 0) (planned : GivenPlan) (gate : W) (step : SearchStep) (client : List ℕ) (said : Said) (config : IndexConfig) → step ≡ Replied (record { client = client; revision = planned.plan.revision; said = said })
-    → ((core : Core) (log : Log) → Stands gate core log → IsConfigured config core) → IsCorruptOf config.schema planned.ask.request planned.parts said → SaysOver Stands planned gate (Ok step)
-over_reply Stands planned gate step client said config same configured corrupt = subst (λ (s : SearchStep). SaysOver Stands planned gate (Ok s)) (sym same) (config, configured, refl, corrupt)
+pub over_reply : (planned : GivenPlan) (step : SearchStep) (client : List ℕ) (said : Said) (config kept : IndexConfig) → step ≡ Replied (record { client = client; revision = planned.plan.revision; said = said }) → config ≡ kept
+    → IsCorruptOf config.schema planned.ask.request planned.parts said → SaysOver kept planned (Ok step)
+over_reply planned step client said config kept same is corrupt =
+    subst (λ (s : SearchStep). SaysOver kept planned (Ok s)) (sym same) (refl, subst (λ (c : IndexConfig). IsCorruptOf c.schema planned.ask.request planned.parts said) is corrupt)
 
-pub over_short : {W : Type 0} (Stands : W → Core → Log → Type 0) (planned : GivenPlan) (gate : W) (r : Result SearchStep AllocError) → IsErr r → SaysOver Stands planned gate r
-over_short Stands planned gate (Ok step) short = absurd (cc)
-over_short Stands planned gate (Err e) short = tt
+pub over_short : (planned : GivenPlan) (config : IndexConfig) (r : Result SearchStep AllocError) → IsErr r → SaysOver config planned r
+over_short planned config (Ok step) short = absurd (cc)
+over_short planned config (Err e) short = tt

@@ -119,15 +119,14 @@ StepReads Stands Between Owns Adds bytes_fetched searcher after result old new =
 
 -- ---- the last step
 
--- It replies over the plan's revision, and Corrupt with the key of a split alone of which what was fetched is none of a split of the index's configuration.
-abbrev pub SaysOver : {W : Type 0} → (W → Core → Log → Type 0) → GivenPlan → W → Result SearchStep AllocError → Type 0
-SaysOver Stands planned gate (Ok Idle) = ⊥
-SaysOver Stands planned gate (Ok (Planned revision count)) = ⊥
-SaysOver Stands planned gate (Ok (Fetched number)) = ⊥
-SaysOver Stands planned gate (Ok (Replied reply)) =
-    (config : IndexConfig) × ((core : Core) (log : Log) → Stands gate core log → IsConfigured config core) × (reply.revision ≡ planned.plan.revision) × IsCorruptOf config.schema planned.ask.request planned.parts reply.said
-SaysOver Stands planned gate (Err e) = ⊤
+-- It replies over the plan's revision, and Corrupt with the key of a split alone of which what was fetched is none of a split of the gate's configuration.
+abbrev pub SaysOver : IndexConfig → GivenPlan → Result SearchStep AllocError → Type 0
+SaysOver config planned (Ok Idle) = ⊥
+SaysOver config planned (Ok (Planned revision count)) = ⊥
+SaysOver config planned (Ok (Fetched number)) = ⊥
+SaysOver config planned (Ok (Replied reply)) = (reply.revision ≡ planned.plan.revision) × IsCorruptOf config.schema planned.ask.request planned.parts reply.said
+SaysOver config planned (Err e) = ⊤
 
 -- a step of a planned search of which each row is fetched
-abbrev pub StepAnswers : {W : Type 0} → (W → Core → Log → Type 0) → Searcher → Result SearchStep AllocError → W → Type 0
-StepAnswers Stands searcher result gate = (planned : GivenPlan) → searcher.request ≡ requests.Planned planned → length planned.plan.rows ≤ planned.next → SaysOver Stands planned gate result
+abbrev pub StepAnswers : IndexConfig → Searcher → Result SearchStep AllocError → Type 0
+StepAnswers config searcher result = (planned : GivenPlan) → searcher.request ≡ requests.Planned planned → length planned.plan.rows ≤ planned.next → SaysOver config planned result

@@ -296,7 +296,7 @@ impl Searcher {
             StepDraws self.old search result (G.bytes_fetched gate.old) (G.bytes_fetched gate.new) core }
         ensures reads { (row : PlanRow) → slice_get planned.plan.rows planned.next ≡ Some row →
             FetchesRow G.Stands G.Between G.Owns G.Adds G.bytes_fetched self.old.footers planned row self.new.request result gate.old gate.new }
-        ensures answers { length planned.plan.rows ≤ planned.next → SaysOver G.Stands planned gate.old result }
+        ensures answers { length planned.plan.rows ≤ planned.next → SaysOver (G.configured gate.old) planned result }
     {
         if (planned.next as usize) < planned.plan.rows.len() {
             return self.fetch(alloc, gate, planned);
@@ -323,7 +323,7 @@ impl Searcher {
         // Whatever the gate tells: what it answers where it fetches of a planned split, by the bytes that its calls gave.
         ensures reads { StepReads G.Stands G.Between G.Owns G.Adds G.bytes_fetched self.old self.new result gate.old gate.new }
         // And where each is fetched.
-        ensures answers { StepAnswers G.Stands self.old result gate.old }
+        ensures answers { StepAnswers (G.configured gate.old) self.old result }
     {
         match mem::replace(&mut self.request, Request::Vacant) {
             Request::Vacant => Ok(SearchStep::Idle),

@@ -61,7 +61,7 @@ pub returns-clause-reads : goal.returns-clause-reads
 returns-clause-reads g c row there = absurd (no_row c.args.planned.plan.rows c.args.planned.next row there (omega (arith, c.len.ensures, c.if-planned-len.false)))
 
 pub returns-in_err-said-clause-answers : goal.returns-in_err-said-clause-answers
-returns-in_err-said-clause-answers g c over = over_short g.G.Gate.Stands c.args.planned c.args.gate.now c.from_residual.result c.from_residual.ensures.0
+returns-in_err-said-clause-answers g c over = over_short c.args.planned (g.G.Gate.configured c.args.gate.now) c.from_residual.result c.from_residual.ensures.0
 
 pub returns-clause-answers : goal.returns-clause-answers
-returns-clause-answers g c over = over_reply g.G.Gate.Stands c.args.planned c.args.gate.now c.reply.result _ c.in_ok-said.said c.config.result.now c.reply.ensures.said c.config.ensures.step c.in_ok-said.ensures.refused
+returns-clause-answers g c over = over_reply c.args.planned c.reply.result _ c.in_ok-said.said c.config.result.now (g.G.Gate.configured c.args.gate.now) c.reply.ensures.said c.config.ensures.value c.in_ok-said.ensures.refused

@@ -67,4 +67,4 @@ returns-in-Opened-clause-answers g c planned is over = absurd (cc)
 pub returns-in-Planned-clause-answers : goal.returns-in-Planned-clause-answers
 returns-in-Planned-clause-answers g c planned is over =
     let same : planned ≡ c.in-Planned.planned = cc in
-    subst (λ (q : GivenPlan). SaysOver g.G.Gate.Stands q c.args.gate.now c.go_on.result) (sym same) (c.go_on.ensures.answers (subst (λ (q : GivenPlan). length q.plan.rows ≤ q.next) same over))
+    subst (λ (q : GivenPlan). SaysOver (g.G.Gate.configured c.args.gate.now) q c.go_on.result) (sym same) (c.go_on.ensures.answers (subst (λ (q : GivenPlan). length q.plan.rows ≤ q.next) same over))
