@@ -1,5 +1,5 @@
 -- Looking through the calls that are to fail, an entry at a time.
-use Rattle.std.proofs.Common.{◌≡◌, ◌≢◌, ℕ, ◌+◌, ◌<◌, Bool, true, false, cond, List, [], ◌∷◌, ◌++◌, length, get_or, take, drop, Some, sym, ap, ◌∙◌, append_assoc, add-one}
+use Rattle.std.proofs.Common.{◌≡◌, ◌≢◌, ℕ, ◌+◌, ◌<◌, Bool, true, false, cond, List, [], ◌∷◌, ◌++◌, length, get_or, take, drop, Some, sym, ap, subst, ◌∙◌, append_assoc, add-one}
 use Rattle.std.specs.Ordering.{nat_cmp, eq_by_cmp, is_eq}
 use Rattle.std.specs.Cmp.Lexicographic.{slice_cmp}
 use Rattle.std.proofs.lemmas.List.{get_or_default, at_drop_more, take_more}
@@ -47,3 +47,8 @@ key_passed key keys i e p lt is other =
       rest = ap (λ (l : List KeyEntry). l ++ without_key key (drop (i + 1) keys)) front ∙ append_assoc (take i keys) (e ∷ []) (without_key key (drop (i + 1) keys))
           ∙ ap (λ (l : List KeyEntry). take i keys ++ l) (sym (without_at key keys i e false lt is tie)) ∙ p.rest;
     }
+
+-- the entry at the first place of a key says when its create lands
+pub landing_there : (key : List ℕ) (keys found : List KeyEntry) (at : ℕ) (e : KeyEntry) → IsFirstOf key found at → found ≡ keys → e ≡ get_or keys at e → Some e.1 ≡ landing_of_key key keys
+landing_there key keys found at e first same is =
+    sym (subst (λ (l : List KeyEntry). landing_of_key key l ≡ Some (get_or l at e).1) same (first.landing_is e) ∙ ap (λ (x : KeyEntry). Some x.1) (sym is))

@@ -4,8 +4,8 @@ ghost use Rattle.std.specs.Prelude.{◌≡◌, IfOk, map};
 ghost use Rattle.query_ast.specs.Sought.{view, view_all};
 ghost use Rattle.query_ast.specs.Sought as sought;
 
-use crate::query::Query;
-use doc_value::Replica;
+use crate::query::{Edge, Items, Query};
+use doc_value::{Replica, Text};
 use std::alloc::{AllocError, Global};
 
 fn and_of(parts: Vec<Query>) -> Query
@@ -20,6 +20,42 @@ fn or_of(parts: Vec<Query>) -> Query
     Query::Or(parts)
 }
 
+fn copy_word(alloc: Global, field: usize, text: &Text) -> Result<Query, AllocError>
+    ensures { IfOk result (λ q. view q ≡ sought.Word field text.now) }
+{
+    let text = text.copy(alloc)?;
+    Ok(Query::Word { field, text })
+}
+
+fn copy_quoted(alloc: Global, field: usize, text: &Text) -> Result<Query, AllocError>
+    ensures { IfOk result (λ q. view q ≡ sought.Quoted field text.now) }
+{
+    let text = text.copy(alloc)?;
+    Ok(Query::Quoted { field, text })
+}
+
+fn copy_prefix(alloc: Global, field: usize, text: &Text) -> Result<Query, AllocError>
+    ensures { IfOk result (λ q. view q ≡ sought.Prefix field text.now) }
+{
+    let text = text.copy(alloc)?;
+    Ok(Query::Prefix { field, text })
+}
+
+fn copy_range(alloc: Global, field: usize, low: &Edge, high: &Edge) -> Result<Query, AllocError>
+    ensures { IfOk result (λ q. view q ≡ sought.Range field low.now high.now) }
+{
+    let low = low.copy(alloc)?;
+    let high = high.copy(alloc)?;
+    Ok(Query::Range { field, low, high })
+}
+
+fn copy_set(alloc: Global, field: usize, items: &Items) -> Result<Query, AllocError>
+    ensures { IfOk result (λ q. view q ≡ sought.AnyOf field items.now) }
+{
+    let items = items.copy(alloc)?;
+    Ok(Query::AnyOf { field, items })
+}
+
 /// A copy of a query in memory of its own: the same query.
 #[cycle(copy_query)]
 pub fn copy_query(alloc: Global, query: &Query) -> Result<Query, AllocError>
@@ -28,28 +64,12 @@ pub fn copy_query(alloc: Global, query: &Query) -> Result<Query, AllocError>
     match query {
         Query::All => Ok(Query::All),
         Query::Nothing => Ok(Query::Nothing),
-        Query::Word { field, text } => Ok(Query::Word {
-            field: *field,
-            text: text.copy(alloc)?,
-        }),
-        Query::Quoted { field, text } => Ok(Query::Quoted {
-            field: *field,
-            text: text.copy(alloc)?,
-        }),
-        Query::Prefix { field, text } => Ok(Query::Prefix {
-            field: *field,
-            text: text.copy(alloc)?,
-        }),
+        Query::Word { field, text } => copy_word(alloc, *field, text),
+        Query::Quoted { field, text } => copy_quoted(alloc, *field, text),
+        Query::Prefix { field, text } => copy_prefix(alloc, *field, text),
         Query::Exists { field } => Ok(Query::Exists { field: *field }),
-        Query::Range { field, low, high } => Ok(Query::Range {
-            field: *field,
-            low: low.copy(alloc)?,
-            high: high.copy(alloc)?,
-        }),
-        Query::AnyOf { field, items } => Ok(Query::AnyOf {
-            field: *field,
-            items: items.copy(alloc)?,
-        }),
+        Query::Range { field, low, high } => copy_range(alloc, *field, low, high),
+        Query::AnyOf { field, items } => copy_set(alloc, *field, items),
         Query::Not(inner) => Ok(Query::Not(Box::new(alloc, copy_query(alloc, inner)?)?)),
         Query::And(parts) => Ok(and_of(copy_queries(alloc, parts.as_slice())?)),
         Query::Or(parts) => Ok(or_of(copy_queries(alloc, parts.as_slice())?)),

@@ -2,6 +2,7 @@
 #![tactic(auto)]
 
 pub mod copying;
+mod fields;
 pub mod matching;
 pub mod pruning;
 pub mod query;

@@ -4,8 +4,10 @@ ghost use Rattle.std.specs.Prelude.{◌≡◌, IfOk, nat_eq, Some, Option, ℤ};
 ghost use Rattle.std.specs.List.{starts_with};
 ghost use Rattle.query_ast.specs.FieldTokens.{field_tokens};
 ghost use Rattle.query_ast.specs.Sought.{view};
+ghost use Rattle.query_ast.specs.Sought as sought;
 ghost use Rattle.query_ast.specs.Meaning.{values_in, same_value, value_below, is_above, is_below, between, equals_some, has_token, has_prefix, has_token_at, stands_at, stands_at_one, first_position, tokens_in, is_text, some_has_token, some_has_prefix, some_has_phrase, each_stands, phrase_holds, quoted_holds, word_holds, some_item_holds, meaning, all_in, some_in, from_start, before_end, second_within, some_within, has_time_within, within_times};
 
+use crate::fields::field_at;
 use crate::query::{Edge, Item, Query};
 use crate::tokens::{folded_prefix, tokens_of};
 use crate::values::value_of;
@@ -322,6 +324,73 @@ fn holds_some_item(
     Ok(false)
 }
 
+/// Whether the document meets a word of the field.
+fn meets_word(
+    alloc: Global,
+    schema: &Schema,
+    field: usize,
+    text: &str,
+    doc: &Doc,
+) -> Result<bool, AllocError>
+    ensures { IfOk result (λ b. b ≡ meaning schema.now doc.now (sought.Word field text.now)) }
+{
+    match field_at(schema, field) {
+        Some(f) => holds_word(alloc, f, text, values_of(doc.as_slice(), field)),
+        None => Ok(false),
+    }
+}
+
+/// Whether the document meets a quoted text of the field.
+fn meets_quoted(
+    alloc: Global,
+    schema: &Schema,
+    field: usize,
+    text: &str,
+    doc: &Doc,
+) -> Result<bool, AllocError>
+    ensures { IfOk result (λ b. b ≡ meaning schema.now doc.now (sought.Quoted field text.now)) }
+{
+    match field_at(schema, field) {
+        Some(f) => holds_quoted(alloc, f, text, values_of(doc.as_slice(), field)),
+        None => Ok(false),
+    }
+}
+
+/// Whether the document meets a prefix of the field.
+fn meets_prefix(
+    alloc: Global,
+    schema: &Schema,
+    field: usize,
+    text: &str,
+    doc: &Doc,
+) -> Result<bool, AllocError>
+    ensures { IfOk result (λ b. b ≡ meaning schema.now doc.now (sought.Prefix field text.now)) }
+{
+    match field_at(schema, field) {
+        Some(f) => {
+            let front = folded_prefix(alloc, f, text)?;
+            some_contains_prefix(alloc, f, front.as_str(), values_of(doc.as_slice(), field))
+        }
+        None => Ok(false),
+    }
+}
+
+/// Whether the document meets a set of the field.
+fn meets_set(
+    alloc: Global,
+    schema: &Schema,
+    field: usize,
+    items: &[Item],
+    doc: &Doc,
+) -> Result<bool, AllocError>
+    ensures { IfOk result (λ b. b ≡ meaning schema.now doc.now (sought.AnyOf field items.now)) }
+{
+    match field_at(schema, field) {
+        Some(f) => holds_some_item(alloc, f, values_of(doc.as_slice(), field), items),
+        None => Ok(false),
+    }
+}
+
 /// Whether the document meets the query.
 #[cycle(matches)]
 pub fn matches(alloc: Global, schema: &Schema, query: &Query, doc: &Doc) -> Result<bool, AllocError>
@@ -330,34 +399,14 @@ pub fn matches(alloc: Global, schema: &Schema, query: &Query, doc: &Doc) -> Resu
     match query {
         Query::All => Ok(true),
         Query::Nothing => Ok(false),
-        Query::Word { field, text } => match schema.fields.as_slice().get(*field) {
-            Some(f) => holds_word(alloc, f, text.as_str(), values_of(doc.as_slice(), *field)),
-            None => Ok(false),
-        },
-        Query::Quoted { field, text } => match schema.fields.as_slice().get(*field) {
-            Some(f) => holds_quoted(alloc, f, text.as_str(), values_of(doc.as_slice(), *field)),
-            None => Ok(false),
-        },
-        Query::Prefix { field, text } => match schema.fields.as_slice().get(*field) {
-            Some(f) => {
-                let front = folded_prefix(alloc, f, text.as_str())?;
-                some_contains_prefix(alloc, f, front.as_str(), values_of(doc.as_slice(), *field))
-            }
-            None => Ok(false),
-        },
+        Query::Word { field, text } => meets_word(alloc, schema, *field, text.as_str(), doc),
+        Query::Quoted { field, text } => meets_quoted(alloc, schema, *field, text.as_str(), doc),
+        Query::Prefix { field, text } => meets_prefix(alloc, schema, *field, text.as_str(), doc),
         Query::Exists { field } => Ok(!values_of(doc.as_slice(), *field).is_empty()),
         Query::Range { field, low, high } => {
             Ok(some_between(low, high, values_of(doc.as_slice(), *field)))
         }
-        Query::AnyOf { field, items } => match schema.fields.as_slice().get(*field) {
-            Some(f) => holds_some_item(
-                alloc,
-                f,
-                values_of(doc.as_slice(), *field),
-                items.as_slice(),
-            ),
-            None => Ok(false),
-        },
+        Query::AnyOf { field, items } => meets_set(alloc, schema, *field, items.as_slice(), doc),
         Query::Not(inner) => Ok(!matches(alloc, schema, inner, doc)?),
         Query::And(parts) => all_match(alloc, schema, parts.as_slice(), doc),
         Query::Or(parts) => some_match(alloc, schema, parts.as_slice(), doc),

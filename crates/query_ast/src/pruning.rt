@@ -6,6 +6,7 @@ ghost use Rattle.query_ast.specs.Sought.{view};
 ghost use Rattle.query_ast.specs.Pruning.{is_listed, has_listed, signed_term, unsigned_term, truth_term, term_of, allows, allowed, is_looked_up, can_equal, some_can_equal, can_be_among, can_match, all_can_in, some_can_in, AreFactsOf};
 ghost use Rattle.doc_value.specs.declared.doc.DocField.{DocField};
 
+use crate::fields::field_at;
 use crate::query::{Item, Query};
 use crate::values::{datetime, signed, truth, unsigned};
 use doc_value::{Bytes, Field, FieldTags, Kind, Schema, TagFacts, Tags, Tokenizer, turned};
@@ -93,7 +94,7 @@ fn is_looked_up(field: &Field) -> bool
 fn may_equal(schema: &Schema, facts: &[FieldTags], number: usize, text: &str) -> bool
     ensures { result ≡ can_equal schema.now facts.now number text.now }
 {
-    match schema.fields.as_slice().get(number) {
+    match field_at(schema, number) {
         Some(field) => {
             if is_looked_up(field) {
                 facts_allow(facts, number, field.kind, text)
@@ -119,7 +120,7 @@ fn some_may_equal(schema: &Schema, facts: &[FieldTags], number: usize, items: &[
 fn may_be_among(schema: &Schema, facts: &[FieldTags], number: usize, items: &[Item]) -> bool
     ensures { result ≡ can_be_among schema.now facts.now number items.now }
 {
-    match schema.fields.as_slice().get(number) {
+    match field_at(schema, number) {
         Some(field) => {
             if is_looked_up(field) {
                 some_may_equal(schema, facts, number, items)

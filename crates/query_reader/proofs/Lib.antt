@@ -4,5 +4,7 @@ pub mod Nest
 pub mod Specials
 pub mod Rows
 pub mod Each
+pub mod Hiding
+pub mod Unescape
 pub mod Pieces
 pub mod Utf8

@@ -1,5 +1,6 @@
 -- Pieces that are appended one after another.
 use Rattle.std.proofs.Common.{◌≡◌, ℕ, ℤ, List, [], ◌∷◌, ◌++◌, refl, ap, sym, ◌∙◌, subst, append_assoc, append-nil}
+use Rattle.std.specs.Prelude.{Result, Ok, Err, OnOk}
 use Rattle.query_reader.specs.Printed.{Piece, Written, Second, Spells, Appends, IsSecondText}
 
 pub spells_more : (ps qs : List Piece) (v w : List ℕ) → Spells ps v → Spells qs w → Spells (ps ++ qs) (v ++ w)
@@ -9,6 +10,11 @@ spells_more (Second n ∷ ps) qs v w p h = (p.0, p.1 ++ w, p.2, ap (λ t. t ++ w
 
 pub appends_more : (a b c : List ℕ) (ps qs : List Piece) → Appends a b ps → Appends b c qs → Appends a c (ps ++ qs)
 appends_more a b c ps qs p q = (p.0 ++ q.0, q.1 ∙ ap (λ t. t ++ q.0) p.1 ∙ append_assoc a p.0 q.0, spells_more ps qs p.0 q.0 p.2 q.2)
+
+-- the same where the last of them may have failed
+pub appends_then : {E : Type 0} (r : Result (Unit {0}) E) (a b c : List ℕ) (ps qs : List Piece) → Appends a b ps → OnOk r (Appends b c qs) → OnOk r (Appends a c (ps ++ qs))
+appends_then (Ok done) a b c ps qs p q = appends_more a b c ps qs p q
+appends_then (Err e) a b c ps qs p q = tt
 
 pub written : (a b w : List ℕ) → b ≡ a ++ w → Appends a b (Written w ∷ [])
 written a b w e = (w, e, ([], sym (append-nil w), refl))

@@ -24,15 +24,23 @@ fn hides(quoted: bool, byte: u8) -> bool
     }
 }
 
+/// A byte, behind a backslash where it is hidden.
+fn push_byte(out: &mut Vec<u8>, hidden: bool, byte: u8) -> Result<(), AllocError>
+    ensures { OnOk result (out.new.items ≡ out.old.items ++ (if hidden then 92 ∷ byte ∷ [] else byte ∷ [])) }
+{
+    if hidden {
+        out.push(b'\\')?;
+    }
+    out.push(byte)?;
+    Ok(())
+}
+
 /// A text with backslashes, in a quote.
 fn push_quoted(out: &mut Vec<u8>, text: &[u8]) -> Result<(), AllocError>
     ensures { OnOk result (out.new.items ≡ out.old.items ++ spec.hiding spec.hides_in_quote text.now) }
 {
     for byte in text {
-        if hides(true, *byte) {
-            out.push(b'\\')?;
-        }
-        out.push(*byte)?;
+        push_byte(out, hides(true, *byte), *byte)?;
     }
     Ok(())
 }
@@ -42,10 +50,7 @@ fn push_escaped(out: &mut Vec<u8>, text: &[u8]) -> Result<(), AllocError>
     ensures { OnOk result (out.new.items ≡ out.old.items ++ spec.hiding spec.hides_in_word text.now) }
 {
     for byte in text {
-        if hides(false, *byte) {
-            out.push(b'\\')?;
-        }
-        out.push(*byte)?;
+        push_byte(out, hides(false, *byte), *byte)?;
     }
     Ok(())
 }
@@ -300,6 +305,77 @@ fn prefix_of(alloc: Global, text: &str) -> Result<Text, AllocError>
     Ok(word)
 }
 
+/// A field and a word that is asked of it.
+fn push_asked_word(
+    alloc: Global,
+    out: &mut Text,
+    fields: &[Field],
+    number: usize,
+    text: &str,
+) -> Result<(), AllocError>
+    ensures { OnOk result (spec.Appends out.old out.new (spec.asked fields.now number (spec.word_text text.now))) }
+{
+    let word = word_of(alloc, text)?;
+    push_asked(alloc, out, fields, number, word.as_str())
+}
+
+/// A field and a quoted text that is asked of it.
+fn push_asked_quote(
+    alloc: Global,
+    out: &mut Text,
+    fields: &[Field],
+    number: usize,
+    text: &str,
+) -> Result<(), AllocError>
+    ensures { OnOk result (spec.Appends out.old out.new (spec.asked fields.now number (spec.quote_text text.now))) }
+{
+    let quote = quote_of(alloc, text)?;
+    push_asked(alloc, out, fields, number, quote.as_str())
+}
+
+/// A field and a prefix that is asked of it.
+fn push_asked_prefix(
+    alloc: Global,
+    out: &mut Text,
+    fields: &[Field],
+    number: usize,
+    text: &str,
+) -> Result<(), AllocError>
+    ensures { OnOk result (spec.Appends out.old out.new (spec.asked fields.now number (spec.word_text text.now ++ 42 ∷ []))) }
+{
+    let prefix = prefix_of(alloc, text)?;
+    push_asked(alloc, out, fields, number, prefix.as_str())
+}
+
+/// A field and a set that is asked of it.
+fn push_asked_set(
+    alloc: Global,
+    out: &mut Text,
+    fields: &[Field],
+    number: usize,
+    items: &Items,
+) -> Result<(), AllocError>
+    ensures { OnOk result (spec.Appends out.old out.new (spec.asked fields.now number (spec.set_text items.now))) }
+{
+    let set = set_of(alloc, items)?;
+    push_asked(alloc, out, fields, number, set.as_str())
+}
+
+/// A field and a range that is asked of it.
+fn push_asked_range(
+    alloc: Global,
+    out: &mut Text,
+    fields: &[Field],
+    number: usize,
+    low: &Edge,
+    high: &Edge,
+) -> Result<(), AllocError>
+    ensures { OnOk result (spec.Appends out.old out.new (spec.Piece.Written (spec.field_text fields.now number) ∷ spec.range_pieces low.now high.now)) }
+{
+    push_field(alloc, out, fields, number)?;
+    push_range(alloc, out, low, high)
+}
+
 #[cycle(print)]
 fn push_query(
     alloc: Global,
@@ -313,37 +389,41 @@ fn push_query(
         Query::All => push_piece(out, "*"),
         Query::Nothing => push_piece(out, "NOT *"),
         Query::Word { field, text } => {
-            let word = word_of(alloc, text.as_str())?;
-            push_asked(alloc, out, fields, *field, word.as_str())
+            push_asked_word(alloc, out, fields, *field, text.as_str())
         }
         Query::Quoted { field, text } => {
-            let quote = quote_of(alloc, text.as_str())?;
-            push_asked(alloc, out, fields, *field, quote.as_str())
+            push_asked_quote(alloc, out, fields, *field, text.as_str())
         }
         Query::Prefix { field, text } => {
-            let prefix = prefix_of(alloc, text.as_str())?;
-            push_asked(alloc, out, fields, *field, prefix.as_str())
+            push_asked_prefix(alloc, out, fields, *field, text.as_str())
         }
         Query::Exists { field } => push_asked(alloc, out, fields, *field, "*"),
         Query::Range { field, low, high } => {
-            push_field(alloc, out, fields, *field)?;
-            push_range(alloc, out, low, high)?;
-            Ok(())
+            push_asked_range(alloc, out, fields, *field, low, high)
         }
-        Query::AnyOf { field, items } => {
-            let set = set_of(alloc, items)?;
-            push_asked(alloc, out, fields, *field, set.as_str())
-        }
+        Query::AnyOf { field, items } => push_asked_set(alloc, out, fields, *field, items),
         Query::Not(query) => {
             push_piece(out, "NOT ")?;
-            push_piece(out, bracket_before(query))?;
-            push_query(alloc, out, fields, query)?;
-            push_piece(out, bracket_behind(query))?;
-            Ok(())
+            push_inner(alloc, out, fields, query)
         }
         Query::And(parts) => push_all(alloc, out, fields, " AND ", parts.as_slice()),
         Query::Or(parts) => push_all(alloc, out, fields, " OR ", parts.as_slice()),
     }
+}
+
+/// A query inside another one, in brackets where it is an And or an Or.
+#[cycle(print)]
+fn push_inner(
+    alloc: Global,
+    out: &mut Text,
+    fields: &[Field],
+    query: &Query,
+) -> Result<(), AllocError>
+    ensures { OnOk result (spec.Appends out.old out.new (spec.inner (view query.now) (spec.printed fields.now (view query.now)))) }
+{
+    push_piece(out, bracket_before(query))?;
+    push_query(alloc, out, fields, query)?;
+    push_piece(out, bracket_behind(query))
 }
 
 /// The members of an And or an Or.
@@ -360,9 +440,7 @@ fn push_all(
     let mut gap = "";
     for part in parts {
         push_piece(out, gap)?;
-        push_piece(out, bracket_before(part))?;
-        push_query(alloc, out, fields, part)?;
-        push_piece(out, bracket_behind(part))?;
+        push_inner(alloc, out, fields, part)?;
         gap = between;
     }
     Ok(())

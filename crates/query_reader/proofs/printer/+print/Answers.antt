@@ -5,22 +5,25 @@ use Rattle.query_ast.specs.Sought.{view, view_all}
 use Rattle.query_ast.specs.Sought as sought
 use Rattle.query_ast.specs.declared.query.Query.{the_lemmas}
 use Rattle.query_reader.specs.Printed.{Written, Spells, Appends, printed, printed_all, inner, bracket_before, bracket_behind, blank_and, blank_or}
-use Rattle.query_reader.proofs.Pieces.{appends_more, spells_more}
+use Rattle.query_reader.proofs.Pieces.{appends_more, appends_then, spells_more}
 use Rattle.query_reader.proofs.Each.{row_all}
 use Rattle.query_reader.proofs.printer.+print.Goals as goal
 
-pub push_query-returns-in_ok-push_piece-in-Not-3 : goal.push_query-returns-in_ok-push_piece-in-Not-3
-push_query-returns-in_ok-push_piece-in-Not-3 t c =
-    let q = view c.in-Not.query.value in
+pub push_query-returns-in_ok-push_piece-in-Not : goal.push_query-returns-in_ok-push_piece-in-Not
+push_query-returns-in_ok-push_piece-in-Not t c =
     let is : view c.args.query.now ≡ sought.Not (view c.in-Not.query.value) = search (rules, the_lemmas) in
     let mark : Appends c.args.out.now c.push_piece-in-Not.new.out (Written (78 ∷ 79 ∷ 84 ∷ 32 ∷ []) ∷ []) = search rules in
-    let before : Appends c.push_piece-in-Not.new.out c.push_piece-in-Not-2.new.out (Written (bracket_before (view c.in-Not.query.value)) ∷ []) = search rules in
-    let body : Appends c.push_piece-in-Not-2.new.out c.push_query.new.out (printed c.args.fields.now (view c.in-Not.query.value)) = search rules in
-    let behind : Appends c.push_query.new.out c.push_piece-in-Not-3.new.out (Written (bracket_behind (view c.in-Not.query.value)) ∷ []) = search rules in
-    subst (λ q. Appends c.args.out.now c.push_piece-in-Not-3.new.out (printed c.args.fields.now q)) (sym is)
-    (appends_more c.args.out.now c.push_piece-in-Not.new.out c.push_piece-in-Not-3.new.out (Written (78 ∷ 79 ∷ 84 ∷ 32 ∷ []) ∷ []) (inner (view c.in-Not.query.value) (printed c.args.fields.now (view c.in-Not.query.value))) mark
-    (appends_more c.push_piece-in-Not.new.out c.push_piece-in-Not-2.new.out c.push_piece-in-Not-3.new.out (Written (bracket_before (view c.in-Not.query.value)) ∷ []) (printed c.args.fields.now (view c.in-Not.query.value) ++ (Written (bracket_behind (view c.in-Not.query.value)) ∷ [])) before
-    (appends_more c.push_piece-in-Not-2.new.out c.push_query.new.out c.push_piece-in-Not-3.new.out (printed c.args.fields.now (view c.in-Not.query.value)) (Written (bracket_behind (view c.in-Not.query.value)) ∷ []) body behind)))
+    let body : OnOk c.push_inner.result (Appends c.push_piece-in-Not.new.out c.push_inner.new.out (inner (view c.in-Not.query.value) (printed c.args.fields.now (view c.in-Not.query.value)))) =
+    subst (λ v. OnOk c.push_inner.result (Appends c.push_piece-in-Not.new.out c.push_inner.new.out (inner (view v) (printed c.args.fields.now (view v))))) c.deref.ensures c.push_inner.ensures in
+    subst (λ q. OnOk c.push_inner.result (Appends c.args.out.now c.push_inner.new.out (printed c.args.fields.now q))) (sym is)
+    (appends_then c.push_inner.result c.args.out.now c.push_piece-in-Not.new.out c.push_inner.new.out (Written (78 ∷ 79 ∷ 84 ∷ 32 ∷ []) ∷ []) (inner (view c.in-Not.query.value) (printed c.args.fields.now (view c.in-Not.query.value))) mark body)
+
+pub push_inner-returns : goal.push_inner-returns
+push_inner-returns t c =
+    let before : Appends c.args.out.now c.push_piece.new.out (Written (bracket_before (view c.args.query.now)) ∷ []) = rw c.bracket_before.ensures at c.in_ok-push_piece.ensures in
+    let behind : OnOk c.push_piece-2.result (Appends c.push_query.new.out c.push_piece-2.new.out (Written (bracket_behind (view c.args.query.now)) ∷ [])) = rw c.bracket_behind.ensures at c.push_piece-2.ensures in
+    appends_then c.push_piece-2.result c.args.out.now c.push_piece.new.out c.push_piece-2.new.out (Written (bracket_before (view c.args.query.now)) ∷ []) (printed c.args.fields.now (view c.args.query.now) ++ (Written (bracket_behind (view c.args.query.now)) ∷ [])) before
+    (appends_then c.push_piece-2.result c.push_piece.new.out c.push_query.new.out c.push_piece-2.new.out (printed c.args.fields.now (view c.args.query.now)) (Written (bracket_behind (view c.args.query.now)) ∷ []) c.in_ok-push_query.ensures behind)
 
 pub push_query-returns-in-And : goal.push_query-returns-in-And
 push_query-returns-in-And t c =
@@ -37,13 +40,8 @@ push_query-returns-in-Or t c =
 pub push_all-loop-part-preserved : goal.push_all-loop-part-preserved
 push_all-loop-part-preserved t c =
     let h = c.loop-part.invariant.2 in
-    let q = view c.part-item.result in
-    let before : Appends c.push_piece.new.out c.push_piece-in-loop-part.new.out (Written (bracket_before (view c.part-item.result)) ∷ []) = rw c.bracket_before.ensures at c.in_ok-push_piece-2.ensures in
-    let behind : Appends c.push_query.new.out c.push_piece-in-loop-part-2.new.out (Written (bracket_behind (view c.part-item.result)) ∷ []) = rw c.bracket_behind.ensures at c.in_ok-push_piece-3.ensures in
-    let step : Appends c.loop-part.out c.push_piece-in-loop-part-2.new.out (Written c.loop-part.gap.now ∷ inner (view c.part-item.result) (printed c.args.fields.now (view c.part-item.result))) =
-    appends_more c.loop-part.out c.push_piece.new.out c.push_piece-in-loop-part-2.new.out (Written c.loop-part.gap.now ∷ []) (inner (view c.part-item.result) (printed c.args.fields.now (view c.part-item.result))) c.in_ok-push_piece.ensures
-    (appends_more c.push_piece.new.out c.push_piece-in-loop-part.new.out c.push_piece-in-loop-part-2.new.out (Written (bracket_before (view c.part-item.result)) ∷ []) (printed c.args.fields.now (view c.part-item.result) ++ (Written (bracket_behind (view c.part-item.result)) ∷ [])) before
-    (appends_more c.push_piece-in-loop-part.new.out c.push_query.new.out c.push_piece-in-loop-part-2.new.out (printed c.args.fields.now (view c.part-item.result)) (Written (bracket_behind (view c.part-item.result)) ∷ []) c.in_ok-push_query.ensures behind)) in
+    let step : Appends c.loop-part.out c.push_inner.new.out (Written c.loop-part.gap.now ∷ inner (view c.part-item.result) (printed c.args.fields.now (view c.part-item.result))) =
+    appends_more c.loop-part.out c.push_piece.new.out c.push_inner.new.out (Written c.loop-part.gap.now ∷ []) (inner (view c.part-item.result) (printed c.args.fields.now (view c.part-item.result))) c.in_ok-push_piece.ensures c.in_ok-push_inner.ensures in
     let left : drop c.loop-part.part-index c.args.parts.now ≡ c.part-item.result ∷ drop (c.loop-part.part-index + 1) c.args.parts.now =
     drop-cons c.args.parts.now c.loop-part.part-index c.part-item.result c.loop-part-test.true
     ∙ (λ i. sym c.part-item.is i ∷ drop (sym (add-one c.loop-part.part-index) i) c.args.parts.now) in (

@@ -1,0 +1,8 @@
+use Rattle.query_reader.specs.Printed.{hides_in_quote}
+use Rattle.query_reader.proofs.Hiding.{hidden_step}
+use Rattle.query_reader.proofs.printer.push_quoted.Goals as goal
+
+pub loop-byte-preserved : goal.loop-byte-preserved
+loop-byte-preserved c =
+    hidden_step hides_in_quote c.loop-byte.out.items c.push_byte.new.out.items c.args.text.now _ c.loop-byte.byte-index c.hides.result c.loop-byte-test.true
+    c.hides.ensures c.in_ok-push_byte.ensures c.loop-byte.invariant
