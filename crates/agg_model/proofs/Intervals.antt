@@ -1,5 +1,5 @@
 -- Where no aggregation is refused, each interval is at least 1.
-use Rattle.std.proofs.Common.{◌≡◌, ℕ, zero, suc, ◌<◌, Bool, true, false, T, List, [], ◌∷◌, length, Option, Some, None, refl, sym, subst, arith, if◌then◌else◌, slice_get, pos, ◌≤ℤ◌}
+use Rattle.std.proofs.Common.{◌≡◌, ◌∙◌, ℕ, zero, suc, ◌+◌, ◌<◌, Bool, true, false, T, List, [], ◌∷◌, length, drop, get_or, Option, Some, None, refl, sym, ap, subst, arith, if◌then◌else◌, slice_get, pos, ◌≤ℤ◌}
 use Rattle.std.proofs.lemmas.List.Elements.{All-nil, All-cons, All-head, All-tail}
 use Rattle.std.specs.List.{All}
 use Rattle.std.specs.Option.{option_or, option_and_then}
@@ -44,3 +44,16 @@ have_intervals fields (named ∷ rest) over none =
     All-cons (λ named. HasInterval named.agg) named rest
     (one_interval fields (field_of named.agg) named (All-head (λ named. field_of named.agg < length fields) named rest over) both.0)
     (have_intervals fields rest (All-tail (λ named. field_of named.agg < length fields) named rest over) both.1)
+
+-- one that is not refused leaves the first refusal to those behind it
+past_refusal : (fields : List Field) (request : List NamedAgg) (i : ℕ) (named : NamedAgg) → i < length request → named ≡ get_or request i named → refusal_of fields named ≡ None
+    → first_refusal fields (drop i request) ≡ first_refusal fields (drop (suc i) request)
+past_refusal fields [] i named l is none = absurd (omega (arith, l))
+past_refusal fields (x ∷ xs) zero named l is none = ap (λ (o : Option AggError). option_or o (first_refusal fields xs)) (ap (λ (n : NamedAgg). refusal_of fields n) (sym is) ∙ none)
+past_refusal fields (x ∷ xs) (suc i) named l is none = past_refusal fields xs i named (omega (arith, l)) is none
+
+pub next_refusal : (fields : List Field) (request : List NamedAgg) (i : ℕ) (named : NamedAgg) → i < length request → named ≡ get_or request i named → refusal_of fields named ≡ None
+    → first_refusal fields (drop i request) ≡ first_refusal fields (drop (i + 1) request)
+next_refusal fields request i named l is none =
+    let next : suc i ≡ i + 1 = omega arith in
+    past_refusal fields request i named l is none ∙ ap (λ (n : ℕ). first_refusal fields (drop n request)) next

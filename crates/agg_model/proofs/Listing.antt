@@ -1,5 +1,5 @@
 -- The values of a part, listed, are those that some document has.
-use Rattle.std.proofs.Common.{◌≡◌, ℕ, suc, ◌<◌, ◌+◌, Bool, true, false, cond, List, [], ◌∷◌, ◌++◌, length, get_or, Option, Some, None, refl, sym, ◌∙◌, ap, arith, ℤ, pos, negsuc, String, is_some, nat_lt, zero-add}
+use Rattle.std.proofs.Common.{◌≡◌, ℕ, suc, ◌<◌, ◌+◌, Bool, true, false, cond, List, [], ◌∷◌, ◌++◌, append_assoc, length, get_or, Option, Some, None, refl, sym, ◌∙◌, ap, arith, ℤ, pos, negsuc, String, is_some, nat_lt, zero-add}
 use Rattle.std.proofs.lemmas.Bool.{false≢true, lt-ltb}
 use Rattle.std.proofs.lemmas.Bool.Decides.{Decides-int_eq}
 use Rattle.std.proofs.lemmas.List.Elements.{All-map, All-append}
@@ -21,6 +21,7 @@ use Rattle.std.specs.Str.{bytes_eq}
 use Rattle.std.specs.String.{string_bytes, string_eq, string_eq_equiv}
 use Rattle.std.specs.declared.alloc.Global.{Global}
 use Rattle.doc_value.specs.declared.doc.DocField.{DocField}
+use Rattle.doc_value.specs.declared.doc.Value.{Value}
 use Rattle.agg_model.specs.Answers.{AreCounted}
 use Rattle.agg_model.specs.Counting.{Slot, text, signed, unsigned, truth, datetime, slot_of, same_slot, truth_number, value_count}
 use Rattle.agg_model.specs.Listed.{value_at, counted, listed, text_slot, all_listed, AreUnique}
@@ -30,6 +31,11 @@ use Rattle.agg_model.specs.declared.ranking.ValueCount.{ValueCount}
 use Rattle.agg_model.specs.declared.request.Agg.TheVariants.{Terms}
 use Rattle.agg_model.specs.declared.tallies.Tally.{Tally}
 use Rattle.agg_model.proofs.Values.{same_slot_is}
+
+-- one more entry goes from what is left of a map to the list
+pub listed_more : {K : Type 0} (slot : K → Slot) (all new whole : List ValueCount) (k : K) (t : Tally) (v : Value) (rest : List (K × Tally)) → new ≡ all ++ record { value = v; count = t.count } ∷ [] → v ≡ value_at (slot k)
+    → all ++ listed slot ((k, t) ∷ rest) ≡ whole → new ++ listed slot rest ≡ whole
+listed_more slot all new whole k t v rest pushed is h = rw (pushed, is) (append_assoc all (counted (slot k) t ∷ []) (listed slot rest) ∙ h)
 
 -- a value is counted at its slot, and at no other
 slot_round : (s : Slot) → IsSlotOfValue s → slot_of (value_at s) ≡ s

@@ -183,18 +183,21 @@ merged_stand request mine yours new ds es e h k =
     (all_zip_at (λ (named : NamedAgg) (counts : Counts). CountsFor named.agg counts ds) request mine i d c h l)
     (all_zip_at (λ (named : NamedAgg) (counts : Counts). CountsFor named.agg counts es) request yours i d c k l))
 
+-- a part has room for as much again
+pub has_room : (n : ℕ) (agg : Agg) (counts : Counts) → n < 2 ^ 62 → IsPart n agg counts → HasRoom counts
+has_room n agg counts few p = record {
+  tallies = λ slot. IfSome_then (tally_at counts slot) (p.tallies slot) (λ t s. let most = s.most in omega arith);
+  steps = λ step. IfSome_then (in_step counts step) (p.steps step) (λ t s. let most = s.most in omega arith);
+}
+
 -- each part has room for as much again
 pub have_room : (n : ℕ) (request : List NamedAgg) (parts : List Counts) → n < 2 ^ 62 → AllZip (λ named counts. IsPart n named.agg counts) request parts → All HasRoom parts
 have_room n request parts few h i d l =
     let long = all_zip_long (λ (named : NamedAgg) (counts : Counts). IsPart n named.agg counts) request parts h in
-    room (all_zip_at (λ (named : NamedAgg) (counts : Counts). IsPart n named.agg counts) request parts i (some_named request i (omega arith)) d h (omega arith))
+    let named = some_named request i (omega arith) in
+    let at = all_zip_at (λ (named : NamedAgg) (counts : Counts). IsPart n named.agg counts) request parts i named d h (omega arith) in
+    has_room n (get_or request i named).agg (get_or parts i d) few at
   where
     some_named : (request : List NamedAgg) (i : ℕ) → i < length request → NamedAgg
     some_named [] i l = absurd (omega arith)
     some_named (x ∷ xs) i l = x
-
-    room : {agg : Agg} → IsPart n agg (get_or parts i d) → HasRoom (get_or parts i d)
-    room p = record {
-      tallies = λ slot. IfSome_then (tally_at (get_or parts i d) slot) (p.tallies slot) (λ t s. let most = s.most in omega arith);
-      steps = λ step. IfSome_then (in_step (get_or parts i d) step) (p.steps step) (λ t s. let most = s.most in omega arith);
-    }

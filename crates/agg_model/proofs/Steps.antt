@@ -1,13 +1,13 @@
 -- Steps of a histogram are near 0.
-use Rattle.std.proofs.Common.{◌≡◌, ℕ, ◌<◌, ◌≤◌, ◌+◌, ◌-◌, ◌*◌, ◌/◌, ◌^◌, refl, sym, ◌∙◌, ap, subst, arith, Bool, true, false, cond, List, [], ◌∷◌, ◌++◌, Option, Some, None, unwrap_or, add-zero, ℤ, pos, negsuc, ◌≤ℤ◌, ◌-ℤ◌, ◌*ℤ◌, ◌⊎◌, inl, inr}
-use Rattle.std.proofs.lemmas.Int.{ints, unsigned_abs-mul}
+use Rattle.std.proofs.Common.{◌≡◌, ℕ, ◌<◌, ◌≤◌, ◌+◌, ◌-◌, ◌*◌, ◌/◌, ◌^◌, refl, sym, ◌∙◌, ap, subst, arith, Bool, true, false, cond, List, [], ◌∷◌, ◌++◌, Option, Some, None, unwrap_or, add-zero, ℤ, pos, negsuc, ◌≤ℤ◌, ◌+ℤ◌, ◌-ℤ◌, ◌*ℤ◌, ◌⊎◌, inl, inr}
+use Rattle.std.proofs.lemmas.Int.{fits_signed_from_abs, ints, to_z-of_z, unsigned_abs-mul}
 use Rattle.std.proofs.Math.Nat.{mul-le-mul_left, mul-le-mul_right}
 use Rattle.std.proofs.lemmas.Bool.{cases_lt}
 use Rattle.std.proofs.lemmas.Bool.Decides.{Decides-int_eq}
 use Rattle.std.proofs.lemmas.List.Sums.{sum_by_push}
 use Rattle.std.proofs.lemmas.Option.{none-some, same_Some, IfSome_then}
 use Rattle.std.specs.Int.{int_div_euclid}
-use Rattle.std.specs.Int.RustNames.{unsigned_abs}
+use Rattle.std.specs.Int.RustNames.{FitsSigned, unsigned_abs}
 use Rattle.std.specs.Option.{option_map, option_map_or, IfSome}
 use Rattle.std.specs.Ordering.{int_eq}
 use Rattle.doc_value.specs.declared.doc.DocField.{DocField}
@@ -16,6 +16,33 @@ use Rattle.agg_model.specs.Partials.{IsNear, IsPart, IsStep, IsStepRaised, Count
 use Rattle.agg_model.specs.declared.counts.Counts.{Counts}
 use Rattle.agg_model.specs.declared.request.Agg.{Agg}
 use Rattle.agg_model.specs.declared.request.Agg.TheVariants.{Histogram}
+use mir.Syntax.{w128}
+use mir.Val.{to_z, of_z}
+
+-- a step's place on the scale, where the step begins, and how far a whole number is from the first step
+same_place : (s i p q : ℤ) → p ≡ s → q ≡ i → p *ℤ q ≡ s *ℤ i
+same_place s i p q e f = cc
+
+pub place_fits : (s i p q : ℤ) → p ≡ s → q ≡ i → unsigned_abs (s *ℤ i) < 2 ^ 98 → FitsSigned w128 (p *ℤ q)
+place_fits s i p q e f h = subst (λ (z : ℤ). FitsSigned w128 z) (sym (same_place s i p q e f)) (fits_signed_from_abs w128 (s *ℤ i) (omega (arith, h)))
+
+pub begin_fits : (s i p q o : ℤ) → p ≡ s → q ≡ i → unsigned_abs (s *ℤ i) < 2 ^ 98 → unsigned_abs o < 2 ^ 96
+    → FitsSigned w128 (to_z w128 (of_z w128 (p *ℤ q)) +ℤ to_z w128 (of_z w128 o))
+begin_fits s i p q o e f h k =
+    let fits = place_fits s i p q e f h in
+    let place : to_z w128 (of_z w128 (p *ℤ q)) ≡ s *ℤ i = to_z-of_z w128 (p *ℤ q) fits ∙ same_place s i p q e f in
+    let own : to_z w128 (of_z w128 o) ≡ o = to_z-of_z w128 o (fits_signed_from_abs w128 o (omega (arith, k))) in
+    rw (place, own) (sum_fits (s *ℤ i) o h k)
+  where
+    sum_fits : (a b : ℤ) → unsigned_abs a < 2 ^ 98 → unsigned_abs b < 2 ^ 96 → FitsSigned w128 (a +ℤ b)
+    sum_fits a b h k = fits_signed_from_abs w128 (a +ℤ b) (omega (arith, ints))
+
+pub apart_fits : (z o : ℤ) → FitsSigned w128 z → unsigned_abs z ≤ 2 ^ 64 → unsigned_abs o < 2 ^ 96
+    → FitsSigned w128 (to_z w128 (of_z w128 z) -ℤ to_z w128 (of_z w128 o))
+apart_fits z o fits h k = rw (to_z-of_z w128 z fits, to_z-of_z w128 o (fits_signed_from_abs w128 o (omega (arith, k)))) (gap_fits z o h k)
+  where
+    gap_fits : (a b : ℤ) → unsigned_abs a ≤ 2 ^ 64 → unsigned_abs b < 2 ^ 96 → FitsSigned w128 (a -ℤ b)
+    gap_fits a b h k = fits_signed_from_abs w128 (a -ℤ b) (omega (arith, ints))
 
 down_near : (a n : ℕ) → 1 ≤ n → (a / n) * n ≤ a
 down_near a n h = grind arith

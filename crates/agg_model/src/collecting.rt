@@ -45,7 +45,8 @@ fn step_of(interval: Distance, offset: Distance, whole: i128) -> i128
     ensures value { result ≡ step_of interval offset whole }
     ensures near { IsNear interval offset result }
 {
-    (whole - offset.whole()).div_euclid(interval.whole())
+    let apart = whole - offset.whole();
+    apart.div_euclid(interval.whole())
 }
 
 // The step of the document's first value of the field.

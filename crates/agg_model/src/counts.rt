@@ -3,8 +3,8 @@
 ghost use Rattle.std.specs.Prelude.{◌≡◌, ◌^◌, ◌<◌, IfSome, OnOk};
 
 use crate::tallies::{
-    StepCounts, TextTallies, WholeTallies, merge_steps, merge_texts, merge_wholes, raise_text,
-    raise_whole,
+    StepCounts, TextTallies, WholeTallies, add_step, merge_steps, merge_texts, merge_wholes,
+    raise_text, raise_whole,
 };
 use doc_value::Value;
 use std::alloc::{AllocError, Global};
@@ -76,8 +76,7 @@ impl Counts {
         requires { IfSome (in_step self.old step) (λ count. count < 2 ^ 62) }
         ensures { OnOk result (IsStepRaised step self.old self.new) }
     {
-        *self.steps.entry(step)?.or_insert(0) += 1;
-        Ok(())
+        add_step(&mut self.steps, step, 1)
     }
 
     /// Adds what another part of the same aggregation counts.

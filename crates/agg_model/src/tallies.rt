@@ -34,6 +34,20 @@ fn raise(tally: &mut Tally, number: u64)
     }
 }
 
+// Puts a tally in at the text.
+fn put_text(
+    alloc: Global,
+    tallies: &mut TextTallies,
+    text: &str,
+    tally: Tally,
+) -> Result<(), AllocError>
+    ensures { OnOk result ((t : List ℕ) → get_by_text tallies.new t ≡ (if bytes_eq text.now t then Some tally else get_by_text tallies.old t)) }
+{
+    let key = String::from_str(alloc, text)?;
+    tallies.insert(key, tally)?;
+    Ok(())
+}
+
 /// Counts the document of this number for the text, once however often it is called.
 pub fn raise_text(
     alloc: Global,
@@ -49,15 +63,15 @@ pub fn raise_text(
         raise(tally, number);
         return Ok(());
     }
-    let key = String::from_str(alloc, text)?;
-    tallies.insert(
-        key,
+    put_text(
+        alloc,
+        tallies,
+        text,
         Tally {
             count: 1,
             last: number,
         },
-    )?;
-    Ok(())
+    )
 }
 
 /// Counts the document of this number for the whole number, once however often it is called.
@@ -95,9 +109,7 @@ pub fn add_text(
         tally.count += more.count;
         return Ok(());
     }
-    let key = String::from_str(alloc, text)?;
-    tallies.insert(key, more)?;
-    Ok(())
+    put_text(alloc, tallies, text, more)
 }
 
 /// Adds documents that another tally counted for the whole number.
@@ -145,8 +157,8 @@ pub fn merge_wholes(tallies: &mut WholeTallies, other: &WholeTallies) -> Result<
 /// How many documents lie in each step of a histogram.
 pub type StepCounts = BTreeMap<i128, u64>;
 
-// Adds documents that lie in a step.
-fn add_step(steps: &mut StepCounts, step: i128, more: u64) -> Result<(), AllocError>
+/// Adds documents that lie in a step.
+pub fn add_step(steps: &mut StepCounts, step: i128, more: u64) -> Result<(), AllocError>
     requires { IfSome (tree.get int_cmp steps.old step) (λ count. count + more < 2 ^ 64) }
     ensures { OnOk result ((z : ℤ) → tree.get int_cmp steps.new z ≡
         (if int_eq step z then step_sum (tree.get int_cmp steps.old step) (Some more) else tree.get int_cmp steps.old z)) }

@@ -1,6 +1,6 @@
 // What is looked up for what a query asks of one field.
 
-ghost use Rattle.std.specs.Prelude.{◌≡◌, ◌<◌, ◌++◌, ◌∷◌, [], Bool, length, nat_lt, IfOk, OnOk, if◌then◌else◌};
+ghost use Rattle.std.specs.Prelude.{◌≡◌, ◌<◌, ◌++◌, ◌∷◌, [], Bool, Some, length, nat_lt, IfOk, OnOk, if◌then◌else◌};
 ghost use Rattle.query_ast.specs.FieldTokens.{prefix_text};
 ghost use Rattle.query_ast.specs.Spelled.{spelled};
 ghost use Rattle.split_bundle.specs.Keys.{field_key, presence_key};
@@ -12,11 +12,11 @@ ghost use Rattle.doc_sets.specs.declared.wanted.Wanted.TheVariants.{Each, Within
 
 use crate::dictionary_lookup::{Lookup, Lookups};
 use crate::texts::is_text;
-use crate::values::presence_bytes;
+use crate::values::{presence_bytes, value_bytes};
 use crate::wanted::{Wanted, between};
 use crate::words::key_bytes;
 use byte_fields::Bytes;
-use doc_value::{Field, Kind, term_bytes};
+use doc_value::{Field, Kind, Value};
 use query_ast::{Edge, Item, folded_prefix, tokens_of, value_of};
 use std::alloc::{AllocError, Global};
 use text_tokens::Token;
@@ -50,6 +50,20 @@ fn add_tokens(
     Ok(())
 }
 
+// Puts in what is looked up for a value.
+fn push_value(
+    alloc: Global,
+    lookups: &mut Lookups,
+    number: usize,
+    value: &Value,
+) -> Result<(), AllocError>
+    requires { number < 256 }
+    ensures { OnOk result (lookups.new ≡ lookups.old ++ lookups_for (value_keys number (Some value.now))) }
+{
+    let key = value_bytes(alloc, number, value)?;
+    lookups.push(Lookup::Documents(Bytes::from_vec(key)))
+}
+
 // Puts in what is looked up for the value that a text spells.
 fn add_value(
     alloc: Global,
@@ -62,12 +76,7 @@ fn add_value(
     ensures { OnOk result (lookups.new ≡ lookups.old ++ lookups_for (value_keys number (spelled kind text.now))) }
 {
     match value_of(alloc, kind, text)? {
-        Some(value) => {
-            let term = term_bytes(alloc, &value)?;
-            let key = key_bytes(alloc, number, term.as_slice())?;
-            lookups.push(Lookup::Documents(Bytes::from_vec(key)))?;
-            Ok(())
-        }
+        Some(value) => push_value(alloc, lookups, number, &value),
         None => Ok(()),
     }
 }

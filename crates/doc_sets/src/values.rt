@@ -72,6 +72,19 @@ pub(crate) fn has_64(value: &Value)
     }
 }
 
+// The key of a value of a field.
+pub(crate) fn value_bytes(
+    alloc: Global,
+    number: usize,
+    value: &Value,
+) -> Result<Vec<u8>, AllocError>
+    requires { number < 65536 }
+    ensures { IfOk result (λ key. key.items ≡ field_key number (term_bytes value.now)) }
+{
+    let term = term_bytes(alloc, value)?;
+    key_bytes(alloc, number, term.as_slice())
+}
+
 // The documents that have a value of a field that is not one of texts.
 pub(crate) fn value_documents(
     alloc: Global,
@@ -90,7 +103,6 @@ pub(crate) fn value_documents(
 {
     value_by_keys();
     has_64(value);
-    let term = term_bytes(alloc, value)?;
-    let key = key_bytes(alloc, number, term.as_slice())?;
+    let key = value_bytes(alloc, number, value)?;
     key_documents(alloc, index, part, &key, field.positions)
 }

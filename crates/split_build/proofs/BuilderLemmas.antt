@@ -17,20 +17,17 @@ use Rattle.split_bundle.proofs.Light.{weighs}
 use Rattle.split_build.specs.declared.builder.Builder.{Builder}
 use Rattle.split_build.specs.declared.builder.BuiltSplit.{BuiltSplit}
 use Rattle.split_build.specs.declared.build_error.BuildError.TheVariants.{TooManyDocs, TooLarge}
-use Rattle.split_build.specs.declared.file.FileParts.{FileParts}
 use Rattle.split_build.specs.Bodies.{body_of}
 use Rattle.split_build.specs.Builders.{HasTaken, CanTake, IsBuilt}
-use Rattle.split_build.specs.Filed.{parts_of, IsFileOf}
 use Rattle.split_build.specs.HeldColumns.{HasColumns}
 use Rattle.split_build.specs.HeldDocuments.{HasDocuments}
 use Rattle.split_build.specs.HeldTags.{HasTags}
 use Rattle.split_build.specs.HeldTerms.{HasSaid}
 use Rattle.split_build.specs.Limits.{MakeNone, max_documents}
 use Rattle.split_build.specs.Said.{Said, in_document, said_from}
-use Rattle.split_build.specs.Sections.{AreLogs, ArePartsOf}
+use Rattle.split_build.specs.Sections.{AreLogs}
 use Rattle.split_build.specs.Tags.{AreTagsOf, tag_numbers}
 use Rattle.split_build.specs.Times.{AreTimes, seconds_in}
-use Rattle.split_build.proofs.BuiltLemmas.{is_split}
 use Rattle.split_build.proofs.TakenLemmas.{body_weighs, weight_more, documents_more, light_few, light_within, said_more}
 
 -- ---- what it can take
@@ -96,12 +93,11 @@ are_logs b s ds h =
     let own = own_schema b s ds h in
     record { are_documents = own.are_documents; bodies = own.bodies; said = own.said; columns_are = own.columns }
 
-pub built : (b : Builder) (s : Schema) (ds : List Placed) (f : FileParts) (file : List ℕ) (r : BuiltSplit) → HasTaken b s ds → (parts : ArePartsOf b.schema ds f) → f.docs ≡ b.count → IsFileOf (parts_of f parts.terms.keys) file → length file < 2 ^ 64
+pub built : (b : Builder) (s : Schema) (ds : List Placed) (file : List ℕ) (r : BuiltSplit) → HasTaken b s ds → IsSplit b.schema file ds
     → r.bytes ≡ file → r.facts.docs ≡ b.count → r.facts.rejected ≡ 0 → r.facts.weight ≡ b.weight → r.facts.size ≡ length file → r.facts.digest ≡ sha256 file → r.facts.times ≡ b.times → AreTagsOf ds (tag_numbers 0 s.fields) r.facts.tags
     → IsBuilt s ds r
-built b s ds f file r h parts docs is small bytes count rejected heavy size digest times tags = record {
-  split = subst (λ (l : List ℕ). IsSplit s l ds) (sym bytes)
-      (subst (λ (x : Schema). IsSplit x file ds) h.schema (is_split b.schema ds f file parts (own_schema b s ds h).are_documents (docs ∙ h.count) is small));
+built b s ds file r h split bytes count rejected heavy size digest times tags = record {
+  split = subst (λ (l : List ℕ). IsSplit s l ds) (sym bytes) (subst (λ (x : Schema). IsSplit x file ds) h.schema split);
   facts = record {
     docs = count ∙ h.count;
     rejected_are = rejected;

@@ -14,7 +14,7 @@ use crate::column_parts::{add_columns, column_logs};
 use crate::columns::ColumnLog;
 use crate::documents::DocumentLog;
 use crate::occurrences::{Walker, values_in};
-use crate::sections::write_parts;
+use crate::sections::file_of;
 use crate::tag_parts::{add_tags, tag_facts, tag_logs};
 use crate::tags::TagLog;
 use crate::terms::TermLog;
@@ -67,12 +67,12 @@ impl Builder {
     {
         Ok(Builder {
             schema: schema.copy(alloc)?,
-            count: 0,
-            weight: 0,
-            documents: DocumentLog::vacant(alloc),
             terms: TermLog::vacant(alloc)?,
             columns: column_logs(alloc, schema)?,
             tags: tag_logs(alloc, schema)?,
+            documents: DocumentLog::vacant(alloc),
+            count: 0,
+            weight: 0,
             times: None,
             walker: Walker::vacant(alloc),
             body: Vec::new(alloc),
@@ -142,8 +142,7 @@ impl Builder {
             times,
             ..
         } = self;
-        let parts = write_parts(alloc, &schema, count, documents, terms, columns)?;
-        let file = parts.write_file(alloc)?;
+        let file = file_of(alloc, &schema, count, documents, terms, columns)?;
         let facts = RowFacts {
             docs: u64::from(count),
             rejected: 0,

@@ -1,8 +1,9 @@
 //! The sections of a split, written from what was taken of its documents.
 
-ghost use Rattle.std.specs.Prelude.{◌≡◌, List, IfOk};
+ghost use Rattle.std.specs.Prelude.{◌≡◌, List, IfOk, length};
 ghost use Rattle.split_bundle.specs.declared.placed.Placed.{Placed};
 ghost use Rattle.split_bundle.specs.Documents.{documents_section};
+ghost use Rattle.split_bundle.specs.Splits.{IsSplit};
 ghost use Rattle.split_build.specs.HeldDocuments.{HasDocuments};
 ghost use Rattle.split_build.specs.Sections.{AreLogs, ArePartsOf};
 
@@ -30,8 +31,8 @@ fn section_of(
     Ok(out)
 }
 
-/// The sections of so many documents. What was taken of them is let go section by section.
-pub(crate) fn write_parts(
+// The sections of so many documents. What was taken of them is let go section by section.
+fn write_parts(
     alloc: Global,
     schema: &Schema,
     count: u32,
@@ -54,4 +55,20 @@ pub(crate) fn write_parts(
         columns,
         partitions,
     })
+}
+
+/// The split file of so many documents.
+pub(crate) fn file_of(
+    alloc: Global,
+    schema: &Schema,
+    count: u32,
+    documents: DocumentLog,
+    terms: TermLog,
+    columns: Vec<ColumnLog>,
+) -> Result<Vec<u8>, AllocError>
+    requires { ∥ ((ds : List Placed) × AreLogs schema.now ds documents terms columns.items) ∥₁ }
+    ensures { (ds : List Placed) → AreLogs schema.now ds documents terms columns.items → count ≡ length ds → IfOk result (λ file. IsSplit schema.now file.items ds) }
+{
+    let parts = write_parts(alloc, schema, count, documents, terms, columns)?;
+    parts.write_file(alloc)
 }

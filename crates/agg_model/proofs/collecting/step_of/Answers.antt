@@ -1,9 +1,12 @@
 use Rattle.std.proofs.Common.{◌≡◌, rules}
 use Rattle.agg_model.specs.Counting.{step_of}
-use Rattle.agg_model.proofs.Steps.{near_step}
+use Rattle.agg_model.proofs.Steps.{apart_fits, near_step}
 use Rattle.agg_model.proofs.collecting.step_of.Goals as goal
 use mir.Syntax.{w128}
 use mir.Val.{to_z, of_z}
+
+pub overflow_sub-apart : goal.overflow_sub-apart
+overflow_sub-apart c = apart_fits c.args.whole c.whole.result c.ranges.whole c.requires.small c.whole.ensures.near
 
 -- the quotient of a small number
 pub returns-clause-near : goal.returns-clause-near

@@ -2,8 +2,5 @@ use Rattle.std.proofs.Common.{arith}
 use Rattle.std.proofs.lemmas.Map.Text.{text_keys}
 use Rattle.agg_model.proofs.tallies.raise_text.Goals as goal
 
-pub returns : goal.returns
-returns c = λ q. grind (arith, text_keys)
-
 pub returns-in-Some : goal.returns-in-Some
 returns-in-Some c = λ q. grind (arith, text_keys)

@@ -17,7 +17,7 @@ returns-clause-only c = λ s documents p is got on no_text of_kind.
     let f = c.args.field.now in
     let v = c.args.part.now in
     let w = c.args.value.now in
-    let key : c.deref.result.now ≡ field_key n (term_bytes w) = c.deref.ensures.value ∙ (c.in_ok-key.ensures ∙ ap (field_key n) (c.as_slice.ensures ∙ c.in_ok-term.ensures)) in
+    let key : c.deref.result.now ≡ field_key n (term_bytes w) = c.deref.ensures.value ∙ c.in_ok-key.ensures in
     let flag : f.positions ≡ keeps_places s c.deref.result.now = sym (ap (λ k. keeps_places s k) key ∙ places_kept s n f (term_bytes w) got) in
     gives_same (λ d. IsOfSchema s d.doc × AllHave64 (values_in d.doc n)) (LacksKeys v s documents p (c.deref.result.now ∷ [])) (LacksKeys v s documents p (field_key n (term_bytes w) ∷ [])) c.key_documents.result
     (λ d. has_key c.deref.result.now (keys_of s d)) (λ d. equals_some (Some w) (values_in d n)) documents

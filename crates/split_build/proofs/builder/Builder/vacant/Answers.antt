@@ -8,7 +8,7 @@ returns c = record {
   are_documents = record { schema = c.requires; of_schema = tt; held = tt; light = omega arith };
   count = omega arith;
   weight = omega arith;
-  bodies = c.vacant.ensures;
+  bodies = c.vacant-2.ensures;
   said = c.in_ok-vacant.ensures c.args.schema.now;
   columns = c.in_ok-column_logs.ensures;
   tags = c.in_ok-tag_logs.ensures;
