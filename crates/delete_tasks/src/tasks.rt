@@ -7,6 +7,7 @@ ghost use Rattle.delete_tasks.specs.Adding.{IsRefusedAt};
 use crate::task::Task;
 use std::alloc::{AllocError, Global};
 use std::marker::Model;
+use std::mem;
 use thiserror::Error;
 
 /// How many tasks an index has at most.
@@ -110,6 +111,7 @@ impl Tasks {
         ensures refused { IsRefusedAt (length self.old.list) result }
     {
         if self.list.len() >= MOST_TASKS {
+            mem::drop(task);
             return Err(TaskError::TooManyTasks {
                 count: self.list.len(),
             });
@@ -117,7 +119,7 @@ impl Tasks {
         let opstamp = task.opstamp;
         match self.list.push(task) {
             Ok(()) => Ok(opstamp),
-            Err(_) => Err(TaskError::Memory(AllocError)),
+            Err(refused) => Err(TaskError::Memory(AllocError::from(refused))),
         }
     }
 }

@@ -46,7 +46,10 @@ fn first_error(error: JournalError, before: u64) -> WorldError
     ensures { result ≡ of_first before error }
 {
     match error {
-        JournalError::Adopted { .. } => WorldError::IndexExists,
+        JournalError::Adopted { entry } => {
+            mem::drop(entry);
+            WorldError::IndexExists
+        }
         error => world_error(error, 0, before),
     }
 }

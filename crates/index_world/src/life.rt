@@ -10,7 +10,7 @@ use crate::taking::{admit, moment_of, prepare, world_error};
 use crate::world_error::WorldError;
 use index_config::IndexConfig;
 use meta_journal::{Entry, Journal, JournalError, meta_key};
-use meta_store::Meta;
+use meta_store::{Meta, Reading};
 use object_store::ObjectStore;
 use std::alloc::Global;
 use std::mem;
@@ -30,7 +30,10 @@ pub struct Life {
 }
 
 impl Life {
-    ghost use Rattle.std.specs.Prelude.{◌≡◌, OnOk, IfOk, MatchResult, Some};
+    ghost use Rattle.std.specs.Prelude.{◌≡◌, OnOk, IfOk, MatchResult, Option, Some};
+    ghost use Rattle.meta_store.specs.Readings as read;
+    ghost use Rattle.meta_store.specs.declared.config.Config.{Config};
+    ghost use Rattle.index_world.specs.Config.{reads};
     ghost use Rattle.meta_journal.specs.declared.place.Place.TheVariants.{Sure, Given};
     ghost use Rattle.object_store.specs.Store.{State};
     ghost use Rattle.source_log.specs.Log.{Log};
@@ -57,7 +60,22 @@ impl Life {
         ensures place { OnOk result (self.new.journal.place ≡ Sure) }
         ensures taken { MatchResult result (λ done. TookIn self.old entry self.new) (λ error. TookNone self.old entry error self.new) }
     {
-        let reading = reading_of(alloc, &entry)?;
+        match reading_of(alloc, &entry) {
+            Ok(reading) => self.take_read(entry, reading),
+            Err(refused) => {
+                mem::drop(entry);
+                Err(WorldError::Memory(refused))
+            }
+        }
+    }
+
+    // Takes in the entry that the journal gave at its next number, whose readings these are.
+    fn take_read(&mut self, entry: Entry, reading: Reading) -> Result<(), WorldError>
+        requires given { self.old.journal.place ≡ Given }
+        requires read { (config : Option Config) → reading ≡ read.reading_of reads config entry.act }
+        ensures place { OnOk result (self.new.journal.place ≡ Sure) }
+        ensures taken { MatchResult result (λ done. TookIn self.old entry self.new) (λ error. TookNone self.old entry error self.new) }
+    {
         let moment = moment_of(&entry);
         // Only a number below the limit is in doubt.
         let _place = self.journal.place();
@@ -68,7 +86,10 @@ impl Life {
                 self.moment = self.moment.max(moment);
                 Ok(())
             }
-            Err(error) => Err(error),
+            Err(error) => {
+                mem::drop(entry);
+                Err(error)
+            }
         }
     }
 

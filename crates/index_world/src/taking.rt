@@ -39,9 +39,12 @@ pub fn world_error(error: JournalError, number: u64, before: u64) -> WorldError
 {
     match error {
         JournalError::Memory(refused) => WorldError::Memory(refused),
-        JournalError::Adopted { .. } => WorldError::Foreign {
-            key: meta_key(number),
-        },
+        JournalError::Adopted { entry } => {
+            mem::drop(entry);
+            WorldError::Foreign {
+                key: meta_key(number),
+            }
+        }
         JournalError::StoreFault { after, .. } => WorldError::StoreFault { before, after },
         JournalError::Foreign { key } => WorldError::Foreign { key },
         JournalError::Corrupt { key } => WorldError::Corrupt { key },
@@ -157,18 +160,41 @@ fn state_of(alloc: Global, entries: Vec<Entry>) -> Result<(Meta, u64), WorldErro
     ensures configured { 0 < vec_len entries → IfOk result (λ x. IsSome x.0.state.config) }
     ensures refused { IfErr result (IsRefusedAt (first_refused Start entries.items)) }
 {
+    let mut meta = Meta::vacant(alloc);
+    match take_all(alloc, &mut meta, entries) {
+        Ok(moment) => Ok((meta, moment)),
+        Err(error) => {
+            mem::drop(meta);
+            Err(error)
+        }
+    }
+}
+
+// Takes these entries into the state before the first, and gives the greatest moment of them.
+fn take_all(alloc: Global, meta: &mut Meta, entries: Vec<Entry>) -> Result<u64, WorldError>
+    requires vacant { meta.old.state ≡ spec.state_of reads Start }
+    requires few { vec_len entries ≤ 10000000 }
+    ensures revision { OnOk result (meta.new.state.revision ≡ vec_len entries) }
+    ensures moment { IfOk result (λ moment. moment < 2 ^ 62) }
+    ensures state { OnOk result (meta.new.state ≡ spec.state_of reads (history entries.items)) }
+    ensures greatest { AllByRecursion (λ e. e.moment < 2 ^ 62) entries.items → IfOk result (λ moment. moment ≡ told.moment_of (history entries.items)) }
+    ensures want { Legal reads (history entries.items) → IfErr result IsWant }
+    ensures no_fault { IfErr result IsNoFault }
+    ensures fit { OnOk result (first_refused Start entries.items ≡ None) }
+    ensures configured { 0 < vec_len entries → OnOk result (IsSome meta.new.state.config) }
+    ensures refused { IfErr result (IsRefusedAt (first_refused Start entries.items)) }
+{
     let mut left = entries;
     left.reverse();
-    let mut meta = Meta::vacant(alloc);
     let mut moment = 0;
     'entries: while let Some(entry) = left.pop() {
         let number = meta.revision();
         let reading = reading_of(alloc, &entry)?;
         moment = moment_of(&entry).max(moment);
-        let handed = admit(&mut meta, reading, &entry, number)?;
+        let handed = admit(meta, reading, &entry, number)?;
         meta.apply(entry, handed);
     }
-    Ok((meta, moment))
+    Ok(moment)
 }
 
 /// Opens the index of a store.

@@ -35,6 +35,7 @@ use source_checkpoint::{Checkpoint, Delta};
 use split_states::RowFacts;
 use std::alloc::{AllocError, Global};
 use std::marker::Model;
+use std::mem;
 
 /// One life of a world.
 pub struct World<S: ObjectStore, C: SteadyClock> {
@@ -164,10 +165,11 @@ impl<S: ObjectStore, C: SteadyClock> World<S, C> {
     {
         let World {
             store,
-            life: _,
+            life,
             clock,
             frozen: _,
         } = self;
+        mem::drop(life);
         (store, clock)
     }
 

@@ -11,6 +11,7 @@ use crate::fields::{
 use crate::{Act, Entry, EntryError};
 use byte_fields::{Bytes, FieldError, take_bytes, take_varint};
 use std::alloc::Global;
+use std::mem;
 
 const MOMENT_END: u64 = 1 << 62;
 
@@ -176,6 +177,7 @@ fn entry_whole(alloc: Global, bytes: &[u8]) -> Result<Entry, EntryError>
     let (moment, next) = take_moment(bytes, 5)?;
     let (act, next) = take_act(alloc, bytes, kind, next)?;
     if next != bytes.len() {
+        mem::drop(act);
         return Err(EntryError::Trailing { at: next });
     }
     Ok(Entry { moment, act })

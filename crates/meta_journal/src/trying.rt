@@ -1,14 +1,16 @@
 //! What is done at one number.
 
-ghost use Rattle.std.specs.Prelude.{◌≡◌, ◌≤◌, ◌<◌, ◌^◌, IfErr, IfOk};
+ghost use Rattle.std.specs.Prelude.{◌≡◌, ◌≤◌, ◌<◌, ◌^◌, IfErr, IfOk, IsErrOf};
+ghost use Rattle.byte_fields.specs.Causes.{HasCause};
 ghost use Rattle.object_store.specs.Store.{WhereTold};
 ghost use Rattle.meta_journal.specs.Spelling.{CanSpell};
-ghost use Rattle.meta_journal.specs.Journal.{FaultIs, IsOfRead, IsOfAppend, Appends, SettlesAt, Adopts};
+ghost use Rattle.meta_journal.specs.Journal.{FaultIs, IsOfRead, IsOfAppend, Appends, SettlesAt, Adopts, Tries, fence};
 
 use crate::objects::{create_entry, read_entry};
 use crate::{Act, Entry, JournalError, meta_key};
 use object_store::{CreateError, ObjectStore};
 use std::alloc::Global;
+use std::mem;
 
 // The number of an append is taken: by a foreign hand where a place before it was settled, else what stands is adopted.
 fn taken<S: ObjectStore>(
@@ -63,6 +65,26 @@ pub fn append_at<S: ObjectStore>(
     }
 }
 
+// Tries a fence at a number.
+fn create_fence<S: ObjectStore>(
+    alloc: Global,
+    store: &mut S,
+    number: u64,
+    moment: u64,
+) -> Result<(), CreateError>
+    requires { moment < 2 ^ 62 }
+    ensures tried { WhereTold (S.told store.old) (S.told store.new) (Tries number (fence moment) result) }
+    ensures cause { HasCause (S.fault_count store.old) (S.fault_count store.new) (IsErrOf result CreateError.Failed) }
+{
+    let fence = Entry {
+        moment,
+        act: Act::Fence,
+    };
+    let answer = create_entry(alloc, store, number, &fence);
+    mem::drop(fence);
+    answer
+}
+
 /// Tries a fence at a number, and gives what then stands there.
 pub fn settle_at<S: ObjectStore>(
     alloc: Global,
@@ -78,12 +100,11 @@ pub fn settle_at<S: ObjectStore>(
     ensures later { S.fault_count store.old ≤ S.fault_count store.new }
     ensures refusals { IfErr result IsOfRead }
 {
-    let fence = Entry {
-        moment,
-        act: Act::Fence,
-    };
-    match create_entry(alloc, store, number, &fence) {
-        Ok(()) => Ok(fence),
+    match create_fence(alloc, store, number, moment) {
+        Ok(()) => Ok(Entry {
+            moment,
+            act: Act::Fence,
+        }),
         Err(CreateError::Exists) => read_entry(alloc, store, number, before),
         Err(CreateError::Failed) => Err(JournalError::StoreFault {
             before,

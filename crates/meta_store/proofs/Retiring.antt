@@ -18,7 +18,7 @@ set_parts xs i y lt =
     sym (take-append-drop i (set xs i y))
     ∙ (ap (λ l. l ++ drop i (set xs i y)) (take-set xs i y) ∙ ap (λ l. take i xs ++ l) (drop-set xs i y lt))
 
-next_of : {X : Type 0} (xs : List X) (i : ℕ) (x : X) → i < length xs → x ≡ get_or xs i x → drop i xs ≡ x ∷ drop (i + 1) xs
+pub next_of : {X : Type 0} (xs : List X) (i : ℕ) (x : X) → i < length xs → x ≡ get_or xs i x → drop i xs ≡ x ∷ drop (i + 1) xs
 next_of xs i x lt is =
     let one : suc i ≡ i + 1 = omega arith in
     subst (λ y. drop i xs ≡ y ∷ drop (i + 1) xs) (sym is) (subst (λ j. drop i xs ≡ get_or xs i x ∷ drop j xs) one (drop-cons xs i x lt))
@@ -58,3 +58,9 @@ retired_next rows numbers i ranges more lt e =
 pub spans_long : (rows : List Row) (numbers : List ℕ) (i : ℕ) → i < length numbers →
     length (joined_spans rows (drop i numbers)) ≡ length (row_spans (row_at rows (get_or numbers i 0))) + length (joined_spans rows (drop (i + 1) numbers))
 spans_long rows numbers i lt = ap length (joined_next rows numbers i lt) ∙ length-append (row_spans (row_at rows (get_or numbers i 0))) (joined_spans rows (drop (i + 1) numbers))
+
+-- the range of the span at this place comes first
+pub ranges_next : (spans : List Span) (i : ℕ) (s : Span) (ranges more : List Part) → i < length spans → s ≡ get_or spans i s → more ≡ with_range (range_of s) ranges →
+    with_ranges (map range_of (drop (i + 1) spans)) more ≡ with_ranges (map range_of (drop i spans)) ranges
+ranges_next spans i s ranges more lt is e =
+    ap (with_ranges (map range_of (drop (i + 1) spans))) e ∙ ap (λ l. with_ranges (map range_of l) ranges) (sym (next_of spans i s lt is))

@@ -1,6 +1,6 @@
 //! The parts of the answer to an entry.
 
-ghost use Rattle.std.specs.Prelude.{◌≡◌, ◌+◌, ◌<◌, ◌^◌, length};
+ghost use Rattle.std.specs.Prelude.{◌≡◌, ◌+◌, ◌<◌, ◌^◌, length, Err};
 ghost use Rattle.split_states.specs.Answers.{answer_to_mark, answer_to_remove, answer_to_retire};
 ghost use Rattle.meta_store.specs.Answers.{in_delta, in_state, answer_to_moment, answer_to_next, answer_to_upto, answer_to_task, answer_to_config, answer_to_tasks, answer_to_rows, answer_to_spans, answer_to_each, answer_at_start, handed};
 
@@ -10,6 +10,7 @@ use delete_tasks::tasks::MOST_TASKS;
 use meta_journal::Act;
 use source_checkpoint::StaleDelta;
 use split_states::{Rows, StateRefusal, may_mark, may_remove, may_retire};
+use std::mem;
 
 const MOST_ROWS: usize = 100_000;
 
@@ -70,7 +71,10 @@ pub fn check_query(reading: Reading) -> Result<Reading, Refusal>
             config,
             query: Ok(query),
         }),
-        Err(error) => Err(Refusal::BadTask(error)),
+        Err(error) => {
+            mem::drop(config);
+            Err(Refusal::BadTask(error))
+        }
     }
 }
 
@@ -111,7 +115,10 @@ fn check_config(reading: Reading) -> Result<Reading, Refusal>
             config: Ok(settings),
             query,
         }),
-        Err(error) => Err(Refusal::BadConfig(error)),
+        Err(error) => {
+            mem::drop(query);
+            Err(Refusal::BadConfig(error))
+        }
     }
 }
 
@@ -121,8 +128,16 @@ pub fn check_first(act: &Act, reading: Reading) -> Result<Reading, Refusal>
 {
     match act {
         Act::Create { .. } => check_config(reading),
-        _ => Err(Refusal::NotCreated),
+        _ => refuse(reading, Refusal::NotCreated),
     }
+}
+
+/// Refuses, and lets the readings go.
+pub fn refuse(reading: Reading, refusal: Refusal) -> Result<Reading, Refusal>
+    ensures { result ≡ Err refusal }
+{
+    mem::drop(reading);
+    Err(refusal)
 }
 
 /// Hands the readings back where nothing is refused.
@@ -131,7 +146,7 @@ pub fn hand_back(reading: Reading, answer: Result<(), Refusal>) -> Result<Readin
 {
     match answer {
         Ok(()) => Ok(reading),
-        Err(refusal) => Err(refusal),
+        Err(refusal) => refuse(reading, refusal),
     }
 }
 

@@ -7,17 +7,18 @@ ghost use Rattle.meta_store.specs.History.{at};
 ghost use Rattle.meta_store.specs.History.History.{Start};
 ghost use Rattle.meta_store.specs.State.{state_of, after};
 ghost use Rattle.meta_store.specs.Readings.{Reads, configured};
-ghost use Rattle.meta_store.specs.Answers.{answer_to, answer_behind, answer_to_found, answer_to_next, answer_to_task, answer_to_tasks, answer_to_rows, answer_to_each, answer_to_upto, in_delta, in_state, handed, unread, IsUnread};
+ghost use Rattle.meta_store.specs.Answers.{answer_to, answer_by, answer_behind, answer_to_found, answer_to_next, answer_to_task, answer_to_tasks, answer_to_rows, answer_to_each, answer_to_upto, in_delta, in_state, handed, unread, IsUnread};
 ghost use Rattle.split_states.specs.Answers.{answer_to_replace, answer_to_raise, answer_to_mark, answer_to_remove, answer_to_retire};
 ghost use Rattle.source_checkpoint.specs.Deltas.{then_answer, answer_to_delta};
 ghost use Rattle.meta_store.specs.Room.{HasRoom};
-ghost use Rattle.meta_store.specs.Said.{Said};
-ghost use Rattle.meta_store.specs.Tasks.{task_of};
+ghost use Rattle.meta_store.specs.Said.{Said, sought_in};
+ghost use Rattle.meta_store.specs.Tasks.{task_of, query_in};
+ghost use Rattle.query_ast.specs.Sought.{view};
 
 use crate::checks::{
     check_first, check_moment, check_next, check_query, check_row_count, check_span_count,
     check_task_count, check_upto, hand_back, may_mark_each, may_remove_each, may_retire_each,
-    of_delta, of_state,
+    of_delta, of_state, refuse,
 };
 use crate::config::{Config, Reading, Settings};
 use crate::refusal::Refusal;
@@ -27,6 +28,7 @@ use delete_tasks::{Task, Tasks};
 use doc_value::TimeRange;
 use meta_journal::{Act, Entry};
 use query_ast::Query;
+use query_reader::QueryError;
 use source_checkpoint::{Delta, Ledger, Part, Partition, Span, Spans};
 use split_states::{
     Numbers, Row, RowFacts, RowState, Rows, StateRefusal, may_publish, may_raise, may_replace,
@@ -93,10 +95,14 @@ impl Model for Meta {
 fn config_read(text: Bytes, reading: Reading) -> Option<Config>
     ensures { result ≡ configured text reading.config }
 {
-    let Reading { config, query: _ } = reading;
+    let Reading { config, query } = reading;
+    mem::drop(query);
     match config {
         Ok(settings) => Some(Config { text, settings }),
-        Err(_error) => None,
+        Err(error) => {
+            mem::drop(error);
+            None
+        }
     }
 }
 
@@ -105,18 +111,24 @@ fn config_read(text: Bytes, reading: Reading) -> Option<Config>
 fn task_read(opstamp: u64, reading: Reading, times: TimeRange) -> Task
     ensures { result ≡ task_of opstamp reading.query times }
 {
-    let Reading { config: _, query } = reading;
+    let Reading { config, query } = reading;
+    mem::drop(config);
+    Task {
+        opstamp,
+        query: query_read(query),
+        times,
+    }
+}
+
+fn query_read(query: Result<Query, QueryError>) -> Query
+    ensures { view result ≡ query_in (sought_in query) }
+{
     match query {
-        Ok(query) => Task {
-            opstamp,
-            query,
-            times,
-        },
-        Err(_error) => Task {
-            opstamp,
-            query: Query::Nothing,
-            times,
-        },
+        Ok(query) => query,
+        Err(error) => {
+            mem::drop(error);
+            Query::Nothing
+        }
     }
 }
 
@@ -205,12 +217,18 @@ impl Meta {
     pub fn check(&self, entry: &Entry, reading: Reading) -> Result<Reading, Refusal>
         ensures { result ≡ handed reading (answer_to reading self.now.state entry.now) }
     {
-        if let Err(refusal) = check_moment(entry.moment, self.moment) {
-            return Err(refusal);
+        match check_moment(entry.moment, self.moment) {
+            Ok(()) => self.check_by_config(reading, entry.moment, &entry.act),
+            Err(refusal) => refuse(reading, refusal),
         }
+    }
+
+    fn check_by_config(&self, reading: Reading, moment: u64, act: &Act) -> Result<Reading, Refusal>
+        ensures { result ≡ handed reading (answer_by reading self.now.state.config self.now.state moment act.now) }
+    {
         match &self.config {
-            None => check_first(&entry.act, reading),
-            Some(config) => { self.check_act(reading, &config.settings, entry.moment, &entry.act) }
+            None => check_first(act, reading),
+            Some(config) => self.check_act(reading, &config.settings, moment, act),
         }
     }
 
@@ -224,32 +242,31 @@ impl Meta {
         ensures { result ≡ handed reading (answer_behind reading settings.now self.now.state moment act.now) }
     {
         match act {
-            Act::Fence => Ok(reading),
-            Act::Create { .. } => Err(Refusal::AlreadyCreated),
-            Act::Stage { number, delta, .. } => hand_back(
-                reading,
-                self.check_stage(*number, delta),
-            ),
-            Act::Publish { number } => hand_back(reading, self.check_publish(*number)),
-            Act::Replace { new, old, upto } => {
-                hand_back(reading, self.check_replace(*new, old, *upto))
-            }
-            Act::Raise { number, upto } => hand_back(reading, self.check_raise(*number, *upto)),
+            Act::Create { .. } => refuse(reading, Refusal::AlreadyCreated),
             Act::Task { opstamp, .. } => self.check_task(*opstamp, reading),
-            Act::MarkStaged { numbers } => hand_back(
-                reading,
-                self.check_marked(numbers, moment, settings.index.staged_grace),
-            ),
-            Act::Remove { numbers } => hand_back(
-                reading,
-                self.check_removed(numbers, moment, settings.index.deletion_grace),
-            ),
-            Act::Retire { numbers } => {
-                hand_back(
-                    reading,
-                    self.check_retired(numbers, moment, settings.period),
-                )
+            _ => hand_back(reading, self.check_unread(settings, moment, act)),
+        }
+    }
+
+    /// The answer to an act for which nothing is read.
+    fn check_unread(&self, settings: &Settings, moment: u64, act: &Act) -> Result<(), Refusal>
+        requires { IsUnread act.now }
+        ensures { (reading : Said) → result ≡ answer_behind reading settings.now self.now.state moment act.now }
+    {
+        match act {
+            Act::Fence => Ok(()),
+            Act::Create { .. } | Act::Task { .. } => unreachable!(),
+            Act::Stage { number, delta, .. } => self.check_stage(*number, delta),
+            Act::Publish { number } => self.check_publish(*number),
+            Act::Replace { new, old, upto } => self.check_replace(*new, old, *upto),
+            Act::Raise { number, upto } => self.check_raise(*number, *upto),
+            Act::MarkStaged { numbers } => {
+                self.check_marked(numbers, moment, settings.index.staged_grace)
             }
+            Act::Remove { numbers } => {
+                self.check_removed(numbers, moment, settings.index.deletion_grace)
+            }
+            Act::Retire { numbers } => self.check_retired(numbers, moment, settings.period),
         }
     }
 
@@ -301,10 +318,19 @@ impl Meta {
     fn check_task(&self, opstamp: u64, reading: Reading) -> Result<Reading, Refusal>
         ensures { result ≡ handed reading (then_answer (answer_to_next opstamp (self.now.state.last_opstamp + 1)) (then_answer (answer_to_task reading.query) (answer_to_tasks (length self.now.state.tasks)))) }
     {
-        check_next(opstamp, self.next_opstamp())?;
-        let reading = check_query(reading)?;
-        check_task_count(self.tasks.len())?;
-        Ok(reading)
+        match check_next(opstamp, self.next_opstamp()) {
+            Ok(()) => self.check_text(reading),
+            Err(refusal) => refuse(reading, refusal),
+        }
+    }
+
+    fn check_text(&self, reading: Reading) -> Result<Reading, Refusal>
+        ensures { result ≡ handed reading (then_answer (answer_to_task reading.query) (answer_to_tasks (length self.now.state.tasks))) }
+    {
+        match check_query(reading) {
+            Ok(reading) => hand_back(reading, check_task_count(self.tasks.len())),
+            Err(refusal) => Err(refusal),
+        }
     }
 
     fn next_opstamp(&self) -> u64

@@ -1,7 +1,8 @@
 //! Which change a row allows. No call here takes memory.
 
 ghost use Rattle.std.specs.Prelude.{◌≡◌, [], option_copied};
-ghost use Rattle.split_states.specs.Answers.{answer_to_publish, answer_to_new, answer_to_raise, answer_to_each_old, answer_to_replace, answer_to_mark, answer_to_remove, answer_to_retire, answer_to_grace, answer_to_age};
+ghost use Rattle.split_states.specs.Answers.{answer_to_publish, answer_to_new, answer_to_raise, answer_to_each_old, answer_to_replace, answer_to_mark, answer_to_remove, answer_to_retire, answer_to_grace, answer_to_age, where_found, where_published};
+ghost use Rattle.split_states.specs.Rows.{row_at};
 
 use crate::facts::RowFacts;
 use crate::numbers::{Numbers, is_repeated, rise};
@@ -143,7 +144,13 @@ pub fn may_retire(
     let Some(period) = period else {
         return Err(StateRefusal::NoRetention);
     };
-    let bound = i128::from(now) - i128::from(period);
+    may_leave(rows, number, i128::from(now) - i128::from(period))
+}
+
+/// Whether a row may be retired whose greatest time is at most the bound.
+fn may_leave(rows: &Rows, number: u64, bound: i128) -> Result<(), StateRefusal>
+    ensures { result ≡ where_found number (λ row. where_published number (λ r. answer_to_age number bound r.facts) row.state row) (row_at rows.now.list number) }
+{
     match rows.get(number) {
         None => Err(StateRefusal::NoRow { number }),
         Some(row) => match row.state {

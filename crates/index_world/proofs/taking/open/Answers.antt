@@ -21,12 +21,12 @@ use Rattle.index_world.proofs.taking.open.Goals as goal
 
 pub returns-then-is_empty-clause-opened : goal.returns-then-is_empty-clause-opened
 returns-then-is_empty-clause-opened g c =
-    let said : c.load-answer.result ≡ Ok (c.in-Ok.journal, c.in-Ok.entries) = cc in
+    let said : c.load-answer.result ≡ Ok (c.in-Ok.journal, c.in-Ok.entries) = c.in-Ok.is in
     told_map _ _ (opens_empty c.in-Ok.entries (g.S.ObjectStore.fault_count c.args.store.now) (g.S.ObjectStore.fault_count c.load-answer.new.store) (c.is_empty.ensures.0 c.if-is_empty.true)) (loads_ok_at _ _ _ _ _ said c.load-answer.ensures.answer)
 
 pub returns-in_err-meta-in-Ok-clause-opened : goal.returns-in_err-meta-in-Ok-clause-opened
 returns-in_err-meta-in-Ok-clause-opened g c =
-    let said : c.load-answer.result ≡ Ok (c.in-Ok.journal, c.in-Ok.entries) = cc in
+    let said : c.load-answer.result ≡ Ok (c.in-Ok.journal, c.in-Ok.entries) = c.in-Ok.is in
     let some : 0 < length c.in-Ok.entries = some_entry c.in-Ok.entries (λ none. let h = c.is_empty.ensures.1 none in let f = c.if-is_empty.false in cc) in
     told_map _ _ (opens_refused_by c.in-Ok.entries (g.S.ObjectStore.fault_count c.args.store.now) (g.S.ObjectStore.fault_count c.load-answer.new.store) c.from_residual.result _ some c.from_residual.ensures.1
     (λ error is. subst (λ (es : List Entry). IsRefusedAt (first_refused Start es) error) c.into_vec.ensures (subst (IsRefusedAt (first_refused Start c.into_vec.result.items)) (sym is) c.in_err-meta-in-Ok.ensures.refused)))
@@ -34,7 +34,7 @@ returns-in_err-meta-in-Ok-clause-opened g c =
 
 pub returns-in_ok-meta-in-Ok-clause-opened : goal.returns-in_ok-meta-in-Ok-clause-opened
 returns-in_ok-meta-in-Ok-clause-opened g c =
-    let said : c.load-answer.result ≡ Ok (c.in-Ok.journal, c.in-Ok.entries) = cc in
+    let said : c.load-answer.result ≡ Ok (c.in-Ok.journal, c.in-Ok.entries) = c.in-Ok.is in
     let j : c.in-Ok.journal ≡ loaded (length c.in-Ok.entries) = subst (λ (r : Result (Numbered × List Entry) JournalError). IfOk r (λ x. x.0 ≡ loaded (length x.1))) said c.load-answer.ensures.journal in
     let some : 0 < length c.in-Ok.entries = some_entry c.in-Ok.entries (λ none. let h = c.is_empty.ensures.1 none in let f = c.if-is_empty.false in cc) in
     told_map _ _ (opens_life c.in-Ok.entries (g.S.ObjectStore.fault_count c.args.store.now) (g.S.ObjectStore.fault_count c.load-answer.new.store) _ some (subst (λ (es : List Entry). first_refused Start es ≡ None) c.into_vec.ensures c.in_ok-meta-in-Ok.ensures.fit) j
@@ -44,7 +44,7 @@ returns-in_ok-meta-in-Ok-clause-opened g c =
 
 pub returns-in-Err-clause-opened : goal.returns-in-Err-clause-opened
 returns-in-Err-clause-opened g c =
-    let said : c.load-answer.result ≡ Err c.in-Err.error = cc in
+    let said : c.load-answer.result ≡ Err c.in-Err.error = c.in-Err.is in
     told_map _ _ (opens_failed _ _ _ _ c.in-Err.error _ c.world_error.ensures c.faults-before.ensures
     (subst (λ (r : Result (Numbered × List Entry) JournalError). IfErr r (FaultIs (g.S.ObjectStore.fault_count c.args.store.now) (g.S.ObjectStore.fault_count c.load-answer.new.store))) said c.load-answer.ensures.faults))
     (loads_err_at _ _ _ _ said c.load-answer.ensures.answer)
@@ -53,14 +53,14 @@ pub returns-then-is_empty-clause-step : goal.returns-then-is_empty-clause-step
 returns-then-is_empty-clause-step g c old core log e at w clock =
     let counts = c.faults-count.ensures in
     let fits = c.faults-count.type_inv in
-    let said : c.load-answer.result ≡ Ok (c.in-Ok.journal, c.in-Ok.entries) = cc in
+    let said : c.load-answer.result ≡ Ok (c.in-Ok.journal, c.in-Ok.entries) = c.in-Ok.is in
     opening_empty old core log _ _ _ _ e w at c.load-answer.ensures.later (omega (arith, counts, fits)) c.in-Ok.entries (loads_ok_at _ _ _ _ _ said c.load-answer.ensures.answer) (c.is_empty.ensures.0 c.if-is_empty.true)
 
 pub returns-in_err-meta-in-Ok-clause-step : goal.returns-in_err-meta-in-Ok-clause-step
 returns-in_err-meta-in-Ok-clause-step g c old core log e at w clock =
     let counts = c.faults-count.ensures in
     let fits = c.faults-count.type_inv in
-    let said : c.load-answer.result ≡ Ok (c.in-Ok.journal, c.in-Ok.entries) = cc in
+    let said : c.load-answer.result ≡ Ok (c.in-Ok.journal, c.in-Ok.entries) = c.in-Ok.is in
     let l = loads_ok_at _ _ _ _ _ said c.load-answer.ensures.answer in
     let legal = read_legal old core log _ _ _ _ e w at c.load-answer.ensures.later (omega (arith, counts, fits)) c.in-Ok.entries l in
     opening_short_by old core log _ _ _ _ e w at c.load-answer.ensures.later (omega (arith, counts, fits)) c.in-Ok.entries l c.from_residual.result _ c.from_residual.ensures.1
@@ -70,7 +70,7 @@ pub returns-in_ok-meta-in-Ok-clause-step : goal.returns-in_ok-meta-in-Ok-clause-
 returns-in_ok-meta-in-Ok-clause-step g c old core log e at w clock =
     let counts = c.faults-count.ensures in
     let fits = c.faults-count.type_inv in
-    let said : c.load-answer.result ≡ Ok (c.in-Ok.journal, c.in-Ok.entries) = cc in
+    let said : c.load-answer.result ≡ Ok (c.in-Ok.journal, c.in-Ok.entries) = c.in-Ok.is in
     let l = loads_ok_at _ _ _ _ _ said c.load-answer.ensures.answer in
     let timely = read_timely old core log _ _ _ _ e w at c.load-answer.ensures.later (omega (arith, counts, fits)) c.in-Ok.entries l in
     let j : c.in-Ok.journal ≡ loaded (length c.in-Ok.entries) = subst (λ (r : Result (Numbered × List Entry) JournalError). IfOk r (λ x. x.0 ≡ loaded (length x.1))) said c.load-answer.ensures.journal in
@@ -83,7 +83,7 @@ pub returns-in-Err-clause-step : goal.returns-in-Err-clause-step
 returns-in-Err-clause-step g c old core log e at w clock =
     let counts = c.faults-count.ensures in
     let fits = c.faults-count.type_inv in
-    let said : c.load-answer.result ≡ Err c.in-Err.error = cc in
+    let said : c.load-answer.result ≡ Err c.in-Err.error = c.in-Err.is in
     opening_failed old core log _ _ _ _ e w at c.load-answer.ensures.later (omega (arith, counts, fits)) _ _ c.in-Err.error _ c.world_error.ensures c.faults-before.ensures
     (subst (λ (r : Result (Numbered × List Entry) JournalError). IfErr r (FaultIs (g.S.ObjectStore.fault_count c.args.store.now) (g.S.ObjectStore.fault_count c.load-answer.new.store))) said c.load-answer.ensures.faults)
     (loads_err_at _ _ _ _ said c.load-answer.ensures.answer)
@@ -95,7 +95,7 @@ returns-in_err-meta-in-Ok-clause-faults g c =
 
 pub returns-in-Err-clause-faults : goal.returns-in-Err-clause-faults
 returns-in-Err-clause-faults g c =
-    let said : c.load-answer.result ≡ Err c.in-Err.error = cc in
+    let said : c.load-answer.result ≡ Err c.in-Err.error = c.in-Err.is in
     fault_between _ _ 0 c.faults-before.result c.in-Err.error c.world_error.result c.world_error.ensures c.faults-before.ensures
     (subst (λ (r : Result (Numbered × List Entry) JournalError). IfErr r (FaultIs (g.S.ObjectStore.fault_count c.args.store.now) (g.S.ObjectStore.fault_count c.load-answer.new.store))) said c.load-answer.ensures.faults)
 

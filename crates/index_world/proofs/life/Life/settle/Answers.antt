@@ -23,7 +23,7 @@ returns-in-Ok-None-clause-step g c old core log e b at =
 
 pub returns-in-Ok-Some-clause-step : goal.returns-in-Ok-Some-clause-step
 returns-in-Ok-Some-clause-step g c old core log e b at =
-    let said : c.settle-answer.result ≡ Ok (Some c.in-Ok-Some.entry) = cc in
+    let said : c.settle-answer.result ≡ Ok (Some c.in-Ok-Some.entry) = c.in-Ok-Some.is ∙ ap Ok c.in-Ok-Some.field-0-is in
     let count = c.faults-count.ensures in
     let fits = c.faults-count.type_inv in
     settling_given old core log _ _ c.args.self.now b _ _ e c.settle-answer.ensures.later (omega (arith, count, fits))
@@ -35,7 +35,7 @@ returns-in-Ok-Some-clause-step g c old core log e b at =
 
 pub returns-in-Err-clause-step : goal.returns-in-Err-clause-step
 returns-in-Err-clause-step g c old core log e b at =
-    let said : c.settle-answer.result ≡ Err c.in-Err.error = cc in
+    let said : c.settle-answer.result ≡ Err c.in-Err.error = c.in-Err.is in
     let count = c.faults-count.ensures in
     let fits = c.faults-count.type_inv in
     let unsure : c.args.self.now.journal.place ≡ Sure → ⊥ = λ sure. let h : ◌≡◌ {A = Result (Option Entry) JournalError} (Err c.in-Err.error) (Ok None) = sym said ∙ (c.settle-answer.ensures.sure sure).0 in cc h in

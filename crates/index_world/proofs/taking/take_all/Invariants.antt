@@ -1,7 +1,7 @@
 use Rattle.std.proofs.Common.{◌≡◌, ◌+◌, ◌<◌, ◌≤◌, ◌^◌, vec_len}
 use Rattle.std.specs.Prelude.{IsSome}
 use Rattle.index_world.proofs.Fronts.{FrontTaken}
-use Rattle.index_world.proofs.taking.state_of.Given as goal
+use Rattle.index_world.proofs.taking.take_all.Given as goal
 
 abbrev pub invariant-entries : goal.invariant-entries
 invariant-entries l = record {
