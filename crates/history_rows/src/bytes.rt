@@ -1,6 +1,8 @@
 //! The bytes of entries.
 
-use meta_journal::{decode_entry, encode_entry};
+ghost use Rattle.meta_journal.specs.Spelling.{CanSpell};
+
+use meta_journal::{Entry, decode_entry, encode_entry};
 use std::alloc::{AllocError, Global};
 
 /// The bytes of an entry that was read from these, each in two digits, or why they are none.
@@ -10,9 +12,16 @@ pub fn spelled_again(alloc: Global, digits: &str) -> Result<String, AllocError> 
         bytes.push(byte_of(pair))?;
     }
     match decode_entry(alloc, bytes.as_slice()) {
-        Ok(entry) => hexadecimal(alloc, encode_entry(alloc, &entry)?.as_slice()),
+        Ok(entry) => spelled(alloc, &entry),
         Err(fault) => format!(in alloc; "{fault}"),
     }
+}
+
+fn spelled(alloc: Global, entry: &Entry) -> Result<String, AllocError>
+    requires { CanSpell entry.now }
+{
+    let bytes = encode_entry(alloc, entry)?;
+    hexadecimal(alloc, bytes.as_slice())
 }
 
 fn digit(byte: u8) -> u8 {

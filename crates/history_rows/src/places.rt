@@ -33,6 +33,11 @@ fn fence(moment: u64) -> Entry
     }
 }
 
+fn opened<S: ObjectStore>(alloc: Global, store: &mut S) -> Result<Journal, JournalError> {
+    let (journal, _) = Journal::load(alloc, store)?;
+    Ok(journal)
+}
+
 // Appends a fence of the moment 7, where nothing is unsure.
 fn add<S: ObjectStore>(
     alloc: Global,
@@ -47,21 +52,21 @@ fn add<S: ObjectStore>(
 
 // A create that fails leaves its number unsure, and a fence of the moment 9 then closes it.
 fn is_settled<S: ObjectStore>(alloc: Global, store: &mut S) -> Result<bool, JournalError> {
-    let (mut journal, _entries) = Journal::load(alloc, store)?;
-    let failed = add(alloc, store, &mut journal);
-    let given = journal.settle(alloc, store, 9)?;
+    let mut journal = opened(alloc, store)?;
+    let has_failed = add(alloc, store, &mut journal).is_some();
+    let is_given = journal.settle(alloc, store, 9)?.is_some();
     if !matches!(journal.place(), Place::Given) {
         return Ok(false);
     }
     journal.step_over();
-    Ok(failed.is_some() && given.is_some() && journal.next() == 1)
+    Ok(has_failed && is_given && journal.next() == 1)
 }
 
 // An entry that another journal made is adopted.
 fn is_adopted<S: ObjectStore>(alloc: Global, store: &mut S) -> Result<bool, JournalError> {
-    let (mut journal, _entries) = Journal::load(alloc, store)?;
-    let (mut other, _entries) = Journal::load(alloc, store)?;
-    let made = add(alloc, store, &mut other);
+    let mut journal = opened(alloc, store)?;
+    let mut other = opened(alloc, store)?;
+    let is_made = add(alloc, store, &mut other).is_none();
     let taken = add(alloc, store, &mut journal);
-    Ok(made.is_none() && matches!(taken, Some(JournalError::Adopted { .. })))
+    Ok(is_made && matches!(taken, Some(JournalError::Adopted { .. })))
 }

@@ -1,127 +1,15 @@
-//! What a line asks, and its answer.
+//! What a line asks.
 
-use doc_value::{
-    Bytes, Doc, DocField, FieldTags, Schema, TagFacts, Tags, Terms, Text, TimeRange, Value, Values,
-    term_bytes,
-};
-use query_ast::{copy_query, lies_in, matches, possible};
-use query_reader::{FieldNumbers, QueryError, print_query, read_query};
+use crate::{aggregations, queries, requests};
 use std::alloc::{AllocError, Global};
 
-/// `read Q` and `bare Q` print a query that is read with the default field body or with none; `found D/Q` says whether a document
-/// whose body is D matches, `tagged T/Q` whether one may whose levels are all T, `sized N/Q` whether one may whose sizes are all N,
-/// and `from N/M` whether one of the second M lies in the times from N on and before 6.
-pub fn answer(alloc: Global, schema: &Schema, line: &str) -> Result<String, AllocError> {
-    let Some((asked, rest)) = line.split_once(' ') else {
-        return String::from_str(alloc, "nothing asked");
-    };
-    let (first, second) = rest.split_once('/').unwrap_or((rest, ""));
+/// `query Q`, `ask R` and `agg A` ask what the modules of queries, requests and aggregations answer.
+pub fn answer(alloc: Global, line: &str) -> Result<String, AllocError> {
+    let (asked, rest) = line.split_once(' ').unwrap_or((line, ""));
     match asked {
-        "read" => printed(alloc, schema, &[0], rest),
-        "bare" => printed(alloc, schema, &[], rest),
-        "found" => found(alloc, schema, first, second),
-        "tagged" => tagged(alloc, schema, first, second),
-        "sized" => sized(alloc, schema, first, second),
-        "from" => timed(alloc, schema, first, second),
+        "query" => queries::answers::answer(alloc, rest),
+        "ask" => requests::answers::answer(alloc, rest),
+        "agg" => aggregations::answers::answer(alloc, rest),
         _ => String::from_str(alloc, "nothing asked"),
     }
-}
-
-fn printed(
-    alloc: Global,
-    schema: &Schema,
-    defaults: &[usize],
-    text: &str,
-) -> Result<String, AllocError> {
-    let defaults = FieldNumbers::from_slice(alloc, defaults)?;
-    match read_query(alloc, schema, &defaults, text) {
-        Ok(query) => {
-            let printed = print_query(alloc, schema, &query)?;
-            String::from_str(alloc, printed.as_str())
-        }
-        Err(refusal) => refused(alloc, &refusal),
-    }
-}
-
-fn refused(alloc: Global, refusal: &QueryError) -> Result<String, AllocError> {
-    match refusal {
-        QueryError::UnknownField { name } => {
-            let name = name.as_str();
-            format!(in alloc; "no field {name}")
-        }
-        other => format!(in alloc; "{other}"),
-    }
-}
-
-fn found(alloc: Global, schema: &Schema, body: &str, text: &str) -> Result<String, AllocError> {
-    let doc = one_value(alloc, 0, Value::Text(Text::from_str(alloc, body)?))?;
-    let defaults = FieldNumbers::from_slice(alloc, &[0])?;
-    match read_query(alloc, schema, &defaults, text) {
-        Ok(query) => said(
-            alloc,
-            matches(alloc, schema, &copy_query(alloc, &query)?, &doc)?,
-        ),
-        Err(refusal) => refused(alloc, &refusal),
-    }
-}
-
-fn one_value(alloc: Global, number: usize, value: Value) -> Result<Doc, AllocError> {
-    let mut doc = Doc::vacant(alloc);
-    doc.push(DocField {
-        number,
-        values: Values::one(alloc, value)?,
-    })?;
-    Ok(doc)
-}
-
-fn said(alloc: Global, holds: bool) -> Result<String, AllocError> {
-    String::from_str(alloc, if holds { "yes" } else { "no" })
-}
-
-fn tagged(alloc: Global, schema: &Schema, level: &str, text: &str) -> Result<String, AllocError> {
-    may_match(
-        alloc,
-        schema,
-        1,
-        Bytes::from_slice(alloc, level.as_bytes())?,
-        text,
-    )
-}
-
-fn sized(alloc: Global, schema: &Schema, size: &str, text: &str) -> Result<String, AllocError> {
-    let size = size.parse::<i64>().unwrap_or(0);
-    may_match(
-        alloc,
-        schema,
-        5,
-        term_bytes(alloc, &Value::I64(size))?,
-        text,
-    )
-}
-
-/// Whether a document may match that has this one term in a tag field.
-fn may_match(
-    alloc: Global,
-    schema: &Schema,
-    number: usize,
-    term: Bytes,
-    text: &str,
-) -> Result<String, AllocError> {
-    let tags = Tags::Listed(Terms::one(alloc, term)?);
-    let facts = TagFacts::one(alloc, FieldTags { number, tags })?;
-    let defaults = FieldNumbers::from_slice(alloc, &[0])?;
-    match read_query(alloc, schema, &defaults, text) {
-        Ok(query) => said(alloc, possible(schema, &query, &facts)),
-        Err(refusal) => refused(alloc, &refusal),
-    }
-}
-
-fn timed(alloc: Global, schema: &Schema, start: &str, second: &str) -> Result<String, AllocError> {
-    let times = TimeRange {
-        start: start.parse::<i64>().ok(),
-        end: Some(6),
-    };
-    let second = second.parse::<i64>().unwrap_or(0);
-    let doc = one_value(alloc, 6, Value::Datetime(second))?;
-    said(alloc, lies_in(schema, &times, &doc))
 }

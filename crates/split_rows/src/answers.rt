@@ -1,233 +1,50 @@
-//! What is asked of a file, and the answers.
+//! What a line gives or asks.
 
-use crate::whole::{counted, whole};
-use doc_value::{Schema, Value};
-use split_bundle::{Footer, PartView, Placed, SplitError};
+ghost use Rattle.doc_value.specs.Documents.{IsSchema};
+
+use crate::{builds, digits, documents, leaves, parts, tallies};
+use doc_value::Bytes;
+use index_config::IndexConfig;
 use std::alloc::{AllocError, Global};
-use term_postings::Cursor;
 
-/// The answer to a line.
+/// `file H` gives a file in digits, `split D` the split of documents of the configuration; `part`, `tally` and `leaf` ask of that file
+/// what the modules of these names answer, and `build` of a split of its own.
 pub fn answer(
     alloc: Global,
-    schema: &Schema,
-    file: &[u8],
+    config: &IndexConfig,
+    file: &mut Bytes,
     line: &str,
-) -> Result<String, AllocError> {
-    if let Some(word) = line.strip_prefix("word ") {
-        return told(alloc, word_in(alloc, file, word));
-    }
-    if let Some(word) = line.strip_prefix("count ") {
-        return told(alloc, counted(alloc, file, word));
-    }
-    match line {
-        "read" => told(alloc, parts(alloc, file)),
-        "documents" => told(alloc, documents(alloc, schema, file)),
-        "whole" => told(alloc, whole(alloc, schema, file)),
-        "level" => told(alloc, level(alloc, schema, file)),
-        "cuts" => cuts(alloc, file),
-        "flips" => flips(alloc, schema, file),
+) -> Result<String, AllocError>
+    requires { IsSchema config.now.schema }
+{
+    let (asked, rest) = line.split_once(' ').unwrap_or((line, ""));
+    match asked {
+        "file" => spelled(alloc, file, rest),
+        "split" => built(alloc, config, file, rest),
+        "part" => parts::answers::answer(alloc, file.as_slice(), rest),
+        "tally" => tallies::answers::answer(alloc, file.as_slice(), rest),
+        "leaf" => leaves::answers::answer(alloc, config, file.as_slice(), rest),
+        "build" => builds::answers::answer(alloc, rest),
         _ => String::from_str(alloc, "what?"),
     }
 }
 
-// An answer, or why there is none.
-fn told(alloc: Global, answer: Result<String, SplitError>) -> Result<String, AllocError> {
-    match answer {
-        Ok(text) => Ok(text),
-        Err(SplitError::Memory(refused)) => Err(refused),
-        Err(fault) => format!(in alloc; "{fault}"),
-    }
+fn spelled(alloc: Global, file: &mut Bytes, text: &str) -> Result<String, AllocError> {
+    *file = digits::bytes_of(alloc, text)?;
+    let len = file.len();
+    format!(in alloc; "{len} bytes")
 }
 
-// How many documents there are, and how many bytes the sections have.
-fn parts(alloc: Global, file: &[u8]) -> Result<String, SplitError> {
-    let footer = Footer::read(alloc, file, file.len() as u64)?;
-    let docs = PartView::whole(alloc, file)?.doc_count();
-    let s = footer.sections();
-    let (documents, dictionary) = (s.documents, s.dictionary);
-    let (postings, positions, columns) = (s.postings, s.positions, s.columns);
-    let text = format!(in alloc;
-        "{docs} documents, sections {documents} {dictionary} {postings} {positions} {columns}"
-    )?;
-    Ok(text)
-}
-
-// A document: its partition, its offset there, and its texts.
-fn put_placed(out: &mut String, alloc: Global, placed: &Placed) -> Result<(), AllocError> {
-    let partition = placed.partition.copy();
-    let offset = placed.offset;
-    out.push_str(format!(in alloc; "{partition} {offset}")?.as_str())?;
-    for number in 0..placed.doc.len() {
-        let field = placed.doc.at(number);
-        for place in 0..field.values.len() {
-            if let Value::Text(text) = field.values.at(place) {
-                out.push_str(" ")?;
-                out.push_str(text.as_str())?;
-            }
-        }
-    }
-    Ok(())
-}
-
-fn documents(alloc: Global, schema: &Schema, file: &[u8]) -> Result<String, SplitError> {
-    let view = PartView::whole(alloc, file)?;
-    let mut out = String::new(alloc);
-    for doc in 0..view.doc_count() {
-        let placed = view.placed(alloc, schema, doc)?;
-        if doc > 0 {
-            out.push_str(", ")?;
-        }
-        put_placed(&mut out, alloc, &placed)?;
-    }
-    Ok(out)
-}
-
-// The documents of a word of the body, and where it stands in them.
-fn word_in(alloc: Global, file: &[u8], word: &str) -> Result<String, SplitError> {
-    let view = PartView::whole(alloc, file)?;
-    let mut key = Vec::new(alloc);
-    key.push(0)?;
-    key.push(0)?;
-    key.extend_from_slice(word.as_bytes())?;
-    let number = match view.footer().index().block_of(key.as_slice()) {
-        Some(number) => number,
-        None => return Ok(String::from_str(alloc, "no block")?),
-    };
-    let Ok(number) = u32::try_from(number) else {
-        return Ok(String::from_str(alloc, "too many blocks")?);
-    };
-    match view.block(number)?.find(key.as_slice()) {
-        Ok(Some(info)) => Ok(listed(alloc, view.postings_at(&info, true)?, info.docs)?),
-        Ok(None) => Ok(String::from_str(alloc, "no term")?),
-        Err(_fault) => Ok(String::from_str(alloc, "no block of its form")?),
-    }
-}
-
-fn listed(alloc: Global, mut cursor: Cursor<'_>, docs: u32) -> Result<String, AllocError> {
-    let mut out = String::new(alloc);
-    for _ in 0..docs {
-        let Ok(Some(document)) = cursor.next() else {
-            return Ok(out);
-        };
-        out.push_str(format!(in alloc; "{document}:")?.as_str())?;
-        if let Ok(Some(position)) = cursor.next_position() {
-            out.push_str(format!(in alloc; "{position} ")?.as_str())?;
-        }
-    }
-    Ok(out)
-}
-
-// How many values the column of the levels has.
-fn level(alloc: Global, schema: &Schema, file: &[u8]) -> Result<String, SplitError> {
-    match PartView::whole(alloc, file)?.column(schema, 1)? {
-        Some(column) => {
-            let count = column.len();
-            Ok(format!(in alloc; "{count} values")?)
-        }
-        None => Ok(String::from_str(alloc, "no column")?),
-    }
-}
-
-// How many of some files are refused, and how many are read.
-#[derive(Clone, Copy)]
-struct Tally {
-    refused: u32,
-    read: u32,
-}
-
-impl Tally {
-    fn add(&mut self, is_read: bool) {
-        if is_read {
-            self.read = self.read.saturating_add(1);
-        } else {
-            self.refused = self.refused.saturating_add(1);
-        }
-    }
-
-    fn text(&self, alloc: Global) -> Result<String, AllocError> {
-        let (refused, read) = (self.refused, self.read);
-        format!(in alloc; "{refused} refused, {read} read")
-    }
-}
-
-// Every shorter front of the file.
-fn cuts(alloc: Global, file: &[u8]) -> Result<String, AllocError> {
-    let mut tally = Tally {
-        refused: 0,
-        read: 0,
-    };
-    for len in 0..file.len() {
-        match PartView::whole(alloc, &file[..len]) {
-            Ok(_view) => tally.add(true),
-            Err(SplitError::Memory(refused)) => return Err(refused),
-            Err(_fault) => tally.add(false),
-        }
-    }
-    tally.text(alloc)
-}
-
-// The file with each of its bits turned.
-fn flips(alloc: Global, schema: &Schema, file: &[u8]) -> Result<String, AllocError> {
-    let mut tally = Tally {
-        refused: 0,
-        read: 0,
-    };
-    let mut turned = Vec::from_slice(alloc, file)?;
-    for place in 0..file.len() {
-        for bit in 0..8u32 {
-            if place < turned.len() {
-                turned[place] ^= 1u8 << bit;
-                tally.add(is_read(alloc, schema, turned.as_slice())?);
-                turned[place] ^= 1u8 << bit;
-            }
-        }
-    }
-    tally.text(alloc)
-}
-
-// Whether these bytes are read; if so each reader of the view is asked, and what it answers is let go.
-fn is_read(alloc: Global, schema: &Schema, bytes: &[u8]) -> Result<bool, AllocError> {
-    let view = match PartView::whole(alloc, bytes) {
-        Ok(view) => view,
-        Err(SplitError::Memory(refused)) => return Err(refused),
-        Err(_fault) => return Ok(false),
-    };
-    for doc in 0..view.doc_count().min(8) {
-        let _placed = view.placed(alloc, schema, doc);
-    }
-    let _column = view.column(schema, 1);
-    for key in [b"fox", b"hen", b"red"] {
-        let _answer = ask(alloc, &view, key)?;
-    }
-    Ok(true)
-}
-
-fn ask(alloc: Global, view: &PartView<'_>, word: &[u8]) -> Result<u32, AllocError> {
-    let mut key = Vec::new(alloc);
-    key.push(0)?;
-    key.push(0)?;
-    key.extend_from_slice(word)?;
-    let Some(number) = view.footer().index().block_of(key.as_slice()) else {
-        return Ok(0);
-    };
-    let Ok(number) = u32::try_from(number) else {
-        return Ok(0);
-    };
-    let Ok(block) = view.block(number) else {
-        return Ok(0);
-    };
-    let Ok(Some(info)) = block.find(key.as_slice()) else {
-        return Ok(0);
-    };
-    let Ok(mut cursor) = view.postings_at(&info, true) else {
-        return Ok(0);
-    };
-    let mut found = 0;
-    for _ in 0..info.docs.min(8) {
-        if let Ok(Some(_document)) = cursor.next() {
-            found = 1;
-            let _position = cursor.next_position();
-        }
-    }
-    Ok(found)
+fn built(
+    alloc: Global,
+    config: &IndexConfig,
+    file: &mut Bytes,
+    text: &str,
+) -> Result<String, AllocError>
+    requires { IsSchema config.now.schema }
+{
+    let list = documents::documents_of(alloc, config, text)?;
+    *file = documents::file_of(alloc, config, &list)?;
+    let count = list.len();
+    format!(in alloc; "{count} documents")
 }

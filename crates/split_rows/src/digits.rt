@@ -1,5 +1,6 @@
 //! Bytes in digits.
 
+use doc_value::Bytes;
 use std::alloc::{AllocError, Global};
 
 fn digit(byte: u8) -> u8 {
@@ -11,8 +12,8 @@ fn digit(byte: u8) -> u8 {
 }
 
 /// The bytes of these pairs of digits; a blank parts them for the reader.
-pub fn bytes_of(alloc: Global, text: &str) -> Result<Vec<u8>, AllocError> {
-    let mut bytes = Vec::new(alloc);
+pub fn bytes_of(alloc: Global, text: &str) -> Result<Bytes, AllocError> {
+    let mut bytes = Bytes::vacant(alloc);
     let mut high = None;
     for sign in text.as_bytes() {
         if *sign == b' ' {

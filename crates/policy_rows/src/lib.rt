@@ -1,5 +1,0 @@
-//! Rows of the merge policies.
-#![tactic(auto)]
-
-#[cfg(test)]
-mod choices;

@@ -1,0 +1,6 @@
+//! Aggregations of documents.
+
+pub mod answers;
+mod counted;
+mod made;
+mod printed;

@@ -1,0 +1,4 @@
+//! Queries over a schema.
+
+pub mod answers;
+mod fields;

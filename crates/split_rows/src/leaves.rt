@@ -1,0 +1,4 @@
+//! What one split answers to a request.
+
+pub mod answers;
+mod views;
