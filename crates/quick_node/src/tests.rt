@@ -15,10 +15,10 @@ use source_checkpoint::Partition;
 use source_log::{FaultyLog, MemoryLog};
 use std::alloc::{AllocError, Global};
 use std::process::Abort;
-use std::str;
 use std::sync::Wait;
 use std::test::Fail;
 use std::thread::Threads;
+use std::{mem, str};
 
 // The configuration of the index that is made: two fields of texts, of which `body` is asked by a clause without a field.
 const CONFIG: &str =
@@ -52,11 +52,14 @@ struct Row {
 
 impl Row {
     fn begin(alloc: Global, name: &str) -> Result<Row, Fail> {
+        let name = String::from_str(alloc, name)?;
+        let words = one_word(alloc, "drive")?;
+        let store = index_store(alloc)?;
         Ok(Row {
-            name: String::from_str(alloc, name)?,
-            store: index_store(alloc)?,
+            name,
+            store,
             logs: Vec::new(alloc),
-            words: one_word(alloc, "drive")?,
+            words,
             schedule: Vec::new(alloc),
             expected: Vec::new(alloc),
             room: 8192,
@@ -64,6 +67,40 @@ impl Row {
             failing_read: None,
             failing_write: None,
         })
+    }
+
+    // Takes a line of a script, and says whether it did a command.
+    fn take<Rt: Threads + Wait + Sync + Abort>(
+        &mut self,
+        rt: &Rt,
+        alloc: Global,
+        line: &str,
+    ) -> Result<bool, Fail> {
+        let (asked, rest) = halves(line);
+        match asked {
+            "row" => *self = Row::begin(alloc, rest)?,
+            "run" => {
+                self.run(rt, alloc, number_of(rest)?)?;
+                return Ok(true);
+            }
+            "size" => {
+                let has_size = self.has_size(alloc, rest)?;
+                assert!(rt; has_size);
+            }
+            _ => self.prepare(alloc, asked, rest)?,
+        }
+        Ok(false)
+    }
+
+    // Whether an object has so many bytes.
+    fn has_size(&mut self, alloc: Global, rest: &str) -> Result<bool, Fail> {
+        let (size, key) = halves(rest);
+        let size = number_of(size)?;
+        let piece = self
+            .store
+            .get(alloc, &key_of(key)?, 0, 1000)
+            .map_err(|_| "no object")?;
+        Ok(piece.size == size)
     }
 
     // What a line says of what stands and of what is to fail.
@@ -115,10 +152,7 @@ impl Row {
             }
             "clients" => {
                 for number in 0..number_of(rest)? {
-                    let name = format!(in alloc; "restart client c{number}")?;
-                    add_line(&mut self.schedule, name.as_str())?;
-                    let name = format!(in alloc; "c{number} restarted")?;
-                    add_line(&mut self.expected, name.as_str())?;
+                    self.restart_client(alloc, number)?;
                 }
             }
             _ => return Err("no line of a script")?,
@@ -126,53 +160,106 @@ impl Row {
         Ok(())
     }
 
+    fn restart_client(&mut self, alloc: Global, number: u64) -> Result<(), Fail> {
+        let name = format!(in alloc; "restart client c{number}")?;
+        add_line(&mut self.schedule, name.as_str())?;
+        let name = format!(in alloc; "c{number} restarted")?;
+        add_line(&mut self.expected, name.as_str())
+    }
+
+    fn input(&self, alloc: Global) -> Result<MemorySource, Fail> {
+        let mut input = source_of(alloc, self.schedule.as_slice())?;
+        if let Some(call) = self.failing_read {
+            input.fail_call(call)?;
+        }
+        Ok(input)
+    }
+
+    fn output(&self, alloc: Global) -> Result<MemorySink, Fail> {
+        let mut output = MemorySink::with_room(alloc, self.room)?;
+        if let Some(call) = self.failing_write {
+            output.fail_call(call)?;
+        }
+        Ok(output)
+    }
+
     // Does the command, and compares. What stands then is the store of a second life, which has no log yet.
     fn run<Rt: Threads + Wait + Sync + Abort>(
-        self,
+        &mut self,
         rt: &Rt,
         alloc: Global,
         status: u64,
-    ) -> Result<Row, Fail> {
-        let Row {
-            name,
-            store,
-            logs,
-            words,
-            schedule,
-            expected,
-            room,
-            failing_log,
-            failing_read,
-            failing_write,
-        } = self;
-        let mut input = source_of(alloc, schedule.as_slice())?;
-        if let Some(call) = failing_read {
-            input.fail_call(call)?;
-        }
-        let mut output = MemorySink::with_room(alloc, room)?;
-        if let Some(call) = failing_write {
-            output.fail_call(call)?;
-        }
-        let logs = faulty(alloc, logs, failing_log)?;
-        let log_faults = u64::from(failing_log.is_some());
-        let (finished, logs) = serve_with_logs(
-            rt,
-            alloc,
-            words.as_slice(),
-            store,
-            logs,
-            ScriptClock::at(0),
-            &mut input,
-            &mut output,
-        );
-        let is_right = u64::from(finished.status) == status
-            && output.content().as_slice() == expected.as_slice()
-            && finished.log_faults == log_faults
-            && logs.faults() == log_faults;
-        assert!(rt; is_right, "{name}");
-        let mut next = Row::begin(alloc, name.as_str())?;
-        next.store = finished.store;
-        Ok(next)
+    ) -> Result<(), Fail> {
+        let mut input = self.input(alloc)?;
+        let mut output = self.output(alloc)?;
+        let is_done = self.does(rt, alloc, status, &mut input, &mut output)?;
+        let is_right = is_done && output.content().as_slice() == self.expected.as_slice();
+        assert!(rt; is_right, "{}", self.name);
+        self.renew(alloc)
+    }
+
+    // Whether the command ends in this status, and the logs count what was to fail.
+    fn does<Rt: Threads + Wait + Sync>(
+        &mut self,
+        rt: &Rt,
+        alloc: Global,
+        status: u64,
+        input: &mut MemorySource,
+        output: &mut MemorySink,
+    ) -> Result<bool, Fail> {
+        let logs = mem::replace(&mut self.logs, Vec::new(alloc));
+        let logs = faulty(alloc, logs, self.failing_log)?;
+        let store = mem::replace(&mut self.store, MemoryStore::vacant(alloc));
+        let words = self.words.as_slice();
+        let clock = ScriptClock::at(0);
+        let ended = done(rt, alloc, words, store, logs, clock, input, output);
+        self.store = ended.store;
+        let log_faults = u64::from(self.failing_log.is_some());
+        Ok(
+            ended.status == status
+                && ended.told_log_faults == log_faults
+                && ended.log_faults == log_faults,
+        )
+    }
+
+    fn renew(&mut self, alloc: Global) -> Result<(), Fail> {
+        self.words = one_word(alloc, "drive")?;
+        self.schedule = Vec::new(alloc);
+        self.expected = Vec::new(alloc);
+        self.room = 8192;
+        self.failing_log = None;
+        self.failing_read = None;
+        self.failing_write = None;
+        Ok(())
+    }
+}
+
+// What stands behind a command: its status, its store, the faults of logs that it tells, and those that the logs count.
+#[derive(Drop)]
+struct Ended<S> {
+    status: u64,
+    store: S,
+    told_log_faults: u64,
+    log_faults: u64,
+}
+
+// Does the command of these words.
+fn done<Rt: Threads + Wait + Sync, S: ObjectStore + Send + Drop>(
+    rt: &Rt,
+    alloc: Global,
+    words: &[String],
+    store: S,
+    logs: Vec<FaultyLog>,
+    clock: ScriptClock,
+    input: &mut MemorySource,
+    output: &mut MemorySink,
+) -> Ended<S> {
+    let (finished, logs) = serve_with_logs(rt, alloc, words, store, logs, clock, input, output);
+    Ended {
+        status: u64::from(finished.status),
+        store: finished.store,
+        told_log_faults: finished.log_faults,
+        log_faults: logs.faults(),
     }
 }
 
@@ -283,22 +370,8 @@ fn runs_of<Rt: Threads + Wait + Sync + Abort>(
     let mut row = Row::begin(alloc, "none")?;
     let mut runs = 0u32;
     for line in script.lines() {
-        let (asked, rest) = halves(line);
-        match asked {
-            "row" => row = Row::begin(alloc, rest)?,
-            "run" => {
-                row = row.run(rt, alloc, number_of(rest)?)?;
-                runs = runs.saturating_add(1);
-            }
-            "size" => {
-                let (size, key) = halves(rest);
-                let piece = row
-                    .store
-                    .get(alloc, &key_of(key)?, 0, 1000)
-                    .map_err(|_| "no object")?;
-                assert_eq!(rt; piece.size, number_of(size)?);
-            }
-            _ => row.prepare(alloc, asked, rest)?,
+        if row.take(rt, alloc, line)? {
+            runs = runs.saturating_add(1);
         }
     }
     Ok(runs)
@@ -339,30 +412,70 @@ fn fox_logs(alloc: Global) -> Result<Vec<MemoryLog>, Fail> {
     Ok(logs)
 }
 
+// Does a schedule of lines over this store and the log of three records, and gives the store and what was written.
+fn driven<Rt: Threads + Wait + Sync, S: ObjectStore + Send + Drop>(
+    rt: &Rt,
+    alloc: Global,
+    schedule: &[u8],
+    clock: ScriptClock,
+    store: S,
+) -> Result<(S, MemorySink), Fail> {
+    let words = one_word(alloc, "drive")?;
+    let mut input = source_of(alloc, schedule)?;
+    let mut output = MemorySink::with_room(alloc, 8192)?;
+    let logs = faulty(alloc, fox_logs(alloc)?, None)?;
+    let words = words.as_slice();
+    let ended = done(
+        rt,
+        alloc,
+        words,
+        store,
+        logs,
+        clock,
+        &mut input,
+        &mut output,
+    );
+    Ok((ended.store, output))
+}
+
+// How many lines of a text have these words.
+fn lines_with(text: &[u8], words: &str) -> u32 {
+    let mut count = 0u32;
+    for line in str::from_utf8(text).unwrap_or("").lines() {
+        if line.contains(words) {
+            count = count.saturating_add(1);
+        }
+    }
+    count
+}
+
 // The store behind one run of the schedule, and whether its search found both records.
 fn lives<Rt: Threads + Wait + Sync>(
     rt: &Rt,
     alloc: Global,
     store: MemoryStore,
 ) -> Result<(MemoryStore, bool), Fail> {
-    let log = fox_logs(alloc)?;
-    let mut input = source_of(alloc, SCHEDULE.as_bytes())?;
-    let mut output = MemorySink::with_room(alloc, 8192)?;
-    let (finished, _) = serve_with_logs(
-        rt,
-        alloc,
-        one_word(alloc, "drive")?.as_slice(),
-        store,
-        faulty(alloc, log, None)?,
-        ScriptClock::at(0),
-        &mut input,
-        &mut output,
-    );
-    let has_both = match str::from_utf8(output.content().as_slice()) {
-        Ok(text) => text.contains("\"num_hits\":2,"),
-        Err(_) => false,
-    };
-    Ok((finished.store, has_both))
+    let (store, output) = driven(rt, alloc, SCHEDULE.as_bytes(), ScriptClock::at(0), store)?;
+    let replies = lines_with(output.content().as_slice(), "\"num_hits\":2,");
+    Ok((store, replies > 0))
+}
+
+// Whether such a call failed; if so the same schedule in a next life finds both records.
+fn fails_alone<Rt: Threads + Wait + Sync + Abort>(
+    rt: &Rt,
+    alloc: Global,
+    number: u64,
+    landing: Landing,
+) -> Result<bool, Fail> {
+    let mut store = index_store(alloc)?;
+    store.fail_call(number, landing)?;
+    let (store, _) = lives(rt, alloc, store)?;
+    if store.faults() == 0 {
+        return Ok(false);
+    }
+    let (_, has_both) = lives(rt, alloc, store)?;
+    assert!(rt; has_both);
+    Ok(true)
 }
 
 // Each call of the store fails alone, in each way to land. The same schedule in a next life finds both records.
@@ -378,13 +491,8 @@ fn each_call_fails_alone(rt: HostRuntime) -> Result<(), Fail> {
     let mut failed = 0u32;
     for number in 2..14u64 {
         for landing in landings {
-            let mut store = index_store(alloc)?;
-            store.fail_call(number, landing)?;
-            let (store, _) = lives(&rt, alloc, store)?;
-            if store.faults() > 0 {
+            if fails_alone(&rt, alloc, number, landing)? {
                 failed = failed.saturating_add(1);
-                let (_, has_both) = lives(&rt, alloc, store)?;
-                assert!(rt; has_both);
             }
         }
     }
@@ -439,18 +547,18 @@ impl ObjectStore for CountedStore {
     }
 }
 
-// What `serve` does of a schedule that publishes two of three records and then counts a word so often: how many replies count one
-// record, and how many bytes the store gave of split files.
-fn counts_served<Rt: Threads + Wait + Sync>(
-    rt: &Rt,
-    alloc: Global,
-    searches: u32,
-) -> Result<(u32, u64), Fail> {
+// A store with the one entry that makes an index, which counts.
+fn counted_store(alloc: Global) -> Result<CountedStore, Fail> {
     let mut store = SteadyStore::vacant(alloc);
     let bytes = new_entry(alloc)?;
     store
         .create(alloc, &meta_key(0), bytes.as_slice())
         .map_err(|_| "no index")?;
+    Ok(CountedStore { store, given: 0 })
+}
+
+// A schedule that publishes two of three records and then counts a word so often.
+fn count_schedule(alloc: Global, searches: u32) -> Result<Vec<u8>, Fail> {
     let mut schedule = Vec::new(alloc);
     for line in SCHEDULE
         .lines()
@@ -459,34 +567,24 @@ fn counts_served<Rt: Threads + Wait + Sync>(
         add_line(&mut schedule, line)?;
     }
     for _ in 0..searches {
-        add_line(
-            &mut schedule,
-            "client a {\"search\":{\"query\":\"fox\",\"max_hits\":0}}",
+        schedule.extend_from_slice(
+            b"client a {\"search\":{\"query\":\"fox\",\"max_hits\":0}}\nclient a\nclient a\nclient a\n",
         )?;
-        for _ in 0..3 {
-            add_line(&mut schedule, "client a")?;
-        }
     }
-    let mut input = source_of(alloc, schedule.as_slice())?;
-    let mut output = MemorySink::with_room(alloc, 8192)?;
-    let (finished, _) = serve_with_logs(
-        rt,
-        alloc,
-        one_word(alloc, "drive")?.as_slice(),
-        CountedStore { store, given: 0 },
-        faulty(alloc, fox_logs(alloc)?, None)?,
-        ScriptClock::at(1000),
-        &mut input,
-        &mut output,
-    );
-    let text = str::from_utf8(output.content().as_slice()).map_err(|_| "no text")?;
-    let mut replies = 0u32;
-    for line in text.lines() {
-        if line.contains("\"num_hits\":1,") {
-            replies = replies.saturating_add(1);
-        }
-    }
-    Ok((replies, finished.store.given))
+    Ok(schedule)
+}
+
+// What `serve` does of such a schedule: how many replies count one record, and how many bytes the store gave of split files.
+fn counts_served<Rt: Threads + Wait + Sync>(
+    rt: &Rt,
+    alloc: Global,
+    searches: u32,
+) -> Result<(u32, u64), Fail> {
+    let schedule = count_schedule(alloc, searches)?;
+    let store = counted_store(alloc)?;
+    let (store, output) = driven(rt, alloc, schedule.as_slice(), ScriptClock::at(1000), store)?;
+    let replies = lines_with(output.content().as_slice(), "\"num_hits\":1,");
+    Ok((replies, store.given))
 }
 
 // So few bytes of split files are asked of the store where `serve` counts a word, and again.
