@@ -1,6 +1,6 @@
 //! What a line asks.
 
-use crate::{dates, records, tokens};
+use crate::documents::{dates, records, tokens};
 use std::alloc::{AllocError, Global};
 
 /// `config T` reads a configuration, `first R`, `strict R` and `timed R` take in a record, `default T`, `whitespace T` and `raw T` cut a text

@@ -1,6 +1,6 @@
 //! What a line asks.
 
-use crate::{bytes, entries, places};
+use crate::histories::{bytes, entries, places};
 use byte_fields::Bytes;
 use delete_tasks::covers;
 use doc_value::{Doc, Fields, Schema};

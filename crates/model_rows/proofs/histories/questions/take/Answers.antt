@@ -3,7 +3,7 @@ use Rattle.std.specs.Result.{IsOk}
 use Rattle.meta_store.specs.Answers.{Answer, handed}
 use Rattle.meta_store.specs.Said.{Said}
 use Rattle.meta_store.specs.declared.refusal.Refusal.{Refusal}
-use Rattle.history_rows.proofs.questions.take.Goals as goal
+use Rattle.model_rows.proofs.histories.questions.take.Goals as goal
 
 -- what is handed back is what was handed in, and the entry may come
 is_handed : (reading back : Said) (answer : Answer) → Ok back ≡ handed reading answer → (back ≡ reading) × IsOk answer

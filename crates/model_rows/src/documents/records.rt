@@ -1,8 +1,8 @@
 //! Configurations, and the documents of records.
 
 use doc_mapping::{Reject, accept};
-use doc_value::print_doc;
-use index_config::{ConfigError, read_config};
+use doc_value::{Doc, Schema, print_doc};
+use index_config::{ConfigError, IndexConfig, read_config};
 use std::alloc::{AllocError, Global};
 use std::str;
 
@@ -44,16 +44,22 @@ fn refused(alloc: Global, refusal: &ConfigError) -> Result<String, AllocError> {
 
 /// The document of a record, as it is printed, or why there is none.
 pub fn taken_in(alloc: Global, config: &str, record: &str) -> Result<String, AllocError> {
-    let Ok(config) = read_config(alloc, config.as_bytes()) else {
-        return String::from_str(alloc, "no configuration");
-    };
-    match accept(alloc, &config, record.as_bytes()) {
-        Ok(doc) => {
-            let printed = print_doc(alloc, &config.schema, &doc)?;
-            String::from_str(alloc, str::from_utf8(printed.as_slice()).unwrap_or(""))
-        }
+    match read_config(alloc, config.as_bytes()) {
+        Ok(config) => taken_by(alloc, &config, record),
+        Err(_) => String::from_str(alloc, "no configuration"),
+    }
+}
+
+fn taken_by(alloc: Global, config: &IndexConfig, record: &str) -> Result<String, AllocError> {
+    match accept(alloc, config, record.as_bytes()) {
+        Ok(doc) => shown(alloc, &config.schema, &doc),
         Err(reject) => rejected(alloc, &reject),
     }
+}
+
+fn shown(alloc: Global, schema: &Schema, doc: &Doc) -> Result<String, AllocError> {
+    let printed = print_doc(alloc, schema, doc)?;
+    String::from_str(alloc, str::from_utf8(printed.as_slice()).unwrap_or(""))
 }
 
 fn rejected(alloc: Global, reject: &Reject) -> Result<String, AllocError> {

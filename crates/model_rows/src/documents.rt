@@ -1,0 +1,6 @@
+//! Configurations, records, tokens and datetimes.
+
+pub mod answers;
+mod dates;
+mod records;
+mod tokens;

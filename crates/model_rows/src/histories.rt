@@ -1,0 +1,6 @@
+//! Entries of a journal, and what their histories mean.
+
+mod bytes;
+mod entries;
+mod places;
+pub mod questions;
