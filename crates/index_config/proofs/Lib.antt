@@ -8,3 +8,4 @@ pub mod Serving
 pub mod Accepted
 pub mod Named
 pub mod Ranges
+pub mod Asked

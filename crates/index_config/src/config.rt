@@ -56,12 +56,15 @@ impl IndexConfig {
     pub fn copy(&self, alloc: Global) -> Result<IndexConfig, AllocError>
         ensures { IfOk result (λ c. c ≡ self.now) }
     {
+        let formats = self.formats.copy(alloc)?;
+        let default_fields = self.default_fields.copy(alloc)?;
+        let schema = self.schema.copy(alloc)?;
         Ok(IndexConfig {
-            schema: self.schema.copy(alloc)?,
+            schema,
             mode: self.mode,
             timestamp_field: self.timestamp_field,
-            formats: self.formats.copy(alloc)?,
-            default_fields: self.default_fields.copy(alloc)?,
+            formats,
+            default_fields,
             commit_timeout: self.commit_timeout,
             docs_target: self.docs_target,
             policy: self.policy,

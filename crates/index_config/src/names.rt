@@ -1,4 +1,4 @@
-ghost use Rattle.std.specs.Prelude.{◌≡◌, IfOk};
+ghost use Rattle.std.specs.Prelude.{◌≡◌, ◌∷◌, ◌++◌, IfOk};
 ghost use Rattle.std.specs.Str.{bytes_eq};
 ghost use Rattle.std.specs.List.{list_all};
 ghost use Rattle.index_config.specs.Rules as rules;
@@ -213,9 +213,16 @@ pub fn under(alloc: Global, path: &Text, key: &str) -> Result<Text, AllocError>
     if path.len() == 0 {
         return Text::from_str(alloc, key);
     }
+    joined(alloc, path, key)
+}
+
+/// A path with one more word behind a dot.
+fn joined(alloc: Global, path: &Text, word: &str) -> Result<Text, AllocError>
+    ensures { IfOk result (λ text. text ≡ path.now ++ 46 ∷ word.now) }
+{
     let mut text = path.copy(alloc)?;
     text.push('.')?;
-    text.extend(key)?;
+    text.extend(word)?;
     Ok(text)
 }
 
@@ -223,8 +230,6 @@ pub fn under(alloc: Global, path: &Text, key: &str) -> Result<Text, AllocError>
 pub fn member_path(alloc: Global, path: &Text, number: usize) -> Result<Text, AllocError>
     ensures { IfOk result (λ text. text ≡ rules.member_path path.now number) }
 {
-    let mut text = path.copy(alloc)?;
-    text.push('.')?;
-    text.extend(number.to_string(alloc)?.as_str())?;
-    Ok(text)
+    let digits = number.to_string(alloc)?;
+    joined(alloc, path, digits.as_str())
 }

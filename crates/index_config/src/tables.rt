@@ -1,8 +1,7 @@
-ghost use Rattle.std.specs.Prelude.{◌≡◌, ◌++◌, ◌&&◌, [], not, OnOk, option_map, codes};
+ghost use Rattle.std.specs.Prelude.{◌≡◌, ◌++◌, ◌&&◌, [], not, OnOk, flat_map, option_map, codes};
 ghost use Rattle.toml.specs.View.{view, items_view};
 ghost use Rattle.toml.specs.Data.{get};
 ghost use Rattle.index_config.specs.Rules as rules;
-ghost use Rattle.index_config.specs.declared.rule.Place.TheVariants as places;
 ghost use Rattle.index_config.specs.Tables as spec;
 ghost use Rattle.index_config.specs.Fields.{in_option};
 ghost use Rattle.index_config.specs.Sections as sections;
@@ -17,57 +16,51 @@ use doc_value::Text;
 use std::alloc::{AllocError, Global};
 use toml::Value;
 
+/// What is asked of a key that may be absent.
+macro_rules! optional {
+    ($rule:expr) => {
+        Ask {
+            required: false,
+            list: false,
+            rule: $rule,
+        }
+    };
+}
+
+/// What is asked of a key that has to be there.
+macro_rules! required {
+    ($rule:expr) => {
+        Ask {
+            required: true,
+            list: false,
+            rule: $rule,
+        }
+    };
+}
+
+/// What is asked of a list that may be absent.
+macro_rules! list_of {
+    ($rule:expr) => {
+        Ask {
+            required: false,
+            list: true,
+            rule: $rule,
+        }
+    };
+}
+
+/// What is asked of a number that may be absent.
+macro_rules! whole {
+    ($least:expr, $most:expr) => {
+        optional!(Rule::Whole {
+            least: $least,
+            most: $most,
+        })
+    };
+}
+
 /// How deep objects of fields nest.
 pub const MAX_LEVELS: usize = 16;
-
-/// A key that may be absent.
-fn check_optional(here: &Here, faults: &mut Faults, rule: Rule, key: &str) -> Result<(), AllocError>
-    ensures { OnOk result (faults.new ≡ faults.old ++ spec.asked (spec.optional rule) here.now.path key.now (view here.now.table.now)) }
-{
-    let ask = Ask {
-        required: false,
-        list: false,
-        rule,
-    };
-    check_key(here, faults, ask, key)
-}
-
-/// A key that has to be there.
-fn check_required(here: &Here, faults: &mut Faults, rule: Rule, key: &str) -> Result<(), AllocError>
-    ensures { OnOk result (faults.new ≡ faults.old ++ spec.asked (spec.required rule) here.now.path key.now (view here.now.table.now)) }
-{
-    let ask = Ask {
-        required: true,
-        list: false,
-        rule,
-    };
-    check_key(here, faults, ask, key)
-}
-
-/// A list that may be absent.
-fn check_list(here: &Here, faults: &mut Faults, rule: Rule, key: &str) -> Result<(), AllocError>
-    ensures { OnOk result (faults.new ≡ faults.old ++ spec.asked (spec.list_of rule) here.now.path key.now (view here.now.table.now)) }
-{
-    let ask = Ask {
-        required: false,
-        list: true,
-        rule,
-    };
-    check_key(here, faults, ask, key)
-}
-
-/// A number that may be absent.
-fn check_whole(
-    here: &Here,
-    faults: &mut Faults,
-    least: u64,
-    most: u64,
-    key: &str,
-) -> Result<(), AllocError>
-    ensures { OnOk result (faults.new ≡ faults.old ++ spec.asked (spec.whole least most) here.now.path key.now (view here.now.table.now)) }
-{
-    check_optional(here, faults, Rule::Whole { least, most }, key)
-}
 
 /// The list of an object's fields, which an object has to have.
 fn check_mappings(
@@ -84,6 +77,31 @@ fn check_mappings(
         rule: Rule::AnyTable,
     };
     check_key(here, faults, ask, "field_mappings")
+}
+
+/// What is asked of some keys, in the order of the list.
+fn check_keys(here: &Here, faults: &mut Faults, keys: &[(Ask, &str)]) -> Result<(), AllocError>
+    ensures { OnOk result (faults.new ≡ faults.old
+        ++ flat_map (λ key. spec.asked key.0 here.now.path key.1.now (view here.now.table.now)) keys.now) }
+{
+    for key in keys {
+        check_key(here, faults, key.0, key.1)?;
+    }
+    Ok(())
+}
+
+/// The keys that a table doesn't know, and behind them what is asked of some.
+fn check_table(
+    here: &Here,
+    faults: &mut Faults,
+    place: Place,
+    keys: &[(Ask, &str)],
+) -> Result<(), AllocError>
+    ensures { OnOk result (faults.new ≡ faults.old ++ (spec.unknown_faults place here.now.path (spec.members_in (view here.now.table.now))
+        ++ flat_map (λ key. spec.asked key.0 here.now.path key.1.now (view here.now.table.now)) keys.now)) }
+{
+    check_known(here, faults, place)?;
+    check_keys(here, faults, keys)
 }
 
 /// The keys that a table doesn't know, in byte order.
@@ -159,9 +177,11 @@ fn check_field(
 ) -> Result<(), AllocError>
     ensures { OnOk result (faults.new ≡ faults.old ++ spec.field_faults deepest here.now.path (view here.now.table.now) field_type) }
 {
-    check_known(here, faults, Place::OfField(field_type))?;
-    check_required(here, faults, Rule::FieldName, "name")?;
-    check_required(here, faults, Rule::TypeName, "type")?;
+    let keys = [
+        (required!(Rule::FieldName), "name"),
+        (required!(Rule::TypeName), "type"),
+    ];
+    check_table(here, faults, Place::OfField(field_type), &keys)?;
     check_depth(here, faults, deepest, field_type)?;
     check_field_values(here, faults, field_type)?;
     check_field_notes(here, faults)
@@ -189,11 +209,14 @@ fn check_field_values(
     ensures { OnOk result (faults.new ≡ faults.old
         ++ spec.field_value_faults (spec.is_object field_type) here.now.path (view here.now.table.now)) }
 {
-    check_optional(here, faults, Rule::Truth, "fast")?;
-    check_optional(here, faults, Rule::Truth, "indexed")?;
-    check_optional(here, faults, Rule::TokenizerName, "tokenizer")?;
-    check_optional(here, faults, Rule::RecordName, "record")?;
-    check_list(here, faults, Rule::FormatName, "input_formats")?;
+    let keys = [
+        (optional!(Rule::Truth), "fast"),
+        (optional!(Rule::Truth), "indexed"),
+        (optional!(Rule::TokenizerName), "tokenizer"),
+        (optional!(Rule::RecordName), "record"),
+        (list_of!(Rule::FormatName), "input_formats"),
+    ];
+    check_keys(here, faults, &keys)?;
     check_mappings(here, faults, field_type)
 }
 
@@ -201,11 +224,14 @@ fn check_field_values(
 fn check_field_notes(here: &Here, faults: &mut Faults) -> Result<(), AllocError>
     ensures { OnOk result (faults.new ≡ faults.old ++ spec.field_note_faults here.now.path (view here.now.table.now)) }
 {
-    check_optional(here, faults, Rule::Truth, "stored")?;
-    check_optional(here, faults, Rule::Truth, "fieldnorms")?;
-    check_optional(here, faults, Rule::AnyText, "description")?;
-    check_optional(here, faults, Rule::AnyText, "output_format")?;
-    check_optional(here, faults, Rule::AnyText, "fast_precision")
+    let keys = [
+        (optional!(Rule::Truth), "stored"),
+        (optional!(Rule::Truth), "fieldnorms"),
+        (optional!(Rule::AnyText), "description"),
+        (optional!(Rule::AnyText), "output_format"),
+        (optional!(Rule::AnyText), "fast_precision"),
+    ];
+    check_keys(here, faults, &keys)
 }
 
 /// The fields in the list of the mapping or an object, in which objects may nest to so many levels.
@@ -253,13 +279,15 @@ fn check_member(
 fn check_mapping(here: &Here, faults: &mut Faults) -> Result<(), AllocError>
     ensures { OnOk result (faults.new ≡ faults.old ++ spec.mapping_faults here.now.path (view here.now.table.now)) }
 {
-    check_known(here, faults, Place::Mapping)?;
-    check_optional(here, faults, Rule::ModeName, "mode")?;
-    check_list(here, faults, Rule::AnyTable, "field_mappings")?;
-    check_optional(here, faults, Rule::AnyText, "timestamp_field")?;
-    check_list(here, faults, Rule::AnyText, "tag_fields")?;
-    check_optional(here, faults, Rule::Truth, "store_source")?;
-    check_optional(here, faults, Rule::Truth, "index_field_presence")?;
+    let keys = [
+        (optional!(Rule::ModeName), "mode"),
+        (list_of!(Rule::AnyTable), "field_mappings"),
+        (optional!(Rule::AnyText), "timestamp_field"),
+        (list_of!(Rule::AnyText), "tag_fields"),
+        (optional!(Rule::Truth), "store_source"),
+        (optional!(Rule::Truth), "index_field_presence"),
+    ];
+    check_table(here, faults, Place::Mapping, &keys)?;
     check_fields(here, faults, MAX_LEVELS)
 }
 
@@ -313,67 +341,62 @@ fn policy_of(value: &Value) -> Option<PolicyType>
     }
 }
 
+/// The keys of the merge policy, whose greatest factor is no less than the factor in force.
 fn check_policy(here: &Here, faults: &mut Faults) -> Result<(), AllocError>
     ensures { OnOk result (faults.new ≡ faults.old ++ spec.policy_faults here.now.path (view here.now.table.now)) }
 {
-    check_policy_known(here, faults)?;
-    check_optional(here, faults, Rule::PolicyName, "type")?;
-    check_whole(here, faults, 1, 16_777_216, "min_level_num_docs")?;
-    check_whole(here, faults, 2, 100, "merge_factor")?;
-    check_greatest(here, faults)?;
-    check_whole(here, faults, 1, 100, "max_merge_ops")?;
-    check_optional(here, faults, Rule::Duration, "maturation_period")
-}
-
-fn check_policy_known(here: &Here, faults: &mut Faults) -> Result<(), AllocError>
-    ensures { OnOk result (faults.new ≡ faults.old ++ spec.unknown_faults (places.OfPolicy (spec.policy_type (view here.now.table.now)))
-        here.now.path (spec.members_in (view here.now.table.now))) }
-{
-    check_known(here, faults, Place::OfPolicy(policy_type(here.table)))
-}
-
-/// The greatest factor, which is no less than the factor in force.
-fn check_greatest(here: &Here, faults: &mut Faults) -> Result<(), AllocError>
-    ensures { OnOk result (faults.new ≡ faults.old ++ spec.asked (spec.whole (spec.merge_factor (view here.now.table.now)) 100)
-        here.now.path (codes "max_merge_factor") (view here.now.table.now)) }
-{
+    let kind = policy_type(here.table);
     let least = merge_factor(here.table);
-    check_whole(here, faults, least, 100, "max_merge_factor")
+    let keys = [
+        (optional!(Rule::PolicyName), "type"),
+        (whole!(1, 16_777_216), "min_level_num_docs"),
+        (whole!(2, 100), "merge_factor"),
+        (whole!(least, 100), "max_merge_factor"),
+        (whole!(1, 100), "max_merge_ops"),
+        (optional!(Rule::Duration), "maturation_period"),
+    ];
+    check_table(here, faults, Place::OfPolicy(kind), &keys)
 }
 
 /// The keys of the indexing settings, without those of the policy in them.
 fn check_indexing(here: &Here, faults: &mut Faults) -> Result<(), AllocError>
     ensures { OnOk result (faults.new ≡ faults.old ++ spec.indexing_key_faults here.now.path (view here.now.table.now)) }
 {
-    check_known(here, faults, Place::Indexing)?;
-    check_whole(here, faults, 1, 86_400, "commit_timeout_secs")?;
-    check_whole(here, faults, 1, 16_777_216, "split_num_docs_target")?;
-    check_optional(here, faults, Rule::AnyTable, "resources")
+    let keys = [
+        (whole!(1, 86_400), "commit_timeout_secs"),
+        (whole!(1, 16_777_216), "split_num_docs_target"),
+        (optional!(Rule::AnyTable), "resources"),
+    ];
+    check_table(here, faults, Place::Indexing, &keys)
 }
 
 fn check_search(here: &Here, faults: &mut Faults) -> Result<(), AllocError>
     ensures { OnOk result (faults.new ≡ faults.old ++ spec.search_faults here.now.path (view here.now.table.now)) }
 {
-    check_known(here, faults, Place::Search)?;
-    check_list(here, faults, Rule::AnyText, "default_search_fields")
+    let keys = [(list_of!(Rule::AnyText), "default_search_fields")];
+    check_table(here, faults, Place::Search, &keys)
 }
 
 fn check_upkeep(here: &Here, faults: &mut Faults) -> Result<(), AllocError>
     ensures { OnOk result (faults.new ≡ faults.old ++ spec.upkeep_faults here.now.path (view here.now.table.now)) }
 {
-    check_known(here, faults, Place::Upkeep)?;
-    check_whole(here, faults, 1, 2_147_483_647, "staged_grace_secs")?;
-    check_whole(here, faults, 1, 2_147_483_647, "deletion_grace_secs")
+    let keys = [
+        (whole!(1, 2_147_483_647), "staged_grace_secs"),
+        (whole!(1, 2_147_483_647), "deletion_grace_secs"),
+    ];
+    check_table(here, faults, Place::Upkeep, &keys)
 }
 
 fn check_top(here: &Here, faults: &mut Faults) -> Result<(), AllocError>
     ensures { OnOk result (faults.new ≡ faults.old ++ spec.top_faults here.now.path (view here.now.table.now)) }
 {
-    check_known(here, faults, Place::Top)?;
-    check_optional(here, faults, Rule::AnyText, "version")?;
-    check_required(here, faults, Rule::IndexId, "index_id")?;
-    check_optional(here, faults, Rule::AnyText, "index_uri")?;
-    check_required(here, faults, Rule::AnyTable, "doc_mapping")
+    let keys = [
+        (optional!(Rule::AnyText), "version"),
+        (required!(Rule::IndexId), "index_id"),
+        (optional!(Rule::AnyText), "index_uri"),
+        (required!(Rule::AnyTable), "doc_mapping"),
+    ];
+    check_table(here, faults, Place::Top, &keys)
 }
 
 fn check_top_at(alloc: Global, faults: &mut Faults, table: &Value) -> Result<(), AllocError>

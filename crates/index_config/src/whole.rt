@@ -57,9 +57,10 @@ fn field_count(raws: &[RawField]) -> usize
     count
 }
 
-fn check_count(faults: &mut Faults, count: usize) -> Result<(), AllocError>
-    ensures { OnOk result (faults.new ≡ faults.old ++ spec.count_faults count) }
+fn check_count(faults: &mut Faults, raws: &[RawField]) -> Result<(), AllocError>
+    ensures { OnOk result (faults.new ≡ faults.old ++ spec.count_faults (spec.field_count raws.now)) }
 {
+    let count = field_count(raws);
     if count <= 256 {
         return Ok(());
     }
@@ -141,14 +142,10 @@ fn has_such(purpose: Purpose, path: &[u8], raws: &[RawField]) -> bool
     false
 }
 
-fn check_timestamp(
-    faults: &mut Faults,
-    path: Option<&str>,
-    raws: &[RawField],
-) -> Result<(), AllocError>
-    ensures { OnOk result (faults.new ≡ faults.old ++ spec.timestamp_faults (option_map (λ t. t.now) path.entry) raws.now) }
+fn check_timestamp(faults: &mut Faults, root: &Value, raws: &[RawField]) -> Result<(), AllocError>
+    ensures { OnOk result (faults.new ≡ faults.old ++ spec.timestamp_faults (spec.timestamp_path (view root.now)) raws.now) }
 {
-    let Some(path) = path else {
+    let Some(path) = timestamp_path(root) else {
         return Ok(());
     };
     if has_such(Purpose::Timestamp, path.as_bytes(), raws) {
@@ -193,10 +190,10 @@ fn check_references(
     Ok(())
 }
 
-fn check_mode(faults: &mut Faults, mode: Mode) -> Result<(), AllocError>
-    ensures { OnOk result (faults.new ≡ faults.old ++ spec.mode_faults mode) }
+fn check_mode(faults: &mut Faults, root: &Value) -> Result<(), AllocError>
+    ensures { OnOk result (faults.new ≡ faults.old ++ spec.mode_faults (spec.mode_of (view root.now))) }
 {
-    match mode {
+    match mode_of(root) {
         Mode::Strict => Ok(()),
         Mode::Lenient => Ok(()),
         Mode::Dynamic => faults.push(ConfigError::ModeNotBuilt),
@@ -268,22 +265,6 @@ fn mode_in(value: &Value) -> Mode
     }
 }
 
-fn check_count_of(faults: &mut Faults, raws: &[RawField]) -> Result<(), AllocError>
-    ensures { OnOk result (faults.new ≡ faults.old ++ spec.count_faults (spec.field_count raws.now)) }
-{
-    check_count(faults, field_count(raws))
-}
-
-fn check_timestamp_of(
-    faults: &mut Faults,
-    root: &Value,
-    raws: &[RawField],
-) -> Result<(), AllocError>
-    ensures { OnOk result (faults.new ≡ faults.old ++ spec.timestamp_faults (spec.timestamp_path (view root.now)) raws.now) }
-{
-    check_timestamp(faults, timestamp_path(root), raws)
-}
-
 fn check_tags(
     alloc: Global,
     faults: &mut Faults,
@@ -318,12 +299,6 @@ fn check_defaults(
     )
 }
 
-fn check_mode_of(faults: &mut Faults, root: &Value) -> Result<(), AllocError>
-    ensures { OnOk result (faults.new ≡ faults.old ++ spec.mode_faults (spec.mode_of (view root.now))) }
-{
-    check_mode(faults, mode_of(root))
-}
-
 /// What is wrong with the configuration as a whole, behind all tables.
 pub fn check_whole(
     alloc: Global,
@@ -334,9 +309,9 @@ pub fn check_whole(
     ensures { OnOk result (faults.new ≡ faults.old ++ spec.whole_faults (view root.now) raws.now) }
 {
     check_duplicates(alloc, faults, raws)?;
-    check_count_of(faults, raws)?;
-    check_timestamp_of(faults, root, raws)?;
+    check_count(faults, raws)?;
+    check_timestamp(faults, root, raws)?;
     check_tags(alloc, faults, root, raws)?;
     check_defaults(alloc, faults, root, raws)?;
-    check_mode_of(faults, root)
+    check_mode(faults, root)
 }

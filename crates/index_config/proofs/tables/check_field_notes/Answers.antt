@@ -1,11 +1,7 @@
 use Rattle.std.proofs.lemmas.Result.{on_ok_weaker}
-use Rattle.index_config.proofs.Nesting.{chain}
+use Rattle.toml.specs.View.{view}
+use Rattle.index_config.proofs.Asked.{note-keys}
 use Rattle.index_config.proofs.tables.check_field_notes.Goals as goal
 
 pub returns : goal.returns
-returns c =
-    let s1 = c.in_ok-check_optional.ensures in
-    let s2 = chain _ _ _ _ _ s1 c.in_ok-check_optional-2.ensures in
-    let s3 = chain _ _ _ _ _ s2 c.in_ok-check_optional-3.ensures in
-    let s4 = chain _ _ _ _ _ s3 c.in_ok-check_optional-4.ensures in
-    on_ok_weaker c.check_optional-5.result (chain _ _ _ _ _ s4) c.check_optional-5.ensures
+returns c = on_ok_weaker c.check_keys.result (note-keys _ _ c.args.here.now.path (view c.args.here.now.table.now)) c.check_keys.ensures

@@ -1,13 +1,9 @@
 use Rattle.std.proofs.lemmas.Result.{on_ok_weaker}
-use Rattle.index_config.proofs.Nesting.{chain}
+use Rattle.toml.specs.View.{view}
+use Rattle.index_config.proofs.Asked.{policy-keys}
 use Rattle.index_config.proofs.tables.check_policy.Goals as goal
 
 pub returns : goal.returns
 returns c =
-    let s1 = c.in_ok-check_policy_known.ensures in
-    let s2 = chain _ _ _ _ _ s1 c.in_ok-check_optional.ensures in
-    let s3 = chain _ _ _ _ _ s2 c.in_ok-check_whole.ensures in
-    let s4 = chain _ _ _ _ _ s3 c.in_ok-check_whole-2.ensures in
-    let s5 = chain _ _ _ _ _ s4 c.in_ok-check_greatest.ensures in
-    let s6 = chain _ _ _ _ _ s5 c.in_ok-check_whole-3.ensures in
-    on_ok_weaker c.check_optional-2.result (chain _ _ _ _ _ s6) c.check_optional-2.ensures
+    on_ok_weaker c.check_table.result
+    (policy-keys _ _ c.args.here.now.path (view c.args.here.now.table.now) _ _ c.policy_type-kind.ensures c.merge_factor-least.ensures) c.check_table.ensures

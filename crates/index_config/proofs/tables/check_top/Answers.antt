@@ -1,11 +1,7 @@
 use Rattle.std.proofs.lemmas.Result.{on_ok_weaker}
-use Rattle.index_config.proofs.Nesting.{chain}
+use Rattle.toml.specs.View.{view}
+use Rattle.index_config.proofs.Asked.{top-keys}
 use Rattle.index_config.proofs.tables.check_top.Goals as goal
 
 pub returns : goal.returns
-returns c =
-    let s1 = c.in_ok-check_known.ensures in
-    let s2 = chain _ _ _ _ _ s1 c.in_ok-check_optional.ensures in
-    let s3 = chain _ _ _ _ _ s2 c.in_ok-check_required.ensures in
-    let s4 = chain _ _ _ _ _ s3 c.in_ok-check_optional-2.ensures in
-    on_ok_weaker c.check_required-2.result (chain _ _ _ _ _ s4) c.check_required-2.ensures
+returns c = on_ok_weaker c.check_table.result (top-keys _ _ c.args.here.now.path (view c.args.here.now.table.now)) c.check_table.ensures

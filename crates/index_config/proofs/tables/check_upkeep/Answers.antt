@@ -1,9 +1,7 @@
 use Rattle.std.proofs.lemmas.Result.{on_ok_weaker}
-use Rattle.index_config.proofs.Nesting.{chain}
+use Rattle.toml.specs.View.{view}
+use Rattle.index_config.proofs.Asked.{upkeep-keys}
 use Rattle.index_config.proofs.tables.check_upkeep.Goals as goal
 
 pub returns : goal.returns
-returns c =
-    let s1 = c.in_ok-check_known.ensures in
-    let s2 = chain _ _ _ _ _ s1 c.in_ok-check_whole.ensures in
-    on_ok_weaker c.check_whole-2.result (chain _ _ _ _ _ s2) c.check_whole-2.ensures
+returns c = on_ok_weaker c.check_table.result (upkeep-keys _ _ c.args.here.now.path (view c.args.here.now.table.now)) c.check_table.ensures
