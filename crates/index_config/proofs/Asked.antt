@@ -1,5 +1,5 @@
 -- What is asked of the keys of a table, one behind the other.
-use Rattle.std.proofs.Common.{◌≡◌, ℕ, List, [], ◌++◌, append_assoc, append-nil, Option}
+use Rattle.std.proofs.Common.{◌≡◌, ℕ, Bool, List, [], ◌++◌, append_assoc, append-nil, ap, ◌∙◌, Option}
 use Rattle.std.specs.Prelude.{codes}
 use Rattle.toml.specs.Data.{Data}
 use Rattle.index_config.specs.declared.config_error.ConfigError.{ConfigError}
@@ -7,7 +7,7 @@ use Rattle.index_config.specs.declared.rule.FieldType.{FieldType}
 use Rattle.index_config.specs.declared.rule.PolicyType.{PolicyType}
 use Rattle.index_config.specs.declared.rule.Place.TheVariants as places
 use Rattle.index_config.specs.declared.rule.Rule.TheVariants as rules
-use Rattle.index_config.specs.Tables.{asked, optional, required, list_of, whole, unknown_faults, members_in, field_note_faults, top_faults, indexing_key_faults, upkeep_faults, search_faults, policy_faults, policy_type, merge_factor}
+use Rattle.index_config.specs.Tables.{asked, optional, required, list_of, whole, unknown_faults, members_in, field_note_faults, field_value_faults, mappings_ask, is_object, top_faults, indexing_key_faults, upkeep_faults, search_faults, policy_faults, policy_type, merge_factor}
 use Rattle.index_config.proofs.Nesting.{chain}
 
 two : (old new a b : List ConfigError) → new ≡ old ++ (a ++ (b ++ [])) → new ≡ old ++ (a ++ b)
@@ -22,12 +22,12 @@ four old new a b c d h = simp append_assoc (simp append-nil at h)
 five : (old new a b c d e : List ConfigError) → new ≡ old ++ (a ++ (b ++ (c ++ (d ++ (e ++ []))))) → new ≡ old ++ (a ++ b ++ c ++ d ++ e)
 five old new a b c d e h = simp append_assoc (simp append-nil at h)
 
+six : (old new a b c d e f : List ConfigError) → new ≡ old ++ (a ++ (b ++ (c ++ (d ++ (e ++ (f ++ []))))))
+    → new ≡ old ++ (a ++ b ++ c ++ d ++ e ++ f)
+six old new a b c d e f h = simp append_assoc (simp append-nil at h)
+
 seven : (old new a b c d e f g : List ConfigError) → new ≡ old ++ (a ++ (b ++ (c ++ (d ++ (e ++ (f ++ (g ++ []))))))) → new ≡ old ++ (a ++ b ++ c ++ d ++ e ++ f ++ g)
 seven old new a b c d e f g h = simp append_assoc (simp append-nil at h)
-
-behind-five : (old mid new a b c d e x : List ConfigError) → mid ≡ old ++ (a ++ (b ++ (c ++ (d ++ (e ++ []))))) → new ≡ mid ++ x
-    → new ≡ old ++ (a ++ b ++ c ++ d ++ e ++ x)
-behind-five old mid new a b c d e x m n = simp append_assoc (simp append_assoc at (chain old mid new _ _ m n))
 
 behind-seven : (old mid new a b c d e f g x : List ConfigError) → mid ≡ old ++ (a ++ (b ++ (c ++ (d ++ (e ++ (f ++ (g ++ []))))))) → new ≡ mid ++ x
     → new ≡ old ++ (a ++ b ++ c ++ d ++ e ++ f ++ g ++ x)
@@ -107,20 +107,28 @@ field-keys old new path d t h = three old new (unknown_faults (places.OfField t)
     (asked (required rules.FieldName) path (codes "name") d)
     (asked (required rules.TypeName) path (codes "type") d) h
 
--- with what stands behind them
-pub value-keys : (old mid new x : List ConfigError) (path : List ℕ) (d : Data) → mid ≡ old ++ (asked (optional rules.Truth) path (codes "fast") d
+pub value-keys : (old new : List ConfigError) (path : List ℕ) (d : Data) (t : Option FieldType) (object : Bool) → object ≡ is_object t
+    → new ≡ old ++ (asked (optional rules.Truth) path (codes "fast") d
     ++ (asked (optional rules.Truth) path (codes "indexed") d
     ++ (asked (optional rules.TokenizerName) path (codes "tokenizer") d
     ++ (asked (optional rules.RecordName) path (codes "record") d
-    ++ (asked (list_of rules.FormatName) path (codes "input_formats") d ++ [])))))
-    → new ≡ mid ++ x
-    → new ≡ old ++ (asked (optional rules.Truth) path (codes "fast") d ++ asked (optional rules.Truth) path (codes "indexed") d ++ asked (optional rules.TokenizerName) path (codes "tokenizer") d ++ asked (optional rules.RecordName) path (codes "record") d ++ asked (list_of rules.FormatName) path (codes "input_formats") d ++ x)
-value-keys old mid new x path d m n = behind-five old mid new (asked (optional rules.Truth) path (codes "fast") d)
+    ++ (asked (list_of rules.FormatName) path (codes "input_formats") d
+    ++ (asked (mappings_ask object) path (codes "field_mappings") d ++ []))))))
+    → new ≡ old ++ field_value_faults (is_object t) path d
+value-keys old new path d t object e h =
+    six old new (asked (optional rules.Truth) path (codes "fast") d)
     (asked (optional rules.Truth) path (codes "indexed") d)
     (asked (optional rules.TokenizerName) path (codes "tokenizer") d)
     (asked (optional rules.RecordName) path (codes "record") d)
-    (asked (list_of rules.FormatName) path (codes "input_formats") d) x m n
+    (asked (list_of rules.FormatName) path (codes "input_formats") d)
+    (asked (mappings_ask (is_object t)) path (codes "field_mappings") d) (h ∙ ap (λ b. old ++ (asked (optional rules.Truth) path (codes "fast") d
+    ++ (asked (optional rules.Truth) path (codes "indexed") d
+    ++ (asked (optional rules.TokenizerName) path (codes "tokenizer") d
+    ++ (asked (optional rules.RecordName) path (codes "record") d
+    ++ (asked (list_of rules.FormatName) path (codes "input_formats") d
+    ++ (asked (mappings_ask b) path (codes "field_mappings") d ++ []))))))) e)
 
+-- with what stands behind them
 pub mapping-keys : (old mid new x : List ConfigError) (path : List ℕ) (d : Data) → mid ≡ old ++ (unknown_faults places.Mapping path (members_in d)
     ++ (asked (optional rules.ModeName) path (codes "mode") d
     ++ (asked (list_of rules.AnyTable) path (codes "field_mappings") d

@@ -55,10 +55,10 @@ fn read_root(alloc: Global, root: &Value) -> Result<IndexConfig, ConfigError>
 fn raws_of(alloc: Global, root: &Value) -> Result<RawFields, AllocError>
     ensures { IfOk result (λ raws. raws ≡ all_raws (view root.now)) }
 {
-    let mut raws = RawFields::vacant(alloc);
     let place = Text::from_str(alloc, "doc_mapping.field_mappings")?;
     let path = Text::vacant(alloc);
     let items = mapping_items(root, "field_mappings");
+    let mut raws = RawFields::vacant(alloc);
     push_fields(alloc, &mut raws, MAX_LEVELS, &place, &path, items)?;
     Ok(raws)
 }

@@ -62,23 +62,6 @@ macro_rules! whole {
 /// How deep objects of fields nest.
 pub const MAX_LEVELS: usize = 16;
 
-/// The list of an object's fields, which an object has to have.
-fn check_mappings(
-    here: &Here,
-    faults: &mut Faults,
-    field_type: Option<FieldType>,
-) -> Result<(), AllocError>
-    ensures { OnOk result (faults.new ≡ faults.old
-        ++ spec.asked (spec.mappings_ask (spec.is_object field_type)) here.now.path (codes "field_mappings") (view here.now.table.now)) }
-{
-    let ask = Ask {
-        required: is_object(field_type),
-        list: true,
-        rule: Rule::AnyTable,
-    };
-    check_key(here, faults, ask, "field_mappings")
-}
-
 /// What is asked of some keys, in the order of the list.
 fn check_keys(here: &Here, faults: &mut Faults, keys: &[(Ask, &str)]) -> Result<(), AllocError>
     ensures { OnOk result (faults.new ≡ faults.old
@@ -200,7 +183,7 @@ fn check_depth(
     wrong_unless(faults, !(deepest && is_object(field_type)), path)
 }
 
-/// The keys of a field behind its type.
+/// The keys of a field behind its type. An object has to have the list of its fields.
 fn check_field_values(
     here: &Here,
     faults: &mut Faults,
@@ -209,15 +192,21 @@ fn check_field_values(
     ensures { OnOk result (faults.new ≡ faults.old
         ++ spec.field_value_faults (spec.is_object field_type) here.now.path (view here.now.table.now)) }
 {
+    let object = is_object(field_type);
+    let fields = Ask {
+        required: object,
+        list: true,
+        rule: Rule::AnyTable,
+    };
     let keys = [
         (optional!(Rule::Truth), "fast"),
         (optional!(Rule::Truth), "indexed"),
         (optional!(Rule::TokenizerName), "tokenizer"),
         (optional!(Rule::RecordName), "record"),
         (list_of!(Rule::FormatName), "input_formats"),
+        (fields, "field_mappings"),
     ];
-    check_keys(here, faults, &keys)?;
-    check_mappings(here, faults, field_type)
+    check_keys(here, faults, &keys)
 }
 
 /// The keys of a field that have no effect.

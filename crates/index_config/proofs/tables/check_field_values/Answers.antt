@@ -5,5 +5,5 @@ use Rattle.index_config.proofs.tables.check_field_values.Goals as goal
 
 pub returns : goal.returns
 returns c =
-    on_ok_weaker c.check_mappings.result (value-keys _ _ _ _ c.args.here.now.path (view c.args.here.now.table.now) c.in_ok-check_keys.ensures)
-    c.check_mappings.ensures
+    on_ok_weaker c.check_keys.result
+    (value-keys _ _ c.args.here.now.path (view c.args.here.now.table.now) c.args.field_type _ c.is_object-object.ensures) c.check_keys.ensures
