@@ -1,9 +1,11 @@
 // What a clause asks of one field, and where it is refused.
 
-ghost use Rattle.std.specs.Prelude.{◌≡◌, IfOk, is_some, map};
+ghost use Rattle.std.specs.Prelude.{◌≡◌, IfOk, is_some, map, not};
 ghost use Rattle.query_ast.specs.Meaning.{is_text};
 ghost use Rattle.query_ast.specs.Spelled.{spelled};
 ghost use Rattle.query_ast.specs.Sought.{view};
+ghost use Rattle.query_ast.specs.Sought as sought;
+ghost use Rattle.query_reader.specs.Texts.{text_at, run_at};
 ghost use Rattle.query_reader.specs.Tree.{view_ask};
 ghost use Rattle.query_reader.specs.Resolve as spec;
 
@@ -60,6 +62,28 @@ fn member_byte(member: &Member) -> usize
     }
 }
 
+/// The place, where the text of a word or a quote is no value of the kind.
+fn bad_text(
+    alloc: Global,
+    text: &[u8],
+    kind: Kind,
+    span: Span,
+    at: usize,
+) -> Result<Option<usize>, AllocError>
+    ensures { IfOk result (λ o. o ≡ spec.place_unless (is_some (spelled kind (text_at text.now span))) at) }
+{
+    let value = text_of(alloc, text, span)?;
+    Ok(unless(spells(alloc, kind, &value)?, at))
+}
+
+/// The same of a run of an edge, at its first byte.
+fn bad_run(alloc: Global, text: &[u8], kind: Kind, span: Span) -> Result<Option<usize>, AllocError>
+    ensures { IfOk result (λ o. o ≡ spec.place_unless (is_some (spelled kind (run_at text.now span))) span.from) }
+{
+    let value = run_of(alloc, text, span)?;
+    Ok(unless(spells(alloc, kind, &value)?, span.from))
+}
+
 fn bad_bound(
     alloc: Global,
     text: &[u8],
@@ -70,14 +94,8 @@ fn bad_bound(
 {
     match bound {
         Bound::Unbounded => Ok(None),
-        Bound::Quoted(span) => {
-            let value = text_of(alloc, text, span)?;
-            Ok(unless(spells(alloc, kind, &value)?, span.from.saturating_sub(1)))
-        }
-        Bound::Run(span) => {
-            let value = run_of(alloc, text, span)?;
-            Ok(unless(spells(alloc, kind, &value)?, span.from))
-        }
+        Bound::Quoted(span) => bad_text(alloc, text, kind, span, span.from.saturating_sub(1)),
+        Bound::Run(span) => bad_run(alloc, text, kind, span),
     }
 }
 
@@ -108,9 +126,8 @@ fn bad_members(
     ensures { IfOk result (λ o. o ≡ spec.bad_members text.now kind members.now) }
 {
     for member in members {
-        let value = text_of(alloc, text, member.place)?;
-        if !spells(alloc, kind, &value)? {
-            return Ok(Some(member_byte(member)));
+        if let Some(at) = bad_text(alloc, text, kind, member.place, member_byte(member))? {
+            return Ok(Some(at));
         }
     }
     Ok(None)
@@ -127,18 +144,9 @@ pub fn bad_value(
 {
     match ask {
         Ask::Any => Ok(None),
-        Ask::Word(span) => {
-            let value = text_of(alloc, text, *span)?;
-            Ok(unless(spells(alloc, field.kind, &value)?, span.from))
-        }
+        Ask::Word(span) => bad_text(alloc, text, field.kind, *span, span.from),
         Ask::Prefix(span) => Ok(unless(is_text_kind(field.kind), span.from)),
-        Ask::Quoted(span) => {
-            let value = text_of(alloc, text, *span)?;
-            Ok(unless(
-                spells(alloc, field.kind, &value)?,
-                span.from.saturating_sub(1),
-            ))
-        }
+        Ask::Quoted(span) => bad_text(alloc, text, field.kind, *span, span.from.saturating_sub(1)),
         Ask::Within(from, ranged) => {
             if is_ordered(field.kind) {
                 bad_range(alloc, text, field.kind, *ranged)
@@ -162,6 +170,20 @@ fn lacks_positions(alloc: Global, field: &Field, text: &Text) -> Result<bool, Al
     }
 }
 
+/// The place, where a text needs positions that the field lacks.
+fn unplaced_text(
+    alloc: Global,
+    text: &[u8],
+    field: &Field,
+    span: Span,
+    at: usize,
+) -> Result<Option<usize>, AllocError>
+    ensures { IfOk result (λ o. o ≡ spec.place_unless (not (spec.is_unplaced field.now (text_at text.now span))) at) }
+{
+    let value = text_of(alloc, text, span)?;
+    Ok(unless(!lacks_positions(alloc, field, &value)?, at))
+}
+
 fn unplaced_members(
     alloc: Global,
     text: &[u8],
@@ -172,9 +194,14 @@ fn unplaced_members(
 {
     for member in members {
         if member.quoted {
-            let value = text_of(alloc, text, member.place)?;
-            if lacks_positions(alloc, field, &value)? {
-                return Ok(Some(member_byte(member)));
+            if let Some(at) = unplaced_text(
+                alloc,
+                text,
+                field,
+                member.place,
+                member_byte(member),
+            )? {
+                return Ok(Some(at));
             }
         }
     }
@@ -192,11 +219,7 @@ pub fn unplaced(
 {
     match ask {
         Ask::Quoted(span) => {
-            let value = text_of(alloc, text, *span)?;
-            Ok(unless(
-                !lacks_positions(alloc, field, &value)?,
-                span.from.saturating_sub(1),
-            ))
+            unplaced_text(alloc, text, field, *span, span.from.saturating_sub(1))
         }
         Ask::OneOf(_, members) => unplaced_members(alloc, text, field, members.as_slice()),
         _ => Ok(None),
@@ -264,6 +287,44 @@ fn range_of(
     }
 }
 
+/// The range from an edge on.
+fn from_edge(
+    alloc: Global,
+    text: &[u8],
+    kind: Kind,
+    field: usize,
+    closed: bool,
+    bound: Bound,
+) -> Result<Query, AllocError>
+    ensures { IfOk result (λ q. view q ≡ sought.Range field (spec.edge_of text.now kind closed bound) Edge.Unbounded) }
+{
+    let low = edge_of(alloc, text, kind, closed, bound)?;
+    Ok(Query::Range {
+        field,
+        low,
+        high: Edge::Unbounded,
+    })
+}
+
+/// The range to an edge.
+fn to_edge(
+    alloc: Global,
+    text: &[u8],
+    kind: Kind,
+    field: usize,
+    closed: bool,
+    bound: Bound,
+) -> Result<Query, AllocError>
+    ensures { IfOk result (λ q. view q ≡ sought.Range field Edge.Unbounded (spec.edge_of text.now kind closed bound)) }
+{
+    let high = edge_of(alloc, text, kind, closed, bound)?;
+    Ok(Query::Range {
+        field,
+        low: Edge::Unbounded,
+        high,
+    })
+}
+
 fn compared(
     alloc: Global,
     text: &[u8],
@@ -275,38 +336,10 @@ fn compared(
     ensures { IfOk result (λ q. view q ≡ spec.range_of text.now kind field (Ranged.Compared compare bound)) }
 {
     match compare {
-        Compare::AtLeast => {
-            let low = edge_of(alloc, text, kind, true, bound)?;
-            Ok(Query::Range {
-                field,
-                low,
-                high: Edge::Unbounded,
-            })
-        }
-        Compare::Above => {
-            let low = edge_of(alloc, text, kind, false, bound)?;
-            Ok(Query::Range {
-                field,
-                low,
-                high: Edge::Unbounded,
-            })
-        }
-        Compare::AtMost => {
-            let high = edge_of(alloc, text, kind, true, bound)?;
-            Ok(Query::Range {
-                field,
-                low: Edge::Unbounded,
-                high,
-            })
-        }
-        Compare::Below => {
-            let high = edge_of(alloc, text, kind, false, bound)?;
-            Ok(Query::Range {
-                field,
-                low: Edge::Unbounded,
-                high,
-            })
-        }
+        Compare::AtLeast => from_edge(alloc, text, kind, field, true, bound),
+        Compare::Above => from_edge(alloc, text, kind, field, false, bound),
+        Compare::AtMost => to_edge(alloc, text, kind, field, true, bound),
+        Compare::Below => to_edge(alloc, text, kind, field, false, bound),
     }
 }
 
