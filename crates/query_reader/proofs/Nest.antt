@@ -20,7 +20,7 @@ use Rattle.query_reader.specs.declared.fault.Fault.TheVariants as faults
 use Rattle.query_reader.proofs.Parts.{stuck_at, alike, tight_operand}
 use Rattle.std.proofs.Common.{nat_lt, lt-ltb, le-ltb, if◌then◌else◌, map}
 use Rattle.query_reader.specs.Machine.{deeper, negated, limit, behind_not, close_with, whole, whole_with, done_with, finished, fresh}
-use Rattle.query_reader.specs.Reading.{operand_rest, negated_rest, quote_rest, sunk, Fails, group_rest, ReadsGroup, members}
+use Rattle.query_reader.specs.Reading.{operand_rest, negated_rest, quote_rest, sunk, Fails, group_rest, OnFault, ReadsGroup, members}
 use Rattle.query_reader.specs.declared.tree.Raw.{Raw}
 use Rattle.query_reader.proofs.Rows.{count, count_after}
 
@@ -43,6 +43,17 @@ pub group_fails : (text : List ℕ) (depth : ℕ) (e : ReadError) (rest : Rest) 
     → ((fs : List Frame) → rest' fs ≡ rest f fs) → Fails rest e → ReadsGroup text depth rest' (Err e)
 group_fails text depth errors.Memory rest rest' f h p = p
 group_fails text depth (errors.Refused x) rest rest' f h p = λ fs. h fs ∙ p f fs
+
+-- what stands between two brackets fails where its operands do
+pub group_faults : (text : List ℕ) (depth : ℕ) (e : ReadError) (rest rest' : List Frame → Result Tree Fault)
+    → ((fs : List Frame) → rest' fs ≡ rest fs) → OnFault e (λ fault. (fs : List Frame) → rest fs ≡ Err fault) → ReadsGroup text depth rest' (Err e)
+group_faults text depth errors.Memory rest rest' h p = p
+group_faults text depth (errors.Refused x) rest rest' h p = λ fs. h fs ∙ p fs
+
+pub operand_faults : (e : ReadError) (rest : Rest) (rest' : List Frame → Result Tree Fault) (f : Frame)
+    → ((fs : List Frame) → rest' fs ≡ rest f fs) → Fails rest e → OnFault e (λ fault. (fs : List Frame) → rest' fs ≡ Err fault)
+operand_faults errors.Memory rest rest' f h p = p
+operand_faults (errors.Refused x) rest rest' f h p = λ fs. h fs ∙ p f fs
 
 -- the depth has room, or not
 under : (depth : ℕ) → depth < 64 → nat_lt depth limit ≡ true

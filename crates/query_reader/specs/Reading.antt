@@ -1,5 +1,5 @@
 -- What the parts of the reader say of the machine.
-use Rattle.std.specs.Prelude.{◌≡◌, Option, Ok, Err, slice_range, ◌<◌, ◌≤◌, ℕ, Bool, true, false, List, drop, length, suc, Some, None, slice_index, Result, ◌⊎◌, ◌+◌, map}
+use Rattle.std.specs.Prelude.{◌≡◌, Option, Ok, Err, slice_range, ◌<◌, ◌≤◌, ℕ, true, false, List, drop, length, suc, Some, None, slice_index, Result, ◌⊎◌, ◌+◌, map}
 use Rattle.query_reader.specs.Kinds.{kind_of, said, names_set, ends_word}
 use Rattle.query_reader.specs.Tree.{Tree, view, no_trees, trees_after}
 use Rattle.query_reader.specs.Machine.{Frame, go_on, begin_special, run, state, After, InQuote, Behind, word, Role, First, Fielded, Spaced, LetterI, InSet, InRange, BehindIn, with_or, with_operand, from_operand, Want, fresh}

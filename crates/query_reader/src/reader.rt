@@ -1,10 +1,10 @@
 // Reads a query text by recursive descent.
 
-ghost use Rattle.std.specs.Prelude.{◌++◌, ◌∷◌, map, ◌≡◌, ◌||◌, nat_lt, ◌≢◌, ◌<◌, ◌≤◌, ◌+◌, ◌⊎◌, ◌↔◌, ℕ, Bool, false, true, length, drop, List, [], Ok, Err, IfOk, IfErr, IsTrue, slice_index, slice_range, MatchResult, Option, Some, None};
+ghost use Rattle.std.specs.Prelude.{◌++◌, ◌∷◌, map, ◌≡◌, ◌||◌, nat_lt, ◌≢◌, ◌<◌, ◌≤◌, ◌+◌, ◌⊎◌, ◌↔◌, ℕ, Bool, false, true, length, drop, List, [], Ok, Err, OnOk, IfOk, IfErr, IsTrue, slice_index, slice_range, MatchResult, Option, Some, None};
 ghost use Rattle.query_reader.specs.Kinds.{kind_of, StandsAt, said, ends_word, begins_word, names_set};
 ghost use Rattle.query_reader.specs.Tree.{Tree, Leaf, And, Or, view, no_trees, behind, trees_after, and_tree, or_tree};
 ghost use Rattle.query_reader.specs.Machine.{Frame, Role, First, Fielded, run, reads, state, word, Want, After, InQuote, Behind, fresh, with_operand, from_operand};
-ghost use Rattle.query_reader.specs.Reading.{next_run, IsNext, IsOperatorEnd, IsScanned, quote_rest, behind_rest, spaced_rest, in_rest, set_rest, range_rest, word_rest, word_said, BeginsNoSet, IsSetOpening, role_for, special_rest, letter_rest, operand_rest, negated_rest, sunk_word_rest, group_rest, OnFault, Arrives, Reads, ReadsGroup};
+ghost use Rattle.query_reader.specs.Reading.{next_run, IsNext, IsOperatorEnd, IsScanned, quote_rest, behind_rest, spaced_rest, in_rest, set_rest, range_rest, word_rest, word_said, BeginsNoSet, IsSetOpening, role_for, special_rest, letter_rest, operand_rest, negated_rest, sunk_word_rest, group_rest, OnFault, Arrives, Reads, ReadsGroup, members};
 ghost use Rattle.query_reader.specs.declared.kind.Kind.TheVariants.{Blank, Open, Close, Colon, Plain, Escape};
 ghost use Rattle.query_reader.specs.declared.kind.Said.TheVariants.{SaidWord, SaidNot};
 ghost use Rattle.query_reader.specs.declared.fault.Fault.TheVariants.{Syntax};
@@ -18,6 +18,7 @@ use crate::scan::{Scan, is_at, quote_end, scan_word, skip_blanks, stands};
 use crate::special::{Member, RangeMode, RangeStep, Ranged, Spot, end_range, step_range};
 use crate::tree::{Ask, Clause, Raw, Span};
 use std::alloc::Global;
+use std::mem;
 
 /// How many brackets, `NOT`s and signs may stand one in another.
 const LIMIT: usize = 64;
@@ -580,21 +581,51 @@ fn group(alloc: Global, text: &[u8], from: usize, depth: usize) -> Result<Operan
     ensures read { ReadsGroup text.now depth (group_rest text.now depth from) result }
 {
     let first = operand_at(alloc, text, skip_blanks(text, from), depth)?;
-    let mut ors = Vec::new(alloc);
     let mut ands = one(alloc, first.raw)?;
-    let mut at = first.end;
-    let mut free = first.free;
+    let mut ors = Vec::new(alloc);
+    match operands(
+        alloc, text, first.end, first.free, depth, &mut ors, &mut ands,
+    ) {
+        Ok(end) => {
+            let raw = some_of(ors, all_of(ands))?;
+            Ok(Operand {
+                raw,
+                end,
+                free: true,
+            })
+        }
+        Err(error) => Err(error),
+    }
+}
+
+/// The operands behind one that ends at `start`, to the end of what stands between the brackets, which is given.
+/// Those before the last `OR` go to `ors`, those behind it to `ands`.
+#[cycle(reader)]
+fn operands(
+    alloc: Global,
+    text: &[u8],
+    start: usize,
+    first_free: bool,
+    depth: usize,
+    ors: &mut Vec<Raw>,
+    ands: &mut Vec<Raw>,
+) -> Result<usize, ReadError>
+    requires within { start ≤ length text.now }
+    requires depth { depth ≤ 64 }
+    requires some { 0 < length ands.old.items }
+    ensures behind { IfOk result (λ end. (start ≤ end) × (end ≤ length text.now)) }
+    ensures close { IfOk result (λ end. end < length text.now → kind_of (slice_index text.now end) ≡ Close) }
+    ensures some { IfOk result (λ _. 0 < length ands.new.items) }
+    ensures read { IfOk result (λ end. (fs : List Frame) → run start (state (After first_free) (members depth ors.old.items ands.old.items) fs) (drop start text.now)
+        ≡ run end (state (After true) (members depth ors.new.items ands.new.items) fs) (drop end text.now)) }
+    ensures fault { IfErr result (λ e. OnFault e (λ fault. (fs : List Frame) → run start (state (After first_free) (members depth ors.old.items ands.old.items) fs) (drop start text.now) ≡ Err fault)) }
+{
+    let mut at = start;
+    let mut free = first_free;
     'operands: loop {
         match what_follows(text, at, free) {
             Err(fault) => return Err(ReadError::Refused(fault)),
-            Ok(Next::End(end)) => {
-                let raw = some_of(ors, all_of(ands))?;
-                return Ok(Operand {
-                    raw,
-                    end,
-                    free: true,
-                });
-            }
+            Ok(Next::End(end)) => return Ok(end),
             Ok(Next::And(place)) => {
                 let next = operand_at(alloc, text, place, depth)?;
                 ands.push(next.raw)?;
@@ -603,13 +634,28 @@ fn group(alloc: Global, text: &[u8], from: usize, depth: usize) -> Result<Operan
             }
             Ok(Next::Or(place)) => {
                 let next = operand_at(alloc, text, place, depth)?;
-                ors.push(all_of(ands))?;
-                ands = one(alloc, next.raw)?;
+                begin_or(alloc, ors, ands, next.raw)?;
                 at = next.end;
                 free = next.free;
             }
         }
     }
+}
+
+/// Behind an `OR`: what stood before it goes to `ors`, and the operand behind it stands alone.
+fn begin_or(
+    alloc: Global,
+    ors: &mut Vec<Raw>,
+    ands: &mut Vec<Raw>,
+    raw: Raw,
+) -> Result<(), ReadError>
+    ensures ors { OnOk result (trees_after no_trees (map view ors.new.items) ≡ behind (trees_after no_trees (map view ors.old.items)) (and_tree (trees_after no_trees (map view ands.old.items)))) }
+    ensures ands { OnOk result (ands.new.items ≡ raw ∷ []) }
+    ensures memory { IfErr result (λ e. e ≡ ReadError.Memory) }
+{
+    ors.push(all_of(mem::replace(ands, Vec::new(alloc))))?;
+    ands.push(raw)?;
+    Ok(())
 }
 
 /// A list of one.

@@ -5,7 +5,7 @@ use Rattle.query_reader.proofs.Rows.{more_trees}
 use Rattle.query_reader.specs.Machine.{First, run, state, After, Want, fresh, with_operand, negated, with_or}
 use Rattle.query_reader.specs.Reading.{operand_rest, negated_rest, sunk_word_rest, word_rest, quote_rest, group_rest, sunk, next_run, members}
 use Rattle.query_reader.proofs.Parts.{operand_word, escaped_end, misplaced, no_operand, refuted, want_operand, reads_from}
-use Rattle.query_reader.proofs.Nest.{fails_more, reads_sunk, fails_in_group, group_fails, operand_end, operand_quote, operand_star, operand_plus, operand_minus, plus_deep, minus_deep, operand_open, open_deep, operand_stuck, not_wants, not_stuck, not_deep, group_closes, group_open, members_end}
+use Rattle.query_reader.proofs.Nest.{fails_more, reads_sunk, fails_in_group, group_fails, group_faults, operand_faults, operand_end, operand_quote, operand_star, operand_plus, operand_minus, plus_deep, minus_deep, operand_open, open_deep, operand_stuck, not_wants, not_stuck, not_deep, group_closes, group_open, members_end}
 use Rattle.query_reader.proofs.reader.+reader.Goals as goal
 
 pub operand_at-returns-then-at-text-clause-read : goal.operand_at-returns-then-at-text-clause-read
@@ -111,27 +111,32 @@ bracket-returns-else-inner-text-clause-read t c = λ f fs.
     ∙ c.in_ok-inner.ensures.read (sunk c.args.depth f ∷ fs)
     ∙ group_open c.args.text.now (c.args.depth + 1) c.in_ok-inner.inner.end (view c.in_ok-inner.inner.raw) (sunk c.args.depth f) fs c.if-inner-text.false
 
-pub group-operands-init : goal.group-operands-init
-group-operands-init t c = record {
-  behind = omega (arith, c.in_ok-first.ensures.end.0);
-  within = c.in_ok-first.ensures.end.1;
-  some = omega (arith, ap length c.in_ok-ands.ensures.items);
-  reads = λ fs. c.skip_blanks.ensures.stays (Want true) (fresh c.args.depth) fs (λ at c. refl)
-      ∙ want_operand c.args.text.now c.skip_blanks.result true (fresh c.args.depth) fs c.skip_blanks.ensures.stop
-      ∙ c.in_ok-first.ensures.read (fresh c.args.depth) fs
-      ∙ ap (λ y. run c.in_ok-first.first.end (state (After c.in_ok-first.first.free) (members c.args.depth [] y) fs) (drop c.in_ok-first.first.end c.args.text.now)) (sym c.in_ok-ands.ensures.items)
-      ∙ ap (λ x. run c.in_ok-first.first.end (state (After c.in_ok-first.first.free) (members c.args.depth x c.in_ok-ands.ands.items) fs) (drop c.in_ok-first.first.end c.args.text.now)) (sym c.new-ors.ensures.items);
-}
+pub group-returns-in_ok-raw-in-Ok-clause-read : goal.group-returns-in_ok-raw-in-Ok-clause-read
+group-returns-in_ok-raw-in-Ok-clause-read t c = λ fs.
+    c.skip_blanks.ensures.stays (Want true) (fresh c.args.depth) fs (λ at c. refl)
+    ∙ want_operand c.args.text.now c.skip_blanks.result true (fresh c.args.depth) fs c.skip_blanks.ensures.stop
+    ∙ c.in_ok-first.ensures.read (fresh c.args.depth) fs
+    ∙ ap (λ y. run c.in_ok-first.first.end (state (After c.in_ok-first.first.free) (members c.args.depth [] y) fs) (drop c.in_ok-first.first.end c.args.text.now)) (sym c.in_ok-ands.ensures.items)
+    ∙ ap (λ x. run c.in_ok-first.first.end (state (After c.in_ok-first.first.free) (members c.args.depth x c.in_ok-ands.ands.items) fs) (drop c.in_ok-first.first.end c.args.text.now)) (sym c.new-ors.ensures.items)
+    ∙ c.in-Ok.ensures.read fs
+    ∙ members_end c.args.text.now c.args.depth c.in-Ok.end c.operands.new.ors.items c.operands.new.ands.items (view c.in_ok-raw-in-Ok.raw) fs c.in-Ok.ensures.close c.in-Ok.ensures.some
+    (c.in_ok-raw-in-Ok.ensures.ok ∙ ap (λ x. or_tree (behind (trees_after no_trees (map view c.operands.new.ors.items)) x)) c.all_of.ensures)
 
-pub group-returns-in-Ok-End-clause-read : goal.group-returns-in-Ok-End-clause-read
-group-returns-in-Ok-End-clause-read t c = λ fs.
-    let n = rw c.in-Ok-End.field-0-is at c.in-Ok-End.ensures.next in
+pub group-returns-in-Err-clause-read : goal.group-returns-in-Err-clause-read
+group-returns-in-Err-clause-read t c =
+    group_faults c.args.text.now c.args.depth c.in-Err.error (λ fs. run c.in_ok-first.first.end (state (After c.in_ok-first.first.free) (members c.args.depth c.new-ors.result.items c.in_ok-ands.ands.items) fs) (drop c.in_ok-first.first.end c.args.text.now)) (group_rest c.args.text.now c.args.depth c.args.from)
+    (λ fs. c.skip_blanks.ensures.stays (Want true) (fresh c.args.depth) fs (λ at c. refl)
+    ∙ want_operand c.args.text.now c.skip_blanks.result true (fresh c.args.depth) fs c.skip_blanks.ensures.stop
+    ∙ c.in_ok-first.ensures.read (fresh c.args.depth) fs
+    ∙ ap (λ y. run c.in_ok-first.first.end (state (After c.in_ok-first.first.free) (members c.args.depth [] y) fs) (drop c.in_ok-first.first.end c.args.text.now)) (sym c.in_ok-ands.ensures.items)
+    ∙ ap (λ x. run c.in_ok-first.first.end (state (After c.in_ok-first.first.free) (members c.args.depth x c.in_ok-ands.ands.items) fs) (drop c.in_ok-first.first.end c.args.text.now)) (sym c.new-ors.ensures.items)) c.in-Err.ensures.fault
+
+pub operands-returns-in-Ok-End-clause-read : goal.operands-returns-in-Ok-End-clause-read
+operands-returns-in-Ok-End-clause-read t c = λ fs.
     c.operands.invariant.reads fs ∙ c.in-Ok-End.ensures.reads (members c.args.depth c.operands.ors.items c.operands.ands.items) fs ∙ ap (λ n. next_run c.args.text.now n (members c.args.depth c.operands.ors.items c.operands.ands.items) fs) c.in-Ok-End.field-0-is
-    ∙ members_end c.args.text.now c.args.depth c.in-Ok-End.end c.operands.ors.items c.operands.ands.items (view c.in_ok-raw-in-Ok-End.raw) fs n.2 c.operands.invariant.some
-    (c.in_ok-raw-in-Ok-End.ensures.ok ∙ ap (λ x. or_tree (behind (trees_after no_trees (map view c.operands.ors.items)) x)) c.all_of.ensures)
 
-pub group-operands-preserved-in-Ok-And : goal.group-operands-preserved-in-Ok-And
-group-operands-preserved-in-Ok-And t c =
+pub operands-operands-preserved-in-Ok-And : goal.operands-operands-preserved-in-Ok-And
+operands-operands-preserved-in-Ok-And t c =
     let n = rw c.in-Ok-And.field-0-is at c.in-Ok-And.ensures.next in record {
       behind = omega (arith, n.0, c.in_ok-next-in-Ok-And.ensures.end.0);
       within = c.in_ok-next-in-Ok-And.ensures.end.1;
@@ -143,18 +148,16 @@ group-operands-preserved-in-Ok-And t c =
           ∙ ap (λ ys. run c.in_ok-next-in-Ok-And.next.end (state (After c.in_ok-next-in-Ok-And.next.free) (members c.args.depth c.operands.ors.items ys) fs) (drop c.in_ok-next-in-Ok-And.next.end c.args.text.now)) (sym c.in_ok-push-in-Ok-And.ensures.items);
     }
 
-pub group-operands-preserved : goal.group-operands-preserved
-group-operands-preserved t c =
+pub operands-operands-preserved : goal.operands-operands-preserved
+operands-operands-preserved t c =
     let n = rw c.in-Ok-Or.field-0-is at c.in-Ok-Or.ensures.next in record {
       behind = omega (arith, n.0, c.in_ok-next-in-Ok-Or.ensures.end.0);
       within = c.in_ok-next-in-Ok-Or.ensures.end.1;
-      some = omega (arith, ap length c.in_ok-ands-in-Ok-Or.ensures.items);
+      some = omega (arith, ap length c.in_ok-begin_or-in-Ok-Or.ensures.ands);
       reads = λ fs. c.operands.invariant.reads fs ∙ c.in-Ok-Or.ensures.reads (members c.args.depth c.operands.ors.items c.operands.ands.items) fs ∙ ap (λ n. next_run c.args.text.now n (members c.args.depth c.operands.ors.items c.operands.ands.items) fs) c.in-Ok-Or.field-0-is
           ∙ c.in_ok-next-in-Ok-Or.ensures.read (with_or (members c.args.depth c.operands.ors.items c.operands.ands.items)) fs
-          ∙ ap (λ x. run c.in_ok-next-in-Ok-Or.next.end (state (After c.in_ok-next-in-Ok-Or.next.free) (record { ors = x; ands = behind no_trees (view c.in_ok-next-in-Ok-Or.next.raw); negations = 0; base = c.args.depth; deep = c.args.depth }) fs) (drop c.in_ok-next-in-Ok-Or.next.end c.args.text.now))
-          (ap (λ x. behind (trees_after no_trees (map view c.operands.ors.items)) x) (sym c.all_of-in-Ok-Or.ensures) ∙ sym (more_trees no_trees c.operands.ors.items c.all_of-in-Ok-Or.result)
-          ∙ ap (λ xs. trees_after no_trees (map view xs)) (sym c.in_ok-push-in-Ok-Or.ensures.items))
-          ∙ ap (λ ys. run c.in_ok-next-in-Ok-Or.next.end (state (After c.in_ok-next-in-Ok-Or.next.free) (members c.args.depth c.push-in-Ok-Or.new.self.items ys) fs) (drop c.in_ok-next-in-Ok-Or.next.end c.args.text.now)) (sym c.in_ok-ands-in-Ok-Or.ensures.items);
+          ∙ ap (λ x. run c.in_ok-next-in-Ok-Or.next.end (state (After c.in_ok-next-in-Ok-Or.next.free) (record { ors = x; ands = behind no_trees (view c.in_ok-next-in-Ok-Or.next.raw); negations = 0; base = c.args.depth; deep = c.args.depth }) fs) (drop c.in_ok-next-in-Ok-Or.next.end c.args.text.now)) (sym c.in_ok-begin_or-in-Ok-Or.ensures.ors)
+          ∙ ap (λ ys. run c.in_ok-next-in-Ok-Or.next.end (state (After c.in_ok-next-in-Ok-Or.next.free) (members c.args.depth c.begin_or.new.ors.items ys) fs) (drop c.in_ok-next-in-Ok-Or.next.end c.args.text.now)) (sym c.in_ok-begin_or-in-Ok-Or.ensures.ands);
     }
 
 pub bracket-returns-in_err-inner-clause-read : goal.bracket-returns-in_err-inner-clause-read
@@ -171,12 +174,12 @@ group-returns-in_err-first-clause-read t c = let p = err_from_is_err_and c.from_
     rw (p.1, p.2) (group_fails c.args.text.now c.args.depth c.in_err-first.field-0.0 (operand_rest c.args.text.now c.args.depth c.skip_blanks.result) (group_rest c.args.text.now c.args.depth c.args.from) (fresh c.args.depth)
     (λ fs. c.skip_blanks.ensures.stays (Want true) (fresh c.args.depth) fs (λ at c. refl) ∙ want_operand c.args.text.now c.skip_blanks.result true (fresh c.args.depth) fs c.skip_blanks.ensures.stop) c.in_err-first.ensures.read)
 
-pub group-returns-in_err-next-in-Ok-And-clause-read : goal.group-returns-in_err-next-in-Ok-And-clause-read
-group-returns-in_err-next-in-Ok-And-clause-read t c = let p = err_from_is_err_and c.from_residual-in_err-next-in-Ok-And.result c.from_residual-in_err-next-in-Ok-And.ensures.1 in
-    rw (p.1, p.2) (group_fails c.args.text.now c.args.depth c.in_err-next-in-Ok-And.field-0.0 (operand_rest c.args.text.now c.args.depth c.in-Ok-And.place) (group_rest c.args.text.now c.args.depth c.args.from) (members c.args.depth c.operands.ors.items c.operands.ands.items)
+pub operands-returns-in_err-next-in-Ok-And-clause-fault : goal.operands-returns-in_err-next-in-Ok-And-clause-fault
+operands-returns-in_err-next-in-Ok-And-clause-fault t c = let p = err_from_is_err_and c.from_residual.result c.from_residual.ensures.1 in
+    rw (p.1, p.2) (operand_faults c.in_err-next-in-Ok-And.field-0.0 (operand_rest c.args.text.now c.args.depth c.in-Ok-And.place) (λ fs. run c.args.start (state (After c.args.first_free) (members c.args.depth c.args.ors.now.items c.args.ands.now.items) fs) (drop c.args.start c.args.text.now)) (members c.args.depth c.operands.ors.items c.operands.ands.items)
     (λ fs. c.operands.invariant.reads fs ∙ c.in-Ok-And.ensures.reads (members c.args.depth c.operands.ors.items c.operands.ands.items) fs ∙ ap (λ n. next_run c.args.text.now n (members c.args.depth c.operands.ors.items c.operands.ands.items) fs) c.in-Ok-And.field-0-is) c.in_err-next-in-Ok-And.ensures.read)
 
-pub group-returns-in_err-next-in-Ok-Or-clause-read : goal.group-returns-in_err-next-in-Ok-Or-clause-read
-group-returns-in_err-next-in-Ok-Or-clause-read t c = let p = err_from_is_err_and c.from_residual-in_err-next-in-Ok-Or.result c.from_residual-in_err-next-in-Ok-Or.ensures.1 in
-    rw (p.1, p.2) (group_fails c.args.text.now c.args.depth c.in_err-next-in-Ok-Or.field-0.0 (operand_rest c.args.text.now c.args.depth c.in-Ok-Or.place) (group_rest c.args.text.now c.args.depth c.args.from) (with_or (members c.args.depth c.operands.ors.items c.operands.ands.items))
+pub operands-returns-in_err-next-in-Ok-Or-clause-fault : goal.operands-returns-in_err-next-in-Ok-Or-clause-fault
+operands-returns-in_err-next-in-Ok-Or-clause-fault t c = let p = err_from_is_err_and c.from_residual-in_err-next-in-Ok-Or.result c.from_residual-in_err-next-in-Ok-Or.ensures.1 in
+    rw (p.1, p.2) (operand_faults c.in_err-next-in-Ok-Or.field-0.0 (operand_rest c.args.text.now c.args.depth c.in-Ok-Or.place) (λ fs. run c.args.start (state (After c.args.first_free) (members c.args.depth c.args.ors.now.items c.args.ands.now.items) fs) (drop c.args.start c.args.text.now)) (with_or (members c.args.depth c.operands.ors.items c.operands.ands.items))
     (λ fs. c.operands.invariant.reads fs ∙ c.in-Ok-Or.ensures.reads (members c.args.depth c.operands.ors.items c.operands.ands.items) fs ∙ ap (λ n. next_run c.args.text.now n (members c.args.depth c.operands.ors.items c.operands.ands.items) fs) c.in-Ok-Or.field-0-is) c.in_err-next-in-Ok-Or.ensures.read)
