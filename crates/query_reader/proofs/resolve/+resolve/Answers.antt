@@ -1,12 +1,39 @@
-use Rattle.std.proofs.Common.{◌≡◌, ◌∙◌, sym, ap, drop, map, ◌+◌, rules, Ok}
+use Rattle.std.proofs.Common.{◌≡◌, ◌∙◌, sym, ap, subst, drop, map, ◌+◌, rules, Ok}
 use Rattle.query_reader.proofs.Each.{view_more, and_is, or_is, each_step, refuses_bind, refuses_same}
 use Rattle.query_reader.proofs.Rows.{row_after}
-use Rattle.query_reader.specs.Resolve.{◌>>=◌, resolve_after}
-use Rattle.query_reader.specs.Tree.{view, trees_after, no_trees, And, Or}
+use Rattle.query_reader.specs.Resolve.{◌>>=◌, resolve, resolve_after, Gives}
+use Rattle.query_reader.specs.Tree.{view, view_ask, trees_after, no_trees, Leaf, Group, Not, And, Or}
 use Rattle.query_reader.specs.declared.tree.Raw.{the_lemmas}
 use Rattle.query_ast.specs.Sought.{view_all, no_more}
 use Rattle.query_ast.specs.Sought as sought
 use Rattle.query_reader.proofs.resolve.+resolve.Goals as goal
+
+pub resolve-returns-in-Leaf : goal.resolve-returns-in-Leaf
+resolve-returns-in-Leaf t c =
+    let e : view c.args.raw.now ≡ Leaf c.in-Leaf.clause.field (view_ask c.in-Leaf.clause.ask) = search (rules, the_lemmas) in
+    subst (λ x. Gives sought.view (resolve c.args.fields.now c.args.defaults.now c.args.text.now x) c.resolve_clause.result) (sym e) c.resolve_clause.ensures
+
+pub resolve-returns-in-Group : goal.resolve-returns-in-Group
+resolve-returns-in-Group t c =
+    let e : view c.args.raw.now ≡ Group (view c.in-Group.inner.value) = search (rules, the_lemmas) in
+    subst (λ x. Gives sought.view (resolve c.args.fields.now c.args.defaults.now c.args.text.now x) c.resolve.result) (sym e)
+    (subst (λ v. Gives sought.view (resolve c.args.fields.now c.args.defaults.now c.args.text.now (view v)) c.resolve.result) c.deref.ensures c.resolve.ensures)
+
+pub resolve-returns-in-Ok : goal.resolve-returns-in-Ok
+resolve-returns-in-Ok t c =
+    let e : view c.args.raw.now ≡ Not (view c.in-Not.inner.value) = search (rules, the_lemmas) in
+    subst (λ r. Gives sought.view r c.negated.result)
+    (sym (ap (resolve c.args.fields.now c.args.defaults.now c.args.text.now) e
+    ∙ ap (λ v. resolve c.args.fields.now c.args.defaults.now c.args.text.now (view v) >>= λ q. Ok (sought.Not q)) (sym c.deref-in-Not.ensures)
+    ∙ ap (λ r. r >>= λ q. Ok (sought.Not q)) c.in-Ok.ensures)) c.negated.ensures
+
+pub resolve-returns-in-Err : goal.resolve-returns-in-Err
+resolve-returns-in-Err t c =
+    let e : view c.args.raw.now ≡ Not (view c.in-Not.inner.value) = search (rules, the_lemmas) in
+    refuses_same _ _ c.in-Err.refusal
+    (ap (λ v. resolve c.args.fields.now c.args.defaults.now c.args.text.now (view v) >>= λ q. Ok (sought.Not q)) c.deref-in-Not.ensures
+    ∙ sym (ap (resolve c.args.fields.now c.args.defaults.now c.args.text.now) e))
+    (refuses_bind _ (λ q. Ok (sought.Not q)) c.in-Err.refusal c.in-Err.ensures)
 
 pub resolve-returns-in-Ok-resolve_each : goal.resolve-returns-in-Ok-resolve_each
 resolve-returns-in-Ok-resolve_each t c =
