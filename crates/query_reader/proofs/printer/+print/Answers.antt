@@ -4,10 +4,40 @@ use Rattle.std.proofs.Math.ListN.{drop_of_length-le}
 use Rattle.query_ast.specs.Sought.{view, view_all}
 use Rattle.query_ast.specs.Sought as sought
 use Rattle.query_ast.specs.declared.query.Query.{the_lemmas}
-use Rattle.query_reader.specs.Printed.{Written, Spells, Appends, printed, printed_all, inner, bracket_before, bracket_behind, blank_and, blank_or}
+use Rattle.query_reader.specs.Printed.{Written, Spells, Appends, printed, printed_all, asked, word_text, quote_text, inner, bracket_before, bracket_behind, blank_and, blank_or}
 use Rattle.query_reader.proofs.Pieces.{appends_more, appends_then, spells_more}
 use Rattle.query_reader.proofs.Each.{row_all}
 use Rattle.query_reader.proofs.printer.+print.Goals as goal
+
+pub push_query-returns-in-Word : goal.push_query-returns-in-Word
+push_query-returns-in-Word t c =
+    let is : view c.args.query.now ≡ sought.Word c.in-Word.field c.in-Word.text = search (rules, the_lemmas) in
+    subst (λ q. OnOk c.push_asked_word.result (Appends c.args.out.now c.push_asked_word.new.out (printed c.args.fields.now q))) (sym is)
+    (subst (λ w. OnOk c.push_asked_word.result (Appends c.args.out.now c.push_asked_word.new.out (asked c.args.fields.now c.in-Word.field (word_text w)))) c.as_str.ensures c.push_asked_word.ensures)
+
+pub push_query-returns-in-Quoted : goal.push_query-returns-in-Quoted
+push_query-returns-in-Quoted t c =
+    let is : view c.args.query.now ≡ sought.Quoted c.in-Quoted.field c.in-Quoted.text = search (rules, the_lemmas) in
+    subst (λ q. OnOk c.push_asked_quote.result (Appends c.args.out.now c.push_asked_quote.new.out (printed c.args.fields.now q))) (sym is)
+    (subst (λ w. OnOk c.push_asked_quote.result (Appends c.args.out.now c.push_asked_quote.new.out (asked c.args.fields.now c.in-Quoted.field (quote_text w)))) c.as_str-in-Quoted.ensures c.push_asked_quote.ensures)
+
+pub push_query-returns-in-Prefix : goal.push_query-returns-in-Prefix
+push_query-returns-in-Prefix t c =
+    let is : view c.args.query.now ≡ sought.Prefix c.in-Prefix.field c.in-Prefix.text = search (rules, the_lemmas) in
+    subst (λ q. OnOk c.push_asked_prefix.result (Appends c.args.out.now c.push_asked_prefix.new.out (printed c.args.fields.now q))) (sym is)
+    (subst (λ w. OnOk c.push_asked_prefix.result (Appends c.args.out.now c.push_asked_prefix.new.out (asked c.args.fields.now c.in-Prefix.field (word_text w ++ 42 ∷ [])))) c.as_str-in-Prefix.ensures c.push_asked_prefix.ensures)
+
+pub push_query-returns-in-Range : goal.push_query-returns-in-Range
+push_query-returns-in-Range t c =
+    let is : view c.args.query.now ≡ sought.Range c.in-Range.field c.in-Range.low c.in-Range.high = search (rules, the_lemmas) in
+    subst (λ q. OnOk c.push_asked_range.result (Appends c.args.out.now c.push_asked_range.new.out (printed c.args.fields.now q))) (sym is)
+    c.push_asked_range.ensures
+
+pub push_query-returns-in-AnyOf : goal.push_query-returns-in-AnyOf
+push_query-returns-in-AnyOf t c =
+    let is : view c.args.query.now ≡ sought.AnyOf c.in-AnyOf.field c.in-AnyOf.items = search (rules, the_lemmas) in
+    subst (λ q. OnOk c.push_asked_set.result (Appends c.args.out.now c.push_asked_set.new.out (printed c.args.fields.now q))) (sym is)
+    c.push_asked_set.ensures
 
 pub push_query-returns-in_ok-push_piece-in-Not : goal.push_query-returns-in_ok-push_piece-in-Not
 push_query-returns-in_ok-push_piece-in-Not t c =
