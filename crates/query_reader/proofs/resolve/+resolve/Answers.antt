@@ -1,4 +1,5 @@
 use Rattle.std.proofs.Common.{◌≡◌, ◌∙◌, sym, ap, subst, drop, map, ◌+◌, rules, Ok}
+use Rattle.std.proofs.Math.ListN.{drop_of_length-le}
 use Rattle.query_reader.proofs.Each.{view_more, and_is, or_is, each_step, refuses_bind, refuses_same}
 use Rattle.query_reader.proofs.Rows.{row_after}
 use Rattle.query_reader.specs.Resolve.{◌>>=◌, resolve, resolve_after, Gives}
@@ -65,3 +66,8 @@ resolve_each-loop-part-preserved t c =
     (ap view_all c.in_ok-push-in-Ok.ensures.items ∙ view_more c.loop-part.queries.items c.in-Ok.query)
     ∙ sym (each_step c.args.fields.now c.args.defaults.now c.args.text.now (view_all c.loop-part.queries.items) c.args.parts.now c.loop-part.part-index c.part-item.result _ c.loop-part-test.true c.part-item.is c.in-Ok.ensures)
     ∙ c.loop-part.invariant
+
+pub resolve_each-returns : goal.resolve_each-returns
+resolve_each-returns t c =
+    sym c.loop-part.invariant
+    ∙ ap (λ parts. resolve_after c.args.fields.now c.args.defaults.now c.args.text.now (view_all c.loop-part.queries.items) (map view parts)) (drop_of_length-le c.args.parts.now c.loop-part-test.false)
