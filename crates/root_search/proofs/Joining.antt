@@ -2,13 +2,16 @@
 use Rattle.std.proofs.Common.{◌≡◌, ℕ, zero, suc, ◌+◌, ◌<◌, ◌≤◌, ◌^◌, List, [], ◌∷◌, ◌++◌, length, drop, sum_by, slice_get, Some, Result, Ok, Err, IfOk, IsOk, MatchResult, refl, ap, sym, subst, ◌∙◌, arith, add-one, append_assoc, length-append}
 use Rattle.std.specs.List.{All, AllByRecursion, AllZip}
 use Rattle.std.specs.Result.{IfErr}
-use Rattle.std.proofs.lemmas.List.{append-nil}
-use Rattle.std.proofs.lemmas.List.Elements.{All-from_recursion, All-head, All-rest, All-same}
+use Rattle.std.proofs.lemmas.List.{append-nil, map-append}
+use Rattle.std.proofs.lemmas.List.Elements.{All-from_recursion, All-head, All-rest, All-same, filter-append}
 use Rattle.std.proofs.lemmas.List.Sums.{count_by-le-length, length-filter, sum_by-cons}
+use Rattle.doc_value.specs.declared.doc.DocField.{DocField}
 use Rattle.doc_value.specs.declared.schema.Schema.{Schema}
-use Rattle.agg_model.specs.Partials.{IsPartialOf, documents_in}
+use Rattle.agg_model.specs.Partials.{IsPartialOf, StandsFor, documents_in}
 use Rattle.split_bundle.specs.declared.part_view.PartView.{PartView}
 use Rattle.split_bundle.specs.declared.placed.Placed.{Placed}
+use Rattle.doc_tallies.specs.Orders.{firsts}
+use Rattle.doc_tallies.specs.Picked.{docs_of}
 use Rattle.doc_sets.specs.Faults.{IsMemory}
 use Rattle.doc_sets.specs.declared.leaf_error.LeafError.{LeafError}
 use Rattle.doc_sets.specs.declared.leaf_error.LeafError.TheVariants as leaf
@@ -37,6 +40,20 @@ get_first (suc i) (z ∷ zs) x ys h = get_first i zs x ys h
 pub none_left : {X : Type 0} (xs : List X) → xs ≡ drop 1 xs → xs ≡ []
 none_left [] h = refl
 none_left (x ∷ xs) h = absurd (omega (arith, ap length h))
+
+-- ---- two answers, joined
+
+pub two_joined : (s : Schema) (r : LeafRequest) (xs ys : List Placed) (one other joined : LeafAnswer) → IsAnswerOf s r xs one → IsAnswerOf s r ys other → joined.count ≡ one.count + other.count → joined.hits ≡ firsts r.wanted r.order (found s r xs ++ found s r ys)
+    → StandsFor r.aggs joined.partial (docs_of (found s r xs) ++ docs_of (found s r ys)) → IsAnswerOf s r (xs ++ ys) joined
+two_joined s r xs ys one other joined a b count hits partial =
+    let both : found s r (xs ++ ys) ≡ found s r xs ++ found s r ys = filter-append (λ d. passes s r d.doc) xs ys in
+    let long : length (found s r (xs ++ ys)) ≡ length (found s r xs) + length (found s r ys) = ap (λ (l : List Placed). length l) both ∙ length-append (found s r xs) (found s r ys) in
+    let docs : docs_of (found s r xs) ++ docs_of (found s r ys) ≡ docs_of (found s r (xs ++ ys)) = sym (map-append (λ (d : Placed). d.doc) (found s r xs) (found s r ys)) ∙ ap docs_of (sym both) in
+    record {
+      count = omega (arith, count, a.count, b.count, long);
+      hits = hits ∙ ap (firsts r.wanted r.order) (sym both);
+      partial = subst (λ (ds : List (List DocField)). StandsFor r.aggs joined.partial ds) docs partial;
+    }
 
 -- ---- the answers of the first so many splits are joined
 

@@ -21,6 +21,7 @@ use meta_store::Choice;
 use query_ast::copy_query;
 use search_api::{Refusal, Resolved, SearchAsk, Unanswered, read_request, resolve};
 use std::alloc::{AllocError, Global};
+use std::mem;
 
 // The refusal of what isn't built.
 fn unbuilt(alloc: Global, name: &str) -> Unanswered
@@ -38,14 +39,15 @@ fn search_ask(alloc: Global, config: &IndexConfig, text: &[u8]) -> Result<Search
     ensures answerable { IfOk result (λ ask. IsAnswerable config.now.schema (search_view ask)) }
 {
     let request = read_request(alloc, text)?;
-    match resolve(
-        alloc,
-        &config.schema,
-        config.default_fields.as_slice(),
-        &request,
-    )? {
+    let fields = config.default_fields.as_slice();
+    let resolved = resolve(alloc, &config.schema, fields, &request);
+    mem::drop(request);
+    match resolved? {
         Resolved::Search(ask) => Ok(ask),
-        Resolved::Delete(_) => Err(unbuilt(alloc, "delete")),
+        Resolved::Delete(deletion) => {
+            mem::drop(deletion);
+            Err(unbuilt(alloc, "delete"))
+        }
     }
 }
 
@@ -59,10 +61,16 @@ pub fn read_search(
     ensures { Reads config.now.schema (asked_of config.now text.now) result }
 {
     let search = search_ask(alloc, config, text)?;
-    let choice = Choice::Search {
-        query: copy_query(alloc, &search.query)?,
-        times: search.times,
-    };
-    let ask = leaf_ask(search);
-    Ok(ReadSearch { choice, ask })
+    match copy_query(alloc, &search.query) {
+        Ok(query) => {
+            let times = search.times;
+            let choice = Choice::Search { query, times };
+            let ask = leaf_ask(search);
+            Ok(ReadSearch { choice, ask })
+        }
+        Err(refused) => {
+            mem::drop(search);
+            Err(Unanswered::Memory(refused))
+        }
+    }
 }

@@ -27,6 +27,7 @@ use index_world::{Gate, Plan, WorldError};
 use leaf_search::{FileRange, LeafRequest, Ranges, blocks_needed, lists_needed};
 use split_bundle::{Footer, PartView, SplitError};
 use std::alloc::{AllocError, Global};
+use std::mem;
 
 // How many bytes stand behind the footer: its length, and the foot.
 const TRAILER: u64 = 12;
@@ -81,7 +82,10 @@ fn start_in(read: Result<Footer, SplitError>) -> Result<u64, FetchError>
     ensures exact { (given : Result Held SplitError) → MayGive held read given → MatchResult result (λ start. start_of given ≡ Some start) (IsFaultWhere (start_of given ≡ None)) }
 {
     match read {
-        Ok(_) => Err(FetchError::Corrupt),
+        Ok(footer) => {
+            mem::drop(footer);
+            Err(FetchError::Corrupt)
+        }
         Err(SplitError::Memory(refused)) => Err(FetchError::Memory(refused)),
         Err(SplitError::Truncated { at }) => Ok(at),
         Err(SplitError::BadMagic) => Err(FetchError::Corrupt),
@@ -221,7 +225,9 @@ fn lists_of(
 {
     let pieces = lent_pieces(alloc, blocks)?;
     let view = PartView::gather(footer.copy(alloc)?, pieces);
-    match lists_needed(alloc, schema, request, &view) {
+    let lists = lists_needed(alloc, schema, request, &view);
+    mem::drop(view);
+    match lists {
         Ok(lists) => Ok(lists),
         Err(fault) => Err(leaf_fault(fault)),
     }
@@ -321,7 +327,10 @@ fn look<G: Gate>(
 {
     match fetch_piece(alloc, gate, plan, place, 0, 0) {
         Ok(_) => Ok(part),
-        Err(error) => Err(error),
+        Err(error) => {
+            mem::drop(part);
+            Err(error)
+        }
     }
 }
 

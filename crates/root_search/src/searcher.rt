@@ -1,6 +1,6 @@
 //! A client's searcher and its steps.
 
-ghost use Rattle.std.specs.Prelude.{◌≡◌, ◌<◌, ◌≤◌, ℕ, List, length, slice_get, None, Some, Ok, Err, MatchResult};
+ghost use Rattle.std.specs.Prelude.{◌≡◌, ◌+◌, ◌-◌, ◌^◌, ◌<◌, ◌≤◌, ◌++◌, ◌∷◌, [], ℕ, List, length, min, slice_get, None, Some, Ok, Err, IfOk, MatchResult};
 ghost use Rattle.source_log.specs.Log.{Log, IsLog};
 ghost use Rattle.doc_value.specs.Documents.{IsSchema};
 ghost use Rattle.index_world.specs.Calls.{Trouble};
@@ -25,7 +25,7 @@ use crate::outcome::SearchStep;
 use crate::part_answers::answer_over;
 use crate::planned::Planned;
 use crate::reads::ReadSearch;
-use crate::split_parts::SplitParts;
+use crate::split_parts::{SplitPart, SplitParts};
 use byte_fields::{Client, Text};
 use index_world::{Gate, WorldError};
 use meta_journal::split_key;
@@ -72,10 +72,35 @@ fn refused_by(error: WorldError) -> Result<Refusal, AllocError>
         WorldError::Corrupt { key } => Ok(Refusal::Corrupt { key }),
         WorldError::Foreign { key } => Ok(Refusal::Foreign { key }),
         WorldError::Full => Ok(Refusal::Full),
-        WorldError::Refused(_) => Ok(Refusal::Full),
+        WorldError::Refused(refusal) => {
+            mem::drop(refusal);
+            Ok(Refusal::Full)
+        }
         WorldError::NoIndex => Ok(Refusal::Full),
         WorldError::IndexExists => Ok(Refusal::Full),
-        WorldError::BadConfig(_) => Ok(Refusal::Full),
+        WorldError::BadConfig(fault) => {
+            mem::drop(fault);
+            Ok(Refusal::Full)
+        }
+    }
+}
+
+// The planned search, of whose next row this part was fetched.
+fn with_part(mut planned: Planned, part: SplitPart) -> Result<Planned, AllocError>
+    ensures ask { IfOk result (λ later. later.ask ≡ planned.ask) }
+    ensures plan { IfOk result (λ later. later.plan ≡ planned.plan) }
+    ensures next { IfOk result (λ later. later.next ≡ min (planned.next + 1) (2 ^ 32 - 1)) }
+    ensures parts { IfOk result (λ later. later.parts ≡ planned.parts ++ part ∷ []) }
+{
+    match planned.parts.push(part) {
+        Ok(()) => {
+            planned.next = planned.next.saturating_add(1);
+            Ok(planned)
+        }
+        Err(refused) => {
+            mem::drop(planned);
+            Err(refused)
+        }
     }
 }
 
@@ -111,8 +136,15 @@ impl Searcher {
         ensures { (client : steps.Client) (core after : Core) (log : Log) → SearcherStands self.old client core log →
             SearcherStands self.new (without_request client) after log }
     {
-        self.request = Request::Vacant;
+        self.hold(Request::Vacant);
         self.footers = Footers::vacant();
+    }
+
+    // Holds another request.
+    fn hold(&mut self, request: Request)
+        ensures { self.new ≡ record self.old { request = request } }
+    {
+        mem::drop(mem::replace(&mut self.request, request));
     }
 
     /// Opens a request. Where one is unanswered the text is dropped.
@@ -122,7 +154,7 @@ impl Searcher {
     {
         match &self.request {
             Request::Vacant => {
-                self.request = Request::Opened(text);
+                self.hold(Request::Opened(text));
                 Ok(())
             }
             _ => Err(Busy),
@@ -184,8 +216,16 @@ impl Searcher {
         ensures { (trouble : Trouble) (client : steps.Client) (core : Core) (log : Log) → IsTrouble error trouble → IsAtWork self.old client core →
             Ends result self.new (refused_over client.front refusal trouble client core) log }
     {
-        let _fault = refused_by(error)?;
-        Ok(self.reply(self.front, Said::Refused(refusal)))
+        match refused_by(error) {
+            Ok(fault) => {
+                mem::drop(fault);
+                Ok(self.reply(self.front, Said::Refused(refusal)))
+            }
+            Err(refused) => {
+                mem::drop(refusal);
+                Err(refused)
+            }
+        }
     }
 
     // A request that asks no search is refused, over the revision of a plan of no rows.
@@ -221,15 +261,19 @@ impl Searcher {
             Ok(plan) => {
                 let revision = plan.revision;
                 let count = plan.rows.len() as u64;
-                self.request = Request::Planned(Planned {
+                self.hold(Request::Planned(Planned {
                     ask: read.ask,
                     plan,
                     next: 0,
                     parts: SplitParts::vacant(alloc),
-                });
+                }));
+                mem::drop(read.choice);
                 Ok(SearchStep::Planned { revision, count })
             }
-            Err(error) => self.refuse(self.front, error),
+            Err(error) => {
+                mem::drop(read);
+                self.refuse(self.front, error)
+            }
         }
     }
 
@@ -253,7 +297,7 @@ impl Searcher {
         &mut self,
         alloc: Global,
         gate: &mut G,
-        mut planned: Planned,
+        planned: Planned,
     ) -> Result<SearchStep, AllocError>
         requires { planned.next < length planned.plan.rows }
         ensures step { (search : steps.Plan) (client : steps.Client) (core : Core) (log : Log) → IsLog log → client.request ≡ steps.planned search →
@@ -272,12 +316,15 @@ impl Searcher {
         match fetch_part(alloc, gate, &planned.plan, place, request, known) {
             Ok(part) => {
                 self.footers.keep(alloc, number, &part.footer);
-                planned.parts.push(part)?;
-                planned.next = place.saturating_add(1);
-                self.request = Request::Planned(planned);
+                let later = with_part(planned, part)?;
+                self.hold(Request::Planned(later));
                 Ok(SearchStep::Fetched { number })
             }
-            Err(fault) => self.refuse_fetch(number, planned.plan.revision, fault),
+            Err(fault) => {
+                let revision = planned.plan.revision;
+                mem::drop(planned);
+                self.refuse_fetch(number, revision, fault)
+            }
         }
     }
 
@@ -301,9 +348,19 @@ impl Searcher {
         if (planned.next as usize) < planned.plan.rows.len() {
             return self.fetch(alloc, gate, planned);
         }
-        let parts = planned.parts;
-        let said = answer_over(rt, alloc, &gate.config().schema, &planned.ask, parts)?;
-        Ok(self.reply(planned.plan.revision, said))
+        let revision = planned.plan.revision;
+        mem::drop(planned.plan);
+        let ask = planned.ask;
+        match answer_over(rt, alloc, &gate.config().schema, &ask, planned.parts) {
+            Ok(said) => {
+                mem::drop(ask);
+                Ok(self.reply(revision, said))
+            }
+            Err(refused) => {
+                mem::drop(ask);
+                Err(refused)
+            }
+        }
     }
 
     /// One step. After want of memory there is no request any more.

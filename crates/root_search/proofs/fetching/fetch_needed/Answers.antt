@@ -1,10 +1,10 @@
-use Rattle.std.proofs.Common.{◌+◌, length, refl, arith, ◌≡◌, ◌++◌, [], List, inl, inr, ap, sym, ◌∙◌, append_assoc}
+use Rattle.std.proofs.Common.{◌+◌, length, refl, ◌≡◌, ◌++◌, [], List, inl, inr, ap, sym, ◌∙◌, append_assoc}
 use Rattle.index_world.specs.Gate.{grace_of}
 use Rattle.leaf_search.specs.FileRanges.{total}
 use Rattle.split_bundle.specs.Files.{file_bytes}
 use Rattle.root_search.specs.Fetching.{AreBlocksFetched, AreListsFetched, IsFooterFetched, IsPartFetched, footer_calls, footer_drawn, needed_calls}
-use Rattle.root_search.proofs.Fetches.{all_done, file_stands, handed_on, made_of, then_failed, then_given}
-use Rattle.root_search.proofs.Needed.{all_kept, count_kept}
+use Rattle.root_search.proofs.Fetches.{file_stands, handed_on, made_of, then_failed, then_given}
+use Rattle.root_search.proofs.Needed.{whole_part}
 use Rattle.root_search.proofs.Stands.{configured_after}
 use Rattle.std.specs.Prelude.{⊤}
 use Rattle.std.proofs.lemmas.List.{append-nil}
@@ -42,25 +42,9 @@ returns-in_err-pieces-clause-step g c = λ config documents p core log stands co
 
 pub returns-clause-step : goal.returns-clause-step
 returns-clause-step g c = λ config documents p core log stands configured file is asked known.
-    let footer = c.in_ok-footer.footer in
-    let kept = c.in_ok-blocks.blocks in
-    let pieces = c.in_ok-pieces.pieces in
-    let k = c.in_ok-footer.ensures.step config config.schema documents p core log stands configured file is known in
-    let one = made_of (grace_of config c.args.plan.now) file.row.number g.G.Gate.Stands g.G.Gate.Between g.G.Gate.Adds g.G.Gate.bytes_fetched core log c.args.gate.now (IsFooterFetched c.args.known p) footer (footer_calls c.args.known) (footer_drawn c.args.known p) _ k k.says.1.calls k.says.1.few in
-    let foot = k.says.1.is_footer config.schema documents p is refl in
-    let b = c.in_ok-blocks.ensures.step config documents p one.after log one.stands (configured_after core one.after config configured one.goes_on.always) (file_stands core one.after (grace_of config c.args.plan.now).until c.args.plan.now c.args.place (file_bytes p) one.goes_on.always file) is foot in
-    let blocks = b.says.1.held.blocks in
-    let two = then_given (grace_of config c.args.plan.now) file.row.number g.G.Gate.Stands g.G.Gate.Between g.G.Gate.Adds g.G.Gate.bytes_fetched core log c.args.gate.now g.met.G.Gate.adds_more (AreBlocksFetched config.schema c.args.request.now documents p footer) kept (footer_calls c.args.known) (footer_drawn c.args.known p) (length kept) (total blocks) _ _ one b b.says.1.each b.says.1.few in
-    let l = c.in_ok-pieces.ensures.step config documents p two.after log two.stands (configured_after core two.after config configured two.goes_on.always) (file_stands core two.after (grace_of config c.args.plan.now).until c.args.plan.now c.args.place (file_bytes p) two.goes_on.always file) is foot asked b.says.1.held in
-    let lists = l.says.1.lists in
-    let three = then_given (grace_of config c.args.plan.now) file.row.number g.G.Gate.Stands g.G.Gate.Between g.G.Gate.Adds g.G.Gate.bytes_fetched core log c.args.gate.now g.met.G.Gate.adds_more (AreListsFetched config.schema c.args.request.now documents p footer kept) pieces (footer_calls c.args.known + length kept) (footer_drawn c.args.known p + total blocks) (length lists) (total lists) _ _ two l l.says.1.each l.says.1.few in
-    all_done (grace_of config c.args.plan.now) file.row.number g.G.Gate.Stands g.G.Gate.Between g.G.Gate.Adds g.G.Gate.bytes_fetched core log c.args.gate.now (IsPartFetched config.schema c.args.request.now c.args.known documents p (needed_calls c.args.known)) _ (footer_calls c.args.known + length kept + length lists) (footer_drawn c.args.known p + total blocks + total lists) _ three
-    (record {
-      needed = record { parts = p; is_split = is; footer = foot; blocks = blocks; lists = lists; are_blocks = b.says.1.held.are_blocks; are_lists = l.says.1.are_lists; pieces = all_kept pieces kept (file_bytes p) blocks lists b.says.1.held.pieces l.says.1.pieces_are };
-      footer = k.says.1.is_footer;
-      calls_are = count_kept (footer_calls c.args.known) pieces kept (file_bytes p) lists l.says.1.pieces_are;
-      draws = record { blocks = blocks; lists = lists; are_blocks = b.says.1.held.are_blocks; are_lists = l.says.1.are_lists; few = omega arith };
-    })
+    whole_part g.G.Gate.Stands g.G.Gate.Between g.G.Gate.Adds g.G.Gate.bytes_fetched g.met.G.Gate.adds_more config c.args.plan.now c.args.place c.args.known documents p c.args.request.now core log c.at.result.now.number c.in_ok-footer.footer c.in_ok-blocks.blocks c.in_ok-pieces.pieces c.args.gate.now _ _ _ configured file is
+    (c.in_ok-footer.ensures.step config config.schema documents p core log stands configured file is known) (λ foot after on same there. c.in_ok-blocks.ensures.step config documents p after log on same there is foot)
+    (λ foot after on same there held. c.in_ok-pieces.ensures.step config documents p after log on same there is foot asked held)
 
 pub returns-in_err-footer-clause-reads : goal.returns-in_err-footer-clause-reads
 returns-in_err-footer-clause-reads g c = λ row there.

@@ -16,8 +16,8 @@ returns-in-Ok-clause-step c = λ documents p is foot ask holds.
     let part = part_of v c.args.schema.now documents p c.args.footer.now c.args.blocks.now holds.blocks is foot same holds.pieces lent in
     lists_alike v (over c.args.footer.now) c.args.schema.now documents p c.args.request.now c.in-Ok.lists same (c.in-Ok.ensures.only documents p part ask)
 
-pub returns-clause-step : goal.returns-clause-step
-returns-clause-step c = λ documents p is foot ask holds.
+pub returns-in-Err-clause-step : goal.returns-in-Err-clause-step
+returns-in-Err-clause-step c = λ documents p is foot ask holds.
     let v = c.gather-view.result in
     let same : v.footer ≡ c.args.footer.now = c.gather-view.ensures.footer ∙ c.in_ok-copy.ensures in
     let lent : AllZip IsLentOf c.args.blocks.now v.pieces = subst (λ (ps : List FilePiece). AllZip IsLentOf c.args.blocks.now ps) (sym c.gather-view.ensures.pieces) c.in_ok-pieces.ensures in

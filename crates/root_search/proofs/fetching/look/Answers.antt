@@ -14,8 +14,8 @@ returns-in-Ok-clause-step g c = λ config bytes core log stands configured file.
     (made_of (grace_of config c.args.plan.now) file.row.number g.G.Gate.Stands g.G.Gate.Between g.G.Gate.Adds g.G.Gate.bytes_fetched core log c.args.gate.now (IsPieceFetched bytes 0 0) _ 1 0 _ f f.says.1.once f.says.1.few)
     (record { same = refl; once = refl; none = omega arith })
 
-pub returns-in-Err-clause-step : goal.returns-in-Err-clause-step
-returns-in-Err-clause-step g c = λ config bytes core log stands configured file.
+pub returns-clause-step : goal.returns-clause-step
+returns-clause-step g c = λ config bytes core log stands configured file.
     handed_on (grace_of config c.args.plan.now) file.row.number g.G.Gate.Stands g.G.Gate.Between g.G.Gate.Adds g.G.Gate.bytes_fetched core log c.args.gate.now (IsPieceFetched bytes 0 0) (IsLooked c.args.part) c.in-Err.error _ _ refl (c.in-Err.ensures.step config bytes core log stands configured file)
 
 pub returns-in-Ok-clause-reads : goal.returns-in-Ok-clause-reads
@@ -24,6 +24,6 @@ returns-in-Ok-clause-reads g c =
     read_well g.G.Gate.Stands g.G.Gate.Between g.G.Gate.Owns g.G.Gate.Adds g.G.Gate.bytes_fetched c.args.plan.now c.args.place (IsPartLooked c.args.part) NeverRefused c.args.part f.calls c.args.gate.now _ (all_of g.G.Gate.Stands g.G.Gate.Between g.G.Gate.Owns g.G.Gate.Adds g.G.Gate.bytes_fetched c.args.plan.now c.args.place (IsPieceRead 0 0) NeverRefused _ c.args.gate.now _ f)
     (record { same = refl; no_bytes = subst (λ (cs : List FetchCall). AllByRecursion (λ call. call.len ≡ 0) cs) (sym f.says.1.calls_are) (refl, tt) })
 
-pub returns-in-Err-clause-reads : goal.returns-in-Err-clause-reads
-returns-in-Err-clause-reads g c =
+pub returns-clause-reads : goal.returns-clause-reads
+returns-clause-reads g c =
     then_lost g.G.Gate.Stands g.G.Gate.Between g.G.Gate.Owns g.G.Gate.Adds g.G.Gate.bytes_fetched c.args.plan.now c.args.place (IsPieceRead 0 0) (IsPartLooked c.args.part) NeverRefused NeverRefused c.in-Err.error _ [] c.args.gate.now c.args.gate.now _ (none_called g.G.Gate.Stands g.G.Gate.Between g.G.Gate.Owns g.G.Gate.Adds g.G.Gate.bytes_fetched c.args.plan.now c.args.place c.args.gate.now) refl (λ ys never. never) c.in-Err.ensures.reads

@@ -7,9 +7,10 @@ use Rattle.meta_store.specs.declared.planning.PlanRow.{PlanRow}
 use Rattle.split_bundle.specs.Files.{file_bytes}
 use Rattle.root_search.specs.Fetching.{IsPartFetched, part_calls}
 use Rattle.root_search.specs.Footers.{entries}
-use Rattle.root_search.specs.Searching.{FaultEnds, documents_at}
-use Rattle.root_search.specs.Steps.{config_at}
+use Rattle.root_search.specs.Searching.{Ends, FaultEnds, documents_at}
+use Rattle.root_search.specs.Steps.{config_at, fetch_by, or_short}
 use Rattle.root_search.specs.declared.outcome.SearchStep.TheVariants.{Fetched}
+use Rattle.root_search.specs.declared.searcher.Searcher.{Searcher}
 use Rattle.root_search.proofs.Fetches.{graced}
 use Rattle.root_search.proofs.Bounds.{no_answer, no_draw, step_draws}
 use Rattle.root_search.proofs.Kept.{fewer_kept, known_footer, more_kept, same_bytes, same_row}
@@ -21,8 +22,8 @@ use Rattle.root_search.specs.StepReads.{IsFetchRefusal, Refuses}
 use Rattle.root_search.proofs.RowReads.{never_corrupt, row_read, row_refused, row_short}
 use Rattle.root_search.proofs.searcher.Searcher.fetch.Goals as goal
 
-pub returns-in_err-push-in-Ok-clause-step : goal.returns-in_err-push-in-Ok-clause-step
-returns-in_err-push-in-Ok-clause-step g c plan client core log good asked planned stands w =
+pub returns-in_err-later-in-Ok-clause-step : goal.returns-in_err-later-in-Ok-clause-step
+returns-in_err-later-in-Ok-clause-step g c plan client core log good asked planned stands w =
     let row = c.at.result.now in
     let next = next_row c.args.planned plan core log row planned c.at.ensures in
     let left = map (λ (r : PlanRow). r.number) (drop (c.args.planned.next + 1) c.args.planned.plan.rows) in
@@ -37,12 +38,12 @@ returns-in_err-push-in-Ok-clause-step g c plan client core log good asked planne
     short_as g.G.Gate.Stands g.G.Gate.Between g.G.Gate.Adds c.args.gate.now _ _ _ client core log plan row.number left f.passages f.answer f.after (g.met.G.Gate.none_between core) f.passed f.did f.goes_on f.stands asked next.left c.from_residual.ensures.0
     (record { vacant = w.vacant; name = w.name; front = w.front; footers = kept }) f.made f.own f.recorded
 
-pub returns-in_err-push-in-Ok-clause-draws : goal.returns-in_err-push-in-Ok-clause-draws
-returns-in_err-push-in-Ok-clause-draws g c plan client core log planned stands w number documents p fetched uploaded is =
+pub returns-in_err-later-in-Ok-clause-draws : goal.returns-in_err-later-in-Ok-clause-draws
+returns-in_err-later-in-Ok-clause-draws g c plan client core log planned stands w number documents p fetched uploaded is =
     absurd (no_answer c.from_residual.result (Fetched number) c.from_residual.ensures.0 fetched)
 
-pub returns-in_ok-push-in-Ok-clause-step : goal.returns-in_ok-push-in-Ok-clause-step
-returns-in_ok-push-in-Ok-clause-step g c plan client core log good asked planned stands w =
+pub returns-in_ok-later-in-Ok-clause-step : goal.returns-in_ok-later-in-Ok-clause-step
+returns-in_ok-later-in-Ok-clause-step g c plan client core log good asked planned stands w =
     let row = c.at.result.now in
     let next = next_row c.args.planned plan core log row planned c.at.ensures in
     let left = map (λ (r : PlanRow). r.number) (drop (c.args.planned.next + 1) c.args.planned.plan.rows) in
@@ -57,7 +58,7 @@ returns-in_ok-push-in-Ok-clause-step g c plan client core log good asked planned
     let many = planned_few c.args.planned plan core log planned in
     let calls : length f.passages ≡ part_calls c.take-known.result c.in-Ok.part = f.says.1.calls_are in
     fetched_as g.G.Gate.Stands g.G.Gate.Between g.G.Gate.Adds c.args.gate.now _ _ _ client core log plan row.number left false f.passages f.answer (Ok tt) f.after (omega (arith, calls)) f.passed f.did f.goes_on f.stands asked next.left f.says.0
-    (record {
+    (subst (λ (s : Searcher). Ends (Ok (Fetched row.number)) s (or_short false client (fetch_by (Ok tt) plan row.number left client f.after)) log) (sym c.hold.ensures) (record {
       says = refl;
       stands = record {
         name = w.name;
@@ -66,13 +67,13 @@ returns-in_ok-push-in-Ok-clause-step g c plan client core log good asked planned
         request = (
           record plan { unfetched = left },
           refl,
-          one_more c.args.planned _ plan core f.after log row.number row.size c.in-Ok.part planned next f.goes_on.always refl refl (omega (arith, c.saturating_add.ensures, c.requires, many)) c.in_ok-push-in-Ok.ensures.ok f.says.1.needed,
+          one_more c.args.planned _ plan core f.after log row.number row.size c.in-Ok.part planned next f.goes_on.always c.in_ok-later-in-Ok.ensures.ask c.in_ok-later-in-Ok.ensures.plan (omega (arith, c.in_ok-later-in-Ok.ensures.next, c.requires, many)) c.in_ok-later-in-Ok.ensures.parts f.says.1.needed,
         );
       };
-    }) f.made f.own f.recorded
+    })) f.made f.own f.recorded
 
-pub returns-in_ok-push-in-Ok-clause-draws : goal.returns-in_ok-push-in-Ok-clause-draws
-returns-in_ok-push-in-Ok-clause-draws g c plan client core log planned stands w number documents p fetched uploaded is =
+pub returns-in_ok-later-in-Ok-clause-draws : goal.returns-in_ok-later-in-Ok-clause-draws
+returns-in_ok-later-in-Ok-clause-draws g c plan client core log planned stands w number documents p fetched uploaded is =
     let row = c.at.result.now in
     let next = next_row c.args.planned plan core log row planned c.at.ensures in
     let configured = configured_then core log plan.revision plan.grace.until (g.met.G.Gate.is_sound c.args.gate.now core log stands) planned.in_hand in
@@ -101,19 +102,19 @@ returns-in-Err-clause-step g c plan client core log good asked planned stands w 
 pub returns-in-Err-clause-draws : goal.returns-in-Err-clause-draws
 returns-in-Err-clause-draws g c plan client core log planned stands w number documents p fetched uploaded is = absurd (no_draw c.refuse_fetch.result number c.refuse_fetch.ensures.replied fetched)
 
-pub returns-in_err-push-in-Ok-clause-reads : goal.returns-in_err-push-in-Ok-clause-reads
-returns-in_err-push-in-Ok-clause-reads g c row there =
+pub returns-in_err-later-in-Ok-clause-reads : goal.returns-in_err-later-in-Ok-clause-reads
+returns-in_err-later-in-Ok-clause-reads g c row there =
     let same : c.at.result.now ≡ row = same_row _ c.at.result.now row c.at.ensures there in
     let number : c.at.result.now.number ≡ row.number = ap (λ (r : PlanRow). r.number) same in
     let found = c.take-known.ensures.found ∙ ap (λ (n : ℕ). lookup (nat_eq n) (entries c.args.self.now.footers)) number in
     row_short g.G.Gate.Stands g.G.Gate.Between g.G.Gate.Owns g.G.Gate.Adds g.G.Gate.bytes_fetched c.args.self.now.footers c.args.planned row _ c.args.gate.now _ c.take-known.result found (IsPartRead c.take-known.result row.number row.size) (IsNoPart c.take-known.result row.size) _ c.from_residual.result (c.in-Ok.ensures.reads row there) c.from_residual.ensures.0
 
-pub returns-in_ok-push-in-Ok-clause-reads : goal.returns-in_ok-push-in-Ok-clause-reads
-returns-in_ok-push-in-Ok-clause-reads g c row there =
+pub returns-in_ok-later-in-Ok-clause-reads : goal.returns-in_ok-later-in-Ok-clause-reads
+returns-in_ok-later-in-Ok-clause-reads g c row there =
     let same : c.at.result.now ≡ row = same_row _ c.at.result.now row c.at.ensures there in
     let number : c.at.result.now.number ≡ row.number = ap (λ (r : PlanRow). r.number) same in
     let found = c.take-known.ensures.found ∙ ap (λ (n : ℕ). lookup (nat_eq n) (entries c.args.self.now.footers)) number in
-    row_read g.G.Gate.Stands g.G.Gate.Between g.G.Gate.Owns g.G.Gate.Adds g.G.Gate.bytes_fetched c.args.self.now.footers c.args.planned row _ c.args.gate.now _ c.take-known.result found c.in-Ok.part _ c.at.result.now.number (c.in-Ok.ensures.reads row there) number refl refl refl (omega (arith, c.saturating_add.ensures)) c.in_ok-push-in-Ok.ensures.ok
+    row_read g.G.Gate.Stands g.G.Gate.Between g.G.Gate.Owns g.G.Gate.Adds g.G.Gate.bytes_fetched c.args.self.now.footers c.args.planned row _ c.args.gate.now _ c.take-known.result found c.in-Ok.part _ c.at.result.now.number (c.in-Ok.ensures.reads row there) number (ap (λ (s : Searcher). s.request) c.hold.ensures) c.in_ok-later-in-Ok.ensures.ask c.in_ok-later-in-Ok.ensures.plan c.in_ok-later-in-Ok.ensures.next c.in_ok-later-in-Ok.ensures.parts
 
 pub returns-in-Err-clause-reads : goal.returns-in-Err-clause-reads
 returns-in-Err-clause-reads g c row there =

@@ -1,9 +1,11 @@
-use Rattle.std.proofs.Common.{refl, ap, subst, Ok, Err}
+use Rattle.std.proofs.Common.{refl, ap, sym, subst, Ok, Err}
 use Rattle.index_world.specs.Calls.{Trouble}
 use Rattle.index_world.specs.Taking.{IsWant}
 use Rattle.index_world.specs.Gate.{IsPlan}
 use Rattle.root_search.specs.Searching.{Ends}
-use Rattle.root_search.specs.Steps.{trouble_replied}
+use Rattle.root_search.specs.Steps.{trouble_replied, with_plan}
+use Rattle.root_search.specs.declared.outcome.SearchStep.TheVariants.{Planned}
+use Rattle.root_search.specs.declared.searcher.Searcher.{Searcher}
 use Rattle.root_search.proofs.PlannedRows.{plan_ends}
 use Rattle.root_search.proofs.Stands.{config_after, configured_after, work_goes_on}
 use Rattle.root_search.proofs.Fetches.{by_does}
@@ -19,7 +21,8 @@ returns-in-Ok g c text search config client core log configured word read asked 
     let sound = g.met.G.Gate.is_sound c.plan.new.self d.acts.after log d.acts.stands in
     planned_as g.G.Gate.Stands g.G.Gate.Between g.G.Gate.Adds c.args.gate.now _ _ _ client core log text config d.mid d.acts.fate d.acts.answer (Ok tt) (Ok search) d.acts.after d.passed d.acts.did on d.acts.stands asked
     (config_after core d.acts.after log config sound configured on.always) word s.0
-    (plan_ends c.args.self.now client search c.args.read _ c.len-count.result config d.acts.after log sound (configured_after core d.acts.after config configured on.always) s.1 read refl refl c.vacant.ensures c.len-count.ensures (work_goes_on c.args.self.now client core d.acts.after on.always w))
+    (subst (λ (s : Searcher). Ends (Ok (Planned c.in-Ok.plan.revision c.len-count.result)) s (with_plan search client d.acts.after) log) (sym c.hold.ensures)
+    (plan_ends c.args.self.now client search c.args.read _ c.len-count.result config d.acts.after log sound (configured_after core d.acts.after config configured on.always) s.1 read refl refl c.vacant.ensures c.len-count.ensures (work_goes_on c.args.self.now client core d.acts.after on.always w)))
     c.args.read.choice ⊥ d.made (λ short. absurd short) d.own d.once
 
 pub returns-in-Err : goal.returns-in-Err
