@@ -77,10 +77,3 @@ own_later Owns since law old new places.Idle later h = tt
 own_later Owns since law old new (places.Reading batch) later h = tt
 own_later Owns since law old new (places.Staged token bytes) later h = law old new token.number later h
 own_later Owns since law old new (places.Uploaded token) later h = tt
-
--- at a gate where each number is its caller's own
-pub own_any : {W : Type 0} (Owns : W → ℕ → Type 0) (gate : W) (place : HeldPlace) → ((number : ℕ) → Owns gate number) → HoldsOwn Owns gate place
-own_any Owns gate places.Idle all = tt
-own_any Owns gate (places.Reading batch) all = tt
-own_any Owns gate (places.Staged token bytes) all = all token.number
-own_any Owns gate (places.Uploaded token) all = tt

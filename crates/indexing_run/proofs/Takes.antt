@@ -36,11 +36,6 @@ takes_one config name offset n bytes doc documents after e a =
     ∙ ap (λ w. record { count = suc n; documents = documents ++ placed_at name offset doc ∷ []; weight = w; heavy = nat_lt max_batch_weight w }) (sym (weight-snoc documents (placed_at name offset doc)))
     ∙ ap (taken_so_far (suc n)) (sym a)
 
--- nothing was taken of a record that is not accepted
-pub takes_none : (config : IndexConfig) (name : List ℕ) (offset n : ℕ) (bytes : List ℕ) (documents : List Placed) → accepted config bytes ≡ None →
-    with_record name offset (accepted config bytes) (taken_so_far n documents) ≡ taken_so_far (suc n) documents
-takes_none config name offset n bytes documents e = ap (λ d. with_record name offset d (taken_so_far n documents)) e
-
 -- the record at a place was taken, and the next one is behind it
 pub takes_next : (config mapping : IndexConfig) (name : List ℕ) (from i : ℕ) (records : List (List ℕ)) (bytes : List ℕ) (documents next : List Placed) (w : ℕ) → mapping ≡ config → i < length records → bytes ≡ get_or records i bytes →
     w ≡ weight documents → nat_lt max_batch_weight w ≡ false → with_record name (from + i) (accepted mapping bytes) (taken_so_far i documents) ≡ taken_so_far (suc i) next →
