@@ -11,7 +11,7 @@ use Rattle.source_log.specs.declared.log.ReadError.{ReadError}
 use Rattle.source_log.specs.declared.log.ReadError.TheVariants as errors
 use Rattle.meta_store.specs.History.{history}
 use Rattle.meta_store.specs.State.{checkpoints_of}
-use Rattle.index_world.specs.CallsMade.{of_checkpoints, of_moment, of_stage, CallMade, IsShort}
+use Rattle.index_world.specs.CallsMade.{of_checkpoints, of_moment, of_stage, CallMade}
 use Rattle.index_world.specs.Calls.{Fate, calm_fate, Trouble, gives, risen, looked, asked}
 use Rattle.index_world.specs.Core.{Core, last_count, journal_of, IsConfigured, Nobody}
 use Rattle.index_config.specs.declared.config.IndexConfig.{IndexConfig}

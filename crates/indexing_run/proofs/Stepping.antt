@@ -433,6 +433,12 @@ pub as_placed : {L W : Type 0} (tells : L → Option Log) (count : L → ℕ) (S
 as_placed tells count Stands Between Owns Adds result indexer core log reader old new place e h =
     subst (λ p. StepsAs tells count Stands Between Owns Adds result (record indexer { place = p }) core log reader old new) (sym e) h
 
+-- what the place became
+module _ {L W : Type 0} {tells : L → Option Log} {count : L → ℕ} {Stands : W → Core → Log → Type 0} {Between : Core → Core → Type 0} {Owns : W → ℕ → Type 0} {Adds : W → List CallMade → W → Type 0} {result : Result Said AllocError} {indexer : Indexer} {core : Core} {log : Log} {old new : W} where
+  pub as_put : (reader : Reader L) (held put : HeldPlace) → put ≡ held → StepsAs tells count Stands Between Owns Adds result indexer core log (record reader { place = held }) old new →
+      StepsAs tells count Stands Between Owns Adds result indexer core log (record reader { place = put }) old new
+  as_put reader held put e h = subst (λ k. StepsAs tells count Stands Between Owns Adds result indexer core log (record reader { place = k }) old new) (sym e) h
+
 pub no_answer : (result : Result Said AllocError) → IsErr result → Answers result None
 no_answer (Ok given) e = cc
 no_answer (Err none) e = tt

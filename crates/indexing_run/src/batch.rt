@@ -16,6 +16,7 @@ use index_world::Marks;
 use source_checkpoint::{Part, Partition};
 use source_log::{Partitions, Records};
 use std::alloc::{AllocError, Global};
+use std::mem;
 
 const MAX_READ: u64 = 1_000;
 
@@ -103,6 +104,29 @@ fn take_records(
     Ok(records.len() as u64)
 }
 
+// Takes the records from a place on as `take_records` does, and extends the parts by them. Gives how many were taken.
+fn take_part(
+    alloc: Global,
+    partition: &Partition,
+    from: u64,
+    records: &[Bytes],
+    parts: &mut Vec<Part>,
+    documents: &mut Documents,
+) -> Result<u64, AllocError>
+    requires low { from + length records.now < 2 ^ 64 }
+    requires taken { ∥ ((list : List Placed) × HasDocuments documents.old list) ∥₁ }
+    ensures mapping { documents.new.mapping ≡ documents.old.mapping }
+    ensures within { IfOk result (λ taken. taken ≤ length records.now) }
+    ensures taken { (list : List Placed) → HasDocuments documents.old list → IfOk result (λ taken. (after : List Placed) × HasDocuments documents.new after
+        × (taken_from documents.old.mapping partition.now from records.now (taken_so_far 0 list) ≡ taken_so_far taken after)) }
+    ensures parts { Follows parts.old.items (record { partition = partition.now; at = from }) →
+        IfOk result (λ taken. parts.new.items ≡ parts_after taken parts.old.items partition.now from) }
+{
+    let taken = take_records(alloc, partition, from, records, documents)?;
+    extend_taken(parts, partition, from, taken)?;
+    Ok(taken)
+}
+
 impl Batch {
     ghost use Rattle.source_checkpoint.specs.declared.ledger.Checkpoint.{Checkpoint};
     ghost use Rattle.indexing_run.specs.Places.{Batch as Made};
@@ -119,12 +143,19 @@ impl Batch {
         requires { ∥ IsSchema config.schema ∥₁ }
         ensures { IfOk result (λ batch. BatchStands batch (fresh_batch config (marks_at marks.now.checkpoints.items names.now))) }
     {
-        let queue = Queue::from_marks(alloc, names, marks)?;
+        let queue = match Queue::from_marks(alloc, names, marks) {
+            Ok(queue) => queue,
+            Err(refused) => {
+                mem::drop(config);
+                return Err(refused);
+            }
+        };
+        let documents = Documents::vacant(alloc, config)?;
         let closed = queue.is_empty();
         Ok(Batch {
             queue,
             parts: Vec::new(alloc),
-            documents: Documents::vacant(alloc, config)?,
+            documents,
             count: 0,
             first_read: None,
             closed,
@@ -185,8 +216,15 @@ impl Batch {
             ..
         } = self;
         let list = records.list.as_slice();
-        let taken = take_records(alloc, partition, from, list, &mut documents)?;
-        extend_taken(&mut parts, partition, from, taken)?;
+        let taken = match take_part(alloc, partition, from, list, &mut parts, &mut documents) {
+            Ok(taken) => taken,
+            Err(refused) => {
+                mem::drop(queue);
+                mem::drop(parts);
+                mem::drop(documents);
+                return Err(refused);
+            }
+        };
         let since = first_read.unwrap_or(now);
         queue.move_on(taken, records.end);
         let mut batch = Batch {

@@ -15,6 +15,7 @@ use split_build::{BuildError, Builder, BuiltSplit};
 use split_bundle::Placed;
 use split_laws::built_is_one;
 use std::alloc::{AllocError, Global};
+use std::mem;
 
 /// Documents of a greater weight take no further one.
 const MAX_WEIGHT: u64 = 134_217_728;
@@ -51,9 +52,16 @@ impl Documents {
         ensures mapping { IfOk result (λ documents. documents.mapping ≡ config) }
         ensures taken { IfOk result (λ documents. HasDocuments documents []) }
     {
-        let mapping = Mapping::new(config);
-        let builder = Builder::vacant(alloc, &mapping.config().schema)?;
-        Ok(Documents { mapping, builder })
+        match Builder::vacant(alloc, &config.schema) {
+            Ok(builder) => Ok(Documents {
+                mapping: Mapping::new(config),
+                builder,
+            }),
+            Err(refused) => {
+                mem::drop(config);
+                Err(refused)
+            }
+        }
     }
 
     /// The configuration that they are accepted under.
@@ -121,7 +129,8 @@ impl Documents {
         ensures facts { (list : List Placed) → HasDocuments self list → IfOk result (λ split. split.facts ≡ facts_of self.mapping.schema list 0) }
         ensures can { IfOk result (λ split. CanSpellFacts split.facts) }
     {
-        let Documents { builder, .. } = self;
+        let Documents { mapping, builder } = self;
+        mem::drop(mapping);
         let split = builder.finish(alloc)?;
         built_is_one(&split);
         Ok(split)

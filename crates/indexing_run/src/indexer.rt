@@ -36,6 +36,14 @@ enum Place {
     Uploaded(Uploaded),
 }
 
+// Puts an indexer there, and lets go of what it held.
+fn put(place: &mut Place, next: Place)
+    ensures { place.new ≡ next }
+{
+    let before = mem::replace(place, next);
+    mem::drop(before);
+}
+
 /// Reads a log in steps, and stages, uploads and publishes what it read.
 #[derive(Drop)]
 pub struct Indexer<L: SourceLog> {
@@ -87,11 +95,13 @@ fn refused_publish(number: u64, refusal: Refusal) -> IndexerOutcome
         },
     ) = &refusal
     {
-        return IndexerOutcome::Stale {
+        let outcome = IndexerOutcome::Stale {
             partition: partition.copy(),
             current: *current,
             from: *from,
         };
+        mem::drop(refusal);
+        return outcome;
     }
     IndexerOutcome::Lost { number, refusal }
 }
@@ -138,7 +148,7 @@ impl<L: SourceLog> Indexer<L> {
         ensures stands { (indexer : Actor) (core after : Core) (read : Log) → IndexerStands L.told L.fault_count self.old indexer core read →
             IndexerStands L.told L.fault_count self.new (record indexer { place = idle }) after read }
     {
-        self.place = Place::Idle;
+        put(&mut self.place, Place::Idle);
     }
 
     pub fn is_idle(&self) -> bool
@@ -205,7 +215,8 @@ impl<L: SourceLog> Indexer<L> {
         match gate.checkpoints(alloc) {
             Ok(marks) => {
                 let config = gate.config().copy(alloc)?;
-                self.place = Place::Reading(Batch::begin(alloc, config, &names, &marks)?);
+                let batch = Batch::begin(alloc, config, &names, &marks)?;
+                put(&mut self.place, Place::Reading(batch));
                 Ok(IndexerOutcome::Checkpoint)
             }
             Err(error) => faulted(error),
@@ -227,9 +238,13 @@ impl<L: SourceLog> Indexer<L> {
     {
         let now = match gate.moment(alloc) {
             Ok(now) => now,
-            Err(error) => return faulted(error),
+            Err(error) => {
+                mem::drop(batch);
+                return faulted(error);
+            }
         };
         let Some(next) = batch.next_read() else {
+            mem::drop(batch);
             return Ok(IndexerOutcome::CaughtUp);
         };
         let before = self.log.faults();
@@ -238,12 +253,15 @@ impl<L: SourceLog> Indexer<L> {
         match records {
             Ok(records) => {
                 let (batch, count) = batch.take(alloc, &next.partition, next.from, &records, now)?;
-                self.place = Place::Reading(batch);
+                put(&mut self.place, Place::Reading(batch));
                 Ok(IndexerOutcome::Read { count })
             }
-            Err(ReadError::Memory(refused)) => Err(refused),
+            Err(ReadError::Memory(refused)) => {
+                mem::drop(batch);
+                Err(refused)
+            }
             Err(ReadError::Failed) => {
-                self.place = Place::Reading(batch);
+                put(&mut self.place, Place::Reading(batch));
                 Ok(IndexerOutcome::SourceFault { before, after })
             }
         }
@@ -272,13 +290,19 @@ impl<L: SourceLog> Indexer<L> {
         let rejected = count.saturating_sub(facts.docs);
         let facts = with_rejected(facts, rejected);
         let delta = Delta::from_vec(parts);
-        match gate.stage(alloc, &delta, &facts) {
+        let staged = gate.stage(alloc, &delta, &facts);
+        mem::drop(facts);
+        mem::drop(delta);
+        match staged {
             Ok(staged) => {
                 let number = staged.number;
-                self.place = Place::Staged(staged, bytes);
+                put(&mut self.place, Place::Staged(staged, bytes));
                 Ok(IndexerOutcome::Staged { number })
             }
-            Err(error) => unstaged(error),
+            Err(error) => {
+                mem::drop(bytes);
+                unstaged(error)
+            }
         }
     }
 
@@ -301,7 +325,7 @@ impl<L: SourceLog> Indexer<L> {
         let number = staged.number;
         match gate.upload(alloc, staged, bytes.as_slice()) {
             Ok(uploaded) => {
-                self.place = Place::Uploaded(uploaded);
+                put(&mut self.place, Place::Uploaded(uploaded));
                 Ok(IndexerOutcome::Uploaded { number })
             }
             Err(error) => faulted(error),
@@ -346,6 +370,7 @@ impl<L: SourceLog> Indexer<L> {
             return self.read_on(alloc, gate, batch);
         }
         if batch.count == 0 {
+            mem::drop(batch);
             return Ok(IndexerOutcome::CaughtUp);
         }
         self.stage(alloc, gate, batch)

@@ -1,9 +1,11 @@
-use Rattle.std.proofs.Common.{◌∙◌, ap, refl}
+use Rattle.std.proofs.Common.{◌∙◌, ap, refl, subst, sym}
 use Rattle.index_config.specs.declared.config.IndexConfig.{IndexConfig}
 use Rattle.index_world.specs.SplitFile.{file_of, facts_of}
 use Rattle.index_world.proofs.InHand.{number_apart}
+use Rattle.indexing_run.specs.Standing.{HoldsOwn}
+use Rattle.indexing_run.specs.declared.indexer.Place.TheVariants as places
 use Rattle.indexing_run.proofs.Reading.{target_ranges}
-use Rattle.indexing_run.proofs.Stepping.{staged_facts, built_splits, stage_short, stages, stage_fails, no_answer}
+use Rattle.indexing_run.proofs.Stepping.{as_put, staged_facts, built_splits, stage_short, stages, stage_fails, no_answer}
 use Rattle.indexing_run.proofs.Holding.{own_later}
 use Rattle.indexing_run.proofs.indexer.Indexer.stage.Goals as goal
 
@@ -18,18 +20,19 @@ returns-in-Ok-clause-step g c = λ indexer core read made s stands b m k closed 
     let mapping = c.args.batch.documents.mapping in
     let split = c.in_ok-bytes.field-0 in
     let built = c.in_ok-bytes.ensures.facts list b.documents ∙ ap (λ (x : IndexConfig). facts_of x list 0) b.config in
-    stages g.L.SourceLog.told g.L.SourceLog.fault_count g.G.Gate.Stands g.G.Gate.Between g.G.Gate.Owns g.G.Gate.Adds indexer core read c.args.self.now c.args.gate.now c.stage.new.self s made closed (number_apart made.count 0 some)
+    as_put c.args.self.now (places.Staged c.in-Ok.staged split.bytes) c.put.new.place c.put.ensures
+    (stages g.L.SourceLog.told g.L.SourceLog.fault_count g.G.Gate.Stands g.G.Gate.Between g.G.Gate.Owns g.G.Gate.Adds indexer core read c.args.self.now c.args.gate.now c.stage-staged.new.self s made closed (number_apart made.count 0 some)
     c.from_vec-delta.result c.with_rejected-facts.result (c.from_vec-delta.ensures ∙ b.parts)
     (staged_facts made list split.facts c.with_rejected-facts.result c.args.batch.count c.saturating_sub-rejected.result refl b.count
     built c.saturating_sub-rejected.ensures c.with_rejected-facts.ensures.facts m.few (target_ranges core made.config k).1)
     c.in-Ok.staged split.bytes g.met.G.Gate.between_goes (c.in_ok-bytes.ensures.bytes list b.documents ∙ ap (λ (x : IndexConfig). file_of x list) b.config) m
-    (built_splits made.config mapping list split b.config (c.in_ok-bytes.ensures.built list b.documents) (c.in_ok-bytes.ensures.bytes list b.documents)) k (c.in-Ok.ensures.step core read stands)
+    (built_splits made.config mapping list split b.config (c.in_ok-bytes.ensures.built list b.documents) (c.in_ok-bytes.ensures.bytes list b.documents)) k (c.in-Ok.ensures.step core read stands))
 
 pub returns-clause-step : goal.returns-clause-step
 returns-clause-step g c = λ indexer core read made s stands b m k closed some.
     let list = made.documents in
     let built = c.in_ok-bytes.ensures.facts list b.documents ∙ ap (λ (x : IndexConfig). facts_of x list 0) b.config in
-    stage_fails g.L.SourceLog.told g.L.SourceLog.fault_count g.G.Gate.Stands g.G.Gate.Between g.G.Gate.Owns g.G.Gate.Adds indexer core read c.args.self.now c.args.gate.now c.stage.new.self s made closed (number_apart made.count 0 some)
+    stage_fails g.L.SourceLog.told g.L.SourceLog.fault_count g.G.Gate.Stands g.G.Gate.Between g.G.Gate.Owns g.G.Gate.Adds indexer core read c.args.self.now c.args.gate.now c.stage-staged.new.self s made closed (number_apart made.count 0 some)
     c.from_vec-delta.result c.with_rejected-facts.result (c.from_vec-delta.ensures ∙ b.parts)
     (staged_facts made list c.in_ok-bytes.field-0.facts c.with_rejected-facts.result c.args.batch.count c.saturating_sub-rejected.result refl b.count
     built c.saturating_sub-rejected.ensures c.with_rejected-facts.ensures.facts m.few (target_ranges core made.config k).1)
@@ -39,7 +42,13 @@ pub returns-in_err-bytes-clause-later_gate : goal.returns-in_err-bytes-clause-la
 returns-in_err-bytes-clause-later_gate g c = g.met.G.Gate.since_same c.args.gate.now
 
 pub returns-in-Ok-clause-owns : goal.returns-in-Ok-clause-owns
-returns-in-Ok-clause-owns g c = λ h. c.in-Ok.ensures.owned
+returns-in-Ok-clause-owns g c = λ h. subst (HoldsOwn g.G.Gate.Owns c.stage-staged.new.self) (sym c.put.ensures) c.in-Ok.ensures.owned
 
 pub returns-clause-owns : goal.returns-clause-owns
-returns-clause-owns g c = λ h. own_later g.G.Gate.Owns g.G.Gate.since g.met.G.Gate.since_owns c.args.gate.now c.stage.new.self c.args.self.now.place c.stage.ensures.later h
+returns-clause-owns g c = λ h. own_later g.G.Gate.Owns g.G.Gate.since g.met.G.Gate.since_owns c.args.gate.now c.stage-staged.new.self c.args.self.now.place c.stage-staged.ensures.later h
+
+pub with_rejected-facts-requires : goal.with_rejected-facts-requires
+with_rejected-facts-requires g c = c.in_ok-bytes.ensures.can
+
+pub stage-staged-requires : goal.stage-staged-requires
+stage-staged-requires g c = c.with_rejected-facts.ensures.can

@@ -5,8 +5,9 @@ use Rattle.doc_value.specs.Documents.{IsSchema}
 use Rattle.index_config.specs.declared.config.IndexConfig.{IndexConfig}
 use Rattle.index_world.specs.Core.{last_count, IsConfigured}
 use Rattle.indexing_run.specs.Places.{idle}
+use Rattle.indexing_run.specs.declared.indexer.Place.TheVariants as places
 use Rattle.indexing_run.specs.Standing.{PlaceStands, HoldsOwn}
-use Rattle.indexing_run.proofs.Stepping.{idle_stays, no_answer}
+use Rattle.indexing_run.proofs.Stepping.{as_put, idle_stays, no_answer}
 use Rattle.indexing_run.proofs.Reading.{names_later, names_as, names_failed, names_short, names_fault, marks_fail, marks_short, begins}
 use Rattle.indexing_run.proofs.Holding.{own_later}
 use Rattle.indexing_run.proofs.indexer.Indexer.take_checkpoints.Goals as goal
@@ -51,8 +52,8 @@ returns-in_err-config-in-Ok-checkpoints-clause-step g c = λ indexer core read s
     next (c.names-names.ensures.told read s.told) (sym c.faults-after.ensures.count) c.names-names.ensures.assignment later within c.in-Ok.names here next.place c.in-Ok-checkpoints.marks c.from_residual.result
     (λ after. idle_stays read core after next.place place) (no_answer c.from_residual.result c.from_residual.ensures.0) (c.in-Ok-checkpoints.ensures.step core read stands)
 
-pub returns-in_err-begin-in-Ok-checkpoints-clause-step : goal.returns-in_err-begin-in-Ok-checkpoints-clause-step
-returns-in_err-begin-in-Ok-checkpoints-clause-step g c = λ indexer core read s stands.
+pub returns-in_err-batch-in-Ok-checkpoints-clause-step : goal.returns-in_err-batch-in-Ok-checkpoints-clause-step
+returns-in_err-batch-in-Ok-checkpoints-clause-step g c = λ indexer core read s stands.
     let next = c.names-names.new.self in
     let given = c.names-names.ensures.names read s.told in
     let first = names_later c.args.self.now.assignment c.names-names.result (g.L.SourceLog.fault_count c.args.self.now.log) (g.L.SourceLog.fault_count c.names-names.new.self.log) read given in
@@ -62,8 +63,8 @@ returns-in_err-begin-in-Ok-checkpoints-clause-step g c = λ indexer core read s 
     let here = names_as c.args.self.now.assignment indexer.assignment c.names-names.result (Ok c.in-Ok.names) (g.L.SourceLog.fault_count c.args.self.now.log) indexer.log_faults (g.L.SourceLog.fault_count c.names-names.new.self.log)
     c.faults-after.result read s.assignment c.in-Ok.is s.log_faults (sym c.faults-after.ensures.count) given in
     marks_short g.L.SourceLog.told g.L.SourceLog.fault_count g.G.Gate.Stands g.G.Gate.Between g.G.Gate.Owns g.G.Gate.Adds indexer core read c.args.self.now c.args.gate.now c.checkpoints.new.self s c.faults-after.result
-    next (c.names-names.ensures.told read s.told) (sym c.faults-after.ensures.count) c.names-names.ensures.assignment later within c.in-Ok.names here next.place c.in-Ok-checkpoints.marks c.from_residual-in_err-begin-in-Ok-checkpoints.result
-    (λ after. idle_stays read core after next.place place) (no_answer c.from_residual-in_err-begin-in-Ok-checkpoints.result c.from_residual-in_err-begin-in-Ok-checkpoints.ensures.0) (c.in-Ok-checkpoints.ensures.step core read stands)
+    next (c.names-names.ensures.told read s.told) (sym c.faults-after.ensures.count) c.names-names.ensures.assignment later within c.in-Ok.names here next.place c.in-Ok-checkpoints.marks c.from_residual-in_err-batch-in-Ok-checkpoints.result
+    (λ after. idle_stays read core after next.place place) (no_answer c.from_residual-in_err-batch-in-Ok-checkpoints.result c.from_residual-in_err-batch-in-Ok-checkpoints.ensures.0) (c.in-Ok-checkpoints.ensures.step core read stands)
 
 pub returns-in-Ok-checkpoints-clause-step : goal.returns-in-Ok-checkpoints-clause-step
 returns-in-Ok-checkpoints-clause-step g c = λ indexer core read s stands.
@@ -75,10 +76,11 @@ returns-in-Ok-checkpoints-clause-step g c = λ indexer core read s stands.
     let place = subst (λ k. PlaceStands read core k idle) (sym c.names-names.ensures.place) s.place in
     let here = names_as c.args.self.now.assignment indexer.assignment c.names-names.result (Ok c.in-Ok.names) (g.L.SourceLog.fault_count c.args.self.now.log) indexer.log_faults (g.L.SourceLog.fault_count c.names-names.new.self.log)
     c.faults-after.result read s.assignment c.in-Ok.is s.log_faults (sym c.faults-after.ensures.count) given in
-    begins g.L.SourceLog.told g.L.SourceLog.fault_count g.G.Gate.Stands g.G.Gate.Between g.G.Gate.Owns g.G.Gate.Adds indexer core read c.args.self.now c.args.gate.now c.checkpoints.new.self s c.faults-after.result
-    next (c.names-names.ensures.told read s.told) (sym c.faults-after.ensures.count) c.names-names.ensures.assignment later within c.in-Ok.names here c.in_ok-config-in-Ok-checkpoints.config c.in_ok-begin-in-Ok-checkpoints.field-0 c.in-Ok-checkpoints.marks
+    as_put next (places.Reading c.in_ok-batch-in-Ok-checkpoints.batch) c.put.new.place c.put.ensures
+    (begins g.L.SourceLog.told g.L.SourceLog.fault_count g.G.Gate.Stands g.G.Gate.Between g.G.Gate.Owns g.G.Gate.Adds indexer core read c.args.self.now c.args.gate.now c.checkpoints.new.self s c.faults-after.result
+    next (c.names-names.ensures.told read s.told) (sym c.faults-after.ensures.count) c.names-names.ensures.assignment later within c.in-Ok.names here c.in_ok-config-in-Ok-checkpoints.config c.in_ok-batch-in-Ok-checkpoints.batch c.in-Ok-checkpoints.marks
     (subst IsToldLog s.told c.faults-before.ensures.sound)
-    (λ after st. subst (λ (x : IndexConfig). IsConfigured x after) (sym c.in_ok-config-in-Ok-checkpoints.ensures) (c.config.ensures.step after read st)) c.in_ok-begin-in-Ok-checkpoints.ensures (c.in-Ok-checkpoints.ensures.step core read stands)
+    (λ after st. subst (λ (x : IndexConfig). IsConfigured x after) (sym c.in_ok-config-in-Ok-checkpoints.ensures) (c.config.ensures.step after read st)) c.in_ok-batch-in-Ok-checkpoints.ensures (c.in-Ok-checkpoints.ensures.step core read stands))
 
 pub returns-clause-step : goal.returns-clause-step
 returns-clause-step g c = λ indexer core read s stands.
@@ -112,8 +114,11 @@ returns-in-Err-Failed-clause-owns g c = λ h. subst (HoldsOwn g.G.Gate.Owns c.ar
 pub returns-in_err-config-in-Ok-checkpoints-clause-owns : goal.returns-in_err-config-in-Ok-checkpoints-clause-owns
 returns-in_err-config-in-Ok-checkpoints-clause-owns g c = λ h. own_later g.G.Gate.Owns g.G.Gate.since g.met.G.Gate.since_owns c.args.gate.now c.checkpoints.new.self c.names-names.new.self.place c.checkpoints.ensures.later (subst (HoldsOwn g.G.Gate.Owns c.args.gate.now) (sym c.names-names.ensures.place) h)
 
-pub returns-in_err-begin-in-Ok-checkpoints-clause-owns : goal.returns-in_err-begin-in-Ok-checkpoints-clause-owns
-returns-in_err-begin-in-Ok-checkpoints-clause-owns g c = λ h. own_later g.G.Gate.Owns g.G.Gate.since g.met.G.Gate.since_owns c.args.gate.now c.checkpoints.new.self c.names-names.new.self.place c.checkpoints.ensures.later (subst (HoldsOwn g.G.Gate.Owns c.args.gate.now) (sym c.names-names.ensures.place) h)
+pub returns-in_err-batch-in-Ok-checkpoints-clause-owns : goal.returns-in_err-batch-in-Ok-checkpoints-clause-owns
+returns-in_err-batch-in-Ok-checkpoints-clause-owns g c = λ h. own_later g.G.Gate.Owns g.G.Gate.since g.met.G.Gate.since_owns c.args.gate.now c.checkpoints.new.self c.names-names.new.self.place c.checkpoints.ensures.later (subst (HoldsOwn g.G.Gate.Owns c.args.gate.now) (sym c.names-names.ensures.place) h)
 
 pub returns-clause-owns : goal.returns-clause-owns
 returns-clause-owns g c = λ h. own_later g.G.Gate.Owns g.G.Gate.since g.met.G.Gate.since_owns c.args.gate.now c.checkpoints.new.self c.names-names.new.self.place c.checkpoints.ensures.later (subst (HoldsOwn g.G.Gate.Owns c.args.gate.now) (sym c.names-names.ensures.place) h)
+
+pub returns-in-Ok-checkpoints-clause-owns : goal.returns-in-Ok-checkpoints-clause-owns
+returns-in-Ok-checkpoints-clause-owns g c = λ h. subst (HoldsOwn g.G.Gate.Owns c.checkpoints.new.self) (sym c.put.ensures) tt
