@@ -17,3 +17,27 @@ returns-clause-step g c = λ indexer core read made s stands b m k.
 
 pub returns-then-batch-eq0-clause-later_gate : goal.returns-then-batch-eq0-clause-later_gate
 returns-then-batch-eq0-clause-later_gate g c = g.met.G.Gate.since_same c.args.gate.now
+
+pub returns-then-not-batch-clause-later : goal.returns-then-not-batch-clause-later
+returns-then-not-batch-clause-later g c = c.read_on.ensures.later
+
+pub returns-then-not-batch-clause-later_gate : goal.returns-then-not-batch-clause-later_gate
+returns-then-not-batch-clause-later_gate g c = c.read_on.ensures.later_gate
+
+pub returns-then-not-batch-clause-owns : goal.returns-then-not-batch-clause-owns
+returns-then-not-batch-clause-owns g c = c.read_on.ensures.owns
+
+pub returns-then-batch-eq0-clause-later : goal.returns-then-batch-eq0-clause-later
+returns-then-batch-eq0-clause-later g c = g.met.L.SourceLog.since_itself c.args.self.now.log
+
+pub returns-then-batch-eq0-clause-owns : goal.returns-then-batch-eq0-clause-owns
+returns-then-batch-eq0-clause-owns g c = λ h. h
+
+pub returns-clause-later : goal.returns-clause-later
+returns-clause-later g c = c.stage.ensures.later
+
+pub returns-clause-later_gate : goal.returns-clause-later_gate
+returns-clause-later_gate g c = c.stage.ensures.later_gate
+
+pub returns-clause-owns : goal.returns-clause-owns
+returns-clause-owns g c = c.stage.ensures.owns

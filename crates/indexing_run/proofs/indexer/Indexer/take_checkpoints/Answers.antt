@@ -122,3 +122,33 @@ returns-clause-owns g c = λ h. own_later g.G.Gate.Owns g.G.Gate.since g.met.G.G
 
 pub returns-in-Ok-checkpoints-clause-owns : goal.returns-in-Ok-checkpoints-clause-owns
 returns-in-Ok-checkpoints-clause-owns g c = λ h. subst (HoldsOwn g.G.Gate.Owns c.checkpoints.new.self) (sym c.put.ensures) tt
+
+pub returns-in-Err-Memory-clause-later : goal.returns-in-Err-Memory-clause-later
+returns-in-Err-Memory-clause-later g c = c.names-names.ensures.later
+
+pub returns-in-Err-Failed-clause-later : goal.returns-in-Err-Failed-clause-later
+returns-in-Err-Failed-clause-later g c = c.names-names.ensures.later
+
+pub returns-in_err-config-in-Ok-checkpoints-clause-later : goal.returns-in_err-config-in-Ok-checkpoints-clause-later
+returns-in_err-config-in-Ok-checkpoints-clause-later g c = c.names-names.ensures.later
+
+pub returns-in_err-batch-in-Ok-checkpoints-clause-later : goal.returns-in_err-batch-in-Ok-checkpoints-clause-later
+returns-in_err-batch-in-Ok-checkpoints-clause-later g c = c.names-names.ensures.later
+
+pub returns-in-Ok-checkpoints-clause-later : goal.returns-in-Ok-checkpoints-clause-later
+returns-in-Ok-checkpoints-clause-later g c = c.names-names.ensures.later
+
+pub returns-clause-later : goal.returns-clause-later
+returns-clause-later g c = c.names-names.ensures.later
+
+pub returns-in_err-config-in-Ok-checkpoints-clause-later_gate : goal.returns-in_err-config-in-Ok-checkpoints-clause-later_gate
+returns-in_err-config-in-Ok-checkpoints-clause-later_gate g c = c.checkpoints.ensures.later
+
+pub returns-in_err-batch-in-Ok-checkpoints-clause-later_gate : goal.returns-in_err-batch-in-Ok-checkpoints-clause-later_gate
+returns-in_err-batch-in-Ok-checkpoints-clause-later_gate g c = c.checkpoints.ensures.later
+
+pub returns-in-Ok-checkpoints-clause-later_gate : goal.returns-in-Ok-checkpoints-clause-later_gate
+returns-in-Ok-checkpoints-clause-later_gate g c = c.checkpoints.ensures.later
+
+pub returns-clause-later_gate : goal.returns-clause-later_gate
+returns-clause-later_gate g c = c.checkpoints.ensures.later

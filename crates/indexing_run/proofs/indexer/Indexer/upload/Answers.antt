@@ -24,3 +24,15 @@ returns-in-Err-clause-owns g c = λ h. own_later g.G.Gate.Owns g.G.Gate.since g.
 
 pub returns-in-Ok-clause-owns : goal.returns-in-Ok-clause-owns
 returns-in-Ok-clause-owns g c = λ h. subst (HoldsOwn g.G.Gate.Owns c.upload.new.self) (sym c.put.ensures) tt
+
+pub returns-in-Ok-clause-later : goal.returns-in-Ok-clause-later
+returns-in-Ok-clause-later g c = g.met.L.SourceLog.since_itself c.args.self.now.log
+
+pub returns-in-Err-clause-later : goal.returns-in-Err-clause-later
+returns-in-Err-clause-later g c = g.met.L.SourceLog.since_itself c.args.self.now.log
+
+pub returns-in-Ok-clause-later_gate : goal.returns-in-Ok-clause-later_gate
+returns-in-Ok-clause-later_gate g c = c.upload.ensures.later
+
+pub returns-in-Err-clause-later_gate : goal.returns-in-Err-clause-later_gate
+returns-in-Err-clause-later_gate g c = c.upload.ensures.later
