@@ -142,11 +142,21 @@ published_free place held indexer (Ok revision) a after w short = absurd short
 published_free place held indexer (Err error) (Ok done) after w short = absurd w
 published_free place held indexer (Err error) (Err unmade) after w short = publish_free place held.number error unmade w short
 
+-- an idle place is no other (apart, since a search beside all that a place says takes long)
+idle_reads_none : (batch : Batch) → idle ≡ reading batch → ⊥
+idle_reads_none batch e = cc e
+
+idle_stages_none : (held : Held) → idle ≡ staged held → ⊥
+idle_stages_none held e = cc e
+
+idle_uploads_none : (held : Held) → idle ≡ uploaded held → ⊥
+idle_uploads_none held e = cc e
+
 pub idle_stays : (log : Log) (core after : Core) (kept : HeldPlace) → PlaceStands log core kept idle → PlaceStands log after kept idle
 idle_stays log core after places.Idle s = s
-idle_stays log core after (places.Reading batch) s = let e = s.1 in cc
-idle_stays log core after (places.Staged token bytes) s = let e = s.1 in cc
-idle_stays log core after (places.Uploaded token) s = let e = s.1 in cc
+idle_stays log core after (places.Reading batch) s = absurd (idle_reads_none s.0 s.1)
+idle_stays log core after (places.Staged token bytes) s = absurd (idle_stages_none s.0 s.1)
+idle_stays log core after (places.Uploaded token) s = absurd (idle_uploads_none s.0 s.1)
 
 module _ {L W : Type 0} (tells : L → Option Log) (count : L → ℕ) (Stands : W → Core → Log → Type 0) (Between : Core → Core → Type 0) (Owns : W → ℕ → Type 0) (Adds : W → List CallMade → W → Type 0) (indexer : Indexer) (core : Core) (log : Log)
     (reader : Reader L) (old new : W) (s : IndexerStands tells count reader (record indexer { place = idle }) core log) where
