@@ -23,22 +23,21 @@ use byte_fields::Bytes;
 use meta_journal::{Act, Entry, Journal, JournalError};
 use meta_store::{Meta, Reading};
 use object_store::ObjectStore;
-use std::alloc::{AllocError, Global};
+use std::alloc::Global;
 use std::mem;
 
 // The Create of a text at a moment.
-fn create_entry(alloc: Global, text: &[u8], moment: u64) -> Result<Entry, AllocError>
+fn create_entry(config: Bytes, moment: u64) -> Entry
     requires { moment < 2 ^ 62 }
-    ensures can { IfOk result CanSpell }
-    ensures same { IfOk result (λ entry. entry ≡ create_at text.now moment) }
+    ensures can { CanSpell result }
+    ensures same { result ≡ create_at config moment }
 {
-    let config = Bytes::from_slice(alloc, text)?;
     // Its length has its range.
     let _length = config.len();
-    Ok(Entry {
+    Entry {
         moment,
         act: Act::Create { config },
-    })
+    }
 }
 
 // What the journal's error is where it had no entry: one that stands there now was there first.
@@ -78,7 +77,15 @@ fn append_first<S: ObjectStore>(
     let mut journal = journal;
     let mut meta = Meta::vacant(alloc);
     let moment = entry.moment;
-    let handed = prepare(&mut meta, reading, &entry)?;
+    let handed = match prepare(&mut meta, reading, &entry) {
+        Ok(handed) => handed,
+        Err(unprepared) => {
+            mem::drop(entry);
+            mem::drop(meta);
+            mem::drop(journal);
+            return Err(unprepared);
+        }
+    };
     match journal.append(alloc, store, &entry) {
         Ok(_) => {
             meta.apply(entry, handed);
@@ -90,6 +97,9 @@ fn append_first<S: ObjectStore>(
         }
         Err(error) => {
             mem::drop(handed);
+            mem::drop(entry);
+            mem::drop(meta);
+            mem::drop(journal);
             Err(first_error(error, before))
         }
     }
@@ -116,8 +126,9 @@ pub fn create<S: ObjectStore, C: SteadyClock>(
             if !entries.is_empty() {
                 return Err(WorldError::IndexExists);
             }
+            let config = Bytes::from_slice(alloc, text)?;
             let reading = reading_of_text(alloc, text)?;
-            let entry = create_entry(alloc, text, clock.ask())?;
+            let entry = create_entry(config, clock.ask());
             append_first(alloc, store, journal, entry, reading, before)
         }
         Err(error) => Err(world_error(error, 0, before)),

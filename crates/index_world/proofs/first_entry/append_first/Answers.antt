@@ -7,65 +7,59 @@ use Rattle.meta_store.specs.History.History.{Start}
 use Rattle.meta_store.specs.State.{State, state_of}
 use Rattle.object_store.proofs.Told.{told_map}
 use Rattle.index_world.specs.Config.{reads}
-use Rattle.index_world.specs.Created.{AppendsFirst, IsOfCreate}
-use Rattle.index_world.specs.Taking.{IsFaultBetween}
 use Rattle.index_world.specs.Unsure.{is_unsure}
 use Rattle.index_world.proofs.Configured.{kept_schema, taken_some}
 use Rattle.index_world.proofs.Creating.{unprepared_same}
-use Rattle.index_world.proofs.FirstCalls.{unprepared_first, want_kind, want_first_by, want_no_fault, told_same, first_state, first_is_made, first_none_at}
-use Rattle.index_world.proofs.Fronts.{err_so}
+use Rattle.index_world.proofs.FirstCalls.{unprepared_first, want_kind, want_first, want_no_fault, told_same, first_state, first_is_made, first_none_at}
 use Rattle.index_world.proofs.first_entry.append_first.Goals as goal
 
-pub returns-in_err-handed-clause-faults : goal.returns-in_err-handed-clause-faults
-returns-in_err-handed-clause-faults g c =
-    err_so c.from_residual.result _ (IsFaultBetween c.args.before (g.S.ObjectStore.fault_count c.args.store.now)) c.from_residual.ensures.1
-    (λ error is. want_no_fault _ _ error (unprepared_first (answer_to c.args.reading (state_of reads Start) c.args.entry) 0 error c.requires.allowed refl
-    (unprepared_same _ _ _ _ _ _ (ap (λ (s : State). answer_to c.args.reading s c.args.entry) (c.vacant-meta.ensures reads)) (ap (λ (s : State). s.revision) (c.vacant-meta.ensures reads)) is c.in_err-handed.ensures.why)))
+pub returns-in-Err-clause-faults : goal.returns-in-Err-clause-faults
+returns-in-Err-clause-faults g c =
+    want_no_fault _ _ c.in-Err.unprepared (unprepared_first (answer_to c.args.reading (state_of reads Start) c.args.entry) 0 c.in-Err.unprepared c.requires.allowed refl
+    (unprepared_same _ _ _ _ _ _ (ap (λ (s : State). answer_to c.args.reading s c.args.entry) (c.vacant-meta.ensures reads)) (ap (λ (s : State). s.revision) (c.vacant-meta.ensures reads)) refl c.in-Err.ensures.why))
 
-pub returns-in_err-handed-clause-kinds : goal.returns-in_err-handed-clause-kinds
-returns-in_err-handed-clause-kinds g c =
-    err_so c.from_residual.result _ (λ error. (text : List ℕ) → IsOfCreate text error) c.from_residual.ensures.1
-    (λ error is. want_kind error (unprepared_first (answer_to c.args.reading (state_of reads Start) c.args.entry) 0 error c.requires.allowed refl
-    (unprepared_same _ _ _ _ _ _ (ap (λ (s : State). answer_to c.args.reading s c.args.entry) (c.vacant-meta.ensures reads)) (ap (λ (s : State). s.revision) (c.vacant-meta.ensures reads)) is c.in_err-handed.ensures.why)))
+pub returns-in-Err-clause-kinds : goal.returns-in-Err-clause-kinds
+returns-in-Err-clause-kinds g c =
+    want_kind c.in-Err.unprepared (unprepared_first (answer_to c.args.reading (state_of reads Start) c.args.entry) 0 c.in-Err.unprepared c.requires.allowed refl
+    (unprepared_same _ _ _ _ _ _ (ap (λ (s : State). answer_to c.args.reading s c.args.entry) (c.vacant-meta.ensures reads)) (ap (λ (s : State). s.revision) (c.vacant-meta.ensures reads)) refl c.in-Err.ensures.why))
 
-pub returns-in_err-handed-clause-answer : goal.returns-in_err-handed-clause-answer
-returns-in_err-handed-clause-answer g c =
-    told_same (g.S.ObjectStore.told c.args.store.now) (AppendsFirst c.args.entry c.from_residual.result) (want_first_by c.args.entry c.from_residual.result _ c.from_residual.ensures.1
-    (λ error is. unprepared_first (answer_to c.args.reading (state_of reads Start) c.args.entry) 0 error c.requires.allowed refl
-    (unprepared_same _ _ _ _ _ _ (ap (λ (s : State). answer_to c.args.reading s c.args.entry) (c.vacant-meta.ensures reads)) (ap (λ (s : State). s.revision) (c.vacant-meta.ensures reads)) is c.in_err-handed.ensures.why)))
+pub returns-in-Err-clause-answer : goal.returns-in-Err-clause-answer
+returns-in-Err-clause-answer g c =
+    told_same (g.S.ObjectStore.told c.args.store.now) _ (want_first c.args.entry c.in-Err.unprepared (unprepared_first (answer_to c.args.reading (state_of reads Start) c.args.entry) 0 c.in-Err.unprepared c.requires.allowed refl
+    (unprepared_same _ _ _ _ _ _ (ap (λ (s : State). answer_to c.args.reading s c.args.entry) (c.vacant-meta.ensures reads)) (ap (λ (s : State). s.revision) (c.vacant-meta.ensures reads)) refl c.in-Err.ensures.why)))
 
 pub invariant_of-result : goal.invariant_of-result
 invariant_of-result g c =
-    let said : c.append.result ≡ Ok c.in-Ok.field-0 = c.in-Ok.is in
-    let state : c.apply.new.self.state ≡ state_of reads (history (c.args.entry ∷ [])) = first_state c.args.entry c.args.reading c.in_ok-handed.handed _ _ _ c.apply.ensures c.in_ok-handed.ensures.handed c.prepare.ensures.same (c.vacant-meta.ensures reads) c.requires.read in
+    let said : c.append.result ≡ Ok c.in-Ok-append.field-0 = c.in-Ok-append.is in
+    let state : c.apply.new.self.state ≡ state_of reads (history (c.args.entry ∷ [])) = first_state c.args.entry c.args.reading c.in-Ok.handed _ _ _ c.apply.ensures c.in-Ok.ensures.handed c.prepare.ensures.same (c.vacant-meta.ensures reads) c.requires.read in
     let next : c.append.new.self.next ≡ c.args.journal.next + 1 = c.append.ensures.next ∙ ap (next_appended c.args.journal.next) said in
     let none : c.args.journal.next ≡ 0 = ap (λ (j : Numbered). j.next) c.requires.none in
     let revision : c.apply.new.self.state.revision ≡ 1 = ap (λ (s : State). s.revision) state in
     record {
       timely = c.requires.can.moment;
       in_step = omega (arith, next, none, revision);
-      configured = taken_some c.args.reading c.in_ok-handed.handed c.prepare.new.meta.state c.prepare.new.meta.state c.apply.new.self.state c.args.entry c.apply.ensures c.in_ok-handed.ensures.handed refl c.in_ok-handed.ensures.allowed;
+      configured = taken_some c.args.reading c.in-Ok.handed c.prepare.new.meta.state c.prepare.new.meta.state c.apply.new.self.state c.args.entry c.apply.ensures c.in-Ok.ensures.handed refl c.in-Ok.ensures.allowed;
       schema = λ config e. kept_schema (history (c.args.entry ∷ [])) config (sym (ap (λ (s : State). s.config) state) ∙ e);
     }
 
-pub returns-in-Ok-clause-knows : goal.returns-in-Ok-clause-knows
-returns-in-Ok-clause-knows g c =
-    let said : c.append.result ≡ Ok c.in-Ok.field-0 = c.in-Ok.is in
+pub returns-in-Ok-append-clause-knows : goal.returns-in-Ok-append-clause-knows
+returns-in-Ok-append-clause-knows g c =
+    let said : c.append.result ≡ Ok c.in-Ok-append.field-0 = c.in-Ok-append.is in
     let next : c.append.new.self.next ≡ c.args.journal.next + 1 = c.append.ensures.next ∙ ap (next_appended c.args.journal.next) said in
     let none : c.args.journal.next ≡ 0 = ap (λ (j : Numbered). j.next) c.requires.none in
     record {
       next = omega (arith, next, none);
       unsure = ap is_unsure (c.append.ensures.place ∙ ap place_appended said);
       moment = refl;
-      meta = first_state c.args.entry c.args.reading c.in_ok-handed.handed _ _ _ c.apply.ensures c.in_ok-handed.ensures.handed c.prepare.ensures.same (c.vacant-meta.ensures reads) c.requires.read;
+      meta = first_state c.args.entry c.args.reading c.in-Ok.handed _ _ _ c.apply.ensures c.in-Ok.ensures.handed c.prepare.ensures.same (c.vacant-meta.ensures reads) c.requires.read;
     }
 
-pub returns-in-Ok-clause-answer : goal.returns-in-Ok-clause-answer
-returns-in-Ok-clause-answer g c =
-    told_map _ _ (first_is_made c.args.journal.next c.in-Ok.field-0 c.args.entry c.append.result c.in-Ok.is (ap (λ (j : Numbered). j.next) c.requires.none)) c.append.ensures.answer
+pub returns-in-Ok-append-clause-answer : goal.returns-in-Ok-append-clause-answer
+returns-in-Ok-append-clause-answer g c =
+    told_map _ _ (first_is_made c.args.journal.next c.in-Ok-append.field-0 c.args.entry c.append.result c.in-Ok-append.is (ap (λ (j : Numbered). j.next) c.requires.none)) c.append.ensures.answer
 
-pub returns-in-Err-clause-answer : goal.returns-in-Err-clause-answer
-returns-in-Err-clause-answer g c =
+pub returns-in-Err-append-clause-answer : goal.returns-in-Err-append-clause-answer
+returns-in-Err-append-clause-answer g c =
     let none : c.args.journal.next ≡ 0 = ap (λ (j : Numbered). j.next) c.requires.none in
-    told_map _ _ (first_none_at c.args.before c.args.journal.next c.args.journal.settled c.in-Err.error c.args.entry c.append.result _ c.first_error.ensures c.in-Err.is none (ap (λ (j : Numbered). j.settled) c.requires.none) c.in-Err.ensures.taken
-    (λ full. let le = c.append.ensures.full.0 (c.in-Err.is ∙ ap Err full) in absurd (omega (arith, le, none)))) c.append.ensures.answer
+    told_map _ _ (first_none_at c.args.before c.args.journal.next c.args.journal.settled c.in-Err-append.error c.args.entry c.append.result _ c.first_error.ensures c.in-Err-append.is none (ap (λ (j : Numbered). j.settled) c.requires.none) c.in-Err-append.ensures.taken
+    (λ full. let le = c.append.ensures.full.0 (c.in-Err-append.is ∙ ap Err full) in absurd (omega (arith, le, none)))) c.append.ensures.answer
