@@ -146,12 +146,6 @@ module _ (old : State) (core : Core) (log : Log) (count now : ℕ) (life : Life)
       by (Ok done) at (inr gone) =
           refused_by (troubled (faulted is_full)) (ap (λ r. or_full r core) at ∙ ap full_answer (full gone.1)) (subst (λ (x : WorldError). IsUnmade x (troubled (faulted is_full))) (sym gone.0) refl)
 
-  pub creating_unprepared_by : (new : Life) (act : Act) (settled : Bool) (before : ℕ) (r : Result (Option Entry) WorldError) (Is : WorldError → Type 0) → IsErrAnd r Is →
-      ((error : WorldError) → Is error → IsUnprepared (answer_behind core.history (entry_of act core)) (length core.history) error) → told' ≡ told → now ≡ count → LifeIs new core.history core.moment false → new.journal.settled ≡ settled →
-      Creating old core log act settled before r told' now new
-  creating_unprepared_by new act settled before (Ok x) Is h why same stood k still = absurd h
-  creating_unprepared_by new act settled before (Err error) Is h why same stood k still = creating_unprepared new act settled before error (why error h) same stood k still
-
   module _ (own : Own) (entry : Entry) (same : entry ≡ entry_of (own_act own core) core) (can : CanSpellAct (own_act own core)) (may : may_append (own_act own core) core ≡ Ok tt) (owned : MayOwn own log core) where
     can_own : CanSpell (entry_of (own_act own core) core)
     can_own = record { moment = b.timely.moment; act = can }

@@ -82,10 +82,6 @@ want_first entry errors.NoIndex h s = absurd h
 want_first entry errors.IndexExists h s = absurd h
 want_first entry (errors.BadConfig bad) h s = absurd h
 
-pub want_first_by : (entry : Entry) (r : Result Life WorldError) (Is : WorldError → Type 0) → IsErrAnd r Is → ((error : WorldError) → Is error → IsWant error) → (s : State) → AppendsFirst entry r s s
-want_first_by entry (Ok life) Is h want s = absurd h
-want_first_by entry (Err error) Is h want s = want_first entry error (want error h) s
-
 pub told_same : (a : Option State) (P : State → State → Type 0) → ((s : State) → P s s) → WhereTold a a P
 told_same None P f = tt
 told_same (Some s) P f = f s

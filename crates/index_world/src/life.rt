@@ -133,8 +133,20 @@ impl Life {
             moment: self.moment,
             act: act_of(alloc, own, &self.meta)?,
         };
-        let reading = reading_of(alloc, &entry)?;
-        let handed = prepare(&mut self.meta, reading, &entry)?;
+        let reading = match reading_of(alloc, &entry) {
+            Ok(reading) => reading,
+            Err(refused) => {
+                mem::drop(entry);
+                return Err(WorldError::Memory(refused));
+            }
+        };
+        let handed = match prepare(&mut self.meta, reading, &entry) {
+            Ok(handed) => handed,
+            Err(unprepared) => {
+                mem::drop(entry);
+                return Err(unprepared);
+            }
+        };
         let answer = self.journal.append(alloc, store, &entry);
         // The count of a store has its range.
         let _count = store.faults();
@@ -145,6 +157,7 @@ impl Life {
             }
             Err(error) => {
                 mem::drop(handed);
+                mem::drop(entry);
                 match error {
                     JournalError::Adopted { entry } => Ok(Some(entry)),
                     error => Err(world_error(error, self.journal.next(), before)),
