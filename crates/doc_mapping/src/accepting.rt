@@ -1,6 +1,9 @@
-ghost use Rattle.std.specs.Prelude.{◌≡◌, Ok, Err, Some, MatchResult, MatchOption, IsTrue, IfOk, unwrap_or};
+ghost use Rattle.std.specs.Prelude.{◌≡◌, [], nat_le, true, Ok, Err, Some, MatchResult, MatchOption, IsTrue, IfOk, unwrap_or};
+ghost use Rattle.serde_json.specs.Data.{Members, depth};
+ghost use Rattle.serde_json.specs.Find.{as_object};
 ghost use Rattle.serde_json.specs.View.{view};
-ghost use Rattle.doc_mapping.specs.Answer.{answer, read_answer, lacks_timestamp, IsMemory};
+ghost use Rattle.index_config.specs.declared.config.IndexConfig.{IndexConfig as Config};
+ghost use Rattle.doc_mapping.specs.Answer.{answer, read_answer, timed_answer, lacks_timestamp, IsMemory};
 ghost use Rattle.doc_mapping.specs.Documents.{doc_from, has_number};
 ghost use Rattle.doc_mapping.specs.Walk.{AreFlat, AreRegular};
 
@@ -14,7 +17,7 @@ use doc_value::{Doc, Fields};
 use index_config::IndexConfig;
 use serde_json::Value;
 use std::alloc::{AllocError, Global};
-use std::str;
+use std::{mem, str};
 
 /// The longest record in bytes.
 pub const MAX_RECORD: usize = 1_048_576;
@@ -76,23 +79,74 @@ fn accept_value(
         (λ doc. read_answer config.now (Some (view value)) ≡ Ok doc)
         (λ refusal. ¬ IsMemory refusal → read_answer config.now (Some (view value)) ≡ Err refusal) }
 {
-    let Some(map) = value.as_object() else {
-        return Err(Reject::NotObject);
-    };
-    let room = map.len().min(config.schema.fields.len());
-    if !is_within(&value, MAX_LEVELS) {
-        return Err(Reject::TooDeep);
-    }
-    let looked_for = looked_for(alloc, &config.schema.fields, finder.regular, &value)?;
-    let mut parts = Parts::with_capacity(alloc, room)?;
-    if let Some(refusal) = record_fault(alloc, config, finder, value, &mut parts)? {
+    if let Some(refusal) = shape_fault(&value) {
+        mem::drop(value);
         return Err(refusal);
     }
+    let (looked_for, mut parts) = match begun(
+        alloc,
+        &config.schema.fields,
+        finder.regular,
+        &value,
+    ) {
+        Ok(begun) => begun,
+        Err(error) => {
+            mem::drop(value);
+            return Err(Reject::Memory(error));
+        }
+    };
+    let fault = record_fault(alloc, config, finder, value, &mut parts);
     let doc = doc_by(looked_for, parts);
-    if is_timestamp_missing(config.timestamp_field, &doc) {
-        return Err(Reject::MissingTimestamp);
+    match fault {
+        Ok(None) => timed(config.timestamp_field, doc),
+        Ok(Some(refusal)) => {
+            mem::drop(doc);
+            Err(refusal)
+        }
+        Err(error) => {
+            mem::drop(doc);
+            Err(Reject::Memory(error))
+        }
     }
-    Ok(doc)
+}
+
+/// The refusal of a value that is no object or nests too deep.
+fn shape_fault(value: &Value) -> Option<Reject>
+    ensures { MatchOption result
+        (((members : Members) × (Some members ≡ as_object (view value.now))) × (nat_le (depth (view value.now)) 32 ≡ true))
+        (λ refusal. (config : Config) → read_answer config (Some (view value.now)) ≡ Err refusal) }
+{
+    if !value.is_object() {
+        return Some(Reject::NotObject);
+    }
+    if !is_within(value, MAX_LEVELS) {
+        return Some(Reject::TooDeep);
+    }
+    None
+}
+
+/// What the walk over a record begins with: the document where it is looked for path by path, and no parts.
+fn begun(
+    alloc: Global,
+    fields: &Fields,
+    regular: bool,
+    value: &Value,
+) -> Result<(Option<Doc>, Parts), AllocError>
+    ensures found { IfOk result (λ x. MatchOption x.0 (IsTrue regular) (λ doc. doc ≡ doc_from 0 fields.now (view value.now))) }
+    ensures empty { IfOk result (λ x. x.1.items ≡ []) }
+{
+    let members = match value.as_object() {
+        Some(map) => map.len(),
+        None => 0,
+    };
+    let parts = Parts::with_capacity(alloc, members.min(fields.len()))?;
+    match looked_for(alloc, fields, regular, value) {
+        Ok(found) => Ok((found, parts)),
+        Err(error) => {
+            mem::drop(parts);
+            Err(error)
+        }
+    }
 }
 
 /// Where the fields are not regular, the document that is looked for path by path.
@@ -118,6 +172,17 @@ fn doc_by(looked_for: Option<Doc>, parts: Parts) -> Doc
         Some(doc) => doc,
         None => Doc::from_vec(parts),
     }
+}
+
+/// A document that has a timestamp where one is asked.
+fn timed(timestamp: Option<usize>, doc: Doc) -> Result<Doc, Reject>
+    ensures { result ≡ timed_answer timestamp doc }
+{
+    if is_timestamp_missing(timestamp, &doc) {
+        mem::drop(doc);
+        return Err(Reject::MissingTimestamp);
+    }
+    Ok(doc)
 }
 
 fn is_timestamp_missing(timestamp: Option<usize>, doc: &Doc) -> bool

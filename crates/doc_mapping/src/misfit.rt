@@ -1,6 +1,6 @@
 //! The values of a value that fits a field, or why it doesn't fit.
 
-ghost use Rattle.std.specs.Prelude.{◌≡◌, ◌∷◌, [], None, Ok, IfOk, MatchResult};
+ghost use Rattle.std.specs.Prelude.{◌≡◌, ◌∷◌, [], None, Ok, IfOk, IfSome, MatchResult};
 ghost use Rattle.serde_json.specs.Find.{as_null};
 ghost use Rattle.serde_json.specs.View.{view, items_view};
 ghost use Rattle.doc_mapping.specs.Walk.{Fits, FitsSecond, FitsTexts, IsPlain, refusal_at};
@@ -12,6 +12,7 @@ use doc_value::{Kind, Text, Value as DocValue, Values};
 use index_config::Formats;
 use serde_json::Value;
 use std::alloc::{AllocError, Global};
+use std::mem;
 
 /// Why a value doesn't fit a field.
 #[derive(Clone, Copy)]
@@ -63,25 +64,31 @@ pub fn single_value(kind: Kind, formats: Formats, value: Value) -> Result<DocVal
     if value.is_null() {
         return Err(value);
     }
+    if let Kind::Text = kind {
+        return single_text(formats, value);
+    }
+    match single_plain(kind, formats, &value) {
+        Some(single) => {
+            mem::drop(value);
+            Ok(single)
+        }
+        None => Err(value),
+    }
+}
+
+/// The same of a value that is only read.
+#[inline(always)]
+fn single_plain(kind: Kind, formats: Formats, value: &Value) -> Option<DocValue>
+    requires { as_null (view value.now) ≡ None }
+    ensures { IfSome result (λ single. Fits kind formats (view value.now) (Ok (single ∷ []))) }
+{
     match kind {
-        Kind::Text => single_text(formats, value),
-        Kind::I64 => match value.as_i64() {
-            Some(number) => Ok(DocValue::I64(number)),
-            None => Err(value),
-        },
-        Kind::U64 => match value.as_u64() {
-            Some(number) => Ok(DocValue::U64(number)),
-            None => Err(value),
-        },
-        Kind::Bool => match value.as_bool() {
-            Some(truth) => Ok(DocValue::Bool(truth)),
-            None => Err(value),
-        },
-        Kind::Datetime => match fitting_second(formats, &value) {
-            Ok(second) => Ok(DocValue::Datetime(second)),
-            Err(_) => Err(value),
-        },
-        Kind::TextList => Err(value),
+        Kind::I64 => Some(DocValue::I64(value.as_i64()?)),
+        Kind::U64 => Some(DocValue::U64(value.as_u64()?)),
+        Kind::Bool => Some(DocValue::Bool(value.as_bool()?)),
+        Kind::Datetime => Some(DocValue::Datetime(fitting_second(formats, value).ok()?)),
+        Kind::Text => None,
+        Kind::TextList => None,
     }
 }
 

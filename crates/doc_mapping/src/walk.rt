@@ -20,6 +20,7 @@ use doc_value::Text;
 use index_config::{IndexConfig, Mode};
 use serde_json::{Map, Value};
 use std::alloc::{AllocError, Global};
+use std::mem;
 
 /// The first refusal of a record; where there is none, the parts have its values.
 pub fn record_fault(
@@ -41,7 +42,7 @@ pub fn record_fault(
     }
     match into_members(root) {
         Ok(map) => flat_faults(alloc, config, finder, map, parts),
-        Err(other) => type_fault(alloc, "", &other),
+        Err(other) => type_fault(alloc, "", other),
     }
 }
 
@@ -88,7 +89,10 @@ fn flat_fault(
 {
     match number_of(&config.schema, finder, next_number(parts), key.as_bytes()) {
         Some(number) => field_fault(alloc, config, number, key, value, parts),
-        None => unmapped_path(alloc, config, key),
+        None => {
+            mem::drop(value);
+            unmapped_path(alloc, config, key)
+        }
     }
 }
 
@@ -149,13 +153,19 @@ fn key_fault(
         Gathers config.now.schema.fields (spec.under prefix.now key.now) (view value) parts.old.items parts.new.items) }
 {
     if has_dot(key.as_bytes()) {
+        mem::drop(value);
         return unmapped_key(alloc, config, prefix, key);
     }
     if prefix.is_empty() {
         return path_fault(alloc, config, finder, key, value, levels, parts);
     }
-    let path = under(alloc, prefix, key)?;
-    path_fault(alloc, config, finder, path.as_str(), value, levels, parts)
+    match under(alloc, prefix, key) {
+        Ok(path) => path_fault(alloc, config, finder, path.as_str(), value, levels, parts),
+        Err(error) => {
+            mem::drop(value);
+            Err(error)
+        }
+    }
 }
 
 /// The first refusal of a value at this path, behind a key without a dot.
@@ -180,10 +190,17 @@ fn path_fault(
     if let Some(number) = number_of(&config.schema, finder, next_number(parts), path.as_bytes()) {
         return field_fault(alloc, config, number, path, value, parts);
     }
-    if !lies_above_fields(alloc, config, finder.regular, path)? {
-        return unmapped_path(alloc, config, path);
+    match lies_above_fields(alloc, config, finder.regular, path) {
+        Ok(true) => inner_fault(alloc, config, finder, path, value, levels, parts),
+        Ok(false) => {
+            mem::drop(value);
+            unmapped_path(alloc, config, path)
+        }
+        Err(error) => {
+            mem::drop(value);
+            Err(error)
+        }
     }
-    inner_fault(alloc, config, finder, path, value, levels, parts)
 }
 
 /// The first refusal of a value where an object is asked.
@@ -205,7 +222,7 @@ fn inner_fault(
 {
     match into_members(value) {
         Ok(inner) => members_fault(alloc, config, finder, path, inner, levels - 1, parts),
-        Err(other) => type_fault(alloc, path, &other),
+        Err(other) => type_fault(alloc, path, other),
     }
 }
 
@@ -265,11 +282,13 @@ fn kind_fault(
 }
 
 /// A value where an object is asked that is none: null fits, and nothing else.
-fn type_fault(alloc: Global, path: &str, value: &Value) -> Result<Option<Reject>, AllocError>
-    requires { as_object (view value.now) ≡ None }
-    ensures { IfOk result (λ fault. fault ≡ spec.unless (is_some (as_null (view value.now))) (WrongType path.now)) }
+fn type_fault(alloc: Global, path: &str, value: Value) -> Result<Option<Reject>, AllocError>
+    requires { as_object (view value) ≡ None }
+    ensures { IfOk result (λ fault. fault ≡ spec.unless (is_some (as_null (view value))) (WrongType path.now)) }
 {
-    if value.is_null() {
+    let fits = value.is_null();
+    mem::drop(value);
+    if fits {
         return Ok(None);
     }
     Ok(Some(Reject::WrongType {

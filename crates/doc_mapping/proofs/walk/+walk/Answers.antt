@@ -11,10 +11,10 @@ key_fault-returns-then-is_empty-clause-gathers t c = λ plain.
     gathers_on c.args.config.now.schema.fields (view c.args.value) c.args.parts.now.items c.path_fault.new.parts.items c.path_fault.result c.args.key.now _
     (empty_under c.args.prefix.now c.args.key.now ((unsigned_Decides (length c.args.prefix.now) 0).0 (sym c.is_empty.ensures ∙ c.if-is_empty.true))) c.path_fault.ensures.gathers
 
-pub key_fault-returns-clause-gathers : goal.key_fault-returns-clause-gathers
-key_fault-returns-clause-gathers t c = λ plain.
-    gathers_on c.args.config.now.schema.fields (view c.args.value) c.args.parts.now.items c.path_fault-2.new.parts.items c.path_fault-2.result c.as_str.result.now _
-    (c.as_str.ensures ∙ c.in_ok-path.ensures) c.path_fault-2.ensures.gathers
+pub key_fault-returns-in-Ok-clause-gathers : goal.key_fault-returns-in-Ok-clause-gathers
+key_fault-returns-in-Ok-clause-gathers t c = λ plain.
+    gathers_on c.args.config.now.schema.fields (view c.args.value) c.args.parts.now.items c.path_fault-in-Ok.new.parts.items c.path_fault-in-Ok.result c.as_str.result.now _
+    (c.as_str.ensures ∙ c.in-Ok.ensures) c.path_fault-in-Ok.ensures.gathers
 
 pub members_fault-loop-key-init : goal.members_fault-loop-key-init
 members_fault-loop-key-init t c =
@@ -48,13 +48,12 @@ path_fault-returns-in-Some-clause-gathers t c =
     (c.in-Some.ensures ∙ ap (number_of c.args.config.now.schema.fields) c.as_bytes.ensures.value) c.args.parts.now.items c.field_fault.new.parts.items c.field_fault.result
     c.field_fault.ensures.fault c.field_fault.ensures.enters
 
-pub path_fault-returns-then-not-branch-clause-gathers :
-    goal.path_fault-returns-then-not-branch-clause-gathers
-path_fault-returns-then-not-branch-clause-gathers t c =
+pub path_fault-returns-in-Ok-false-clause-gathers : goal.path_fault-returns-in-Ok-false-clause-gathers
+path_fault-returns-in-Ok-false-clause-gathers t c =
     gathers_as c.args.config.now.schema.fields (view c.args.value) c.args.parts.now.items c.args.parts.now.items c.unmapped_path.result c.args.path.now
-    (nothing_there c.args.config.now.schema.fields c.args.path.now (view c.args.value) c.args.parts.now.items (sym (c.in_default.ensures ∙ ap (number_of c.args.config.now.schema.fields) c.as_bytes.ensures.value)) (sym c.in_ok-lies_above_fields.ensures ∙ c.if-not-branch.true))
+    (nothing_there c.args.config.now.schema.fields c.args.path.now (view c.args.value) c.args.parts.now.items (sym (c.in_default.ensures ∙ ap (number_of c.args.config.now.schema.fields) c.as_bytes.ensures.value)) (sym c.in-Ok-false.ensures ∙ c.in-Ok-false.field-0-test))
 
-pub path_fault-returns-clause-gathers : goal.path_fault-returns-clause-gathers
-path_fault-returns-clause-gathers t c =
+pub path_fault-returns-in-Ok-true-clause-gathers : goal.path_fault-returns-in-Ok-true-clause-gathers
+path_fault-returns-in-Ok-true-clause-gathers t c =
     gathers_inner c.args.config.now.schema.fields (view c.args.value) c.args.parts.now.items c.inner_fault.new.parts.items c.inner_fault.result c.args.path.now
-    (c.in_default.ensures ∙ ap (number_of c.args.config.now.schema.fields) c.as_bytes.ensures.value) (sym c.in_ok-lies_above_fields.ensures ∙ c.if-not-branch.false) c.inner_fault.ensures.gathers
+    (c.in_default.ensures ∙ ap (number_of c.args.config.now.schema.fields) c.as_bytes.ensures.value) (sym c.in-Ok-true.ensures ∙ c.in-Ok-true.field-0-test) c.inner_fault.ensures.gathers
