@@ -44,15 +44,16 @@ pub fn fitting_values(
     ensures { IfOk result (Fits kind formats (view value)) }
 {
     if value.is_null() {
+        mem::drop(value);
         return Ok(Ok(Values::vacant(alloc)));
     }
     match kind {
         Kind::Text => fitting_text(alloc, formats, value),
         Kind::TextList => fitting_list(alloc, formats, value),
-        Kind::Datetime => fitting_date(alloc, formats, &value),
-        Kind::I64 => fitting_plain(alloc, Kind::I64, formats, &value),
-        Kind::U64 => fitting_plain(alloc, Kind::U64, formats, &value),
-        Kind::Bool => fitting_plain(alloc, Kind::Bool, formats, &value),
+        Kind::Datetime => fitting_date(alloc, formats, value),
+        Kind::I64 => fitting_plain(alloc, Kind::I64, formats, value),
+        Kind::U64 => fitting_plain(alloc, Kind::U64, formats, value),
+        Kind::Bool => fitting_plain(alloc, Kind::Bool, formats, value),
     }
 }
 
@@ -151,13 +152,15 @@ fn fitting_plain(
     alloc: Global,
     kind: Kind,
     formats: Formats,
-    value: &Value,
+    value: Value,
 ) -> Result<Result<Values, Misfit>, AllocError>
     requires plain { IsPlain kind }
-    requires some { as_null (view value.now) ≡ None }
-    ensures { IfOk result (Fits kind formats (view value.now)) }
+    requires some { as_null (view value) ≡ None }
+    ensures { IfOk result (Fits kind formats (view value)) }
 {
-    let values = values_of(alloc, kind, value)?;
+    let values = values_of(alloc, kind, &value);
+    mem::drop(value);
+    let values = values?;
     if values.is_empty() {
         return Ok(Err(Misfit::WrongType));
     }
@@ -167,12 +170,14 @@ fn fitting_plain(
 fn fitting_date(
     alloc: Global,
     formats: Formats,
-    value: &Value,
+    value: Value,
 ) -> Result<Result<Values, Misfit>, AllocError>
-    requires { as_null (view value.now) ≡ None }
-    ensures { IfOk result (Fits Kind.Datetime formats (view value.now)) }
+    requires { as_null (view value) ≡ None }
+    ensures { IfOk result (Fits Kind.Datetime formats (view value)) }
 {
-    match fitting_second(formats, value) {
+    let second = fitting_second(formats, &value);
+    mem::drop(value);
+    match second {
         Ok(second) => Ok(Ok(one_value(alloc, DocValue::Datetime(second))?)),
         Err(misfit) => Ok(Err(misfit)),
     }

@@ -1,11 +1,11 @@
-ghost use Rattle.std.specs.Prelude.{◌≡◌, ◌<◌, ◌≤◌, ◌++◌, ◌∷◌, [], length, slice_get, IfOk, IsTrue, true, false, Some, None, is_some};
+ghost use Rattle.std.specs.Prelude.{◌≡◌, ◌<◌, ◌≤◌, ◌++◌, ◌∷◌, [], length, slice_get, IfOk, OnOk, IsTrue, true, false, Some, None, is_some};
 ghost use Rattle.doc_value.specs.Documents as words;
 ghost use Rattle.serde_json.specs.Data.{depth, members_depth};
 ghost use Rattle.serde_json.specs.View.{view, members_view};
 ghost use Rattle.doc_mapping.specs.Faults as spec;
 ghost use Rattle.serde_json.specs.Find.{as_object, as_null};
 ghost use Rattle.doc_mapping.specs.declared.reject.Reject.TheVariants.{WrongType};
-ghost use Rattle.doc_mapping.specs.Walk.{AreFlat, AreRegular, GatherAll, GatherInner, Gathers, HasEntered, RiseFrom};
+ghost use Rattle.doc_mapping.specs.Walk.{AreFlat, AreRegular, Enters, GatherAll, GatherInner, Gathers, HasEntered, RiseFrom};
 ghost use Rattle.doc_mapping.specs.Held.{values_at};
 
 use crate::accepting::MAX_LEVELS;
@@ -16,7 +16,7 @@ use crate::misfit::{fitting_values, single_value};
 use crate::parts::{Parts, next_number, put};
 use crate::reject::Reject;
 use crate::taking::into_members;
-use doc_value::Text;
+use doc_value::{Text, Value as DocValue};
 use index_config::{IndexConfig, Mode};
 use serde_json::{Map, Value};
 use std::alloc::{AllocError, Global};
@@ -246,12 +246,24 @@ fn field_fault(
     let kind = config.schema.fields.at(number).kind;
     let formats = formats_at(&config.formats, number);
     match single_value(kind, formats, value) {
-        Ok(single) => {
-            put(parts, number, one_value(alloc, single)?)?;
-            Ok(None)
-        }
+        Ok(single) => put_single(alloc, number, single, parts),
         Err(other) => kind_fault(alloc, config, number, path, other, parts),
     }
+}
+
+/// Puts the one value of a field, which is no fault.
+#[inline(always)]
+fn put_single(
+    alloc: Global,
+    number: usize,
+    single: DocValue,
+    parts: &mut Parts,
+) -> Result<Option<Reject>, AllocError>
+    ensures none { IfOk result (λ fault. fault ≡ None) }
+    ensures enters { OnOk result (RiseFrom 0 parts.old.items → values_at parts.old.items number ≡ [] → Enters number (single ∷ []) parts.old.items parts.new.items) }
+{
+    put(parts, number, one_value(alloc, single)?)?;
+    Ok(None)
 }
 
 /// The same of a value of any kind.
