@@ -1,5 +1,5 @@
 -- Reading numbers that stand one behind the other.
-use Rattle.std.proofs.Common.{◌≡◌, ℕ, ◌+◌, ◌<◌, List, [], ◌∷◌, ◌++◌, length, drop, zero, suc, ◌^◌, ◌≤◌, append_assoc, Result, Ok, refl, sym, suc-add, ◌∙◌, ap, arith, inl, inr}
+use Rattle.std.proofs.Common.{◌≡◌, ℕ, ◌+◌, ◌<◌, List, [], ◌∷◌, ◌++◌, length, drop, zero, suc, ◌^◌, ◌≤◌, append_assoc, Result, Ok, Err, refl, sym, suc-add, ◌∙◌, ap, arith, inl, inr}
 use Rattle.std.proofs.lemmas.Bool.{cases_lt}
 use Rattle.std.proofs.lemmas.List.{drop-drop, drop_at, drop_all}
 use Rattle.std.specs.List.{AllByRecursion}
@@ -30,6 +30,13 @@ pub number_read : (bytes rest : List ℕ) (at n got next : ℕ) → drop at byte
 number_read bytes rest at n got next e is =
     let same = ok_is (got, next) (n, at + length (varint n)) is in
     (ap (λ (x : ℕ × ℕ). x.0) same, ap (λ (x : ℕ × ℕ). drop x.1 bytes) same ∙ drop_behind bytes (varint n) rest at e)
+
+abbrev failed : FieldError → Result (ℕ × ℕ) FieldError
+failed f = Err f
+
+-- what was read is no fault
+pub not_failed : (f : FieldError) (x : ℕ × ℕ) → failed f ≡ done x → ⊥
+not_failed f x e = cc
 
 -- the first of the numbers from a place on
 pub numbers_front : (bytes rest : List ℕ) (at : ℕ) (ns : List ℕ) (i : ℕ) → i < length ns → drop at bytes ≡ varints (drop i ns) ++ rest → AllByRecursion (λ n. n < 2 ^ 64) ns

@@ -1,7 +1,7 @@
 -- Documents and positions put one behind the other.
 use Rattle.std.proofs.Common.{◌≡◌, ℕ, ◌-◌, ◌^◌, ◌<◌, ◌≤◌, Bool, List, [], ◌∷◌, ◌++◌, zero, suc, ◌+◌, length, take, drop, get_or, refl, sym, ◌∙◌, ap, subst, arith, append_assoc, length-append, length-drop, suc-add}
 use Rattle.std.specs.List.{AllByRecursion}
-use Rattle.std.proofs.lemmas.List.{append-nil, take-append-drop, take_all, take-map, drop-map, length-map}
+use Rattle.std.proofs.lemmas.List.{append-nil, take-append-drop, take_all, drop_all, take-map, drop-map, length-map}
 use Rattle.byte_fields.specs.Spelling.{varint}
 use Rattle.term_postings.specs.Postings.{gaps, varints, count_bytes, document_bytes, position_bytes, last_document, head_bytes, head_list, later_blocks, AreRising, documents, Fits, MayHave, list_bytes}
 use Rattle.term_postings.specs.Rows.{lent_one, lent, AppendsList}
@@ -99,9 +99,22 @@ one_document counted start places_start out places next next_places before last 
       up = omega (arith, q.up, q.above.0);
     }
 
-pub all_documents : (counted : Bool) (start places_start out places : List ℕ) (before last : ℕ) (rest all : List Posting) → rest ≡ [] → PutsDocuments counted start places_start out places before last rest all
-    → PutsDocuments counted start places_start out places before last [] all
-all_documents counted start places_start out places before last rest all is h = subst (λ (l : List Posting). PutsDocuments counted start places_start out places before last l all) is h
+-- all documents were put
+pub record PutsAll (counted : Bool) (start places_start out places : List ℕ) (before last : ℕ) (all : List Posting) : Type 0 where
+  pub blocks : out ≡ start ++ document_bytes counted before all
+  pub places_are : places ≡ places_start ++ position_bytes all
+  pub fits : AllByRecursion (Fits counted) all
+  pub last_is : last ≡ last_document before all
+  pub up : before ≤ last
+
+pub all_documents : (counted : Bool) (start places_start out places : List ℕ) (before last i : ℕ) (all : List Posting) → length all ≤ i
+    → PutsDocuments counted start places_start out places before last (drop i all) all → PutsAll counted start places_start out places before last all
+all_documents counted start places_start out places before last i all whole h =
+    let q : PutsDocuments counted start places_start out places before last [] all = subst (λ (l : List Posting). PutsDocuments counted start places_start out places before last l all) (drop_all i all whole) h in
+    record { blocks = sym (append-nil out) ∙ q.blocks; places_are = sym (append-nil places) ∙ q.places_are; fits = q.fits tt; last_is = q.last_is; up = q.up }
+
+pub length_behind : (all front behind : List ℕ) → all ≡ front ++ behind → length front ≤ length all
+length_behind all front behind is = omega (arith, ap (λ (l : List ℕ). length l) is, length-append front behind)
 
 -- some of the blocks were put, and the rest completes them
 pub record PutsBlocks (counted : Bool) (start places_start heads blocks places : List ℕ) (before : ℕ) (rest all : List Posting) : Type 0 where

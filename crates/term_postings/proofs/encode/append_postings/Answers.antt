@@ -1,10 +1,10 @@
-use Rattle.std.proofs.Common.{◌≡◌, ◌-◌, ◌<◌, ◌≤◌, ◌++◌, ◌∙◌, List, ℕ, ap, sym, subst, take, drop, length, refl, arith, length-drop, rules}
+use Rattle.std.proofs.Common.{◌≡◌, ◌-◌, ◌+◌, ◌<◌, ◌≤◌, ◌++◌, ◌∙◌, List, ℕ, ap, sym, subst, take, drop, length, refl, arith, length-drop, rules}
 use Rattle.std.specs.List.{AllByRecursion}
 use Rattle.std.proofs.lemmas.List.{drop-drop}
 use Rattle.term_postings.specs.Postings.{AreRising, Fits, documents, document_bytes, position_bytes, last_document}
 use Rattle.term_postings.specs.Rows.{lent}
 use Rattle.term_postings.specs.declared.list.Posting.{Posting}
-use Rattle.term_postings.proofs.Puts.{PutsBlocks, first_block, one_block, last_block, lent-length, block_front, rest_front}
+use Rattle.term_postings.proofs.Puts.{PutsBlocks, first_block, one_block, last_block, length_behind, lent-length, block_front, rest_front}
 use Rattle.term_postings.proofs.encode.append_postings.Goals as goal
 
 pub put_documents-requires-clause-rising : goal.put_documents-requires-clause-rising
@@ -62,3 +62,15 @@ returns c =
     let fits = subst (λ (l : List Posting). AllByRecursion (Fits c.args.positions) l) rest c.in_ok-put_documents.ensures.fits in
     last_block c.args.positions c.args.postings.now.items c.args.places.now.items c.loop-from.postings.items c.loop-from.blocks.items c.loop-from.places.items c.put_documents-2.new.blocks.items c.put_documents-2.new.places.items
     c.loop-from.before (drop c.loop-from.from (lent c.args.rows.now)) (lent c.args.rows.now) few c.loop-from.invariant.1 c.requires.documents now places fits (search rules) (search rules)
+
+pub overflow_sub-len : goal.overflow_sub-len
+overflow_sub-len c =
+    let block = lent (take (c.loop-from.from + 128 - c.loop-from.from) (drop c.loop-from.from c.args.rows.now)) in
+    let up = length_behind c.put_documents.new.blocks.items c.loop-from.blocks.items (document_bytes c.args.positions c.loop-from.before block) c.in_ok-last.ensures.blocks in
+    omega (arith, up)
+
+pub overflow_sub-places_len : goal.overflow_sub-places_len
+overflow_sub-places_len c =
+    let block = lent (take (c.loop-from.from + 128 - c.loop-from.from) (drop c.loop-from.from c.args.rows.now)) in
+    let up = length_behind c.put_documents.new.places.items c.loop-from.places.items (position_bytes block) c.in_ok-last.ensures.places in
+    omega (arith, up)

@@ -2,15 +2,14 @@ use Rattle.std.proofs.Common.{◌+◌, ◌++◌, ◌∙◌, drop, length, refl, 
 use Rattle.std.proofs.lemmas.Bool.{le-ltb}
 use Rattle.term_postings.specs.Postings.{varints}
 use Rattle.term_postings.specs.Reading.{numbers_behind}
-use Rattle.term_postings.proofs.Numbers.{number_read, numbers_front}
+use Rattle.term_postings.proofs.Numbers.{not_failed, number_read, numbers_front}
 use Rattle.term_postings.proofs.Exact.{numbers_done, numbers_next}
 use Rattle.term_postings.proofs.moves.behind_numbers.Goals as goal
 
 pub returns-in_err-at-clause-only : goal.returns-in_err-at-clause-only
 returns-in_err-at-clause-only c numbers rest count fits within e =
     let f = numbers_front c.args.bytes.now rest c.loop-number.at numbers c.loop-number._number (omega arith) (c.loop-number.invariant.1 numbers rest count fits e) fits in
-    let wrong = c.in_err-at.ensures.only f.0 (varints (drop (c.loop-number._number + 1) numbers) ++ rest) f.1 f.2 in
-    absurd cc
+    absurd (not_failed _ _ (c.in_err-at.ensures.only f.0 (varints (drop (c.loop-number._number + 1) numbers) ++ rest) f.1 f.2))
 
 pub loop-number-preserved : goal.loop-number-preserved
 loop-number-preserved c = (

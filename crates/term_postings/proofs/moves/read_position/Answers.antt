@@ -1,7 +1,7 @@
 use Rattle.std.proofs.Common.{◌≡◌, ◌-◌, ◌+◌, ◌<◌, ◌^◌, ◌++◌, refl, arith}
 use Rattle.byte_fields.specs.Spelling.{varint}
 use Rattle.term_postings.specs.Postings.{varints, gaps, position_bytes}
-use Rattle.term_postings.proofs.Numbers.{number_read}
+use Rattle.term_postings.proofs.Numbers.{not_failed, number_read}
 use Rattle.term_postings.proofs.Passes.{sum_refused}
 use Rattle.term_postings.proofs.Walks.{position_parts, place_within, next_place}
 use Rattle.term_postings.proofs.moves.read_position.Goals as goal
@@ -16,8 +16,7 @@ returns-in_err-gap-clause-only c n left after h =
     let rest = varints (gaps n left) ++ (position_bytes after ++ h.behind) in
     let at = c.in_ok-at.ensures.only h.skipped (varint (n - c.args.place.last) ++ rest) h.skipped_are h.skipped_fit
     (place_within c.args.positions.now c.args.place n left after h) (position_parts c.args.positions.now c.args.place n left after h) in
-    let wrong = c.in_err-gap.ensures.only (n - c.args.place.last) rest (omega (arith, h.fits.0)) at in
-    absurd cc
+    absurd (not_failed _ _ (c.in_err-gap.ensures.only (n - c.args.place.last) rest (omega (arith, h.fits.0)) at))
 
 pub returns-in_default-clause-only : goal.returns-in_default-clause-only
 returns-in_default-clause-only c n left after h =

@@ -1,5 +1,6 @@
 use Rattle.std.proofs.Common.{arith}
 use Rattle.std.proofs.Common.{List, ℕ, Option, ap, sym, ◌∙◌}
+use Rattle.std.proofs.lemmas.Bool.{false≢true}
 use Rattle.std.proofs.lemmas.List.{take_at}
 use Rattle.term_postings.specs.Reading.{last_of}
 use Rattle.term_postings.proofs.Many.{many_given}
@@ -7,14 +8,12 @@ use Rattle.term_postings.proofs.cursor.Cursor.next_block.Goals as goal
 
 pub returns-in_err-begin_block-clause-only : goal.returns-in_err-begin_block-clause-only
 returns-in_err-begin_block-clause-only c told after left s =
-    let wrong = (c.in_err-begin_block.ensures.only told after left s).0 in
-    absurd cc
+    absurd (false≢true (c.in_err-begin_block.ensures.only told after left s).0)
 
 pub returns-in_err-pass_all-clause-only : goal.returns-in_err-pass_all-clause-only
 returns-in_err-pass_all-clause-only c told after left s =
     let begun = (c.in_ok-begin_block.ensures.only told after left s).1 in
-    let wrong = (c.in_err-pass_all.ensures.only told after begun.0 begun.1).0 in
-    absurd cc
+    absurd (false≢true (c.in_err-pass_all.ensures.only told after begun.0 begun.1).0)
 
 pub returns-clause-only : goal.returns-clause-only
 returns-clause-only c told after left s =

@@ -1,7 +1,7 @@
 use Rattle.std.proofs.Common.{◌≡◌, ◌++◌, ◌-◌, ◌+◌, ℕ, Ok, Result, ap, refl, arith}
 use Rattle.byte_fields.specs.declared.corrupt.Corrupt.{Corrupt}
 use Rattle.term_postings.specs.Postings.{count_bytes, document_bytes}
-use Rattle.term_postings.proofs.Numbers.{number_read}
+use Rattle.term_postings.proofs.Numbers.{not_failed, number_read}
 use Rattle.term_postings.proofs.Passes.{has_front, pass_stands, pass_place, block_positions}
 use Rattle.term_postings.proofs.cursor.Cursor.pass.Goals as goal
 
@@ -12,8 +12,7 @@ pub returns-in_err-gap-clause-only : goal.returns-in_err-gap-clause-only
 returns-in_err-gap-clause-only c told passed after p left s =
     let me = c.args.self.now in
     let f = has_front me passed after p s.stands in
-    let wrong = c.in_err-gap.ensures.only (p.document - me.before) (count_bytes me.counted p.positions ++ (document_bytes me.counted p.document after ++ s.stands.behind_block)) (omega (arith, f.fits.document)) f.here in
-    absurd cc
+    absurd (not_failed _ _ (c.in_err-gap.ensures.only (p.document - me.before) (count_bytes me.counted p.positions ++ (document_bytes me.counted p.document after ++ s.stands.behind_block)) (omega (arith, f.fits.document)) f.here))
 
 pub returns-in_err-count-clause-only : goal.returns-in_err-count-clause-only
 returns-in_err-count-clause-only c told passed after p left s =

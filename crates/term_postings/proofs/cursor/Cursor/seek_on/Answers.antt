@@ -1,5 +1,6 @@
 use Rattle.std.proofs.Common.{◌≡◌, ◌∙◌, refl, ap, sym, subst, Option, Some, None, Result, Ok, Err, ℕ, List, drop, arith, rules}
 use Rattle.byte_fields.specs.declared.corrupt.Corrupt.{Corrupt}
+use Rattle.std.proofs.lemmas.Bool.{false≢true}
 use Rattle.term_postings.specs.Cursors.{StandsBefore, StandsAt, from_document, first_document, first_positions}
 use Rattle.term_postings.specs.Reading.{walk, Passes}
 use Rattle.term_postings.specs.declared.list.Posting.{Posting}
@@ -12,8 +13,7 @@ given o = Ok o
 
 pub returns-in_err-skip_blocks-clause-only : goal.returns-in_err-skip_blocks-clause-only
 returns-in_err-skip_blocks-clause-only c told after left s =
-    let wrong = (c.in_err-skip_blocks.ensures.only told after left s).0 in
-    absurd cc
+    absurd (false≢true (c.in_err-skip_blocks.ensures.only told after left s).0)
 
 pub loop-self-init : goal.loop-self-init
 loop-self-init c =

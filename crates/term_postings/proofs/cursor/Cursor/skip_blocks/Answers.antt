@@ -1,4 +1,5 @@
 use Rattle.std.proofs.Common.{◌≡◌, ◌∙◌, ◌<◌, ◌++◌, [], arith, refl, drop, take, Ok, Err, rules}
+use Rattle.std.proofs.lemmas.Bool.{false≢true}
 use Rattle.term_postings.specs.Reading.{walk, LeavesBlocks}
 use Rattle.term_postings.specs.Postings.{last_document}
 use Rattle.term_postings.proofs.Passes.{head_of, head_refused, leaves}
@@ -40,8 +41,7 @@ returns-in_err-leave_block-clause-only c told after left s =
     let at = f.2 in
     let more = more_than_block told me at.0 f.0 f.1 at.1 (omega arith) in
     let head = head_of me at.0 f.0 c.in_ok-head.head at.1.stands more c.in_ok-head.ensures.only in
-    let wrong = (c.in_err-leave_block.ensures.only told at.0 f.0 f.1 at.1.stands.behind_heads at.1 head).0 in
-    absurd cc
+    absurd (false≢true (c.in_err-leave_block.ensures.only told at.0 f.0 f.1 at.1.stands.behind_heads at.1 head).0)
 
 pub returns-after-loop-document-clause-only : goal.returns-after-loop-document-clause-only
 returns-after-loop-document-clause-only c told after left s = (refl, c.loop-document.invariant.1 told after left s)
