@@ -1,5 +1,5 @@
 -- Fields that stand one behind the other.
-use Rattle.std.proofs.Common.{◌≡◌, ℕ, ◌+◌, ◌≤◌, List, ◌∷◌, ◌++◌, length, take, drop, Result, Ok, ◌-◌, refl, sym, ◌∙◌, ap, arith, append_assoc, length-append, length-drop}
+use Rattle.std.proofs.Common.{◌≡◌, ℕ, ◌+◌, ◌≤◌, List, ◌∷◌, ◌++◌, length, take, drop, Result, Ok, Err, ◌-◌, refl, sym, ◌∙◌, ap, arith, append_assoc, length-append, length-drop}
 use Rattle.std.proofs.lemmas.List.{drop-drop, drop_at, take_at}
 use Rattle.byte_fields.specs.Spelling.{byte_string}
 use Rattle.byte_fields.specs.declared.field_error.FieldError.{FieldError}
@@ -15,6 +15,13 @@ done x = Ok x
 ok_is : (x y : ℕ × ℕ) → done x ≡ done y → x ≡ y
 ok_is x y e = cc
 
+abbrev failed : FieldError → Result (ℕ × ℕ) FieldError
+failed f = Err f
+
+-- what was read is no fault
+pub not_failed : (f : FieldError) (x : ℕ × ℕ) → failed f ≡ done x → ⊥
+not_failed f x e = cc
+
 pub number_read : (bytes piece rest : List ℕ) (at n got next size : ℕ) → size ≡ length piece → drop at bytes ≡ piece ++ rest → done (got, next) ≡ done (n, at + size) → (got ≡ n) × (drop next bytes ≡ rest)
 number_read bytes piece rest at n got next size size_is e is =
     let same = ok_is (got, next) (n, at + size) is in
@@ -25,6 +32,12 @@ got_bytes x = Ok x
 
 bytes_are : (x y : List ℕ × ℕ) → got_bytes x ≡ got_bytes y → x ≡ y
 bytes_are x y e = cc
+
+abbrev failed_bytes : FieldError → Result (List ℕ × ℕ) FieldError
+failed_bytes f = Err f
+
+pub bytes_not_failed : (x : List ℕ × ℕ) (f : FieldError) → got_bytes x ≡ failed_bytes f → ⊥
+bytes_not_failed x f e = cc
 
 pub bytes_read : (bytes rest text got : List ℕ) (at next : ℕ) → drop at bytes ≡ byte_string text ++ rest → got_bytes (text, at + length (byte_string text)) ≡ got_bytes (got, next)
     → (got ≡ text) × (drop next bytes ≡ rest)

@@ -1,5 +1,5 @@
 -- Entries by their documents, and the least and the greatest number.
-use Rattle.std.proofs.Common.{◌≡◌, ◌≢◌, ℕ, zero, suc, ◌+◌, ◌-◌, ◌*◌, ◌^◌, ◌<◌, ◌≤◌, List, [], ◌∷◌, ◌++◌, length, drop, map, get_or, Some, None, max, refl, sym, ◌∙◌, ap, subst, arith, suc-add, inl, inr, length-append}
+use Rattle.std.proofs.Common.{◌≡◌, ◌≢◌, ℕ, zero, suc, ◌+◌, ◌-◌, ◌*◌, ◌^◌, ◌<◌, ◌≤◌, List, [], ◌∷◌, ◌++◌, length, drop, map, get_or, Some, None, min, max, refl, sym, ◌∙◌, ap, subst, arith, suc-add, inl, inr, length-append, append_assoc}
 use Rattle.std.specs.Prelude.{slice_get}
 use Rattle.std.specs.List.{AllByRecursion}
 use Rattle.std.proofs.lemmas.Bool.{cases_lt, lt-ltb, le-ltb, ne_eqb}
@@ -69,7 +69,27 @@ greatest_end [] (suc i) greatest whole le h = omega arith
 greatest_end (x ∷ xs) zero greatest whole le h = absurd (omega arith)
 greatest_end (x ∷ xs) (suc i) greatest whole le h = greatest_end xs i greatest whole (omega arith) h
 
+-- the least so far, and those to come
+pub least_next : (es : List Entry) (i least whole next : ℕ) (d : Entry) → i < length es → least_of (least ∷ numbers (drop i es)) ≡ whole → next ≡ min (get_or es i d).number least
+    → least_of (next ∷ numbers (drop (i + 1) es)) ≡ whole
+least_next [] i least whole next d lt h is = absurd (omega arith)
+least_next (x ∷ []) zero least whole next d lt h is = omega (arith, h, is)
+least_next (x ∷ y ∷ ys) zero least whole next d lt h is = omega (arith, h, is)
+least_next (x ∷ xs) (suc i) least whole next d lt h is = rw suc-add (least_next xs i least whole next d (omega arith) h is)
+
 -- ---- documents
+
+document_next : (es : List Entry) (i : ℕ) (d : Entry) → i < length es → documents_bytes (drop i es) ≡ four (get_or es i d).document ++ documents_bytes (drop (i + 1) es)
+document_next [] i d lt = absurd (omega arith)
+document_next (x ∷ xs) zero d lt = refl
+document_next (x ∷ xs) (suc i) d lt = rw suc-add (document_next xs i d (omega arith))
+
+-- some of the documents were put, and the rest completes them
+pub document_put : (out next whole : List ℕ) (es : List Entry) (i : ℕ) (d : Entry) → i < length es → out ++ documents_bytes (drop i es) ≡ whole → next ≡ out ++ four (get_or es i d).document
+    → next ++ documents_bytes (drop (i + 1) es) ≡ whole
+document_put out next whole es i d lt h is =
+    ap (λ (l : List ℕ). l ++ documents_bytes (drop (i + 1) es)) is ∙ append_assoc out (four (get_or es i d).document) (documents_bytes (drop (i + 1) es))
+    ∙ ap (λ (l : List ℕ). out ++ l) (sym (document_next es i d lt)) ∙ h
 
 pub count_one : (d : ℕ) (x : Entry) (xs : List Entry) → x.document < d → count_below d (x ∷ xs) ≡ 1 + count_below d xs
 count_one d x xs lt = rw (lt-ltb x.document d lt) refl

@@ -1,7 +1,7 @@
 use Rattle.std.proofs.Common.{◌+◌, ◌-◌, ◌++◌, ◌∙◌, drop, sym, arith}
 use Rattle.std.specs.List.{flat_map}
 use Rattle.byte_fields.specs.Spelling.{byte_string}
-use Rattle.fast_fields.proofs.Pieces.{bytes_read}
+use Rattle.fast_fields.proofs.Pieces.{bytes_not_failed, bytes_read}
 use Rattle.fast_fields.proofs.SpelledTexts.{text_front}
 use Rattle.fast_fields.proofs.Readings.{texts_more, texts_fault, texts_none}
 use Rattle.fast_fields.proofs.column.behind_texts.Goals as goal
@@ -9,8 +9,7 @@ use Rattle.fast_fields.proofs.column.behind_texts.Goals as goal
 pub returns-in_err-at-clause-only : goal.returns-in_err-at-clause-only
 returns-in_err-at-clause-only c texts rest utf8 count e =
     let f = text_front c.args.bytes.now rest c.loop-number.at texts c.loop-number._number (omega arith) (c.loop-number.invariant.2 texts rest utf8 count e) utf8 in
-    let wrong = c.in_err-at.ensures.only f.0 (flat_map byte_string (drop (c.loop-number._number + 1) texts) ++ rest) f.2 f.3 in
-    absurd cc
+    absurd (bytes_not_failed _ _ (c.in_err-at.ensures.only f.0 (flat_map byte_string (drop (c.loop-number._number + 1) texts) ++ rest) f.2 f.3))
 
 pub loop-number-preserved : goal.loop-number-preserved
 loop-number-preserved c = (

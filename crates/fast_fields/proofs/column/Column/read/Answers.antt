@@ -4,10 +4,22 @@ use Rattle.byte_fields.specs.Spelling.{varint, eight}
 use Rattle.fast_fields.specs.Packed.{IsPacked, IsWidth}
 use Rattle.fast_fields.specs.Columns.{numbers, least_of, greatest_of, has_texts, texts_bytes, documents_bytes}
 use Rattle.fast_fields.specs.declared.entries.Entry.{Entry}
-use Rattle.fast_fields.proofs.Pieces.{number_read, column_parts, end_of}
+use Rattle.fast_fields.proofs.Pieces.{not_failed, number_read, column_parts, end_of}
 use Rattle.fast_fields.proofs.Bits.{width_within}
 use Rattle.fast_fields.proofs.Places.{length-documents, least_small, greatest_small}
 use Rattle.fast_fields.proofs.column.Column.read.Goals as goal
+
+pub returns-in_err-count-clause-only : goal.returns-in_err-count-clause-only
+returns-in_err-count-clause-only c column rest rows is e =
+    let parts = column_parts c.args.bytes.now column rest (varint (length is.entries)) (texts_bytes (has_texts c.args.field.now.kind) is.texts) (documents_bytes is.entries) (eight (least_of (numbers is.entries))) is.spelled.packed is.spelled.width e is.spelled.bytes_are in
+    absurd (not_failed _ _ (c.in_err-count.ensures.only (length is.entries) (texts_bytes (has_texts c.args.field.now.kind) is.texts ++ (documents_bytes is.entries ++ (eight (least_of (numbers is.entries)) ++ (is.spelled.width ∷ (is.spelled.packed ++ rest))))) (omega (arith, is.fits.few)) parts))
+
+pub returns-then-count-from-clause-only : goal.returns-then-count-from-clause-only
+returns-then-count-from-clause-only c column rest rows is e =
+    let parts = column_parts c.args.bytes.now column rest (varint (length is.entries)) (texts_bytes (has_texts c.args.field.now.kind) is.texts) (documents_bytes is.entries) (eight (least_of (numbers is.entries))) is.spelled.packed is.spelled.width e is.spelled.bytes_are in
+    let a = number_read c.args.bytes.now (varint (length is.entries)) (texts_bytes (has_texts c.args.field.now.kind) is.texts ++ (documents_bytes is.entries ++ (eight (least_of (numbers is.entries)) ++ (is.spelled.width ∷ (is.spelled.packed ++ rest))))) 0 (length is.entries) c.in_ok-count.count c.in_ok-count.behind_count (length (varint (length is.entries))) refl parts
+    (c.in_ok-count.ensures.only (length is.entries) (texts_bytes (has_texts c.args.field.now.kind) is.texts ++ (documents_bytes is.entries ++ (eight (least_of (numbers is.entries)) ++ (is.spelled.width ∷ (is.spelled.packed ++ rest))))) (omega (arith, is.fits.few)) parts) in
+    absurd (omega (arith, a.0, is.fits.few))
 
 pub returns-in_err-texts-clause-only : goal.returns-in_err-texts-clause-only
 returns-in_err-texts-clause-only c column rest rows is e =
@@ -40,8 +52,7 @@ returns-in_err-least-clause-only c column rest rows is e =
     let size : length (documents_bytes is.entries) ≡ 4 * c.in_ok-count.count = length-documents is.entries ∙ ap (λ (k : ℕ). 4 * k) (sym a.0) in
     let d = c.in_ok-documents.ensures.only (documents_bytes is.entries) (eight (least_of (numbers is.entries)) ++ (is.spelled.width ∷ (is.spelled.packed ++ rest))) size b.2 in
     let least = least_small is.entries is.fits.small_numbers in
-    let wrong = c.in_err-least.ensures.only (least_of (numbers is.entries)) (is.spelled.width ∷ (is.spelled.packed ++ rest)) least d.1 in
-    absurd cc
+    absurd (not_failed _ _ (c.in_err-least.ensures.only (least_of (numbers is.entries)) (is.spelled.width ∷ (is.spelled.packed ++ rest)) least d.1))
 
 pub returns-in_err-width-clause-only : goal.returns-in_err-width-clause-only
 returns-in_err-width-clause-only c column rest rows is e =

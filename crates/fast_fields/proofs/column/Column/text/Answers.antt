@@ -3,7 +3,7 @@ use Rattle.std.specs.Prelude.{slice_get}
 use Rattle.std.specs.List.{flat_map}
 use Rattle.std.proofs.lemmas.List.{append-nil}
 use Rattle.byte_fields.specs.Spelling.{byte_string}
-use Rattle.fast_fields.proofs.Pieces.{bytes_read}
+use Rattle.fast_fields.proofs.Pieces.{bytes_not_failed, bytes_read}
 use Rattle.fast_fields.proofs.SpelledTexts.{text_front, lends_text}
 use Rattle.fast_fields.proofs.Areas.{area_passed, area_bytes, area_texts}
 use Rattle.fast_fields.proofs.Looked.{text_passed, text_failed, text_last, text_past, text_got, text_lost}
@@ -13,8 +13,7 @@ pub returns-in-Err-clause-only : goal.returns-in-Err-clause-only
 returns-in-Err-clause-only c texts es h =
     let here = c.loop-number.invariant.1 texts es h ∙ sym (append-nil (flat_map byte_string (drop c.loop-number._number texts))) in
     let f = text_front c.args.self.now.texts.now [] c.loop-number.at texts c.loop-number._number (omega (arith, h.text_count_is)) here h.utf8 in
-    let wrong = c.in-Err.ensures.only f.0 (flat_map byte_string (drop (c.loop-number._number + 1) texts) ++ []) f.3 in
-    absurd cc
+    absurd (bytes_not_failed _ _ (c.in-Err.ensures.only f.0 (flat_map byte_string (drop (c.loop-number._number + 1) texts) ++ []) f.3))
 
 pub loop-number-preserved : goal.loop-number-preserved
 loop-number-preserved c = (
@@ -44,8 +43,7 @@ pub returns-in-Err-take_text-clause-only : goal.returns-in-Err-take_text-clause-
 returns-in-Err-take_text-clause-only c texts es h =
     let here = c.loop-number.invariant.1 texts es h ∙ sym (append-nil (flat_map byte_string (drop c.loop-number._number texts))) in
     let f = text_front c.args.self.now.texts.now [] c.loop-number.at texts c.loop-number._number (omega (arith, h.text_count_is)) here h.utf8 in
-    let wrong = c.in-Err-take_text.ensures.only f.0 (flat_map byte_string (drop (c.loop-number._number + 1) texts) ++ []) f.2 f.3 in
-    absurd cc
+    absurd (bytes_not_failed _ _ (c.in-Err-take_text.ensures.only f.0 (flat_map byte_string (drop (c.loop-number._number + 1) texts) ++ []) f.2 f.3))
 
 pub returns-then-ordinal-self-clause-exact : goal.returns-then-ordinal-self-clause-exact
 returns-then-ordinal-self-clause-exact c = text_past c.args.self.now c.args.ordinal (omega arith)
