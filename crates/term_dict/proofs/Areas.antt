@@ -1,5 +1,5 @@
 -- Terms in bytes, one behind the other.
-use Rattle.std.proofs.Common.{◌≡◌, ℕ, ◌+◌, ◌<◌, List, [], ◌∷◌, ◌++◌, length, drop, Result, Ok, refl, sym, ◌∙◌, ap, arith, inl, inr, append_assoc, length-append}
+use Rattle.std.proofs.Common.{◌≡◌, ℕ, ◌+◌, ◌<◌, List, [], ◌∷◌, ◌++◌, length, drop, Result, Ok, Err, refl, sym, ◌∙◌, ap, arith, inl, inr, append_assoc, length-append}
 use Rattle.std.proofs.lemmas.Bool.{cases_lt}
 use Rattle.std.proofs.lemmas.List.{drop-drop, drop_at}
 use Rattle.byte_fields.specs.Spelling.{varint, byte_string}
@@ -28,6 +28,13 @@ done x = Ok x
 
 ok_is : (x y : ℕ × ℕ) → done x ≡ done y → x ≡ y
 ok_is x y e = cc
+
+abbrev failed : FieldError → Result (ℕ × ℕ) FieldError
+failed f = Err f
+
+-- what was read is no fault
+pub not_failed : (f : FieldError) (x : ℕ × ℕ) → failed f ≡ done x → ⊥
+not_failed f x e = cc
 
 pub number_read : (bytes rest : List ℕ) (at n got next : ℕ) → drop at bytes ≡ varint n ++ rest → done (got, next) ≡ done (n, at + length (varint n))
     → (got ≡ n) × (drop next bytes ≡ rest)
