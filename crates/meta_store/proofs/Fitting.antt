@@ -77,6 +77,11 @@ under bound rows h = recursion_from_All (IsUnder bound) rows h
 above : (bound : ℕ) (rows : List Row) → AllOf (IsUnder bound) rows → IsAbove rows bound
 above bound rows h = All-from_recursion (IsUnder bound) rows h
 
+pub above_push : (low bound : ℕ) (rows : List Row) (row : Row) → low ≤ bound → row.number < bound → IsAbove rows low → IsAbove (rows ++ row ∷ []) bound
+above_push low bound rows row le new h =
+    above bound (rows ++ row ∷ [])
+    (AllOf-append (IsUnder bound) rows (row ∷ []) (under bound rows (λ k d lt. let was = h k d lt in omega arith)) (new, tt))
+
 pub above_change : (bound n : ℕ) (f : Row → Row) (rows : List Row) → ((row : Row) → (f row).number ≡ row.number) → IsAbove rows bound → IsAbove (change n f rows) bound
 above_change bound n f rows keeps h =
     above bound (change n f rows) (AllOf-change (IsUnder bound) rows n f (λ row low. let same = keeps row in omega arith) (under bound rows h))

@@ -4,6 +4,7 @@ pub mod Covering
 pub mod Distinct
 pub mod Moves
 pub mod Retiring
+pub mod Steps
 pub mod Joined
 pub mod Sound
 pub mod Seen

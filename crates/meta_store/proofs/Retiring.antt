@@ -23,6 +23,9 @@ next_of xs i x lt is =
     let one : suc i ≡ i + 1 = omega arith in
     subst (λ y. drop i xs ≡ y ∷ drop (i + 1) xs) (sym is) (subst (λ j. drop i xs ≡ get_or xs i x ∷ drop j xs) one (drop-cons xs i x lt))
 
+pub same_head : (whole more : List Part) (a b : Part) → whole ≡ a ∷ more → whole ≡ b ∷ more → a ≡ b
+same_head whole more a b e f = let g : a ∷ more ≡ b ∷ more = sym e ∙ f in cc g
+
 -- the kept range at this place begins where the other ends
 pub begins_there : (r s t : Part) (ranges : List Part) (i : ℕ) → i < length ranges → s ≡ get_or ranges i s → t ≡ get_or ranges i t →
     ((more : List Part) → with_range r (s ∷ more) ≡ record s { from = r.from } ∷ more) →
@@ -33,9 +36,6 @@ begins_there r s t ranges i lt is_s is_t joins =
     set_parts ranges i (record t { from = r.from }) lt
     ∙ (ap (λ x. take i ranges ++ record x { from = r.from } ∷ drop (i + 1) ranges) (sym same)
     ∙ (ap (λ l. take i ranges ++ l) (sym (joins (drop (i + 1) ranges))) ∙ ap (λ l. take i ranges ++ with_range r l) (sym head)))
-  where
-    same_head : (whole more : List Part) (a b : Part) → whole ≡ a ∷ more → whole ≡ b ∷ more → a ≡ b
-    same_head whole more a b e f = let g : a ∷ more ≡ b ∷ more = sym e ∙ f in cc g
 
 -- the spans of the row of the number at this place come first
 pub joined_next : (rows : List Row) (numbers : List ℕ) (i : ℕ) → i < length numbers →
