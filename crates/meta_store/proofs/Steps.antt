@@ -1,5 +1,5 @@
 -- One turn of a loop over parts, ranges or numbers.
-use Rattle.std.proofs.Common.{◌≡◌, ℕ, ◌+◌, ◌<◌, suc, List, [], ◌∷◌, ◌++◌, length, take, drop, get_or, Result, Ok, refl, sym, ap, ◌∙◌, arith, subst}
+use Rattle.std.proofs.Common.{◌≡◌, ℕ, ◌+◌, ◌<◌, suc, List, [], ◌∷◌, ◌++◌, length, take, drop, get_or, Result, Ok, Option, None, Some, SomeIff, refl, sym, ap, ◌∙◌, arith, subst}
 use Rattle.std.proofs.lemmas.List.{append_assoc, map-append, length-take-le}
 use Rattle.std.proofs.Math.Seq.{take-suc, take-append_seam, drop-append_seam, drop-cons}
 use Rattle.source_checkpoint.specs.declared.delta.Part.{Part}
@@ -61,3 +61,8 @@ number_next numbers i lt =
 pub each_next : (answer : ℕ → Result (Unit {0}) StateRefusal) (numbers : List ℕ) (i : ℕ) (u : Unit {0}) → i < length numbers → answer (get_or numbers i 0) ≡ Ok u →
     answer_to_each answer (drop (i + 1) numbers) ≡ answer_to_each answer (drop i numbers)
 each_next answer numbers i u lt e = sym (ap (answer_to_each answer) (number_next numbers i lt) ∙ rw e refl)
+
+-- a sum that is in range
+pub sum_held : (answer : Option ℕ) (P : Type 0) (sum x : ℕ) → SomeIff answer P sum → answer ≡ Some x → x ≡ sum
+sum_held None P sum x h e = cc e
+sum_held (Some y) P sum x h e = let same : y ≡ x = cc e in sym same ∙ h.1

@@ -1,5 +1,8 @@
-use Rattle.std.proofs.Common.{◌≡◌, ◌+◌, ◌∙◌, suc, ap, length, drop, arith}
-use Rattle.meta_store.specs.Retired.{with_range}
+use Rattle.std.proofs.Common.{◌≡◌, ◌+◌, ◌∙◌, suc, ap, sym, length, drop, arith}
+use Rattle.std.specs.Prelude.{map}
+use Rattle.std.proofs.Math.ListN.{drop_of_length-le}
+use Rattle.source_checkpoint.specs.Deltas.{range_of}
+use Rattle.meta_store.specs.Retired.{with_range, with_ranges}
 use Rattle.meta_store.proofs.Retiring.{next_of, ranges_next}
 use Rattle.meta_store.proofs.spans.join_ranges.Goals as goal
 
@@ -23,3 +26,8 @@ loop-span-preserved c =
       left = omega (arith, next, c.join_range.ensures.len, c.loop-span.invariant.left);
       room = omega (arith, c.join_range.ensures.room, c.loop-span.invariant.room);
     }
+
+pub returns-clause-items : goal.returns-clause-items
+returns-clause-items c =
+    ap (λ l. with_ranges (map range_of l) c.loop-span.ranges.items) (sym (drop_of_length-le c.args.spans.now (omega arith)))
+    ∙ c.loop-span.invariant.filled
