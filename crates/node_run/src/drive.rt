@@ -37,6 +37,7 @@ use root_search::{SearchStep, Searcher};
 use source_log::{Partitions, SourceLog};
 use std::alloc::{AllocError, Global};
 use std::collections::BTreeMap;
+use std::mem;
 use std::thread::Threads;
 
 /// How many clients an input may name.
@@ -65,7 +66,7 @@ pub struct Unstarted<S: ObjectStore, L: SourceLog> {
 }
 
 /// Whether a node takes a line.
-#[derive(Clone, Copy, Debug, PartialEq, Eq)]
+#[derive(Clone, Copy)]
 pub enum Accepts {
     Yes,
     /// No indexer has the number, or the moment falls.
@@ -197,7 +198,11 @@ fn fault_line(alloc: Global, error: WorldError) -> Result<OutLine, AllocError>
 {
     match error {
         WorldError::Memory(refused) => Err(refused),
-        error => OutLine::node_fault(alloc, &error),
+        error => {
+            let line = OutLine::node_fault(alloc, &error);
+            mem::drop(error);
+            line
+        }
     }
 }
 
@@ -267,11 +272,13 @@ impl<S: ObjectStore, L: SourceLog> DriveNode<S, L> {
         let DriveNode {
             gate,
             indexers,
-            clients: _,
-            places: _,
+            clients,
+            places,
             moment: _,
             down: _,
         } = self;
+        mem::drop(clients);
+        mem::drop(places);
         (gate.into_world().unload().0, Logs::Read(indexers))
     }
 
@@ -286,6 +293,7 @@ impl<S: ObjectStore, L: SourceLog> DriveNode<S, L> {
     {
         let (store, logs) = self.finish_with_logs();
         let faults = logs.faults();
+        mem::drop(logs);
         (store, faults)
     }
 
@@ -370,7 +378,9 @@ impl<S: ObjectStore, L: SourceLog> DriveNode<S, L> {
             return OutLine::indexer_down(alloc, number);
         }
         let outcome = step_indexer(alloc, &mut self.gate, &mut self.indexers[number as usize])?;
-        OutLine::indexer(alloc, number, &outcome)
+        let line = OutLine::indexer(alloc, number, &outcome);
+        mem::drop(outcome);
+        line
     }
 
     fn client_line<Rt: Threads + Sync>(
@@ -388,7 +398,9 @@ impl<S: ObjectStore, L: SourceLog> DriveNode<S, L> {
             return OutLine::client_down(alloc, client);
         }
         let outcome = step_searcher(rt, alloc, &mut self.gate, &mut self.clients[place])?;
-        OutLine::client(alloc, client, &outcome)
+        let line = OutLine::client(alloc, client, &outcome);
+        mem::drop(outcome);
+        line
     }
 
     fn open_line(
