@@ -19,4 +19,5 @@ pub mod Parts
 pub mod StillCalls
 pub mod LogCounts
 pub mod CalmTurns
+pub mod Counted
 pub mod Starting

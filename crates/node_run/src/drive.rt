@@ -272,13 +272,11 @@ impl<S: ObjectStore, L: SourceLog> DriveNode<S, L> {
         let DriveNode {
             gate,
             indexers,
-            clients,
-            places,
+            clients: _,
+            places: _,
             moment: _,
             down: _,
         } = self;
-        mem::drop(clients);
-        mem::drop(places);
         (gate.into_world().unload().0, Logs::Read(indexers))
     }
 
@@ -293,7 +291,6 @@ impl<S: ObjectStore, L: SourceLog> DriveNode<S, L> {
     {
         let (store, logs) = self.finish_with_logs();
         let faults = logs.faults();
-        mem::drop(logs);
         (store, faults)
     }
 
@@ -398,9 +395,7 @@ impl<S: ObjectStore, L: SourceLog> DriveNode<S, L> {
             return OutLine::client_down(alloc, client);
         }
         let outcome = step_searcher(rt, alloc, &mut self.gate, &mut self.clients[place])?;
-        let line = OutLine::client(alloc, client, &outcome);
-        mem::drop(outcome);
-        line
+        OutLine::client(alloc, client, &outcome)
     }
 
     fn open_line(
