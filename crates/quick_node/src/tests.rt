@@ -9,7 +9,6 @@ use clock_time::ScriptClock;
 use meta_journal::{Act, Entry, encode_entry, meta_key};
 use object_store::{
     CreateError, GetError, Key, Keys, Landing, ListError, MemoryStore, ObjectStore, Piece,
-    SteadyStore,
 };
 use source_checkpoint::Partition;
 use source_log::{FaultyLog, MemoryLog};
@@ -35,16 +34,72 @@ fn new_entry(alloc: Global) -> Result<Bytes, AllocError> {
     encode_entry(alloc, &entry)
 }
 
+// A store in memory that counts how many bytes it gave of split files. Of what it holds it tells nothing.
+#[derive(Drop)]
+struct CountedStore {
+    store: MemoryStore,
+    given: u64,
+}
+
+impl CountedStore {
+    fn vacant(alloc: Global) -> CountedStore {
+        CountedStore {
+            store: MemoryStore::vacant(alloc),
+            given: 0,
+        }
+    }
+}
+
+impl ObjectStore for CountedStore {
+    ghost use Rattle.std.specs.Prelude.{None};
+
+    ghost told = { λ _. None };
+
+    ghost fault_count = { λ s. s.store.plan.faults };
+
+    fn create(&mut self, alloc: Global, key: &Key, content: &[u8]) -> Result<(), CreateError> {
+        self.store.create(alloc, key, content)
+    }
+
+    fn get(&mut self, alloc: Global, key: &Key, from: u64, len: u64) -> Result<Piece, GetError> {
+        let got = self.store.get(alloc, key, from, len);
+        if let Ok(piece) = &got
+            && key.as_bytes().starts_with(b"splits/")
+        {
+            self.given = self.given.saturating_add(piece.bytes.len() as u64);
+        }
+        got
+    }
+
+    fn delete(&mut self, key: &Key) -> Result<(), Failed> {
+        self.store.delete(key)
+    }
+
+    fn list(
+        &mut self,
+        alloc: Global,
+        prefix: &Key,
+        after: Option<&Key>,
+        max: u32,
+    ) -> Result<Keys, ListError> {
+        self.store.list(alloc, prefix, after, max)
+    }
+
+    fn faults(&self) -> u64 {
+        self.store.faults()
+    }
+}
+
 // A row as far as its script was read.
 #[derive(Drop)]
 struct Row {
     name: String,
-    store: MemoryStore,
+    store: CountedStore,
     logs: Vec<MemoryLog>,
     words: Vec<String>,
     schedule: Vec<u8>,
     expected: Vec<u8>,
-    room: usize,
+    room: Option<u64>,
     failing_log: Option<u64>,
     failing_read: Option<u64>,
     failing_write: Option<u64>,
@@ -62,15 +117,15 @@ impl Row {
             words,
             schedule: Vec::new(alloc),
             expected: Vec::new(alloc),
-            room: 8192,
+            room: None,
             failing_log: None,
             failing_read: None,
             failing_write: None,
         })
     }
 
-    // Takes a line of a script, and says whether it did a command.
-    fn take<Rt: Threads + Wait + Sync + Abort>(
+    // Takes a line of a script, and says whether what it says is so.
+    fn take<Rt: Threads + Wait + Sync>(
         &mut self,
         rt: &Rt,
         alloc: Global,
@@ -78,97 +133,99 @@ impl Row {
     ) -> Result<bool, Fail> {
         let (asked, rest) = halves(line);
         match asked {
-            "row" => *self = Row::begin(alloc, rest)?,
-            "run" => {
-                self.run(rt, alloc, number_of(rest)?)?;
-                return Ok(true);
+            "run" => self.run(rt, alloc, rest),
+            "size" => self.has_size(alloc, rest),
+            _ => {
+                self.prepare(alloc, asked, rest)?;
+                Ok(true)
             }
-            "size" => {
-                let has_size = self.has_size(alloc, rest)?;
-                assert!(rt; has_size);
-            }
-            _ => self.prepare(alloc, asked, rest)?,
         }
-        Ok(false)
     }
 
     // Whether an object has so many bytes.
     fn has_size(&mut self, alloc: Global, rest: &str) -> Result<bool, Fail> {
         let (size, key) = halves(rest);
         let size = number_of(size)?;
-        let piece = self
-            .store
-            .get(alloc, &key_of(key)?, 0, 1000)
-            .map_err(|_| "no object")?;
+        let piece = self.store.get(alloc, &key_of(key)?, 0, 1000)?;
         Ok(piece.size == size)
     }
 
-    // What a line says of what stands and of what is to fail.
+    // What a line says of what stands.
     fn prepare(&mut self, alloc: Global, asked: &str, rest: &str) -> Result<(), Fail> {
         match asked {
-            "vacant" => self.store = MemoryStore::vacant(alloc),
-            "object" => make_object(alloc, &mut self.store, rest)?,
-            "cut" => cut_object(alloc, &mut self.store, rest)?,
-            "log" => self.logs.push(MemoryLog::vacant(alloc))?,
-            "record" => add_record(alloc, &mut self.logs, rest)?,
-            "command" => self.words = one_word(alloc, rest)?,
-            "word" => self.words.push(String::from_str(alloc, rest)?)?,
-            "failkey" => {
-                let (landing, key) = landing_of(rest)?;
-                self.store.fail_key(key_of(key)?, landing)?;
-            }
-            "failcall" => {
-                let (landing, call) = landing_of(rest)?;
-                self.store.fail_call(number_of(call)?, landing)?;
-            }
-            "failread" => self.failing_read = Some(number_of(rest)?),
-            "failwrite" => self.failing_write = Some(number_of(rest)?),
-            "faillog" => self.failing_log = Some(number_of(rest)?),
-            "room" => self.room = number_of(rest)? as usize,
-            _ => self.write(alloc, asked, rest)?,
+            "row" => self.restart(alloc, rest),
+            "vacant" => self.vacate(alloc),
+            "object" => make_object(alloc, &mut self.store, rest),
+            "cut" => cut_object(alloc, &mut self.store, rest),
+            "log" => add_log(alloc, &mut self.logs),
+            "record" => add_record(alloc, &mut self.logs, rest),
+            "command" => self.command(alloc, rest),
+            "word" => add_word(alloc, &mut self.words, rest),
+            _ => self.fail(alloc, asked, rest),
         }
-        Ok(())
+    }
+
+    // What a line says of what is to fail.
+    fn fail(&mut self, alloc: Global, asked: &str, rest: &str) -> Result<(), Fail> {
+        match asked {
+            "failkey" => fail_key(&mut self.store.store, rest),
+            "failcall" => fail_call(&mut self.store.store, rest),
+            "failread" => set_number(&mut self.failing_read, rest),
+            "failwrite" => set_number(&mut self.failing_write, rest),
+            "faillog" => set_number(&mut self.failing_log, rest),
+            "room" => set_number(&mut self.room, rest),
+            _ => self.write(alloc, asked, rest),
+        }
     }
 
     // What a line says of the schedule and of what must be written.
     fn write(&mut self, alloc: Global, asked: &str, rest: &str) -> Result<(), Fail> {
         match asked {
-            ">" => add_line(&mut self.schedule, rest)?,
-            "<" => add_line(&mut self.expected, rest)?,
-            "config" => {
-                if !rest.is_empty() {
-                    add_line(&mut self.schedule, rest)?;
-                }
-                self.schedule.extend_from_slice(CONFIG.as_bytes())?;
-            }
-            ">>" => self.schedule.extend_from_slice(rest.as_bytes())?,
-            "<<" => self.expected.extend_from_slice(rest.as_bytes())?,
-            "long" => {
-                let len = self
-                    .schedule
-                    .len()
-                    .saturating_add(number_of(rest)? as usize);
-                self.schedule.resize(len, b'x')?;
-            }
-            "clients" => {
-                for number in 0..number_of(rest)? {
-                    self.restart_client(alloc, number)?;
-                }
-            }
-            _ => return Err("no line of a script")?,
+            ">" => add_line(&mut self.schedule, rest),
+            "<" => add_line(&mut self.expected, rest),
+            ">>" => add_text(&mut self.schedule, rest),
+            "<<" => add_text(&mut self.expected, rest),
+            "config" => add_config(&mut self.schedule, rest),
+            "long" => add_long(&mut self.schedule, rest),
+            "clients" => self.restart_clients(alloc, rest),
+            _ => Err(Fail::new("no line of a script")),
+        }
+    }
+
+    fn restart(&mut self, alloc: Global, name: &str) -> Result<(), Fail> {
+        let next = Row::begin(alloc, name)?;
+        mem::drop(mem::replace(self, next));
+        Ok(())
+    }
+
+    fn vacate(&mut self, alloc: Global) -> Result<(), Fail> {
+        mem::drop(mem::replace(&mut self.store, CountedStore::vacant(alloc)));
+        Ok(())
+    }
+
+    fn command(&mut self, alloc: Global, word: &str) -> Result<(), Fail> {
+        self.words = one_word(alloc, word)?;
+        Ok(())
+    }
+
+    fn restart_clients(&mut self, alloc: Global, rest: &str) -> Result<(), Fail> {
+        for number in 0..number_of(rest)? {
+            let name = format!(in alloc; "c{number}")?;
+            self.restart_client(name.as_str())?;
         }
         Ok(())
     }
 
-    fn restart_client(&mut self, alloc: Global, number: u64) -> Result<(), Fail> {
-        let name = format!(in alloc; "restart client c{number}")?;
-        add_line(&mut self.schedule, name.as_str())?;
-        let name = format!(in alloc; "c{number} restarted")?;
-        add_line(&mut self.expected, name.as_str())
+    fn restart_client(&mut self, name: &str) -> Result<(), Fail> {
+        add_text(&mut self.schedule, "restart client ")?;
+        add_line(&mut self.schedule, name)?;
+        add_text(&mut self.expected, name)?;
+        add_line(&mut self.expected, " restarted")
     }
 
     fn input(&self, alloc: Global) -> Result<MemorySource, Fail> {
-        let mut input = source_of(alloc, self.schedule.as_slice())?;
+        let schedule = Bytes::from_slice(alloc, self.schedule.as_slice())?;
+        let mut input = MemorySource::from_bytes(schedule);
         if let Some(call) = self.failing_read {
             input.fail_call(call)?;
         }
@@ -176,115 +233,157 @@ impl Row {
     }
 
     fn output(&self, alloc: Global) -> Result<MemorySink, Fail> {
-        let mut output = MemorySink::with_room(alloc, self.room)?;
+        let room = self.room.unwrap_or(8192) as usize;
+        let mut output = MemorySink::with_room(alloc, room)?;
         if let Some(call) = self.failing_write {
             output.fail_call(call)?;
         }
         Ok(output)
     }
 
-    // Does the command, and compares. What stands then is the store of a second life, which has no log yet.
-    fn run<Rt: Threads + Wait + Sync + Abort>(
-        &mut self,
-        rt: &Rt,
-        alloc: Global,
-        status: u64,
-    ) -> Result<(), Fail> {
-        let mut input = self.input(alloc)?;
-        let mut output = self.output(alloc)?;
-        let is_done = self.does(rt, alloc, status, &mut input, &mut output)?;
-        let is_right = is_done && output.content().as_slice() == self.expected.as_slice();
-        assert!(rt; is_right, "{}", self.name);
-        self.renew(alloc)
+    // The logs, of which the first fails its call with a number. The row has none behind it.
+    fn readers(&mut self, alloc: Global) -> Result<Vec<FaultyLog>, Fail> {
+        let mut readers = Vec::new(alloc);
+        for log in mem::replace(&mut self.logs, Vec::new(alloc)) {
+            readers.push(FaultyLog::over(alloc, log))?;
+        }
+        if let Some(call) = self.failing_log
+            && let Some(first) = readers.first_mut()
+        {
+            first.fail_call(call)?;
+        }
+        Ok(readers)
     }
 
-    // Whether the command ends in this status, and the logs count what was to fail.
-    fn does<Rt: Threads + Wait + Sync>(
+    // Does the command over the row's store.
+    fn does<Rt: Threads + Wait + Sync>(&mut self, rt: &Rt, alloc: Global) -> Result<Ended, Fail> {
+        let input = self.input(alloc)?;
+        let output = self.output(alloc)?;
+        let logs = self.readers(alloc)?;
+        let words = self.words.as_slice();
+        Ok(done(rt, alloc, words, &mut self.store, logs, input, output))
+    }
+
+    // Does the command, and says whether it ends in this status and as the row says. What stands then is the store of a second
+    // life, which has no log yet.
+    fn run<Rt: Threads + Wait + Sync>(
         &mut self,
         rt: &Rt,
         alloc: Global,
-        status: u64,
-        input: &mut MemorySource,
-        output: &mut MemorySink,
+        status: &str,
     ) -> Result<bool, Fail> {
-        let logs = mem::replace(&mut self.logs, Vec::new(alloc));
-        let logs = faulty(alloc, logs, self.failing_log)?;
-        let store = mem::replace(&mut self.store, MemoryStore::vacant(alloc));
-        let words = self.words.as_slice();
-        let clock = ScriptClock::at(0);
-        let ended = done(rt, alloc, words, store, logs, clock, input, output);
-        self.store = ended.store;
+        let status = number_of(status)?;
+        let ended = self.does(rt, alloc)?;
+        let is_right = self.is_right(&ended, status);
+        mem::drop(ended);
+        self.renew(alloc)?;
+        Ok(is_right)
+    }
+
+    fn is_right(&self, ended: &Ended, status: u64) -> bool {
         let log_faults = u64::from(self.failing_log.is_some());
-        Ok(
-            ended.status == status
-                && ended.told_log_faults == log_faults
-                && ended.log_faults == log_faults,
-        )
+        ended.status == status
+            && ended.told_log_faults == log_faults
+            && ended.log_faults == log_faults
+            && ended.written() == self.expected.as_slice()
     }
 
     fn renew(&mut self, alloc: Global) -> Result<(), Fail> {
         self.words = one_word(alloc, "drive")?;
         self.schedule = Vec::new(alloc);
         self.expected = Vec::new(alloc);
-        self.room = 8192;
+        self.room = None;
         self.failing_log = None;
         self.failing_read = None;
         self.failing_write = None;
         Ok(())
     }
+
+    // Does the command over a log of three records, of which one is none of the index. Gives how many lines that were written
+    // have these words.
+    fn lines_with<Rt: Threads + Wait + Sync>(
+        &mut self,
+        rt: &Rt,
+        alloc: Global,
+        words: &str,
+    ) -> Result<u32, Fail> {
+        add_foxes(alloc, &mut self.logs)?;
+        let ended = self.does(rt, alloc)?;
+        let count = lines_with(ended.written(), words);
+        mem::drop(ended);
+        Ok(count)
+    }
 }
 
-// What stands behind a command: its status, its store, the faults of logs that it tells, and those that the logs count.
+// What stands behind a command: its status, the faults of logs that it tells, those that the logs count, and what was written.
 #[derive(Drop)]
-struct Ended<S> {
+struct Ended {
     status: u64,
-    store: S,
     told_log_faults: u64,
     log_faults: u64,
+    output: MemorySink,
 }
 
-// Does the command of these words.
-fn done<Rt: Threads + Wait + Sync, S: ObjectStore + Send + Drop>(
+impl Ended {
+    fn written(&self) -> &[u8] {
+        self.output.content().as_slice()
+    }
+}
+
+// Does the command of these words, and leaves the store as it then stands.
+fn done<Rt: Threads + Wait + Sync>(
     rt: &Rt,
     alloc: Global,
     words: &[String],
-    store: S,
+    store: &mut CountedStore,
     logs: Vec<FaultyLog>,
-    clock: ScriptClock,
-    input: &mut MemorySource,
-    output: &mut MemorySink,
-) -> Ended<S> {
-    let (finished, logs) = serve_with_logs(rt, alloc, words, store, logs, clock, input, output);
+    input: MemorySource,
+    output: MemorySink,
+) -> Ended {
+    let (mut input, mut output) = (input, output);
+    let held = mem::replace(store, CountedStore::vacant(alloc));
+    let clock = ScriptClock::at(0);
+    let (finished, logs) = serve_with_logs(
+        rt,
+        alloc,
+        words,
+        held,
+        logs,
+        clock,
+        &mut input,
+        &mut output,
+    );
+    mem::drop(mem::replace(store, finished.store));
+    let log_faults = logs.faults();
+    mem::drop(logs);
     Ended {
         status: u64::from(finished.status),
-        store: finished.store,
         told_log_faults: finished.log_faults,
-        log_faults: logs.faults(),
+        log_faults,
+        output,
     }
 }
 
 // A store with the one entry that makes an index.
-fn index_store(alloc: Global) -> Result<MemoryStore, Fail> {
-    let mut store = MemoryStore::vacant(alloc);
+fn index_store(alloc: Global) -> Result<CountedStore, Fail> {
     let bytes = new_entry(alloc)?;
-    store
-        .create(alloc, &meta_key(0), bytes.as_slice())
-        .map_err(|_| "no index")?;
+    let mut store = CountedStore::vacant(alloc);
+    store.create(alloc, &meta_key(0), bytes.as_slice())?;
     Ok(store)
 }
 
 fn one_word(alloc: Global, word: &str) -> Result<Vec<String>, Fail> {
     let mut words = Vec::new(alloc);
-    words.push(String::from_str(alloc, word)?)?;
+    add_word(alloc, &mut words, word)?;
     Ok(words)
 }
 
 fn key_of(text: &str) -> Result<Key, Fail> {
-    Ok(Key::from_text(text).map_err(|_| "no key")?)
+    Ok(Key::from_text(text)?)
 }
 
 fn number_of(text: &str) -> Result<u64, Fail> {
-    Ok(text.parse::<u64>().map_err(|_| "no number")?)
+    Ok(text.parse::<u64>()?)
 }
 
 // The two words of a line at their first space.
@@ -298,29 +397,51 @@ fn landing_of(rest: &str) -> Result<(Landing, &str), Fail> {
     let landing = match word {
         "never" => Landing::Never,
         "once" => Landing::AtOnce,
-        _ => Landing::AfterCalls(word.parse::<u32>().map_err(|_| "no number")?),
+        _ => Landing::AfterCalls(word.parse::<u32>()?),
     };
     Ok((landing, behind))
 }
 
-fn make_object(alloc: Global, store: &mut MemoryStore, rest: &str) -> Result<(), Fail> {
+fn make_object(alloc: Global, store: &mut CountedStore, rest: &str) -> Result<(), Fail> {
     let (key, text) = halves(rest);
-    store
-        .create(alloc, &key_of(key)?, text.as_bytes())
-        .map_err(|_| "no object")?;
-    Ok(())
+    Ok(store.create(alloc, &key_of(key)?, text.as_bytes())?)
 }
 
 // Takes the last byte of an object away.
-fn cut_object(alloc: Global, store: &mut MemoryStore, key: &str) -> Result<(), Fail> {
+fn cut_object(alloc: Global, store: &mut CountedStore, key: &str) -> Result<(), Fail> {
     let key = key_of(key)?;
-    let piece = store
-        .get(alloc, &key, 0, 1_000_000)
-        .map_err(|_| "no object")?;
-    store.delete(&key).map_err(|_| "not deleted")?;
-    let (_, kept) = piece.bytes.as_slice().split_last().ok_or("no byte")?;
-    store.create(alloc, &key, kept).map_err(|_| "no object")?;
+    let piece = store.get(alloc, &key, 0, 1_000_000)?;
+    make_anew(alloc, store, &key, piece.bytes.as_slice())
+}
+
+// Makes an object anew of its bytes but for the last.
+fn make_anew(alloc: Global, store: &mut CountedStore, key: &Key, bytes: &[u8]) -> Result<(), Fail> {
+    let (_, kept) = bytes.split_last().ok_or("no byte")?;
+    store.delete(key).ok().ok_or("not deleted")?;
+    Ok(store.create(alloc, key, kept)?)
+}
+
+fn fail_key(store: &mut MemoryStore, rest: &str) -> Result<(), Fail> {
+    let (landing, key) = landing_of(rest)?;
+    Ok(store.fail_key(key_of(key)?, landing)?)
+}
+
+fn fail_call(store: &mut MemoryStore, rest: &str) -> Result<(), Fail> {
+    let (landing, call) = landing_of(rest)?;
+    Ok(store.fail_call(number_of(call)?, landing)?)
+}
+
+fn set_number(number: &mut Option<u64>, rest: &str) -> Result<(), Fail> {
+    *number = Some(number_of(rest)?);
     Ok(())
+}
+
+fn add_word(alloc: Global, words: &mut Vec<String>, word: &str) -> Result<(), Fail> {
+    Ok(words.push(String::from_str(alloc, word)?)?)
+}
+
+fn add_log(alloc: Global, logs: &mut Vec<MemoryLog>) -> Result<(), Fail> {
+    Ok(logs.push(MemoryLog::vacant(alloc))?)
 }
 
 fn add_record(alloc: Global, logs: &mut Vec<MemoryLog>, rest: &str) -> Result<(), Fail> {
@@ -332,110 +453,35 @@ fn add_record(alloc: Global, logs: &mut Vec<MemoryLog>, rest: &str) -> Result<()
     Ok(())
 }
 
-fn add_line(text: &mut Vec<u8>, line: &str) -> Result<(), Fail> {
-    text.extend_from_slice(line.as_bytes())?;
-    text.push(b'\n')?;
-    Ok(())
-}
-
-fn source_of(alloc: Global, text: &[u8]) -> Result<MemorySource, Fail> {
-    Ok(MemorySource::from_bytes(Bytes::from_slice(alloc, text)?))
-}
-
-// These logs, of which the first fails its call with a number.
-fn faulty(
-    alloc: Global,
-    logs: Vec<MemoryLog>,
-    failing: Option<u64>,
-) -> Result<Vec<FaultyLog>, Fail> {
-    let mut all = Vec::new(alloc);
-    for log in logs {
-        let mut log = FaultyLog::over(alloc, log);
-        if let Some(call) = failing
-            && all.is_empty()
-        {
-            log.fail_call(call)?;
-        }
-        all.push(log)?;
-    }
-    Ok(all)
-}
-
-// Does the rows of a script, and gives how often a command was done.
-fn runs_of<Rt: Threads + Wait + Sync + Abort>(
-    rt: &Rt,
-    alloc: Global,
-    script: &str,
-) -> Result<u32, Fail> {
-    let mut row = Row::begin(alloc, "none")?;
-    let mut runs = 0u32;
-    for line in script.lines() {
-        if row.take(rt, alloc, line)? {
-            runs = runs.saturating_add(1);
-        }
-    }
-    Ok(runs)
-}
-
-#[test]
-fn rows_of_drive(rt: HostRuntime) -> Result<(), Fail> {
-    let runs = runs_of(&rt, rt.alloc(), ROWS)?;
-    assert_eq!(rt; runs, 53);
-    Ok(())
-}
-
-#[test]
-fn rows_of_reports(rt: HostRuntime) -> Result<(), Fail> {
-    let runs = runs_of(&rt, rt.alloc(), REPORT_ROWS)?;
-    assert_eq!(rt; runs, 18);
-    Ok(())
-}
-
-#[test]
-fn rows_of_searches(rt: HostRuntime) -> Result<(), Fail> {
-    let runs = runs_of(&rt, rt.alloc(), SEARCH_ROWS)?;
-    assert_eq!(rt; runs, 16);
-    Ok(())
-}
-
-const SCHEDULE: &str =
-    "at 1000\nindexer 0\nindexer 0\nindexer 0\nindexer 0\nindexer 0\nindexer 0\nindexer 0\nindexer 0\nindexer 0\nindexer 0\nindexer 0\nindexer 0\nindexer 0\nindexer 0\nindexer 0\nindexer 0\nindexer 0\nindexer 0\nindexer 0\nindexer 0\nclient a {\"search\":{\"query\":\"red\"}}\nclient a\nclient a\nclient a\nclient a\nclient a\nclient a\nclient a\nclient a\n";
-
 // A log of three records, of which one is none of the index.
-fn fox_logs(alloc: Global) -> Result<Vec<MemoryLog>, Fail> {
-    let mut logs = Vec::new(alloc);
-    logs.push(MemoryLog::vacant(alloc))?;
-    for text in ["{\"body\":\"red fox\"}", "oops", "{\"body\":\"red hen\"}"] {
-        let rest = format!(in alloc; "p0 {text}")?;
-        add_record(alloc, &mut logs, rest.as_str())?;
-    }
-    Ok(logs)
+fn add_foxes(alloc: Global, logs: &mut Vec<MemoryLog>) -> Result<(), Fail> {
+    add_log(alloc, logs)?;
+    add_record(alloc, logs, "p0 {\"body\":\"red fox\"}")?;
+    add_record(alloc, logs, "p0 oops")?;
+    add_record(alloc, logs, "p0 {\"body\":\"red hen\"}")
 }
 
-// Does a schedule of lines over this store and the log of three records, and gives the store and what was written.
-fn driven<Rt: Threads + Wait + Sync, S: ObjectStore + Send + Drop>(
-    rt: &Rt,
-    alloc: Global,
-    schedule: &[u8],
-    clock: ScriptClock,
-    store: S,
-) -> Result<(S, MemorySink), Fail> {
-    let words = one_word(alloc, "drive")?;
-    let mut input = source_of(alloc, schedule)?;
-    let mut output = MemorySink::with_room(alloc, 8192)?;
-    let logs = faulty(alloc, fox_logs(alloc)?, None)?;
-    let words = words.as_slice();
-    let ended = done(
-        rt,
-        alloc,
-        words,
-        store,
-        logs,
-        clock,
-        &mut input,
-        &mut output,
-    );
-    Ok((ended.store, output))
+fn add_text(text: &mut Vec<u8>, more: &str) -> Result<(), Fail> {
+    Ok(text.extend_from_slice(more.as_bytes())?)
+}
+
+fn add_line(text: &mut Vec<u8>, line: &str) -> Result<(), Fail> {
+    add_text(text, line)?;
+    Ok(text.push(b'\n')?)
+}
+
+// The configuration, behind a line of its own if there is one.
+fn add_config(text: &mut Vec<u8>, line: &str) -> Result<(), Fail> {
+    if !line.is_empty() {
+        add_line(text, line)?;
+    }
+    add_text(text, CONFIG)
+}
+
+// So many letters more.
+fn add_long(text: &mut Vec<u8>, rest: &str) -> Result<(), Fail> {
+    let len = text.len().saturating_add(number_of(rest)? as usize);
+    Ok(text.resize(len, b'x')?)
 }
 
 // How many lines of a text have these words.
@@ -449,16 +495,57 @@ fn lines_with(text: &[u8], words: &str) -> u32 {
     count
 }
 
-// The store behind one run of the schedule, and whether its search found both records.
-fn lives<Rt: Threads + Wait + Sync>(
+// Does the rows of a script, which do so many commands.
+fn do_rows<Rt: Threads + Wait + Sync + Abort>(
     rt: &Rt,
     alloc: Global,
-    store: MemoryStore,
-) -> Result<(MemoryStore, bool), Fail> {
-    let (store, output) = driven(rt, alloc, SCHEDULE.as_bytes(), ScriptClock::at(0), store)?;
-    let replies = lines_with(output.content().as_slice(), "\"num_hits\":2,");
-    Ok((store, replies > 0))
+    script: &str,
+    wanted: u32,
+) -> Result<(), Fail> {
+    let mut row = Row::begin(alloc, "none")?;
+    let runs = runs_from(rt, alloc, &mut row, script);
+    mem::drop(row);
+    let runs = runs?;
+    assert_eq!(rt; runs, wanted);
+    Ok(())
 }
+
+fn runs_from<Rt: Threads + Wait + Sync + Abort>(
+    rt: &Rt,
+    alloc: Global,
+    row: &mut Row,
+    script: &str,
+) -> Result<u32, Fail> {
+    let mut runs = 0u32;
+    for line in script.lines() {
+        let is_right = row.take(rt, alloc, line)?;
+        assert!(rt; is_right, "{}", row.name);
+        if line.starts_with("run ") {
+            runs = runs.saturating_add(1);
+        }
+    }
+    Ok(runs)
+}
+
+#[test]
+fn rows_of_drive(rt: HostRuntime) -> Result<(), Fail> {
+    do_rows(&rt, rt.alloc(), ROWS, 53)
+}
+
+#[test]
+fn rows_of_reports(rt: HostRuntime) -> Result<(), Fail> {
+    do_rows(&rt, rt.alloc(), REPORT_ROWS, 18)
+}
+
+#[test]
+fn rows_of_searches(rt: HostRuntime) -> Result<(), Fail> {
+    do_rows(&rt, rt.alloc(), SEARCH_ROWS, 16)
+}
+
+const SCHEDULE: &str =
+    "at 1000\nindexer 0\nindexer 0\nindexer 0\nindexer 0\nindexer 0\nindexer 0\nindexer 0\nindexer 0\nindexer 0\nindexer 0\nindexer 0\nindexer 0\nindexer 0\nindexer 0\nindexer 0\nindexer 0\nindexer 0\nindexer 0\nindexer 0\nindexer 0\nclient a {\"search\":{\"query\":\"red\"}}\nclient a\nclient a\nclient a\nclient a\nclient a\nclient a\nclient a\nclient a\n";
+
+const BOTH: &str = "\"num_hits\":2,";
 
 // Whether such a call failed; if so the same schedule in a next life finds both records.
 fn fails_alone<Rt: Threads + Wait + Sync + Abort>(
@@ -467,14 +554,27 @@ fn fails_alone<Rt: Threads + Wait + Sync + Abort>(
     number: u64,
     landing: Landing,
 ) -> Result<bool, Fail> {
-    let mut store = index_store(alloc)?;
-    store.fail_call(number, landing)?;
-    let (store, _) = lives(rt, alloc, store)?;
-    if store.faults() == 0 {
+    let mut row = Row::begin(alloc, "a call fails")?;
+    let failed = fails_in(rt, alloc, &mut row, number, landing);
+    mem::drop(row);
+    failed
+}
+
+fn fails_in<Rt: Threads + Wait + Sync + Abort>(
+    rt: &Rt,
+    alloc: Global,
+    row: &mut Row,
+    number: u64,
+    landing: Landing,
+) -> Result<bool, Fail> {
+    add_text(&mut row.schedule, SCHEDULE)?;
+    row.store.store.fail_call(number, landing)?;
+    row.lines_with(rt, alloc, BOTH)?;
+    if row.store.faults() == 0 {
         return Ok(false);
     }
-    let (_, has_both) = lives(rt, alloc, store)?;
-    assert!(rt; has_both);
+    let replies = row.lines_with(rt, alloc, BOTH)?;
+    assert!(rt; replies > 0);
     Ok(true)
 }
 
@@ -502,76 +602,20 @@ fn each_call_fails_alone(rt: HostRuntime) -> Result<(), Fail> {
     Ok(())
 }
 
-// A store that counts how many bytes it gave of split files. It tells nothing.
-#[derive(Drop)]
-struct CountedStore {
-    store: SteadyStore,
-    given: u64,
-}
-
-impl ObjectStore for CountedStore {
-    ghost use Rattle.std.specs.Prelude.{None};
-
-    ghost told = { λ _. None };
-
-    ghost fault_count = { λ _. 0 };
-
-    fn create(&mut self, alloc: Global, key: &Key, content: &[u8]) -> Result<(), CreateError> {
-        self.store.create(alloc, key, content)
-    }
-
-    fn get(&mut self, alloc: Global, key: &Key, from: u64, len: u64) -> Result<Piece, GetError> {
-        let piece = self.store.get(alloc, key, from, len)?;
-        if key.as_bytes().starts_with(b"splits/") {
-            self.given = self.given.saturating_add(piece.bytes.len() as u64);
-        }
-        Ok(piece)
-    }
-
-    fn delete(&mut self, key: &Key) -> Result<(), Failed> {
-        self.store.delete(key)
-    }
-
-    fn list(
-        &mut self,
-        alloc: Global,
-        prefix: &Key,
-        after: Option<&Key>,
-        max: u32,
-    ) -> Result<Keys, ListError> {
-        self.store.list(alloc, prefix, after, max)
-    }
-
-    fn faults(&self) -> u64 {
-        0
-    }
-}
-
-// A store with the one entry that makes an index, which counts.
-fn counted_store(alloc: Global) -> Result<CountedStore, Fail> {
-    let mut store = SteadyStore::vacant(alloc);
-    let bytes = new_entry(alloc)?;
-    store
-        .create(alloc, &meta_key(0), bytes.as_slice())
-        .map_err(|_| "no index")?;
-    Ok(CountedStore { store, given: 0 })
-}
+const COUNT: &str =
+    "client a {\"search\":{\"query\":\"fox\",\"max_hits\":0}}\nclient a\nclient a\nclient a\n";
 
 // A schedule that publishes two of three records and then counts a word so often.
-fn count_schedule(alloc: Global, searches: u32) -> Result<Vec<u8>, Fail> {
-    let mut schedule = Vec::new(alloc);
-    for line in SCHEDULE
-        .lines()
-        .filter(|line: &&str| line.starts_with("indexer"))
-    {
-        add_line(&mut schedule, line)?;
+fn add_counts(schedule: &mut Vec<u8>, searches: u32) -> Result<(), Fail> {
+    for line in SCHEDULE.lines() {
+        if line.starts_with("indexer") {
+            add_line(schedule, line)?;
+        }
     }
     for _ in 0..searches {
-        schedule.extend_from_slice(
-            b"client a {\"search\":{\"query\":\"fox\",\"max_hits\":0}}\nclient a\nclient a\nclient a\n",
-        )?;
+        add_text(schedule, COUNT)?;
     }
-    Ok(schedule)
+    Ok(())
 }
 
 // What `serve` does of such a schedule: how many replies count one record, and how many bytes the store gave of split files.
@@ -580,11 +624,26 @@ fn counts_served<Rt: Threads + Wait + Sync>(
     alloc: Global,
     searches: u32,
 ) -> Result<(u32, u64), Fail> {
-    let schedule = count_schedule(alloc, searches)?;
-    let store = counted_store(alloc)?;
-    let (store, output) = driven(rt, alloc, schedule.as_slice(), ScriptClock::at(1000), store)?;
-    let replies = lines_with(output.content().as_slice(), "\"num_hits\":1,");
-    Ok((replies, store.given))
+    let mut row = Row::begin(alloc, "a count")?;
+    let replies = counts_in(rt, alloc, &mut row, searches);
+    let given = row.store.given;
+    mem::drop(row);
+    Ok((replies?, given))
+}
+
+fn counts_in<Rt: Threads + Wait + Sync>(
+    rt: &Rt,
+    alloc: Global,
+    row: &mut Row,
+    searches: u32,
+) -> Result<u32, Fail> {
+    add_counts(&mut row.schedule, searches)?;
+    row.lines_with(rt, alloc, "\"num_hits\":1,")
+}
+
+// Whether a number is greater than another one, by so much at most.
+fn is_more(before: u64, number: u64, most: u64) -> bool {
+    before < number && number <= before.saturating_add(most)
 }
 
 // So few bytes of split files are asked of the store where `serve` counts a word, and again.
@@ -594,10 +653,8 @@ fn a_count_on_serve_fetches_little(rt: HostRuntime) -> Result<(), Fail> {
     let (none, before) = counts_served(&rt, alloc, 0)?;
     let (first, once) = counts_served(&rt, alloc, 1)?;
     let (second, twice) = counts_served(&rt, alloc, 2)?;
-    assert_eq!(rt; none, 0);
-    assert_eq!(rt; first, 1);
-    assert_eq!(rt; second, 2);
-    assert!(rt; before < once && once <= before.saturating_add(79));
-    assert!(rt; once < twice && twice <= once.saturating_add(45));
+    assert_eq!(rt; [none, first, second], [0, 1, 2]);
+    assert!(rt; is_more(before, once, 79));
+    assert!(rt; is_more(once, twice, 45));
     Ok(())
 }
