@@ -11,6 +11,9 @@ use index_world::{WorldError, put_fault, put_number, put_word};
 use node_run::MAX_CLIENTS;
 use std::alloc::{AllocError, Global};
 
+/// The status of want of memory.
+pub const NO_MEMORY: u8 = 11;
+
 /// How a call ends.
 #[derive(Drop)]
 pub enum End {

@@ -15,7 +15,7 @@ pub const MAX_LINE: u64 = 2_097_152;
 const CHUNK: usize = 65_536;
 
 /// What comes next of an input.
-#[derive(Clone, Copy, Debug, PartialEq, Eq)]
+#[derive(Clone, Copy)]
 pub enum Next {
     /// A line with its line feed.
     Line,
@@ -74,7 +74,7 @@ impl Lines {
 }
 
 // What a piece of the input did to the line.
-#[derive(Clone, Copy, Debug, PartialEq, Eq)]
+#[derive(Clone, Copy)]
 enum Taken {
     More,
     Whole,

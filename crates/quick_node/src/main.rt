@@ -12,6 +12,7 @@ mod running;
 mod serving;
 mod writing;
 
+use crate::error_line::NO_MEMORY;
 use crate::serving::serve;
 use object_store::{ObjectStore, SteadyStore};
 use real_edge::{FileLog, FolderStore, StdSink, StdSource, SystemClock};
@@ -24,8 +25,6 @@ use std::sync::Wait;
 use std::thread::Threads;
 use std::time::{self, SystemTime, UNIX_EPOCH};
 use std::{env, io};
-
-const NO_MEMORY: u8 = 11;
 
 const MEMORY: &str = "memory";
 

@@ -19,6 +19,7 @@ use node_run::{Accepts, DriveNode, Line, LineError, read_line};
 use object_store::ObjectStore;
 use source_log::SourceLog;
 use std::alloc::{AllocError, Global};
+use std::mem;
 use std::thread::Threads;
 
 // Does one line of the input. Gives how the run ends, where it ends with this line.
@@ -43,9 +44,19 @@ fn take_line<Rt: Threads + Sync, S: ObjectStore, L: SourceLog, W: Sink>(
         Err(LineError::Memory(refused)) => return Err(refused),
     };
     match node.accepts(&line) {
-        Accepts::BadLine => Ok(Some(End::BadLine(number))),
-        Accepts::TooManyClients => Ok(Some(End::ClientsOver)),
-        Accepts::Yes => answer_line(rt, alloc, node, &line, output),
+        Accepts::BadLine => {
+            mem::drop(line);
+            Ok(Some(End::BadLine(number)))
+        }
+        Accepts::TooManyClients => {
+            mem::drop(line);
+            Ok(Some(End::ClientsOver))
+        }
+        Accepts::Yes => {
+            let ended = answer_line(rt, alloc, node, &line, output);
+            mem::drop(line);
+            ended
+        }
     }
 }
 

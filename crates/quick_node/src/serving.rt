@@ -18,7 +18,7 @@ ghost use Rattle.quick_node.specs.Reporting.{IsSplits, IsDescribe, AsksFor, Repo
 ghost use Rattle.quick_node.specs.Serve.{Before, After, LogsShow, StreamsShow, Shows, ShowsAfter, EntersAs, IsFresh, Opens, Drives, IsDrive, RefusesWords, WroteWords};
 
 use crate::creating::create_index;
-use crate::error_line::{End, print_end, status_of};
+use crate::error_line::{End, NO_MEMORY, print_end, status_of};
 use crate::reporting::{Report, write_report};
 use crate::running::run;
 use crate::writing::write_all;
@@ -30,6 +30,7 @@ use node_run::{DriveNode, Logs, Unstarted};
 use object_store::ObjectStore;
 use source_log::SourceLog;
 use std::alloc::Global;
+use std::mem;
 use std::sync::Wait;
 use std::thread::Threads;
 
@@ -42,13 +43,28 @@ pub struct Finished<S> {
     pub log_faults: u64,
 }
 
-// Writes the last line, and gives back the store and the logs with their counts. Where the line's text finds no memory, the
-// status is that of want of memory.
+// Writes the last line. Gives the status: that of want of memory where the line's text finds none.
+fn write_end<W: Sink>(alloc: Global, end: &End, output: &mut W) -> u8
+    ensures counted { W.fault_count output.old ≤ W.fault_count output.new }
+    ensures status { (result ≡ ended_status end.now) ⊎ (result ≡ 11) }
+    ensures writes { (held : List ℕ) → W.content output.old ≡ Some held →
+        EndsSo end.now held (W.content output.new) (W.fault_count output.old) (W.fault_count output.new) result }
+{
+    match print_end(alloc, end) {
+        Ok(text) => {
+            let _ = write_all(output, text.as_slice());
+            status_of(end)
+        }
+        Err(_) => NO_MEMORY,
+    }
+}
+
+// Writes the last line, and gives back the store and the logs with their counts.
 fn ended<S: ObjectStore, L: SourceLog, W: Sink>(
     alloc: Global,
     store: S,
     logs: Logs<L>,
-    end: &End,
+    end: End,
     output: &mut W,
 ) -> (Finished<S>, Logs<L>)
     ensures store { result.0.store ≡ store }
@@ -57,19 +73,14 @@ fn ended<S: ObjectStore, L: SourceLog, W: Sink>(
     ensures later { AllZip L.since (logs_in logs) (logs_in result.1) }
     ensures log_sum { result.0.log_faults ≡ min (sum (map L.fault_count (logs_in result.1))) last_count }
     ensures counted { W.fault_count output.old ≤ W.fault_count output.new }
-    ensures status { (result.0.status ≡ ended_status end.now) ⊎ (result.0.status ≡ 11) }
+    ensures status { (result.0.status ≡ ended_status end) ⊎ (result.0.status ≡ 11) }
     ensures writes { (held : List ℕ) → W.content output.old ≡ Some held →
-        EndsSo end.now held (W.content output.new) (W.fault_count output.old) (W.fault_count output.new) result.0.status }
+        EndsSo end held (W.content output.new) (W.fault_count output.old) (W.fault_count output.new) result.0.status }
 {
     let store_faults = store.faults();
     let log_faults = logs.faults();
-    let status = match print_end(alloc, end) {
-        Ok(text) => {
-            let _ = write_all(output, text.as_slice());
-            status_of(end)
-        }
-        Err(_) => status_of(&End::Memory),
-    };
+    let status = write_end(alloc, &end, output);
+    mem::drop(end);
     let finished = Finished {
         status,
         store,
@@ -94,7 +105,7 @@ fn refuse<S: ObjectStore, L: SourceLog, W: Sink>(
     ensures status { IsOneOf result.0.status other_statuses }
     ensures writes { WroteWords result.0.status (W.fault_count output.old) (W.fault_count output.new) (W.content output.old) (W.content output.new) }
 {
-    ended(alloc, store, Logs::Unread(logs), &End::BadWords, output)
+    ended(alloc, store, Logs::Unread(logs), End::BadWords, output)
 }
 
 // Does the lines of the input with an opened node, and lets it go.
@@ -120,7 +131,7 @@ fn drive_node<Rt: Threads + Sync, S: ObjectStore, L: SourceLog, R: Source, W: Si
     let mut node = node;
     let end = run(rt, alloc, &mut node, input, output);
     let (store, logs) = node.finish_with_logs();
-    ended(alloc, store, logs, &end, output)
+    ended(alloc, store, logs, end, output)
 }
 
 // Starts a node over an opened world, and drives it.
@@ -153,7 +164,7 @@ fn drive_world<Rt: Threads + Sync, S: ObjectStore, L: SourceLog, R: Source, W: S
                 error: _error,
             } = unstarted;
             let (store, _) = world.unload();
-            ended(alloc, store, Logs::Unread(logs), &End::Memory, output)
+            ended(alloc, store, Logs::Unread(logs), End::Memory, output)
         }
     }
 }
@@ -186,7 +197,7 @@ fn drive<Rt: Threads + Sync, S: ObjectStore, L: SourceLog, R: Source, W: Sink>(
                 alloc,
                 store,
                 Logs::Unread(logs),
-                &End::NotOpened(error),
+                End::NotOpened(error),
                 output,
             )
         }
@@ -216,7 +227,7 @@ fn create<S: ObjectStore, L: SourceLog, C: Clock, R: Source, W: Sink>(
     ensures unread { logs_in result.1 ≡ logs.items }
 {
     let (end, store) = create_index(alloc, store, clock, input, output);
-    ended(alloc, store, Logs::Unread(logs), &end, output)
+    ended(alloc, store, Logs::Unread(logs), end, output)
 }
 
 // Writes a report on the index of a store. Nothing is read of the input.
@@ -243,7 +254,7 @@ fn report<S: ObjectStore, L: SourceLog, R: Source, W: Sink>(
     ensures unread { logs_in result.1 ≡ logs.items }
 {
     let (end, store) = write_report(alloc, asked, store, output);
-    ended(alloc, store, Logs::Unread(logs), &end, output)
+    ended(alloc, store, Logs::Unread(logs), end, output)
 }
 
 /// Does the command that the words name. `drive` reads a schedule line by line from the input, and answers each line by a
@@ -306,7 +317,7 @@ pub fn serve_with_logs<
     ensures unread { (IsDrive (map string_bytes words.now) → ⊥) → logs_in result.1 ≡ logs.items }
 {
     let Ok(named) = read_words(alloc, words) else {
-        return ended(alloc, store, Logs::Unread(logs), &End::Memory, output);
+        return ended(alloc, store, Logs::Unread(logs), End::Memory, output);
     };
     let Some(command) = named else {
         return refuse(alloc, store, logs, output);
@@ -368,6 +379,7 @@ pub fn serve<
     ensures statuses { IsStatusOf (map string_bytes words.now) result.status }
     ensures counts { result.store_faults ≡ S.fault_count result.store }
 {
-    let (finished, _logs) = serve_with_logs(rt, alloc, words, store, logs, clock, input, output);
+    let (finished, logs) = serve_with_logs(rt, alloc, words, store, logs, clock, input, output);
+    mem::drop(logs);
     finished
 }

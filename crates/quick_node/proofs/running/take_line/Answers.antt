@@ -2,8 +2,8 @@ use Rattle.std.proofs.Common.{refl, sym, ◌∙◌, inl, inr, arith, rules}
 use Rattle.node_run.specs.Seen.{seen}
 use Rattle.quick_node.proofs.running.take_line.Goals as goal
 
-pub answer_line-requires-after_bounds : goal.answer_line-requires-after_bounds
-answer_line-requires-after_bounds g c = search rules
+pub answer_line-ended-requires-after_bounds : goal.answer_line-ended-requires-after_bounds
+answer_line-ended-requires-after_bounds g c = search rules
 
 pub returns-in-BadLine-clause-counted : goal.returns-in-BadLine-clause-counted
 returns-in-BadLine-clause-counted g c = omega arith
@@ -32,12 +32,12 @@ returns-in-Err-Memory-clause-counted g c = omega arith
 pub returns-in-Err-Memory-clause-takes : goal.returns-in-Err-Memory-clause-takes
 returns-in-Err-Memory-clause-takes g c firsts mid held stands told = (told, inl stands)
 
-pub returns-clause-counted : goal.returns-clause-counted
-returns-clause-counted g c = c.answer_line.ensures.counted
+pub returns-in-Yes-clause-counted : goal.returns-in-Yes-clause-counted
+returns-in-Yes-clause-counted g c = c.answer_line-ended.ensures.counted
 
-pub returns-clause-takes : goal.returns-clause-takes
-returns-clause-takes g c firsts mid held stands told =
-    c.answer_line.ensures.takes firsts mid c.args.text.now c.args.number held stands c.in-Ok.ensures (sym (c.accepts.ensures.exact firsts mid stands) ∙ c.in-Yes.is) told
+pub returns-in-Yes-clause-takes : goal.returns-in-Yes-clause-takes
+returns-in-Yes-clause-takes g c firsts mid held stands told =
+    c.answer_line-ended.ensures.takes firsts mid c.args.text.now c.args.number held stands c.in-Ok.ensures (sym (c.accepts.ensures.exact firsts mid stands) ∙ c.in-Yes.is) told
 
 pub returns-in-BadLine-clause-causes : goal.returns-in-BadLine-clause-causes
 returns-in-BadLine-clause-causes g c = tt
@@ -51,5 +51,5 @@ returns-in-Err-BadLine-clause-causes g c = tt
 pub returns-in-Err-Memory-clause-causes : goal.returns-in-Err-Memory-clause-causes
 returns-in-Err-Memory-clause-causes g c = tt
 
-pub returns-clause-causes : goal.returns-clause-causes
-returns-clause-causes g c = c.answer_line.ensures.causes
+pub returns-in-Yes-clause-causes : goal.returns-in-Yes-clause-causes
+returns-in-Yes-clause-causes g c = c.answer_line-ended.ensures.causes
