@@ -9,14 +9,21 @@ mod queries;
 mod requests;
 
 use meta_store::Meta;
-use std::io;
+use std::{io, mem};
 
-fn main(rt: HostRuntime) -> io::Result<()> {
+/// Answers each line, over one history.
+fn answered(rt: HostRuntime, meta: &mut Meta) -> io::Result<()> {
     let alloc = rt.alloc();
-    let mut meta = Meta::vacant(alloc);
     for line in rt.lines(alloc) {
-        let answer = answers::answer(alloc, &mut meta, line?.as_str())?;
+        let answer = answers::answer(alloc, meta, line?.as_str())?;
         println!(rt; "{answer}")?;
     }
     Ok(())
+}
+
+fn main(rt: HostRuntime) -> io::Result<()> {
+    let mut meta = Meta::vacant(rt.alloc());
+    let done = answered(rt, &mut meta);
+    mem::drop(meta);
+    done
 }

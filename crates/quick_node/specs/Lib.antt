@@ -10,3 +10,4 @@ pub mod Faults
 pub mod CaughtUp
 pub mod Creating
 pub mod Reporting
+pub mod Places

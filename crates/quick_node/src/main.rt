@@ -7,18 +7,19 @@ mod creating;
 mod error_line;
 pub mod laws;
 mod lines;
+mod places;
 mod reporting;
 mod running;
 mod serving;
 mod writing;
 
 use crate::error_line::NO_MEMORY;
+use crate::places::Placed;
 use crate::serving::serve;
-use object_store::{ObjectStore, SteadyStore};
+use object_store::SteadyStore;
 use real_edge::{FileLog, FolderStore, StdSink, StdSource, SystemClock};
-use source_log::{MemoryLog, SourceLog};
+use source_log::MemoryLog;
 use std::alloc::{AllocError, Global};
-use std::fs::Files;
 use std::process::ExitCode;
 use std::rt::Env;
 use std::sync::Wait;
@@ -54,64 +55,68 @@ fn writer_number<C: time::Clock>(clock: &C) -> u64 {
     }
 }
 
-fn memory_logs(alloc: Global) -> Result<Vec<MemoryLog>, AllocError> {
-    let mut logs = Vec::new(alloc);
-    for _ in 0..READERS {
-        logs.push(MemoryLog::vacant(alloc))?;
+/// The objects of the program.
+type Store<'a> = Placed<SteadyStore, FolderStore<'a, HostRuntime>>;
+
+/// A log of the program.
+type Log<'a> = Placed<MemoryLog, FileLog<'a, HostRuntime>>;
+
+// The store that a word names.
+fn store_at<'a>(
+    alloc: Global,
+    system: &'a HostRuntime,
+    folder: &str,
+) -> Result<Store<'a>, AllocError> {
+    if folder == MEMORY {
+        return Ok(Placed::Memory(SteadyStore::vacant(alloc)));
     }
-    Ok(logs)
+    let store = FolderStore::over(alloc, system, folder, writer_number(system))?;
+    Ok(Placed::Folder(store))
 }
 
-fn folder_logs<'a, F: Files>(
+// The logs that a word names.
+fn logs_at<'a>(
     alloc: Global,
-    files: &'a F,
+    system: &'a HostRuntime,
     folder: &str,
-) -> Result<Vec<FileLog<'a, F>>, AllocError> {
+) -> Result<Vec<Log<'a>>, AllocError> {
     let mut logs = Vec::new(alloc);
     for _ in 0..READERS {
-        logs.push(FileLog::over(alloc, files, folder)?)?;
+        logs.push(if folder == MEMORY {
+            Placed::Memory(MemoryLog::vacant(alloc))
+        } else {
+            Placed::Folder(FileLog::over(alloc, system, folder)?)
+        })?;
     }
     Ok(logs)
 }
 
 // Does the command over the standard streams, and gives its status. The system is the runtime itself: what is sent to a thread
 // may hold it, and the runtime's leave to start threads is its own.
-fn status_over<
-    Rt: Threads + Wait + Sync + Input + Print,
-    S: ObjectStore + Send + Drop,
-    L: SourceLog + Send,
->(rt: &Rt, system: &HostRuntime, words: &[String], store: S, logs: Vec<L>) -> u8 {
+fn status_over<Rt: Threads + Wait + Sync + Input + Print>(
+    rt: &Rt,
+    system: &HostRuntime,
+    store: &str,
+    log: &str,
+    command: &[String],
+) -> Result<u8, AllocError> {
+    let alloc = system.alloc();
+    let store = store_at(alloc, system, store)?;
+    let logs = logs_at(alloc, system, log)?;
     let mut input = StdSource::over(rt.reader());
     let mut output = StdSink::over(io::writer(rt));
     let clock = SystemClock::over(system);
-    serve(
+    let finished = serve(
         rt,
-        system.alloc(),
-        words,
+        alloc,
+        command,
         store,
         logs,
         clock,
         &mut input,
         &mut output,
-    )
-    .status
-}
-
-// The logs that a word names, and the command.
-fn status_with<Rt: Threads + Wait + Sync + Input + Print, S: ObjectStore + Send + Drop>(
-    rt: &Rt,
-    system: &HostRuntime,
-    log: &str,
-    words: &[String],
-    store: S,
-) -> Result<u8, AllocError> {
-    let alloc = system.alloc();
-    if log == MEMORY {
-        let logs = memory_logs(alloc)?;
-        return Ok(status_over(rt, system, words, store, logs));
-    }
-    let logs = folder_logs(alloc, system, log)?;
-    Ok(status_over(rt, system, words, store, logs))
+    );
+    Ok(finished.status)
 }
 
 // With fewer than two words there is no command: that is answered over nothing.
@@ -120,17 +125,12 @@ fn status_of<Rt: Threads + Wait + Sync + Input + Print>(
     system: &HostRuntime,
     words: &[String],
 ) -> Result<u8, AllocError> {
-    let alloc = system.alloc();
-    let [store, log, command @ ..] = words else {
-        let logs = memory_logs(alloc)?;
-        return Ok(status_over(rt, system, &[], SteadyStore::vacant(alloc), logs));
-    };
-    if store.as_str() == MEMORY {
-        let store = SteadyStore::vacant(alloc);
-        return status_with(rt, system, log.as_str(), command, store);
+    match words {
+        [store, log, command @ ..] => {
+            status_over(rt, system, store.as_str(), log.as_str(), command)
+        }
+        _ => status_over(rt, system, MEMORY, MEMORY, &[]),
     }
-    let store = FolderStore::over(alloc, system, store.as_str(), writer_number(system))?;
-    status_with(rt, system, log.as_str(), command, store)
 }
 
 fn main(rt: HostRuntime) -> ExitCode {

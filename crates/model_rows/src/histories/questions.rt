@@ -6,10 +6,11 @@ use delete_tasks::covers;
 use doc_value::{Doc, Fields, Schema};
 use index_config::{FieldFormats, FieldNumbers, IndexConfig, Mode, Policy};
 use meta_journal::{Act, Entry};
-use meta_store::{Meta, Reading, Settings};
+use meta_store::{Meta, Reading, Refusal, Settings};
 use query_ast::Query;
 use source_checkpoint::{Part, Partition, Span};
 use std::alloc::{AllocError, Global};
+use std::mem;
 
 /// `begin` begins a history with its Create. `stage`, `publish`, `replace`, `raise`, `task`, `mark` and `remove` are entries, with
 /// their moment and their numbers. `spans N` shows a row's spans, `counts` the revision and the next number, `covers A U` whether a
@@ -78,13 +79,28 @@ fn take(alloc: Global, meta: &mut Meta, entry: Entry) -> Result<String, AllocErr
         return String::from_str(alloc, "many entries");
     }
     match meta.check(&entry, reading(alloc)) {
-        Ok(reading) => {
-            meta.reserve(&entry)?;
-            meta.apply(entry, reading);
-            String::from_str(alloc, "ok")
+        Ok(reading) => match meta.reserve(&entry) {
+            Ok(()) => {
+                meta.apply(entry, reading);
+                String::from_str(alloc, "ok")
+            }
+            Err(refused) => {
+                mem::drop(entry);
+                mem::drop(reading);
+                Err(refused)
+            }
+        },
+        Err(refusal) => {
+            mem::drop(entry);
+            refused(alloc, refusal)
         }
-        Err(refusal) => format!(in alloc; "{refusal}"),
     }
+}
+
+fn refused(alloc: Global, refusal: Refusal) -> Result<String, AllocError> {
+    let text = format!(in alloc; "{refusal}");
+    mem::drop(refusal);
+    text
 }
 
 /// The spans of a row, each as its partition, its range and its marks, with a blank behind.

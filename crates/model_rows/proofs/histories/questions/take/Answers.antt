@@ -13,4 +13,4 @@ is_handed reading back (Err refusal) e = cc e
 pub apply-requires-clause-may : goal.apply-requires-clause-may
 apply-requires-clause-may c =
     let given = is_handed _ _ _ c.in-Ok.ensures in
-    rw (given.0, c.in_ok-reserve-in-Ok.ensures.same) given.1
+    rw (given.0, c.in-Ok-reserve.ensures.same) given.1
