@@ -24,3 +24,29 @@ report_of (Some commands.Describe) = Some kinds.Describe
 pub asked_so : (given : List (List ℕ)) (named x : Option Command) (asked : Report) → named ≡ command_of given → named ≡ x → AsksFor asked given → report_of x ≡ Some asked
 asked_so given named x kinds.Splits are is asks = ap report_of (named_so given named x commands.Splits are is asks)
 asked_so given named x kinds.Describe are is asks = ap report_of (named_so given named x commands.Describe are is asks)
+
+-- ---- what is told apart
+
+pub unnamed : {A : Type 0} {x : A} → ◌≡◌ {A = Option A} None (Some x) → ⊥
+unnamed e = cc e
+
+pub same_of : {A : Type 0} {x y : A} → ◌≡◌ {A = Option A} (Some x) (Some y) → x ≡ y
+same_of e = cc e
+
+pub create_or_drive : ◌≡◌ {A = Option Command} (Some commands.Create) (Some commands.Drive) → ⊥
+create_or_drive e = cc e
+
+pub drive_or_create : ◌≡◌ {A = Option Command} (Some commands.Drive) (Some commands.Create) → ⊥
+drive_or_create e = cc e
+
+pub splits_or_drive : ◌≡◌ {A = Option Command} (Some commands.Splits) (Some commands.Drive) → ⊥
+splits_or_drive e = cc e
+
+pub splits_or_create : ◌≡◌ {A = Option Command} (Some commands.Splits) (Some commands.Create) → ⊥
+splits_or_create e = cc e
+
+pub describe_or_drive : ◌≡◌ {A = Option Command} (Some commands.Describe) (Some commands.Drive) → ⊥
+describe_or_drive e = cc e
+
+pub describe_or_create : ◌≡◌ {A = Option Command} (Some commands.Describe) (Some commands.Create) → ⊥
+describe_or_create e = cc e

@@ -14,7 +14,7 @@ mod serving;
 mod writing;
 
 use crate::error_line::NO_MEMORY;
-use crate::places::Placed;
+use crate::places::{Log, Placed, Store};
 use crate::serving::serve;
 use object_store::SteadyStore;
 use real_edge::{FileLog, FolderStore, StdSink, StdSource, SystemClock};
@@ -25,7 +25,7 @@ use std::rt::Env;
 use std::sync::Wait;
 use std::thread::Threads;
 use std::time::{self, SystemTime, UNIX_EPOCH};
-use std::{env, io};
+use std::{env, io, mem};
 
 const MEMORY: &str = "memory";
 
@@ -54,12 +54,6 @@ fn writer_number<C: time::Clock>(clock: &C) -> u64 {
         Err(_) => 0,
     }
 }
-
-/// The objects of the program.
-type Store<'a> = Placed<SteadyStore, FolderStore<'a, HostRuntime>>;
-
-/// A log of the program.
-type Log<'a> = Placed<MemoryLog, FileLog<'a, HostRuntime>>;
 
 // The store that a word names.
 fn store_at<'a>(
@@ -93,6 +87,30 @@ fn logs_at<'a>(
 
 // Does the command over the standard streams, and gives its status. The system is the runtime itself: what is sent to a thread
 // may hold it, and the runtime's leave to start threads is its own.
+fn served<Rt: Threads + Wait + Sync + Input + Print>(
+    rt: &Rt,
+    system: &HostRuntime,
+    command: &[String],
+    store: Store,
+    logs: Vec<Log>,
+) -> u8 {
+    let mut input = StdSource::over(rt.reader());
+    let mut output = StdSink::over(io::writer(rt));
+    let clock = SystemClock::over(system);
+    serve(
+        rt,
+        system.alloc(),
+        command,
+        store,
+        logs,
+        clock,
+        &mut input,
+        &mut output,
+    )
+    .status
+}
+
+// Does the command over what two words name.
 fn status_over<Rt: Threads + Wait + Sync + Input + Print>(
     rt: &Rt,
     system: &HostRuntime,
@@ -100,23 +118,14 @@ fn status_over<Rt: Threads + Wait + Sync + Input + Print>(
     log: &str,
     command: &[String],
 ) -> Result<u8, AllocError> {
-    let alloc = system.alloc();
-    let store = store_at(alloc, system, store)?;
-    let logs = logs_at(alloc, system, log)?;
-    let mut input = StdSource::over(rt.reader());
-    let mut output = StdSink::over(io::writer(rt));
-    let clock = SystemClock::over(system);
-    let finished = serve(
-        rt,
-        alloc,
-        command,
-        store,
-        logs,
-        clock,
-        &mut input,
-        &mut output,
-    );
-    Ok(finished.status)
+    let store = store_at(system.alloc(), system, store)?;
+    match logs_at(system.alloc(), system, log) {
+        Ok(logs) => Ok(served(rt, system, command, store, logs)),
+        Err(refused) => {
+            mem::drop(store);
+            Err(refused)
+        }
+    }
 }
 
 // With fewer than two words there is no command: that is answered over nothing.

@@ -4,9 +4,10 @@ ghost use Rattle.std.specs.Prelude.{◌≤◌, None};
 ghost use Rattle.quick_node.specs.Places.{by_place};
 
 use byte_fields::Failed;
-use object_store::{CreateError, GetError, Key, Keys, ListError, ObjectStore, Piece};
+use object_store::{CreateError, GetError, Key, Keys, ListError, ObjectStore, Piece, SteadyStore};
+use real_edge::{FileLog, FolderStore};
 use source_checkpoint::Partition;
-use source_log::{Partitions, ReadError, Records, SourceLog};
+use source_log::{MemoryLog, Partitions, ReadError, Records, SourceLog};
 use std::alloc::Global;
 
 /// A store, or a log, in memory or in a folder. It tells nothing.
@@ -16,10 +17,16 @@ pub enum Placed<M, F> {
     Folder(F),
 }
 
-impl<M: ObjectStore, F: ObjectStore> ObjectStore for Placed<M, F> {
+/// The objects of the program.
+pub type Store<'a> = Placed<SteadyStore, FolderStore<'a, HostRuntime>>;
+
+/// A log of the program.
+pub type Log<'a> = Placed<MemoryLog, FileLog<'a, HostRuntime>>;
+
+impl<'a> ObjectStore for Store<'a> {
     ghost told = { λ _. None };
 
-    ghost fault_count = { λ placed. by_place M.fault_count F.fault_count placed };
+    ghost fault_count = { λ placed. by_place ⟦<SteadyStore as ObjectStore>⟧.fault_count ⟦<FolderStore<'a, HostRuntime> as ObjectStore>⟧.fault_count placed };
 
     fn create(&mut self, alloc: Global, key: &Key, content: &[u8]) -> Result<(), CreateError> {
         match self {
@@ -63,15 +70,15 @@ impl<M: ObjectStore, F: ObjectStore> ObjectStore for Placed<M, F> {
     }
 }
 
-impl<M: SourceLog, F: SourceLog> SourceLog for Placed<M, F> {
+impl<'a> SourceLog for Log<'a> {
     ghost use Rattle.std.proofs.Math.Nat.{le_refl, le_trans};
 
     ghost told = { λ _. None };
 
-    ghost fault_count = { λ placed. by_place M.fault_count F.fault_count placed };
+    ghost fault_count = { λ placed. by_place ⟦<MemoryLog as SourceLog>⟧.fault_count ⟦<FileLog<'a, HostRuntime> as SourceLog>⟧.fault_count placed };
 
     ghost since = { λ first now.
-        by_place M.fault_count F.fault_count first ≤ by_place M.fault_count F.fault_count now };
+        by_place ⟦<MemoryLog as SourceLog>⟧.fault_count ⟦<FileLog<'a, HostRuntime> as SourceLog>⟧.fault_count first ≤ by_place ⟦<MemoryLog as SourceLog>⟧.fault_count ⟦<FileLog<'a, HostRuntime> as SourceLog>⟧.fault_count now };
 
     fn partitions(&mut self, alloc: Global) -> Result<Partitions, ReadError> {
         match self {
@@ -100,7 +107,7 @@ impl<M: SourceLog, F: SourceLog> SourceLog for Placed<M, F> {
         }
     }
 
-    ghost since_itself = { λ log. le_refl (by_place M.fault_count F.fault_count log) };
+    ghost since_itself = { λ log. le_refl (by_place ⟦<MemoryLog as SourceLog>⟧.fault_count ⟦<FileLog<'a, HostRuntime> as SourceLog>⟧.fault_count log) };
 
     ghost since_then = { λ first second third a b. le_trans a b };
 }

@@ -1,4 +1,4 @@
-use Rattle.std.proofs.Common.{◌≡◌, Option, Some, None, map, sum, refl, sym, ap, ◌∙◌, subst, inl, inr, arith}
+use Rattle.std.proofs.Common.{◌≡◌, Some, None, map, sum, refl, sym, ap, ◌∙◌, subst, inl, inr, arith}
 use Rattle.std.specs.Prelude.{min}
 use Rattle.command_words.specs.declared.command.Command.TheVariants as commands
 use Rattle.command_words.proofs.Naming.{names_alone}
@@ -6,11 +6,10 @@ use Rattle.index_world.specs.Core.{last_count}
 use Rattle.node_run.specs.Logs.{logs_in}
 use Rattle.quick_node.specs.Causes.{faults_of}
 use Rattle.quick_node.specs.Reporting.{Reports}
-use Rattle.quick_node.specs.declared.reporting.Report.{Report}
 use Rattle.quick_node.specs.declared.reporting.Report.TheVariants as kinds
 use Rattle.quick_node.proofs.Caused.{other_causes}
 use Rattle.quick_node.proofs.Unread.{is_short, short_status, wrote_none, landed_itself, unread_drives, unread_creates, unread_reports}
-use Rattle.quick_node.proofs.Words.{named_so, asked_so}
+use Rattle.quick_node.proofs.Words.{named_so, asked_so, unnamed, same_of, create_or_drive, drive_or_create, splits_or_drive, splits_or_create, describe_or_drive, describe_or_create}
 use Rattle.quick_node.proofs.serving.serve_with_logs.Goals as goal
 
 -- ---- the words found no memory
@@ -69,16 +68,16 @@ returns-in_default-clause-unread g c other = c.ended.ensures.logs
 -- ---- the words name no command
 
 pub returns-in_default-named-clause-drives : goal.returns-in_default-named-clause-drives
-returns-in_default-named-clause-drives g c history before drive shows enters = let no = named_so _ _ None commands.Drive c.in-Ok.ensures c.in_default-named.is drive in cc
+returns-in_default-named-clause-drives g c history before drive shows enters = absurd (unnamed (named_so _ _ None commands.Drive c.in-Ok.ensures c.in_default-named.is drive))
 
 pub returns-in_default-named-clause-creates : goal.returns-in_default-named-clause-creates
-returns-in_default-named-clause-creates g c history before moment create shows enters ticks = let no = named_so _ _ None commands.Create c.in-Ok.ensures c.in_default-named.is create in cc
+returns-in_default-named-clause-creates g c history before moment create shows enters ticks = absurd (unnamed (named_so _ _ None commands.Create c.in-Ok.ensures c.in_default-named.is create))
 
 pub returns-in_default-named-clause-reports : goal.returns-in_default-named-clause-reports
-returns-in_default-named-clause-reports g c asked history before asks shows enters = let no = asked_so _ _ None asked c.in-Ok.ensures c.in_default-named.is asks in cc
+returns-in_default-named-clause-reports g c asked history before asks shows enters = absurd (unnamed (asked_so _ _ None asked c.in-Ok.ensures c.in_default-named.is asks))
 
 pub returns-in_default-named-clause-only_reads : goal.returns-in_default-named-clause-only_reads
-returns-in_default-named-clause-only_reads g c asked asks = let no = asked_so _ _ None asked c.in-Ok.ensures c.in_default-named.is asks in cc
+returns-in_default-named-clause-only_reads g c asked asks = absurd (unnamed (asked_so _ _ None asked c.in-Ok.ensures c.in_default-named.is asks))
 
 pub returns-in_default-named-clause-refuses : goal.returns-in_default-named-clause-refuses
 returns-in_default-named-clause-refuses g c other none splits describe = (
@@ -100,9 +99,9 @@ returns-in_default-named-clause-causes g c =
 
 pub returns-in_default-named-clause-statuses : goal.returns-in_default-named-clause-statuses
 returns-in_default-named-clause-statuses g c = record {
-  drive = λ drive. let no = named_so _ _ None commands.Drive c.in-Ok.ensures c.in_default-named.is drive in cc;
-  create = λ create. let no = named_so _ _ None commands.Create c.in-Ok.ensures c.in_default-named.is create in cc;
-  report = λ asked asks. let no = asked_so _ _ None asked c.in-Ok.ensures c.in_default-named.is asks in cc;
+  drive = λ drive. absurd (unnamed (named_so _ _ None commands.Drive c.in-Ok.ensures c.in_default-named.is drive));
+  create = λ create. absurd (unnamed (named_so _ _ None commands.Create c.in-Ok.ensures c.in_default-named.is create));
+  report = λ asked asks. absurd (unnamed (asked_so _ _ None asked c.in-Ok.ensures c.in_default-named.is asks));
   other = λ other none splits describe. c.refuse.ensures.status;
 }
 
@@ -118,16 +117,16 @@ returns-in_default-named-clause-unread g c other = c.refuse.ensures.logs
 -- ---- the command is `create`
 
 pub returns-in-Create-clause-drives : goal.returns-in-Create-clause-drives
-returns-in-Create-clause-drives g c history before drive shows enters = let no = named_so _ _ (Some commands.Create) commands.Drive c.in-Ok.ensures (c.in-Some.is ∙ ap Some c.in-Create.is) drive in cc
+returns-in-Create-clause-drives g c history before drive shows enters = absurd (create_or_drive (named_so _ _ (Some commands.Create) commands.Drive c.in-Ok.ensures (c.in-Some.is ∙ ap Some c.in-Create.is) drive))
 
 pub returns-in-Create-clause-creates : goal.returns-in-Create-clause-creates
 returns-in-Create-clause-creates g c history before moment create shows enters ticks = c.create.ensures.creates history before moment shows enters ticks
 
 pub returns-in-Create-clause-reports : goal.returns-in-Create-clause-reports
-returns-in-Create-clause-reports g c asked history before asks shows enters = let no = asked_so _ _ (Some commands.Create) asked c.in-Ok.ensures (c.in-Some.is ∙ ap Some c.in-Create.is) asks in cc
+returns-in-Create-clause-reports g c asked history before asks shows enters = absurd (unnamed (asked_so _ _ (Some commands.Create) asked c.in-Ok.ensures (c.in-Some.is ∙ ap Some c.in-Create.is) asks))
 
 pub returns-in-Create-clause-only_reads : goal.returns-in-Create-clause-only_reads
-returns-in-Create-clause-only_reads g c asked asks = let no = asked_so _ _ (Some commands.Create) asked c.in-Ok.ensures (c.in-Some.is ∙ ap Some c.in-Create.is) asks in cc
+returns-in-Create-clause-only_reads g c asked asks = absurd (unnamed (asked_so _ _ (Some commands.Create) asked c.in-Ok.ensures (c.in-Some.is ∙ ap Some c.in-Create.is) asks))
 
 pub returns-in-Create-clause-refuses : goal.returns-in-Create-clause-refuses
 returns-in-Create-clause-refuses g c other none splits describe = absurd (none (names_alone _ commands.Create (sym c.in-Ok.ensures ∙ c.in-Some.is ∙ ap Some c.in-Create.is)))
@@ -137,9 +136,9 @@ returns-in-Create-clause-causes g c = c.create.ensures.causes.causes
 
 pub returns-in-Create-clause-statuses : goal.returns-in-Create-clause-statuses
 returns-in-Create-clause-statuses g c = record {
-  drive = λ drive. let no = named_so _ _ (Some commands.Create) commands.Drive c.in-Ok.ensures (c.in-Some.is ∙ ap Some c.in-Create.is) drive in cc;
+  drive = λ drive. absurd (create_or_drive (named_so _ _ (Some commands.Create) commands.Drive c.in-Ok.ensures (c.in-Some.is ∙ ap Some c.in-Create.is) drive));
   create = λ create. c.create.ensures.causes.known;
-  report = λ asked asks. let no = asked_so _ _ (Some commands.Create) asked c.in-Ok.ensures (c.in-Some.is ∙ ap Some c.in-Create.is) asks in cc;
+  report = λ asked asks. absurd (unnamed (asked_so _ _ (Some commands.Create) asked c.in-Ok.ensures (c.in-Some.is ∙ ap Some c.in-Create.is) asks));
   other = λ other none splits describe. absurd (none (names_alone _ commands.Create (sym c.in-Ok.ensures ∙ c.in-Some.is ∙ ap Some c.in-Create.is)));
 }
 
@@ -158,13 +157,13 @@ pub returns-in-Drive-clause-drives : goal.returns-in-Drive-clause-drives
 returns-in-Drive-clause-drives g c history before drive shows enters = c.drive.ensures.drives history before shows enters
 
 pub returns-in-Drive-clause-creates : goal.returns-in-Drive-clause-creates
-returns-in-Drive-clause-creates g c history before moment create shows enters ticks = let no = named_so _ _ (Some commands.Drive) commands.Create c.in-Ok.ensures (c.in-Some.is ∙ ap Some c.in-Drive.is) create in cc
+returns-in-Drive-clause-creates g c history before moment create shows enters ticks = absurd (drive_or_create (named_so _ _ (Some commands.Drive) commands.Create c.in-Ok.ensures (c.in-Some.is ∙ ap Some c.in-Drive.is) create))
 
 pub returns-in-Drive-clause-reports : goal.returns-in-Drive-clause-reports
-returns-in-Drive-clause-reports g c asked history before asks shows enters = let no = asked_so _ _ (Some commands.Drive) asked c.in-Ok.ensures (c.in-Some.is ∙ ap Some c.in-Drive.is) asks in cc
+returns-in-Drive-clause-reports g c asked history before asks shows enters = absurd (unnamed (asked_so _ _ (Some commands.Drive) asked c.in-Ok.ensures (c.in-Some.is ∙ ap Some c.in-Drive.is) asks))
 
 pub returns-in-Drive-clause-only_reads : goal.returns-in-Drive-clause-only_reads
-returns-in-Drive-clause-only_reads g c asked asks = let no = asked_so _ _ (Some commands.Drive) asked c.in-Ok.ensures (c.in-Some.is ∙ ap Some c.in-Drive.is) asks in cc
+returns-in-Drive-clause-only_reads g c asked asks = absurd (unnamed (asked_so _ _ (Some commands.Drive) asked c.in-Ok.ensures (c.in-Some.is ∙ ap Some c.in-Drive.is) asks))
 
 pub returns-in-Drive-clause-refuses : goal.returns-in-Drive-clause-refuses
 returns-in-Drive-clause-refuses g c other none splits describe = absurd (other (names_alone _ commands.Drive (sym c.in-Ok.ensures ∙ c.in-Some.is ∙ ap Some c.in-Drive.is)))
@@ -175,8 +174,8 @@ returns-in-Drive-clause-causes g c = c.drive.ensures.causes.causes
 pub returns-in-Drive-clause-statuses : goal.returns-in-Drive-clause-statuses
 returns-in-Drive-clause-statuses g c = record {
   drive = λ drive. c.drive.ensures.causes.known;
-  create = λ create. let no = named_so _ _ (Some commands.Drive) commands.Create c.in-Ok.ensures (c.in-Some.is ∙ ap Some c.in-Drive.is) create in cc;
-  report = λ asked asks. let no = asked_so _ _ (Some commands.Drive) asked c.in-Ok.ensures (c.in-Some.is ∙ ap Some c.in-Drive.is) asks in cc;
+  create = λ create. absurd (drive_or_create (named_so _ _ (Some commands.Drive) commands.Create c.in-Ok.ensures (c.in-Some.is ∙ ap Some c.in-Drive.is) create));
+  report = λ asked asks. absurd (unnamed (asked_so _ _ (Some commands.Drive) asked c.in-Ok.ensures (c.in-Some.is ∙ ap Some c.in-Drive.is) asks));
   other = λ other none splits describe. absurd (other (names_alone _ commands.Drive (sym c.in-Ok.ensures ∙ c.in-Some.is ∙ ap Some c.in-Drive.is)));
 }
 
@@ -192,15 +191,14 @@ returns-in-Drive-clause-unread g c other = absurd (other (names_alone _ commands
 -- ---- the command is `splits`
 
 pub returns-in-Splits-clause-drives : goal.returns-in-Splits-clause-drives
-returns-in-Splits-clause-drives g c history before drive shows enters = let no = named_so _ _ (Some commands.Splits) commands.Drive c.in-Ok.ensures (c.in-Some.is ∙ ap Some c.in-Splits.is) drive in cc
+returns-in-Splits-clause-drives g c history before drive shows enters = absurd (splits_or_drive (named_so _ _ (Some commands.Splits) commands.Drive c.in-Ok.ensures (c.in-Some.is ∙ ap Some c.in-Splits.is) drive))
 
 pub returns-in-Splits-clause-creates : goal.returns-in-Splits-clause-creates
-returns-in-Splits-clause-creates g c history before moment create shows enters ticks = let no = named_so _ _ (Some commands.Splits) commands.Create c.in-Ok.ensures (c.in-Some.is ∙ ap Some c.in-Splits.is) create in cc
+returns-in-Splits-clause-creates g c history before moment create shows enters ticks = absurd (splits_or_create (named_so _ _ (Some commands.Splits) commands.Create c.in-Ok.ensures (c.in-Some.is ∙ ap Some c.in-Splits.is) create))
 
 pub returns-in-Splits-clause-reports : goal.returns-in-Splits-clause-reports
 returns-in-Splits-clause-reports g c asked history before asks shows enters =
-    let same : ◌≡◌ {A = Option Report} (Some kinds.Splits) (Some asked) = asked_so _ _ (Some commands.Splits) asked c.in-Ok.ensures (c.in-Some.is ∙ ap Some c.in-Splits.is) asks in
-    let is : kinds.Splits ≡ asked = cc same in
+    let is : kinds.Splits ≡ asked = same_of (asked_so _ _ (Some commands.Splits) asked c.in-Ok.ensures (c.in-Some.is ∙ ap Some c.in-Splits.is) asks) in
     let done = c.report.ensures.reports history before shows enters in
     (done.0, done.1, subst (λ a. Reports a history before done.0 c.report.result.0.status) is done.2, done.3)
 
@@ -215,8 +213,8 @@ returns-in-Splits-clause-causes g c = c.report.ensures.causes.causes
 
 pub returns-in-Splits-clause-statuses : goal.returns-in-Splits-clause-statuses
 returns-in-Splits-clause-statuses g c = record {
-  drive = λ drive. let no = named_so _ _ (Some commands.Splits) commands.Drive c.in-Ok.ensures (c.in-Some.is ∙ ap Some c.in-Splits.is) drive in cc;
-  create = λ create. let no = named_so _ _ (Some commands.Splits) commands.Create c.in-Ok.ensures (c.in-Some.is ∙ ap Some c.in-Splits.is) create in cc;
+  drive = λ drive. absurd (splits_or_drive (named_so _ _ (Some commands.Splits) commands.Drive c.in-Ok.ensures (c.in-Some.is ∙ ap Some c.in-Splits.is) drive));
+  create = λ create. absurd (splits_or_create (named_so _ _ (Some commands.Splits) commands.Create c.in-Ok.ensures (c.in-Some.is ∙ ap Some c.in-Splits.is) create));
   report = λ asked asks. c.report.ensures.causes.known;
   other = λ other none splits describe. absurd (splits (names_alone _ commands.Splits (sym c.in-Ok.ensures ∙ c.in-Some.is ∙ ap Some c.in-Splits.is)));
 }
@@ -233,15 +231,14 @@ returns-in-Splits-clause-unread g c other = c.report.ensures.unread
 -- ---- the command is `describe`
 
 pub returns-in-Describe-clause-drives : goal.returns-in-Describe-clause-drives
-returns-in-Describe-clause-drives g c history before drive shows enters = let no = named_so _ _ (Some commands.Describe) commands.Drive c.in-Ok.ensures (c.in-Some.is ∙ ap Some c.in-Describe.is) drive in cc
+returns-in-Describe-clause-drives g c history before drive shows enters = absurd (describe_or_drive (named_so _ _ (Some commands.Describe) commands.Drive c.in-Ok.ensures (c.in-Some.is ∙ ap Some c.in-Describe.is) drive))
 
 pub returns-in-Describe-clause-creates : goal.returns-in-Describe-clause-creates
-returns-in-Describe-clause-creates g c history before moment create shows enters ticks = let no = named_so _ _ (Some commands.Describe) commands.Create c.in-Ok.ensures (c.in-Some.is ∙ ap Some c.in-Describe.is) create in cc
+returns-in-Describe-clause-creates g c history before moment create shows enters ticks = absurd (describe_or_create (named_so _ _ (Some commands.Describe) commands.Create c.in-Ok.ensures (c.in-Some.is ∙ ap Some c.in-Describe.is) create))
 
 pub returns-in-Describe-clause-reports : goal.returns-in-Describe-clause-reports
 returns-in-Describe-clause-reports g c asked history before asks shows enters =
-    let same : ◌≡◌ {A = Option Report} (Some kinds.Describe) (Some asked) = asked_so _ _ (Some commands.Describe) asked c.in-Ok.ensures (c.in-Some.is ∙ ap Some c.in-Describe.is) asks in
-    let is : kinds.Describe ≡ asked = cc same in
+    let is : kinds.Describe ≡ asked = same_of (asked_so _ _ (Some commands.Describe) asked c.in-Ok.ensures (c.in-Some.is ∙ ap Some c.in-Describe.is) asks) in
     let done = c.report-in-Describe.ensures.reports history before shows enters in
     (done.0, done.1, subst (λ a. Reports a history before done.0 c.report-in-Describe.result.0.status) is done.2, done.3)
 
@@ -256,8 +253,8 @@ returns-in-Describe-clause-causes g c = c.report-in-Describe.ensures.causes.caus
 
 pub returns-in-Describe-clause-statuses : goal.returns-in-Describe-clause-statuses
 returns-in-Describe-clause-statuses g c = record {
-  drive = λ drive. let no = named_so _ _ (Some commands.Describe) commands.Drive c.in-Ok.ensures (c.in-Some.is ∙ ap Some c.in-Describe.is) drive in cc;
-  create = λ create. let no = named_so _ _ (Some commands.Describe) commands.Create c.in-Ok.ensures (c.in-Some.is ∙ ap Some c.in-Describe.is) create in cc;
+  drive = λ drive. absurd (describe_or_drive (named_so _ _ (Some commands.Describe) commands.Drive c.in-Ok.ensures (c.in-Some.is ∙ ap Some c.in-Describe.is) drive));
+  create = λ create. absurd (describe_or_create (named_so _ _ (Some commands.Describe) commands.Create c.in-Ok.ensures (c.in-Some.is ∙ ap Some c.in-Describe.is) create));
   report = λ asked asks. c.report-in-Describe.ensures.causes.known;
   other = λ other none splits describe. absurd (describe (names_alone _ commands.Describe (sym c.in-Ok.ensures ∙ c.in-Some.is ∙ ap Some c.in-Describe.is)));
 }
