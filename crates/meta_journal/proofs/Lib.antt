@@ -4,6 +4,7 @@ pub mod Exact
 pub mod FieldLaws
 pub mod EntryLaws
 pub mod Spelled
+pub mod Acts
 pub mod Digits
 pub mod Calls
 pub mod KeyOrder

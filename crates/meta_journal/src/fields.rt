@@ -104,8 +104,10 @@ fn take_number(bytes: &[u8], at: usize) -> Result<(u64, usize), EntryError>
     ensures exact { Reads result (number_at bytes.now at) }
     ensures within { IfOk result (λ x. x.1 ≤ length bytes.now) }
 {
-    let (number, next) = take_varint(bytes, at)?;
-    Ok((number, next))
+    match take_varint(bytes, at) {
+        Ok(read) => Ok(read),
+        Err(fault) => Err(EntryError::Field(fault)),
+    }
 }
 
 /// A count of numbers, and they.
@@ -136,8 +138,10 @@ pub fn take_texts(alloc: Global, bytes: &[u8], at: usize) -> Result<(Texts, usiz
     ensures exact { Reads result (counted_at bytes.now (λ before. utf8_at bytes.now) at) }
     ensures within { IfOk result (λ x. x.1 ≤ length bytes.now) }
 {
-    let (count, next) = take_varint(bytes, at)?;
-    members_from::<AnyText>(alloc, bytes, next, count)
+    match take_number(bytes, at) {
+        Ok((count, next)) => members_from::<AnyText>(alloc, bytes, next, count),
+        Err(fault) => Err(fault),
+    }
 }
 
 // Whether a term may stand behind these.
