@@ -1,5 +1,5 @@
 -- What is read of an act of each kind, and of an entry.
-use Rattle.std.proofs.Common.{◌≡◌, ℕ, Bool, true, false, eqb, List, length, Result, Ok, Err, refl, sym, ap, ◌∙◌}
+use Rattle.std.proofs.Common.{◌≡◌, ℕ, true, false, eqb, List, length, Result, Ok, Err, refl, ap, ◌∙◌}
 use Rattle.std.proofs.lemmas.Bool.{eq-eqb, ne_eqb}
 use Rattle.byte_fields.specs.Reading.{varint_at, bytes_at}
 use Rattle.source_checkpoint.specs.declared.delta.Part.{Part}
@@ -7,7 +7,6 @@ use Rattle.doc_value.specs.declared.facts.TimeRange.{TimeRange}
 use Rattle.split_states.specs.declared.facts.RowFacts.{RowFacts}
 use Rattle.meta_journal.specs.declared.entry.Act.{Act}
 use Rattle.meta_journal.specs.declared.entry.Act.TheVariants as acts
-use Rattle.meta_journal.specs.declared.entry.Entry.{Entry}
 use Rattle.meta_journal.specs.declared.entry_error.EntryError.{EntryError}
 use Rattle.meta_journal.specs.declared.entry_error.EntryError.TheVariants.{Trailing}
 use Rattle.meta_journal.specs.declared.reading.Kind.{Kind}

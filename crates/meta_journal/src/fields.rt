@@ -69,25 +69,6 @@ fn take_partition(bytes: &[u8], at: usize) -> Result<(Partition, usize), EntryEr
     }
 }
 
-#[tactic(auto, unfolding(crate::specs::Reading::part_at))]
-fn take_part(bytes: &[u8], at: usize) -> Result<(Part, usize), EntryError>
-    requires { at ≤ length bytes.now }
-    ensures exact { Reads result (part_at bytes.now at) }
-    ensures within { IfOk result (λ x. x.1 ≤ length bytes.now) }
-{
-    let (partition, next) = take_partition(bytes, at)?;
-    let (from, next) = take_varint(bytes, next)?;
-    let (to, next) = take_varint(bytes, next)?;
-    Ok((
-        Part {
-            partition,
-            from,
-            to,
-        },
-        next,
-    ))
-}
-
 /// A count of parts, and they.
 pub fn take_delta(alloc: Global, bytes: &[u8], at: usize) -> Result<(Delta, usize), EntryError>
     requires { at ≤ length bytes.now }
@@ -154,26 +135,6 @@ fn is_term_above(before: &[Bytes], term: &[u8]) -> bool
     }
 }
 
-// A term above those before it.
-#[tactic(auto, unfolding(crate::specs::Reading::term_at))]
-fn take_term(
-    alloc: Global,
-    bytes: &[u8],
-    at: usize,
-    before: &[Bytes],
-) -> Result<(Bytes, usize), EntryError>
-    requires { at ≤ length bytes.now }
-    ensures exact { Reads result (term_at bytes.now before.now at) }
-    ensures within { IfOk result (λ x. x.1 ≤ length bytes.now) }
-{
-    let (piece, next) = take_bytes(bytes, at)?;
-    if !is_term_above(before, piece) {
-        return Err(EntryError::Field(FieldError::BadOrder { at }));
-    }
-    let term = Bytes::from_slice(alloc, piece)?;
-    Ok((term, next))
-}
-
 /// A count of rising terms, and they.
 fn take_terms(alloc: Global, bytes: &[u8], at: usize) -> Result<(Terms, usize), EntryError>
     requires { at ≤ length bytes.now }
@@ -227,22 +188,6 @@ fn take_field_number(
         return Err(EntryError::Field(FieldError::BadOrder { at }));
     }
     Ok((number, next))
-}
-
-#[tactic(auto, unfolding(crate::specs::Reading::field_tags_at))]
-fn take_field_tags(
-    alloc: Global,
-    bytes: &[u8],
-    at: usize,
-    before: &[FieldTags],
-) -> Result<(FieldTags, usize), EntryError>
-    requires { at ≤ length bytes.now }
-    ensures exact { Reads result (field_tags_at bytes.now before.now at) }
-    ensures within { IfOk result (λ x. x.1 ≤ length bytes.now) }
-{
-    let (number, next) = take_field_number(bytes, at, before)?;
-    let (tags, next) = take_tags(alloc, bytes, next)?;
-    Ok((FieldTags { number, tags }, next))
 }
 
 /// A count of tag fields, and they.
@@ -355,20 +300,6 @@ fn is_number_above(before: &[u64], number: u64) -> bool
     }
 }
 
-// A number above those before it.
-#[tactic(auto, unfolding(crate::specs::Reading::rising_at))]
-fn take_rising(bytes: &[u8], at: usize, before: &[u64]) -> Result<(u64, usize), EntryError>
-    requires { at ≤ length bytes.now }
-    ensures exact { Reads result (rising_at bytes.now before.now at) }
-    ensures within { IfOk result (λ x. x.1 ≤ length bytes.now) }
-{
-    let (number, next) = take_varint(bytes, at)?;
-    if !is_number_above(before, number) {
-        return Err(EntryError::Field(FieldError::BadOrder { at }));
-    }
-    Ok((number, next))
-}
-
 /// A count that is not 0, and so many rising numbers.
 #[tactic(auto, unfolding(crate::specs::Reading::row_numbers_at))]
 pub fn take_row_numbers(
@@ -398,13 +329,24 @@ impl Member for AnyPart {
 
     ghost step = { λ bytes before. part_at bytes };
 
+    #[tactic(auto, unfolding(crate::specs::Reading::part_at))]
     fn take(
         _alloc: Global,
         bytes: &[u8],
         at: usize,
         _before: &[Part],
     ) -> Result<(Part, usize), EntryError> {
-        take_part(bytes, at)
+        let (partition, next) = take_partition(bytes, at)?;
+        let (from, next) = take_varint(bytes, next)?;
+        let (to, next) = take_varint(bytes, next)?;
+        Ok((
+            Part {
+                partition,
+                from,
+                to,
+            },
+            next,
+        ))
     }
 }
 
@@ -458,13 +400,19 @@ impl Member for RisingTerm {
 
     ghost step = { λ bytes before. term_at bytes before };
 
+    #[tactic(auto, unfolding(crate::specs::Reading::term_at))]
     fn take(
         alloc: Global,
         bytes: &[u8],
         at: usize,
         before: &[Bytes],
     ) -> Result<(Bytes, usize), EntryError> {
-        take_term(alloc, bytes, at, before)
+        let (piece, next) = take_bytes(bytes, at)?;
+        if !is_term_above(before, piece) {
+            return Err(EntryError::Field(FieldError::BadOrder { at }));
+        }
+        let term = Bytes::from_slice(alloc, piece)?;
+        Ok((term, next))
     }
 }
 
@@ -478,13 +426,16 @@ impl Member for RisingField {
 
     ghost step = { λ bytes before. field_tags_at bytes before };
 
+    #[tactic(auto, unfolding(crate::specs::Reading::field_tags_at))]
     fn take(
         alloc: Global,
         bytes: &[u8],
         at: usize,
         before: &[FieldTags],
     ) -> Result<(FieldTags, usize), EntryError> {
-        take_field_tags(alloc, bytes, at, before)
+        let (number, next) = take_field_number(bytes, at, before)?;
+        let (tags, next) = take_tags(alloc, bytes, next)?;
+        Ok((FieldTags { number, tags }, next))
     }
 }
 
@@ -498,12 +449,17 @@ impl Member for RisingNumber {
 
     ghost step = { λ bytes before. rising_at bytes before };
 
+    #[tactic(auto, unfolding(crate::specs::Reading::rising_at))]
     fn take(
         _alloc: Global,
         bytes: &[u8],
         at: usize,
         before: &[u64],
     ) -> Result<(u64, usize), EntryError> {
-        take_rising(bytes, at, before)
+        let (number, next) = take_varint(bytes, at)?;
+        if !is_number_above(before, number) {
+            return Err(EntryError::Field(FieldError::BadOrder { at }));
+        }
+        Ok((number, next))
     }
 }

@@ -90,9 +90,7 @@ impl Journal {
         let number = self.next;
         let answer = append_at(alloc, store, number, entry, self.settled, before);
         self.place = place_appended(&answer);
-        if answer.is_ok() {
-            self.next += 1;
-        }
+        self.next += u64::from(answer.is_ok());
         answer
     }
 
