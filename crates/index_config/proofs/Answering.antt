@@ -1,5 +1,5 @@
 -- The answer by what a text is and by the first thing that is wrong with it.
-use Rattle.std.proofs.Common.{◌≡◌, ℕ, List, [], ◌∷◌, ◌++◌, Some, None, Result, Ok, Err, slice_get, refl, sym, ap, ◌∙◌, subst, inl, inr}
+use Rattle.std.proofs.Common.{◌≡◌, ℕ, List, [], ◌∷◌, ◌++◌, Option, Some, None, Result, Ok, Err, slice_get, refl, sym, ap, ◌∙◌, subst, inl, inr}
 use Rattle.std.specs.Result.{MatchResult}
 use Rattle.std.specs.Str.{is_utf8, IsUtf8}
 use Rattle.std.proofs.lemmas.Bool.{cases_Bool}
@@ -12,7 +12,7 @@ use Rattle.index_config.specs.declared.config_error.ConfigError.TheVariants.{Not
 use Rattle.index_config.specs.Answer.{config_answer, read_answer, config_faults, first_answer, IsMemory}
 use Rattle.index_config.specs.declared.raw.RawField.{RawField}
 use Rattle.index_config.specs.Tables.{table_faults}
-use Rattle.index_config.specs.Fields.{all_raws, whole_faults, schema_of, config_with, config_of}
+use Rattle.index_config.specs.Fields.{all_raws, whole_faults, schema_of, config_with}
 
 -- no text
 pub answer-no_text : (bytes : List ℕ) → ¬ (IsUtf8 bytes) → config_answer bytes ≡ Err NotToml
@@ -46,23 +46,18 @@ some-first : (faults : List ConfigError) (root : Data) (fault : ConfigError) →
 some-first [] root fault e = cc
 some-first (f ∷ fs) root fault e = let same : f ≡ fault = cc in ap Err same
 
+same-faults : (root : Data) (raws : List RawField) → raws ≡ all_raws root → table_faults root ++ whole_faults root raws ≡ config_faults root
+same-faults root raws r = ap (λ x. table_faults root ++ whole_faults root x) r
+
 -- the answer where something is wrong, and where nothing is
-pub answer-fault : (root : Data) (faults : List ConfigError) (fault : ConfigError) → faults ≡ config_faults root
-    → slice_get faults 0 ≡ Some fault → read_answer (Some root) ≡ Err fault
-answer-fault root faults fault f e = rw (← f) (some-first faults root fault e)
+pub answer-fault : (root : Data) (raws seen : List RawField) (first : Option ConfigError) (fault : ConfigError) → raws ≡ all_raws root → seen ≡ raws
+    → first ≡ slice_get (table_faults root ++ whole_faults root seen) 0 → first ≡ Some fault → read_answer (Some root) ≡ Err fault
+answer-fault root raws seen first fault r s f e =
+    some-first (config_faults root) root fault (ap (λ x. slice_get x 0) (sym (same-faults root seen (s ∙ r))) ∙ sym f ∙ e)
 
-pub answer-config : (root : Data) (faults : List ConfigError) (config : IndexConfig) → faults ≡ config_faults root
-    → slice_get faults 0 ≡ None → config ≡ config_of root → read_answer (Some root) ≡ Ok config
-answer-config root faults config f e c =
-    let none : config_faults root ≡ [] = sym f ∙ none-first faults e in
-    rw (none, c) refl
-
--- no first fault, by the steps of the reading
-pub answer-built : (root : Data) (raws seen : List RawField) (start tables faults : List ConfigError) (config : IndexConfig)
-    → raws ≡ all_raws root → seen ≡ raws → start ≡ [] → tables ≡ start ++ table_faults root → faults ≡ tables ++ whole_faults root seen
-    → slice_get faults 0 ≡ None → config ≡ config_with root raws (schema_of root raws) → read_answer (Some root) ≡ Ok config
-answer-built root raws seen start tables faults config r s b t f e c =
-    let begun : tables ≡ table_faults root = t ∙ ap (λ x. x ++ table_faults root) b in
-    let all : faults ≡ config_faults root =
-    f ∙ ap (λ x. x ++ whole_faults root seen) begun ∙ ap (λ x. table_faults root ++ whole_faults root x) (s ∙ r) in
-    answer-config root faults config all e (c ∙ ap (λ x. config_with root x (schema_of root x)) r)
+pub answer-config : (root : Data) (raws seen : List RawField) (first : Option ConfigError) (config : IndexConfig) → raws ≡ all_raws root → seen ≡ raws
+    → first ≡ slice_get (table_faults root ++ whole_faults root seen) 0 → first ≡ None → config ≡ config_with root raws (schema_of root raws)
+    → read_answer (Some root) ≡ Ok config
+answer-config root raws seen first config r s f e c =
+    let none : config_faults root ≡ [] = sym (same-faults root seen (s ∙ r)) ∙ none-first (table_faults root ++ whole_faults root seen) (sym f ∙ e) in
+    rw none (ap Ok (sym (c ∙ ap (λ x. config_with root x (schema_of root x)) r)))

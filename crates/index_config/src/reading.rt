@@ -1,17 +1,19 @@
-ghost use Rattle.std.specs.Prelude.{◌≡◌, IfOk, Ok, Err, Some, MatchResult};
+ghost use Rattle.std.specs.Prelude.{◌≡◌, ◌++◌, OnOk, IfOk, Ok, Err, Some, MatchResult, slice_get};
 ghost use Rattle.toml.specs.View.{view};
 ghost use Rattle.index_config.specs.Answer.{config_answer, read_answer, IsMemory};
-ghost use Rattle.index_config.specs.Fields.{all_raws};
+ghost use Rattle.index_config.specs.Tables.{table_faults};
+ghost use Rattle.index_config.specs.Fields.{all_raws, whole_faults};
 
 use crate::building::config_of;
 use crate::config::IndexConfig;
 use crate::config_error::ConfigError;
 use crate::fields::push_fields;
-use crate::raw::{Faults, RawFields};
+use crate::raw::{Faults, RawField, RawFields};
 use crate::tables::{MAX_LEVELS, check_tables};
 use crate::whole::{check_whole, mapping_items};
 use doc_value::Text;
 use std::alloc::{AllocError, Global};
+use std::mem;
 use std::str;
 use toml::Value;
 
@@ -42,13 +44,48 @@ fn read_root(alloc: Global, root: &Value) -> Result<IndexConfig, ConfigError>
         (λ refusal. ¬ IsMemory refusal → read_answer (Some (view root.now)) ≡ Err refusal) }
 {
     let raws = raws_of(alloc, root)?;
-    let mut faults = Faults::vacant(alloc);
-    check_tables(alloc, &mut faults, root)?;
-    check_whole(alloc, &mut faults, root, raws.as_slice())?;
-    if let Some(fault) = faults.into_first() {
-        return Err(fault);
+    match first_fault(alloc, root, raws.as_slice()) {
+        Ok(None) => Ok(config_of(alloc, root, raws)?),
+        Ok(Some(fault)) => {
+            mem::drop(raws);
+            Err(fault)
+        }
+        Err(error) => {
+            mem::drop(raws);
+            Err(ConfigError::Memory(error))
+        }
     }
-    Ok(config_of(alloc, root, raws)?)
+}
+
+/// The first thing that is wrong with a configuration of these fields.
+fn first_fault(
+    alloc: Global,
+    root: &Value,
+    raws: &[RawField],
+) -> Result<Option<ConfigError>, AllocError>
+    ensures { IfOk result (λ fault. fault ≡ slice_get (table_faults (view root.now) ++ whole_faults (view root.now) raws.now) 0) }
+{
+    let mut faults = Faults::vacant(alloc);
+    match check_all(alloc, &mut faults, root, raws) {
+        Ok(()) => Ok(faults.into_first()),
+        Err(error) => {
+            mem::drop(faults);
+            Err(error)
+        }
+    }
+}
+
+/// All that is wrong with a configuration of these fields, in order.
+fn check_all(
+    alloc: Global,
+    faults: &mut Faults,
+    root: &Value,
+    raws: &[RawField],
+) -> Result<(), AllocError>
+    ensures { OnOk result (faults.new ≡ faults.old ++ (table_faults (view root.now) ++ whole_faults (view root.now) raws.now)) }
+{
+    check_tables(alloc, faults, root)?;
+    check_whole(alloc, faults, root, raws)
 }
 
 /// The fields and objects of a configuration in reading order.
@@ -59,6 +96,14 @@ fn raws_of(alloc: Global, root: &Value) -> Result<RawFields, AllocError>
     let path = Text::vacant(alloc);
     let items = mapping_items(root, "field_mappings");
     let mut raws = RawFields::vacant(alloc);
-    push_fields(alloc, &mut raws, MAX_LEVELS, &place, &path, items)?;
-    Ok(raws)
+    let pushed = push_fields(alloc, &mut raws, MAX_LEVELS, &place, &path, items);
+    mem::drop(place);
+    mem::drop(path);
+    match pushed {
+        Ok(()) => Ok(raws),
+        Err(error) => {
+            mem::drop(raws);
+            Err(error)
+        }
+    }
 }

@@ -2,6 +2,6 @@ use Rattle.toml.specs.View.{view}
 use Rattle.index_config.proofs.Nesting.{raws-all}
 use Rattle.index_config.proofs.reading.raws_of.Goals as goal
 
-pub returns : goal.returns
-returns c =
-    raws-all (view c.args.root.now) _ _ _ _ _ c.vacant-raws.ensures c.in_ok-place.ensures c.vacant-path.ensures c.mapping_items-items.ensures c.in_ok-push_fields.ensures
+pub returns-in-Ok : goal.returns-in-Ok
+returns-in-Ok c =
+    raws-all (view c.args.root.now) _ _ _ _ _ c.vacant-raws.ensures c.in_ok-place.ensures c.vacant-path.ensures c.mapping_items-items.ensures c.in-Ok.ensures
