@@ -11,6 +11,7 @@ use crate::rule::FieldType;
 use crate::tables::{is_object, items_at, items_of, text_at, type_of};
 use doc_value::{Kind, Text, Tokenizer};
 use std::alloc::{AllocError, Global};
+use std::mem;
 use toml::Value;
 
 fn truth_at(table: &Value, key: &str, default: bool) -> bool
@@ -138,7 +139,9 @@ pub fn push_fields(
 {
     for (number, item) in items.iter().enumerate() {
         let place = member_path(alloc, list_place, number)?;
-        push_member(alloc, raws, levels, &place, path, item)?;
+        let pushed = push_member(alloc, raws, levels, &place, path, item);
+        mem::drop(place);
+        pushed?;
     }
     Ok(())
 }
@@ -159,13 +162,17 @@ fn push_member(
         return Ok(());
     }
     let inner_place = under(alloc, place, "field_mappings")?;
-    let inner_path = under(alloc, path, name_of(table))?;
-    push_fields(
-        alloc,
-        raws,
-        levels - 1,
-        &inner_place,
-        &inner_path,
-        items_at(table, "field_mappings"),
-    )
+    match under(alloc, path, name_of(table)) {
+        Ok(inner_path) => {
+            let items = items_at(table, "field_mappings");
+            let pushed = push_fields(alloc, raws, levels - 1, &inner_place, &inner_path, items);
+            mem::drop(inner_place);
+            mem::drop(inner_path);
+            pushed
+        }
+        Err(error) => {
+            mem::drop(inner_place);
+            Err(error)
+        }
+    }
 }

@@ -1,6 +1,6 @@
-ghost use Rattle.std.specs.Prelude.{◌≡◌, ◌++◌, ◌&&◌, [], not, OnOk, flat_map, option_map, codes};
+ghost use Rattle.std.specs.Prelude.{◌≡◌, ℕ, List, ◌++◌, ◌&&◌, [], true, not, is_some, OnOk, flat_map, option_map, codes};
 ghost use Rattle.toml.specs.View.{view, items_view};
-ghost use Rattle.toml.specs.Data.{get};
+ghost use Rattle.toml.specs.Data.{get, as_table};
 ghost use Rattle.index_config.specs.Rules as rules;
 ghost use Rattle.index_config.specs.Tables as spec;
 ghost use Rattle.index_config.specs.Fields.{in_option};
@@ -14,6 +14,7 @@ use crate::raw::Faults;
 use crate::rule::{Ask, FieldType, Place, PolicyType, Rule, Section};
 use doc_value::Text;
 use std::alloc::{AllocError, Global};
+use std::mem;
 use toml::Value;
 
 /// What is asked of a key that may be absent.
@@ -232,8 +233,12 @@ fn check_fields(here: &Here, faults: &mut Faults, levels: usize) -> Result<(), A
     let list_path = under(here.alloc, &here.path, "field_mappings")?;
     let items = items_at(here.table, "field_mappings");
     for (number, item) in items.iter().enumerate() {
-        check_member(here.alloc, faults, levels, &list_path, number, item)?;
+        if let Err(error) = check_member(here.alloc, faults, levels, &list_path, number, item) {
+            mem::drop(list_path);
+            return Err(error);
+        }
     }
+    mem::drop(list_path);
     Ok(())
 }
 
@@ -254,15 +259,26 @@ fn check_member(
     }
     let path = member_path(alloc, path, number)?;
     let here = Here { alloc, path, table };
-    let field_type = type_of(table);
+    let checked = check_levels(&here, faults, levels);
+    mem::drop(here);
+    checked
+}
+
+/// A table in a list of fields, and behind it the fields of an object.
+#[cycle(fields)]
+fn check_levels(here: &Here, faults: &mut Faults, levels: usize) -> Result<(), AllocError>
+    ensures { (path : List ℕ) (number : ℕ) → here.now.path ≡ rules.member_path path number → is_some (as_table (view here.now.table.now)) ≡ true
+        → OnOk result (faults.new ≡ faults.old ++ spec.member_at levels path number (view here.now.table.now)) }
+{
+    let field_type = type_of(here.table);
     if levels == 0 {
-        return check_field(&here, faults, true, field_type);
+        return check_field(here, faults, true, field_type);
     }
-    check_field(&here, faults, false, field_type)?;
+    check_field(here, faults, false, field_type)?;
     if !is_object(field_type) {
         return Ok(());
     }
-    check_fields(&here, faults, levels - 1)
+    check_fields(here, faults, levels - 1)
 }
 
 fn check_mapping(here: &Here, faults: &mut Faults) -> Result<(), AllocError>

@@ -7,10 +7,13 @@ use Rattle.index_config.specs.Tables.{each_fault, member_at, fields_faults, item
 use Rattle.index_config.proofs.tables.+fields.Given as goal
 
 abbrev pub decreases-check_fields : goal.decreases-check_fields
-decreases-check_fields l = 2 * l.levels + 1
+decreases-check_fields l = 3 * l.levels + 2
 
 abbrev pub decreases-check_member : goal.decreases-check_member
-decreases-check_member l = 2 * l.levels
+decreases-check_member l = 3 * l.levels + 1
+
+abbrev pub decreases-check_levels : goal.decreases-check_levels
+decreases-check_levels l = 3 * l.levels
 
 abbrev pub invariant-check_fields-loop-number : goal.invariant-check_fields-loop-number
 invariant-check_fields-loop-number l =
