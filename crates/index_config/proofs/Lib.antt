@@ -1,4 +1,5 @@
 pub mod Ordering
+pub mod Turns
 pub mod Nesting
 pub mod Answering
 pub mod Distinct

@@ -1,4 +1,4 @@
-ghost use Rattle.std.specs.Prelude.{◌≡◌, ◌∷◌, ◌++◌, IfOk};
+ghost use Rattle.std.specs.Prelude.{◌≡◌, ◌∷◌, ◌++◌, OnOk, IfOk};
 ghost use Rattle.std.specs.Str.{bytes_eq};
 ghost use Rattle.std.specs.List.{list_all};
 ghost use Rattle.index_config.specs.Rules as rules;
@@ -9,6 +9,7 @@ use crate::config::Mode;
 use crate::rule::{FieldType, PolicyType};
 use doc_value::{Replica, Text, Tokenizer};
 use std::alloc::{AllocError, Global};
+use std::mem;
 use std::string::ToString;
 
 /// Whether two texts have the same bytes.
@@ -221,9 +222,20 @@ fn joined(alloc: Global, path: &Text, word: &str) -> Result<Text, AllocError>
     ensures { IfOk result (λ text. text ≡ path.now ++ 46 ∷ word.now) }
 {
     let mut text = path.copy(alloc)?;
+    match put_word(&mut text, word) {
+        Ok(()) => Ok(text),
+        Err(error) => {
+            mem::drop(text);
+            Err(error)
+        }
+    }
+}
+
+fn put_word(text: &mut Text, word: &str) -> Result<(), AllocError>
+    ensures { OnOk result (text.new ≡ text.old ++ 46 ∷ word.now) }
+{
     text.push('.')?;
-    text.extend(word)?;
-    Ok(text)
+    text.extend(word)
 }
 
 /// The path of a member of a list.
