@@ -10,7 +10,7 @@ use Rattle.index_config.specs.declared.raw.RawField.{RawField}
 use Rattle.index_config.specs.declared.config_error.ConfigError.{ConfigError}
 use Rattle.index_config.specs.Fields.{has_path, doubled, duplicate_faults}
 
-parted : (xs : List RawField) (i : ℕ) (x : RawField) → slice_get xs i ≡ Some x → (drop i xs ≡ x ∷ drop (suc i) xs) × (take (suc i) xs ≡ take i xs ++ x ∷ [])
+pub parted : (xs : List RawField) (i : ℕ) (x : RawField) → slice_get xs i ≡ Some x → (drop i xs ≡ x ∷ drop (suc i) xs) × (take (suc i) xs ≡ take i xs ++ x ∷ [])
 parted [] i x e = absurd (cc)
 parted (y ∷ ys) zero x e = let same : y ≡ x = cc in (ap (λ (z : RawField). z ∷ ys) same, ap (λ (z : RawField). z ∷ []) same)
 parted (y ∷ ys) (suc i) x e = let more = parted ys i x e in (more.0, ap (λ zs. y ∷ zs) more.1)

@@ -13,8 +13,7 @@ use crate::tables::{MAX_LEVELS, check_tables};
 use crate::whole::{check_whole, mapping_items};
 use doc_value::Text;
 use std::alloc::{AllocError, Global};
-use std::mem;
-use std::str;
+use std::{mem, str};
 use toml::Value;
 
 /// The configuration of a TOML text, or the first thing that is wrong with it.
