@@ -10,6 +10,7 @@ use clock_time::{read_rfc3339, read_unix};
 use doc_value::{Doc, DocField, Field, Fields, Kind, Text, Value as DocValue, Values};
 use serde_json::Value;
 use std::alloc::{AllocError, Global};
+use std::mem;
 
 /// The values that stand at the paths of these fields, each looked for by itself.
 pub fn doc_of(alloc: Global, fields: &Fields, root: &Value) -> Result<Doc, AllocError>
@@ -17,7 +18,10 @@ pub fn doc_of(alloc: Global, fields: &Fields, root: &Value) -> Result<Doc, Alloc
 {
     let mut doc = Doc::vacant(alloc);
     for (number, field) in fields.as_slice().iter().enumerate() {
-        push_part(alloc, &mut doc, number, field, root)?;
+        if let Err(error) = push_part(alloc, &mut doc, number, field, root) {
+            mem::drop(doc);
+            return Err(error);
+        }
     }
     Ok(doc)
 }
@@ -150,7 +154,10 @@ fn texts_in(alloc: Global, items: &[Value]) -> Result<Values, AllocError>
 {
     let mut values = Values::vacant(alloc);
     for item in items {
-        push_text(alloc, &mut values, item)?;
+        if let Err(error) = push_text(alloc, &mut values, item) {
+            mem::drop(values);
+            return Err(error);
+        }
     }
     Ok(values)
 }

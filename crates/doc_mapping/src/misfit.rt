@@ -1,8 +1,9 @@
 //! The values of a value that fits a field, or why it doesn't fit.
 
-ghost use Rattle.std.specs.Prelude.{◌≡◌, ◌∷◌, [], None, Ok, IfOk, IfSome, MatchResult};
-ghost use Rattle.serde_json.specs.Find.{as_null};
+ghost use Rattle.std.specs.Prelude.{◌≡◌, ◌∷◌, [], ◌++◌, None, Ok, IfOk, OnOk, IfSome, MatchResult, is_some};
+ghost use Rattle.serde_json.specs.Find.{as_null, as_str};
 ghost use Rattle.serde_json.specs.View.{view, items_view};
+ghost use Rattle.doc_mapping.specs.Documents.{text_values};
 ghost use Rattle.doc_mapping.specs.Walk.{Fits, FitsSecond, FitsTexts, IsPlain, refusal_at};
 
 use crate::documents::{one_value, second_of_number, second_of_text, values_of};
@@ -139,12 +140,36 @@ fn fitting_texts(alloc: Global, items: Vec<Value>) -> Result<Result<Values, Misf
 {
     let mut texts = Vec::with_capacity(alloc, items.len())?;
     for item in items {
-        match into_text(item) {
-            Ok(text) => texts.push(DocValue::Text(text))?,
-            Err(_) => return Ok(Err(Misfit::WrongType)),
+        match put_text(&mut texts, item) {
+            Ok(true) => {}
+            Ok(false) => {
+                mem::drop(texts);
+                return Ok(Err(Misfit::WrongType));
+            }
+            Err(error) => {
+                mem::drop(texts);
+                return Err(error);
+            }
         }
     }
     Ok(Ok(Values::from_vec(texts)))
+}
+
+/// Puts the text of a string, and says whether it is one.
+fn put_text(texts: &mut Vec<DocValue>, item: Value) -> Result<bool, AllocError>
+    ensures texts { IfOk result (λ is_text. is_text ≡ is_some (as_str (view item))) }
+    ensures puts { OnOk result (texts.new.items ≡ texts.old.items ++ text_values (as_str (view item))) }
+{
+    match into_text(item) {
+        Ok(text) => {
+            texts.push(DocValue::Text(text))?;
+            Ok(true)
+        }
+        Err(other) => {
+            mem::drop(other);
+            Ok(false)
+        }
+    }
 }
 
 /// A whole number or a truth value.

@@ -1,4 +1,4 @@
-ghost use Rattle.std.specs.Prelude.{◌≡◌, ◌<◌, ◌≤◌, ◌++◌, ◌∷◌, [], length, slice_get, IfOk, OnOk, IsTrue, true, false, Some, None, is_some};
+ghost use Rattle.std.specs.Prelude.{◌≡◌, ◌<◌, ◌≤◌, ◌++◌, ◌∷◌, [], length, slice_get, string_bytes, IfOk, OnOk, IsTrue, true, false, Some, None, is_some};
 ghost use Rattle.doc_value.specs.Documents as words;
 ghost use Rattle.serde_json.specs.Data.{depth, members_depth};
 ghost use Rattle.serde_json.specs.View.{view, members_view};
@@ -61,9 +61,12 @@ fn flat_faults(
         GatherAll config.now.schema.fields [] (members_view map.entries) parts.old.items parts.new.items) }
 {
     for (key, value) in map {
-        let fault = flat_fault(alloc, config, finder, key.as_str(), value, parts)?;
-        if fault.is_some() {
-            return Ok(fault);
+        let fault = flat_fault(alloc, config, finder, key.as_str(), value, parts);
+        mem::drop(key);
+        match fault {
+            Ok(None) => {}
+            Ok(Some(refusal)) => return Ok(Some(refusal)),
+            Err(error) => return Err(error),
         }
     }
     Ok(None)
@@ -123,9 +126,12 @@ fn members_fault(
             value,
             levels,
             parts,
-        )?;
-        if fault.is_some() {
-            return Ok(fault);
+        );
+        mem::drop(key);
+        match fault {
+            Ok(None) => {}
+            Ok(Some(refusal)) => return Ok(Some(refusal)),
+            Err(error) => return Err(error),
         }
     }
     Ok(None)
@@ -160,7 +166,11 @@ fn key_fault(
         return path_fault(alloc, config, finder, key, value, levels, parts);
     }
     match under(alloc, prefix, key) {
-        Ok(path) => path_fault(alloc, config, finder, path.as_str(), value, levels, parts),
+        Ok(path) => {
+            let fault = path_fault(alloc, config, finder, path.as_str(), value, levels, parts);
+            mem::drop(path);
+            fault
+        }
         Err(error) => {
             mem::drop(value);
             Err(error)
@@ -373,8 +383,19 @@ fn joined(alloc: Global, front: &str, back: &str) -> Result<Text, AllocError>
 {
     let room = front.len().saturating_add(back.len()).saturating_add(1);
     let mut held = String::with_capacity(alloc, room)?;
+    match put_joined(&mut held, front, back) {
+        Ok(()) => Ok(Text::from_string(held)),
+        Err(error) => {
+            mem::drop(held);
+            Err(error)
+        }
+    }
+}
+
+fn put_joined(held: &mut String, front: &str, back: &str) -> Result<(), AllocError>
+    ensures { OnOk result (string_bytes held.new ≡ string_bytes held.old ++ (front.now ++ 46 ∷ back.now)) }
+{
     held.push_str(front)?;
     held.push('.')?;
-    held.push_str(back)?;
-    Ok(Text::from_string(held))
+    held.push_str(back)
 }

@@ -1,4 +1,4 @@
-use Rattle.std.proofs.Common.{length, string_bytes, ap, sym, ◌∙◌, subst, arith}
+use Rattle.std.proofs.Common.{length, string_bytes, is_some, ap, sym, ◌∙◌, subst, arith}
 use Rattle.serde_json.specs.View.{view, members_view}
 use Rattle.std.specs.Cmp.{unsigned_Decides}
 use Rattle.doc_value.specs.Documents.{number_of}
@@ -13,8 +13,8 @@ key_fault-returns-then-is_empty-clause-gathers t c = λ plain.
 
 pub key_fault-returns-in-Ok-clause-gathers : goal.key_fault-returns-in-Ok-clause-gathers
 key_fault-returns-in-Ok-clause-gathers t c = λ plain.
-    gathers_on c.args.config.now.schema.fields (view c.args.value) c.args.parts.now.items c.path_fault-in-Ok.new.parts.items c.path_fault-in-Ok.result c.as_str.result.now _
-    (c.as_str.ensures ∙ c.in-Ok.ensures) c.path_fault-in-Ok.ensures.gathers
+    gathers_on c.args.config.now.schema.fields (view c.args.value) c.args.parts.now.items c.path_fault-fault.new.parts.items c.path_fault-fault.result c.as_str.result.now _
+    (c.as_str.ensures ∙ c.in-Ok.ensures) c.path_fault-fault.ensures.gathers
 
 pub members_fault-loop-key-init : goal.members_fault-loop-key-init
 members_fault-loop-key-init t c =
@@ -27,10 +27,10 @@ members_fault-loop-key-init t c =
 pub members_fault-loop-key-preserved : goal.members_fault-loop-key-preserved
 members_fault-loop-key-preserved t c =
     moved c.args.config.now c.args.prefix.now (members_view c.args.map.entries) c.args.levels c.args.parts.now.items (string_bytes c.in-Some.key) c.as_str.result.now
-    (view c.in-Some.value) (members_view c.next.new.self) c.loop-key.parts.items c.key_fault.new.parts.items c.in_ok-fault.fault c.as_str.ensures.value
+    (view c.in-Some.value) (members_view c.next.new.self) c.loop-key.parts.items c.key_fault-fault.new.parts.items c.in-Ok-None.field-0 c.as_str.ensures.value
     (subst (λ es. StandsAt c.args.config.now c.args.prefix.now (members_view c.args.map.entries) c.args.levels c.args.parts.now.items (members_view es) c.loop-key.parts.items)
     c.in-Some.ensures.steps c.loop-key.invariant)
-    c.in_ok-fault.ensures.fault (sym c.is_some.ensures ∙ c.if-is_some.false) c.in_ok-fault.ensures.dotted c.in_ok-fault.ensures.gathers
+    c.in-Ok-None.ensures.fault (ap is_some c.in-Ok-None.field-0-is) c.key_fault-fault.ensures.dotted c.in-Ok-None.ensures.gathers
 
 pub members_fault-returns-clause-gathers : goal.members_fault-returns-clause-gathers
 members_fault-returns-clause-gathers t c = λ none.

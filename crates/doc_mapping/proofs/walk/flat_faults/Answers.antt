@@ -1,4 +1,4 @@
-use Rattle.std.proofs.Common.{[], string_bytes, sym, ◌∙◌, subst, arith}
+use Rattle.std.proofs.Common.{[], string_bytes, is_some, ap, sym, ◌∙◌, subst, arith}
 use Rattle.serde_json.specs.Data.{members_depth}
 use Rattle.serde_json.specs.View.{view, members_view}
 use Rattle.doc_mapping.proofs.Gathering.{MayLeave, none_left, StandsAt, begun, moved, distinct_by}
@@ -15,10 +15,10 @@ loop-key-init c =
 pub loop-key-preserved : goal.loop-key-preserved
 loop-key-preserved c =
     moved c.args.config.now [] (members_view c.args.map.entries) (members_depth (members_view c.args.map.entries)) c.args.parts.now.items (string_bytes c.in-Some.key) c.as_str.result.now
-    (view c.in-Some.value) (members_view c.next.new.self) c.loop-key.parts.items c.flat_fault.new.parts.items c.in_ok-fault.fault c.as_str.ensures.value
+    (view c.in-Some.value) (members_view c.next.new.self) c.loop-key.parts.items c.flat_fault-fault.new.parts.items c.in-Ok-None.field-0 c.as_str.ensures.value
     (subst (λ es. StandsAt c.args.config.now [] (members_view c.args.map.entries) (members_depth (members_view c.args.map.entries)) c.args.parts.now.items (members_view es) c.loop-key.parts.items)
     c.in-Some.ensures.steps c.loop-key.invariant)
-    c.in_ok-fault.ensures.fault (sym c.is_some.ensures ∙ c.if-is_some.false) c.in_ok-fault.ensures.dotted c.in_ok-fault.ensures.gathers
+    c.in-Ok-None.ensures.fault (ap is_some c.in-Ok-None.field-0-is) c.flat_fault-fault.ensures.dotted c.in-Ok-None.ensures.gathers
 
 pub returns-clause-gathers : goal.returns-clause-gathers
 returns-clause-gathers c = λ none.
