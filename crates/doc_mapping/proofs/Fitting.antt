@@ -1,5 +1,5 @@
 -- The document of a record is of its schema.
-use Rattle.std.proofs.Common.{◌≡◌, ℕ, suc, ◌+◌, ◌≤◌, nat_le, nat_lt, Bool, false, List, [], ◌∷◌, ◌++◌, length, slice_get, Option, Some, None, Result, Ok, refl, subst, arith, inl, inr, IsTrue}
+use Rattle.std.proofs.Common.{◌≡◌, ℕ, suc, ◌+◌, ◌≤◌, ◌&&◌, nat_le, nat_lt, is_some, append_assoc, Bool, true, false, List, [], ◌∷◌, ◌++◌, length, slice_get, Option, Some, None, Result, Ok, refl, sym, ap, ◌∙◌, subst, arith, inl, inr, IsTrue}
 use Rattle.std.specs.Prelude.{IfSome, ℤ}
 use Rattle.std.proofs.lemmas.Bool.{cases_Bool}
 use Rattle.serde_json.specs.Data.{Data, Items, no_items, item, Members, depth}
@@ -13,7 +13,7 @@ use Rattle.doc_value.specs.Documents.{AreOfKind, HasGoodCount, FitsFrom, IsOfSch
 use Rattle.doc_value.specs.Printed.{names_of}
 use Rattle.index_config.specs.declared.config.IndexConfig.{IndexConfig}
 use Rattle.doc_mapping.specs.declared.reject.Reject.{Reject}
-use Rattle.doc_mapping.specs.Faults.{i64_of, u64_of, members_fault}
+use Rattle.doc_mapping.specs.Faults.{i64_of, u64_of, all_texts, members_fault}
 use Rattle.doc_mapping.specs.Documents.{value_at, text_values, i64_values, u64_values, truth_values, second_of, date_values, texts_in, list_values, values_of, found_values, part_of, doc_from, has_number}
 use Rattle.doc_mapping.specs.Answer.{answer, read_answer, object_answer, fitting_answer, timed_answer, lacks_timestamp, value_of, max_record, max_levels}
 
@@ -155,3 +155,13 @@ stamped (Some n) doc e =
 pub accepted-stamped : (config : IndexConfig) (bytes : List ℕ) (doc : List DocField) → answer config bytes ≡ Ok doc
     → IfSome config.timestamp_field (λ n. IsTrue (has_number doc n))
 accepted-stamped config bytes doc e = stamped config.timestamp_field doc (taken config bytes doc e).1
+
+-- one more text of a list
+pub texts_step : (whole rest after : Items) (d : Data) (old new : List Value) (is : Bool) → rest ≡ item d after → all_texts whole ≡ all_texts rest
+    → texts_in whole ≡ old ++ texts_in rest → is ≡ is_some (as_str d) → is ≡ true → new ≡ old ++ text_values (as_str d)
+    → (all_texts whole ≡ all_texts after) × (texts_in whole ≡ new ++ texts_in after)
+texts_step whole rest after d old new is r a t some told n =
+    let one : is_some (as_str d) ≡ true = sym some ∙ told in (
+      a ∙ ap all_texts r ∙ ap (λ b. b && all_texts after) one,
+      t ∙ ap (λ x. old ++ texts_in x) r ∙ sym (append_assoc old (text_values (as_str d)) (texts_in after)) ∙ ap (λ x. x ++ texts_in after) (sym n),
+    )

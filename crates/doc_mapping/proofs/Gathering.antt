@@ -480,3 +480,7 @@ pub guessed : (fields : List Field) (n : ℕ) (g : Field) (own path : List ℕ) 
 guessed fields n g own path b rise a e t h =
     let same : own ≡ path = (bytes_eq-Decides own path).0 (sym t ∙ h) in
     found fields n g path rise a (ap (slice_cmp nat_cmp path) (sym e ∙ same) ∙ own_order path)
+
+-- a refusal is not none
+pub refused_not : {B : Type 0} (refusal : Reject) → Some refusal ≡ None → B
+refused_not refusal e = absurd (cc)

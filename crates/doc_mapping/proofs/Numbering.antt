@@ -157,6 +157,20 @@ split_at (suc i) (x ∷ xs) = ap (λ z. x ∷ z) (split_at i xs)
 abbrev pub LiesBetween : ℕ → List DocField → ℕ → Type 0
 LiesBetween n parts i = (p : DocField) → slice_get parts i ≡ Some p → n < p.number
 
+no_part : {B : Type 0} (parts : List DocField) (i : ℕ) (p : DocField) → length parts ≤ i → slice_get parts i ≡ Some p → B
+no_part [] i p l e = absurd (cc)
+no_part (q ∷ ps) zero p l e = absurd (omega arith)
+no_part (q ∷ ps) (suc i) p l e = no_part ps i p (omega arith) e
+
+pub at_end : (n : ℕ) (parts : List DocField) (i : ℕ) → length parts ≤ i → LiesBetween n parts i
+at_end n parts i l = λ p at. no_part parts i p l at
+
+pub before_one : (n : ℕ) (parts : List DocField) (i : ℕ) (p : DocField) → i < length parts → p ≡ get_or parts i p → n < p.number → LiesBetween n parts i
+before_one n parts i p l e more = λ q at.
+    let both : Some p ≡ Some q = ap Some e ∙ sym (slice_get-get_or parts i p l) ∙ at in
+    let same : p ≡ q = cc in
+    subst (λ (x : DocField). n < x.number) same more
+
 low_ones : (n i : ℕ) (parts : List DocField) → RiseFrom 0 parts → values_at parts n ≡ [] → (i ≡ 0) ⊎ ((j : ℕ) × (p : DocField) × ((i ≡ suc j) × (slice_get parts j ≡ Some p) × (p.number ≤ n)))
     → AreBelow n (take i parts)
 low_ones n i parts h e (inl none) = subst (λ (k : ℕ). AreBelow n (take k parts)) (sym none) tt

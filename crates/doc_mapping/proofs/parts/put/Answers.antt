@@ -1,6 +1,6 @@
 use Rattle.std.proofs.Common.{◌≡◌, ◌≢◌, ◌-◌, true, false, [], Result, Ok, Err, sym, ◌∙◌, arith}
 use Rattle.std.specs.Result.{OnOk}
-use Rattle.doc_mapping.proofs.Numbering.{put_at, HasLower, at_start, behind_one}
+use Rattle.doc_mapping.proofs.Numbering.{put_at, HasLower, at_start, behind_one, at_end, before_one}
 use Rattle.doc_mapping.proofs.parts.put.Goals.{then-loop-place-test+else-index-number, else-loop-place-test}
 use Rattle.doc_mapping.proofs.parts.put.Goals as goal
 
@@ -18,3 +18,12 @@ returns c = carried c.enter.result c.enter.ensures (λ made rise none.
       | else-loop-place-test w ↦ at_start c.args.number c.args.parts.now.items c.loop-place.place w.loop-place-test.false
     ] in
     put_at c.args.number c.loop-place.place c.args.values c.args.parts.now.items c.enter.new.parts.items some made c.loop-place.invariant.1 low rise none)
+
+pub loop-place-init : goal.loop-place-init
+loop-place-init c = (omega arith, at_end c.args.number c.args.parts.now.items c.len-place.result (omega arith))
+
+pub loop-place-preserved : goal.loop-place-preserved
+loop-place-preserved c = (
+  omega arith,
+  before_one c.args.number c.args.parts.now.items (c.loop-place.place - 1) c.index.result.now (omega arith) c.index.ensures c.if-index-number.true,
+)

@@ -2,7 +2,7 @@ use Rattle.std.proofs.Common.{length, string_bytes, is_some, ap, sym, ◌∙◌,
 use Rattle.serde_json.specs.View.{view, members_view}
 use Rattle.std.specs.Cmp.{unsigned_Decides}
 use Rattle.doc_value.specs.Documents.{number_of}
-use Rattle.doc_mapping.proofs.Gathering.{MayLeave, none_left, StandsAt, begun, moved, nothing_there, empty_under, gathers_on, gathers_as, gathers_inner, number_within, field_gathers, distinct_by}
+use Rattle.doc_mapping.proofs.Gathering.{refused_not, MayLeave, none_left, StandsAt, begun, moved, nothing_there, empty_under, gathers_on, gathers_as, gathers_inner, number_within, field_gathers, distinct_by}
 use Rattle.doc_mapping.proofs.walk.+walk.Goals as goal
 
 pub key_fault-returns-then-is_empty-clause-gathers :
@@ -31,6 +31,9 @@ members_fault-loop-key-preserved t c =
     (subst (λ es. StandsAt c.args.config.now c.args.prefix.now (members_view c.args.map.entries) c.args.levels c.args.parts.now.items (members_view es) c.loop-key.parts.items)
     c.in-Some.ensures.steps c.loop-key.invariant)
     c.in-Ok-None.ensures.fault (ap is_some c.in-Ok-None.field-0-is) c.key_fault-fault.ensures.dotted c.in-Ok-None.ensures.gathers
+
+pub members_fault-returns-in-Ok-Some-clause-gathers : goal.members_fault-returns-in-Ok-Some-clause-gathers
+members_fault-returns-in-Ok-Some-clause-gathers t c = λ none. refused_not _ none
 
 pub members_fault-returns-clause-gathers : goal.members_fault-returns-clause-gathers
 members_fault-returns-clause-gathers t c = λ none.

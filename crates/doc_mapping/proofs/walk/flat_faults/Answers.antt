@@ -1,7 +1,7 @@
-use Rattle.std.proofs.Common.{[], string_bytes, is_some, ap, sym, ◌∙◌, subst, arith}
+use Rattle.std.proofs.Common.{[], string_bytes, is_some, ap, sym, subst, arith}
 use Rattle.serde_json.specs.Data.{members_depth}
 use Rattle.serde_json.specs.View.{view, members_view}
-use Rattle.doc_mapping.proofs.Gathering.{MayLeave, none_left, StandsAt, begun, moved, distinct_by}
+use Rattle.doc_mapping.proofs.Gathering.{refused_not, MayLeave, none_left, StandsAt, begun, moved, distinct_by}
 use Rattle.doc_mapping.proofs.walk.flat_faults.Goals as goal
 
 pub loop-key-init : goal.loop-key-init
@@ -19,6 +19,9 @@ loop-key-preserved c =
     (subst (λ es. StandsAt c.args.config.now [] (members_view c.args.map.entries) (members_depth (members_view c.args.map.entries)) c.args.parts.now.items (members_view es) c.loop-key.parts.items)
     c.in-Some.ensures.steps c.loop-key.invariant)
     c.in-Ok-None.ensures.fault (ap is_some c.in-Ok-None.field-0-is) c.flat_fault-fault.ensures.dotted c.in-Ok-None.ensures.gathers
+
+pub returns-in-Ok-Some-clause-gathers : goal.returns-in-Ok-Some-clause-gathers
+returns-in-Ok-Some-clause-gathers c = λ none. refused_not _ none
 
 pub returns-clause-gathers : goal.returns-clause-gathers
 returns-clause-gathers c = λ none.
