@@ -1,4 +1,4 @@
-ghost use Rattle.std.specs.Prelude.{◌≡◌, ◌<◌, ◌≤◌, ◌++◌, ◌∷◌, [], length, slice_get, string_bytes, IfOk, OnOk, IsTrue, true, false, Some, None, is_some};
+ghost use Rattle.std.specs.Prelude.{◌≡◌, ◌<◌, ◌≤◌, ◌++◌, ◌∷◌, [], length, slice_get, IfOk, OnOk, IsTrue, true, false, Some, None, is_some};
 ghost use Rattle.doc_value.specs.Documents as words;
 ghost use Rattle.serde_json.specs.Data.{depth, members_depth};
 ghost use Rattle.serde_json.specs.View.{view, members_view};
@@ -383,19 +383,8 @@ fn joined(alloc: Global, front: &str, back: &str) -> Result<Text, AllocError>
 {
     let room = front.len().saturating_add(back.len()).saturating_add(1);
     let mut held = String::with_capacity(alloc, room)?;
-    match put_joined(&mut held, front, back) {
-        Ok(()) => Ok(Text::from_string(held)),
-        Err(error) => {
-            mem::drop(held);
-            Err(error)
-        }
-    }
-}
-
-fn put_joined(held: &mut String, front: &str, back: &str) -> Result<(), AllocError>
-    ensures { OnOk result (string_bytes held.new ≡ string_bytes held.old ++ (front.now ++ 46 ∷ back.now)) }
-{
     held.push_str(front)?;
     held.push('.')?;
-    held.push_str(back)
+    held.push_str(back)?;
+    Ok(Text::from_string(held))
 }
