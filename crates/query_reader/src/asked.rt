@@ -15,6 +15,7 @@ use crate::tree::{Ask, Span};
 use doc_value::{Field, Kind, Text, Value};
 use query_ast::{Edge, Item, Items, Query, tokens_of, value_of};
 use std::alloc::{AllocError, Global};
+use std::mem;
 
 fn is_text_kind(kind: Kind) -> bool
     ensures { result ≡ is_text kind }
@@ -47,8 +48,10 @@ fn first(one: Option<usize>, other: Option<usize>) -> Option<usize>
 fn spells(alloc: Global, kind: Kind, text: &Text) -> Result<bool, AllocError>
     ensures { IfOk result (λ b. b ≡ is_some (spelled kind text.now)) }
 {
-    let value = value_of(alloc, kind, text.as_str())?;
-    Ok(value.is_some())
+    match value_of(alloc, kind, text.as_str()) {
+        Ok(value) => Ok(value.is_some()),
+        Err(error) => Err(error),
+    }
 }
 
 /// The first byte of a member: of a quoted one, its quotation mark.
@@ -73,7 +76,10 @@ fn bad_text(
     ensures { IfOk result (λ o. o ≡ spec.place_unless (is_some (spelled kind (text_at text.now span))) at) }
 {
     let value = text_of(alloc, text, span)?;
-    Ok(unless(spells(alloc, kind, &value)?, at))
+    match spells(alloc, kind, &value) {
+        Ok(good) => Ok(unless(good, at)),
+        Err(error) => Err(error),
+    }
 }
 
 /// The same of a run of an edge, at its first byte.
@@ -81,7 +87,10 @@ fn bad_run(alloc: Global, text: &[u8], kind: Kind, span: Span) -> Result<Option<
     ensures { IfOk result (λ o. o ≡ spec.place_unless (is_some (spelled kind (run_at text.now span))) span.from) }
 {
     let value = run_of(alloc, text, span)?;
-    Ok(unless(spells(alloc, kind, &value)?, span.from))
+    match spells(alloc, kind, &value) {
+        Ok(good) => Ok(unless(good, span.from)),
+        Err(error) => Err(error),
+    }
 }
 
 fn bad_bound(
@@ -163,8 +172,10 @@ fn lacks_positions(alloc: Global, field: &Field, text: &Text) -> Result<bool, Al
     ensures { IfOk result (λ b. b ≡ spec.is_unplaced field.now text.now) }
 {
     if is_text_kind(field.kind) && !field.positions {
-        let tokens = tokens_of(alloc, field, text.as_str())?;
-        Ok(1 < tokens.len())
+        match tokens_of(alloc, field, text.as_str()) {
+            Ok(tokens) => Ok(1 < tokens.len()),
+            Err(error) => Err(error),
+        }
     } else {
         Ok(false)
     }
@@ -181,7 +192,10 @@ fn unplaced_text(
     ensures { IfOk result (λ o. o ≡ spec.place_unless (not (spec.is_unplaced field.now (text_at text.now span))) at) }
 {
     let value = text_of(alloc, text, span)?;
-    Ok(unless(!lacks_positions(alloc, field, &value)?, at))
+    match lacks_positions(alloc, field, &value) {
+        Ok(lacking) => Ok(unless(!lacking, at)),
+        Err(error) => Err(error),
+    }
 }
 
 fn unplaced_members(
@@ -241,6 +255,16 @@ fn edge_with(closed: bool, value: Option<Value>) -> Edge
     }
 }
 
+/// The edge at the value that a text spells.
+fn edge_at(alloc: Global, kind: Kind, closed: bool, text: &Text) -> Result<Edge, AllocError>
+    ensures { IfOk result (λ e. e ≡ spec.edge_with closed (spelled kind text.now)) }
+{
+    match value_of(alloc, kind, text.as_str()) {
+        Ok(value) => Ok(edge_with(closed, value)),
+        Err(error) => Err(error),
+    }
+}
+
 fn edge_of(
     alloc: Global,
     text: &[u8],
@@ -254,11 +278,11 @@ fn edge_of(
         Bound::Unbounded => Ok(Edge::Unbounded),
         Bound::Quoted(span) => {
             let value = text_of(alloc, text, span)?;
-            Ok(edge_with(closed, value_of(alloc, kind, value.as_str())?))
+            edge_at(alloc, kind, closed, &value)
         }
         Bound::Run(span) => {
             let value = run_of(alloc, text, span)?;
-            Ok(edge_with(closed, value_of(alloc, kind, value.as_str())?))
+            edge_at(alloc, kind, closed, &value)
         }
     }
 }
@@ -280,8 +304,13 @@ fn range_of(
             high_closed,
         } => {
             let low = edge_of(alloc, text, kind, low_closed, low)?;
-            let high = edge_of(alloc, text, kind, high_closed, high)?;
-            Ok(Query::Range { field, low, high })
+            match edge_of(alloc, text, kind, high_closed, high) {
+                Ok(high) => Ok(Query::Range { field, low, high }),
+                Err(error) => {
+                    mem::drop(low);
+                    Err(error)
+                }
+            }
         }
         Ranged::Compared { compare, bound } => compared(alloc, text, kind, field, compare, bound),
     }
@@ -298,12 +327,14 @@ fn from_edge(
 ) -> Result<Query, AllocError>
     ensures { IfOk result (λ q. view q ≡ sought.Range field (spec.edge_of text.now kind closed bound) Edge.Unbounded) }
 {
-    let low = edge_of(alloc, text, kind, closed, bound)?;
-    Ok(Query::Range {
-        field,
-        low,
-        high: Edge::Unbounded,
-    })
+    match edge_of(alloc, text, kind, closed, bound) {
+        Ok(low) => Ok(Query::Range {
+            field,
+            low,
+            high: Edge::Unbounded,
+        }),
+        Err(error) => Err(error),
+    }
 }
 
 /// The range to an edge.
@@ -317,12 +348,14 @@ fn to_edge(
 ) -> Result<Query, AllocError>
     ensures { IfOk result (λ q. view q ≡ sought.Range field Edge.Unbounded (spec.edge_of text.now kind closed bound)) }
 {
-    let high = edge_of(alloc, text, kind, closed, bound)?;
-    Ok(Query::Range {
-        field,
-        low: Edge::Unbounded,
-        high,
-    })
+    match edge_of(alloc, text, kind, closed, bound) {
+        Ok(high) => Ok(Query::Range {
+            field,
+            low: Edge::Unbounded,
+            high,
+        }),
+        Err(error) => Err(error),
+    }
 }
 
 fn compared(
@@ -369,22 +402,34 @@ pub fn asked_of(
 {
     match ask {
         Ask::Any => Ok(Query::Exists { field: number }),
-        Ask::Word(span) => Ok(Query::Word {
-            field: number,
-            text: text_of(alloc, text, *span)?,
-        }),
-        Ask::Prefix(span) => Ok(Query::Prefix {
-            field: number,
-            text: text_of(alloc, text, *span)?,
-        }),
-        Ask::Quoted(span) => Ok(Query::Quoted {
-            field: number,
-            text: text_of(alloc, text, *span)?,
-        }),
+        Ask::Word(span) => match text_of(alloc, text, *span) {
+            Ok(text) => Ok(Query::Word {
+                field: number,
+                text,
+            }),
+            Err(error) => Err(error),
+        },
+        Ask::Prefix(span) => match text_of(alloc, text, *span) {
+            Ok(text) => Ok(Query::Prefix {
+                field: number,
+                text,
+            }),
+            Err(error) => Err(error),
+        },
+        Ask::Quoted(span) => match text_of(alloc, text, *span) {
+            Ok(text) => Ok(Query::Quoted {
+                field: number,
+                text,
+            }),
+            Err(error) => Err(error),
+        },
         Ask::Within(_, ranged) => range_of(alloc, text, field.kind, number, *ranged),
-        Ask::OneOf(_, members) => Ok(Query::AnyOf {
-            field: number,
-            items: items_of(alloc, text, members.as_slice())?,
-        }),
+        Ask::OneOf(_, members) => match items_of(alloc, text, members.as_slice()) {
+            Ok(items) => Ok(Query::AnyOf {
+                field: number,
+                items,
+            }),
+            Err(error) => Err(error),
+        },
     }
 }

@@ -61,11 +61,13 @@ pub enum Said {
 pub fn what_is_said(plain: bool, bytes: &[u8]) -> Said
     ensures { result ≡ said plain bytes.now }
 {
-    if plain && bytes == b"AND".as_slice() {
+    if !plain {
+        Said::SaidWord
+    } else if bytes == b"AND".as_slice() {
         Said::SaidAnd
-    } else if plain && bytes == b"OR".as_slice() {
+    } else if bytes == b"OR".as_slice() {
         Said::SaidOr
-    } else if plain && bytes == b"NOT".as_slice() {
+    } else if bytes == b"NOT".as_slice() {
         Said::SaidNot
     } else {
         Said::SaidWord

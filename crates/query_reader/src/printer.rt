@@ -1,12 +1,15 @@
 // The text of a query.
 
-ghost use Rattle.std.specs.Prelude.{◌≡◌, ◌++◌, ◌∷◌, [], ◌↔◌, IsTrue, IfOk, OnOk};
+ghost use Rattle.std.specs.Prelude.{◌≡◌, ◌++◌, ◌∷◌, ◌||◌, [], ◌↔◌, IsTrue, IfOk, OnOk, not};
 ghost use Rattle.std.specs.Prelude.{if◌then◌else◌};
+ghost use Rattle.std.specs.Fmt.{decimal, signed_decimal};
 ghost use Rattle.clock_time.specs.Datetimes.{IsTimestampSecond};
 ghost use Rattle.query_ast.specs.Sought.{view, view_all};
+ghost use Rattle.query_reader.specs.Kinds.{kind_of};
 ghost use Rattle.query_reader.specs.Printed as spec;
 
-use crate::kind::{Kind, byte_kind};
+use crate::kind::{Kind, Said, byte_kind, is_in, what_is_said};
+use crate::texts::as_text;
 use clock_time::print_rfc3339;
 use doc_value::{Field, Schema, Text, Value};
 use query_ast::{Edge, Item, Items, Query};
@@ -55,13 +58,21 @@ fn push_escaped(out: &mut Vec<u8>, text: &[u8]) -> Result<(), AllocError>
     Ok(())
 }
 
+#[tactic(auto, unfolding(crate::specs::Kinds::said, crate::specs::Kinds::names_set))]
 fn is_keyword(text: &[u8]) -> bool
     ensures { result ≡ spec.is_keyword text.now }
 {
-    text == b"AND".as_slice()
-        || text == b"OR".as_slice()
-        || text == b"NOT".as_slice()
-        || text == b"IN".as_slice()
+    match what_is_said(true, text) {
+        Said::SaidWord => is_in(text),
+        _ => true,
+    }
+}
+
+/// Whether the first byte of a word stands behind a backslash.
+fn hides_first(word: &[u8], first: u8) -> bool
+    ensures { result ≡ (spec.is_keyword word.now || not (spec.is_plain_kind (kind_of first))) }
+{
+    is_keyword(word) || byte_kind(first) != Kind::Plain
 }
 
 fn push_word(out: &mut Vec<u8>, text: &[u8]) -> Result<(), AllocError>
@@ -70,10 +81,7 @@ fn push_word(out: &mut Vec<u8>, text: &[u8]) -> Result<(), AllocError>
     match text {
         [] => Ok(()),
         [first, rest @ ..] => {
-            if is_keyword(text) || byte_kind(*first) != Kind::Plain {
-                out.push(b'\\')?;
-            }
-            out.push(*first)?;
+            push_byte(out, hides_first(text, *first), *first)?;
             push_escaped(out, rest)
         }
     }
@@ -85,8 +93,17 @@ fn word_of(alloc: Global, text: &str) -> Result<Text, AllocError>
 {
     let mut bytes = Vec::new(alloc);
     push_word(&mut bytes, text.as_bytes())?;
-    let word = String::from_utf8_lossy(alloc, bytes.as_slice())?;
-    Ok(Text::from_string(word))
+    as_text(alloc, bytes.as_slice())
+}
+
+/// The bytes of a text in quotation marks.
+fn push_quote(out: &mut Vec<u8>, text: &[u8]) -> Result<(), AllocError>
+    ensures { OnOk result (out.new.items ≡ out.old.items ++ spec.quote_text text.now) }
+{
+    out.push(b'"')?;
+    push_quoted(out, text)?;
+    out.push(b'"')?;
+    Ok(())
 }
 
 /// A text in quotation marks.
@@ -94,11 +111,8 @@ fn quote_of(alloc: Global, text: &str) -> Result<Text, AllocError>
     ensures { IfOk result (λ t. t ≡ spec.quote_text text.now) }
 {
     let mut bytes = Vec::new(alloc);
-    bytes.push(b'"')?;
-    push_quoted(&mut bytes, text.as_bytes())?;
-    bytes.push(b'"')?;
-    let quote = String::from_utf8_lossy(alloc, bytes.as_slice())?;
-    Ok(Text::from_string(quote))
+    push_quote(&mut bytes, text.as_bytes())?;
+    as_text(alloc, bytes.as_slice())
 }
 
 /// Whether the digits of a second read back as that second.
@@ -124,8 +138,7 @@ fn second_of(alloc: Global, seconds: i64) -> Result<Text, AllocError>
     }
     if is_dated(seconds) {
         let date = print_rfc3339(alloc, seconds)?;
-        let quote = quote_of(alloc, date.as_str())?;
-        return Ok(quote);
+        return quote_of(alloc, date.as_str());
     }
     Ok(Text::from_string(seconds.to_string(alloc)?))
 }
@@ -134,8 +147,21 @@ fn second_of(alloc: Global, seconds: i64) -> Result<Text, AllocError>
 fn push_piece(out: &mut Text, piece: &str) -> Result<(), AllocError>
     ensures { OnOk result (spec.Appends out.old out.new (spec.Piece.Written piece.now ∷ [])) }
 {
-    out.extend(piece)?;
-    Ok(())
+    out.extend(piece)
+}
+
+fn push_signed(alloc: Global, out: &mut Text, number: i64) -> Result<(), AllocError>
+    ensures { OnOk result (spec.Appends out.old out.new (spec.Piece.Written (signed_decimal number) ∷ [])) }
+{
+    let digits = number.to_string(alloc)?;
+    push_piece(out, digits.as_str())
+}
+
+fn push_unsigned(alloc: Global, out: &mut Text, number: u64) -> Result<(), AllocError>
+    ensures { OnOk result (spec.Appends out.old out.new (spec.Piece.Written (decimal number) ∷ [])) }
+{
+    let digits = number.to_string(alloc)?;
+    push_piece(out, digits.as_str())
 }
 
 fn push_value(alloc: Global, out: &mut Text, value: &Value) -> Result<(), AllocError>
@@ -143,9 +169,10 @@ fn push_value(alloc: Global, out: &mut Text, value: &Value) -> Result<(), AllocE
 {
     match value {
         Value::Text(text) => push_piece(out, text.as_str()),
-        Value::I64(number) => push_piece(out, number.to_string(alloc)?.as_str()),
-        Value::U64(number) => push_piece(out, number.to_string(alloc)?.as_str()),
-        Value::Bool(truth) => push_piece(out, if *truth { "true" } else { "false" }),
+        Value::I64(number) => push_signed(alloc, out, *number),
+        Value::U64(number) => push_unsigned(alloc, out, *number),
+        Value::Bool(true) => push_piece(out, "true"),
+        Value::Bool(false) => push_piece(out, "false"),
         Value::Datetime(seconds) => push_second(alloc, out, *seconds),
     }
 }
@@ -154,8 +181,7 @@ fn push_second(alloc: Global, out: &mut Text, seconds: i64) -> Result<(), AllocE
     ensures { OnOk result (spec.Appends out.old out.new (spec.Piece.Second seconds ∷ [])) }
 {
     let second = second_of(alloc, seconds)?;
-    out.extend(second.as_str())?;
-    Ok(())
+    out.extend(second.as_str())
 }
 
 fn push_edge(alloc: Global, out: &mut Text, edge: &Edge) -> Result<(), AllocError>
@@ -193,8 +219,7 @@ fn push_range(alloc: Global, out: &mut Text, low: &Edge, high: &Edge) -> Result<
     push_edge(alloc, out, low)?;
     push_piece(out, " TO ")?;
     push_edge(alloc, out, high)?;
-    push_piece(out, closing(high))?;
-    Ok(())
+    push_piece(out, closing(high))
 }
 
 fn item_of(alloc: Global, item: &Item) -> Result<Text, AllocError>
@@ -211,8 +236,7 @@ fn push_item(alloc: Global, out: &mut Text, item: &Item) -> Result<(), AllocErro
     ensures { OnOk result (out.new ≡ out.old ++ spec.item_text item.now) }
 {
     let text = item_of(alloc, item)?;
-    out.extend(text.as_str())?;
-    Ok(())
+    out.extend(text.as_str())
 }
 
 fn push_items(alloc: Global, out: &mut Text, items: &[Item]) -> Result<(), AllocError>
@@ -260,8 +284,7 @@ fn push_field(
 {
     let mut field = word_of(alloc, path_of(fields, number))?;
     field.extend(":")?;
-    push_piece(out, field.as_str())?;
-    Ok(())
+    push_piece(out, field.as_str())
 }
 
 /// A field and what is asked of it.
@@ -275,8 +298,7 @@ fn push_asked(
     ensures { OnOk result (spec.Appends out.old out.new (spec.asked fields.now number asked.now)) }
 {
     push_field(alloc, out, fields, number)?;
-    push_piece(out, asked)?;
-    Ok(())
+    push_piece(out, asked)
 }
 
 fn bracket_before(query: &Query) -> &str

@@ -1,6 +1,7 @@
 // The texts that parts of a query text stand for.
 
-ghost use Rattle.std.specs.Prelude.{◌≡◌, IfOk, drop, take, slice_range};
+ghost use Rattle.std.specs.Prelude.{◌≡◌, IfOk, IsUtf8, drop, take, slice_range};
+ghost use Rattle.std.specs.Str.Lossy.{utf8_lossy};
 ghost use Rattle.query_reader.specs.Texts.{unescaped, text_at, run_at};
 
 use crate::tree::Span;
@@ -54,19 +55,28 @@ fn unescape(alloc: Global, bytes: &[u8]) -> Result<Vec<u8>, AllocError>
     Ok(out)
 }
 
+/// The text that the bytes are.
+pub fn as_text(alloc: Global, bytes: &[u8]) -> Result<Text, AllocError>
+    ensures text { IfOk result (λ t. t ≡ utf8_lossy bytes.now) }
+    ensures same { IfOk result (λ t. IsUtf8 bytes.now → t ≡ bytes.now) }
+{
+    match String::from_utf8_lossy(alloc, bytes) {
+        Ok(string) => Ok(Text::from_string(string)),
+        Err(error) => Err(error),
+    }
+}
+
 /// The text of a word or of what stands between quotation marks.
 pub fn text_of(alloc: Global, text: &[u8], span: Span) -> Result<Text, AllocError>
     ensures { IfOk result (λ t. t ≡ text_at text.now span) }
 {
     let bytes = unescape(alloc, piece(text, span))?;
-    let string = String::from_utf8_lossy(alloc, bytes.as_slice())?;
-    Ok(Text::from_string(string))
+    as_text(alloc, bytes.as_slice())
 }
 
 /// The text of a run of an edge.
 pub fn run_of(alloc: Global, text: &[u8], span: Span) -> Result<Text, AllocError>
     ensures { IfOk result (λ t. t ≡ run_at text.now span) }
 {
-    let string = String::from_utf8_lossy(alloc, piece(text, span))?;
-    Ok(Text::from_string(string))
+    as_text(alloc, piece(text, span))
 }

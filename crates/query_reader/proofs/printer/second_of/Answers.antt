@@ -1,4 +1,5 @@
 use Rattle.std.proofs.Common.{rules, ◌≡◌, ◌∙◌, ap, subst, sym}
+use Rattle.std.proofs.lemmas.Result.{IfOk-weaker}
 use Rattle.std.specs.Fmt.{signed_decimal}
 use Rattle.clock_time.specs.Datetimes.{IsTimestampSecond, IsShownAt}
 use Rattle.query_reader.specs.Printed.{IsPlainSecond, IsSecondText, plain_second, dated_second, other_second, quote_text}
@@ -16,7 +17,7 @@ returns-then-is_dated c =
     let dated : IsTimestampSecond c.args.seconds = search rules in
     let t = c.in_ok-date.ensures.text in
     let shown : IsShownAt c.args.seconds t.0 = search rules in
-    subst (IsSecondText c.args.seconds) (sym (c.in_ok-quote.ensures ∙ ap quote_text (c.as_str.ensures.value ∙ t.2))) (dated_second wide t.0 shown dated)
+    IfOk-weaker c.quote_of.result _ _ (λ q is. subst (IsSecondText c.args.seconds) (sym (is ∙ ap quote_text (c.as_str.ensures.value ∙ t.2))) (dated_second wide t.0 shown dated)) c.quote_of.ensures
 
 pub returns : goal.returns
 returns c =
