@@ -255,16 +255,6 @@ fn edge_with(closed: bool, value: Option<Value>) -> Edge
     }
 }
 
-/// The edge at the value that a text spells.
-fn edge_at(alloc: Global, kind: Kind, closed: bool, text: &Text) -> Result<Edge, AllocError>
-    ensures { IfOk result (λ e. e ≡ spec.edge_with closed (spelled kind text.now)) }
-{
-    match value_of(alloc, kind, text.as_str()) {
-        Ok(value) => Ok(edge_with(closed, value)),
-        Err(error) => Err(error),
-    }
-}
-
 fn edge_of(
     alloc: Global,
     text: &[u8],
@@ -277,12 +267,18 @@ fn edge_of(
     match bound {
         Bound::Unbounded => Ok(Edge::Unbounded),
         Bound::Quoted(span) => {
-            let value = text_of(alloc, text, span)?;
-            edge_at(alloc, kind, closed, &value)
+            let text = text_of(alloc, text, span)?;
+            match value_of(alloc, kind, text.as_str()) {
+                Ok(value) => Ok(edge_with(closed, value)),
+                Err(error) => Err(error),
+            }
         }
         Bound::Run(span) => {
-            let value = run_of(alloc, text, span)?;
-            edge_at(alloc, kind, closed, &value)
+            let text = run_of(alloc, text, span)?;
+            match value_of(alloc, kind, text.as_str()) {
+                Ok(value) => Ok(edge_with(closed, value)),
+                Err(error) => Err(error),
+            }
         }
     }
 }

@@ -2,7 +2,6 @@
 
 ghost use Rattle.std.specs.Prelude.{◌≡◌, ◌++◌, ◌∷◌, ◌||◌, [], ◌↔◌, IsTrue, IfOk, OnOk, not};
 ghost use Rattle.std.specs.Prelude.{if◌then◌else◌};
-ghost use Rattle.std.specs.Fmt.{decimal, signed_decimal};
 ghost use Rattle.clock_time.specs.Datetimes.{IsTimestampSecond};
 ghost use Rattle.query_ast.specs.Sought.{view, view_all};
 ghost use Rattle.query_reader.specs.Kinds.{kind_of};
@@ -96,22 +95,14 @@ fn word_of(alloc: Global, text: &str) -> Result<Text, AllocError>
     as_text(alloc, bytes.as_slice())
 }
 
-/// The bytes of a text in quotation marks.
-fn push_quote(out: &mut Vec<u8>, text: &[u8]) -> Result<(), AllocError>
-    ensures { OnOk result (out.new.items ≡ out.old.items ++ spec.quote_text text.now) }
-{
-    out.push(b'"')?;
-    push_quoted(out, text)?;
-    out.push(b'"')?;
-    Ok(())
-}
-
 /// A text in quotation marks.
 fn quote_of(alloc: Global, text: &str) -> Result<Text, AllocError>
     ensures { IfOk result (λ t. t ≡ spec.quote_text text.now) }
 {
     let mut bytes = Vec::new(alloc);
-    push_quote(&mut bytes, text.as_bytes())?;
+    bytes.push(b'"')?;
+    push_quoted(&mut bytes, text.as_bytes())?;
+    bytes.push(b'"')?;
     as_text(alloc, bytes.as_slice())
 }
 
@@ -150,27 +141,13 @@ fn push_piece(out: &mut Text, piece: &str) -> Result<(), AllocError>
     out.extend(piece)
 }
 
-fn push_signed(alloc: Global, out: &mut Text, number: i64) -> Result<(), AllocError>
-    ensures { OnOk result (spec.Appends out.old out.new (spec.Piece.Written (signed_decimal number) ∷ [])) }
-{
-    let digits = number.to_string(alloc)?;
-    push_piece(out, digits.as_str())
-}
-
-fn push_unsigned(alloc: Global, out: &mut Text, number: u64) -> Result<(), AllocError>
-    ensures { OnOk result (spec.Appends out.old out.new (spec.Piece.Written (decimal number) ∷ [])) }
-{
-    let digits = number.to_string(alloc)?;
-    push_piece(out, digits.as_str())
-}
-
 fn push_value(alloc: Global, out: &mut Text, value: &Value) -> Result<(), AllocError>
     ensures { OnOk result (spec.Appends out.old out.new (spec.value_pieces value.now)) }
 {
     match value {
         Value::Text(text) => push_piece(out, text.as_str()),
-        Value::I64(number) => push_signed(alloc, out, *number),
-        Value::U64(number) => push_unsigned(alloc, out, *number),
+        Value::I64(number) => push_piece(out, number.to_string(alloc)?.as_str()),
+        Value::U64(number) => push_piece(out, number.to_string(alloc)?.as_str()),
         Value::Bool(true) => push_piece(out, "true"),
         Value::Bool(false) => push_piece(out, "false"),
         Value::Datetime(seconds) => push_second(alloc, out, *seconds),
