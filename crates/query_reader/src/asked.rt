@@ -420,12 +420,9 @@ pub fn asked_of(
             Err(error) => Err(error),
         },
         Ask::Within(_, ranged) => range_of(alloc, text, field.kind, number, *ranged),
-        Ask::OneOf(_, members) => match items_of(alloc, text, members.as_slice()) {
-            Ok(items) => Ok(Query::AnyOf {
-                field: number,
-                items,
-            }),
-            Err(error) => Err(error),
-        },
+        Ask::OneOf(_, members) => Ok(Query::AnyOf {
+            field: number,
+            items: items_of(alloc, text, members.as_slice())?,
+        }),
     }
 }
