@@ -7,6 +7,7 @@ ghost use Rattle.query_ast.specs.Sought as sought;
 use crate::query::{Edge, Items, Query};
 use doc_value::{Replica, Text};
 use std::alloc::{AllocError, Global};
+use std::mem;
 
 fn and_of(parts: Vec<Query>) -> Query
     ensures { view result ≡ sought.And (view_all parts.items) }
@@ -20,40 +21,60 @@ fn or_of(parts: Vec<Query>) -> Query
     Query::Or(parts)
 }
 
+fn negated(alloc: Global, query: Query) -> Result<Query, AllocError>
+    ensures { IfOk result (λ q. view q ≡ sought.Not (view query)) }
+{
+    let inner = Box::new(alloc, query)?;
+    Ok(Query::Not(inner))
+}
+
 fn copy_word(alloc: Global, field: usize, text: &Text) -> Result<Query, AllocError>
     ensures { IfOk result (λ q. view q ≡ sought.Word field text.now) }
 {
-    let text = text.copy(alloc)?;
-    Ok(Query::Word { field, text })
+    match text.copy(alloc) {
+        Ok(text) => Ok(Query::Word { field, text }),
+        Err(error) => Err(error),
+    }
 }
 
 fn copy_quoted(alloc: Global, field: usize, text: &Text) -> Result<Query, AllocError>
     ensures { IfOk result (λ q. view q ≡ sought.Quoted field text.now) }
 {
-    let text = text.copy(alloc)?;
-    Ok(Query::Quoted { field, text })
+    match text.copy(alloc) {
+        Ok(text) => Ok(Query::Quoted { field, text }),
+        Err(error) => Err(error),
+    }
 }
 
 fn copy_prefix(alloc: Global, field: usize, text: &Text) -> Result<Query, AllocError>
     ensures { IfOk result (λ q. view q ≡ sought.Prefix field text.now) }
 {
-    let text = text.copy(alloc)?;
-    Ok(Query::Prefix { field, text })
+    match text.copy(alloc) {
+        Ok(text) => Ok(Query::Prefix { field, text }),
+        Err(error) => Err(error),
+    }
 }
 
 fn copy_range(alloc: Global, field: usize, low: &Edge, high: &Edge) -> Result<Query, AllocError>
     ensures { IfOk result (λ q. view q ≡ sought.Range field low.now high.now) }
 {
     let low = low.copy(alloc)?;
-    let high = high.copy(alloc)?;
-    Ok(Query::Range { field, low, high })
+    match high.copy(alloc) {
+        Ok(high) => Ok(Query::Range { field, low, high }),
+        Err(error) => {
+            mem::drop(low);
+            Err(error)
+        }
+    }
 }
 
 fn copy_set(alloc: Global, field: usize, items: &Items) -> Result<Query, AllocError>
     ensures { IfOk result (λ q. view q ≡ sought.AnyOf field items.now) }
 {
-    let items = items.copy(alloc)?;
-    Ok(Query::AnyOf { field, items })
+    match items.copy(alloc) {
+        Ok(items) => Ok(Query::AnyOf { field, items }),
+        Err(error) => Err(error),
+    }
 }
 
 /// A copy of a query in memory of its own: the same query.
@@ -70,9 +91,18 @@ pub fn copy_query(alloc: Global, query: &Query) -> Result<Query, AllocError>
         Query::Exists { field } => Ok(Query::Exists { field: *field }),
         Query::Range { field, low, high } => copy_range(alloc, *field, low, high),
         Query::AnyOf { field, items } => copy_set(alloc, *field, items),
-        Query::Not(inner) => Ok(Query::Not(Box::new(alloc, copy_query(alloc, inner)?)?)),
-        Query::And(parts) => Ok(and_of(copy_queries(alloc, parts.as_slice())?)),
-        Query::Or(parts) => Ok(or_of(copy_queries(alloc, parts.as_slice())?)),
+        Query::Not(inner) => match copy_query(alloc, inner) {
+            Ok(copy) => negated(alloc, copy),
+            Err(error) => Err(error),
+        },
+        Query::And(parts) => match copy_queries(alloc, parts.as_slice()) {
+            Ok(copies) => Ok(and_of(copies)),
+            Err(error) => Err(error),
+        },
+        Query::Or(parts) => match copy_queries(alloc, parts.as_slice()) {
+            Ok(copies) => Ok(or_of(copies)),
+            Err(error) => Err(error),
+        },
     }
 }
 

@@ -5,7 +5,7 @@ ghost use Rattle.std.specs.List.{starts_with};
 ghost use Rattle.query_ast.specs.FieldTokens.{field_tokens};
 ghost use Rattle.query_ast.specs.Sought.{view};
 ghost use Rattle.query_ast.specs.Sought as sought;
-ghost use Rattle.query_ast.specs.Meaning.{values_in, same_value, value_below, is_above, is_below, between, equals_some, has_token, has_prefix, has_token_at, stands_at, stands_at_one, first_position, tokens_in, is_text, some_has_token, some_has_prefix, some_has_phrase, each_stands, phrase_holds, quoted_holds, word_holds, some_item_holds, meaning, all_in, some_in, from_start, before_end, second_within, some_within, has_time_within, within_times};
+ghost use Rattle.query_ast.specs.Meaning.{values_in, same_value, value_below, is_above, is_below, between, equals_some, has_token, has_prefix, has_token_at, stands_at, stands_at_one, first_position, tokens_in, is_text, some_has_token, some_has_prefix, some_has_phrase, each_stands, phrase_holds, quoted_holds, word_holds, item_holds, some_item_holds, meaning, all_in, some_in, from_start, before_end, second_within, some_within, has_time_within, within_times};
 
 use crate::fields::field_at;
 use crate::query::{Edge, Item, Query};
@@ -276,11 +276,15 @@ fn holds_quoted(
     ensures { IfOk result (λ b. b ≡ quoted_holds field.now text.now values.now) }
 {
     if has_kind_of_text(field) {
-        let phrase = tokens_of(alloc, field, text)?;
-        holds_phrase(alloc, field, phrase.as_slice(), values)
+        match tokens_of(alloc, field, text) {
+            Ok(phrase) => holds_phrase(alloc, field, phrase.as_slice(), values),
+            Err(error) => Err(error),
+        }
     } else {
-        let wanted = value_of(alloc, field.kind, text)?;
-        Ok(some_equals(&wanted, values))
+        match value_of(alloc, field.kind, text) {
+            Ok(wanted) => Ok(some_equals(&wanted, values)),
+            Err(error) => Err(error),
+        }
     }
 }
 
@@ -303,6 +307,21 @@ fn holds_word(
     }
 }
 
+fn holds_item(
+    alloc: Global,
+    field: &Field,
+    values: &[Value],
+    item: &Item,
+) -> Result<bool, AllocError>
+    ensures { IfOk result (λ b. b ≡ item_holds field.now values.now item.now) }
+{
+    if item.quoted {
+        holds_quoted(alloc, field, item.text.as_str(), values)
+    } else {
+        holds_word(alloc, field, item.text.as_str(), values)
+    }
+}
+
 fn holds_some_item(
     alloc: Global,
     field: &Field,
@@ -312,12 +331,7 @@ fn holds_some_item(
     ensures { IfOk result (λ b. b ≡ some_item_holds field.now values.now items.now) }
 {
     for item in items {
-        let holds = if item.quoted {
-            holds_quoted(alloc, field, item.text.as_str(), values)?
-        } else {
-            holds_word(alloc, field, item.text.as_str(), values)?
-        };
-        if holds {
+        if holds_item(alloc, field, values, item)? {
             return Ok(true);
         }
     }
@@ -407,7 +421,10 @@ pub fn matches(alloc: Global, schema: &Schema, query: &Query, doc: &Doc) -> Resu
             Ok(some_between(low, high, values_of(doc.as_slice(), *field)))
         }
         Query::AnyOf { field, items } => meets_set(alloc, schema, *field, items.as_slice(), doc),
-        Query::Not(inner) => Ok(!matches(alloc, schema, inner, doc)?),
+        Query::Not(inner) => match matches(alloc, schema, inner, doc) {
+            Ok(holds) => Ok(!holds),
+            Err(error) => Err(error),
+        },
         Query::And(parts) => all_match(alloc, schema, parts.as_slice(), doc),
         Query::Or(parts) => some_match(alloc, schema, parts.as_slice(), doc),
     }
