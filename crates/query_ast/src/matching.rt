@@ -239,8 +239,10 @@ fn each_is_contained(
     ensures { IfOk result (λ b. b ≡ each_stands field.now (phrase.now) values.now) }
 {
     for t in phrase {
-        if !some_contains(alloc, field, t.text.as_str(), values)? {
-            return Ok(false);
+        match some_contains(alloc, field, t.text.as_str(), values) {
+            Ok(true) => {}
+            Ok(false) => return Ok(false),
+            Err(error) => return Err(error),
         }
     }
     Ok(true)
@@ -331,8 +333,10 @@ fn holds_some_item(
     ensures { IfOk result (λ b. b ≡ some_item_holds field.now values.now items.now) }
 {
     for item in items {
-        if holds_item(alloc, field, values, item)? {
-            return Ok(true);
+        match holds_item(alloc, field, values, item) {
+            Ok(true) => return Ok(true),
+            Ok(false) => {}
+            Err(error) => return Err(error),
         }
     }
     Ok(false)
@@ -435,8 +439,10 @@ fn all_match(alloc: Global, schema: &Schema, parts: &[Query], doc: &Doc) -> Resu
     ensures { IfOk result (λ b. b ≡ all_in schema.now doc.now parts.now) }
 {
     for part in parts {
-        if !matches(alloc, schema, part, doc)? {
-            return Ok(false);
+        match matches(alloc, schema, part, doc) {
+            Ok(true) => {}
+            Ok(false) => return Ok(false),
+            Err(error) => return Err(error),
         }
     }
     Ok(true)
@@ -452,8 +458,10 @@ fn some_match(
     ensures { IfOk result (λ b. b ≡ some_in schema.now doc.now parts.now) }
 {
     for part in parts {
-        if matches(alloc, schema, part, doc)? {
-            return Ok(true);
+        match matches(alloc, schema, part, doc) {
+            Ok(true) => return Ok(true),
+            Ok(false) => {}
+            Err(error) => return Err(error),
         }
     }
     Ok(false)
