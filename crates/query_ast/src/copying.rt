@@ -21,13 +21,6 @@ fn or_of(parts: Vec<Query>) -> Query
     Query::Or(parts)
 }
 
-fn negated(alloc: Global, query: Query) -> Result<Query, AllocError>
-    ensures { IfOk result (λ q. view q ≡ sought.Not (view query)) }
-{
-    let inner = Box::new(alloc, query)?;
-    Ok(Query::Not(inner))
-}
-
 fn copy_word(alloc: Global, field: usize, text: &Text) -> Result<Query, AllocError>
     ensures { IfOk result (λ q. view q ≡ sought.Word field text.now) }
 {
@@ -91,10 +84,7 @@ pub fn copy_query(alloc: Global, query: &Query) -> Result<Query, AllocError>
         Query::Exists { field } => Ok(Query::Exists { field: *field }),
         Query::Range { field, low, high } => copy_range(alloc, *field, low, high),
         Query::AnyOf { field, items } => copy_set(alloc, *field, items),
-        Query::Not(inner) => match copy_query(alloc, inner) {
-            Ok(copy) => negated(alloc, copy),
-            Err(error) => Err(error),
-        },
+        Query::Not(inner) => Ok(Query::Not(Box::new(alloc, copy_query(alloc, inner)?)?)),
         Query::And(parts) => match copy_queries(alloc, parts.as_slice()) {
             Ok(copies) => Ok(and_of(copies)),
             Err(error) => Err(error),
