@@ -14,3 +14,12 @@ returns-in-TooManyRows c = rw c.in-TooManyRows.is c.put_one-in-TooManyRows.ensur
 
 pub returns-in_ok-put_word-in-TooManySpans : goal.returns-in_ok-put_word-in-TooManySpans
 returns-in_ok-put_word-in-TooManySpans c = rw (c.in-TooManySpans.is, ← c.in_ok-put_word-in-TooManySpans.ensures) c.put_wide.ensures
+
+pub returns-in-AlreadyCreated : goal.returns-in-AlreadyCreated
+returns-in-AlreadyCreated c = rw c.in-AlreadyCreated.is c.put_word-in-AlreadyCreated.ensures
+
+pub returns-in-NotNext : goal.returns-in-NotNext
+returns-in-NotNext c = rw c.in-NotNext.is c.put_pair-in-NotNext.ensures
+
+pub returns-in-UptoAhead : goal.returns-in-UptoAhead
+returns-in-UptoAhead c = rw c.in-UptoAhead.is c.put_pair-in-UptoAhead.ensures
