@@ -29,6 +29,7 @@ pub mod Creating
 pub mod Appending
 pub mod Gates
 pub mod Fronts
+pub mod Preparing
 pub mod Reading
 pub mod Faulted
 pub mod OpenedLemmas

@@ -1,6 +1,6 @@
 -- What settling did to a life, in the words of the core.
 use Rattle.std.proofs.Common.{◌≡◌, ℕ, ◌≤◌, [], ◌∷◌, refl, sym, ap, ◌∙◌, subst, inl, inr, true, false, length, arith}
-use Rattle.std.specs.Prelude.{Option, Some, Result, Ok, Err, MatchResult, ⊤}
+use Rattle.std.specs.Prelude.{Option, Some, None, Result, Ok, Err, MatchResult, ⊤}
 use Rattle.byte_fields.specs.Causes.{Rose}
 use Rattle.meta_journal.specs.Journal.{Numbered, Settles, SettlesAt, FaultIs, place_refused}
 use Rattle.meta_journal.specs.Spelling.{CanSpell}
@@ -31,6 +31,13 @@ refused_doubt p (journal.Missing key) h = doubt_of p h
 refused_doubt p (journal.Adopted f) h = refl
 refused_doubt p (journal.Foreign key) h = doubt_of p h
 refused_doubt p journal.Full h = doubt_of p h
+
+-- what settling gave is one thing
+pub gave_none : (f : Entry) (r : Result (Option Entry) JournalError) → r ≡ Ok (Some f) → r ≡ Ok None → ⊥
+gave_none f r e n = let h : ◌≡◌ {A = Result (Option Entry) JournalError} (Ok (Some f)) (Ok None) = sym e ∙ n in cc h
+
+pub failed_none : (x : JournalError) (r : Result (Option Entry) JournalError) → r ≡ Err x → r ≡ Ok None → ⊥
+failed_none x r e n = let h : ◌≡◌ {A = Result (Option Entry) JournalError} (Err x) (Ok None) = sym e ∙ n in cc h
 
 module _ (old : State) (core : Core) (log : Log) (count now : ℕ) (life : Life) (b : StandsBy old core log count life) (told told' : Option State) (e : told ≡ Some old) (later : count ≤ now) (within : now ≤ last_count) where
   counted : Counted core now

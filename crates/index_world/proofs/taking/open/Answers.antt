@@ -11,6 +11,7 @@ use Rattle.index_world.specs.Taking.{IsFaultBetween, IsNoFault, IsWant}
 use Rattle.index_world.proofs.Configured.{kept_schema}
 use Rattle.index_world.proofs.Fronts.{AreTimely, err_so, some_entry}
 use Rattle.index_world.proofs.Faulted.{no_fault_between, fault_between}
+use Rattle.index_world.proofs.StoreKeys.{true_is_false}
 use Rattle.index_world.proofs.Reading.{opening_failed, opening_empty, opening_short_by, opening_ok, read_legal, read_timely, loads_ok_at, loads_err_at}
 use Rattle.object_store.proofs.Told.{told_map}
 use Rattle.meta_store.specs.History.History.{Start}
@@ -27,7 +28,7 @@ returns-then-is_empty-clause-opened g c =
 pub returns-in_err-meta-in-Ok-clause-opened : goal.returns-in_err-meta-in-Ok-clause-opened
 returns-in_err-meta-in-Ok-clause-opened g c =
     let said : c.load-answer.result ≡ Ok (c.in-Ok.journal, c.in-Ok.entries) = c.in-Ok.is in
-    let some : 0 < length c.in-Ok.entries = some_entry c.in-Ok.entries (λ none. let h = c.is_empty.ensures.1 none in let f = c.if-is_empty.false in cc) in
+    let some : 0 < length c.in-Ok.entries = some_entry c.in-Ok.entries (λ none. true_is_false (sym (c.is_empty.ensures.1 none) ∙ c.if-is_empty.false)) in
     told_map _ _ (opens_refused_by c.in-Ok.entries (g.S.ObjectStore.fault_count c.args.store.now) (g.S.ObjectStore.fault_count c.load-answer.new.store) c.from_residual.result _ some c.from_residual.ensures.1
     (λ error is. subst (λ (es : List Entry). IsRefusedAt (first_refused Start es) error) c.into_vec.ensures (subst (IsRefusedAt (first_refused Start c.into_vec.result.items)) (sym is) c.in_err-meta-in-Ok.ensures.refused)))
     (loads_ok_at _ _ _ _ _ said c.load-answer.ensures.answer)
@@ -36,7 +37,7 @@ pub returns-in_ok-meta-in-Ok-clause-opened : goal.returns-in_ok-meta-in-Ok-claus
 returns-in_ok-meta-in-Ok-clause-opened g c =
     let said : c.load-answer.result ≡ Ok (c.in-Ok.journal, c.in-Ok.entries) = c.in-Ok.is in
     let j : c.in-Ok.journal ≡ loaded (length c.in-Ok.entries) = subst (λ (r : Result (Numbered × List Entry) JournalError). IfOk r (λ x. x.0 ≡ loaded (length x.1))) said c.load-answer.ensures.journal in
-    let some : 0 < length c.in-Ok.entries = some_entry c.in-Ok.entries (λ none. let h = c.is_empty.ensures.1 none in let f = c.if-is_empty.false in cc) in
+    let some : 0 < length c.in-Ok.entries = some_entry c.in-Ok.entries (λ none. true_is_false (sym (c.is_empty.ensures.1 none) ∙ c.if-is_empty.false)) in
     told_map _ _ (opens_life c.in-Ok.entries (g.S.ObjectStore.fault_count c.args.store.now) (g.S.ObjectStore.fault_count c.load-answer.new.store) _ some (subst (λ (es : List Entry). first_refused Start es ≡ None) c.into_vec.ensures c.in_ok-meta-in-Ok.ensures.fit) j
     (c.in_ok-meta-in-Ok.ensures.state ∙ ap (λ (es : List Entry). state_of reads (history es)) c.into_vec.ensures)
     (λ timely. c.in_ok-meta-in-Ok.ensures.greatest (subst AreTimely (sym c.into_vec.ensures) timely) ∙ ap (λ (es : List Entry). moment_of (history es)) c.into_vec.ensures))
@@ -74,7 +75,7 @@ returns-in_ok-meta-in-Ok-clause-step g c old core log e at w clock =
     let l = loads_ok_at _ _ _ _ _ said c.load-answer.ensures.answer in
     let timely = read_timely old core log _ _ _ _ e w at c.load-answer.ensures.later (omega (arith, counts, fits)) c.in-Ok.entries l in
     let j : c.in-Ok.journal ≡ loaded (length c.in-Ok.entries) = subst (λ (r : Result (Numbered × List Entry) JournalError). IfOk r (λ x. x.0 ≡ loaded (length x.1))) said c.load-answer.ensures.journal in
-    let some : 0 < length c.in-Ok.entries = some_entry c.in-Ok.entries (λ none. let h = c.is_empty.ensures.1 none in let f = c.if-is_empty.false in cc) in
+    let some : 0 < length c.in-Ok.entries = some_entry c.in-Ok.entries (λ none. true_is_false (sym (c.is_empty.ensures.1 none) ∙ c.if-is_empty.false)) in
     opening_ok old core log _ _ _ _ e w at c.load-answer.ensures.later (omega (arith, counts, fits)) c.in-Ok.entries l _ clock some j
     (c.in_ok-meta-in-Ok.ensures.state ∙ ap (λ (es : List Entry). state_of reads (history es)) c.into_vec.ensures)
     (c.in_ok-meta-in-Ok.ensures.greatest (subst AreTimely (sym c.into_vec.ensures) timely) ∙ ap (λ (es : List Entry). moment_of (history es)) c.into_vec.ensures)

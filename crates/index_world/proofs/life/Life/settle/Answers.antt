@@ -7,7 +7,7 @@ use Rattle.meta_journal.specs.declared.place.Place.TheVariants.{Sure}
 use Rattle.object_store.specs.Store.{WhereTold}
 use Rattle.index_world.specs.Unsure.{is_unsure}
 use Rattle.index_world.proofs.Lives.{life_on}
-use Rattle.index_world.proofs.Settling.{settling_sure, settling_given, settling_failed, refused_doubt}
+use Rattle.index_world.proofs.Settling.{settling_sure, settling_given, settling_failed, refused_doubt, gave_none, failed_none}
 use Rattle.index_world.proofs.life.Life.settle.Goals as goal
 
 pub returns-in-Ok-None-clause-step : goal.returns-in-Ok-None-clause-step
@@ -27,7 +27,7 @@ returns-in-Ok-Some-clause-step g c old core log e b at =
     let count = c.faults-count.ensures in
     let fits = c.faults-count.type_inv in
     settling_given old core log _ _ c.args.self.now b _ _ e c.settle-answer.ensures.later (omega (arith, count, fits))
-    (λ sure. let h : ◌≡◌ {A = Result (Option Entry) JournalError} (Ok (Some c.in-Ok-Some.entry)) (Ok None) = sym said ∙ (c.settle-answer.ensures.sure sure).0 in cc h)
+    (λ sure. gave_none c.in-Ok-Some.entry _ said (c.settle-answer.ensures.sure sure).0)
     _ _ c.in-Ok-Some.entry _
     (subst (λ (r : Result (Option Entry) JournalError). WhereTold (g.S.ObjectStore.told c.args.store.now) (g.S.ObjectStore.told c.settle-answer.new.store) (Settles c.args.self.now.journal.next c.args.self.now.moment r)) said c.settle-answer.ensures.answer)
     (life_on c.args.self.now _ core.history core.moment core.unsure true b.knows c.settle-answer.ensures.next refl refl (ap is_unsure (c.settle-answer.ensures.place ∙ ap (place_settled c.args.self.now.journal.place) said)))
@@ -38,7 +38,7 @@ returns-in-Err-clause-step g c old core log e b at =
     let said : c.settle-answer.result ≡ Err c.in-Err.error = c.in-Err.is in
     let count = c.faults-count.ensures in
     let fits = c.faults-count.type_inv in
-    let unsure : c.args.self.now.journal.place ≡ Sure → ⊥ = λ sure. let h : ◌≡◌ {A = Result (Option Entry) JournalError} (Err c.in-Err.error) (Ok None) = sym said ∙ (c.settle-answer.ensures.sure sure).0 in cc h in
+    let unsure : c.args.self.now.journal.place ≡ Sure → ⊥ = λ sure. failed_none c.in-Err.error _ said (c.settle-answer.ensures.sure sure).0 in
     settling_failed old core log _ _ c.args.self.now b _ _ e c.settle-answer.ensures.later (omega (arith, count, fits)) unsure
     _ _ _ c.in-Err.error _ c.world_error.ensures at
     (subst (λ (r : Result (Option Entry) JournalError). IfErr r (FaultIs (g.S.ObjectStore.fault_count c.args.store.now) (g.S.ObjectStore.fault_count c.settle-answer.new.store))) said c.settle-answer.ensures.faults)
