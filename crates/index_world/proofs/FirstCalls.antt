@@ -2,7 +2,6 @@
 use Rattle.std.proofs.Common.{◌≡◌, ℕ, ◌<◌, ◌≤◌, ◌^◌, List, [], ◌∷◌, refl, sym, ap, ◌∙◌, subst, inl, inr, Bool, false, arith, IsOk}
 use Rattle.std.proofs.lemmas.Bool.Decides.{nat_tests}
 use Rattle.std.specs.Prelude.{Option, Some, None, Result, Ok, Err, IfOk, IfErr, nat_lt, if◌then◌else◌}
-use Rattle.std.specs.Result.{IsErrAnd}
 use Rattle.index_config.specs.Answer.{config_answer}
 use Rattle.index_config.specs.declared.config.IndexConfig.{IndexConfig}
 use Rattle.index_config.specs.declared.config_error.ConfigError.{ConfigError}
@@ -177,9 +176,8 @@ module _ (text : List ℕ) (clock : Option ℕ) (n now : ℕ) where
   bad_text errors.NoIndex bad old new l = absurd bad
   bad_text errors.IndexExists bad old new l = absurd bad
 
-  pub bad_text_by : (r : Result Life WorldError) (Is : WorldError → Type 0) → IsErrAnd r Is → ((error : WorldError) → Is error → IsBadText text error) → (es : List Entry) → es ≡ [] → (old new : State) → LoadsEntries (Ok es) old new → CreatesTo text clock n now r old new
-  bad_text_by (Ok life) Is h why es none old new l = absurd h
-  bad_text_by (Err error) Is h why es none old new l = bad_text error (why error h) old new (subst (λ (xs : List Entry). IsLoaded xs old new) none l)
+  pub bad_text_at : (error : WorldError) → IsBadText text error → (es : List Entry) → es ≡ [] → (old new : State) → LoadsEntries (Ok es) old new → CreatesTo text clock n now (Err error) old new
+  bad_text_at error bad es none old new l = bad_text error bad old new (subst (λ (xs : List Entry). IsLoaded xs old new) none l)
 
   pub first_begun : (es : List Entry) (moment : ℕ) (entry : Entry) (r : Result Life WorldError) → es ≡ [] → IsOk (config_answer text) → entry ≡ create_at text moment → IsToldBy clock moment → moment < 2 ^ 62 → IfErr r (IsFaultBetween n now) →
       IfOk r (λ life. LifeIs life (entry ∷ []) entry.moment false) → (old mid new : State) → LoadsEntries (Ok es) old mid → AppendsFirst entry r mid new → CreatesTo text clock n now r old new

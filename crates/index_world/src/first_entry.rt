@@ -1,16 +1,17 @@
 //! Making the index of a store that has none.
 
-ghost use Rattle.std.specs.Prelude.{◌≡◌, ◌<◌, ◌≤◌, ◌^◌, [], ◌∷◌, ℕ, List, IfOk, IfErr, IsOk, MatchResult, None, false};
+ghost use Rattle.std.specs.Prelude.{◌≡◌, ◌<◌, ◌≤◌, ◌^◌, [], ◌∷◌, ℕ, List, IfOk, IfErr, IsOk, MatchResult, None, OnOk, false};
 ghost use Rattle.index_config.specs.Answer.{config_answer};
 ghost use Rattle.meta_journal.specs.Loading.{loaded};
 ghost use Rattle.meta_journal.specs.Spelling.{CanSpell};
+ghost use Rattle.meta_journal.specs.declared.entry.Act.TheVariants.{Create};
 ghost use Rattle.meta_store.specs.Answers.{answer_to};
 ghost use Rattle.meta_store.specs.History.History.{Start};
 ghost use Rattle.meta_store.specs.Readings.{reading_of};
 ghost use Rattle.meta_store.specs.State.{state_of};
 ghost use Rattle.object_store.specs.Store.{WhereTold};
 ghost use Rattle.index_world.specs.Config.{reads};
-ghost use Rattle.index_world.specs.Created.{create_at, of_first, AppendsFirst, CreatesTo, IsOfCreate};
+ghost use Rattle.index_world.specs.Created.{create_at, of_first, AppendsFirst, CreatesTo, IsBadText, IsOfCreate};
 ghost use Rattle.index_world.specs.Life.{LifeIs};
 ghost use Rattle.index_world.specs.Taking.{IsFaultBetween};
 
@@ -105,6 +106,23 @@ fn append_first<S: ObjectStore>(
     }
 }
 
+// The bytes of a text that is a configuration, and what is read of its Create.
+fn read_text(alloc: Global, text: &[u8]) -> Result<(Bytes, Reading), WorldError>
+    ensures bytes { IfOk result (λ read. read.0 ≡ text.now) }
+    ensures reading { IfOk result (λ read. read.1 ≡ reading_of reads None (Create text.now)) }
+    ensures config { OnOk result (IsOk (config_answer text.now)) }
+    ensures bad { IfErr result (IsBadText text.now) }
+{
+    let config = Bytes::from_slice(alloc, text)?;
+    match reading_of_text(alloc, text) {
+        Ok(reading) => Ok((config, reading)),
+        Err(error) => {
+            mem::drop(config);
+            Err(error)
+        }
+    }
+}
+
 /// Makes the index of a store: its journal is loaded, the text is read, the clock is asked, and the Create is appended.
 pub fn create<S: ObjectStore, C: SteadyClock>(
     alloc: Global,
@@ -123,13 +141,22 @@ pub fn create<S: ObjectStore, C: SteadyClock>(
     let before = store.faults();
     match Journal::load(alloc, store) {
         Ok((journal, entries)) => {
-            if !entries.is_empty() {
+            let is_first = entries.is_empty();
+            mem::drop(entries);
+            if !is_first {
+                mem::drop(journal);
                 return Err(WorldError::IndexExists);
             }
-            let config = Bytes::from_slice(alloc, text)?;
-            let reading = reading_of_text(alloc, text)?;
-            let entry = create_entry(config, clock.ask());
-            append_first(alloc, store, journal, entry, reading, before)
+            match read_text(alloc, text) {
+                Ok((config, reading)) => {
+                    let entry = create_entry(config, clock.ask());
+                    append_first(alloc, store, journal, entry, reading, before)
+                }
+                Err(error) => {
+                    mem::drop(journal);
+                    Err(error)
+                }
+            }
         }
         Err(error) => Err(world_error(error, 0, before)),
     }
