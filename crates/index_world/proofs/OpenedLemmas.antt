@@ -150,10 +150,8 @@ refused_error es n now errors.NoIndex some r old new l = absurd r
 refused_error es n now errors.IndexExists some r old new l = absurd r
 refused_error es n now (errors.BadConfig bad) some r old new l = absurd r
 
-pub opens_refused_by : (es : List Entry) (n now : ℕ) (r : Result Life WorldError) (Is : WorldError → Type 0) → 0 < length es → IsErrAnd r Is → ((error : WorldError) → Is error → IsRefusedAt (first_refused Start es) error) →
-    (old new : State) → LoadsEntries (Ok es) old new → OpensTo n now r old new
-opens_refused_by es n now (Ok life) Is some h why old new l = absurd h
-opens_refused_by es n now (Err error) Is some h why old new l = refused_error es n now error some (why error h) old new l
+pub opens_refused : (es : List Entry) (n now : ℕ) (error : WorldError) → 0 < length es → IsRefusedAt (first_refused Start es) error → (old new : State) → LoadsEntries (Ok es) old new → OpensTo n now (Err error) old new
+opens_refused es n now error some r old new l = refused_error es n now error some r old new l
 
 pub opens_life : (es : List Entry) (n now : ℕ) (life : Life) → 0 < length es → first_refused Start es ≡ None → life.journal ≡ loaded (length es) → life.meta.state ≡ state_of reads (history es) →
     (AreTimely es → life.moment ≡ moment_of (history es)) → (old new : State) → LoadsEntries (Ok es) old new → OpensTo n now (Ok life) old new

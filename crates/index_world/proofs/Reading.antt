@@ -146,10 +146,6 @@ module _ (old : State) (core : Core) (log : Log) (n now : ℕ) (told told' : Opt
         r : Reborn t.new core log read now
         r = whole_loaded old t.says.mid t.new core log read now w clock some law t.says.journal
 
-    pub opening_short_by : (r : Result Life WorldError) (Is : WorldError → Type 0) → IsErrAnd r Is → ((error : WorldError) → Is error → IsWant error) → Opening core log r told' now
-    opening_short_by (Ok life) Is h want = absurd h
-    opening_short_by (Err error) Is h want = opening_short error (want error h)
-
 -- ---- at a result
 
 pub loads_ok_at : (told told' : Option State) (r : Result (Numbered × List Entry) JournalError) (j : Numbered) (es : List Entry) → r ≡ Ok (j, es) → WhereTold told told' (λ a s. Loads r a s) → WhereTold told told' (λ a s. LoadsEntries (Ok es) a s)

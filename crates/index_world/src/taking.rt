@@ -9,7 +9,7 @@ ghost use Rattle.meta_store.specs.History.{history};
 ghost use Rattle.meta_store.specs.History as told;
 ghost use Rattle.meta_store.specs.History.History.{Start};
 ghost use Rattle.meta_store.specs.Room.{HasRoom};
-ghost use Rattle.meta_store.specs.State.{Legal};
+ghost use Rattle.meta_store.specs.State.{Legal, after};
 ghost use Rattle.meta_store.specs.State as spec;
 ghost use Rattle.object_store.specs.Store.{State, WhereTold};
 ghost use Rattle.source_log.specs.Log.{Log};
@@ -188,13 +188,47 @@ fn take_all(alloc: Global, meta: &mut Meta, entries: Vec<Entry>) -> Result<u64, 
     left.reverse();
     let mut moment = 0;
     'entries: while let Some(entry) = left.pop() {
-        let number = meta.revision();
-        let reading = reading_of(alloc, &entry)?;
-        moment = moment_of(&entry).max(moment);
-        let handed = admit(meta, reading, &entry, number)?;
-        meta.apply(entry, handed);
+        match reading_of(alloc, &entry) {
+            Ok(reading) => match take_one(meta, entry, reading) {
+                Ok(of_entry) => moment = of_entry.max(moment),
+                Err(error) => {
+                    mem::drop(left);
+                    return Err(error);
+                }
+            },
+            Err(refused) => {
+                mem::drop(entry);
+                mem::drop(left);
+                return Err(WorldError::Memory(refused));
+            }
+        }
     }
     Ok(moment)
+}
+
+// Takes the next entry into the state, whose readings these are, and gives its moment.
+fn take_one(meta: &mut Meta, entry: Entry, reading: Reading) -> Result<u64, WorldError>
+    requires { meta.old.state.revision < 10000000 }
+    ensures state { OnOk result (meta.new.state ≡ after reading entry meta.old.state) }
+    ensures allowed { OnOk result (IsOk (answer_to reading meta.old.state entry)) }
+    ensures below { IfOk result (λ moment. moment < 2 ^ 62) }
+    ensures moment { entry.moment < 2 ^ 62 → IfOk result (λ moment. moment ≡ entry.moment) }
+    ensures want { IfErr result (λ error. IsOk (answer_to reading meta.old.state entry) → IsWant error) }
+    ensures no_fault { IfErr result IsNoFault }
+    ensures unfit { IfErr result (IsUnfit (answer_to reading meta.old.state entry) meta.old.state.revision) }
+{
+    let number = meta.revision();
+    let moment = moment_of(&entry);
+    match admit(meta, reading, &entry, number) {
+        Ok(handed) => {
+            meta.apply(entry, handed);
+            Ok(moment)
+        }
+        Err(error) => {
+            mem::drop(entry);
+            Err(error)
+        }
+    }
 }
 
 /// Opens the index of a store.
@@ -213,14 +247,21 @@ pub fn open<S: ObjectStore>(alloc: Global, store: &mut S) -> Result<Life, WorldE
     match answer {
         Ok((journal, entries)) => {
             if entries.is_empty() {
+                mem::drop(entries);
+                mem::drop(journal);
                 return Err(WorldError::NoIndex);
             }
-            let (meta, moment) = state_of(alloc, entries.into_vec())?;
-            Ok(Life {
-                journal,
-                meta,
-                moment,
-            })
+            match state_of(alloc, entries.into_vec()) {
+                Ok((meta, moment)) => Ok(Life {
+                    journal,
+                    meta,
+                    moment,
+                }),
+                Err(error) => {
+                    mem::drop(journal);
+                    Err(error)
+                }
+            }
         }
         Err(error) => Err(world_error(error, 0, before)),
     }

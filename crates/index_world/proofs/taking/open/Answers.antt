@@ -7,17 +7,16 @@ use Rattle.meta_journal.specs.declared.journal_error.JournalError.{JournalError}
 use Rattle.meta_store.specs.History.{history, moment_of}
 use Rattle.meta_store.specs.State.{State, Legal, state_of}
 use Rattle.index_world.specs.Config.{reads}
-use Rattle.index_world.specs.Taking.{IsFaultBetween, IsNoFault, IsWant}
+use Rattle.index_world.specs.Taking.{IsRefusedAt}
 use Rattle.index_world.proofs.Configured.{kept_schema}
-use Rattle.index_world.proofs.Fronts.{AreTimely, err_so, some_entry}
+use Rattle.index_world.proofs.Fronts.{AreTimely, some_entry}
 use Rattle.index_world.proofs.Faulted.{no_fault_between, fault_between}
 use Rattle.index_world.proofs.StoreKeys.{true_is_false}
-use Rattle.index_world.proofs.Reading.{opening_failed, opening_empty, opening_short_by, opening_ok, read_legal, read_timely, loads_ok_at, loads_err_at}
+use Rattle.index_world.proofs.Reading.{opening_failed, opening_empty, opening_short, opening_ok, read_legal, read_timely, loads_ok_at, loads_err_at}
 use Rattle.object_store.proofs.Told.{told_map}
 use Rattle.meta_store.specs.History.History.{Start}
 use Rattle.index_world.specs.Opened.{first_refused}
-use Rattle.index_world.specs.Taking.{IsRefusedAt}
-use Rattle.index_world.proofs.OpenedLemmas.{opens_failed, opens_empty, opens_refused_by, opens_life}
+use Rattle.index_world.proofs.OpenedLemmas.{opens_failed, opens_empty, opens_refused, opens_life}
 use Rattle.index_world.proofs.taking.open.Goals as goal
 
 pub returns-then-is_empty-clause-opened : goal.returns-then-is_empty-clause-opened
@@ -25,22 +24,22 @@ returns-then-is_empty-clause-opened g c =
     let said : c.load-answer.result ≡ Ok (c.in-Ok.journal, c.in-Ok.entries) = c.in-Ok.is in
     told_map _ _ (opens_empty c.in-Ok.entries (g.S.ObjectStore.fault_count c.args.store.now) (g.S.ObjectStore.fault_count c.load-answer.new.store) (c.is_empty.ensures.0 c.if-is_empty.true)) (loads_ok_at _ _ _ _ _ said c.load-answer.ensures.answer)
 
-pub returns-in_err-meta-in-Ok-clause-opened : goal.returns-in_err-meta-in-Ok-clause-opened
-returns-in_err-meta-in-Ok-clause-opened g c =
+pub returns-in-Err-state_of-clause-opened : goal.returns-in-Err-state_of-clause-opened
+returns-in-Err-state_of-clause-opened g c =
     let said : c.load-answer.result ≡ Ok (c.in-Ok.journal, c.in-Ok.entries) = c.in-Ok.is in
     let some : 0 < length c.in-Ok.entries = some_entry c.in-Ok.entries (λ none. true_is_false (sym (c.is_empty.ensures.1 none) ∙ c.if-is_empty.false)) in
-    told_map _ _ (opens_refused_by c.in-Ok.entries (g.S.ObjectStore.fault_count c.args.store.now) (g.S.ObjectStore.fault_count c.load-answer.new.store) c.from_residual.result _ some c.from_residual.ensures.1
-    (λ error is. subst (λ (es : List Entry). IsRefusedAt (first_refused Start es) error) c.into_vec.ensures (subst (IsRefusedAt (first_refused Start c.into_vec.result.items)) (sym is) c.in_err-meta-in-Ok.ensures.refused)))
+    told_map _ _ (opens_refused c.in-Ok.entries (g.S.ObjectStore.fault_count c.args.store.now) (g.S.ObjectStore.fault_count c.load-answer.new.store) c.in-Err-state_of.error some
+    (subst (λ (es : List Entry). IsRefusedAt (first_refused Start es) c.in-Err-state_of.error) c.into_vec.ensures c.in-Err-state_of.ensures.refused))
     (loads_ok_at _ _ _ _ _ said c.load-answer.ensures.answer)
 
-pub returns-in_ok-meta-in-Ok-clause-opened : goal.returns-in_ok-meta-in-Ok-clause-opened
-returns-in_ok-meta-in-Ok-clause-opened g c =
+pub returns-in-Ok-state_of-clause-opened : goal.returns-in-Ok-state_of-clause-opened
+returns-in-Ok-state_of-clause-opened g c =
     let said : c.load-answer.result ≡ Ok (c.in-Ok.journal, c.in-Ok.entries) = c.in-Ok.is in
     let j : c.in-Ok.journal ≡ loaded (length c.in-Ok.entries) = subst (λ (r : Result (Numbered × List Entry) JournalError). IfOk r (λ x. x.0 ≡ loaded (length x.1))) said c.load-answer.ensures.journal in
     let some : 0 < length c.in-Ok.entries = some_entry c.in-Ok.entries (λ none. true_is_false (sym (c.is_empty.ensures.1 none) ∙ c.if-is_empty.false)) in
-    told_map _ _ (opens_life c.in-Ok.entries (g.S.ObjectStore.fault_count c.args.store.now) (g.S.ObjectStore.fault_count c.load-answer.new.store) _ some (subst (λ (es : List Entry). first_refused Start es ≡ None) c.into_vec.ensures c.in_ok-meta-in-Ok.ensures.fit) j
-    (c.in_ok-meta-in-Ok.ensures.state ∙ ap (λ (es : List Entry). state_of reads (history es)) c.into_vec.ensures)
-    (λ timely. c.in_ok-meta-in-Ok.ensures.greatest (subst AreTimely (sym c.into_vec.ensures) timely) ∙ ap (λ (es : List Entry). moment_of (history es)) c.into_vec.ensures))
+    told_map _ _ (opens_life c.in-Ok.entries (g.S.ObjectStore.fault_count c.args.store.now) (g.S.ObjectStore.fault_count c.load-answer.new.store) _ some (subst (λ (es : List Entry). first_refused Start es ≡ None) c.into_vec.ensures c.in-Ok-state_of.ensures.fit) j
+    (c.in-Ok-state_of.ensures.state ∙ ap (λ (es : List Entry). state_of reads (history es)) c.into_vec.ensures)
+    (λ timely. c.in-Ok-state_of.ensures.greatest (subst AreTimely (sym c.into_vec.ensures) timely) ∙ ap (λ (es : List Entry). moment_of (history es)) c.into_vec.ensures))
     (loads_ok_at _ _ _ _ _ said c.load-answer.ensures.answer)
 
 pub returns-in-Err-clause-opened : goal.returns-in-Err-clause-opened
@@ -57,18 +56,18 @@ returns-then-is_empty-clause-step g c old core log e at w clock =
     let said : c.load-answer.result ≡ Ok (c.in-Ok.journal, c.in-Ok.entries) = c.in-Ok.is in
     opening_empty old core log _ _ _ _ e w at c.load-answer.ensures.later (omega (arith, counts, fits)) c.in-Ok.entries (loads_ok_at _ _ _ _ _ said c.load-answer.ensures.answer) (c.is_empty.ensures.0 c.if-is_empty.true)
 
-pub returns-in_err-meta-in-Ok-clause-step : goal.returns-in_err-meta-in-Ok-clause-step
-returns-in_err-meta-in-Ok-clause-step g c old core log e at w clock =
+pub returns-in-Err-state_of-clause-step : goal.returns-in-Err-state_of-clause-step
+returns-in-Err-state_of-clause-step g c old core log e at w clock =
     let counts = c.faults-count.ensures in
     let fits = c.faults-count.type_inv in
     let said : c.load-answer.result ≡ Ok (c.in-Ok.journal, c.in-Ok.entries) = c.in-Ok.is in
     let l = loads_ok_at _ _ _ _ _ said c.load-answer.ensures.answer in
     let legal = read_legal old core log _ _ _ _ e w at c.load-answer.ensures.later (omega (arith, counts, fits)) c.in-Ok.entries l in
-    opening_short_by old core log _ _ _ _ e w at c.load-answer.ensures.later (omega (arith, counts, fits)) c.in-Ok.entries l c.from_residual.result _ c.from_residual.ensures.1
-    (λ error is. subst IsWant (sym is) (c.in_err-meta-in-Ok.ensures.want (subst (λ (es : List Entry). Legal reads (history es)) (sym c.into_vec.ensures) legal)))
+    opening_short old core log _ _ _ _ e w at c.load-answer.ensures.later (omega (arith, counts, fits)) c.in-Ok.entries l c.in-Err-state_of.error
+    (c.in-Err-state_of.ensures.want (subst (λ (es : List Entry). Legal reads (history es)) (sym c.into_vec.ensures) legal))
 
-pub returns-in_ok-meta-in-Ok-clause-step : goal.returns-in_ok-meta-in-Ok-clause-step
-returns-in_ok-meta-in-Ok-clause-step g c old core log e at w clock =
+pub returns-in-Ok-state_of-clause-step : goal.returns-in-Ok-state_of-clause-step
+returns-in-Ok-state_of-clause-step g c old core log e at w clock =
     let counts = c.faults-count.ensures in
     let fits = c.faults-count.type_inv in
     let said : c.load-answer.result ≡ Ok (c.in-Ok.journal, c.in-Ok.entries) = c.in-Ok.is in
@@ -77,8 +76,8 @@ returns-in_ok-meta-in-Ok-clause-step g c old core log e at w clock =
     let j : c.in-Ok.journal ≡ loaded (length c.in-Ok.entries) = subst (λ (r : Result (Numbered × List Entry) JournalError). IfOk r (λ x. x.0 ≡ loaded (length x.1))) said c.load-answer.ensures.journal in
     let some : 0 < length c.in-Ok.entries = some_entry c.in-Ok.entries (λ none. true_is_false (sym (c.is_empty.ensures.1 none) ∙ c.if-is_empty.false)) in
     opening_ok old core log _ _ _ _ e w at c.load-answer.ensures.later (omega (arith, counts, fits)) c.in-Ok.entries l _ clock some j
-    (c.in_ok-meta-in-Ok.ensures.state ∙ ap (λ (es : List Entry). state_of reads (history es)) c.into_vec.ensures)
-    (c.in_ok-meta-in-Ok.ensures.greatest (subst AreTimely (sym c.into_vec.ensures) timely) ∙ ap (λ (es : List Entry). moment_of (history es)) c.into_vec.ensures)
+    (c.in-Ok-state_of.ensures.state ∙ ap (λ (es : List Entry). state_of reads (history es)) c.into_vec.ensures)
+    (c.in-Ok-state_of.ensures.greatest (subst AreTimely (sym c.into_vec.ensures) timely) ∙ ap (λ (es : List Entry). moment_of (history es)) c.into_vec.ensures)
 
 pub returns-in-Err-clause-step : goal.returns-in-Err-clause-step
 returns-in-Err-clause-step g c old core log e at w clock =
@@ -89,10 +88,9 @@ returns-in-Err-clause-step g c old core log e at w clock =
     (subst (λ (r : Result (Numbered × List Entry) JournalError). IfErr r (FaultIs (g.S.ObjectStore.fault_count c.args.store.now) (g.S.ObjectStore.fault_count c.load-answer.new.store))) said c.load-answer.ensures.faults)
     (loads_err_at _ _ _ _ said c.load-answer.ensures.answer)
 
-pub returns-in_err-meta-in-Ok-clause-faults : goal.returns-in_err-meta-in-Ok-clause-faults
-returns-in_err-meta-in-Ok-clause-faults g c =
-    err_so c.from_residual.result _ (IsFaultBetween (g.S.ObjectStore.fault_count c.args.store.now) (g.S.ObjectStore.fault_count c.load-answer.new.store)) c.from_residual.ensures.1
-    (λ error is. no_fault_between _ _ error (subst IsNoFault (sym is) c.in_err-meta-in-Ok.ensures.no_fault))
+pub returns-in-Err-state_of-clause-faults : goal.returns-in-Err-state_of-clause-faults
+returns-in-Err-state_of-clause-faults g c =
+    no_fault_between _ _ c.in-Err-state_of.error c.in-Err-state_of.ensures.no_fault
 
 pub returns-in-Err-clause-faults : goal.returns-in-Err-clause-faults
 returns-in-Err-clause-faults g c =
@@ -102,4 +100,4 @@ returns-in-Err-clause-faults g c =
 
 pub invariant_of-result-clause-schema : goal.invariant_of-result-clause-schema
 invariant_of-result-clause-schema g c = λ config e.
-    kept_schema (history c.into_vec.result.items) config (sym (ap (λ (s : State). s.config) c.in_ok-meta-in-Ok.ensures.state) ∙ e)
+    kept_schema (history c.into_vec.result.items) config (sym (ap (λ (s : State). s.config) c.in-Ok-state_of.ensures.state) ∙ e)

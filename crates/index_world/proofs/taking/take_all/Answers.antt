@@ -1,4 +1,4 @@
-use Rattle.std.proofs.Common.{◌≡◌, ◌+◌, ap, arith, sym, subst, ◌∙◌}
+use Rattle.std.proofs.Common.{◌≡◌, ◌+◌, ap, arith, refl}
 use Rattle.meta_store.specs.Said.{Said}
 use Rattle.meta_store.specs.State.{State, after}
 use Rattle.std.specs.Prelude.{IsOk}
@@ -27,33 +27,26 @@ pub entries-preserved : goal.entries-preserved
 entries-preserved c =
     let i = c.entries.invariant.count in
     let early = c.entries.invariant.early in
-    let a : c.apply.new.self.state.revision ≡ c.admit.new.meta.state.revision + 1 = ap (λ (s : State). s.revision) c.apply.ensures in
-    let b : c.admit.new.meta.state.revision ≡ c.entries.meta.state.revision = ap (λ (s : State). s.revision) c.admit.ensures.same in
+    let a : c.take_one.new.meta.state.revision ≡ c.entries.meta.state.revision + 1 = ap (λ (s : State). s.revision) c.in-Ok-take_one.ensures.state in
     let l = c.in-Some.ensures.len in
     let m = c.max-moment.ensures in
-    let low = c.moment_of.ensures.below in
-    let ok : IsOk (answer_to c.in_ok-reading.reading c.entries.meta.state c.in-Some.entry) =
-    subst (λ (s : State). IsOk (answer_to c.in_ok-reading.reading s c.in-Some.entry)) c.admit.ensures.same c.in_ok-handed.ensures.allowed in
+    let low = c.in-Ok-take_one.ensures.below in
     record {
-      count = omega (arith, i, a, b, l);
+      count = omega (arith, i, a, l);
       few = c.entries.invariant.few;
       early = omega (arith, m, low, early);
-      front = front_more _ _ _ c.in-Some.entry c.in_ok-reading.reading c.entries.meta.state _ _ _ c.moment_of.result c.entries.invariant.front c.in-Some.ensures.items
-          (c.apply.ensures ∙ ap (λ (r : Said). after r c.in-Some.entry c.admit.new.meta.state) c.in_ok-handed.ensures.handed ∙ ap (λ (s : State). after c.in_ok-reading.reading c.in-Some.entry s) c.admit.ensures.same) c.in_ok-reading.ensures c.moment_of.ensures.same c.max-moment.ensures
-          ok;
-      some = λ h. taken_some c.in_ok-reading.reading c.in_ok-handed.handed c.entries.meta.state c.admit.new.meta.state c.apply.new.self.state c.in-Some.entry c.apply.ensures c.in_ok-handed.ensures.handed c.admit.ensures.same ok;
+      front = front_more _ _ _ c.in-Some.entry c.in-Ok.reading c.entries.meta.state _ _ _ c.in-Ok-take_one.of_entry c.entries.invariant.front c.in-Some.ensures.items
+          c.in-Ok-take_one.ensures.state c.in-Ok.ensures c.in-Ok-take_one.ensures.moment c.max-moment.ensures c.in-Ok-take_one.ensures.allowed;
+      some = λ h. taken_some c.in-Ok.reading c.in-Ok.reading c.entries.meta.state c.entries.meta.state c.take_one.new.meta.state c.in-Some.entry c.in-Ok-take_one.ensures.state refl refl c.in-Ok-take_one.ensures.allowed;
     }
 
-pub returns-in_err-handed-clause-want : goal.returns-in_err-handed-clause-want
-returns-in_err-handed-clause-want c legal =
-    err_so c.from_residual-in_err-handed.result _ IsWant c.from_residual-in_err-handed.ensures.1
-    (λ error is. subst IsWant (sym is) (c.in_err-handed.ensures.want (front_answers _ _ _ c.in-Some.entry c.in_ok-reading.reading _ _ c.entries.invariant.front c.in-Some.ensures.items c.in_ok-reading.ensures legal)))
+pub returns-in-Err-take_one-clause-want : goal.returns-in-Err-take_one-clause-want
+returns-in-Err-take_one-clause-want c legal =
+    c.in-Err-take_one.ensures.want (front_answers _ _ _ c.in-Some.entry c.in-Ok.reading _ _ c.entries.invariant.front c.in-Some.ensures.items c.in-Ok.ensures legal)
 
-pub returns-in_err-handed-clause-refused : goal.returns-in_err-handed-clause-refused
-returns-in_err-handed-clause-refused c =
-    err_so c.from_residual-in_err-handed.result _ (IsRefusedAt (first_refused Start c.args.entries.items)) c.from_residual-in_err-handed.ensures.1
-    (λ error is. front_refused _ _ _ c.in-Some.entry c.in_ok-reading.reading _ _ _ c.entries.invariant.front c.in-Some.ensures.items c.in_ok-reading.ensures c.revision-number.ensures error
-    (subst (IsUnfit (answer_to c.in_ok-reading.reading c.entries.meta.state c.in-Some.entry) c.revision-number.result) (sym is) c.in_err-handed.ensures.unfit))
+pub returns-in-Err-take_one-clause-refused : goal.returns-in-Err-take_one-clause-refused
+returns-in-Err-take_one-clause-refused c =
+    front_refused _ _ _ c.in-Some.entry c.in-Ok.reading _ _ _ c.entries.invariant.front c.in-Some.ensures.items c.in-Ok.ensures refl c.in-Err-take_one.error c.in-Err-take_one.ensures.unfit
 
 pub returns-clause-fit : goal.returns-clause-fit
 returns-clause-fit c =
@@ -72,10 +65,6 @@ returns-clause-greatest c low =
     let z = c.in_default.ensures.cases.0 in
     let ok = c.entries.left.ok.0 in
     front_moment _ _ _ _ c.entries.invariant.front (no_entry_left c.entries.left.items (omega (arith, z, ok))) low
-
-pub returns-in_err-handed-clause-no_fault : goal.returns-in_err-handed-clause-no_fault
-returns-in_err-handed-clause-no_fault c =
-    err_so c.from_residual-in_err-handed.result _ IsNoFault c.from_residual-in_err-handed.ensures.1 (λ error is. subst IsNoFault (sym is) c.in_err-handed.ensures.no_fault)
 
 pub returns-clause-configured : goal.returns-clause-configured
 returns-clause-configured c some =
