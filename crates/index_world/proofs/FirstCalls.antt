@@ -1,7 +1,7 @@
 -- What the calls that make an index answer, over any store that tells.
 use Rattle.std.proofs.Common.{◌≡◌, ℕ, ◌<◌, ◌≤◌, ◌^◌, List, [], ◌∷◌, refl, sym, ap, ◌∙◌, subst, inl, inr, Bool, false, arith, IsOk}
 use Rattle.std.proofs.lemmas.Bool.Decides.{nat_tests}
-use Rattle.std.specs.Prelude.{Option, Some, None, Result, Ok, Err, IfOk, IfErr, nat_lt, if◌then◌else◌}
+use Rattle.std.specs.Prelude.{Option, Some, None, Result, Ok, Err, IfOk, IfErr, MatchResult, nat_lt, if◌then◌else◌}
 use Rattle.index_config.specs.Answer.{config_answer}
 use Rattle.index_config.specs.declared.config.IndexConfig.{IndexConfig}
 use Rattle.index_config.specs.declared.config_error.ConfigError.{ConfigError}
@@ -143,6 +143,51 @@ first_fault before start now (journal.Foreign key) early h = tt
 first_fault before start now (journal.Corrupt key) early h = tt
 first_fault before start now journal.Full early h = tt
 first_fault before start now (journal.Missing key) early h = tt
+
+-- an error that isn't the journal's end
+pub first_kind : (before : ℕ) (x : JournalError) (error : WorldError) → error ≡ of_first before x → (x ≡ journal.Full → ⊥) → (text : List ℕ) → IsOfCreate text error
+first_kind before x error is full text = subst (IsOfCreate text) (sym is) (by x full)
+  where
+    by : (x : JournalError) → (x ≡ journal.Full → ⊥) → IsOfCreate text (of_first before x)
+    by (journal.Memory e) full = tt
+    by (journal.Adopted f) full = tt
+    by (journal.StoreFault low high) full = tt
+    by (journal.Foreign key) full = tt
+    by (journal.Corrupt key) full = tt
+    by journal.Full full = absurd (full refl)
+    by (journal.Missing key) full = tt
+
+-- ---- a text that was not taken
+
+pub bad_kind : (text : List ℕ) (error : WorldError) → IsBadText text error → IsOfCreate text error
+bad_kind text (errors.Memory e) bad = tt
+bad_kind text (errors.BadConfig error) bad = bad
+bad_kind text (errors.Refused refusal) bad = absurd bad
+bad_kind text (errors.StoreFault low high) bad = absurd bad
+bad_kind text (errors.Missing key) bad = absurd bad
+bad_kind text (errors.Corrupt key) bad = absurd bad
+bad_kind text (errors.Foreign key) bad = absurd bad
+bad_kind text errors.Full bad = absurd bad
+bad_kind text (errors.Expired planned_at reached) bad = absurd bad
+bad_kind text errors.NoIndex bad = absurd bad
+bad_kind text errors.IndexExists bad = absurd bad
+
+pub bad_no_fault : (before now : ℕ) (text : List ℕ) (error : WorldError) → IsBadText text error → IsFaultBetween before now error
+bad_no_fault before now text (errors.Memory e) bad = tt
+bad_no_fault before now text (errors.BadConfig error) bad = tt
+bad_no_fault before now text (errors.Refused refusal) bad = absurd bad
+bad_no_fault before now text (errors.StoreFault low high) bad = absurd bad
+bad_no_fault before now text (errors.Missing key) bad = absurd bad
+bad_no_fault before now text (errors.Corrupt key) bad = absurd bad
+bad_no_fault before now text (errors.Foreign key) bad = absurd bad
+bad_no_fault before now text errors.Full bad = absurd bad
+bad_no_fault before now text (errors.Expired planned_at reached) bad = absurd bad
+bad_no_fault before now text errors.NoIndex bad = absurd bad
+bad_no_fault before now text errors.IndexExists bad = absurd bad
+
+pub begun_kind : (text : List ℕ) (r : Result Life WorldError) → IsOk (config_answer text) → IfErr r (λ error. (other : List ℕ) → IsOfCreate other error) → MatchResult r (λ life. IsOk (config_answer text)) (IsOfCreate text)
+begun_kind text (Ok life) ok kinds = ok
+begun_kind text (Err error) ok kinds = kinds text
 
 -- ---- the whole
 

@@ -1,5 +1,5 @@
 -- What an entry that is not prepared is, where its answer is Ok.
-use Rattle.std.proofs.Common.{◌≡◌, ℕ, ◌≤◌, refl, sym, inl, inr, IsOk}
+use Rattle.std.proofs.Common.{ℕ, ◌≤◌, refl, sym, inl, inr, IsOk}
 use Rattle.std.specs.Prelude.{Ok, Err}
 use Rattle.meta_store.specs.Answers.{Answer}
 use Rattle.index_world.specs.Index.{max_entries}

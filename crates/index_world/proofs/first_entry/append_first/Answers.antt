@@ -1,4 +1,4 @@
-use Rattle.std.proofs.Common.{◌≡◌, ℕ, ◌+◌, List, [], ◌∷◌, refl, sym, ap, ◌∙◌, arith}
+use Rattle.std.proofs.Common.{◌≡◌, ◌+◌, [], ◌∷◌, refl, sym, ap, ◌∙◌, subst, arith}
 use Rattle.std.specs.Prelude.{Ok, Err}
 use Rattle.meta_journal.specs.Journal.{Numbered, place_appended, next_appended}
 use Rattle.meta_store.specs.Answers.{answer_to}
@@ -7,10 +7,11 @@ use Rattle.meta_store.specs.History.History.{Start}
 use Rattle.meta_store.specs.State.{State, state_of}
 use Rattle.object_store.proofs.Told.{told_map}
 use Rattle.index_world.specs.Config.{reads}
+use Rattle.index_world.specs.Taking.{IsFaultBetween}
 use Rattle.index_world.specs.Unsure.{is_unsure}
 use Rattle.index_world.proofs.Configured.{kept_schema, taken_some}
 use Rattle.index_world.proofs.Creating.{unprepared_same}
-use Rattle.index_world.proofs.FirstCalls.{unprepared_first, want_kind, want_first, want_no_fault, told_same, first_state, first_is_made, first_none_at}
+use Rattle.index_world.proofs.FirstCalls.{unprepared_first, want_kind, want_first, want_no_fault, told_same, first_state, first_is_made, first_none_at, first_kind, first_fault}
 use Rattle.index_world.proofs.first_entry.append_first.Goals as goal
 
 pub returns-in-Err-clause-faults : goal.returns-in-Err-clause-faults
@@ -63,3 +64,16 @@ returns-in-Err-append-clause-answer g c =
     let none : c.args.journal.next ≡ 0 = ap (λ (j : Numbered). j.next) c.requires.none in
     told_map _ _ (first_none_at c.args.before c.args.journal.next c.args.journal.settled c.in-Err-append.error c.args.entry c.append.result _ c.first_error.ensures c.in-Err-append.is none (ap (λ (j : Numbered). j.settled) c.requires.none) c.in-Err-append.ensures.taken
     (λ full. let le = c.append.ensures.full.0 (c.in-Err-append.is ∙ ap Err full) in absurd (omega (arith, le, none)))) c.append.ensures.answer
+
+pub returns-in-Err-append-clause-kinds : goal.returns-in-Err-append-clause-kinds
+returns-in-Err-append-clause-kinds g c =
+    let none : c.args.journal.next ≡ 0 = ap (λ (j : Numbered). j.next) c.requires.none in
+    first_kind c.args.before c.in-Err-append.error _ c.first_error.ensures (λ full. let le = c.append.ensures.full.0 (c.in-Err-append.is ∙ ap Err full) in absurd (omega (arith, le, none)))
+
+pub returns-in-Err-append-clause-faults : goal.returns-in-Err-append-clause-faults
+returns-in-Err-append-clause-faults g c =
+    subst (IsFaultBetween c.args.before (g.S.ObjectStore.fault_count c.append.new.store)) (sym c.first_error.ensures)
+    (first_fault c.args.before _ _ c.in-Err-append.error c.requires.early c.in-Err-append.ensures.faults)
+
+pub apply-requires-clause-few : goal.apply-requires-clause-few
+apply-requires-clause-few g c = let low = c.in-Ok.ensures.below in let same = ap (λ (s : State). s.revision) c.prepare.ensures.same in omega (arith, low, same)

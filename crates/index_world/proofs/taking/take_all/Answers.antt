@@ -1,14 +1,7 @@
 use Rattle.std.proofs.Common.{◌≡◌, ◌+◌, ap, arith, refl}
-use Rattle.meta_store.specs.Said.{Said}
-use Rattle.meta_store.specs.State.{State, after}
-use Rattle.std.specs.Prelude.{IsOk}
-use Rattle.meta_store.specs.Answers.{answer_to}
-use Rattle.meta_store.specs.History.History.{Start}
-use Rattle.index_world.specs.Opened.{first_refused}
-use Rattle.index_world.specs.Taking.{IsNoFault, IsWant, IsUnfit, IsRefusedAt}
-use Rattle.index_world.specs.Config.{reads}
+use Rattle.meta_store.specs.State.{State}
 use Rattle.index_world.proofs.Configured.{taken_some}
-use Rattle.index_world.proofs.Fronts.{front_start, front_more, front_answers, front_state, front_moment, front_refused, front_none, err_so, no_entry_left}
+use Rattle.index_world.proofs.Fronts.{front_start, front_more, front_answers, front_state, front_moment, front_refused, front_none, no_entry_left}
 use Rattle.index_world.proofs.taking.take_all.Goals as goal
 
 -- Nothing is taken in yet.

@@ -1,4 +1,4 @@
-use Rattle.std.proofs.Common.{subst, sym, ap, ◌∙◌, ℕ, arith, IsOk}
+use Rattle.std.proofs.Common.{subst, ap, ◌∙◌, ℕ, arith, IsOk}
 use Rattle.meta_store.specs.Answers.{answer_to}
 use Rattle.meta_store.specs.Said.{Said}
 use Rattle.meta_store.specs.State.{State, after}

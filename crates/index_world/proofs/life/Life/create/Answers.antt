@@ -6,7 +6,7 @@ use Rattle.meta_journal.specs.declared.journal_error.JournalError.{JournalError}
 use Rattle.meta_journal.specs.declared.journal_error.JournalError.TheVariants as journal
 use Rattle.meta_store.specs.Said.{Said}
 use Rattle.meta_store.specs.History.{at}
-use Rattle.meta_store.specs.State.{after}
+use Rattle.meta_store.specs.State.{after, State}
 use Rattle.index_world.specs.Owning.{own_act, act_in}
 use Rattle.index_world.specs.Taking.{IsWant}
 use Rattle.index_world.specs.Unsure.{is_unsure}
@@ -98,3 +98,6 @@ returns-in_default g c = record {
       (life_on c.args.self.now _ core.history core.moment core.unsure _ b.knows (c.append-answer.ensures.next ∙ ap (next_appended c.args.self.now.journal.next) said) c.prepare.ensures.same refl (ap is_unsure place))
       c.append-answer.ensures.settled;
 }
+
+pub apply-requires-clause-few : goal.apply-requires-clause-few
+apply-requires-clause-few g c = let low = c.in-Ok-prepare.ensures.below in let same = ap (λ (s : State). s.revision) c.prepare.ensures.same in omega (arith, low, same)

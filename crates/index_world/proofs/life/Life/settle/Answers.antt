@@ -1,4 +1,4 @@
-use Rattle.std.proofs.Common.{refl, sym, ap, ◌∙◌, subst, arith, ◌≡◌, false, true}
+use Rattle.std.proofs.Common.{refl, ap, ◌∙◌, subst, arith, ◌≡◌, false, true}
 use Rattle.std.specs.Prelude.{Option, Some, None, Result, Ok, Err, IfErr}
 use Rattle.meta_journal.specs.Journal.{Settles, place_settled, FaultIs}
 use Rattle.meta_journal.specs.declared.entry.Entry.{Entry}
