@@ -1,0 +1,41 @@
+use Rattle.std.proofs.Common.{sym, subst}
+use Rattle.node_run.specs.Lines.{IsWellFormed}
+use Rattle.node_run.specs.Seen.{seen}
+use Rattle.node_run.specs.Standing.{DoesMost}
+use Rattle.node_run.specs.declared.line.Line.{Line}
+use Rattle.node_run.proofs.drive.DriveNode.do_line.Goals as goal
+
+pub returns-in-At-clause-does : goal.returns-in-At-clause-does
+returns-in-At-clause-does g c = λ firsts node s f.
+    subst (λ (l : Line). DoesMost g.L.SourceLog.told g.L.SourceLog.fault_count g.L.SourceLog.since firsts node (seen l) c.at_line.result c.at_line.new.self) (sym c.in-At.is)
+    (c.at_line.ensures.does firsts node s (subst (λ (l : Line). IsWellFormed (seen l)) c.in-At.is f))
+
+pub returns-in-Assign-clause-does : goal.returns-in-Assign-clause-does
+returns-in-Assign-clause-does g c = λ firsts node s f.
+    subst (λ (l : Line). DoesMost g.L.SourceLog.told g.L.SourceLog.fault_count g.L.SourceLog.since firsts node (seen l) c.assign_line.result c.assign_line.new.self) (sym c.in-Assign.is)
+    (c.assign_line.ensures.does firsts node s (subst (λ (l : Line). IsWellFormed (seen l)) c.in-Assign.is f).1)
+
+pub returns-in-Indexer-clause-does : goal.returns-in-Indexer-clause-does
+returns-in-Indexer-clause-does g c = λ firsts node s f.
+    subst (λ (l : Line). DoesMost g.L.SourceLog.told g.L.SourceLog.fault_count g.L.SourceLog.since firsts node (seen l) c.indexer_line.result c.indexer_line.new.self) (sym c.in-Indexer.is)
+    (c.indexer_line.ensures.does firsts node s)
+
+pub returns-in-RestartIndexer-clause-does : goal.returns-in-RestartIndexer-clause-does
+returns-in-RestartIndexer-clause-does g c = λ firsts node s f.
+    subst (λ (l : Line). DoesMost g.L.SourceLog.told g.L.SourceLog.fault_count g.L.SourceLog.since firsts node (seen l) c.restart_indexer.result c.restart_indexer.new.self) (sym c.in-RestartIndexer.is)
+    (c.restart_indexer.ensures.does firsts node s)
+
+pub returns-in-RestartClient-clause-does : goal.returns-in-RestartClient-clause-does
+returns-in-RestartClient-clause-does g c = λ firsts node s f.
+    subst (λ (l : Line). DoesMost g.L.SourceLog.told g.L.SourceLog.fault_count g.L.SourceLog.since firsts node (seen l) c.restart_client.result c.restart_client.new.self) (sym c.in-RestartClient.is)
+    (c.restart_client.ensures.does firsts node s)
+
+pub returns-in-RestartNode-clause-does : goal.returns-in-RestartNode-clause-does
+returns-in-RestartNode-clause-does g c = λ firsts node s f.
+    subst (λ (l : Line). DoesMost g.L.SourceLog.told g.L.SourceLog.fault_count g.L.SourceLog.since firsts node (seen l) c.restart_node.result c.restart_node.new.self) (sym c.in-RestartNode.is)
+    (c.restart_node.ensures.does firsts node s)
+
+pub returns-in-Client-clause-does : goal.returns-in-Client-clause-does
+returns-in-Client-clause-does g c = λ firsts node s f.
+    subst (λ (l : Line). DoesMost g.L.SourceLog.told g.L.SourceLog.fault_count g.L.SourceLog.since firsts node (seen l) c.client_line.result c.client_line.new.self) (sym c.in-Client.is)
+    (c.client_line.ensures.does firsts node s)
