@@ -220,6 +220,10 @@ draws_few s search ask known documents p footer drawn least is foot a asked d le
 pub no_draw : (r : Result SearchStep AllocError) (number : ℕ) → NeverFetched r → r ≡ Ok (Fetched number) → ⊥
 no_draw r number never fetched = subst NeverFetched fetched never
 
+-- what was fetched is of one number
+pub fetched_one : (a b : ℕ) (r : Result SearchStep AllocError) → r ≡ Ok (Fetched a) → r ≡ Ok (Fetched b) → a ≡ b
+fetched_one a b r one other = cc
+
 -- want of memory is no answer
 pub no_answer : (r : Result SearchStep AllocError) (step : SearchStep) → IsErr r → r ≡ Ok step → ⊥
 no_answer r step short fetched = absurd (cc (subst IsErr fetched short))

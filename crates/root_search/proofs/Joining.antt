@@ -1,5 +1,5 @@
 -- The answers of splits, joined one after the other, are the answer over their documents.
-use Rattle.std.proofs.Common.{◌≡◌, ℕ, zero, suc, ◌+◌, ◌<◌, ◌≤◌, ◌^◌, List, [], ◌∷◌, ◌++◌, length, drop, sum_by, slice_get, Some, Result, Ok, Err, IfOk, IsOk, MatchResult, refl, ap, sym, subst, ◌∙◌, arith, add-one, append_assoc, length-append}
+use Rattle.std.proofs.Common.{◌≡◌, ℕ, zero, suc, ◌+◌, ◌<◌, ◌≤◌, ◌^◌, List, [], ◌∷◌, ◌++◌, length, drop, sum_by, slice_get, Some, Result, Ok, Err, IfOk, IsErrAnd, IsOk, MatchResult, refl, ap, sym, subst, ◌∙◌, arith, add-one, append_assoc, length-append}
 use Rattle.std.specs.List.{All, AllByRecursion, AllZip}
 use Rattle.std.specs.Result.{IfErr}
 use Rattle.std.proofs.lemmas.List.{append-nil, map-append}
@@ -173,14 +173,20 @@ pub fault_joined : (r : LeafRequest) (answers left left' : List (Result LeafAnsw
     → IsFaultIn answers e
 fault_joined r answers left left' place all fault e j is placed = subst (IsFaultIn answers) (sym placed) (fault_in answers place fault (get_first place answers (Err fault) left' (j.rest ∙ is)))
 
-pub full_joined : (r : LeafRequest) (answers left left' : List (Result LeafAnswer LeafError)) (place : ℕ) (all next : LeafAnswer) (e : SplitsError) → IsJoining r answers left place all → left ≡ Ok next ∷ left' → IsFull (all.count + next.count) e
+full_fault : (r : LeafRequest) (answers left left' : List (Result LeafAnswer LeafError)) (place : ℕ) (all next : LeafAnswer) (e : SplitsError) → IsJoining r answers left place all → left ≡ Ok next ∷ left' → IsFull (all.count + next.count) e
     → IsFaultIn answers e
-full_joined r answers left left' place all next (Memory a) j is full = tt
-full_joined r answers left left' place all next TooMany j is full =
+full_fault r answers left left' place all next (Memory a) j is full = tt
+full_fault r answers left left' place all next TooMany j is full =
     let more : sum_by count_in left ≡ next.count + sum_by count_in left' = ap (sum_by count_in) is ∙ sum_by-cons count_in (Ok next) left' in
     omega (arith, more, j.sum, full)
-full_joined r answers left left' place all next (Missing from at) j is full = absurd full
-full_joined r answers left left' place all next (Corrupt from section) j is full = absurd full
+full_fault r answers left left' place all next (Missing from at) j is full = absurd full
+full_fault r answers left left' place all next (Corrupt from section) j is full = absurd full
+
+-- what is handed on where so many are not counted
+pub full_joined : (r : LeafRequest) (answers left left' : List (Result LeafAnswer LeafError)) (place : ℕ) (all next : LeafAnswer) (e : SplitsError) (result : Result LeafAnswer SplitsError) → IsJoining r answers left place all → left ≡ Ok next ∷ left' → IsFull (all.count + next.count) e
+    → IsErrAnd result (λ y. y ≡ e) → IfErr result (IsFaultIn answers)
+full_joined r answers left left' place all next e (Ok a) j is full h = tt
+full_joined r answers left left' place all next e (Err y) j is full h = subst (IsFaultIn answers) (sym h) (full_fault r answers left left' place all next e j is full)
 
 -- ---- the answers of views
 

@@ -22,6 +22,9 @@ use Rattle.root_search.specs.declared.fetching.FetchError.{FetchError}
 use Rattle.root_search.specs.declared.fetching.FetchError.TheVariants.{Memory, World, Corrupt}
 use Rattle.root_search.specs.declared.outcome.SearchStep.{SearchStep}
 use Rattle.root_search.specs.declared.outcome.SearchStep.TheVariants as said
+use Rattle.root_search.specs.declared.planned.Planned.{Planned as GivenPlan}
+use Rattle.root_search.specs.declared.searcher.Request.{Request as GivenRequest}
+use Rattle.root_search.specs.declared.searcher.Request.TheVariants as requests
 use Rattle.root_search.specs.declared.searcher.Searcher.{Searcher}
 use Rattle.root_search.specs.Searching.{IsRequest, SearcherStands, SearchesAs, IsAtWork, Ends, FaultEnds, searched_as}
 use Rattle.root_search.specs.Steps.{ArePassed, grace_in, Plan, Request, no_request, opened, planned, Client, Luck, Searched, Passage, config_in, without_memory, without_request, fetched_at, fetched_each, luck_of, next_at, next_step, request_at, step_at, step_client, step_request, plan_by, plan_given, fetch_by, fetch_given, or_short, trouble_replied, unless_fault, refused_over, reply_with, answer_of}
@@ -29,6 +32,18 @@ use Rattle.root_search.specs.Goes.{GoesBy}
 use Rattle.root_search.specs.Recorded.{AreCallsOf, AreFetchesOf, AreRecorded}
 use Rattle.root_search.proofs.Recorded.{record_as}
 use Rattle.root_search.proofs.Fetches.{by_refl, some_passages}
+
+-- ---- the request of a searcher
+
+-- it has a planned search only where one is planned, and that one
+pub vacant_unplanned : (r : GivenRequest) (q : GivenPlan) → r ≡ requests.Vacant → r ≡ requests.Planned q → ⊥
+vacant_unplanned r q was is = absurd (cc)
+
+pub opened_unplanned : (r : GivenRequest) (text : List ℕ) (q : GivenPlan) → r ≡ requests.Opened text → r ≡ requests.Planned q → ⊥
+opened_unplanned r text q was is = absurd (cc)
+
+pub planned_one : (r : GivenRequest) (p q : GivenPlan) → r ≡ requests.Planned p → r ≡ requests.Planned q → q ≡ p
+planned_one r p q was is = cc
 
 -- ---- the core behind a step
 

@@ -12,7 +12,7 @@ use Rattle.root_search.specs.Steps.{config_at, fetch_by, or_short}
 use Rattle.root_search.specs.declared.outcome.SearchStep.TheVariants.{Fetched}
 use Rattle.root_search.specs.declared.searcher.Searcher.{Searcher}
 use Rattle.root_search.proofs.Fetches.{graced}
-use Rattle.root_search.proofs.Bounds.{no_answer, no_draw, step_draws}
+use Rattle.root_search.proofs.Bounds.{fetched_one, no_answer, no_draw, step_draws}
 use Rattle.root_search.proofs.Kept.{fewer_kept, known_footer, more_kept, same_bytes, same_row}
 use Rattle.root_search.proofs.PlannedRows.{file_of_next, next_row, planned_few, one_more}
 use Rattle.root_search.proofs.Stands.{configured_then, footers_go_on, work_goes_on}
@@ -77,7 +77,7 @@ returns-in_ok-later-in-Ok-clause-draws g c plan client core log planned stands w
     let row = c.at.result.now in
     let next = next_row c.args.planned plan core log row planned c.at.ensures in
     let configured = configured_then core log plan.revision plan.grace.until (g.met.G.Gate.is_sound c.args.gate.now core log stands) planned.in_hand in
-    let same : row.number ≡ number = cc in
+    let same : row.number ≡ number = fetched_one row.number number _ refl fetched in
     let there = file_of_next c.args.planned plan core log row p next c.at.ensures (same_bytes core row.number _ (file_bytes p) next.shown (subst (λ (n : ℕ). IsStoredIn core n (file_bytes p)) (sym same) uploaded)) in
     let known = known_footer c.args.self.now.footers core row.number (file_bytes p) c.take-known.result w.footers there.0 c.take-known.ensures.found in
     let f = graced _ _ _ _ _ _ _ _ _ _ _ _ _ (sym planned.grace) (c.in-Ok.ensures.step (config_at plan.revision core) documents p core log stands configured there.1 is planned.asked known) in

@@ -2,7 +2,7 @@ use Rattle.std.proofs.Common.{◌≡◌, ◌≤◌, length, refl, subst, sym, �
 use Rattle.root_search.specs.declared.searcher.Request.TheVariants.{Opened, Planned, Vacant}
 use Rattle.root_search.specs.Searching.{IsPlanned, IsRequest}
 use Rattle.root_search.specs.Steps.{no_request, opened}
-use Rattle.root_search.proofs.Steps.{idle_as, planned_is}
+use Rattle.root_search.proofs.Steps.{idle_as, opened_unplanned, planned_is, planned_one, vacant_unplanned}
 use Rattle.std.specs.Prelude.{slice_get}
 use Rattle.root_search.specs.StepReads.{FetchesRow, SaysOver}
 use Rattle.root_search.specs.declared.planned.Planned.{Planned as GivenPlan}
@@ -47,24 +47,24 @@ returns-in-Planned-clause-draws g c plan client core log asked stands s =
     c.go_on.ensures.draws plan client core log (subst (λ q. IsPlanned c.in-Planned.planned q core log) same held.2) stands (record { vacant = c.replace.ensures.after; name = s.name; front = s.front; footers = s.footers })
 
 pub returns-in-Vacant-clause-reads : goal.returns-in-Vacant-clause-reads
-returns-in-Vacant-clause-reads g c planned row is there = absurd (cc)
+returns-in-Vacant-clause-reads g c planned row is there = absurd (vacant_unplanned c.args.self.now.request planned (sym c.replace.ensures.value ∙ c.in-Vacant.is) is)
 
 pub returns-in-Opened-clause-reads : goal.returns-in-Opened-clause-reads
-returns-in-Opened-clause-reads g c planned row is there = absurd (cc)
+returns-in-Opened-clause-reads g c planned row is there = absurd (opened_unplanned c.args.self.now.request c.in-Opened.text planned (sym c.replace.ensures.value ∙ c.in-Opened.is) is)
 
 pub returns-in-Planned-clause-reads : goal.returns-in-Planned-clause-reads
 returns-in-Planned-clause-reads g c planned row is there =
-    let same : planned ≡ c.in-Planned.planned = cc in
+    let same : planned ≡ c.in-Planned.planned = planned_one c.args.self.now.request c.in-Planned.planned planned (sym c.replace.ensures.value ∙ c.in-Planned.is) is in
     subst (λ (q : GivenPlan). FetchesRow g.G.Gate.Stands g.G.Gate.Between g.G.Gate.Owns g.G.Gate.Adds g.G.Gate.bytes_fetched c.args.self.now.footers q row c.go_on.new.self.request c.go_on.result c.args.gate.now c.go_on.new.gate) (sym same)
     (c.go_on.ensures.reads row (subst (λ (q : GivenPlan). slice_get q.plan.rows q.next ≡ Some row) same there))
 
 pub returns-in-Vacant-clause-answers : goal.returns-in-Vacant-clause-answers
-returns-in-Vacant-clause-answers g c planned is over = absurd (cc)
+returns-in-Vacant-clause-answers g c planned is over = absurd (vacant_unplanned c.args.self.now.request planned (sym c.replace.ensures.value ∙ c.in-Vacant.is) is)
 
 pub returns-in-Opened-clause-answers : goal.returns-in-Opened-clause-answers
-returns-in-Opened-clause-answers g c planned is over = absurd (cc)
+returns-in-Opened-clause-answers g c planned is over = absurd (opened_unplanned c.args.self.now.request c.in-Opened.text planned (sym c.replace.ensures.value ∙ c.in-Opened.is) is)
 
 pub returns-in-Planned-clause-answers : goal.returns-in-Planned-clause-answers
 returns-in-Planned-clause-answers g c planned is over =
-    let same : planned ≡ c.in-Planned.planned = cc in
+    let same : planned ≡ c.in-Planned.planned = planned_one c.args.self.now.request c.in-Planned.planned planned (sym c.replace.ensures.value ∙ c.in-Planned.is) is in
     subst (λ (q : GivenPlan). SaysOver (g.G.Gate.configured c.args.gate.now) q c.go_on.result) (sym same) (c.go_on.ensures.answers (subst (λ (q : GivenPlan). length q.plan.rows ≤ q.next) same over))
