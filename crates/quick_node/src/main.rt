@@ -14,11 +14,11 @@ mod serving;
 mod writing;
 
 use crate::error_line::NO_MEMORY;
-use crate::places::{Log, Placed, Store};
+use crate::places::Placed;
 use crate::serving::serve;
-use object_store::SteadyStore;
+use object_store::{ObjectStore, SteadyStore};
 use real_edge::{FileLog, FolderStore, StdSink, StdSource, SystemClock};
-use source_log::MemoryLog;
+use source_log::{MemoryLog, SourceLog};
 use std::alloc::{AllocError, Global};
 use std::process::ExitCode;
 use std::rt::Env;
@@ -55,6 +55,12 @@ fn writer_number<C: time::Clock>(clock: &C) -> u64 {
     }
 }
 
+/// The objects of the program.
+type Store<'a> = Placed<SteadyStore, FolderStore<'a, HostRuntime>>;
+
+/// A log of the program.
+type Log<'a> = Placed<MemoryLog, FileLog<'a, HostRuntime>>;
+
 // The store that a word names.
 fn store_at<'a>(
     alloc: Global,
@@ -87,13 +93,11 @@ fn logs_at<'a>(
 
 // Does the command over the standard streams, and gives its status. The system is the runtime itself: what is sent to a thread
 // may hold it, and the runtime's leave to start threads is its own.
-fn served<Rt: Threads + Wait + Sync + Input + Print>(
-    rt: &Rt,
-    system: &HostRuntime,
-    command: &[String],
-    store: Store,
-    logs: Vec<Log>,
-) -> u8 {
+fn served<
+    Rt: Threads + Wait + Sync + Input + Print,
+    S: ObjectStore + Send + Drop,
+    L: SourceLog + Send,
+>(rt: &Rt, system: &HostRuntime, command: &[String], store: S, logs: Vec<L>) -> u8 {
     let mut input = StdSource::over(rt.reader());
     let mut output = StdSink::over(io::writer(rt));
     let clock = SystemClock::over(system);

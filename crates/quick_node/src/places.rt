@@ -1,32 +1,24 @@
 //! What is in memory or in a folder, as one type: so the program does its commands over one kind of store and one of logs.
 
-ghost use Rattle.std.specs.Prelude.{◌≤◌, None};
-ghost use Rattle.quick_node.specs.Places.{by_place};
+ghost use Rattle.quick_node.specs.Places.{by_place, SinceInPlace};
 
 use byte_fields::Failed;
-use object_store::{CreateError, GetError, Key, Keys, ListError, ObjectStore, Piece, SteadyStore};
-use real_edge::{FileLog, FolderStore};
+use object_store::{CreateError, GetError, Key, Keys, ListError, ObjectStore, Piece};
 use source_checkpoint::Partition;
-use source_log::{MemoryLog, Partitions, ReadError, Records, SourceLog};
+use source_log::{Partitions, ReadError, Records, SourceLog};
 use std::alloc::Global;
 
-/// A store, or a log, in memory or in a folder. It tells nothing.
+/// A store, or a log, in memory or in a folder. It tells what the one there tells.
 #[derive(Drop)]
 pub enum Placed<M, F> {
     Memory(M),
     Folder(F),
 }
 
-/// The objects of the program.
-pub type Store<'a> = Placed<SteadyStore, FolderStore<'a, HostRuntime>>;
+impl<M: ObjectStore, F: ObjectStore> ObjectStore for Placed<M, F> {
+    ghost told = { λ placed. by_place M.told F.told placed };
 
-/// A log of the program.
-pub type Log<'a> = Placed<MemoryLog, FileLog<'a, HostRuntime>>;
-
-impl<'a> ObjectStore for Store<'a> {
-    ghost told = { λ _. None };
-
-    ghost fault_count = { λ placed. by_place ⟦<SteadyStore as ObjectStore>⟧.fault_count ⟦<FolderStore<'a, HostRuntime> as ObjectStore>⟧.fault_count placed };
+    ghost fault_count = { λ placed. by_place M.fault_count F.fault_count placed };
 
     fn create(&mut self, alloc: Global, key: &Key, content: &[u8]) -> Result<(), CreateError> {
         match self {
@@ -70,15 +62,14 @@ impl<'a> ObjectStore for Store<'a> {
     }
 }
 
-impl<'a> SourceLog for Log<'a> {
-    ghost use Rattle.std.proofs.Math.Nat.{le_refl, le_trans};
+impl<M: SourceLog, F: SourceLog> SourceLog for Placed<M, F> {
+    ghost use Rattle.quick_node.specs.Places.{since_itself_in, since_then_in};
 
-    ghost told = { λ _. None };
+    ghost told = { λ placed. by_place M.told F.told placed };
 
-    ghost fault_count = { λ placed. by_place ⟦<MemoryLog as SourceLog>⟧.fault_count ⟦<FileLog<'a, HostRuntime> as SourceLog>⟧.fault_count placed };
+    ghost fault_count = { λ placed. by_place M.fault_count F.fault_count placed };
 
-    ghost since = { λ first now.
-        by_place ⟦<MemoryLog as SourceLog>⟧.fault_count ⟦<FileLog<'a, HostRuntime> as SourceLog>⟧.fault_count first ≤ by_place ⟦<MemoryLog as SourceLog>⟧.fault_count ⟦<FileLog<'a, HostRuntime> as SourceLog>⟧.fault_count now };
+    ghost since = { λ first now. SinceInPlace M.since F.since first now };
 
     fn partitions(&mut self, alloc: Global) -> Result<Partitions, ReadError> {
         match self {
@@ -107,7 +98,7 @@ impl<'a> SourceLog for Log<'a> {
         }
     }
 
-    ghost since_itself = { λ log. le_refl (by_place ⟦<MemoryLog as SourceLog>⟧.fault_count ⟦<FileLog<'a, HostRuntime> as SourceLog>⟧.fault_count log) };
+    ghost since_itself = { λ log. since_itself_in M.since F.since M.since_itself F.since_itself log };
 
-    ghost since_then = { λ first second third a b. le_trans a b };
+    ghost since_then = { λ first second third a b. since_then_in M.since F.since M.since_then F.since_then first second third a b };
 }
