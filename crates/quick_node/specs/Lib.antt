@@ -10,4 +10,3 @@ pub mod Faults
 pub mod CaughtUp
 pub mod Creating
 pub mod Reporting
-pub mod Places

@@ -7,25 +7,24 @@ mod creating;
 mod error_line;
 pub mod laws;
 mod lines;
-mod places;
 mod reporting;
 mod running;
 mod serving;
 mod writing;
 
 use crate::error_line::NO_MEMORY;
-use crate::places::Placed;
 use crate::serving::serve;
 use object_store::{ObjectStore, SteadyStore};
 use real_edge::{FileLog, FolderStore, StdSink, StdSource, SystemClock};
 use source_log::{MemoryLog, SourceLog};
 use std::alloc::{AllocError, Global};
+use std::fs::Files;
 use std::process::ExitCode;
 use std::rt::Env;
 use std::sync::Wait;
 use std::thread::Threads;
 use std::time::{self, SystemTime, UNIX_EPOCH};
-use std::{env, io, mem};
+use std::{env, io};
 
 const MEMORY: &str = "memory";
 
@@ -55,56 +54,40 @@ fn writer_number<C: time::Clock>(clock: &C) -> u64 {
     }
 }
 
-/// The objects of the program.
-type Store<'a> = Placed<SteadyStore, FolderStore<'a, HostRuntime>>;
-
-/// A log of the program.
-type Log<'a> = Placed<MemoryLog, FileLog<'a, HostRuntime>>;
-
-// The store that a word names.
-fn store_at<'a>(
-    alloc: Global,
-    system: &'a HostRuntime,
-    folder: &str,
-) -> Result<Store<'a>, AllocError> {
-    if folder == MEMORY {
-        return Ok(Placed::Memory(SteadyStore::vacant(alloc)));
-    }
-    let store = FolderStore::over(alloc, system, folder, writer_number(system))?;
-    Ok(Placed::Folder(store))
-}
-
-// The logs that a word names.
-fn logs_at<'a>(
-    alloc: Global,
-    system: &'a HostRuntime,
-    folder: &str,
-) -> Result<Vec<Log<'a>>, AllocError> {
+fn memory_logs(alloc: Global) -> Result<Vec<MemoryLog>, AllocError> {
     let mut logs = Vec::new(alloc);
     for _ in 0..READERS {
-        logs.push(if folder == MEMORY {
-            Placed::Memory(MemoryLog::vacant(alloc))
-        } else {
-            Placed::Folder(FileLog::over(alloc, system, folder)?)
-        })?;
+        logs.push(MemoryLog::vacant(alloc))?;
+    }
+    Ok(logs)
+}
+
+fn folder_logs<'a, F: Files>(
+    alloc: Global,
+    files: &'a F,
+    folder: &str,
+) -> Result<Vec<FileLog<'a, F>>, AllocError> {
+    let mut logs = Vec::new(alloc);
+    for _ in 0..READERS {
+        logs.push(FileLog::over(alloc, files, folder)?)?;
     }
     Ok(logs)
 }
 
 // Does the command over the standard streams, and gives its status. The system is the runtime itself: what is sent to a thread
 // may hold it, and the runtime's leave to start threads is its own.
-fn served<
+fn status_over<
     Rt: Threads + Wait + Sync + Input + Print,
     S: ObjectStore + Send + Drop,
     L: SourceLog + Send,
->(rt: &Rt, system: &HostRuntime, command: &[String], store: S, logs: Vec<L>) -> u8 {
+>(rt: &Rt, system: &HostRuntime, words: &[String], store: S, logs: Vec<L>) -> u8 {
     let mut input = StdSource::over(rt.reader());
     let mut output = StdSink::over(io::writer(rt));
     let clock = SystemClock::over(system);
     serve(
         rt,
         system.alloc(),
-        command,
+        words,
         store,
         logs,
         clock,
@@ -114,22 +97,21 @@ fn served<
     .status
 }
 
-// Does the command over what two words name.
-fn status_over<Rt: Threads + Wait + Sync + Input + Print>(
+// The logs that a word names, and the command.
+fn status_with<Rt: Threads + Wait + Sync + Input + Print, S: ObjectStore + Send + Drop>(
     rt: &Rt,
     system: &HostRuntime,
-    store: &str,
     log: &str,
-    command: &[String],
+    words: &[String],
+    store: S,
 ) -> Result<u8, AllocError> {
-    let store = store_at(system.alloc(), system, store)?;
-    match logs_at(system.alloc(), system, log) {
-        Ok(logs) => Ok(served(rt, system, command, store, logs)),
-        Err(refused) => {
-            mem::drop(store);
-            Err(refused)
-        }
+    let alloc = system.alloc();
+    if log == MEMORY {
+        let logs = memory_logs(alloc)?;
+        return Ok(status_over(rt, system, words, store, logs));
     }
+    let logs = folder_logs(alloc, system, log)?;
+    Ok(status_over(rt, system, words, store, logs))
 }
 
 // With fewer than two words there is no command: that is answered over nothing.
@@ -138,12 +120,17 @@ fn status_of<Rt: Threads + Wait + Sync + Input + Print>(
     system: &HostRuntime,
     words: &[String],
 ) -> Result<u8, AllocError> {
-    match words {
-        [store, log, command @ ..] => {
-            status_over(rt, system, store.as_str(), log.as_str(), command)
-        }
-        _ => status_over(rt, system, MEMORY, MEMORY, &[]),
+    let alloc = system.alloc();
+    let [store, log, command @ ..] = words else {
+        let logs = memory_logs(alloc)?;
+        return Ok(status_over(rt, system, &[], SteadyStore::vacant(alloc), logs));
+    };
+    if store.as_str() == MEMORY {
+        let store = SteadyStore::vacant(alloc);
+        return status_with(rt, system, log.as_str(), command, store);
     }
+    let store = FolderStore::over(alloc, system, store.as_str(), writer_number(system))?;
+    status_with(rt, system, log.as_str(), command, store)
 }
 
 fn main(rt: HostRuntime) -> ExitCode {
