@@ -1,13 +1,14 @@
 -- The keys of rising numbers rise.
-use Rattle.std.proofs.Common.{◌≡◌, ◌⊎◌, ℕ, zero, suc, ◌+◌, ◌*◌, ◌/◌, ◌%◌, ◌^◌, ◌<◌, ◌≤◌, List, [], ◌∷◌, ◌++◌, refl, sym, ap, subst, ◌∙◌, arith, inl, inr, lit<}
+use Rattle.std.proofs.Common.{◌≡◌, ◌⊎◌, ℕ, zero, suc, ◌+◌, ◌*◌, ◌/◌, ◌%◌, ◌^◌, ◌<◌, ◌≤◌, List, ◌∷◌, refl, sym, ap, subst, ◌∙◌, arith, inl, inr, lit<}
 use Rattle.std.specs.declared.cmp.Ordering.{Ordering}
 use Rattle.std.specs.declared.cmp.Ordering.TheVariants.{Less, Equal, Greater}
-use Rattle.std.specs.Ordering.{nat_cmp}
+use Rattle.std.specs.Ordering.{nat_cmp, is_eq, ordering_reverse}
 use Rattle.std.specs.Cmp.{nat_cmp_is, tied_itself}
 use Rattle.std.specs.Cmp.Lexicographic.{slice_cmp, nat_list_cmp_total}
 use Rattle.std.proofs.Math.Nat.{pow-suc, mod-lt, mod-eq_of_lt, mul-le-mul_right}
 use Rattle.std.proofs.Math.Arith.{mod-mul}
-use Rattle.meta_journal.specs.Places.{digits, meta_prefix, meta_key}
+use Rattle.object_store.proofs.States.{tied}
+use Rattle.meta_journal.specs.Places.{digits, meta_key}
 
 abbrev pub IsLess : List ℕ → List ℕ → Type 0
 IsLess a b = slice_cmp nat_cmp a b ≡ Less
@@ -17,6 +18,15 @@ never_less_itself a h = let tie = tied_itself nat_list_cmp_total a in let both :
 
 pub less_then : (a b c : List ℕ) → IsLess a b → IsLess b c → IsLess a c
 less_then a b c p q = nat_list_cmp_total.trans a b c p q
+
+abbrev pub order : List ℕ → List ℕ → Ordering
+order = slice_cmp nat_cmp
+
+pub same_key : (a b : List ℕ) → order a b ≡ Equal → a ≡ b
+same_key a b e = tied a b (ap is_eq e)
+
+pub above_key : (a b : List ℕ) → order a b ≡ Greater → IsLess b a
+above_key a b e = nat_list_cmp_total.antisymm b a ∙ ap ordering_reverse e
 
 first_less : (a b : ℕ) (x y : List ℕ) → a < b → IsLess (a ∷ x) (b ∷ y)
 first_less a b x y lt = let e : Less ≡ nat_cmp a b = nat_cmp_is a b Less lt in rw (← e) refl

@@ -6,6 +6,7 @@ pub mod EntryLaws
 pub mod Spelled
 pub mod Acts
 pub mod Digits
+pub mod Fronts
 pub mod Calls
 pub mod KeyOrder
 pub mod Listing

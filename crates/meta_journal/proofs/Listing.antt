@@ -1,6 +1,6 @@
 -- The keys of a store in their order, and what a page of them leaves out.
-use Rattle.std.proofs.Common.{◌≡◌, ◌⊎◌, ◌≢◌, ℕ, zero, suc, ◌+◌, ◌-◌, ◌^◌, ◌<◌, ◌≤◌, Bool, true, false, cond, ◌&&◌, ◌||◌, List, [], ◌∷◌, ◌++◌, length, map, filter, Option, Some, None, refl, sym, ap, subst, ◌∙◌, arith, inl, inr, zero-add}
-use Rattle.std.specs.Prelude.{IsSome, is_some, nat_eq, T}
+use Rattle.std.proofs.Common.{◌≡◌, ◌⊎◌, ℕ, zero, suc, ◌+◌, ◌^◌, ◌<◌, ◌≤◌, Bool, true, false, cond, ◌&&◌, ◌||◌, List, [], ◌∷◌, ◌++◌, map, filter, Option, Some, None, refl, sym, ap, subst, ◌∙◌, arith, inl, inr}
+use Rattle.std.specs.Prelude.{IsSome, nat_eq, T}
 use Rattle.std.specs.List.{AllByRecursion, list_any, starts_with}
 use Rattle.std.specs.declared.cmp.Ordering.{Ordering}
 use Rattle.std.specs.declared.cmp.Ordering.TheVariants.{Less, Equal, Greater}
@@ -9,13 +9,12 @@ use Rattle.std.specs.Cmp.{tied_itself}
 use Rattle.std.specs.Cmp.Lexicographic.{slice_cmp, nat_list_cmp_total}
 use Rattle.std.specs.FinMap as finmap
 use Rattle.std.specs.FinMap.Entries.{is_sorted, below_all}
-use Rattle.object_store.specs.Store.{Objects, State, HasLanded, is_behind, is_wanted, listed}
-use Rattle.object_store.proofs.Landings.{HasLanded-refl, HasLanded-trans, Lands-from}
+use Rattle.object_store.specs.Store.{Objects, State, is_behind, is_wanted}
 use Rattle.object_store.proofs.States.{tied}
-use Rattle.meta_journal.specs.Places.{digits, meta_prefix, meta_key, numbered, BeginsWith}
+use Rattle.meta_journal.specs.Places.{meta_prefix, meta_key, numbered, BeginsWith}
 use Rattle.meta_journal.specs.Journal.{max_entries}
-use Rattle.meta_journal.specs.Loading.{last_key, keys_from, keys_behind, IsOtherKey, IsForeign, IsCounted}
-use Rattle.meta_journal.proofs.KeyOrder.{IsLess, never_less_itself, less_then, keys_rise, not_below, keys_apart}
+use Rattle.meta_journal.specs.Loading.{last_key, keys_from, keys_behind, IsOtherKey, IsForeign}
+use Rattle.meta_journal.proofs.KeyOrder.{IsLess, never_less_itself, keys_rise, not_below, keys_apart}
 
 abbrev Key : Type 0
 Key = List ℕ
@@ -43,11 +42,11 @@ has_front (x ∷ xs) ys key (inl e) = inl e
 has_front (x ∷ xs) ys key (inr h) = inr (has_front xs ys key h)
 has_front [] ys key h = absurd h
 
-has_behind : (xs ys : List Key) (key : Key) → Has ys key → Has (xs ++ ys) key
+pub has_behind : (xs ys : List Key) (key : Key) → Has ys key → Has (xs ++ ys) key
 has_behind [] ys key h = h
 has_behind (x ∷ xs) ys key h = inr (has_behind xs ys key h)
 
-below_has : (a : Key) (ks : List Key) (key : Key) → AllByRecursion (IsLess a) ks → Has ks key → IsLess a key
+pub below_has : (a : Key) (ks : List Key) (key : Key) → AllByRecursion (IsLess a) ks → Has ks key → IsLess a key
 below_has a (k ∷ ks) key all (inl e) = subst (λ (x : Key). IsLess a x) (sym e) all.0
 below_has a (k ∷ ks) key all (inr h) = below_has a ks key all.1 h
 below_has a [] key all h = absurd h
@@ -58,7 +57,7 @@ rising_parts (x ∷ xs) ys a b rising (inl e) hb = subst (λ (k : Key). IsLess k
 rising_parts (x ∷ xs) ys a b rising (inr h) hb = rising_parts xs ys a b rising.1 h hb
 rising_parts [] ys a b rising h hb = absurd h
 
-rising_rest : (xs ys : List Key) → Rising (xs ++ ys) → Rising ys
+pub rising_rest : (xs ys : List Key) → Rising (xs ++ ys) → Rising ys
 rising_rest [] ys h = h
 rising_rest (x ∷ xs) ys h = rising_rest xs ys h.1
 
@@ -237,7 +236,7 @@ other_is_foreign start s key o = record { stands = there.0; prefix = there.1; is
         not_here : n ≡ at → ⊥
         not_here same = elim o.other [
           | inl past ↦ let p : max_entries ≤ at = past in omega arith
-          | inr differs ↦ differs (is ∙ ap meta_key same)
+          | inr below ↦ never_less_itself (meta_key at) (subst (λ (k : Key). IsLess k (meta_key at)) (is ∙ ap meta_key same) below)
         ]
 
         at_least : (n start : ℕ) → (n < start) ⊎ (start ≤ n)
@@ -263,7 +262,7 @@ other_is_foreign start s key o = record { stands = there.0; prefix = there.1; is
         ]
 
 -- a key behind those of a page is behind the last of them
-less_true : (r : Ordering) → r ≡ Less → is_lt r ≡ true
+pub less_true : (r : Ordering) → r ≡ Less → is_lt r ≡ true
 less_true r e = ap is_lt e
 
 pub less_behind : (start k count : ℕ) (s : State) (key : Key) (rest : List Key) → start + k ≡ count → keys_behind start s ≡ keys_from start k ++ rest → Has rest key → is_behind (last_key count) key ≡ true

@@ -1,8 +1,10 @@
 -- The pages of a listing, one after another.
-use Rattle.std.proofs.Common.{◌≡◌, ◌⊎◌, ℕ, zero, suc, ◌+◌, ◌-◌, ◌^◌, ◌<◌, ◌≤◌, Bool, true, false, List, [], ◌∷◌, ◌++◌, length, get_or, take, drop, Option, Some, None, Result, Ok, Err, refl, sym, ap, subst, ◌∙◌, append_assoc, arith, inl, inr, add-zero, add-one}
-use Rattle.std.specs.Prelude.{IsSome}
+use Rattle.std.proofs.Common.{◌≡◌, ◌⊎◌, ℕ, zero, suc, ◌+◌, ◌-◌, ◌^◌, ◌<◌, ◌≤◌, Bool, true, false, List, [], ◌∷◌, ◌++◌, length, get_or, take, drop, Option, Some, None, Result, Ok, Err, refl, sym, ap, subst, ◌∙◌, append_assoc, arith, inl, inr, add-one}
+use Rattle.std.specs.Prelude.{IsSome, IfOk}
+use Rattle.std.specs.Ordering.{nat_cmp}
+use Rattle.std.specs.Cmp.Lexicographic.{slice_cmp}
 use Rattle.std.specs.FinMap as finmap
-use Rattle.std.proofs.lemmas.List.{take_more, take-append-drop, drop_more, drop_all, length-take, length-append, append-nil, take_all}
+use Rattle.std.proofs.lemmas.List.{take_more, take-append-drop, drop_more, drop_all, length-take, append-nil, take_all}
 use Rattle.object_store.specs.Store.{State, HasLanded, LandsThen, Lists, listed, is_behind}
 use Rattle.object_store.specs.declared.store.ListError.{ListError}
 use Rattle.object_store.proofs.Landings.{HasLanded-refl, HasLanded-trans, Lands-from}
@@ -11,9 +13,9 @@ use Rattle.meta_journal.specs.declared.journal_error.JournalError.{JournalError}
 use Rattle.meta_journal.specs.declared.journal_error.JournalError.TheVariants.{Memory, Adopted, StoreFault, Foreign, Corrupt, Full, Missing}
 use Rattle.meta_journal.specs.Places.{meta_prefix, meta_key, numbered, BeginsWith}
 use Rattle.meta_journal.specs.Journal.{max_entries}
-use Rattle.meta_journal.specs.Loading.{last_key, keys_from, keys_behind, IsOtherKey, IsForeign, IsCounted, IsPage, HasPage, Pages, Counts}
-use Rattle.meta_journal.proofs.KeyOrder.{keys_apart}
-use Rattle.meta_journal.proofs.Listing.{Has, behind_has, behind_stands, meta_begins, key_behind, from_has, has_from, has_append, has_front, rising_parts, behind_rises, absent_by, other_is_foreign, less_behind}
+use Rattle.meta_journal.specs.Loading.{last_key, keys_from, keys_behind, IsBelow, IsOtherKey, HasGap, IsForeign, IsCounted, IsPage, HasPage, FillsGap, page_behind, LooksBehind, Pages, Counts}
+use Rattle.meta_journal.proofs.KeyOrder.{keys_apart, not_below, less_then}
+use Rattle.meta_journal.proofs.Listing.{Has, Rising, behind_has, behind_stands, from_has, has_from, has_append, has_front, has_behind, below_has, rising_rest, behind_rises, absent_by, other_is_foreign, less_behind, less_true}
 
 -- ---- one page
 
@@ -28,14 +30,29 @@ one_judged keys start i key front lt is named =
     take_more keys i key lt ∙ ap (λ (x : List ℕ). take i keys ++ x ∷ []) (sym is ∙ named) ∙ ap (λ (l : List (List ℕ)). l ++ meta_key (start + i) ∷ []) front ∙ sym (from-snoc start i)
     ∙ ap (keys_from start) (sym (add-one i))
 
-pub other_judged : (keys : List (List ℕ)) (start i : ℕ) (key : List ℕ) → take i keys ≡ keys_from start i → i < length keys → key ≡ get_or keys i key → start + i ≤ max_entries → (max_entries ≤ start + i) ⊎ (key ≡ meta_key (start + i) → ⊥) → IsOtherKey keys start key
+parts_judged : (keys : List (List ℕ)) (start i : ℕ) (key : List ℕ) → take i keys ≡ keys_from start i → i < length keys → key ≡ get_or keys i key → keys ≡ keys_from start i ++ key ∷ drop (i + 1) keys
+parts_judged keys start i key front lt is =
+    sym (take-append-drop i keys) ∙ ap (λ (l : List (List ℕ)). l ++ drop i keys) front
+    ∙ ap (λ (l : List (List ℕ)). keys_from start i ++ l) (drop_more keys i key lt ∙ ap (λ (x : List ℕ). x ∷ drop (i + 1) keys) (sym is))
+
+pub other_judged : (keys : List (List ℕ)) (start i : ℕ) (key : List ℕ) → take i keys ≡ keys_from start i → i < length keys → key ≡ get_or keys i key → start + i ≤ max_entries → (max_entries ≤ start + i) ⊎ IsBelow key (meta_key (start + i)) → IsOtherKey keys start key
 other_judged keys start i key front lt is within other = record {
   front = i;
   rest = drop (i + 1) keys;
-  parts = sym (take-append-drop i keys) ∙ ap (λ (l : List (List ℕ)). l ++ drop i keys) front
-      ∙ ap (λ (l : List (List ℕ)). keys_from start i ++ l) (drop_more keys i key lt ∙ ap (λ (x : List ℕ). x ∷ drop (i + 1) keys) (sym is));
+  parts = parts_judged keys start i key front lt is;
   within = within;
   other = other;
+}
+
+pub gap_judged : (keys : List (List ℕ)) (start i number : ℕ) (key : List ℕ) → take i keys ≡ keys_from start i → i < length keys → key ≡ get_or keys i key → number ≡ start + i → number < max_entries → IsBelow (meta_key number) key
+    → HasGap keys start number key
+gap_judged keys start i number key front lt is number_is within above = record {
+  front = i;
+  rest = drop (i + 1) keys;
+  parts = parts_judged keys start i key front lt is;
+  number_is = number_is;
+  within = within;
+  above = above;
 }
 
 pub all_judged : (keys : List (List ℕ)) (start i : ℕ) → take i keys ≡ keys_from start i → length keys ≡ i → keys ≡ keys_from start (length keys)
@@ -43,6 +60,39 @@ all_judged keys start i front e = sym (take_all i keys (omega arith)) ∙ front 
 
 landed_to : (o m n : State) → HasLanded o m → n ≡ m → HasLanded o n
 landed_to o m n h e = subst (λ (s : State). HasLanded o s) (sym e) h
+
+-- ---- the gap before a key
+
+still : (o n : State) (key : List ℕ) → HasLanded o n → (x : Option (List ℕ)) → finmap.get o.objects key ≡ x → IsSome x → IsSome (finmap.get n.objects key)
+still o n key h None e some = absurd cc
+still o n key h (Some bytes) e some = subst (λ (y : Option (List ℕ)). IsSome y) (sym ((Lands-from o n h).kept key bytes e)) refl
+
+pub stays : (o n : State) (key : List ℕ) → HasLanded o n → IsSome (finmap.get o.objects key) → IsSome (finmap.get n.objects key)
+stays o n key h some = still o n key h (finmap.get o.objects key) refl some
+
+at_most : (n number : ℕ) → (number < n) ⊎ (n ≤ number)
+at_most n number = grind arith
+
+pub gap_page : (keys : List (List ℕ)) (start number : ℕ) (key : List ℕ) → HasGap keys start number key → (r : Result Page JournalError) → IfOk r (λ page. page ≡ page_behind number) → IfOk r (IsPage start)
+gap_page keys start number key gap (Ok page) is = subst (IsPage start) (sym is) (record {
+  grows = let n = gap.number_is in omega arith;
+  within = let w = gap.within in omega arith;
+  more = λ e. (let n = gap.number_is in omega arith);
+})
+gap_page keys start number key gap (Err x) is = tt
+
+-- where the entry in the gap was looked for and is absent, the key behind it is no entry's
+gap_is_foreign : (start number : ℕ) (key : List ℕ) (m s : State) → HasGap (keys_behind start m) start number key → HasLanded m s → numbered s number ≡ None → IsForeign s key
+gap_is_foreign start number key m s gap landed absent = record { stands = stays m s key landed there.0; prefix = there.1; is_none = λ n small is. (number, above n is, absent) }
+  where
+    there : IsSome (finmap.get m.objects key) × BeginsWith meta_prefix key × (is_behind (last_key start) key ≡ true)
+    there = behind_stands start m key (subst (λ (l : List (List ℕ)). Has l key) (sym gap.parts) (has_behind (keys_from start gap.front) (key ∷ gap.rest) key (inl refl)))
+
+    above : (n : ℕ) → key ≡ meta_key n → number < n
+    above n is = elim (at_most n number) [
+      | inl lt ↦ lt
+      | inr le ↦ absurd (not_below number n le (let w = gap.within in omega arith) (subst (λ (k : List ℕ). IsBelow (meta_key number) k) is gap.above))
+    ]
 
 module _ (start : ℕ) (keys : List (List ℕ)) (o n : State) (listing : LandsThen (Lists meta_prefix (last_key start) 1000 (Ok keys)) o n) where
   landed_page : HasLanded o n
@@ -55,7 +105,7 @@ module _ (start : ℕ) (keys : List (List ℕ)) (o n : State) (listing : LandsTh
   whole = sym (take-append-drop 1000 (keys_behind start n)) ∙ ap (λ (l : List (List ℕ)). l ++ drop 1000 (keys_behind start n)) (sym keys_are)
 
   pub page_listed : (page : Page) → keys ≡ keys_from start (length keys) → page.count ≡ start + length keys → (page.is_last ≡ true → length keys < 1000) → Pages start (Ok page) o n
-  page_listed page judged count last = (
+  page_listed page judged count last = inl (
     landed_page,
     record {
       rest = drop 1000 (keys_behind start n);
@@ -70,14 +120,37 @@ module _ (start : ℕ) (keys : List (List ℕ)) (o n : State) (listing : LandsTh
   pub other_listed : (key : List ℕ) → IsOtherKey keys start key → Pages start (Err (Foreign key)) o n
   other_listed key other = (
     landed_page,
-    record {
+    other_is_foreign start n key (record {
       front = other.front;
       rest = other.rest ++ drop 1000 (keys_behind start n);
       parts = whole ∙ ap (λ (l : List (List ℕ)). l ++ drop 1000 (keys_behind start n)) other.parts ∙ append_assoc (keys_from start other.front) (key ∷ other.rest) (drop 1000 (keys_behind start n));
       within = other.within;
       other = other.other;
-    },
+    }),
   )
+
+  gap_whole : (number : ℕ) (key : List ℕ) → HasGap keys start number key → HasGap (keys_behind start n) start number key
+  gap_whole number key gap = record {
+    front = gap.front;
+    rest = gap.rest ++ drop 1000 (keys_behind start n);
+    parts = whole ∙ ap (λ (l : List (List ℕ)). l ++ drop 1000 (keys_behind start n)) gap.parts ∙ append_assoc (keys_from start gap.front) (key ∷ gap.rest) (drop 1000 (keys_behind start n));
+    number_is = gap.number_is;
+    within = gap.within;
+    above = gap.above;
+  }
+
+  pub gap_looked : (number : ℕ) (key : List ℕ) → HasGap keys start number key → (r : Result Page JournalError) (s : State) → LooksBehind number key r n s → Pages start r o s
+  gap_looked number key gap (Ok page) s h = inr (record { mid = n; before = landed_page; behind = h.0; number = number; key = key; gap = gap_whole number key gap; stands = h.1.1; page_is = h.1.0 })
+  gap_looked number key gap (Err (Foreign k)) s h = (
+    HasLanded-trans o n s landed_page h.0,
+    subst (λ (x : List ℕ). IsForeign s x) (sym h.1.0) (gap_is_foreign start number key n s (gap_whole number key gap) h.0 h.1.1),
+  )
+  gap_looked number key gap (Err (StoreFault b a)) s h = HasLanded-trans o n s landed_page h.0
+  gap_looked number key gap (Err (Memory a)) s h = HasLanded-trans o n s landed_page h.0
+  gap_looked number key gap (Err (Corrupt k)) s h = h.1
+  gap_looked number key gap (Err (Missing k)) s h = h.1
+  gap_looked number key gap (Err (Adopted e)) s h = h.1
+  gap_looked number key gap (Err Full) s h = h.1
 
 pub refused_listed : (start : ℕ) (e : ListError) (o n : State) → LandsThen (Lists meta_prefix (last_key start) 1000 (Err e)) o n → HasLanded o n
 refused_listed start e o n h = landed_to o h.0 n h.1 h.2
@@ -91,13 +164,6 @@ pub record IsSoFar (count : ℕ) (old new : State) : Type 0 where
 
 pub none_so_far : (s : State) → IsSoFar 0 s s
 none_so_far s = record { landed = HasLanded-refl s; stand = λ n lt. absurd (omega arith); covered = λ key prefix some never. absurd cc }
-
-still : (o n : State) (key : List ℕ) → HasLanded o n → (x : Option (List ℕ)) → finmap.get o.objects key ≡ x → IsSome x → IsSome (finmap.get n.objects key)
-still o n key h None e some = absurd cc
-still o n key h (Some bytes) e some = subst (λ (y : Option (List ℕ)). IsSome y) (sym ((Lands-from o n h).kept key bytes e)) refl
-
-pub stays : (o n : State) (key : List ℕ) → HasLanded o n → IsSome (finmap.get o.objects key) → IsSome (finmap.get n.objects key)
-stays o n key h some = still o n key h (finmap.get o.objects key) refl some
 
 true_or_false : (b : Bool) → (b ≡ true) ⊎ (b ≡ false)
 true_or_false true = inl refl
@@ -143,8 +209,8 @@ module _ (start : ℕ) (page : Page) (o m s : State) (so_far : IsSoFar start o m
   rest_behind : (key : List ℕ) → Has has.rest key → is_behind (last_key page.count) key ≡ true
   rest_behind key h = less_behind start (page.count - start) page.count s key has.rest sum has.parts h
 
-  pub one_more_page : IsSoFar page.count o s
-  one_more_page = record {
+  more_whole : IsSoFar page.count o s
+  more_whole = record {
     landed = landed_whole;
     stand = stand_whole;
     covered = λ key prefix some not. elim (old_key key prefix some) [
@@ -156,8 +222,8 @@ module _ (start : ℕ) (page : Page) (o m s : State) (so_far : IsSoFar start o m
       clash : (b : Bool) → b ≡ true → b ≡ false → ⊥
       clash b e f = cc
 
-  pub last_page : page.is_last ≡ true → IsCounted page.count o s
-  last_page last = record {
+  last_whole : page.is_last ≡ true → IsCounted page.count o s
+  last_whole last = record {
     landed = landed_whole;
     stand = stand_whole;
     ends = absent_by s start page.count not_listed is_page.grows small (numbered s page.count) refl;
@@ -176,10 +242,78 @@ module _ (start : ℕ) (page : Page) (o m s : State) (so_far : IsSoFar start o m
       not_listed : Has (keys_behind start s) (meta_key page.count) → ⊥
       not_listed h = let r = named (meta_key page.count) (subst (λ (l : List (List ℕ)). Has l (meta_key page.count)) all_named h) in keys_apart r.0 page.count r.1 small r.2
 
+-- an entry that was not listed, and was found by its key
+module _ (start : ℕ) (page : Page) (o m s : State) (so_far : IsSoFar start o m) (fills : FillsGap start page m s) where
+  in_front : start + fills.gap.front ≡ fills.number
+  in_front = sym fills.gap.number_is
+
+  to_mid : HasLanded o fills.mid
+  to_mid = HasLanded-trans o m fills.mid so_far.landed fills.before
+
+  to_end : HasLanded o s
+  to_end = HasLanded-trans o fills.mid s to_mid fills.behind
+
+  rises : Rising (keys_from start fills.gap.front ++ fills.key ∷ fills.gap.rest)
+  rises = subst Rising fills.gap.parts (behind_rises start fills.mid)
+
+  here_or_before : (n start at : ℕ) → n < at + 1 → (n < start) ⊎ (((start ≤ n) × (n < at)) ⊎ (n ≡ at))
+  here_or_before n start at lt = elim (before_or_from n start) [
+    | inl before ↦ inl before
+    | inr from ↦ inr (elim (before_or_from n at) [ inl below ↦ inl (from, below) | inr at_least ↦ inr (omega arith) ])
+  ]
+
+  stand_filled : (n : ℕ) → n < fills.number + 1 → IsSome (numbered s n)
+  stand_filled n lt = elim (here_or_before n start fills.number lt) [
+    | inl before ↦ stays m s (meta_key n) (HasLanded-trans m fills.mid s fills.before fills.behind) (so_far.stand n before)
+    | inr other ↦ elim other [
+      | inl among ↦
+          let has : Has (keys_behind start fills.mid) (meta_key n) = subst (λ (l : List (List ℕ)). Has l (meta_key n)) (sym fills.gap.parts)
+          (has_front (keys_from start fills.gap.front) (fills.key ∷ fills.gap.rest) (meta_key n) (has_from start fills.gap.front n among.0 (let lt = among.1 in omega (arith, in_front)))) in
+          stays fills.mid s (meta_key n) fills.behind (behind_stands start fills.mid (meta_key n) has).0
+      | inr same ↦ subst (λ (k : ℕ). IsSome (numbered s k)) (sym same) fills.stands
+    ]
+  ]
+
+  -- a key behind the gap is behind the entry in it
+  above_gap : (key : List ℕ) → Has (fills.key ∷ fills.gap.rest) key → IsBelow (meta_key fills.number) key
+  above_gap key (inl same) = subst (λ (k : List ℕ). IsBelow (meta_key fills.number) k) (sym same) fills.gap.above
+  above_gap key (inr rest) = less_then (meta_key fills.number) fills.key key fills.gap.above (below_has fills.key fills.gap.rest key (rising_rest (keys_from start fills.gap.front) (fills.key ∷ fills.gap.rest) rises).0 rest)
+
+  behind_gap : (key : List ℕ) → Has (fills.key ∷ fills.gap.rest) key → is_behind (last_key (fills.number + 1)) key ≡ true
+  behind_gap key h = rw add-one (less_true (slice_cmp nat_cmp (meta_key fills.number) key) (above_gap key h))
+
+  covered_filled : (key : List ℕ) → BeginsWith meta_prefix key → IsSome (finmap.get o.objects key) → is_behind (last_key (fills.number + 1)) key ≡ false → (n : ℕ) × (n < fills.number + 1) × (key ≡ meta_key n)
+  covered_filled key prefix some not = elim (true_or_false (is_behind (last_key start) key)) [
+    | inl behind ↦
+        let listed_key : Has (keys_behind start fills.mid) key = behind_has start fills.mid key (stays o fills.mid key to_mid some) prefix behind in
+        elim (has_append (keys_from start fills.gap.front) (fills.key ∷ fills.gap.rest) key (subst (λ (l : List (List ℕ)). Has l key) fills.gap.parts listed_key)) [
+          | inl front ↦ let r = from_has start fills.gap.front key front in (r.0, (let lt = r.2 in omega (arith, in_front)), r.3)
+          | inr rest ↦ absurd (apart_tests (is_behind (last_key (fills.number + 1)) key) (behind_gap key rest) not)
+        ]
+    | inr before ↦ let r = so_far.covered key prefix some before in (r.0, (let lt = r.1 in omega (arith, in_front)), r.2)
+  ]
+    where
+      apart_tests : (b : Bool) → b ≡ true → b ≡ false → ⊥
+      apart_tests b e f = cc
+
+  more_filled : IsSoFar page.count o s
+  more_filled = subst (λ (p : Page). IsSoFar p.count o s) (sym fills.page_is) (record { landed = to_end; stand = stand_filled; covered = covered_filled })
+
+  last_filled : page.is_last ≡ true → IsCounted page.count o s
+  last_filled last = let never : false ≡ true = sym (ap (λ (p : Page). p.is_last) fills.page_is) ∙ last in absurd cc
+
+pub one_more_page : (start : ℕ) (page : Page) (o m s : State) → IsSoFar start o m → IsPage start page → Pages start (Ok page) m s → IsSoFar page.count o s
+one_more_page start page o m s so_far is_page (inl listed) = more_whole start page o m s so_far is_page listed.0 listed.1
+one_more_page start page o m s so_far is_page (inr fills) = more_filled start page o m s so_far fills
+
+pub last_page : (start : ℕ) (page : Page) (o m s : State) → IsSoFar start o m → IsPage start page → Pages start (Ok page) m s → page.is_last ≡ true → IsCounted page.count o s
+last_page start page o m s so_far is_page (inl listed) last = last_whole start page o m s so_far is_page listed.0 listed.1 last
+last_page start page o m s so_far is_page (inr fills) last = last_filled start page o m s so_far fills last
+
 -- ---- what ends the listing
 
 pub page_refused : (start count : ℕ) (x : JournalError) (o m s : State) → HasLanded o m → Pages start (Err x) m s → Counts (Err x) o s
-page_refused start count (Foreign key) o m s h p = (HasLanded-trans o m s h p.0, other_is_foreign start s key p.1)
+page_refused start count (Foreign key) o m s h p = (HasLanded-trans o m s h p.0, p.1)
 page_refused start count (StoreFault b a) o m s h p = HasLanded-trans o m s h p
 page_refused start count (Memory a) o m s h p = HasLanded-trans o m s h p
 page_refused start count (Corrupt key) o m s h p = p

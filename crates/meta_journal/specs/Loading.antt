@@ -1,12 +1,16 @@
 -- What loading a journal answers.
 use Rattle.std.specs.Prelude.{◌≡◌, ◌⊎◌, ℕ, zero, suc, ◌+◌, ◌-◌, ◌≤◌, ◌<◌, Bool, true, false, List, [], ◌∷◌, ◌++◌, length, Option, Some, None, Result, Ok, Err, IsSome, ⊤}
 use Rattle.std.specs.FinMap as finmap
+use Rattle.std.specs.Ordering.{nat_cmp}
+use Rattle.std.specs.Cmp.Lexicographic.{slice_cmp}
+use Rattle.std.specs.declared.cmp.Ordering.TheVariants.{Less}
 use Rattle.object_store.specs.Store.{State, HasLanded, listed}
 use Rattle.meta_journal.specs.declared.entry.Entry.{Entry}
 use Rattle.meta_journal.specs.declared.journal_error.JournalError.{JournalError}
 use Rattle.meta_journal.specs.declared.journal_error.JournalError.TheVariants.{Memory, Adopted, StoreFault, Foreign, Corrupt, Full, Missing}
 use Rattle.meta_journal.specs.declared.place.Place.TheVariants.{Sure}
 use Rattle.meta_journal.specs.declared.loading.Page.{Page}
+use Rattle.meta_journal.specs.declared.loading.Other.{Other}
 use Rattle.meta_journal.specs.Places.{meta_key, meta_prefix, numbered, Stand, IsJournal, BeginsWith}
 use Rattle.meta_journal.specs.Journal.{Numbered, IsCorrupt, max_entries}
 
@@ -30,6 +34,10 @@ pub record IsForeign (s : State) (key : List ℕ) : Type 0 where
 
 -- ---- the pages of a listing
 
+-- before it, in the order of the bytes
+abbrev pub IsBelow : List ℕ → List ℕ → Type 0
+IsBelow a b = slice_cmp nat_cmp a b ≡ Less
+
 -- the key of the last of so many entries
 abbrev pub last_key : ℕ → Option (List ℕ)
 last_key zero = None
@@ -40,17 +48,30 @@ abbrev pub keys_from : ℕ → ℕ → List (List ℕ)
 keys_from start zero = []
 keys_from start (suc k) = meta_key start ∷ keys_from (start + 1) k
 
--- the first key that is not that of the next entry, or is past the limit
+-- the first key that is not that of the next entry: it comes before that key, or the number is past the limit
 pub record IsOtherKey (keys : List (List ℕ)) (start : ℕ) (key : List ℕ) : Type 0 where
   pub front : ℕ
   pub rest : List (List ℕ)
   pub parts : keys ≡ keys_from start front ++ key ∷ rest
   pub within : start + front ≤ max_entries
-  pub other : (max_entries ≤ start + front) ⊎ (key ≡ meta_key (start + front) → ⊥)
+  pub other : (max_entries ≤ start + front) ⊎ IsBelow key (meta_key (start + front))
 
-abbrev pub IsJudged : List (List ℕ) → ℕ → Result ℕ (List ℕ) → Type 0
+-- the key of the next entry is not listed, though this key behind it is
+pub record HasGap (keys : List (List ℕ)) (start number : ℕ) (key : List ℕ) : Type 0 where
+  pub front : ℕ
+  pub rest : List (List ℕ)
+  pub parts : keys ≡ keys_from start front ++ key ∷ rest
+  pub number_is : number ≡ start + front
+  pub within : number < max_entries
+  pub above : IsBelow (meta_key number) key
+
+abbrev pub IsOther : List (List ℕ) → ℕ → ℕ → List ℕ → Bool → Type 0
+IsOther keys start number key true = HasGap keys start number key
+IsOther keys start number key false = IsOtherKey keys start key
+
+abbrev pub IsJudged : List (List ℕ) → ℕ → Result ℕ Other → Type 0
 IsJudged keys start (Ok count) = (keys ≡ keys_from start (length keys)) × (count ≡ start + length keys) × (count ≤ max_entries)
-IsJudged keys start (Err key) = IsOtherKey keys start key
+IsJudged keys start (Err other) = IsOther keys start other.number other.key other.is_behind
 
 -- the keys of the journal behind those of so many entries
 abbrev pub keys_behind : ℕ → State → List (List ℕ)
@@ -61,15 +82,61 @@ pub record IsPage (start : ℕ) (page : Page) : Type 0 where
   pub within : page.count ≤ max_entries
   pub more : page.is_last ≡ false → start < page.count
 
+-- the page that ends with an entry that was looked for by its key
+abbrev pub page_behind : ℕ → Page
+page_behind number = record { count = number + 1; is_last = false }
+
+-- whether an object with a number stood when it was asked for
+abbrev pub Stood : ℕ → Result Bool JournalError → State → Type 0
+Stood n (Ok true) s = IsSome (numbered s n)
+Stood n (Ok false) s = numbered s n ≡ None
+Stood n (Err (StoreFault before after)) s = ⊤
+Stood n (Err (Memory a)) s = ⊤
+Stood n (Err (Foreign key)) s = ⊥
+Stood n (Err (Corrupt key)) s = ⊥
+Stood n (Err (Missing key)) s = ⊥
+Stood n (Err (Adopted e)) s = ⊥
+Stood n (Err Full) s = ⊥
+
+-- an object was asked for by its number: late creates may have landed, and nothing else changed
+abbrev pub Looks : ℕ → Result Bool JournalError → State → State → Type 0
+Looks n r old new = HasLanded old new × Stood n r new
+
+-- what is known of the entry in a gap once it was looked for, where this key was listed behind it
+abbrev pub GapSays : ℕ → List ℕ → Result Page JournalError → State → Type 0
+GapSays n key (Ok page) s = (page ≡ page_behind n) × IsSome (numbered s n)
+GapSays n key (Err (Foreign k)) s = (k ≡ key) × (numbered s n ≡ None)
+GapSays n key (Err (StoreFault before after)) s = ⊤
+GapSays n key (Err (Memory a)) s = ⊤
+GapSays n key (Err (Corrupt k)) s = ⊥
+GapSays n key (Err (Missing k)) s = ⊥
+GapSays n key (Err (Adopted e)) s = ⊥
+GapSays n key (Err Full) s = ⊥
+
+abbrev pub LooksBehind : ℕ → List ℕ → Result Page JournalError → State → State → Type 0
+LooksBehind n key r old new = HasLanded old new × GapSays n key r new
+
 -- the first keys behind are those of the next entries, and with the last page they are all
 pub record HasPage (start : ℕ) (page : Page) (s : State) : Type 0 where
   pub rest : List (List ℕ)
   pub parts : keys_behind start s ≡ keys_from start (page.count - start) ++ rest
   pub all : page.is_last ≡ true → rest ≡ []
 
+-- What a listing leaves out while others write: an entry that was made while it went on, though one behind it is there. It was
+-- looked for by its key, and stands; the keys behind it are on the next page.
+pub record FillsGap (start : ℕ) (page : Page) (old new : State) : Type 0 where
+  pub mid : State
+  pub before : HasLanded old mid
+  pub behind : HasLanded mid new
+  pub number : ℕ
+  pub key : List ℕ
+  pub gap : HasGap (keys_behind start mid) start number key
+  pub stands : IsSome (numbered new number)
+  pub page_is : page ≡ page_behind number
+
 abbrev pub Pages : ℕ → Result Page JournalError → State → State → Type 0
-Pages start (Ok page) old new = HasLanded old new × HasPage start page new
-Pages start (Err (Foreign key)) old new = HasLanded old new × IsOtherKey (keys_behind start new) start key
+Pages start (Ok page) old new = (HasLanded old new × HasPage start page new) ⊎ FillsGap start page old new
+Pages start (Err (Foreign key)) old new = HasLanded old new × IsForeign new key
 Pages start (Err (StoreFault before after)) old new = HasLanded old new
 Pages start (Err (Memory a)) old new = HasLanded old new
 Pages start (Err (Corrupt key)) old new = ⊥

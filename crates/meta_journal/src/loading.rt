@@ -3,34 +3,61 @@
 ghost use Rattle.std.specs.Prelude.{◌≡◌, ◌≤◌, ◌<◌, ◌+◌, length, IfErr, IfOk, Ok, Err, false};
 ghost use Rattle.object_store.specs.Store.{WhereTold};
 ghost use Rattle.meta_journal.specs.Journal.{FaultIs, max_entries};
-ghost use Rattle.meta_journal.specs.Loading.{LoadsEntries, IsOfLoad, IsJudged, Pages, IsPage, Counts, ReadsAll, last_key};
+ghost use Rattle.meta_journal.specs.Loading.{LoadsEntries, IsOfLoad, IsJudged, LooksBehind, page_behind, Pages, IsPage, Counts, ReadsAll, last_key};
 
 use crate::keys::meta_prefix;
-use crate::objects::read_entry;
+use crate::objects::{read_entry, stands};
 use crate::{Entries, JournalError, meta_key};
 use object_store::{Key, ListError, ObjectStore};
 use std::alloc::Global;
+use std::cmp::Ordering;
 
 const MAX_ENTRIES: u64 = 10_000_000;
 
 const PAGE: u32 = 1_000;
 
+/// A key of a page that is not that of the next entry, which has this number.
+#[derive(Drop)]
+pub struct Other {
+    pub number: u64,
+    pub key: Key,
+    /// Whether it comes behind that entry's key. Else no entry has it: it comes before that key, or the number is past the limit.
+    pub is_behind: bool,
+}
+
 // The keys of the entries from a number on: how many entries there are with these, or the first other key.
-fn judge(keys: &[Key], start: u64) -> Result<u64, Key>
+fn judge(keys: &[Key], start: u64) -> Result<u64, Other>
     requires { start ≤ max_entries }
     ensures { IsJudged keys.now start result }
 {
-    let mut count = start;
+    let mut number = start;
     for key in keys {
-        if count >= MAX_ENTRIES {
-            return Err(*key);
+        if number >= MAX_ENTRIES {
+            return Err(Other {
+                number,
+                key: *key,
+                is_behind: false,
+            });
         }
-        if !key.is_same(&meta_key(count)) {
-            return Err(*key);
+        match key.compare(&meta_key(number)) {
+            Ordering::Equal => number += 1,
+            Ordering::Less => {
+                return Err(Other {
+                    number,
+                    key: *key,
+                    is_behind: false,
+                });
+            }
+            Ordering::Greater => {
+                return Err(Other {
+                    number,
+                    key: *key,
+                    is_behind: true,
+                });
+            }
         }
-        count += 1;
     }
-    Ok(count)
+    Ok(number)
 }
 
 fn last_key(count: u64) -> Option<Key>
@@ -49,7 +76,35 @@ pub struct Page {
     pub is_last: bool,
 }
 
-// The keys behind those of so many entries.
+// The entry with a number, beside which a key behind it was listed: where it stands, the next page begins behind it.
+fn look_behind<S: ObjectStore>(
+    alloc: Global,
+    store: &mut S,
+    number: u64,
+    key: Key,
+    before: u64,
+) -> Result<Page, JournalError>
+    requires number { number < max_entries }
+    requires before { before ≤ S.fault_count store.old }
+    ensures looks { WhereTold (S.told store.old) (S.told store.new) (LooksBehind number key result) }
+    ensures page { IfOk result (λ page. page ≡ page_behind number) }
+    ensures faults { IfErr result (FaultIs before (S.fault_count store.new)) }
+    ensures later { S.fault_count store.old ≤ S.fault_count store.new }
+    ensures refusals { IfErr result IsOfLoad }
+{
+    match stands(alloc, store, number, before) {
+        Ok(true) => Ok(Page {
+            count: number + 1,
+            is_last: false,
+        }),
+        Ok(false) => Err(JournalError::Foreign { key }),
+        Err(refused) => Err(refused),
+    }
+}
+
+// The keys behind those of so many entries. While others write, a listing is not one moment: an entry may be left out that
+// was made while it went on, though one behind it is there. Entries are made in the order of their numbers and never removed, so
+// the one that is left out stands. It is looked for by its key before any key behind it is called foreign.
 fn list_page<S: ObjectStore>(
     alloc: Global,
     store: &mut S,
@@ -71,7 +126,12 @@ fn list_page<S: ObjectStore>(
             let is_last = keys.len() < PAGE as usize;
             match judge(keys.as_slice(), start) {
                 Ok(count) => Ok(Page { count, is_last }),
-                Err(key) => Err(JournalError::Foreign { key }),
+                Err(other) => {
+                    if other.is_behind {
+                        return look_behind(alloc, store, other.number, other.key, before);
+                    }
+                    Err(JournalError::Foreign { key: other.key })
+                }
             }
         }
         Err(ListError::Memory(refused)) => Err(JournalError::Memory(refused)),

@@ -55,7 +55,8 @@ fn kind_of(version: u8, number: u8) -> Result<Kind, EntryError>
     }
 }
 
-fn kind_at(bytes: &[u8]) -> Result<Kind, EntryError>
+// What kind of entry begins so.
+pub(crate) fn kind_at(bytes: &[u8]) -> Result<Kind, EntryError>
     ensures exact { result ≡ kind_at bytes.now }
     ensures long { OnOk result (5 ≤ length bytes.now) }
 {

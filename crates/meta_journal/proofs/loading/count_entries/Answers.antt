@@ -7,12 +7,12 @@ use Rattle.meta_journal.proofs.loading.count_entries.Goals as goal
 pub returns-then-page-clause-counts : goal.returns-then-page-clause-counts
 returns-then-page-clause-counts g c =
     told_then (g.S.ObjectStore.told c.args.store.now) (g.S.ObjectStore.told c.loop-page.store) (g.S.ObjectStore.told c.list_page.new.store) {P = IsSoFar c.loop-page.count} {Q = Pages c.loop-page.count (Ok c.in-Ok.page)} {R = Counts (Ok c.in-Ok.page.count)}
-    (λ o m s p q. last_page c.loop-page.count c.in-Ok.page o m s p c.in-Ok.ensures.page q.0 q.1 c.if-page.true) c.loop-page.invariant.told c.in-Ok.ensures.pages
+    (λ o m s p q. last_page c.loop-page.count c.in-Ok.page o m s p c.in-Ok.ensures.page q c.if-page.true) c.loop-page.invariant.told c.in-Ok.ensures.pages
 
 pub loop-page-preserved : goal.loop-page-preserved
 loop-page-preserved g c = record {
   told = told_then (g.S.ObjectStore.told c.args.store.now) (g.S.ObjectStore.told c.loop-page.store) (g.S.ObjectStore.told c.list_page.new.store) {P = IsSoFar c.loop-page.count} {Q = Pages c.loop-page.count (Ok c.in-Ok.page)} {R = IsSoFar c.in-Ok.page.count}
-      (λ o m s p q. one_more_page c.loop-page.count c.in-Ok.page o m s p c.in-Ok.ensures.page q.0 q.1) c.loop-page.invariant.told c.in-Ok.ensures.pages;
+      (λ o m s p q. one_more_page c.loop-page.count c.in-Ok.page o m s p c.in-Ok.ensures.page q) c.loop-page.invariant.told c.in-Ok.ensures.pages;
   within = c.in-Ok.ensures.page.within;
   later = omega (arith, c.loop-page.invariant.later, c.in-Ok.ensures.later);
 }

@@ -6,6 +6,6 @@ use Rattle.meta_journal.proofs.loading.judge.Given as goal
 abbrev pub invariant-loop-key : goal.invariant-loop-key
 invariant-loop-key l = record {
   front : take l.key-index l.keys ≡ keys_from l.start l.key-index;
-  count : l.count ≡ l.start + l.key-index;
-  within : l.count ≤ max_entries;
+  count : l.number ≡ l.start + l.key-index;
+  within : l.number ≤ max_entries;
 }
