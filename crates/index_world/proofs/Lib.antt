@@ -37,3 +37,4 @@ pub mod FirstEntry
 pub mod FirstCalls
 pub mod FetchLaws
 pub mod Agreement
+pub mod AskedLaws

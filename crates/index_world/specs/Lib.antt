@@ -14,6 +14,7 @@ pub mod Created
 pub mod Opened
 pub mod Taking
 pub mod Steps
+pub mod Asked
 pub mod Unsure
 pub mod Life
 pub mod KeepingCode

@@ -61,6 +61,8 @@ impl<S: ObjectStore, C: SteadyClock> Gate for Direct<S, C> {
 
     ghost bytes_fetched = { λ direct. direct.fetched };
 
+    ghost told = { λ direct. direct.world.told };
+
     ghost is_sound = { λ direct core log w. record { kept = w.kept; world = w.world; timely = w.timely; opened = w.opened } };
 
     ghost none_between = { λ core. refl };

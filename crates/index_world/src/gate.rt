@@ -1,10 +1,13 @@
 //! What the actors of an index ask of its world.
 
-ghost use Rattle.std.specs.Prelude.{◌≡◌, ◌<◌, ◌^◌, ◌++◌, ℕ, List, [], IfOk, length, slice_get, None, Some};
+ghost use Rattle.std.specs.Prelude.{◌≡◌, ◌<◌, ◌^◌, ◌++◌, ℕ, List, [], IfOk, length, slice_get, None, Some, Option};
 ghost use Rattle.doc_value.specs.Documents.{IsSchema};
 ghost use Rattle.index_config.specs.declared.config.IndexConfig as configs;
 ghost use Rattle.meta_journal.specs.Spelling.{CanSpellFacts};
 ghost use Rattle.source_log.specs.Log.{Log};
+ghost use Rattle.meta_journal.specs.Places.{split_key};
+ghost use Rattle.object_store.specs.Store.{State, WhereTold};
+ghost use Rattle.index_world.specs.Asked.{Behind, FetchesFile, IsFetch, IsUpload, UploadsFile};
 ghost use Rattle.index_world.specs.Calls.{asked, looked, asked_and_looked, fetched_from, upload_made};
 ghost use Rattle.index_world.specs.CallsMade.{CallMade, of_checkpoints, of_moment, of_stage, of_upload, of_publish, of_plan, of_fetch};
 ghost use Rattle.index_world.specs.Core.{Core, IsConfigured, IsUnusedIn, Nobody};
@@ -47,6 +50,9 @@ pub trait Gate {
 
     /// How many bytes were fetched through it.
     ghost bytes_fetched: { Self → ℕ };
+
+    /// What the store behind it holds, where it tells.
+    ghost told: { Self → Option State };
 
     /// The configuration of the index, which stays. It is no event.
     fn config(&self) -> &IndexConfig
@@ -97,6 +103,9 @@ pub trait Gate {
         requires owned { Owns self.old staged.number }
         requires begun { (log : Log) → Begins self.old log → (core : Core) × Stands self.old core log × IsUnusedIn core staged.number }
         ensures later { since self.old self.new }
+        // Over all stores: which errors there are, and what is done to any store that tells.
+        ensures kinds { IsUpload (split_key staged.number) staged.number result }
+        ensures answers { WhereTold (told self.old) (told self.new) (Behind (UploadsFile (split_key staged.number) content.now result)) }
         ensures same { bytes_fetched self.new ≡ bytes_fetched self.old }
         ensures step { (core : Core) (log : Log) → Stands self.old core log → IsUnusedIn core staged.number →
             Does Stands Between Owns Adds (Some staged.number) (of_upload staged.number content.now) (λ fate c. upload_made fate staged.number content.now c) IsTrouble
@@ -130,6 +139,10 @@ pub trait Gate {
     ) -> Result<Piece, WorldError>
         requires { place < length plan.now.rows }
         ensures later { since self.old self.new }
+        // Over all stores: which errors there are, and what any store that tells had under the key.
+        ensures kinds { (row : PlanRow) → slice_get plan.now.rows place ≡ Some row → IsFetch (split_key row.number) plan.now.moment result }
+        ensures answers { (row : PlanRow) → slice_get plan.now.rows place ≡ Some row →
+            WhereTold (told self.old) (told self.new) (Behind (FetchesFile (split_key row.number) from len result)) }
         ensures counts { bytes_fetched self.new ≡ fetched_more result (bytes_fetched self.old) }
         ensures step { (core : Core) (log : Log) (config : configs.IndexConfig) (row : PlanRow) → Stands self.old core log → IsConfigured config core →
             slice_get plan.now.rows place ≡ Some row →

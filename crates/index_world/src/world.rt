@@ -8,6 +8,8 @@ ghost use Rattle.index_config.specs.declared.config.IndexConfig as configs;
 ghost use Rattle.meta_journal.specs.Spelling.{CanSpellFacts};
 ghost use Rattle.object_store.specs.Store.{State, WhereTold};
 ghost use Rattle.source_log.specs.Log.{Log};
+ghost use Rattle.meta_journal.specs.Places.{split_key};
+ghost use Rattle.index_world.specs.Asked.{FetchesFile, IsFetch, IsInTime, IsUpload, UploadsFile};
 ghost use Rattle.index_world.specs.Calls.{asked, asked_moment, looked, asked_and_looked, fetched_from, upload_made};
 ghost use Rattle.index_world.specs.Configuration.{index_of};
 ghost use Rattle.index_world.specs.Core.{Core, IsConfigured, IsUnusedIn};
@@ -213,7 +215,11 @@ impl<S: ObjectStore, C: SteadyClock> World<S, C> {
     }
 
     fn ask(&mut self)
-        ensures { (clock : ℕ) → self.old.clock ≡ Some clock → self.new ≡ record self.old { moment = asked_moment self.old.frozen self.old.moment clock } }
+        ensures asks { (clock : ℕ) → self.old.clock ≡ Some clock → self.new ≡ record self.old { moment = asked_moment self.old.frozen self.old.moment clock } }
+        // Over every clock.
+        ensures told { self.new.told ≡ self.old.told }
+        ensures counted { self.new.store_faults ≡ self.old.store_faults }
+        ensures meta { self.new.meta ≡ self.old.meta }
     {
         if !self.frozen {
             self.life.moment = self.life.moment.max(self.clock.ask());
@@ -273,9 +279,14 @@ impl<S: ObjectStore, C: SteadyClock> World<S, C> {
         staged: Staged,
         content: &[u8],
     ) -> Result<Uploaded, WorldError>
-        ensures { (core : Core) (log : Log) → WorldStands self.old core log → IsUnusedIn core staged.number →
+        ensures step { (core : Core) (log : Log) → WorldStands self.old core log → IsUnusedIn core staged.number →
             Acts WorldStands (Some staged.number) (λ fate c. upload_made fate staged.number content.now c) IsTrouble
             (WasUploaded staged.number content.now) result core log self.new }
+        // Over all stores: which errors there are, and a fault has its counts before and behind, of which the second rose.
+        ensures kinds { IsUpload (split_key staged.number) staged.number result }
+        ensures faults { IfErr result (IsFaultBetween self.old.store_faults self.new.store_faults) }
+        // What is done to any store that tells.
+        ensures answers { WhereTold self.old.told self.new.told (UploadsFile (split_key staged.number) content.now result) }
     {
         let before = self.store.faults();
         let key = split_key(staged.number);
@@ -334,9 +345,17 @@ impl<S: ObjectStore, C: SteadyClock> World<S, C> {
         len: u64,
     ) -> Result<Piece, WorldError>
         requires { place < length plan.now.rows }
-        ensures { (core : Core) (log : Log) (config : configs.IndexConfig) (row : PlanRow) → WorldStands self.old core log → IsConfigured config core →
+        ensures step { (core : Core) (log : Log) (config : configs.IndexConfig) (row : PlanRow) → WorldStands self.old core log → IsConfigured config core →
             slice_get plan.now.rows place ≡ Some row →
             Acts WorldStands None (fetched_from (grace_of config plan.now) row.number) IsUnfetched (IsPieceGiven row.number from len) result core log self.new }
+        // Over all stores: which errors there are, when it is too late, and a fault has its counts before and behind, of which the
+        // second rose.
+        ensures kinds { (row : PlanRow) → slice_get plan.now.rows place ≡ Some row → IsFetch (split_key row.number) plan.now.moment result }
+        ensures time { IfSome (index_of self.old.meta.config) (λ config. IsInTime (plan.now.moment + config.deletion_grace) self.new.moment result) }
+        ensures faults { IfErr result (IsFaultBetween self.old.store_faults self.new.store_faults) }
+        // What any store that tells had under the key.
+        ensures answers { (row : PlanRow) → slice_get plan.now.rows place ≡ Some row →
+            WhereTold self.old.told self.new.told (FetchesFile (split_key row.number) from len result) }
     {
         let before = self.store.faults();
         self.ask();

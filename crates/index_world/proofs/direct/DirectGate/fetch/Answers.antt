@@ -1,8 +1,15 @@
+use Rattle.index_world.proofs.AskedLaws.{told_behind}
 use Rattle.index_world.proofs.Gates.{does_alone}
 use Rattle.index_world.proofs.direct.DirectGate.fetch.Goals as goal
 
 pub returns-in-Ok-clause-step : goal.returns-in-Ok-clause-step
-returns-in-Ok-clause-step g c core log config row s configured found = does_alone _ _ _ _ _ _ _ _ core log _ _ _ (λ after t. t) (c.in-Ok.ensures core log config row s configured found)
+returns-in-Ok-clause-step g c core log config row s configured found = does_alone _ _ _ _ _ _ _ _ core log _ _ _ (λ after t. t) (c.in-Ok.ensures.step core log config row s configured found)
 
 pub returns-in-Err-clause-step : goal.returns-in-Err-clause-step
-returns-in-Err-clause-step g c core log config row s configured found = does_alone _ _ _ _ _ _ _ _ core log _ _ _ (λ after t. t) (c.in-Err.ensures core log config row s configured found)
+returns-in-Err-clause-step g c core log config row s configured found = does_alone _ _ _ _ _ _ _ _ core log _ _ _ (λ after t. t) (c.in-Err.ensures.step core log config row s configured found)
+
+pub returns-in-Ok-clause-answers : goal.returns-in-Ok-clause-answers
+returns-in-Ok-clause-answers g c = λ row found. told_behind _ _ _ (c.in-Ok.ensures.answers row found)
+
+pub returns-in-Err-clause-answers : goal.returns-in-Err-clause-answers
+returns-in-Err-clause-answers g c = λ row found. told_behind _ _ _ (c.in-Err.ensures.answers row found)

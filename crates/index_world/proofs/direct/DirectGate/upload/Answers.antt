@@ -1,5 +1,9 @@
+use Rattle.index_world.proofs.AskedLaws.{told_behind}
 use Rattle.index_world.proofs.Gates.{does_alone}
 use Rattle.index_world.proofs.direct.DirectGate.upload.Goals as goal
 
 pub returns-clause-step : goal.returns-clause-step
-returns-clause-step g c core log s u = does_alone _ _ _ _ _ _ _ _ core log _ _ _ (λ after t. t) (c.upload.ensures core log s u)
+returns-clause-step g c core log s u = does_alone _ _ _ _ _ _ _ _ core log _ _ _ (λ after t. t) (c.upload.ensures.step core log s u)
+
+pub returns-clause-answers : goal.returns-clause-answers
+returns-clause-answers g c = told_behind _ _ _ c.upload.ensures.answers

@@ -4,4 +4,4 @@ use Rattle.index_world.proofs.Gates.{asks_alone}
 use Rattle.index_world.proofs.world.World.moment.Goals as goal
 
 pub returns-clause-step : goal.returns-clause-step
-returns-clause-step g c core log s = asks_alone _ _ core log s (c.ask.ensures core.clock s.clock) _ (ap (λ (k : Keeping). k.moment) c.self.view_is)
+returns-clause-step g c core log s = asks_alone _ _ core log s (c.ask.ensures.asks core.clock s.clock) _ (ap (λ (k : Keeping). k.moment) c.self.view_is)

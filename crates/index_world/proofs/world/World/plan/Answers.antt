@@ -11,7 +11,7 @@ use Rattle.index_world.proofs.world.World.plan.Goals as goal
 
 pub returns-in_err-settle : goal.returns-in_err-settle
 returns-in_err-settle g c core log s =
-    let asks = c.ask.ensures core.clock s.clock in
+    let asks = c.ask.ensures.asks core.clock s.clock in
     let t = subst (λ (k : Keeping). WorldStands k (asked_clock core) log) (sym c.self-2.view_is) (world_asks _ _ core log s asks) in
     let counts = ap (λ (k : Keeping). k.store_faults) c.self.view_is in
     let counts2 = ap (λ (k : Keeping). k.store_faults) (c.self-2.view_is ∙ asks) in
@@ -25,7 +25,7 @@ returns-in_err-settle g c core log s =
 
 pub returns-in_err-plan_rows : goal.returns-in_err-plan_rows
 returns-in_err-plan_rows g c core log s =
-    let asks = c.ask.ensures core.clock s.clock in
+    let asks = c.ask.ensures.asks core.clock s.clock in
     let t = subst (λ (k : Keeping). WorldStands k (asked_clock core) log) (sym c.self-2.view_is) (world_asks _ _ core log s asks) in
     let counts = ap (λ (k : Keeping). k.store_faults) c.self.view_is in
     let counts2 = ap (λ (k : Keeping). k.store_faults) (c.self-2.view_is ∙ asks) in
@@ -39,7 +39,7 @@ returns-in_err-plan_rows g c core log s =
 
 pub returns : goal.returns
 returns g c core log s =
-    let asks = c.ask.ensures core.clock s.clock in
+    let asks = c.ask.ensures.asks core.clock s.clock in
     let t = subst (λ (k : Keeping). WorldStands k (asked_clock core) log) (sym c.self-2.view_is) (world_asks _ _ core log s asks) in
     let counts = ap (λ (k : Keeping). k.store_faults) c.self.view_is in
     let counts2 = ap (λ (k : Keeping). k.store_faults) (c.self-2.view_is ∙ asks) in

@@ -9,7 +9,7 @@ use Rattle.index_world.proofs.world.World.publish.Goals as goal
 
 pub returns-in_err-append : goal.returns-in_err-append
 returns-in_err-append g c core log s p =
-    let asks = c.ask.ensures core.clock s.clock in
+    let asks = c.ask.ensures.asks core.clock s.clock in
     let t = subst (λ (k : Keeping). WorldStands k (asked_clock core) log) (sym c.self-2.view_is) (world_asks _ _ core log s asks) in
     let counts = ap (λ (k : Keeping). k.store_faults) c.self.view_is in
     let counts2 = ap (λ (k : Keeping). k.store_faults) (c.self-2.view_is ∙ asks) in
@@ -22,7 +22,7 @@ returns-in_err-append g c core log s p =
 
 pub returns : goal.returns
 returns g c core log s p =
-    let asks = c.ask.ensures core.clock s.clock in
+    let asks = c.ask.ensures.asks core.clock s.clock in
     let t = subst (λ (k : Keeping). WorldStands k (asked_clock core) log) (sym c.self-2.view_is) (world_asks _ _ core log s asks) in
     let counts = ap (λ (k : Keeping). k.store_faults) c.self.view_is in
     let counts2 = ap (λ (k : Keeping). k.store_faults) (c.self-2.view_is ∙ asks) in
