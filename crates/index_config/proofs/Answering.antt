@@ -46,18 +46,28 @@ some-first : (faults : List ConfigError) (root : Data) (fault : ConfigError) →
 some-first [] root fault e = cc
 some-first (f ∷ fs) root fault e = let same : f ≡ fault = cc in ap Err same
 
-same-faults : (root : Data) (raws : List RawField) → raws ≡ all_raws root → table_faults root ++ whole_faults root raws ≡ config_faults root
-same-faults root raws r = ap (λ x. table_faults root ++ whole_faults root x) r
+front-first : (xs ys : List ConfigError) (fault : ConfigError) → slice_get xs 0 ≡ Some fault → slice_get (xs ++ ys) 0 ≡ Some fault
+front-first [] ys fault e = absurd (cc)
+front-first (x ∷ xs) ys fault e = e
 
--- the answer where something is wrong, and where nothing is
-pub answer-fault : (root : Data) (raws seen : List RawField) (first : Option ConfigError) (fault : ConfigError) → raws ≡ all_raws root → seen ≡ raws
-    → first ≡ slice_get (table_faults root ++ whole_faults root seen) 0 → first ≡ Some fault → read_answer (Some root) ≡ Err fault
-answer-fault root raws seen first fault r s f e =
-    some-first (config_faults root) root fault (ap (λ x. slice_get x 0) (sym (same-faults root seen (s ∙ r))) ∙ sym f ∙ e)
+same-faults : (root : Data) (raws : List RawField) → slice_get (table_faults root) 0 ≡ None → raws ≡ all_raws root → whole_faults root raws ≡ config_faults root
+same-faults root raws t r =
+    ap (λ x. whole_faults root x) r ∙ sym (ap (λ x. x ++ whole_faults root (all_raws root)) (none-first (table_faults root) t))
 
-pub answer-config : (root : Data) (raws seen : List RawField) (first : Option ConfigError) (config : IndexConfig) → raws ≡ all_raws root → seen ≡ raws
-    → first ≡ slice_get (table_faults root ++ whole_faults root seen) 0 → first ≡ None → config ≡ config_with root raws (schema_of root raws)
-    → read_answer (Some root) ≡ Ok config
-answer-config root raws seen first config r s f e c =
-    let none : config_faults root ≡ [] = sym (same-faults root seen (s ∙ r)) ∙ none-first (table_faults root ++ whole_faults root seen) (sym f ∙ e) in
+-- the answer where something is wrong with the tables, where it is with the whole, and where nothing is
+pub answer-tables : (root : Data) (first : Option ConfigError) (fault : ConfigError) → first ≡ slice_get (table_faults root) 0 → first ≡ Some fault
+    → read_answer (Some root) ≡ Err fault
+answer-tables root first fault f e =
+    some-first (config_faults root) root fault (front-first (table_faults root) (whole_faults root (all_raws root)) fault (sym f ∙ e))
+
+pub answer-fault : (root : Data) (raws seen : List RawField) (first : Option ConfigError) (fault : ConfigError) → slice_get (table_faults root) 0 ≡ None
+    → raws ≡ all_raws root → seen ≡ raws → first ≡ slice_get (whole_faults root seen) 0 → first ≡ Some fault → read_answer (Some root) ≡ Err fault
+answer-fault root raws seen first fault t r s f e =
+    some-first (config_faults root) root fault (ap (λ x. slice_get x 0) (sym (same-faults root seen t (s ∙ r))) ∙ sym f ∙ e)
+
+pub answer-config : (root : Data) (raws seen : List RawField) (first : Option ConfigError) (config : IndexConfig) → slice_get (table_faults root) 0 ≡ None
+    → raws ≡ all_raws root → seen ≡ raws → first ≡ slice_get (whole_faults root seen) 0 → first ≡ None
+    → config ≡ config_with root raws (schema_of root raws) → read_answer (Some root) ≡ Ok config
+answer-config root raws seen first config t r s f e c =
+    let none : config_faults root ≡ [] = sym (same-faults root seen t (s ∙ r)) ∙ none-first (whole_faults root seen) (sym f ∙ e) in
     rw none (ap Ok (sym (c ∙ ap (λ x. config_with root x (schema_of root x)) r)))

@@ -15,11 +15,11 @@ parted [] i x e = absurd (cc)
 parted (y ∷ ys) zero x e = let same : y ≡ x = cc in (ap (λ (z : RawField). z ∷ ys) same, ap (λ (z : RawField). z ∷ []) same)
 parted (y ∷ ys) (suc i) x e = let more = parted ys i x e in (more.0, ap (λ zs. y ∷ zs) more.1)
 
-or_false : (b : Bool) → (b || false) ≡ b
+pub or_false : (b : Bool) → (b || false) ≡ b
 or_false true = refl
 or_false false = refl
 
-or_more : (b x y z : Bool) → x ≡ (y || z) → (b || x) ≡ ((b || y) || z)
+pub or_more : (b x y z : Bool) → x ≡ (y || z) → (b || x) ≡ ((b || y) || z)
 or_more true x y z e = refl
 or_more false x y z e = e
 
@@ -27,7 +27,7 @@ has_append : (q : List ℕ) (xs : List RawField) (raw : RawField) → has_path q
 has_append q [] raw = or_false (bytes_eq raw.path q)
 has_append q (r ∷ xs) raw = or_more (bytes_eq r.path q) _ (has_path q xs) (bytes_eq raw.path q) (has_append q xs raw)
 
-cond_or : (c x : Bool) → cond c true x ≡ (x || c)
+pub cond_or : (c x : Bool) → cond c true x ≡ (x || c)
 cond_or true true = refl
 cond_or true false = refl
 cond_or false true = refl

@@ -10,3 +10,4 @@ pub mod Accepted
 pub mod Named
 pub mod Ranges
 pub mod Asked
+pub mod References

@@ -4,3 +4,4 @@ pub mod Fields
 pub mod Sections
 pub mod Answer
 pub mod Accepted
+pub mod References

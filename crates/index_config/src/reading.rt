@@ -1,4 +1,4 @@
-ghost use Rattle.std.specs.Prelude.{◌≡◌, ◌++◌, OnOk, IfOk, Ok, Err, Some, MatchResult, slice_get};
+ghost use Rattle.std.specs.Prelude.{◌≡◌, IfOk, Ok, Err, None, Some, MatchResult, slice_get};
 ghost use Rattle.toml.specs.View.{view};
 ghost use Rattle.index_config.specs.Answer.{config_answer, read_answer, IsMemory};
 ghost use Rattle.index_config.specs.Tables.{table_faults};
@@ -42,8 +42,36 @@ fn read_root(alloc: Global, root: &Value) -> Result<IndexConfig, ConfigError>
         (λ config. read_answer (Some (view root.now)) ≡ Ok config)
         (λ refusal. ¬ IsMemory refusal → read_answer (Some (view root.now)) ≡ Err refusal) }
 {
+    match first_in_tables(alloc, root) {
+        Ok(None) => read_fields(alloc, root),
+        Ok(Some(fault)) => Err(fault),
+        Err(error) => Err(ConfigError::Memory(error)),
+    }
+}
+
+/// The first thing that is wrong with the tables. Behind it the names of fields are of their form, and no longer than that allows.
+fn first_in_tables(alloc: Global, root: &Value) -> Result<Option<ConfigError>, AllocError>
+    ensures { IfOk result (λ fault. fault ≡ slice_get (table_faults (view root.now)) 0) }
+{
+    let mut faults = Faults::vacant(alloc);
+    match check_tables(alloc, &mut faults, root) {
+        Ok(()) => Ok(faults.into_first()),
+        Err(error) => {
+            mem::drop(faults);
+            Err(error)
+        }
+    }
+}
+
+/// The configuration of tables with which nothing is wrong, or the first thing that is wrong with it as a whole.
+fn read_fields(alloc: Global, root: &Value) -> Result<IndexConfig, ConfigError>
+    requires { slice_get (table_faults (view root.now)) 0 ≡ None }
+    ensures { MatchResult result
+        (λ config. read_answer (Some (view root.now)) ≡ Ok config)
+        (λ refusal. ¬ IsMemory refusal → read_answer (Some (view root.now)) ≡ Err refusal) }
+{
     let raws = raws_of(alloc, root)?;
-    match first_fault(alloc, root, raws.as_slice()) {
+    match first_of_whole(alloc, root, raws.as_slice()) {
         Ok(None) => Ok(config_of(alloc, root, raws)?),
         Ok(Some(fault)) => {
             mem::drop(raws);
@@ -56,35 +84,22 @@ fn read_root(alloc: Global, root: &Value) -> Result<IndexConfig, ConfigError>
     }
 }
 
-/// The first thing that is wrong with a configuration of these fields.
-fn first_fault(
+/// The first thing that is wrong with a configuration of these fields as a whole.
+fn first_of_whole(
     alloc: Global,
     root: &Value,
     raws: &[RawField],
 ) -> Result<Option<ConfigError>, AllocError>
-    ensures { IfOk result (λ fault. fault ≡ slice_get (table_faults (view root.now) ++ whole_faults (view root.now) raws.now) 0) }
+    ensures { IfOk result (λ fault. fault ≡ slice_get (whole_faults (view root.now) raws.now) 0) }
 {
     let mut faults = Faults::vacant(alloc);
-    match check_all(alloc, &mut faults, root, raws) {
+    match check_whole(alloc, &mut faults, root, raws) {
         Ok(()) => Ok(faults.into_first()),
         Err(error) => {
             mem::drop(faults);
             Err(error)
         }
     }
-}
-
-/// All that is wrong with a configuration of these fields, in order.
-fn check_all(
-    alloc: Global,
-    faults: &mut Faults,
-    root: &Value,
-    raws: &[RawField],
-) -> Result<(), AllocError>
-    ensures { OnOk result (faults.new ≡ faults.old ++ (table_faults (view root.now) ++ whole_faults (view root.now) raws.now)) }
-{
-    check_tables(alloc, faults, root)?;
-    check_whole(alloc, faults, root, raws)
 }
 
 /// The fields and objects of a configuration in reading order.

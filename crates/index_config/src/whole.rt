@@ -1,8 +1,11 @@
-ghost use Rattle.std.specs.Prelude.{◌≡◌, ◌++◌, [], OnOk, option_map, codes};
+ghost use Rattle.std.specs.Prelude.{◌≡◌, List, ◌++◌, [], IfOk, OnOk, option_map, codes};
 ghost use Rattle.toml.specs.View.{view, items_view};
 ghost use Rattle.toml.specs.Data.{as_str};
 ghost use Rattle.index_config.specs.Tables.{items_in};
+ghost use Rattle.index_config.specs.declared.raw.RawField.{RawField as RawFieldOf};
+ghost use Rattle.index_config.specs.declared.raw.Purpose.{Purpose as PurposeOf};
 ghost use Rattle.index_config.specs.declared.raw.Purpose.TheVariants as purposes;
+ghost use Rattle.index_config.specs.References.{AreServing};
 ghost use Rattle.index_config.specs.Fields as spec;
 
 use crate::config::Mode;
@@ -154,11 +157,25 @@ fn check_timestamp(faults: &mut Faults, root: &Value, raws: &[RawField]) -> Resu
     faults.push(ConfigError::BadTimestampField)
 }
 
-fn serves(purpose: Purpose, item: &Value, raws: &[RawField]) -> bool
-    ensures { result ≡ spec.serves purpose (as_str (view item.now)) raws.now }
+/// The paths of the fields that can serve so.
+fn serving(alloc: Global, purpose: Purpose, raws: &[RawField]) -> Result<BTreeSet<&str>, AllocError>
+    ensures { IfOk result (AreServing purpose raws.now) }
+{
+    let mut paths = BTreeSet::new(alloc);
+    for raw in raws {
+        if can_serve(purpose, raw) {
+            paths.insert(raw.path.as_str())?;
+        }
+    }
+    Ok(paths)
+}
+
+/// Whether the path of a list is one of those; what is no text is refused elsewhere.
+fn serves(item: &Value, paths: &BTreeSet<&str>) -> bool
+    ensures { (purpose : PurposeOf) (raws : List RawFieldOf) → AreServing purpose raws paths.now → result ≡ spec.serves purpose (as_str (view item.now)) raws }
 {
     match item.as_str() {
-        Some(path) => has_such(purpose, path.as_bytes(), raws),
+        Some(path) => paths.contains(path),
         None => true,
     }
 }
@@ -183,9 +200,10 @@ fn check_references(
 ) -> Result<(), AllocError>
     ensures { OnOk result (faults.new ≡ faults.old ++ spec.reference_faults purpose raws.now place.now 0 (items_view items.now)) }
 {
+    let paths = serving(alloc, purpose, raws)?;
     for (number, item) in items.iter().enumerate() {
         let path = member_path(alloc, place, number)?;
-        bad_reference_unless(faults, serves(purpose, item, raws), path)?;
+        bad_reference_unless(faults, serves(item, &paths), path)?;
     }
     Ok(())
 }

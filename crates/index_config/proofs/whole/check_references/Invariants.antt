@@ -5,5 +5,5 @@ use Rattle.index_config.proofs.whole.check_references.Given as goal
 
 abbrev pub invariant-loop-number : goal.invariant-loop-number
 invariant-loop-number l =
-    l.faults ++ reference_faults l.purpose l.raws l.place l.number (items_view (drop l.number l.items))
-    ≡ l.initial.faults ++ reference_faults l.purpose l.raws l.place 0 (items_view l.items)
+    l.faults ++ reference_faults l.fn.purpose l.raws l.place l.number (items_view (drop l.number l.items))
+    ≡ l.initial.faults ++ reference_faults l.fn.purpose l.raws l.place 0 (items_view l.items)
