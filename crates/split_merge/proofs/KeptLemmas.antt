@@ -1,6 +1,6 @@
 -- Places that rise, and documents that are kept one after the other.
-use Rattle.std.proofs.Common.{◌≡◌, ℕ, zero, suc, ◌+◌, ◌<◌, ◌≤◌, Bool, true, false, ◌||◌, List, [], ◌∷◌, ◌++◌, length, drop, Option, Some, None, Err, refl, sym, ap, subst, ◌∙◌, arith, append_assoc, length-append, eq-eqb}
-use Rattle.std.specs.Prelude.{◌==◌, slice_get, if◌then◌else◌}
+use Rattle.std.proofs.Common.{◌≡◌, ℕ, zero, suc, ◌+◌, ◌<◌, ◌≤◌, Bool, true, false, List, [], ◌∷◌, ◌++◌, length, drop, Option, Some, Err, refl, sym, ap, subst, ◌∙◌, arith, append_assoc, eq-eqb}
+use Rattle.std.specs.Prelude.{slice_get, if◌then◌else◌}
 use Rattle.std.specs.List.{AllByRecursion}
 use Rattle.std.proofs.lemmas.Bool.{ne_eqb}
 use Rattle.doc_value.specs.declared.schema.Schema.{Schema}
@@ -9,7 +9,7 @@ use Rattle.split_bundle.specs.declared.split_view.SplitView.{SplitView}
 use Rattle.split_bundle.specs.declared.split_error.SplitError.{SplitError}
 use Rattle.split_bundle.specs.declared.split_error.SplitError.TheVariants as split
 use Rattle.split_merge.specs.Merging.{HasCause, IsWant, ReadsAll, fault_of}
-use Rattle.split_merge.specs.Keeping.{is_named, kept_from, joined, RiseFrom, ViewsSplit, AreViewsOf}
+use Rattle.split_merge.specs.Keeping.{is_named, kept_from, RiseFrom, ViewsSplit, AreViewsOf}
 
 -- ---- places
 
@@ -117,6 +117,15 @@ views_end s [] [] i are e = let none : i ≡ 0 = e in rw none refl
 views_end s [] (ds ∷ dss) i are e = absurd are
 views_end s (w ∷ vs) [] i are e = absurd are
 views_end s (w ∷ vs) (ds ∷ dss) i are e = ap (λ (n : ℕ). drop n (ds ∷ dss)) e ∙ views_end s vs dss (length vs) are.1 refl
+
+pub drop_view : (vs : List SplitView) (i : ℕ) (v : SplitView) → slice_get vs i ≡ Some v → drop i vs ≡ v ∷ drop (i + 1) vs
+drop_view [] i v is = absurd cc
+drop_view (w ∷ vs) zero v is = ap (λ (x : SplitView). x ∷ vs) (some_is w v is)
+drop_view (w ∷ vs) (suc i) v is = let next : suc i + 1 ≡ suc (i + 1) = omega arith in drop_view vs i v is ∙ ap (λ (n : ℕ). v ∷ drop n (w ∷ vs)) (sym next)
+
+pub drop_views_end : (vs : List SplitView) (i : ℕ) → i ≡ length vs → drop i vs ≡ []
+drop_views_end [] i e = let none : i ≡ 0 = e in rw none refl
+drop_views_end (w ∷ vs) i e = ap (λ (n : ℕ). drop n (w ∷ vs)) e ∙ drop_views_end vs (length vs) refl
 
 -- ---- each is of the schema
 

@@ -1,5 +1,5 @@
 -- Which documents are kept of splits one behind another.
-use Rattle.std.specs.Prelude.{◌≡◌, ℕ, suc, ◌≤◌, ◌==◌, Bool, true, false, ◌||◌, List, [], ◌∷◌, ◌++◌, ⊤, if◌then◌else◌}
+use Rattle.std.specs.Prelude.{ℕ, suc, ◌≤◌, ◌==◌, Bool, false, ◌||◌, List, [], ◌∷◌, ◌++◌, ⊤, if◌then◌else◌}
 use Rattle.doc_value.specs.declared.schema.Schema.{Schema}
 use Rattle.split_bundle.specs.declared.placed.Placed.{Placed}
 use Rattle.split_bundle.specs.declared.split_view.SplitView.{SplitView}

@@ -1,17 +1,21 @@
 -- What merging gives, and why it gives none.
-use Rattle.std.specs.Prelude.{◌≡◌, ℕ, List, Option, Some, Result, Ok, Err, slice_get, ⊤}
+use Rattle.std.specs.Prelude.{◌≡◌, ℕ, List, length, Some, Result, Ok, Err, slice_get, ⊤}
 use Rattle.doc_value.specs.declared.schema.Schema.{Schema}
 use Rattle.split_bundle.specs.declared.placed.Placed.{Placed}
 use Rattle.split_bundle.specs.declared.split_error.SplitError.{SplitError}
 use Rattle.split_bundle.specs.declared.split_error.SplitError.TheVariants as split
 use Rattle.split_bundle.specs.declared.split_view.SplitView.{SplitView}
+use Rattle.split_bundle.specs.Documents.{documents_section}
+use Rattle.split_bundle.specs.Files.{Parts, file_bytes}
+use Rattle.split_bundle.specs.Splits.{ArePartitions}
 use Rattle.split_merge.specs.declared.merge_error.MergeError.{MergeError}
 use Rattle.split_merge.specs.declared.merge_error.MergeError.TheVariants.{Memory, Split, Build}
 use Rattle.split_build.specs.declared.build_error.BuildError.{BuildError}
 use Rattle.split_build.specs.declared.build_error.BuildError.TheVariants as build
 use Rattle.split_build.specs.declared.builder.BuiltSplit.{BuiltSplit}
 use Rattle.split_build.specs.Builders.{IsBuilt}
-use Rattle.split_build.specs.Limits.{MakeNone}
+use Rattle.split_build.specs.Facts.{AreFacts}
+use Rattle.split_build.specs.Limits.{AreWithin, MakeNone}
 use Rattle.split_merge.specs.Keeping.{ViewsSplit}
 
 -- want of memory
@@ -70,3 +74,35 @@ Merges s documents (Err (Split number e)) = ⊥
 Merges s documents (Err (Build (build.Memory a))) = ⊥
 Merges s documents (Err (Build (build.TooManyDocs count))) = MakeNone documents (build.TooManyDocs count)
 Merges s documents (Err (Build (build.TooLarge weight))) = MakeNone documents (build.TooLarge weight)
+
+-- The documents of the file are these and no others, with their facts and within the limits, whatever stands in the sections that
+-- are found by them.
+pub record HoldsDocuments (s : Schema) (documents : List Placed) (b : BuiltSplit) : Type 0 where
+  pub parts : Parts
+  pub bytes_are : b.bytes ≡ file_bytes parts
+  pub docs : parts.docs ≡ length documents
+  pub partitions : ArePartitions documents parts.partitions
+  pub documents_are : parts.documents ≡ documents_section parts.partitions documents
+  pub facts : AreFacts s documents 0 b.bytes b.facts
+  pub within : AreWithin documents
+
+-- a file of these documents, or want of memory, or that they pass the limits of a split, or a fault that is no document's
+abbrev pub MergesRead : Schema → List Placed → Result BuiltSplit MergeError → Type 0
+MergesRead s documents (Ok built) = HoldsDocuments s documents built
+MergesRead s documents (Err (Memory a)) = ⊤
+MergesRead s documents (Err (Split number e)) = ⊤
+MergesRead s documents (Err (Build (build.Memory a))) = ⊥
+MergesRead s documents (Err (Build (build.TooManyDocs count))) = MakeNone documents (build.TooManyDocs count)
+MergesRead s documents (Err (Build (build.TooLarge weight))) = MakeNone documents (build.TooLarge weight)
+
+-- this fault, or want of memory
+abbrev pub Faults : MergeError → Result BuiltSplit MergeError → Type 0
+Faults fault (Ok built) = ⊥
+Faults fault (Err (Memory a)) = ⊤
+Faults fault (Err (Split number e)) = fault ≡ Split number e
+Faults fault (Err (Build e)) = ⊥
+
+-- what is merged of what was read: of its documents, or its fault
+abbrev pub MergesAs : Schema → Result (List Placed) MergeError → Result BuiltSplit MergeError → Type 0
+MergesAs s (Ok documents) result = MergesRead s documents result
+MergesAs s (Err fault) result = Faults fault result

@@ -5,8 +5,10 @@ ghost use Rattle.std.specs.List.{AllByRecursion};
 ghost use Rattle.doc_value.specs.declared.schema.Schema.{Schema};
 ghost use Rattle.doc_value.specs.Documents.{IsOfSchema};
 ghost use Rattle.split_bundle.specs.declared.placed.Placed.{Placed};
+ghost use Rattle.split_bundle.specs.Reading.{MayGive};
 ghost use Rattle.split_merge.specs.Keeping.{is_named, kept_from, kept, joined, RiseFrom, ViewsSplit, AreViewsOf};
 ghost use Rattle.split_merge.specs.Merging.{ReadsAll, HasCause, IsWant, fault_of};
+ghost use Rattle.split_merge.specs.Reading.{MayFind, behind, document_of, documents_of, read_kept, unless};
 
 use crate::MergeError;
 use doc_value::Schema;
@@ -45,6 +47,8 @@ fn take_next(
     ensures only { (documents : List Placed) (d : Placed) → ViewsSplit schema.now view.now documents → slice_get documents doc ≡ Some d
         → MatchResult result (λ _. list.new ≡ list.old ++ (if dropped then [] else d ∷ [])) IsWant }
     ensures of_schema { AllByRecursion (λ d. IsOfSchema schema.now d.doc) list.old → OnOk result (AllByRecursion (λ d. IsOfSchema schema.now d.doc) list.new) }
+    // Over any bytes.
+    ensures exact { MayGive (λ _. list.new) result (behind (Ok list.old) (unless dropped (document_of schema.now view.now doc))) }
 {
     if dropped {
         return Ok(());
@@ -71,6 +75,8 @@ fn take_view<'a>(
     ensures only { (documents : List Placed) → ViewsSplit schema.now view.now documents
         → MatchResult result (λ _. list.new ≡ list.old ++ kept_from first places.now documents) IsWant }
     ensures of_schema { AllByRecursion (λ d. IsOfSchema schema.now d.doc) list.old → OnOk result (AllByRecursion (λ d. IsOfSchema schema.now d.doc) list.new) }
+    // Over any bytes.
+    ensures exact { MayGive (λ _. list.new) result (behind (Ok list.old) (documents_of schema.now places.now view.now first 0 view.now.layout.docs)) }
 {
     let mut rest = places;
     let mut place = first;
@@ -121,6 +127,8 @@ pub(crate) fn kept_documents(
     ensures only { (lists : List (List Placed)) → AreViewsOf schema.now views.now lists → ReadsAll (kept dropped.now (joined lists)) result }
     ensures of_schema { IfOk result (λ list. AllByRecursion (λ d. IsOfSchema schema.now d.doc) list) }
     ensures cause { IfErr result (HasCause schema.now views.now) }
+    // Of any views.
+    ensures exact { MayFind result (read_kept schema.now dropped.now views.now) }
 {
     let mut list = PlacedList::vacant(alloc);
     let mut rest = dropped;

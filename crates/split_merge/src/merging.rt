@@ -4,7 +4,8 @@ ghost use Rattle.std.specs.Prelude.{◌≡◌, List, IfErr};
 ghost use Rattle.doc_value.specs.Documents.{IsSchema};
 ghost use Rattle.split_bundle.specs.declared.placed.Placed.{Placed};
 ghost use Rattle.split_merge.specs.Keeping.{kept, joined, RiseFrom, AreViewsOf};
-ghost use Rattle.split_merge.specs.Merging.{HasCause, Merges, refusal_of};
+ghost use Rattle.split_merge.specs.Merging.{HasCause, Merges, MergesAs, refusal_of};
+ghost use Rattle.split_merge.specs.Reading.{read_kept};
 
 use crate::MergeError;
 use crate::keeping::kept_documents;
@@ -38,6 +39,9 @@ pub fn merge(
     ensures only { (lists : List (List Placed)) → AreViewsOf schema.now views.now lists → Merges schema.now (kept dropped.now (joined lists)) result }
     // Of any views: one that is named is of no split of documents.
     ensures cause { IfErr result (HasCause schema.now views.now) }
+    // Of any views: what is read of them, document by document. Where each document that is kept reads, the file is of exactly
+    // these and the limits count exactly these; where one does not, the first of those is the answer, with its view and its fault.
+    ensures exact { MergesAs schema.now (read_kept schema.now dropped.now views.now) result }
 {
     match kept_documents(alloc, schema, views, dropped) {
         Ok(documents) => match build(alloc, schema, &documents) {
