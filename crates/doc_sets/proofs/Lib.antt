@@ -32,3 +32,6 @@ pub mod DistanceLaws
 pub mod Fills
 pub mod CountedBits
 pub mod FullWords
+pub mod ReadLists
+pub mod ReadLookups
+pub mod ReadWalks

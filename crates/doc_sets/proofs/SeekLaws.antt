@@ -22,10 +22,10 @@ use Rattle.doc_sets.specs.declared.leaf_error.LeafError.TheVariants as faults
 use Rattle.doc_sets.specs.Faults.{HasCause, IsMemory}
 use Rattle.doc_sets.specs.Seeking.{CanSeek, ArePassing}
 
-at_least : (a b : ℕ) → a ≤ b → nat_lt b a ≡ false
+pub at_least : (a b : ℕ) → a ≤ b → nat_lt b a ≡ false
 at_least a b le = grind (arith, nat_tests)
 
-less : (a b : ℕ) → a < b → nat_lt a b ≡ true
+pub less : (a b : ℕ) → a < b → nat_lt a b ≡ true
 less a b lt = grind (arith, nat_tests)
 
 -- who seeks a document behind another one needs not seek the other

@@ -9,3 +9,4 @@ pub mod Texts
 pub mod Walks
 pub mod Asking
 pub mod Seeking
+pub mod Reads

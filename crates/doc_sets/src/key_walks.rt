@@ -1,13 +1,13 @@
 // The documents of the wanted keys that begin with a prefix.
 
-ghost use Rattle.std.specs.Prelude.{[], ◌≡◌, ◌<◌, ◌≤◌, ◌&&◌, ◌||◌, ℕ, Bool, true, List, length, nat_eq, Some, IfOk, MatchResult, slice_get};
+ghost use Rattle.std.specs.Prelude.{[], ◌∷◌, ◌≡◌, ◌<◌, ◌≤◌, ◌&&◌, ◌||◌, ℕ, Bool, true, List, Result, length, nat_eq, Some, IfOk, MatchResult, slice_get};
 ghost use Rattle.std.specs.List.{AllByRecursion, starts_with};
 ghost use Rattle.doc_value.specs.declared.doc.DocField.{DocField};
 ghost use Rattle.doc_value.specs.declared.schema.Schema.{Schema};
 ghost use Rattle.query_ast.specs.Meaning.{values_in, is_text, some_has_prefix, between};
 ghost use Rattle.query_ast.specs.FieldTokens.{prefix_text};
 ghost use Rattle.query_ast.specs.Queries.{has_order};
-ghost use Rattle.term_dict.specs.Readers.{Lends};
+ghost use Rattle.term_dict.specs.Readers.{Lends, is_before_end};
 ghost use Rattle.term_dict.specs.Terms.{lookup};
 ghost use Rattle.term_dict.specs.declared.term.Term.{Term};
 ghost use Rattle.split_bundle.specs.declared.placed.Placed.{Placed};
@@ -17,9 +17,12 @@ ghost use Rattle.split_bundle.specs.Lists.{has_key, keeps_places, terms_of};
 ghost use Rattle.doc_sets.specs.Asked.{such};
 ghost use Rattle.doc_sets.specs.Faults.{HasCause};
 ghost use Rattle.doc_sets.specs.Needed.{IsListFor, IsSearched};
+ghost use Rattle.doc_sets.specs.Reads.{HasReadBy, PutsRead, ReadsAll, ReadsBlock, ReadsWalk, numbers_at, numbers_if, terms_read};
 ghost use Rattle.doc_sets.specs.Sets.{IsSetOf};
 ghost use Rattle.doc_sets.specs.Values.{EdgeHas64};
 ghost use Rattle.doc_sets.specs.Walks.{takes, is_walked, has_some_of, begun_in, IsListed, AsksIf, AsksTerms, AsksBlock, AsksWalk, range_of};
+ghost use Rattle.doc_sets.specs.declared.dictionary_lookup.Lookup.TheVariants.{Walk};
+ghost use Rattle.doc_sets.specs.declared.leaf_error.LeafError.{LeafError as Fault};
 ghost use Rattle.doc_sets.specs.declared.wanted.Wanted.TheVariants.{Each, Within};
 
 use crate::bits::DocBits;
@@ -46,6 +49,8 @@ fn add_term(
     ensures only { (s : Schema) (documents : List Placed) (p : Parts) (key : List ℕ) (test : List DocField → Bool) → IsSearched part.now s documents p
         → lookup key (terms_of s documents p.keys) ≡ Some info.now → positions ≡ keeps_places s key → IsSetOf test documents bits.old
         → MatchResult result (λ u. IsSetOf (λ d. test d || has_key key (keys_of s d)) documents bits.new) (HasCause (IsListFor part.now s documents p key) part.now.pieces) }
+    // Over any bytes.
+    ensures exact { bits.old.size ≡ part.now.footer.layout.docs → PutsRead bits.old bits.new result (numbers_at part.now positions info.now) }
 {
     let cursor = part.documents_at(info, positions)?;
     fill(bits, cursor, info.docs)
@@ -64,6 +69,7 @@ fn add_if_wanted(
     ensures only { (s : Schema) (documents : List Placed) (p : Parts) (test : List DocField → Bool) → IsSearched part.now s documents p
         → lookup key.now (terms_of s documents p.keys) ≡ Some info.now → positions ≡ keeps_places s key.now → IsSetOf test documents bits.old
         → MatchResult result (λ u. IsSetOf (λ d. test d || (takes wanted key.now && has_key key.now (keys_of s d))) documents bits.new) (HasCause (AsksIf part.now s documents p wanted key.now) part.now.pieces) }
+    ensures exact { bits.old.size ≡ part.now.footer.layout.docs → PutsRead bits.old bits.new result (numbers_if part.now positions wanted (record { key = key.now; info = info.now })) }
 {
     if wanted.takes(key) {
         add_term(part, bits, info, positions)
@@ -84,6 +90,8 @@ fn add_terms(
     ensures only { (s : Schema) (documents : List Placed) (p : Parts) (lent : List Term) (test : List DocField → Bool) → IsSearched part.now s documents p
         → Lends terms.entry lent → length lent ≤ 64 → AllByRecursion (IsListed s documents p positions) lent → IsSetOf test documents bits.old
         → MatchResult result (λ u. IsSetOf (λ d. test d || has_some_of wanted lent (keys_of s d)) documents bits.new) (HasCause (AsksTerms part.now s documents p wanted lent) part.now.pieces) }
+    ensures exact { bits.old.size ≡ part.now.footer.layout.docs → PutsRead bits.old bits.new result
+        (terms_read (numbers_if part.now positions wanted) 65 (is_before_end terms.entry.end) terms.entry.area.now terms.entry.at) }
 {
     for taken in 0..65u32 {
         match terms.next() {
@@ -118,6 +126,8 @@ fn add_block(
         → ((key : List ℕ) → starts_with nat_eq key prefix.now ≡ true → positions ≡ keeps_places s key) → IsSetOf test documents bits.old
         → MatchResult result (λ u. IsSetOf (λ d. test d || has_some_of wanted (begun_in prefix.now (terms_of s documents p.keys) number) (keys_of s d)) documents bits.new)
         (HasCause (AsksBlock part.now s documents p prefix.now wanted number) part.now.pieces) }
+    ensures exact { bits.old.size ≡ part.now.footer.layout.docs
+        → (read : Result (List ℕ) Fault) × ReadsBlock part.now (numbers_if part.now positions wanted) prefix.now number read × PutsRead bits.old bits.new result read }
 {
     if number > u32::MAX as usize {
         return Err(LeafError::Corrupt {
@@ -147,6 +157,8 @@ fn walk_documents(
     ensures only { (s : Schema) (documents : List Placed) (p : Parts) → IsSearched part.now s documents p
         → ((key : List ℕ) → starts_with nat_eq key prefix.now ≡ true → positions ≡ keeps_places s key)
         → MatchResult result (IsSetOf (λ d. such (is_walked prefix.now wanted) (keys_of s d)) documents) (HasCause (AsksWalk part.now s documents p prefix.now wanted) part.now.pieces) }
+    // Over any bytes: the numbers that the lists of the wanted keys give, or the fault that is met.
+    ensures exact { HasReadBy (ReadsWalk part.now (numbers_if part.now positions wanted) prefix.now) result }
 {
     let blocks = index.blocks_with(prefix);
     let mut bits = no_documents(alloc, part)?;
@@ -172,6 +184,7 @@ pub fn prefix_documents(
         → field.now.indexed ≡ true → is_text field.now.kind ≡ true
         → MatchResult result (IsSetOf (λ d. some_has_prefix field.now (prefix_text field.now text.now) (values_in d number)) documents)
         (HasCause (AsksWalk part.now s documents p (field_key number (prefix_text field.now text.now)) Each) part.now.pieces) }
+    ensures reads { ReadsAll part.now (Walk (field_key number (prefix_text field.now text.now)) Each ∷ []) result }
 {
     let folded = folded_prefix(alloc, field, text)?;
     let prefix = key_bytes(alloc, number, folded.as_slice())?;
@@ -206,6 +219,7 @@ pub fn range_documents(
         → field.now.indexed ≡ true → has_order field.now.kind ≡ true
         → MatchResult result (IsSetOf (λ d. between low.now high.now (values_in d number)) documents)
         (HasCause (AsksWalk part.now s documents p (field_key number []) (Within (range_of field.now.kind low.now high.now))) part.now.pieces) }
+    ensures reads { ReadsAll part.now (Walk (field_key number []) (Within (range_of field.now.kind low.now high.now)) ∷ []) result }
 {
     edge_has_64(low);
     edge_has_64(high);

@@ -1,16 +1,19 @@
 // What the dictionary has at a key, and the documents of its list.
 
-ghost use Rattle.std.specs.Prelude.{◌≡◌, ◌<◌, ◌∷◌, [], List, ℕ, Some, length, IfOk, MatchResult};
+ghost use Rattle.std.specs.Prelude.{◌≡◌, ◌<◌, ◌∷◌, [], List, ℕ, Some, Result, length, IfOk, MatchResult};
 ghost use Rattle.doc_value.specs.declared.schema.Schema.{Schema};
 ghost use Rattle.term_dict.specs.Bounds.{IsBlockOf, block_terms};
 ghost use Rattle.term_dict.specs.Terms.{lookup};
 ghost use Rattle.split_bundle.specs.declared.placed.Placed.{Placed};
 ghost use Rattle.split_bundle.specs.Files.{Parts};
+ghost use Rattle.split_bundle.specs.Lending.{block_in};
 ghost use Rattle.split_bundle.specs.Keys.{keys_of};
 ghost use Rattle.split_bundle.specs.Lists.{has_key, keeps_places, terms_of};
 ghost use Rattle.doc_sets.specs.Faults.{HasCause};
 ghost use Rattle.doc_sets.specs.Needed.{IsBlockFor, IsSearched, LacksKeys};
+ghost use Rattle.doc_sets.specs.Reads.{Finds, FindsIn, HasRead, ReadsKey, numbers_at};
 ghost use Rattle.doc_sets.specs.Sets.{IsSetOf};
+ghost use Rattle.doc_sets.specs.declared.leaf_error.LeafError.{LeafError as Fault};
 
 use crate::bits::DocBits;
 use crate::leaf_error::{DICTIONARY, LeafError};
@@ -27,8 +30,10 @@ pub fn term_at(
     key: &[u8],
 ) -> Result<Option<TermInfo>, LeafError>
     requires { index.now ≡ part.now.footer.index }
-    ensures { (s : Schema) (documents : List Placed) (p : Parts) → IsSearched part.now s documents p
+    ensures only { (s : Schema) (documents : List Placed) (p : Parts) → IsSearched part.now s documents p
         → MatchResult result (λ found. found ≡ lookup key.now (terms_of s documents p.keys)) (HasCause (IsBlockFor part.now s documents p key.now) part.now.pieces) }
+    // Over any bytes: what the block of the key has at it, or the fault that is met.
+    ensures exact { Finds part.now key.now result }
 {
     match index.block_of(key) {
         None => Ok(None),
@@ -44,8 +49,9 @@ pub fn term_at(
 // What the block with a number has at a key.
 fn term_in(part: &PartView, number: u32, key: &[u8]) -> Result<Option<TermInfo>, LeafError>
     requires { number < length part.now.footer.index }
-    ensures { (s : Schema) (documents : List Placed) (p : Parts) → IsSearched part.now s documents p → IsBlockOf part.now.footer.index key.now (Some number)
+    ensures only { (s : Schema) (documents : List Placed) (p : Parts) → IsSearched part.now s documents p → IsBlockOf part.now.footer.index key.now (Some number)
         → MatchResult result (λ found. found ≡ lookup key.now (block_terms (terms_of s documents p.keys) number)) (HasCause (IsBlockFor part.now s documents p key.now) part.now.pieces) }
+    ensures exact { FindsIn key.now (block_in part.now.footer.layout.sections part.now.pieces part.now.footer.index number) result }
 {
     let block = part.block(number)?;
     match block.find(key) {
@@ -67,6 +73,7 @@ fn term_documents(
     ensures only { (s : Schema) (documents : List Placed) (p : Parts) (key : List ℕ) → IsSearched part.now s documents p
         → lookup key (terms_of s documents p.keys) ≡ Some info.now → positions ≡ keeps_places s key
         → MatchResult result (IsSetOf (λ d. has_key key (keys_of s d)) documents) (LacksKeys part.now s documents p (key ∷ [])) }
+    ensures exact { HasRead result (numbers_at part.now positions info.now) }
 {
     let mut bits = DocBits::vacant(alloc, part.doc_count())?;
     let cursor = part.documents_at(info, positions)?;
@@ -86,6 +93,8 @@ pub(crate) fn key_documents(
     ensures size { IfOk result (λ b. b.size ≡ part.now.footer.layout.docs) }
     ensures only { (s : Schema) (documents : List Placed) (p : Parts) → IsSearched part.now s documents p → positions ≡ keeps_places s key.now
         → MatchResult result (IsSetOf (λ d. has_key key.now (keys_of s d)) documents) (LacksKeys part.now s documents p (key.now ∷ [])) }
+    // Over any bytes: the numbers that the key's list gives, or the fault that is met.
+    ensures exact { (read : Result (List ℕ) Fault) × ReadsKey part.now key.now positions read × HasRead result read }
 {
     match term_at(index, part, key)? {
         Some(info) => term_documents(alloc, part, &info, positions),

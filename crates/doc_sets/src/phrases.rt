@@ -13,6 +13,7 @@ ghost use Rattle.doc_sets.specs.Asking.{LacksLookups};
 ghost use Rattle.doc_sets.specs.Bits.{has};
 ghost use Rattle.doc_sets.specs.Faults.{IsMemory};
 ghost use Rattle.doc_sets.specs.Needed.{IsSearched, LacksPlaces, token_keys};
+ghost use Rattle.doc_sets.specs.Reads.{ReadsAll};
 ghost use Rattle.doc_sets.specs.Seeking.{ArePassing};
 ghost use Rattle.doc_sets.specs.Sets.{IsSetOf};
 ghost use Rattle.doc_sets.specs.Texts.{lookups_for};
@@ -188,6 +189,7 @@ pub(crate) fn phrase_documents(
     ensures only { (s : Schema) (documents : List Placed) (p : Parts) → IsSearched part.now s documents p → slice_get s.fields number ≡ Some field.now
         → field.now.indexed ≡ true → is_text field.now.kind ≡ true → (field.now.positions ≡ true) ⊎ (length phrase.now ≤ 1) → asked.AreBehindFirst phrase.now
         → MatchResult result (IsSetOf (λ d. phrase_holds field.now phrase.now (values_in d number)) documents) (LacksLookups part.now s documents p (lookups_for (token_keys number phrase.now))) }
+    ensures reads { ReadsAll part.now (lookups_for (token_keys number phrase.now)) result }
 {
     match phrase {
         [] => Ok(no_documents(alloc, part)?),

@@ -5,6 +5,7 @@ ghost use Rattle.doc_value.specs.declared.doc.DocField.{DocField};
 ghost use Rattle.doc_value.specs.declared.schema.Schema.{Schema};
 ghost use Rattle.split_bundle.specs.declared.placed.Placed.{Placed};
 ghost use Rattle.split_bundle.specs.Files.{Parts};
+ghost use Rattle.doc_sets.specs.Bits.{has};
 ghost use Rattle.doc_sets.specs.Needed.{IsSearched};
 ghost use Rattle.doc_sets.specs.Sets.{IsSetOf};
 
@@ -17,6 +18,8 @@ use std::alloc::{AllocError, Global};
 pub fn no_documents(alloc: Global, part: &PartView) -> Result<DocBits, AllocError>
     ensures size { IfOk result (λ b. b.size ≡ part.now.footer.layout.docs) }
     ensures only { (s : Schema) (documents : List Placed) (p : Parts) → IsSearched part.now s documents p → IfOk result (IsSetOf (λ d. false) documents) }
+    // Over any bytes.
+    ensures none { IfOk result (λ b. (k : ℕ) → has b k ≡ false) }
 {
     DocBits::vacant(alloc, part.doc_count())
 }

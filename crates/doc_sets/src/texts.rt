@@ -9,6 +9,7 @@ ghost use Rattle.split_bundle.specs.declared.placed.Placed.{Placed};
 ghost use Rattle.split_bundle.specs.Files.{Parts};
 ghost use Rattle.doc_sets.specs.Asking.{LacksLookups};
 ghost use Rattle.doc_sets.specs.Needed.{IsSearched, token_keys};
+ghost use Rattle.doc_sets.specs.Reads.{ReadsAll};
 ghost use Rattle.doc_sets.specs.Sets.{IsSetOf};
 ghost use Rattle.doc_sets.specs.Texts.{CanPlace, CanPlaceEach, item_lookups, lookups_for, text_lookups, value_keys};
 
@@ -49,6 +50,7 @@ fn placed_documents(
         → field.now.indexed ≡ true → is_text field.now.kind ≡ true → CanPlace field.now text.now
         → MatchResult result (IsSetOf (λ d. phrase_holds field.now (field_tokens field.now text.now) (values_in d number)) documents)
         (LacksLookups part.now s documents p (lookups_for (token_keys number (field_tokens field.now text.now)))) }
+    ensures reads { ReadsAll part.now (lookups_for (token_keys number (field_tokens field.now text.now))) result }
 {
     let tokens = tokens_of(alloc, field, text)?;
     phrase_documents(alloc, index, part, number, field, tokens.as_slice())
@@ -70,6 +72,7 @@ fn gathered_documents(
         → field.now.indexed ≡ true → is_text field.now.kind ≡ true
         → MatchResult result (IsSetOf (λ d. each_holds field.now (field_tokens field.now text.now) (values_in d number)) documents)
         (LacksLookups part.now s documents p (lookups_for (token_keys number (field_tokens field.now text.now)))) }
+    ensures reads { ReadsAll part.now (lookups_for (token_keys number (field_tokens field.now text.now))) result }
 {
     let tokens = tokens_of(alloc, field, text)?;
     if tokens.as_slice().is_empty() {
@@ -94,6 +97,7 @@ fn spelled_documents(
         → field.now.indexed ≡ true → is_text field.now.kind ≡ false
         → MatchResult result (IsSetOf (λ d. equals_some (spelled field.now.kind text.now) (values_in d number)) documents)
         (LacksLookups part.now s documents p (lookups_for (value_keys number (spelled field.now.kind text.now)))) }
+    ensures reads { ReadsAll part.now (lookups_for (value_keys number (spelled field.now.kind text.now))) result }
 {
     match value_of(alloc, field.kind, text)? {
         Some(value) => value_documents(alloc, index, part, number, field, &value),
@@ -116,6 +120,7 @@ pub fn quoted_documents(
     ensures only { (s : Schema) (documents : List Placed) (p : Parts) → IsSearched part.now s documents p → slice_get s.fields number ≡ Some field.now
         → field.now.indexed ≡ true → CanPlace field.now text.now
         → MatchResult result (IsSetOf (λ d. quoted_holds field.now text.now (values_in d number)) documents) (LacksLookups part.now s documents p (text_lookups field.now number text.now)) }
+    ensures reads { ReadsAll part.now (text_lookups field.now number text.now) result }
 {
     if is_text(field.kind) {
         placed_documents(alloc, index, part, number, field, text)
@@ -139,6 +144,7 @@ pub fn word_documents(
     ensures only { (s : Schema) (documents : List Placed) (p : Parts) → IsSearched part.now s documents p → slice_get s.fields number ≡ Some field.now
         → field.now.indexed ≡ true
         → MatchResult result (IsSetOf (λ d. word_holds field.now text.now (values_in d number)) documents) (LacksLookups part.now s documents p (text_lookups field.now number text.now)) }
+    ensures reads { ReadsAll part.now (text_lookups field.now number text.now) result }
 {
     if is_text(field.kind) && !field.positions {
         gathered_documents(alloc, index, part, number, field, text)
@@ -162,6 +168,7 @@ fn item_documents(
     ensures only { (s : Schema) (documents : List Placed) (p : Parts) → IsSearched part.now s documents p → slice_get s.fields number ≡ Some field.now
         → field.now.indexed ≡ true → (item.now.quoted ≡ true → CanPlace field.now item.now.text)
         → MatchResult result (IsSetOf (λ d. item_holds field.now (values_in d number) item.now) documents) (LacksLookups part.now s documents p (text_lookups field.now number item.now.text)) }
+    ensures reads { ReadsAll part.now (text_lookups field.now number item.now.text) result }
 {
     if item.quoted {
         quoted_documents(alloc, index, part, number, field, item.text.as_str())
@@ -185,6 +192,7 @@ pub fn some_documents(
     ensures only { (s : Schema) (documents : List Placed) (p : Parts) → IsSearched part.now s documents p → slice_get s.fields number ≡ Some field.now
         → field.now.indexed ≡ true → CanPlaceEach field.now items.now
         → MatchResult result (IsSetOf (λ d. some_item_holds field.now (values_in d number) items.now) documents) (LacksLookups part.now s documents p (item_lookups field.now number items.now)) }
+    ensures reads { ReadsAll part.now (item_lookups field.now number items.now) result }
 {
     let mut bits = no_documents(alloc, part)?;
     for item in items {

@@ -10,7 +10,9 @@ ghost use Rattle.split_bundle.specs.Files.{Parts};
 ghost use Rattle.split_bundle.specs.Keys.{field_key, presence_key};
 ghost use Rattle.doc_sets.specs.Values.{Has64};
 ghost use Rattle.doc_sets.specs.Needed.{IsSearched, LacksKeys};
+ghost use Rattle.doc_sets.specs.Reads.{ReadsAll};
 ghost use Rattle.doc_sets.specs.Sets.{IsSetOf};
+ghost use Rattle.doc_sets.specs.declared.dictionary_lookup.Lookup.TheVariants.{Documents};
 
 use crate::bits::DocBits;
 use crate::laws::{presence_by_keys, value_by_keys};
@@ -47,6 +49,7 @@ pub fn present_documents(
     ensures size { IfOk result (λ b. b.size ≡ part.now.footer.layout.docs) }
     ensures only { (s : Schema) (documents : List Placed) (p : Parts) (f : Field) → IsSearched part.now s documents p → slice_get s.fields number ≡ Some f → f.indexed ≡ true
         → MatchResult result (IsSetOf (λ d. is_there (values_in d number)) documents) (LacksKeys part.now s documents p (presence_key number ∷ [])) }
+    ensures reads { ReadsAll part.now (Documents (presence_key number) ∷ []) result }
 {
     presence_by_keys();
     let key = presence_bytes(alloc, number)?;
@@ -100,6 +103,7 @@ pub(crate) fn value_documents(
     ensures only { (s : Schema) (documents : List Placed) (p : Parts) → IsSearched part.now s documents p → slice_get s.fields number ≡ Some field.now
         → field.now.indexed ≡ true → is_text field.now.kind ≡ false → IsOfKind field.now.kind value.now
         → MatchResult result (IsSetOf (λ d. equals_some (Some value.now) (values_in d number)) documents) (LacksKeys part.now s documents p (field_key number (term_bytes value.now) ∷ [])) }
+    ensures reads { ReadsAll part.now (Documents (field_key number (term_bytes value.now)) ∷ []) result }
 {
     value_by_keys();
     has_64(value);

@@ -1,13 +1,15 @@
 // The documents with the tokens of a text.
 
-ghost use Rattle.std.specs.Prelude.{◌≡◌, ◌<◌, ◌∷◌, [], true, List, Some, slice_get, IfOk, MatchResult};
+ghost use Rattle.std.specs.Prelude.{◌≡◌, ◌<◌, ◌∷◌, [], true, List, Some, map, slice_get, IfOk, MatchResult};
 ghost use Rattle.doc_value.specs.declared.schema.Schema.{Schema};
 ghost use Rattle.query_ast.specs.Meaning.{values_in, is_text, some_has_token, each_stands};
 ghost use Rattle.split_bundle.specs.declared.placed.Placed.{Placed};
 ghost use Rattle.split_bundle.specs.Files.{Parts};
 ghost use Rattle.split_bundle.specs.Keys.{field_key};
 ghost use Rattle.doc_sets.specs.Needed.{IsSearched, LacksKeys, token_keys};
+ghost use Rattle.doc_sets.specs.Reads.{ReadsAll};
 ghost use Rattle.doc_sets.specs.Sets.{IsSetOf};
+ghost use Rattle.doc_sets.specs.declared.dictionary_lookup.Lookup.TheVariants.{Documents};
 
 use crate::bits::DocBits;
 use crate::laws::word_by_keys;
@@ -47,6 +49,7 @@ pub(crate) fn token_documents(
     ensures only { (s : Schema) (documents : List Placed) (p : Parts) → IsSearched part.now s documents p → slice_get s.fields number ≡ Some field.now
         → field.now.indexed ≡ true → is_text field.now.kind ≡ true
         → MatchResult result (IsSetOf (λ d. some_has_token field.now term.now (values_in d number)) documents) (LacksKeys part.now s documents p (field_key number term.now ∷ [])) }
+    ensures reads { ReadsAll part.now (Documents (field_key number term.now) ∷ []) result }
 {
     word_by_keys();
     let key = key_bytes(alloc, number, term)?;
@@ -68,6 +71,7 @@ pub(crate) fn each_documents(
     ensures only { (s : Schema) (documents : List Placed) (p : Parts) → IsSearched part.now s documents p → slice_get s.fields number ≡ Some field.now
         → field.now.indexed ≡ true → is_text field.now.kind ≡ true
         → MatchResult result (IsSetOf (λ d. each_stands field.now tokens.now (values_in d number)) documents) (LacksKeys part.now s documents p (token_keys number tokens.now)) }
+    ensures reads { ReadsAll part.now (map Documents (token_keys number tokens.now)) result }
 {
     let mut bits = all_documents(alloc, part)?;
     for token in tokens {

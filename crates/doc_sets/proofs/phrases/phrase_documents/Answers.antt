@@ -1,4 +1,7 @@
-use Rattle.std.proofs.Common.{◌≡◌, ◌∙◌, ◌≤◌, ◌∷◌, [], ℕ, List, true, false, length, MatchResult, ap, sym, subst, arith}
+use Rattle.doc_sets.specs.Reads.{ReadsAll}
+use Rattle.doc_sets.proofs.ReadLookups.{phrase_reads}
+use Rattle.doc_sets.specs.declared.dictionary_lookup.Lookup.TheVariants.{Documents}
+use Rattle.std.proofs.Common.{◌≡◌, ◌∙◌, ◌≤◌, ◌∷◌, [], ℕ, List, true, false, length, MatchResult, ap, sym, subst, arith, Ok}
 use Rattle.query_ast.specs.Meaning.{first_position, phrase_holds, some_has_token, values_in}
 use Rattle.split_bundle.specs.Keys.{field_key}
 use Rattle.text_tokens.specs.declared.tokens.Token.{Token}
@@ -49,3 +52,17 @@ returns-in_ok-no_documents-in-len2-up-clause-only c = λ s documents p is got on
     ap (λ m. are_close m phrase) (sym (first_is c.first-item.result phrase (omega (arith, many)) c.first-item.is)) ∙ (sym c.are_close.ensures ∙ c.if-are_close.false) in
     set_same (λ d. AllNear f (values_in d.doc n)) c.in_ok-no_documents-in-len2-up.field-0 (λ d. false) (λ d. phrase_holds f phrase (values_in d n)) documents (is.near n f got)
     (λ d h. sym (phrase_of_two f phrase (values_in d.doc n) many ∙ far_phrase f phrase (values_in d.doc n) far h)) (c.in_ok-no_documents-in-len2-up.ensures.only s documents p is)
+
+pub returns-in-len1-clause-reads : goal.returns-in-len1-clause-reads
+returns-in-len1-clause-reads c =
+    let n = c.args.number in
+    let v = c.args.part.now in
+    let whole = one_item c.only-item.result c.args.phrase.now (omega (arith, c.in-len1.len_at_least)) (omega (arith, c.in-len1.len_below)) c.only-item.is in
+    subst (λ (ts : List Token). ReadsAll v (lookups_for (token_keys n ts)) c.token_documents.result) (sym whole)
+    (subst (λ (t : List ℕ). ReadsAll v (Documents (field_key n t) ∷ []) c.token_documents.result) c.as_slice.ensures c.token_documents.ensures.reads)
+
+pub returns-then-are_close-clause-reads : goal.returns-then-are_close-clause-reads
+returns-then-are_close-clause-reads c = phrase_reads c.args.part.now c.args.number c.args.phrase.now c.several_documents.result c.in-len2-up.len_at_least
+
+pub returns-in_ok-no_documents-in-len2-up-clause-reads : goal.returns-in_ok-no_documents-in-len2-up-clause-reads
+returns-in_ok-no_documents-in-len2-up-clause-reads c = phrase_reads c.args.part.now c.args.number c.args.phrase.now (Ok c.in_ok-no_documents-in-len2-up.field-0) c.in-len2-up.len_at_least

@@ -1,3 +1,5 @@
+use Rattle.doc_sets.proofs.ReadLookups.{each_reads}
+use Rattle.doc_sets.specs.Reads.{ReadsAll}
 use Rattle.std.proofs.Common.{◌≡◌, ◌∙◌, ◌<◌, List, length, sym, subst, MatchResult}
 use Rattle.query_ast.specs.FieldTokens.{field_tokens}
 use Rattle.query_ast.specs.Meaning.{each_holds, each_stands, values_in}
@@ -25,3 +27,10 @@ returns-clause-only c = λ s documents p is got on kind.
     (λ d. each_some f (field_tokens f text) (values_in d n) some)
     (subst (λ (ts : List Token). MatchResult c.each_documents.result (IsSetOf (λ d. each_stands f ts (values_in d n)) documents) (LacksKeys v s documents p (token_keys n ts))) tok
     (c.each_documents.ensures.only s documents p is got on kind)))
+
+pub returns-clause-reads : goal.returns-clause-reads
+returns-clause-reads c =
+    let n = c.args.number in
+    let v = c.args.part.now in
+    let tok : c.as_slice-2.result.now ≡ field_tokens c.args.field.now c.args.text.now = c.as_slice-2.ensures ∙ c.in_ok-tokens.ensures in
+    subst (λ (ts : List Token). ReadsAll v (lookups_for (token_keys n ts)) c.each_documents.result) tok (each_reads v (token_keys n c.as_slice-2.result.now) c.each_documents.result c.each_documents.ensures.reads)

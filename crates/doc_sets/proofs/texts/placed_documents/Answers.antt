@@ -1,3 +1,4 @@
+use Rattle.doc_sets.specs.Reads.{ReadsAll}
 use Rattle.std.proofs.Common.{◌≡◌, ◌∙◌, ◌≤◌, ◌⊎◌, true, List, length, sym, subst, MatchResult}
 use Rattle.query_ast.specs.FieldTokens.{field_tokens}
 use Rattle.query_ast.specs.Meaning.{phrase_holds, values_in}
@@ -21,3 +22,8 @@ returns-clause-only c = λ s documents p is got on kind place.
     let behind = subst AreBehindFirst (sym tok) (tokens_behind f text) in
     subst (λ (ts : List Token). MatchResult c.phrase_documents.result (IsSetOf (λ d. phrase_holds f ts (values_in d n)) documents) (LacksLookups v s documents p (lookups_for (token_keys n ts)))) tok
     (c.phrase_documents.ensures.only s documents p is got on kind can behind)
+
+pub returns-clause-reads : goal.returns-clause-reads
+returns-clause-reads c =
+    let tok : c.as_slice.result.now ≡ field_tokens c.args.field.now c.args.text.now = c.as_slice.ensures ∙ c.in_ok-tokens.ensures in
+    subst (λ (ts : List Token). ReadsAll c.args.part.now (lookups_for (token_keys c.args.number ts)) c.phrase_documents.result) tok c.phrase_documents.ensures.reads

@@ -1,3 +1,6 @@
+use Rattle.doc_sets.specs.declared.dictionary_lookup.Lookup.TheVariants.{Documents}
+use Rattle.doc_sets.proofs.ReadLookups.{key_reads}
+use Rattle.doc_sets.specs.Reads.{ReadsAll}
 use Rattle.std.proofs.Common.{◌≡◌, ◌∙◌, ◌∷◌, [], Some, ap, sym, subst, arith}
 use Rattle.doc_value.specs.Documents.{IsOfSchema}
 use Rattle.doc_value.specs.Terms.{term_bytes}
@@ -25,3 +28,9 @@ returns-clause-only c = λ s documents p is got on no_text of_kind.
     (λ d h. ap (λ k. has_key k (keys_of s d.doc)) key ∙ sym (c.value_by_keys.ensures s n f w d.doc got (omega (arith, c.requires.number)) on no_text (kinds_in s n f d.doc got h.0) of_kind h.1 c.has_64.ensures))
     (λ e h. subst (λ k. LacksKeys v s documents p (k ∷ []) e) key h)
     (c.key_documents.ensures.only s documents p is flag)
+
+pub returns-clause-reads : goal.returns-clause-reads
+returns-clause-reads c =
+    let key : c.deref.result.now ≡ field_key c.args.number (term_bytes c.args.value.now) = c.deref.ensures.value ∙ c.in_ok-key.ensures in
+    let h = c.key_documents.ensures.exact in
+    subst (λ k. ReadsAll c.args.part.now (Documents k ∷ []) c.key_documents.result) key (key_reads c.args.part.now c.deref.result.now c.args.field.now.positions c.key_documents.result h.0 h.1 h.2)

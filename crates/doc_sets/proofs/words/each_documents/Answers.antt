@@ -1,4 +1,7 @@
-use Rattle.std.proofs.Common.{◌∙◌, ◌&&◌, ◌∷◌, [], sym, ap, subst}
+use Rattle.doc_sets.specs.declared.dictionary_lookup.Lookup.TheVariants.{Documents}
+use Rattle.doc_sets.proofs.ReadLookups.{meets_first, met, met_wider, tokens_from}
+use Rattle.doc_sets.specs.Reads.{AreRead, MetBy, SomeMeets}
+use Rattle.std.proofs.Common.{◌∙◌, ◌&&◌, ◌∷◌, [], sym, ap, subst, ◌+◌, true, refl, drop, map, inr}
 use Rattle.doc_sets.specs.Needed.{AsksKey, LacksKeys, token_keys}
 use Rattle.doc_sets.specs.Sets.{IsSetOf}
 use Rattle.query_ast.specs.Meaning.{some_has_token, each_stands, values_in}
@@ -19,7 +22,41 @@ loop-token-preserved c = record {
             (subst (λ t. IsSetOf (λ d. some_has_token c.args.field.now t (values_in d c.args.number)) documents c.in_ok-other.other) c.as_slice.ensures (c.in_ok-other.ensures.only s documents p is got on kind)),
         λ d. token_step c.args.field.now (values_in d c.args.number) c.token-item.result c.args.tokens.now c.loop-token.token-index (i.0 d) c.loop-token-test.true c.token-item.is ∙ i.2 d,
       );
+  read = λ h.
+      let n = c.args.number in
+      let v = c.args.part.now in
+      let one = subst (λ t. AreRead v (Documents (field_key n t) ∷ [])) c.as_slice.ensures c.in_ok-other.ensures.reads in
+      c.loop-token.invariant.read (subst (AreRead v) (sym (tokens_from n c.loop-token.token-index c.token-item.result c.args.tokens.now c.loop-token-test.true c.token-item.is)) (one.0, h));
+  meets = λ e h.
+      let n = c.args.number in
+      let v = c.args.part.now in
+      c.loop-token.invariant.meets e (subst (λ ls. SomeMeets v ls e) (sym (tokens_from n c.loop-token.token-index c.token-item.result c.args.tokens.now c.loop-token-test.true c.token-item.is)) (inr h));
 }
+
+pub loop-token-init : goal.loop-token-init
+loop-token-init c = record {
+  size = c.in_ok-bits.ensures.size;
+  only = λ s documents p is got on kind. (λ d. true, c.in_ok-bits.ensures.only s documents p is, λ d. refl);
+  read = λ h. h;
+  meets = λ e h. h;
+}
+
+pub returns-in_err-other-clause-reads : goal.returns-in_err-other-clause-reads
+returns-in_err-other-clause-reads c =
+    let n = c.args.number in
+    let v = c.args.part.now in
+    let i = c.loop-token.token-index in
+    let x = c.token-item.result in
+    let ts = c.args.tokens.now in
+    let e = c.in_err-other.field-0.0 in
+    let cause = subst (λ t. MetBy v (Documents (field_key n t) ∷ []) e) c.as_slice.ensures c.in_err-other.ensures.reads in
+    met v (map Documents (token_keys n ts)) c.from_residual-in_err-other.result e c.from_residual-in_err-other.ensures.1
+    (met_wider v (Documents (field_key n x.text) ∷ []) (map Documents (token_keys n ts)) e
+    (λ f h. c.loop-token.invariant.meets f (subst (λ ls. SomeMeets v ls f) (sym (tokens_from n i x ts c.loop-token-test.true c.token-item.is)) (meets_first v (Documents (field_key n x.text) ∷ []) (map Documents (token_keys n (drop (i + 1) ts))) f h))) cause)
+
+pub returns-clause-reads : goal.returns-clause-reads
+returns-clause-reads c =
+    c.loop-token.invariant.read (subst (λ ts. AreRead c.args.part.now (map Documents (token_keys c.args.number ts))) (sym (none_behind c.args.tokens.now c.loop-token.token-index c.loop-token-test.false)) tt)
 
 pub returns-in_err-other-clause-only : goal.returns-in_err-other-clause-only
 returns-in_err-other-clause-only c = λ s documents p is got on kind.
