@@ -12,3 +12,5 @@ pub mod ReadBounds
 pub mod ColumnNames
 pub mod SetCounts
 pub mod QueryCounts
+pub mod ReadQueries
+pub mod FoundWalks

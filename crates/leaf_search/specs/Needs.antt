@@ -1,5 +1,9 @@
 -- Which ranges of a split file a request needs.
-use Rattle.std.specs.Prelude.{◌≡◌, ◌≢◌, ℕ, ◌<◌, ◌⊎◌, List, None}
+use Rattle.doc_sets.specs.declared.dictionary_lookup.Lookup.TheVariants.{Count, Documents, Places, Walk}
+use Rattle.doc_sets.specs.declared.dictionary_lookup.Lookup.{Lookup}
+use Rattle.term_dict.specs.declared.term.TermInfo.{TermInfo}
+use Rattle.doc_sets.specs.Reads.{Finds, ReadsWalk}
+use Rattle.std.specs.Prelude.{◌≡◌, ◌≢◌, ℕ, ◌<◌, ◌⊎◌, List, None, [], ◌∷◌, Option, Ok}
 use Rattle.std.specs.List.{AllByRecursion}
 use Rattle.doc_value.specs.declared.schema.Schema.{Schema}
 use Rattle.split_bundle.specs.declared.part_view.PartView.{PartView}
@@ -40,3 +44,18 @@ NeedsLists v s documents p r at len =
 -- each range has a piece that holds it
 abbrev pub AreHeld : List FilePiece → List FileRange → Type 0
 AreHeld pieces rs = AllByRecursion (λ r. held_in pieces r.start r.len ≢ None) rs
+
+-- each block that can have keys which begin so is read, and its terms up to the first one behind them
+abbrev pub IsWalkFound : PartView → List ℕ → Type 0
+IsWalkFound v prefix = ReadsWalk v (λ t. Ok []) prefix (Ok [])
+
+-- the dictionary is read at the key of what is looked up, where its list is named, and of a walk at all its keys
+abbrev pub IsFound : PartView → Lookup → Type 0
+IsFound v (Count key) = Unit {0}
+IsFound v (Documents key) = (found : Option TermInfo) × Finds v key (Ok found)
+IsFound v (Places key) = (found : Option TermInfo) × Finds v key (Ok found)
+IsFound v (Walk prefix wanted) = IsWalkFound v prefix
+
+abbrev pub AreFound : PartView → List Lookup → Type 0
+AreFound v [] = Unit {0}
+AreFound v (l ∷ ls) = IsFound v l × AreFound v ls

@@ -8,6 +8,7 @@ ghost use Rattle.split_bundle.specs.declared.placed.Placed.{Placed};
 ghost use Rattle.split_bundle.specs.Files.{Parts};
 ghost use Rattle.doc_sets.specs.Asking.{LacksLookups};
 ghost use Rattle.doc_sets.specs.Needed.{IsSearched};
+ghost use Rattle.doc_sets.specs.Reads.{ReadsAll};
 ghost use Rattle.doc_sets.specs.Sets.{IsSetOf};
 ghost use Rattle.leaf_search.specs.Asks.{lookups_of, lookups_of_each};
 
@@ -35,6 +36,7 @@ pub(crate) fn matching(
     ensures size { IfOk result (λ b. b.size ≡ part.now.footer.layout.docs) }
     ensures only { (documents : List Placed) (p : Parts) → IsSearched part.now schema.now documents p → CanAsk schema.now (view query.now)
         → MatchResult result (IsSetOf (λ d. meaning schema.now d (view query.now)) documents) (LacksLookups part.now schema.now documents p (lookups_of schema.now (view query.now))) }
+    ensures reads { ReadsAll part.now (lookups_of schema.now (view query.now)) result }
 {
     match query {
         Query::All => Ok(all_documents(alloc, part)?),
@@ -79,6 +81,7 @@ fn all_matching(
     ensures size { IfOk result (λ b. b.size ≡ part.now.footer.layout.docs) }
     ensures only { (documents : List Placed) (p : Parts) → IsSearched part.now schema.now documents p → CanAskEach schema.now (view_all parts.now)
         → MatchResult result (IsSetOf (λ d. all_hold schema.now d (view_all parts.now)) documents) (LacksLookups part.now schema.now documents p (lookups_of_each schema.now (view_all parts.now))) }
+    ensures reads { ReadsAll part.now (lookups_of_each schema.now (view_all parts.now)) result }
 {
     let mut bits = all_documents(alloc, part)?;
     for each in parts {
@@ -102,6 +105,7 @@ fn some_matching(
     ensures size { IfOk result (λ b. b.size ≡ part.now.footer.layout.docs) }
     ensures only { (documents : List Placed) (p : Parts) → IsSearched part.now schema.now documents p → CanAskEach schema.now (view_all parts.now)
         → MatchResult result (IsSetOf (λ d. some_hold schema.now d (view_all parts.now)) documents) (LacksLookups part.now schema.now documents p (lookups_of_each schema.now (view_all parts.now))) }
+    ensures reads { ReadsAll part.now (lookups_of_each schema.now (view_all parts.now)) result }
 {
     let mut bits = no_documents(alloc, part)?;
     for each in parts {

@@ -8,6 +8,7 @@ ghost use Rattle.split_bundle.specs.declared.placed.Placed.{Placed};
 ghost use Rattle.split_bundle.specs.Files.{Parts};
 ghost use Rattle.doc_sets.specs.Asking.{LacksLookups};
 ghost use Rattle.doc_sets.specs.Needed.{IsSearched};
+ghost use Rattle.doc_sets.specs.Reads.{ReadsAll};
 ghost use Rattle.doc_sets.specs.Sets.{IsSetOf};
 ghost use Rattle.leaf_search.specs.Asks.{lookups_of};
 
@@ -47,6 +48,7 @@ pub(crate) fn with_word(
     ensures size { IfOk result (λ b. b.size ≡ part.now.footer.layout.docs) }
     ensures only { (documents : List Placed) (p : Parts) → IsSearched part.now schema.now documents p → CanAsk schema.now (sought.Word number text.now)
         → MatchResult result (IsSetOf (λ d. meaning schema.now d (sought.Word number text.now)) documents) (LacksLookups part.now schema.now documents p (lookups_of schema.now (sought.Word number text.now))) }
+    ensures reads { ReadsAll part.now (lookups_of schema.now (sought.Word number text.now)) result }
 {
     match field_at(schema, number) {
         Some(field) => word_documents(alloc, index, part, number, field, text),
@@ -68,6 +70,7 @@ pub(crate) fn with_quoted(
     ensures size { IfOk result (λ b. b.size ≡ part.now.footer.layout.docs) }
     ensures only { (documents : List Placed) (p : Parts) → IsSearched part.now schema.now documents p → CanAsk schema.now (sought.Quoted number text.now)
         → MatchResult result (IsSetOf (λ d. meaning schema.now d (sought.Quoted number text.now)) documents) (LacksLookups part.now schema.now documents p (lookups_of schema.now (sought.Quoted number text.now))) }
+    ensures reads { ReadsAll part.now (lookups_of schema.now (sought.Quoted number text.now)) result }
 {
     match field_at(schema, number) {
         Some(field) => quoted_documents(alloc, index, part, number, field, text),
@@ -89,6 +92,7 @@ pub(crate) fn with_prefix(
     ensures size { IfOk result (λ b. b.size ≡ part.now.footer.layout.docs) }
     ensures only { (documents : List Placed) (p : Parts) → IsSearched part.now schema.now documents p → CanAsk schema.now (sought.Prefix number text.now)
         → MatchResult result (IsSetOf (λ d. meaning schema.now d (sought.Prefix number text.now)) documents) (LacksLookups part.now schema.now documents p (lookups_of schema.now (sought.Prefix number text.now))) }
+    ensures reads { ReadsAll part.now (lookups_of schema.now (sought.Prefix number text.now)) result }
 {
     match field_at(schema, number) {
         Some(field) => prefix_documents(alloc, index, part, number, field, text),
@@ -109,6 +113,7 @@ pub(crate) fn with_value(
     ensures size { IfOk result (λ b. b.size ≡ part.now.footer.layout.docs) }
     ensures only { (documents : List Placed) (p : Parts) → IsSearched part.now schema.now documents p → CanAsk schema.now (sought.Exists number)
         → MatchResult result (IsSetOf (λ d. meaning schema.now d (sought.Exists number)) documents) (LacksLookups part.now schema.now documents p (lookups_of schema.now (sought.Exists number))) }
+    ensures reads { ReadsAll part.now (lookups_of schema.now (sought.Exists number)) result }
 {
     match field_at(schema, number) {
         Some(_field) => present_documents(alloc, index, part, number),
@@ -131,6 +136,7 @@ pub(crate) fn within_range(
     ensures size { IfOk result (λ b. b.size ≡ part.now.footer.layout.docs) }
     ensures only { (documents : List Placed) (p : Parts) → IsSearched part.now schema.now documents p → CanAsk schema.now (sought.Range number low.now high.now)
         → MatchResult result (IsSetOf (λ d. meaning schema.now d (sought.Range number low.now high.now)) documents) (LacksLookups part.now schema.now documents p (lookups_of schema.now (sought.Range number low.now high.now))) }
+    ensures reads { ReadsAll part.now (lookups_of schema.now (sought.Range number low.now high.now)) result }
 {
     match field_at(schema, number) {
         Some(field) => range_documents(alloc, index, part, number, field, low, high),
@@ -152,6 +158,7 @@ pub(crate) fn with_some(
     ensures size { IfOk result (λ b. b.size ≡ part.now.footer.layout.docs) }
     ensures only { (documents : List Placed) (p : Parts) → IsSearched part.now schema.now documents p → CanAsk schema.now (sought.AnyOf number items.now)
         → MatchResult result (IsSetOf (λ d. meaning schema.now d (sought.AnyOf number items.now)) documents) (LacksLookups part.now schema.now documents p (lookups_of schema.now (sought.AnyOf number items.now))) }
+    ensures reads { ReadsAll part.now (lookups_of schema.now (sought.AnyOf number items.now)) result }
 {
     match field_at(schema, number) {
         Some(field) => some_documents(alloc, index, part, number, field, items),

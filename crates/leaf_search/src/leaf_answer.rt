@@ -8,6 +8,7 @@ ghost use Rattle.split_bundle.specs.Files.{Parts, file_bytes};
 ghost use Rattle.split_bundle.specs.Lending.{IsPartOf};
 ghost use Rattle.split_bundle.specs.Wholes.{HaveAll};
 ghost use Rattle.doc_sets.specs.Faults.{HasCause, IsMemory};
+ghost use Rattle.doc_sets.specs.Reads.{AreRead, ReadsAll};
 ghost use Rattle.doc_sets.specs.Sets.{IsSetOf};
 ghost use Rattle.query_ast.specs.Meaning.{meaning};
 ghost use Rattle.query_ast.specs.Sought.{view as query_view};
@@ -52,6 +53,9 @@ pub fn leaf(
     // Over any bytes.
     ensures partial { IfOk result (λ a. IsPartialOf request.now.aggs a.partial) }
     ensures many { IfOk result (λ a. documents_in a.partial ≡ a.count) }
+    // What is looked up is read where there is an answer. Where documents are only counted, a fault is that of something which is looked up.
+    ensures read { IfOk result (λ a. AreRead view.now (counts.read_lookups schema.now request.now)) }
+    ensures faults { counts.only_counts request.now ≡ true → ReadsAll view.now (counts.read_lookups schema.now request.now) result }
 {
     match counted_key(alloc, schema, request)? {
         Some(key) => counted(alloc, request, view, key.as_slice()),
@@ -75,6 +79,8 @@ fn evaluated(
         → MatchResult result (IsAnswerOf schema.now request.now documents) IsMemory }
     ensures partial { IfOk result (λ a. IsPartialOf request.now.aggs a.partial) }
     ensures many { IfOk result (λ a. documents_in a.partial ≡ a.count) }
+    ensures read { IfOk result (λ a. AreRead view.now (counts.evaluated_lookups schema.now request.now)) }
+    ensures faults { counts.only_counts request.now ≡ true → ReadsAll view.now (counts.evaluated_lookups schema.now request.now) result }
 {
     if only_counts(request) {
         return query_counted(alloc, schema, request, view);
@@ -101,6 +107,7 @@ fn query_counted(
         → MatchResult result (IsAnswerOf schema.now request.now documents) IsMemory }
     ensures partial { IfOk result (λ a. IsPartialOf request.now.aggs a.partial) }
     ensures many { IfOk result (λ a. documents_in a.partial ≡ a.count) }
+    ensures reads { ReadsAll view.now (counts.count_lookups schema.now (query_view request.now.query)) result }
 {
     let count = matching_count(alloc, view, schema, &request.query)?;
     Ok(answer_of_many(alloc, request, count)?)

@@ -1,9 +1,9 @@
 // The lists and positions of the terms that are asked for.
 
-ghost use Rattle.std.specs.Prelude.{◌≡◌, ◌<◌, ◌≤◌, ◌⊎◌, ℕ, List, Some, true, length, OnOk, MatchResult};
+ghost use Rattle.std.specs.Prelude.{◌≡◌, ◌<◌, ◌≤◌, ◌⊎◌, ℕ, List, [], Ok, Some, true, length, IfOk, OnOk, MatchResult};
 ghost use Rattle.std.specs.List.{AllByRecursion};
 ghost use Rattle.doc_value.specs.declared.schema.Schema.{Schema};
-ghost use Rattle.term_dict.specs.Readers.{Lends};
+ghost use Rattle.term_dict.specs.Readers.{Lends, is_before_end};
 ghost use Rattle.term_dict.specs.Terms.{lookup};
 ghost use Rattle.term_dict.specs.declared.term.Term.{Term};
 ghost use Rattle.split_bundle.specs.declared.placed.Placed.{Placed};
@@ -12,8 +12,11 @@ ghost use Rattle.split_bundle.specs.Lists.{keeps_places, terms_of};
 ghost use Rattle.doc_sets.specs.Asking.{AsksBlockOf, AsksBlocks, AsksListOf, AsksLists};
 ghost use Rattle.doc_sets.specs.Faults.{HasCause, IsMemory};
 ghost use Rattle.doc_sets.specs.Needed.{ArePlacesFor, IsBlockFor, IsListFor, IsSearched};
+ghost use Rattle.doc_sets.specs.Reads.{ReadsBlock, terms_read};
 ghost use Rattle.doc_sets.specs.Walks.{AsksIf, AsksTerms, AsksWalkBlock, AsksWalkList, IsBlock, begun_in};
+ghost use Rattle.doc_sets.specs.declared.dictionary_lookup.Lookup.TheVariants.{Documents, Places};
 ghost use Rattle.leaf_search.specs.FileRanges.{AddsParts};
+ghost use Rattle.leaf_search.specs.Needs.{AreFound, IsFound, IsWalkFound};
 
 use crate::file_ranges::Ranges;
 use crate::joining::name_part;
@@ -69,8 +72,9 @@ fn name_places(part: &PartView, ranges: &mut Ranges, info: &TermInfo) -> Result<
 
 // Names the list of a key.
 fn name_key_list(part: &PartView, ranges: &mut Ranges, key: &[u8]) -> Result<(), LeafError>
-    ensures { (s : Schema) (documents : List Placed) (p : Parts) → IsSearched part.now s documents p
+    ensures only { (s : Schema) (documents : List Placed) (p : Parts) → IsSearched part.now s documents p
         → MatchResult result (λ u. AddsParts (IsListFor part.now s documents p key.now) ranges.old ranges.new) (HasCause (IsBlockFor part.now s documents p key.now) part.now.pieces) }
+    ensures read { IfOk result (λ u. IsFound part.now (Documents key.now)) }
 {
     match term_at(part.footer().index(), part, key)? {
         Some(info) => Ok(name_list(part, ranges, &info)?),
@@ -103,9 +107,10 @@ fn name_key_places(
     ranges: &mut Ranges,
     key: &[u8],
 ) -> Result<(), LeafError>
-    ensures { (documents : List Placed) (p : Parts) → IsSearched part.now schema.now documents p
+    ensures only { (documents : List Placed) (p : Parts) → IsSearched part.now schema.now documents p
         → MatchResult result (λ u. AddsParts (λ at len. IsListFor part.now schema.now documents p key.now at len ⊎ ArePlacesFor part.now schema.now documents p key.now at len) ranges.old ranges.new)
         (HasCause (IsBlockFor part.now schema.now documents p key.now) part.now.pieces) }
+    ensures read { IfOk result (λ u. IsFound part.now (Places key.now)) }
 {
     match term_at(part.footer().index(), part, key)? {
         Some(info) => Ok(name_both(part, schema, ranges, key, &info)?),
@@ -138,9 +143,11 @@ fn name_terms(
     mut terms: TermRange,
     wanted: Wanted,
 ) -> Result<(), LeafError>
-    ensures { (s : Schema) (documents : List Placed) (p : Parts) (lent : List Term) → IsSearched part.now s documents p
+    ensures only { (s : Schema) (documents : List Placed) (p : Parts) (lent : List Term) → IsSearched part.now s documents p
         → Lends terms.entry lent → length lent ≤ 64 → AllByRecursion (λ t. lookup t.key (terms_of s documents p.keys) ≡ Some t.info) lent
         → MatchResult result (λ u. AddsParts (AsksTerms part.now s documents p wanted lent) ranges.old ranges.new) IsMemory }
+    // Over any bytes: each term is read.
+    ensures read { IfOk result (λ u. terms_read (λ t. Ok []) 65 (is_before_end terms.entry.end) terms.entry.area.now terms.entry.at ≡ Ok []) }
 {
     for taken in 0..65u32 {
         match terms.next() {
@@ -167,9 +174,10 @@ fn name_block_lists(
     wanted: Wanted,
 ) -> Result<(), LeafError>
     requires { number < length part.now.footer.index }
-    ensures { (s : Schema) (documents : List Placed) (p : Parts) → IsSearched part.now s documents p
+    ensures only { (s : Schema) (documents : List Placed) (p : Parts) → IsSearched part.now s documents p
         → MatchResult result (λ u. AddsParts (AsksTerms part.now s documents p wanted (begun_in prefix.now (terms_of s documents p.keys) number)) ranges.old ranges.new)
         (HasCause (IsBlock s documents p number) part.now.pieces) }
+    ensures read { IfOk result (λ u. ReadsBlock part.now (λ t. Ok []) prefix.now number (Ok [])) }
 {
     if number > u32::MAX as usize {
         return Err(LeafError::Corrupt {
@@ -192,8 +200,9 @@ fn name_walk_lists(
     prefix: &[u8],
     wanted: Wanted,
 ) -> Result<(), LeafError>
-    ensures { (s : Schema) (documents : List Placed) (p : Parts) → IsSearched part.now s documents p
+    ensures only { (s : Schema) (documents : List Placed) (p : Parts) → IsSearched part.now s documents p
         → MatchResult result (λ u. AddsParts (AsksWalkList part.now s documents p prefix.now wanted) ranges.old ranges.new) (HasCause (AsksWalkBlock part.now s documents p prefix.now) part.now.pieces) }
+    ensures read { IfOk result (λ u. IsWalkFound part.now prefix.now) }
 {
     let blocks = part.footer().index().blocks_with(prefix);
     for number in blocks.start..blocks.end {
@@ -209,8 +218,9 @@ fn name_lookup_lists(
     ranges: &mut Ranges,
     lookup: &Lookup,
 ) -> Result<(), LeafError>
-    ensures { (documents : List Placed) (p : Parts) → IsSearched part.now schema.now documents p
+    ensures only { (documents : List Placed) (p : Parts) → IsSearched part.now schema.now documents p
         → MatchResult result (λ u. AddsParts (AsksListOf part.now schema.now documents p lookup.now) ranges.old ranges.new) (HasCause (AsksBlockOf part.now schema.now documents p lookup.now) part.now.pieces) }
+    ensures read { IfOk result (λ u. IsFound part.now lookup.now) }
 {
     match lookup {
         Lookup::Count(_key) => Ok(()),
@@ -227,8 +237,9 @@ pub(crate) fn name_lists(
     ranges: &mut Ranges,
     lookups: &[Lookup],
 ) -> Result<(), LeafError>
-    ensures { (documents : List Placed) (p : Parts) → IsSearched part.now schema.now documents p
+    ensures only { (documents : List Placed) (p : Parts) → IsSearched part.now schema.now documents p
         → MatchResult result (λ u. AddsParts (AsksLists part.now schema.now documents p lookups.now) ranges.old ranges.new) (HasCause (AsksBlocks part.now schema.now documents p lookups.now) part.now.pieces) }
+    ensures read { IfOk result (λ u. AreFound part.now lookups.now) }
 {
     for lookup in lookups {
         name_lookup_lists(part, schema, ranges, lookup)?;

@@ -8,7 +8,8 @@ ghost use Rattle.split_bundle.specs.Lending.{IsPartOf};
 ghost use Rattle.doc_sets.specs.Faults.{HasCause};
 ghost use Rattle.leaf_search.specs.Answers.{IsAsked};
 ghost use Rattle.leaf_search.specs.FileRanges.{AddsParts, AreApart, AreRangesOf};
-ghost use Rattle.leaf_search.specs.Needs.{NeedsBlocks, NeedsDocuments, NeedsLists};
+ghost use Rattle.leaf_search.specs.Needs.{AreFound, NeedsBlocks, NeedsDocuments, NeedsLists};
+ghost use Rattle.leaf_search.specs.Counts as counts;
 
 use crate::block_ranges::name_blocks;
 use crate::column_ranges::name_columns;
@@ -70,6 +71,8 @@ pub fn lists_needed(
         → MatchResult result (AreRangesOf (NeedsLists view.now schema.now documents p request.now)) (HasCause (NeedsBlocks view.now schema.now documents p request.now) view.now.pieces) }
     // Over any bytes.
     ensures apart { IfOk result AreApart }
+    // The dictionary is read at each key whose list is named.
+    ensures read { IfOk result (λ r. AreFound view.now (counts.request_lookups schema.now request.now)) }
 {
     let lookups = request_lookups(alloc, schema, request)?;
     let mut ranges = Ranges::vacant(alloc);

@@ -7,8 +7,10 @@ ghost use Rattle.split_bundle.specs.declared.placed.Placed.{Placed};
 ghost use Rattle.split_bundle.specs.Files.{Parts};
 ghost use Rattle.doc_sets.specs.Asking.{LacksLookups};
 ghost use Rattle.doc_sets.specs.Needed.{IsSearched};
+ghost use Rattle.doc_sets.specs.Reads.{ReadsAll};
 ghost use Rattle.leaf_search.specs.Askable.{CanAsk};
 ghost use Rattle.leaf_search.specs.Asks.{lookups_of};
+ghost use Rattle.leaf_search.specs.Counts.{count_lookups, plain_lookups};
 
 use crate::evaluate::matching;
 use crate::token_counts::{key_count, one_key};
@@ -26,8 +28,9 @@ fn set_count(
     query: &Query,
 ) -> Result<u32, LeafError>
     requires { length schema.now.fields ≤ 256 }
-    ensures { (documents : List Placed) (p : Parts) → IsSearched part.now schema.now documents p → CanAsk schema.now (view query.now)
+    ensures only { (documents : List Placed) (p : Parts) → IsSearched part.now schema.now documents p → CanAsk schema.now (view query.now)
         → MatchResult result (λ n. n ≡ length (filter (λ d. meaning schema.now d.doc (view query.now)) documents)) (LacksLookups part.now schema.now documents p (lookups_of schema.now (view query.now))) }
+    ensures reads { ReadsAll part.now (lookups_of schema.now (view query.now)) result }
 {
     let bits = matching(alloc, part.footer().index(), part, schema, query)?;
     Ok(bits.count())
@@ -41,8 +44,9 @@ fn plain_count(
     query: &Query,
 ) -> Result<u32, LeafError>
     requires { length schema.now.fields ≤ 256 }
-    ensures { (documents : List Placed) (p : Parts) → IsSearched part.now schema.now documents p → CanAsk schema.now (view query.now)
+    ensures only { (documents : List Placed) (p : Parts) → IsSearched part.now schema.now documents p → CanAsk schema.now (view query.now)
         → MatchResult result (λ n. n ≡ length (filter (λ d. meaning schema.now d.doc (view query.now)) documents)) (LacksLookups part.now schema.now documents p (lookups_of schema.now (view query.now))) }
+    ensures reads { ReadsAll part.now (plain_lookups schema.now (view query.now)) result }
 {
     match one_key(alloc, schema, query)? {
         Some(key) => key_count(part, key.as_slice()),
@@ -58,8 +62,9 @@ pub(crate) fn matching_count(
     query: &Query,
 ) -> Result<u32, LeafError>
     requires { length schema.now.fields ≤ 256 }
-    ensures { (documents : List Placed) (p : Parts) → IsSearched part.now schema.now documents p → CanAsk schema.now (view query.now)
+    ensures only { (documents : List Placed) (p : Parts) → IsSearched part.now schema.now documents p → CanAsk schema.now (view query.now)
         → MatchResult result (λ n. n ≡ length (filter (λ d. meaning schema.now d.doc (view query.now)) documents)) (LacksLookups part.now schema.now documents p (lookups_of schema.now (view query.now))) }
+    ensures reads { ReadsAll part.now (count_lookups schema.now (view query.now)) result }
 {
     match query {
         Query::Not(inner) => {

@@ -1,6 +1,6 @@
 // Requests that only count the documents of one token: the dictionary says how many these are.
 
-ghost use Rattle.std.specs.Prelude.{◌≡◌, ◌≤◌, [], length, slice_get, List, IfOk, MatchResult};
+ghost use Rattle.std.specs.Prelude.{◌≡◌, ◌≤◌, ◌∷◌, [], length, slice_get, List, IfOk, MatchResult};
 ghost use Rattle.std.specs.Option.{option_and_then};
 ghost use Rattle.doc_value.specs.declared.schema.Schema.{Schema};
 ghost use Rattle.query_ast.specs.Sought.{view as query_view};
@@ -11,7 +11,9 @@ ghost use Rattle.split_bundle.specs.Files.{Parts};
 ghost use Rattle.split_bundle.specs.Lists.{posting_list};
 ghost use Rattle.doc_sets.specs.Faults.{HasCause};
 ghost use Rattle.doc_sets.specs.Needed.{IsBlockFor, IsSearched};
+ghost use Rattle.doc_sets.specs.Reads.{ReadsAll};
 ghost use Rattle.doc_sets.specs.Texts as texts;
+ghost use Rattle.doc_sets.specs.declared.dictionary_lookup.Lookup.TheVariants.{Count};
 ghost use Rattle.leaf_search.specs.Counts as counts;
 
 use crate::fields::field_at;
@@ -110,8 +112,9 @@ pub(crate) fn answer_of_many(
 
 // How many documents have a key, by the dictionary alone.
 pub(crate) fn key_count(view: &PartView, key: &[u8]) -> Result<u32, LeafError>
-    ensures { (s : Schema) (documents : List Placed) (p : Parts) → IsSearched view.now s documents p
+    ensures only { (s : Schema) (documents : List Placed) (p : Parts) → IsSearched view.now s documents p
         → MatchResult result (λ n. n ≡ length (posting_list s documents key.now)) (HasCause (IsBlockFor view.now s documents p key.now) view.now.pieces) }
+    ensures reads { ReadsAll view.now (Count key.now ∷ []) result }
 {
     match term_at(view.footer().index(), view, key)? {
         Some(info) => Ok(info.docs),
@@ -132,6 +135,7 @@ pub(crate) fn counted(
         (HasCause (IsBlockFor view.now s documents p key.now) view.now.pieces) }
     ensures partial { IfOk result (λ a. IsPartialOf request.now.aggs a.partial) }
     ensures many { IfOk result (λ a. documents_in a.partial ≡ a.count) }
+    ensures reads { ReadsAll view.now (Count key.now ∷ []) result }
 {
     let count = key_count(view, key)?;
     Ok(answer_of_many(alloc, request, count)?)

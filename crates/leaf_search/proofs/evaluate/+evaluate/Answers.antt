@@ -1,4 +1,7 @@
-use Rattle.std.proofs.Common.{rules, ◌≡◌, ◌∙◌, ◌&&◌, ◌||◌, sym, ap, subst}
+use Rattle.doc_sets.specs.Reads.{AreRead, SomeMeets}
+use Rattle.doc_sets.proofs.ReadLookups.{meets_first, meets_others, met, met_wider, read_both}
+use Rattle.leaf_search.proofs.ReadQueries.{queries_from, query_reads}
+use Rattle.std.proofs.Common.{rules, ◌≡◌, ◌∙◌, ◌&&◌, ◌||◌, sym, ap, subst, ◌+◌, true, false, refl, drop}
 use Rattle.query_ast.specs.declared.query.Query.{the_lemmas}
 use Rattle.query_ast.specs.Meaning.{meaning, all_hold, some_hold}
 use Rattle.query_ast.specs.Sought.{And, Or, Prefix, Range, view, view_all}
@@ -23,6 +26,18 @@ all_matching-loop-each-preserved t c = record {
         c.keep_both.ensures.only i.0 (λ d. meaning s d (view x)) documents i.1 (c.in_ok-other.ensures.only documents p is (can_at s x c.args.parts.now c.loop-each.each-index c.loop-each-test.true c.each-item.is can)),
         λ d. all_step s d x c.args.parts.now c.loop-each.each-index (i.0 d) c.loop-each-test.true c.each-item.is ∙ i.2 d,
       );
+  read = λ h.
+      let s = c.args.schema.now in
+      let v = c.args.part.now in
+      let x = c.each-item.result in
+      let more = lookups_of_each s (view_all (drop (c.loop-each.each-index + 1) c.args.parts.now)) in
+      c.loop-each.invariant.read (subst (AreRead v) (sym (queries_from s c.loop-each.each-index x c.args.parts.now c.loop-each-test.true c.each-item.is)) (read_both v (lookups_of s (view x)) more c.in_ok-other.ensures.reads h));
+  meets = λ e h.
+      let s = c.args.schema.now in
+      let v = c.args.part.now in
+      let x = c.each-item.result in
+      let more = lookups_of_each s (view_all (drop (c.loop-each.each-index + 1) c.args.parts.now)) in
+      c.loop-each.invariant.meets e (subst (λ ls. SomeMeets v ls e) (sym (queries_from s c.loop-each.each-index x c.args.parts.now c.loop-each-test.true c.each-item.is)) (meets_others v (lookups_of s (view x)) more e h));
 }
 
 pub some_matching-loop-each-preserved : goal.some_matching-loop-each-preserved
@@ -36,6 +51,18 @@ some_matching-loop-each-preserved t c = record {
         c.add_other.ensures.only i.0 (λ d. meaning s d (view x)) documents i.1 (c.in_ok-other.ensures.only documents p is (can_at s x c.args.parts.now c.loop-each.each-index c.loop-each-test.true c.each-item.is can)),
         λ d. some_step s d x c.args.parts.now c.loop-each.each-index (i.0 d) c.loop-each-test.true c.each-item.is ∙ i.2 d,
       );
+  read = λ h.
+      let s = c.args.schema.now in
+      let v = c.args.part.now in
+      let x = c.each-item.result in
+      let more = lookups_of_each s (view_all (drop (c.loop-each.each-index + 1) c.args.parts.now)) in
+      c.loop-each.invariant.read (subst (AreRead v) (sym (queries_from s c.loop-each.each-index x c.args.parts.now c.loop-each-test.true c.each-item.is)) (read_both v (lookups_of s (view x)) more c.in_ok-other.ensures.reads h));
+  meets = λ e h.
+      let s = c.args.schema.now in
+      let v = c.args.part.now in
+      let x = c.each-item.result in
+      let more = lookups_of_each s (view_all (drop (c.loop-each.each-index + 1) c.args.parts.now)) in
+      c.loop-each.invariant.meets e (subst (λ ls. SomeMeets v ls e) (sym (queries_from s c.loop-each.each-index x c.args.parts.now c.loop-each-test.true c.each-item.is)) (meets_others v (lookups_of s (view x)) more e h));
 }
 
 pub all_matching-returns-in_err-other-clause-only : goal.all_matching-returns-in_err-other-clause-only
@@ -113,3 +140,74 @@ matching-returns-in-Range-clause-only t c = λ documents p is can.
     let w = Range c.in-Range.field c.in-Range.low c.in-Range.high in
     let same : view c.args.query.now ≡ w = ap view c.in-Range.is in
     of_query c.args.part.now s documents p c.within_range.result (view c.args.query.now) w same (c.within_range.ensures.only documents p is (subst (CanAsk s) same can))
+
+pub all_matching-loop-each-init : goal.all_matching-loop-each-init
+all_matching-loop-each-init t c = record {
+  size = c.in_ok-bits.ensures.size;
+  only = λ documents p is can. (λ d. true, c.in_ok-bits.ensures.only c.args.schema.now documents p is, λ d. refl);
+  read = λ h. h;
+  meets = λ e h. h;
+}
+
+pub all_matching-returns-in_err-other-clause-reads : goal.all_matching-returns-in_err-other-clause-reads
+all_matching-returns-in_err-other-clause-reads t c =
+    let s = c.args.schema.now in
+    let v = c.args.part.now in
+    let x = c.each-item.result in
+    let i = c.loop-each.each-index in
+    let qs = c.args.parts.now in
+    let e = c.in_err-other.field-0.0 in
+    met v (lookups_of_each s (view_all qs)) c.from_residual-in_err-other.result e c.from_residual-in_err-other.ensures.1
+    (met_wider v (lookups_of s (view x)) (lookups_of_each s (view_all qs)) e
+    (λ g h. c.loop-each.invariant.meets g (subst (λ ls. SomeMeets v ls g) (sym (queries_from s i x qs c.loop-each-test.true c.each-item.is)) (meets_first v (lookups_of s (view x)) (lookups_of_each s (view_all (drop (i + 1) qs))) g h))) c.in_err-other.ensures.reads)
+
+pub all_matching-returns-clause-reads : goal.all_matching-returns-clause-reads
+all_matching-returns-clause-reads t c =
+    c.loop-each.invariant.read (subst (λ qs. AreRead c.args.part.now (lookups_of_each c.args.schema.now (view_all qs))) (sym (none_behind c.args.parts.now c.loop-each.each-index c.loop-each-test.false)) tt)
+
+pub some_matching-loop-each-init : goal.some_matching-loop-each-init
+some_matching-loop-each-init t c = record {
+  size = c.in_ok-bits.ensures.size;
+  only = λ documents p is can. (λ d. false, c.in_ok-bits.ensures.only c.args.schema.now documents p is, λ d. refl);
+  read = λ h. h;
+  meets = λ e h. h;
+}
+
+pub some_matching-returns-in_err-other-clause-reads : goal.some_matching-returns-in_err-other-clause-reads
+some_matching-returns-in_err-other-clause-reads t c =
+    let s = c.args.schema.now in
+    let v = c.args.part.now in
+    let x = c.each-item.result in
+    let i = c.loop-each.each-index in
+    let qs = c.args.parts.now in
+    let e = c.in_err-other.field-0.0 in
+    met v (lookups_of_each s (view_all qs)) c.from_residual-in_err-other.result e c.from_residual-in_err-other.ensures.1
+    (met_wider v (lookups_of s (view x)) (lookups_of_each s (view_all qs)) e
+    (λ g h. c.loop-each.invariant.meets g (subst (λ ls. SomeMeets v ls g) (sym (queries_from s i x qs c.loop-each-test.true c.each-item.is)) (meets_first v (lookups_of s (view x)) (lookups_of_each s (view_all (drop (i + 1) qs))) g h))) c.in_err-other.ensures.reads)
+
+pub some_matching-returns-clause-reads : goal.some_matching-returns-clause-reads
+some_matching-returns-clause-reads t c =
+    c.loop-each.invariant.read (subst (λ qs. AreRead c.args.part.now (lookups_of_each c.args.schema.now (view_all qs))) (sym (none_behind c.args.parts.now c.loop-each.each-index c.loop-each-test.false)) tt)
+
+pub matching-returns-in-And-clause-reads : goal.matching-returns-in-And-clause-reads
+matching-returns-in-And-clause-reads t c =
+    let same : view c.args.query.now ≡ And (view_all c.as_slice-in-And.result.now) = search (rules, row_all, the_lemmas) in
+    query_reads c.args.part.now c.args.schema.now c.all_matching.result (view c.args.query.now) (And (view_all c.as_slice-in-And.result.now)) same c.all_matching.ensures.reads
+
+pub matching-returns-in-Or-clause-reads : goal.matching-returns-in-Or-clause-reads
+matching-returns-in-Or-clause-reads t c =
+    let same : view c.args.query.now ≡ Or (view_all c.as_slice-in-Or.result.now) = search (rules, row_all, the_lemmas) in
+    query_reads c.args.part.now c.args.schema.now c.some_matching.result (view c.args.query.now) (Or (view_all c.as_slice-in-Or.result.now)) same c.some_matching.ensures.reads
+
+pub matching-returns-in-Prefix-clause-reads : goal.matching-returns-in-Prefix-clause-reads
+matching-returns-in-Prefix-clause-reads t c =
+    let n = c.in-Prefix.field in
+    let text = c.as_str-in-Prefix.result.now in
+    let same : view c.args.query.now ≡ Prefix n text = ap view c.in-Prefix.is ∙ ap (λ u. Prefix n u) (sym c.as_str-in-Prefix.ensures) in
+    query_reads c.args.part.now c.args.schema.now c.with_prefix.result (view c.args.query.now) (Prefix n text) same c.with_prefix.ensures.reads
+
+pub matching-returns-in-Range-clause-reads : goal.matching-returns-in-Range-clause-reads
+matching-returns-in-Range-clause-reads t c =
+    let w = Range c.in-Range.field c.in-Range.low c.in-Range.high in
+    let same : view c.args.query.now ≡ w = ap view c.in-Range.is in
+    query_reads c.args.part.now c.args.schema.now c.within_range.result (view c.args.query.now) w same c.within_range.ensures.reads

@@ -9,6 +9,7 @@ use Rattle.doc_sets.specs.Walks.{AsksWalk}
 use Rattle.doc_sets.specs.declared.dictionary_lookup.Lookup.TheVariants.{Walk}
 use Rattle.doc_sets.specs.declared.wanted.Wanted.TheVariants.{Each}
 use Rattle.doc_sets.proofs.Looked.{walk_lacks_looked, wider_result}
+use Rattle.leaf_search.proofs.ReadQueries.{field_reads, no_field_reads}
 use Rattle.leaf_search.proofs.QuerySteps.{at_field, field_fact, no_field}
 use Rattle.leaf_search.proofs.fields.with_prefix.Goals as goal
 
@@ -27,3 +28,13 @@ returns-in-Some-clause-only c = λ documents p is can.
 
 pub returns-in_ok-no_documents-in-None-clause-only : goal.returns-in_ok-no_documents-in-None-clause-only
 returns-in_ok-no_documents-in-None-clause-only c = λ documents p is can. absurd (no_field c.args.schema.now c.args.number (λ f. (f.indexed ≡ true) × (is_text f.kind ≡ true)) c.in-None.ensures.found can)
+
+pub returns-in-Some-clause-reads : goal.returns-in-Some-clause-reads
+returns-in-Some-clause-reads c =
+    let n = c.args.number in
+    field_reads c.args.part.now c.args.schema.now n c.in-Some.field.now (λ g. Walk (field_key n (prefix_text g c.args.text.now)) Each ∷ []) c.prefix_documents.result c.in-Some.ensures.found c.prefix_documents.ensures.reads
+
+pub returns-in_ok-no_documents-in-None-clause-reads : goal.returns-in_ok-no_documents-in-None-clause-reads
+returns-in_ok-no_documents-in-None-clause-reads c =
+    let n = c.args.number in
+    no_field_reads c.args.part.now c.args.schema.now n (λ g. Walk (field_key n (prefix_text g c.args.text.now)) Each ∷ []) c.in-None.ensures.found

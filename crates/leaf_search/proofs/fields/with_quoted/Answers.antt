@@ -1,7 +1,7 @@
+use Rattle.leaf_search.proofs.ReadQueries.{field_reads, no_field_reads}
 use Rattle.std.proofs.Common.{◌≡◌, true, Some, slice_get}
 use Rattle.query_ast.specs.Meaning.{quoted_holds, values_in}
-use Rattle.doc_sets.specs.Texts.{CanPlace}
-use Rattle.doc_sets.specs.Texts.{text_lookups}
+use Rattle.doc_sets.specs.Texts.{CanPlace, text_lookups}
 use Rattle.leaf_search.proofs.QuerySteps.{at_field, field_fact, no_field}
 use Rattle.leaf_search.proofs.fields.with_quoted.Goals as goal
 
@@ -18,3 +18,13 @@ returns-in-Some-clause-only c = λ documents p is can.
 
 pub returns-in_ok-no_documents-in-None-clause-only : goal.returns-in_ok-no_documents-in-None-clause-only
 returns-in_ok-no_documents-in-None-clause-only c = λ documents p is can. absurd (no_field c.args.schema.now c.args.number (λ f. (f.indexed ≡ true) × (CanPlace f c.args.text.now)) c.in-None.ensures.found can)
+
+pub returns-in-Some-clause-reads : goal.returns-in-Some-clause-reads
+returns-in-Some-clause-reads c =
+    let n = c.args.number in
+    field_reads c.args.part.now c.args.schema.now n c.in-Some.field.now (λ g. text_lookups g n c.args.text.now) c.quoted_documents.result c.in-Some.ensures.found c.quoted_documents.ensures.reads
+
+pub returns-in_ok-no_documents-in-None-clause-reads : goal.returns-in_ok-no_documents-in-None-clause-reads
+returns-in_ok-no_documents-in-None-clause-reads c =
+    let n = c.args.number in
+    no_field_reads c.args.part.now c.args.schema.now n (λ g. text_lookups g n c.args.text.now) c.in-None.ensures.found

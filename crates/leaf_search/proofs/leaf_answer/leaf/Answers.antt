@@ -1,3 +1,4 @@
+use Rattle.leaf_search.proofs.ReadQueries.{evaluated_read, if_evaluated, if_read, key_read}
 use Rattle.std.proofs.Common.{◌≡◌, ◌∙◌, [], Some, None, IfOk, length, ap, sym, subst}
 use Rattle.agg_model.specs.Partials.{IsPartialOf, documents_in}
 use Rattle.split_bundle.specs.Lists.{posting_list}
@@ -5,7 +6,7 @@ use Rattle.doc_sets.specs.Faults.{HasCause, IsMemory}
 use Rattle.doc_sets.specs.Needed.{IsBlockFor}
 use Rattle.doc_sets.proofs.Searched.{searched}
 use Rattle.leaf_search.specs.Answers.{AsksLeaf, IsAnswerOf}
-use Rattle.leaf_search.specs.Counts.{counted_key}
+use Rattle.leaf_search.specs.Counts.{counted_key, read_lookups}
 use Rattle.leaf_search.proofs.KeyCounts.{block_memory, by_parts, counted_cause, counts, is_counted, uncounted}
 use Rattle.leaf_search.proofs.Suffices.{needed_result}
 use Rattle.leaf_search.proofs.leaf_answer.leaf.Goals as goal
@@ -60,3 +61,41 @@ pub returns-in-None-clause-needed : goal.returns-in-None-clause-needed
 returns-in-None-clause-needed c = λ documents p blocks lists part ask b l held_blocks held_lists.
     needed_result c.args.view.now c.args.schema.now documents p part (IsAnswerOf c.args.schema.now c.args.request.now documents) c.evaluated.result c.args.request.now blocks lists b l held_blocks held_lists
     (returns-in-None-clause-only c documents p part ask)
+
+pub returns-in-Some-clause-read : goal.returns-in-Some-clause-read
+returns-in-Some-clause-read c =
+    let s = c.args.schema.now in
+    let r = c.args.request.now in
+    let v = c.args.view.now in
+    let same = c.in_ok-key.ensures in
+    let some = c.in-Some.is in
+    let is : counted_key s r ≡ Some c.in-Some.key = cc in
+    if_read v (read_lookups s r) c.counted.result (key_read v s r c.as_slice.result.now c.counted.result (is ∙ ap Some (sym c.as_slice.ensures)) c.counted.ensures.reads)
+
+pub returns-in-Some-clause-faults : goal.returns-in-Some-clause-faults
+returns-in-Some-clause-faults c = λ only.
+    let s = c.args.schema.now in
+    let r = c.args.request.now in
+    let v = c.args.view.now in
+    let same = c.in_ok-key.ensures in
+    let some = c.in-Some.is in
+    let is : counted_key s r ≡ Some c.in-Some.key = cc in
+    key_read v s r c.as_slice.result.now c.counted.result (is ∙ ap Some (sym c.as_slice.ensures)) c.counted.ensures.reads
+
+pub returns-in-None-clause-read : goal.returns-in-None-clause-read
+returns-in-None-clause-read c =
+    let s = c.args.schema.now in
+    let r = c.args.request.now in
+    let same = c.in_ok-key.ensures in
+    let none = c.in-None.is in
+    let is : counted_key s r ≡ None = cc in
+    if_evaluated c.args.view.now s r c.evaluated.result is c.evaluated.ensures.read
+
+pub returns-in-None-clause-faults : goal.returns-in-None-clause-faults
+returns-in-None-clause-faults c = λ only.
+    let s = c.args.schema.now in
+    let r = c.args.request.now in
+    let same = c.in_ok-key.ensures in
+    let none = c.in-None.is in
+    let is : counted_key s r ≡ None = cc in
+    evaluated_read c.args.view.now s r c.evaluated.result is (c.evaluated.ensures.faults only)

@@ -1,3 +1,5 @@
+use Rattle.leaf_search.specs.Counts.{count_lookups}
+use Rattle.doc_sets.proofs.ReadLookups.{met}
 use Rattle.query_ast.specs.Sought.{view}
 use Rattle.split_bundle.specs.Files.{file_bytes}
 use Rattle.doc_sets.specs.Faults.{HasCause, IsMemory}
@@ -18,7 +20,7 @@ returns-in_err-count-clause-only c = λ documents p part ask.
     let v = c.args.view.now in
     let e = c.in_err-count.field-0.0 in
     handed (IsAnswerOf s r documents) (HasCause (AsksWith v s documents p r (lookups_of s (view r.query))) v.pieces) c.from_residual.result e c.from_residual.ensures.1
-    (cause_wider (AsksLookups v s documents p (lookups_of s (view r.query))) (AsksWith v s documents p r (lookups_of s (view r.query))) v.pieces e (of_lookups v s documents p r (lookups_of s (view r.query))) (c.in_err-count.ensures documents p (searched v s documents p part) ask.query))
+    (cause_wider (AsksLookups v s documents p (lookups_of s (view r.query))) (AsksWith v s documents p r (lookups_of s (view r.query))) v.pieces e (of_lookups v s documents p r (lookups_of s (view r.query))) (c.in_err-count.ensures.only documents p (searched v s documents p part) ask.query))
 
 pub returns-in_err-count-clause-there : goal.returns-in_err-count-clause-there
 returns-in_err-count-clause-there c = λ documents p part all ask.
@@ -27,14 +29,21 @@ returns-in_err-count-clause-there c = λ documents p part all ask.
     let v = c.args.view.now in
     let e = c.in_err-count.field-0.0 in
     handed (IsAnswerOf s r documents) IsMemory c.from_residual.result e c.from_residual.ensures.1
-    (only_memory (AsksLookups v s documents p (lookups_of s (view r.query))) (file_bytes p) v.pieces e (lookups_within v s documents p part (lookups_of s (view r.query))) all (c.in_err-count.ensures documents p (searched v s documents p part) ask.query))
+    (only_memory (AsksLookups v s documents p (lookups_of s (view r.query))) (file_bytes p) v.pieces e (lookups_within v s documents p part (lookups_of s (view r.query))) all (c.in_err-count.ensures.only documents p (searched v s documents p part) ask.query))
 
 pub returns-clause-only : goal.returns-clause-only
 returns-clause-only c = λ documents p part ask.
-    count_answer c.args.schema.now c.args.request.now documents c.in_ok-count.count c.in_ok-answer_of_many.field-0 c.requires.counts (c.in_ok-count.ensures documents p (searched c.args.view.now c.args.schema.now documents p part) ask.query)
+    count_answer c.args.schema.now c.args.request.now documents c.in_ok-count.count c.in_ok-answer_of_many.field-0 c.requires.counts (c.in_ok-count.ensures.only documents p (searched c.args.view.now c.args.schema.now documents p part) ask.query)
     c.in_ok-answer_of_many.ensures.count c.in_ok-answer_of_many.ensures.hits c.in_ok-answer_of_many.ensures.many c.in_ok-answer_of_many.ensures.partial
 
 pub returns-clause-there : goal.returns-clause-there
 returns-clause-there c = λ documents p part all ask.
-    count_answer c.args.schema.now c.args.request.now documents c.in_ok-count.count c.in_ok-answer_of_many.field-0 c.requires.counts (c.in_ok-count.ensures documents p (searched c.args.view.now c.args.schema.now documents p part) ask.query)
+    count_answer c.args.schema.now c.args.request.now documents c.in_ok-count.count c.in_ok-answer_of_many.field-0 c.requires.counts (c.in_ok-count.ensures.only documents p (searched c.args.view.now c.args.schema.now documents p part) ask.query)
     c.in_ok-answer_of_many.ensures.count c.in_ok-answer_of_many.ensures.hits c.in_ok-answer_of_many.ensures.many c.in_ok-answer_of_many.ensures.partial
+
+pub returns-in_err-count-clause-reads : goal.returns-in_err-count-clause-reads
+returns-in_err-count-clause-reads c =
+    met c.args.view.now (count_lookups c.args.schema.now (view c.args.request.now.query)) c.from_residual.result c.in_err-count.field-0.0 c.from_residual.ensures.1 c.in_err-count.ensures.reads
+
+pub returns-clause-reads : goal.returns-clause-reads
+returns-clause-reads c = c.in_ok-count.ensures.reads

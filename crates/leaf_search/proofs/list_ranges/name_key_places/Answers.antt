@@ -4,20 +4,26 @@ use Rattle.split_bundle.specs.Lists.{terms_of}
 use Rattle.leaf_search.proofs.ListParts.{neither}
 use Rattle.leaf_search.proofs.list_ranges.name_key_places.Goals as goal
 
-pub returns-in_ok-name_both-in-Some : goal.returns-in_ok-name_both-in-Some
-returns-in_ok-name_both-in-Some c = λ documents p is.
+pub returns-in_ok-name_both-in-Some-clause-only : goal.returns-in_ok-name_both-in-Some-clause-only
+returns-in_ok-name_both-in-Some-clause-only c = λ documents p is.
     let s = c.args.schema.now in
     let key = c.args.key.now in
-    let same = c.in_ok-info.ensures s documents p is in
+    let same = c.in_ok-info.ensures.only s documents p is in
     let some = c.in-Some.is in
     let found : lookup key (terms_of s documents p.keys) ≡ Some c.in-Some.info = cc in
     c.in_ok-name_both-in-Some.ensures documents p is found
 
-pub returns-in-None : goal.returns-in-None
-returns-in-None c = λ documents p is.
+pub returns-in-None-clause-only : goal.returns-in-None-clause-only
+returns-in-None-clause-only c = λ documents p is.
     let s = c.args.schema.now in
     let key = c.args.key.now in
-    let same = c.in_ok-info.ensures s documents p is in
+    let same = c.in_ok-info.ensures.only s documents p is in
     let none = c.in-None.is in
     let found : lookup key (terms_of s documents p.keys) ≡ None = cc in
     neither c.args.part.now s documents p key c.args.ranges.now found
+
+pub returns-in_ok-name_both-in-Some-clause-read : goal.returns-in_ok-name_both-in-Some-clause-read
+returns-in_ok-name_both-in-Some-clause-read c = (_, c.in_ok-info.ensures.exact)
+
+pub returns-in-None-clause-read : goal.returns-in-None-clause-read
+returns-in-None-clause-read c = (_, c.in_ok-info.ensures.exact)
