@@ -76,10 +76,10 @@ same 'terms' "$(asked '{"search":{"query":"*","max_hits":0,"aggs":{"sections":{"
 cp demo/logs/packages more
 for _ in $(seq 40); do cat more; done >> demo/logs/packages
 for pause in 0.2 0.4 0.6; do
-    (yes 'indexer 0' | poltyqen drive > /dev/null 2>&1) &
+    "$program" demo/store demo/logs drive < <(yes 'indexer 0') > /dev/null 2>&1 &
     sleep "$pause"
-    pkill -9 -f "$folder|demo/store demo/logs drive" || true
-    wait || true
+    kill -9 $! || true
+    wait $! || true
 done
 yes 'indexer 0' | head -n 2000 | poltyqen drive > outcomes || true
 same 'caught up behind the kills' "$(tail -n 20 outcomes | grep -c caughtup | awk '{print ($1 > 0)}')" 1

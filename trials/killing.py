@@ -2,11 +2,13 @@
 """Kills the program at random moments while it indexes, starts it again over the same folders, and looks at the end whether
 each record is found once.
 
-    trials/killing.py PROGRAM [--kills N] [--records N] [--seed N]
+    trials/killing.py PROGRAM [--kills N] [--records N] [--docs N] [--reports N] [--seed N]
 
 The records lie in four partitions, and each has a number of its own. The program is killed (SIGKILL) so many times, and then
-let to its end. What `*` finds must be as many as there are records, and the numbers that are found, read by pages, each
-record's own, once. It prints how often it was killed, what stands in the folder, and `each record once`, or what differs.
+let to its end. Beside it so many loops ask `describe` and `splits` by turns, from the first run to the last: each report must
+end with status 0, say nothing on standard error, and never show an older revision than the report before it. What `*` finds
+must be as many as there are records, and the numbers that are found, read by pages, each record's own, once. It prints how
+often it was killed, how many reports were written, what stands in the folder, and `each record once`, or what differs.
 """
 import argparse
 import collections
@@ -40,7 +42,7 @@ type = "text"
 default_search_fields = ["body"]
 
 [indexing_settings]
-split_num_docs_target = 700
+split_num_docs_target = %d
 """
 
 
@@ -78,6 +80,29 @@ def indexed(work):
     return True
 
 
+class Reports(threading.Thread):
+    """Asks for reports until it is told to stop, and keeps what was wrong with one."""
+
+    def __init__(self, path, folder):
+        super().__init__(daemon=True)
+        self.command = [path, f"{folder}/store", f"{folder}/logs"]
+        self.done, self.wrong, self.ended = 0, [], threading.Event()
+
+    def run(self):
+        revision = 0
+        while not self.ended.is_set():
+            asked = "describe" if self.done % 2 == 0 else "splits"
+            report = subprocess.run([*self.command, asked], stdin=subprocess.DEVNULL, capture_output=True, check=False)
+            if report.returncode != 0 or report.stderr:
+                self.wrong.append(f"{asked}: status {report.returncode}, {report.stdout[-200:]!r} {report.stderr[-200:]!r}")
+            elif asked == "describe":
+                now = int(report.stdout.split()[1])
+                if now < revision:
+                    self.wrong.append(f"revision {now} behind {revision}")
+                revision = now
+            self.done += 1
+
+
 def found(work, asked, rest):
     line(work, "client a " + json.dumps({"search": asked}), rest)
     while True:
@@ -91,6 +116,8 @@ def main():
     given.add_argument("program")
     given.add_argument("--kills", type=int, default=100)
     given.add_argument("--records", type=int, default=100_000)
+    given.add_argument("--docs", type=int, default=700, help="how many documents a split has")
+    given.add_argument("--reports", type=int, default=1)
     given.add_argument("--seed", type=int, default=7)
     asked = given.parse_args()
     chance, path = random.Random(asked.seed), os.path.abspath(asked.program)
@@ -101,9 +128,12 @@ def main():
         with open(f"{folder}/logs/p{part}", "w", encoding="utf-8") as file:
             for number in range(part, asked.records, PARTITIONS):
                 file.write(json.dumps({"number": number, "body": f"record {number % 97}"}) + "\n")
-    made = subprocess.run([path, f"{folder}/store", f"{folder}/logs", "create"], input=CONFIG, capture_output=True, check=False)
+    made = subprocess.run([path, f"{folder}/store", f"{folder}/logs", "create"], input=CONFIG % asked.docs, capture_output=True, check=False)
     if made.stdout != b"created\n":
         raise SystemExit(f"create: {made.stdout.decode()}")
+    reports = [Reports(path, folder) for _ in range(asked.reports)]
+    for one in reports:
+        one.start()
     killed = 0
     for _ in range(asked.kills):
         work = started(path, folder)
@@ -118,6 +148,10 @@ def main():
     begun = time.monotonic()
     if not indexed(work):
         raise SystemExit("the last run ended early")
+    for one in reports:
+        one.ended.set()
+        one.join()
+    wrong = [it for one in reports for it in one.wrong]
     rest = [b""]
     many = found(work, {"query": "*", "max_hits": 0}, rest)["num_hits"]
     numbers = collections.Counter()
@@ -128,15 +162,20 @@ def main():
     work.wait()
     files = len(os.listdir(f"{folder}/store/splits"))
     entries = len(os.listdir(f"{folder}/store/meta"))
-    print(f"{killed} kills, {asked.records} records, {files} split files, {entries} journal entries; the last run took {time.monotonic() - begun:.1f} s")
+    print(
+        f"{killed} kills, {asked.records} records, {sum(one.done for one in reports)} reports beside, {files} split files, "
+        f"{entries} journal entries; the last run took {time.monotonic() - begun:.1f} s"
+    )
+    beside = [it for kind in ("meta", "splits") for it in os.listdir(f"{folder}/store/{kind}") if not it.isdigit()]
     twice = sorted(it for it, count in numbers.items() if count > 1)
     lost = sorted(set(range(asked.records)) - set(numbers))
     foreign = sorted(set(numbers) - set(range(asked.records)))
     shutil.rmtree(folder)
-    if many == asked.records and not (twice or lost or foreign):
+    if many == asked.records and not (twice or lost or foreign or wrong or beside):
         print("each record once")
         return 0
     print(f"found {many}; twice {twice[:10]}, lost {lost[:10]}, foreign {foreign[:10]}")
+    print(f"reports that were wrong: {len(wrong)} {wrong[:5]}; left beside: {beside[:5]}")
     return 1
 
 

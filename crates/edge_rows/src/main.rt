@@ -1,9 +1,19 @@
 //! Rows of folders: what is done to a folder of objects and to a folder of logs, a line each, and what comes of it. The
-//! program's word is the number of its files beside, 0 without one.
+//! program's word is the number of its files beside, 0 without one, or `reading`, with which it only reads the objects. The
+//! line `faults` plays a table of faults over a disk in memory.
 #![tactic(auto)]
 
 ghost use Rattle.std.specs.Prelude.{◌≤◌};
 
+mod book;
+mod failing;
+mod lives;
+mod memory_disk;
+mod memory_files;
+mod table;
+mod wrong;
+
+use crate::table::play_table;
 use object_store::{CreateError, GetError, Key, ObjectStore};
 use real_edge::{FileLog, FolderStore};
 use source_checkpoint::Partition;
@@ -180,12 +190,18 @@ fn laid<F: Files>(files: &F, alloc: Global, asked: &str, rest: &str) -> io::Resu
 fn main(rt: HostRuntime) -> io::Result<()> {
     let alloc = rt.alloc();
     let word = env::args(&rt)?.nth(1);
-    let writer = number(word.as_deref());
-    let mut store = FolderStore::over(alloc, &rt, "store", writer)?;
+    let mut store = match word.as_deref() {
+        Some("reading") => FolderStore::reading(alloc, &rt, "store")?,
+        word => FolderStore::writing(alloc, &rt, "store", number(word))?,
+    };
     let mut log = FileLog::over(alloc, &rt, "logs")?;
     for line in rt.lines(alloc) {
         let line = line?;
         let (asked, rest) = line.split_once(' ').unwrap_or((line.as_str(), ""));
+        if asked == "faults" {
+            play_table(&rt, alloc, number(Some(rest)).max(1))?;
+            continue;
+        }
         let answer = match asked {
             "folder" | "file" => laid(&rt, alloc, asked, rest)?,
             "partitions" | "read" => logged(alloc, &mut log, asked, rest)?,

@@ -168,6 +168,12 @@ impl<L: SourceLog> Indexer<L> {
         self.log.faults()
     }
 
+    pub fn log(&self) -> &L
+        ensures { result.now ≡ self.now.log }
+    {
+        &self.log
+    }
+
     /// From here on it reads these partitions alone, in this order.
     pub fn assign(&mut self, partitions: Partitions)
         ensures log { self.new.log ≡ self.old.log }

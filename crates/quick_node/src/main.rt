@@ -7,13 +7,16 @@ mod creating;
 mod error_line;
 pub mod laws;
 mod lines;
+mod reasons;
 mod reporting;
 mod running;
 mod serving;
 mod writing;
 
 use crate::error_line::NO_MEMORY;
-use crate::serving::serve;
+use crate::reasons::{Reasoned, reason_of_logs, tell_reason, tell_status};
+use crate::serving::serve_with_logs;
+use command_words::{Command, read_words};
 use object_store::{ObjectStore, SteadyStore};
 use real_edge::{FileLog, FolderStore, StdSink, StdSource, SystemClock};
 use source_log::{MemoryLog, SourceLog};
@@ -74,17 +77,17 @@ fn folder_logs<'a, F: Files>(
     Ok(logs)
 }
 
-// Does the command over the standard streams, and gives its status. The system is the runtime itself: what is sent to a thread
-// may hold it, and the runtime's leave to start threads is its own.
+// Does the command over the standard streams, says on standard error what failed, and gives the status. The system is the
+// runtime itself: what is sent to a thread may hold it, and the runtime's leave to start threads is its own.
 fn status_over<
     Rt: Threads + Wait + Sync + Input + Print,
-    S: ObjectStore + Send + Drop,
-    L: SourceLog + Send,
+    S: ObjectStore + Reasoned + Send + Drop,
+    L: SourceLog + Reasoned + Send,
 >(rt: &Rt, system: &HostRuntime, words: &[String], store: S, logs: Vec<L>) -> u8 {
     let mut input = StdSource::over(rt.reader());
     let mut output = StdSink::over(io::writer(rt));
     let clock = SystemClock::over(system);
-    serve(
+    let (finished, logs) = serve_with_logs(
         rt,
         system.alloc(),
         words,
@@ -93,12 +96,19 @@ fn status_over<
         clock,
         &mut input,
         &mut output,
-    )
-    .status
+    );
+    let has_told = tell_reason(system, finished.store.first_reason())
+        | tell_reason(system, reason_of_logs(&logs))
+        | tell_reason(system, input.first_reason())
+        | tell_reason(system, output.first_reason());
+    if !has_told {
+        tell_status(system, finished.status);
+    }
+    finished.status
 }
 
 // The logs that a word names, and the command.
-fn status_with<Rt: Threads + Wait + Sync + Input + Print, S: ObjectStore + Send + Drop>(
+fn status_with<Rt: Threads + Wait + Sync + Input + Print, S: ObjectStore + Reasoned + Send + Drop>(
     rt: &Rt,
     system: &HostRuntime,
     log: &str,
@@ -112,6 +122,29 @@ fn status_with<Rt: Threads + Wait + Sync + Input + Print, S: ObjectStore + Send 
     }
     let logs = folder_logs(alloc, system, log)?;
     Ok(status_over(rt, system, words, store, logs))
+}
+
+// Whether the words name a command that writes objects.
+fn is_writing(alloc: Global, words: &[String]) -> Result<bool, AllocError> {
+    match read_words(alloc, words)? {
+        Some(Command::Create | Command::Drive) => Ok(true),
+        Some(Command::Splits | Command::Describe) => Ok(false),
+        None => Ok(false),
+    }
+}
+
+// The objects of a folder, for the command that the words name.
+fn folder_store<'a>(
+    system: &'a HostRuntime,
+    folder: &str,
+    words: &[String],
+) -> Result<FolderStore<'a, HostRuntime>, AllocError> {
+    let alloc = system.alloc();
+    if is_writing(alloc, words)? {
+        FolderStore::writing(alloc, system, folder, writer_number(system))
+    } else {
+        FolderStore::reading(alloc, system, folder)
+    }
 }
 
 // With fewer than two words there is no command: that is answered over nothing.
@@ -129,7 +162,7 @@ fn status_of<Rt: Threads + Wait + Sync + Input + Print>(
         let store = SteadyStore::vacant(alloc);
         return status_with(rt, system, log.as_str(), command, store);
     }
-    let store = FolderStore::over(alloc, system, store.as_str(), writer_number(system))?;
+    let store = folder_store(system, store.as_str(), command)?;
     status_with(rt, system, log.as_str(), command, store)
 }
 

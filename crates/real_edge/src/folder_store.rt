@@ -1,220 +1,234 @@
 //! Objects as files of a folder.
 
-ghost use Rattle.std.specs.Prelude.{◌≤◌, None, IfOk, length};
+ghost use Rattle.std.specs.Prelude.{◌≡◌, ◌≤◌, None, IfOk, IfSome, length};
 ghost use Rattle.byte_fields.specs.Causes.{Rose};
 
-use crate::folder_path::{FolderPath, parent_and_name};
+use crate::faults::{Faults, Reason, Trouble, tried};
+use crate::folder_path::FolderPath;
 use crate::folder_walk::keys_in;
-use byte_fields::{Bytes, Failed};
+use crate::leftovers::remove_leftovers;
+use crate::object_making::{Maker, remove_object};
+use crate::object_reading::read_piece;
+use crate::writer_lock::{LOCK, WriterLock, locked};
+use byte_fields::Failed;
 use object_store::{CreateError, GetError, Key, Keys, ListError, ObjectStore, Piece};
 use std::alloc::{AllocError, Global};
-use std::fs::{self, File, Files, OpenFile};
-use std::io::{self, ErrorKind, Read, Seek, SeekFrom, Write};
 use std::str;
 
-/// Objects in a folder: each is a file, and the parts of its key are folders. It tells nothing.
-///
-/// A create writes a file beside, syncs it, links it under the key's name where no file has that name, and syncs the folder, so
-/// that a key never has half of an object, and an object that stands keeps its bytes. A key with an empty part is no path: it
-/// never stands, and making it fails.
+/// A folder's writer.
 #[derive(Drop)]
-pub struct FolderStore<'a, F: Files> {
-    files: &'a F,
-    place: FolderPath,
-    half: String,
-    faults: u64,
+struct Writer<H: Drop> {
+    maker: Maker,
+    /// The locked file, once it is.
+    held: Option<H>,
+    has_cleared: bool,
 }
 
-impl<'a, F: Files> FolderStore<'a, F> {
-    /// The objects of this folder. `writer` names the files beside, so no two that write at once may have the same one.
-    /// Nothing is opened yet.
-    pub fn over(
+/// Objects in a folder: each is a plain file, and the parts of its key are folders. It tells nothing.
+///
+/// A create writes a file beside, whose name no file had, syncs it, links it under the key's name where nothing has that name,
+/// removes the first name, and syncs the folder, so that a key never has half of an object, and an object that stands keeps its
+/// bytes. A key with an empty part is no path: it never stands, and making it fails. No link within the folder is followed, and
+/// what is no plain file is no object.
+#[derive(Drop)]
+pub struct FolderStore<'a, F: WriterLock> {
+    files: &'a F,
+    place: FolderPath,
+    writer: Option<Writer<F::File>>,
+    faults: Faults,
+}
+
+// The key as a path in the folder, if it is one.
+fn key_name(key: &Key) -> Option<&str> {
+    match str::from_utf8(key.as_bytes()) {
+        Ok(name) if !name.split('/').any(|part| part.is_empty()) => Some(name),
+        _ => None,
+    }
+}
+
+impl<'a, F: WriterLock> FolderStore<'a, F> {
+    fn over(
+        alloc: Global,
+        files: &'a F,
+        folder: &str,
+        writer: Option<Writer<F::File>>,
+    ) -> Result<FolderStore<'a, F>, AllocError> {
+        Ok(FolderStore {
+            files,
+            place: FolderPath::of(alloc, folder)?,
+            writer,
+            faults: Faults::with_room(alloc, FolderPath::room(folder))?,
+        })
+    }
+
+    /// The objects of this folder, to be read: each create and each delete is a failure. Nothing is opened yet.
+    pub fn reading(
+        alloc: Global,
+        files: &'a F,
+        folder: &str,
+    ) -> Result<FolderStore<'a, F>, AllocError> {
+        FolderStore::over(alloc, files, folder, None)
+    }
+
+    /// The objects of this folder, to be read and written by one program at a time: the first call locks the file `.lock` in it,
+    /// and each call that finds it locked by another is a failure. Then it removes what killed writers left beside the objects.
+    /// `writer` names the files beside. Nothing is opened yet.
+    pub fn writing(
         alloc: Global,
         files: &'a F,
         folder: &str,
         writer: u64,
     ) -> Result<FolderStore<'a, F>, AllocError> {
-        Ok(FolderStore {
-            files,
-            place: FolderPath::of(alloc, folder)?,
-            half: format!(in alloc; ".{writer}.half")?,
-            faults: 0,
-        })
+        let writer = Writer {
+            maker: Maker::of(alloc, writer),
+            held: None,
+            has_cleared: false,
+        };
+        FolderStore::over(alloc, files, folder, Some(writer))
     }
 
-    fn fail(&mut self)
-        ensures later { self.old.faults ≤ self.new.faults }
-        ensures rose { Rose self.old.faults self.new.faults }
+    /// Why it failed first, if it did.
+    pub fn first_reason(&self) -> Option<&Reason> {
+        self.faults.first()
+    }
+
+    /// Why it failed last, if it did.
+    pub fn last_reason(&self) -> Option<&Reason> {
+        self.faults.last()
+    }
+
+    fn fail(&mut self, trouble: Trouble)
+        ensures later { self.old.faults.count ≤ self.new.faults.count }
+        ensures rose { Rose self.old.faults.count self.new.faults.count }
     {
-        self.faults = self.faults.saturating_add(1);
+        self.faults.add(self.place.path(), trouble);
     }
-}
 
-// The key as a path in the folder, if it is one.
-fn key_name(key: &Key) -> io::Result<&str> {
-    match str::from_utf8(key.as_bytes()) {
-        Ok(name) if !name.split('/').any(|part| part.is_empty()) => Ok(name),
-        _ => Err(io::Error::from(ErrorKind::NotFound)),
+    // A writer's folder is locked. It takes no memory.
+    fn lock(&mut self) -> Result<(), Trouble>
+        ensures { self.new.faults ≡ self.old.faults }
+    {
+        if let Some(writer) = &mut self.writer {
+            if writer.held.is_none() {
+                self.place.go_to(LOCK)?;
+                writer.held = Some(locked(self.files, self.place.path())?);
+            }
+        }
+        Ok(())
     }
-}
 
-// A file of these bytes, and of no others, on the disk.
-fn write_whole<F: Files>(files: &F, path: &str, content: &[u8]) -> io::Result<()> {
-    let mut file = File::create(files, path)?;
-    file.write_all(content)?;
-    file.sync_all()
-}
+    // A writer's folder is locked, and has no files beside of others.
+    fn begin(&mut self, alloc: Global) -> Result<(), Trouble>
+        ensures { self.new.faults ≡ self.old.faults }
+    {
+        self.lock()?;
+        if let Some(writer) = &mut self.writer {
+            if !writer.has_cleared {
+                let cleared = remove_leftovers(self.files, alloc, self.place.folder());
+                tried("reading", cleared)?;
+                writer.has_cleared = true;
+            }
+        }
+        Ok(())
+    }
 
-// What was made and removed in a folder is on the disk.
-fn sync_folder<F: Files>(files: &F, path: &str) -> io::Result<()> {
-    File::open(files, path)?.sync_all()
-}
-
-// The folder within that one, on the disk.
-fn make_folder<F: Files>(files: &F, whole: &str, folder: &str) -> io::Result<()> {
-    if let Ok(found) = fs::metadata(files, folder) {
-        if found.is_dir() {
-            return Ok(());
+    fn make(&mut self, alloc: Global, key: &Key, content: &[u8]) -> Result<bool, Trouble>
+        ensures { self.new.faults ≡ self.old.faults }
+    {
+        self.begin(alloc)?;
+        let Some(name) = key_name(key) else {
+            self.place.go_back()?;
+            return Err(Trouble::of("making an object in", "a key has an empty part"));
+        };
+        self.place.go_to(name)?;
+        match &mut self.writer {
+            Some(writer) => writer.maker.make(self.files, alloc, &self.place, content),
+            None => Err(Trouble::of("making", "the store is only read")),
         }
     }
-    fs::metadata(files, whole)?;
-    fs::create_dir_all(files, folder)?;
-    let (parent, _) = parent_and_name(folder);
-    sync_folder(files, parent)?;
-    sync_folder(files, whole)
-}
 
-// The bytes as a file of its own, which is then linked under the name. Whether no file had that name.
-fn link_new<F: Files>(files: &F, half: &str, path: &str, content: &[u8]) -> io::Result<bool> {
-    write_whole(files, half, content)?;
-    match fs::hard_link(files, half, path) {
-        Ok(()) => Ok(true),
-        Err(fault) if fault.kind() == ErrorKind::AlreadyExists => Ok(false),
-        Err(fault) => Err(fault),
+    fn piece(
+        &mut self,
+        alloc: Global,
+        key: &Key,
+        from: u64,
+        len: u64,
+    ) -> Result<Option<Piece>, Trouble>
+        ensures bound { IfOk result (λ found. IfSome found (λ piece. length piece.bytes ≤ len)) }
+        ensures faults { self.new.faults ≡ self.old.faults }
+    {
+        self.begin(alloc)?;
+        let Some(name) = key_name(key) else {
+            self.place.require(self.files)?;
+            return Ok(None);
+        };
+        self.place.go_to(name)?;
+        read_piece(self.files, alloc, &mut self.place, from, len)
+    }
+
+    fn remove(&mut self, key: &Key) -> Result<(), Trouble>
+        ensures { self.new.faults ≡ self.old.faults }
+    {
+        self.lock()?;
+        let Some(name) = key_name(key) else {
+            return self.place.require(self.files);
+        };
+        self.place.go_to(name)?;
+        if self.writer.is_none() {
+            return Err(Trouble::of("removing", "the store is only read"));
+        }
+        remove_object(self.files, &mut self.place)
+    }
+
+    fn keys(
+        &mut self,
+        alloc: Global,
+        prefix: &Key,
+        after: Option<&Key>,
+        max: u32,
+    ) -> Result<Keys, Trouble>
+        ensures bound { IfOk result (λ keys. length keys ≤ max) }
+        ensures faults { self.new.faults ≡ self.old.faults }
+    {
+        self.begin(alloc)?;
+        keys_in(self.files, alloc, &mut self.place, prefix, after, max)
     }
 }
 
-// An object under a name of the folder. Whether no object had that name.
-fn make_object<F: Files>(
-    files: &F,
-    alloc: Global,
-    place: &mut FolderPath,
-    half: &str,
-    name: &str,
-    content: &[u8],
-) -> io::Result<bool> {
-    let path = String::from_str(alloc, place.at(name)?)?;
-    let (folder, _) = parent_and_name(path.as_str());
-    make_folder(files, place.folder(), folder)?;
-    let beside = format!(in alloc; "{folder}/{half}")?;
-    let done = link_new(files, beside.as_str(), path.as_str(), content);
-    let _ = fs::remove_file(files, beside.as_str());
-    let is_new = done?;
-    if is_new {
-        sync_folder(files, folder)?;
-    }
-    Ok(is_new)
-}
-
-// So many bytes of the file from a place on.
-fn read_piece<F: Files>(
-    files: &F,
-    alloc: Global,
-    path: &str,
-    from: u64,
-    len: u64,
-) -> io::Result<Piece>
-    ensures { IfOk result (λ piece. length piece.bytes ≤ len) }
-{
-    let mut file = File::open(files, path)?;
-    let found = file.metadata()?;
-    if found.is_dir() {
-        return Err(io::Error::from(ErrorKind::NotFound));
-    }
-    let size = found.len();
-    let want = len.min(size.saturating_sub(from));
-    let mut bytes = Vec::new(alloc);
-    bytes.resize(want as usize, 0)?;
-    file.seek(SeekFrom::Start(from))?;
-    file.read_exact(bytes.as_mut_slice())?;
-    Ok(Piece {
-        bytes: Bytes::from_vec(bytes),
-        size,
-    })
-}
-
-// The file of a path is gone, on the disk too.
-fn remove_object<F: Files>(files: &F, path: &str) -> io::Result<()> {
-    fs::remove_file(files, path)?;
-    let (folder, _) = parent_and_name(path);
-    sync_folder(files, folder)
-}
-
-impl<'a, F: Files> ObjectStore for FolderStore<'a, F> {
+impl<'a, F: WriterLock> ObjectStore for FolderStore<'a, F> {
     ghost told = { λ _. None };
 
-    ghost fault_count = { λ s. s.faults };
+    ghost fault_count = { λ s. s.faults.count };
 
     fn create(&mut self, alloc: Global, key: &Key, content: &[u8]) -> Result<(), CreateError> {
-        let made = match key_name(key) {
-            Ok(name) => make_object(
-                self.files,
-                alloc,
-                &mut self.place,
-                self.half.as_str(),
-                name,
-                content,
-            ),
-            Err(fault) => Err(fault),
-        };
-        match made {
+        match self.make(alloc, key, content) {
             Ok(true) => Ok(()),
             Ok(false) => Err(CreateError::Exists),
-            Err(fault) if fault.kind() == ErrorKind::OutOfMemory => Err(CreateError::Memory(
-                AllocError,
-            )),
-            Err(_) => {
-                self.fail();
+            Err(trouble) if trouble.is_memory() => Err(CreateError::Memory(AllocError)),
+            Err(trouble) => {
+                self.fail(trouble);
                 Err(CreateError::Failed)
             }
         }
     }
 
     fn get(&mut self, alloc: Global, key: &Key, from: u64, len: u64) -> Result<Piece, GetError> {
-        let read = match key_name(key) {
-            Ok(name) => match self.place.at(name) {
-                Ok(path) => read_piece(self.files, alloc, path, from, len),
-                Err(refused) => Err(io::Error::from(refused)),
-            },
-            Err(fault) => Err(fault),
-        };
-        match read {
-            Ok(piece) => Ok(piece),
-            Err(fault) => match fault.kind() {
-                ErrorKind::OutOfMemory => Err(GetError::Memory(AllocError)),
-                ErrorKind::NotFound if self.place.stands(self.files) => Err(GetError::Absent),
-                _ => {
-                    self.fail();
-                    Err(GetError::Failed)
-                }
-            },
+        match self.piece(alloc, key, from, len) {
+            Ok(Some(piece)) => Ok(piece),
+            Ok(None) => Err(GetError::Absent),
+            Err(trouble) if trouble.is_memory() => Err(GetError::Memory(AllocError)),
+            Err(trouble) => {
+                self.fail(trouble);
+                Err(GetError::Failed)
+            }
         }
     }
 
     fn delete(&mut self, key: &Key) -> Result<(), Failed> {
-        let removed = match key_name(key) {
-            Ok(name) => match self.place.at(name) {
-                Ok(path) => remove_object(self.files, path),
-                Err(refused) => Err(io::Error::from(refused)),
-            },
-            Err(fault) => Err(fault),
-        };
-        match removed {
+        match self.remove(key) {
             Ok(()) => Ok(()),
-            Err(fault) if fault.kind() == ErrorKind::NotFound && self.place.stands(self.files) =>
-                Ok(()),
-            Err(_) => {
-                self.fail();
+            Err(trouble) => {
+                self.fail(trouble);
                 Err(Failed)
             }
         }
@@ -227,27 +241,17 @@ impl<'a, F: Files> ObjectStore for FolderStore<'a, F> {
         after: Option<&Key>,
         max: u32,
     ) -> Result<Keys, ListError> {
-        match keys_in(
-            self.files,
-            alloc,
-            &self.place,
-            self.half.as_str(),
-            prefix,
-            after,
-            max,
-        ) {
+        match self.keys(alloc, prefix, after, max) {
             Ok(keys) => Ok(keys),
-            Err(fault) if fault.kind() == ErrorKind::OutOfMemory => Err(ListError::Memory(
-                AllocError,
-            )),
-            Err(_) => {
-                self.fail();
+            Err(trouble) if trouble.is_memory() => Err(ListError::Memory(AllocError)),
+            Err(trouble) => {
+                self.fail(trouble);
                 Err(ListError::Failed)
             }
         }
     }
 
     fn faults(&self) -> u64 {
-        self.faults
+        self.faults.count
     }
 }

@@ -1,5 +1,5 @@
 use Rattle.std.proofs.Common.{◌≤◌, length}
-use Rattle.real_edge.proofs.file_log.read_records.Given as goal
+use Rattle.real_edge.proofs.log_lines.take_records.Given as goal
 
 abbrev pub invariant-loop-taken : goal.invariant-loop-taken
 invariant-loop-taken g l = length l.list ≤ l._taken

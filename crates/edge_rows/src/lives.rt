@@ -1,0 +1,343 @@
+//! A life of an index over a disk in memory: it is made, indexes a log, is opened anew, indexes the rest, and is searched.
+
+use crate::book::Book;
+use crate::memory_disk::MemoryDisk;
+use crate::memory_files::MemoryFiles;
+use crate::wrong::Wrong;
+use clock_time::ScriptClock;
+use index_world::{Unopened, World, WorldError};
+use node_run::{Accepts, DriveNode, LineError, Logs, Unstarted, read_line};
+use object_store::ObjectStore;
+use real_edge::{FileLog, FolderStore};
+use source_log::SourceLog;
+use std::alloc::{AllocError, Global};
+use std::fs::Files;
+use std::mem;
+use std::thread::Threads;
+
+/// The configuration: splits of two records, each a number.
+const CONFIG: &str =
+    "version = \"0.9\"\nindex_id = \"logs\"\n[doc_mapping]\nmode = \"strict\"\n[[doc_mapping.field_mappings]]\nname = \"n\"\ntype = \"u64\"\n[indexing_settings]\nsplit_num_docs_target = 2\n";
+
+/// No session has more steps of an indexer, and no search more of a client.
+const STEPS: u64 = 60;
+
+/// What a session is over, and what it is to do.
+#[derive(Clone, Copy)]
+pub struct Session<'a> {
+    pub alloc: Global,
+    pub disk: &'a MemoryDisk,
+    pub files: &'a MemoryFiles,
+    pub writer: u64,
+    /// It ends behind so many splits, and is not searched. Without it, it goes on until all is indexed, and is searched.
+    pub splits: Option<u64>,
+    /// How many records the log has: the numbers from 1.
+    pub records: u64,
+}
+
+/// What a session told.
+#[derive(Clone, Copy)]
+pub struct Told {
+    /// A fault of the store or of the log.
+    pub fault: bool,
+    /// Each record once, in the answer to a search.
+    pub found: bool,
+}
+
+// What a step of an indexer answered.
+#[derive(Clone, Copy)]
+enum Said {
+    Going,
+    Published,
+    CaughtUp,
+    StoreFault,
+    SourceFault,
+}
+
+impl Said {
+    fn of(alloc: Global, text: &str) -> Result<Said, Wrong> {
+        match text.split(' ').nth(2) {
+            Some("checkpoint") | Some("read") | Some("staged") | Some("uploaded") => Ok(
+                Said::Going,
+            ),
+            Some("published") => Ok(Said::Published),
+            Some("caughtup") => Ok(Said::CaughtUp),
+            Some("storefault") => Ok(Said::StoreFault),
+            Some("sourcefault") => Ok(Said::SourceFault),
+            _ => Err(Wrong::seen(alloc, "said", text)),
+        }
+    }
+
+    // Whether records may be passed over behind this step, by whether they may be before it.
+    fn passes_over(self, before: bool) -> bool {
+        match self {
+            Said::SourceFault => true,
+            Said::CaughtUp => false,
+            Said::Going | Said::Published | Said::StoreFault => before,
+        }
+    }
+
+    fn is_fault(self) -> bool {
+        match self {
+            Said::StoreFault | Said::SourceFault => true,
+            Said::Going | Said::Published | Said::CaughtUp => false,
+        }
+    }
+}
+
+// The words of an error that is neither a fault nor want of an index.
+fn words_of(error: &WorldError) -> &'static str {
+    match error {
+        WorldError::Memory(_) => "no memory",
+        WorldError::Corrupt { .. } => "corrupt",
+        WorldError::Foreign { .. } => "foreign",
+        WorldError::Missing { .. } => "missing",
+        WorldError::IndexExists => "index exists",
+        _ => "otherwise",
+    }
+}
+
+// A world that was not opened told a fault of the store.
+fn is_fault(alloc: Global, error: WorldError) -> Result<(), Wrong> {
+    if let WorldError::StoreFault { .. } = &error {
+        mem::drop(error);
+        return Ok(());
+    }
+    let wrong = Wrong::seen(alloc, "opening:", words_of(&error));
+    mem::drop(error);
+    Err(wrong)
+}
+
+/// A world that was not opened has no index yet.
+pub fn is_vacant(alloc: Global, error: WorldError) -> Result<(), Wrong> {
+    if let WorldError::NoIndex = &error {
+        mem::drop(error);
+        return Ok(());
+    }
+    let wrong = Wrong::seen(alloc, "reading:", words_of(&error));
+    mem::drop(error);
+    Err(wrong)
+}
+
+/// A log that may keep why it failed, or why it passed over a file.
+pub trait Reasoned {
+    fn has_reason(&self) -> bool;
+}
+
+impl<'a, F: Files> Reasoned for FileLog<'a, F> {
+    fn has_reason(&self) -> bool {
+        self.first_reason().is_some()
+    }
+}
+
+// The index of a store, which is made where there is none.
+fn open<S: ObjectStore + Drop>(
+    alloc: Global,
+    store: S,
+) -> Result<World<S, ScriptClock>, WorldError> {
+    match World::load(alloc, store, ScriptClock::at(0)) {
+        Ok(world) => Ok(world),
+        Err(
+            Unopened {
+                error: WorldError::NoIndex,
+                store,
+            },
+        ) => match World::create(alloc, store, ScriptClock::at(0), CONFIG.as_bytes()) {
+            Ok(world) => Ok(world),
+            Err(Unopened { error, store }) => {
+                mem::drop(store);
+                Err(error)
+            }
+        },
+        Err(Unopened { error, store }) => {
+            mem::drop(store);
+            Err(error)
+        }
+    }
+}
+
+// A node over a world and its logs.
+fn start<S: ObjectStore + Drop, L: SourceLog>(
+    alloc: Global,
+    world: World<S, ScriptClock>,
+    logs: Vec<L>,
+) -> Result<DriveNode<S, L>, Wrong> {
+    match DriveNode::start(alloc, world, logs) {
+        Ok(node) => Ok(node),
+        Err(
+            Unstarted {
+                world,
+                logs,
+                error: _,
+            },
+        ) => {
+            mem::drop(logs);
+            mem::drop(world.unload());
+            Err(Wrong::Memory)
+        }
+    }
+}
+
+// Whether a log keeps a reason.
+fn names_reason<L: SourceLog + Reasoned>(logs: &Logs<L>) -> bool {
+    match logs {
+        Logs::Unread(logs) => logs.iter().any(|log| log.has_reason()),
+        Logs::Read(indexers) => indexers.iter().any(|indexer| indexer.log().has_reason()),
+    }
+}
+
+impl<'a> Session<'a> {
+    /// Opens the index, indexes, and searches.
+    pub fn play<Rt: Threads + Sync>(&self, rt: &Rt, book: &mut Book) -> Result<Told, Wrong> {
+        let store = FolderStore::writing(self.alloc, self.files, "store", self.writer)?;
+        let mut logs = Vec::new(self.alloc);
+        logs.push(FileLog::over(self.alloc, self.files, "logs")?)?;
+        self.play_over(rt, book, store, logs)
+    }
+
+    fn play_over<Rt: Threads + Sync, S: ObjectStore + Drop, L: SourceLog + Reasoned>(
+        &self,
+        rt: &Rt,
+        book: &mut Book,
+        store: S,
+        logs: Vec<L>,
+    ) -> Result<Told, Wrong> {
+        let world = match open(self.alloc, store) {
+            Ok(world) => world,
+            Err(error) => {
+                mem::drop(logs);
+                is_fault(self.alloc, error)?;
+                book.look(self.disk, false)?;
+                return Ok(Told {
+                    fault: true,
+                    found: false,
+                });
+            }
+        };
+        let mut node = start(self.alloc, world, logs)?;
+        let told = self.run(rt, book, &mut node);
+        let (store, logs) = node.finish_with_logs();
+        mem::drop(store);
+        let passed = names_reason(&logs);
+        mem::drop(logs);
+        let told = told?;
+        Ok(Told {
+            fault: told.fault || passed,
+            found: told.found,
+        })
+    }
+
+    fn run<Rt: Threads + Sync, S: ObjectStore + Drop, L: SourceLog>(
+        &self,
+        rt: &Rt,
+        book: &mut Book,
+        node: &mut DriveNode<S, L>,
+    ) -> Result<Told, Wrong> {
+        book.look(self.disk, true)?;
+        let indexed = self.index(rt, book, node)?;
+        if self.splits.is_some() || !indexed.found {
+            return Ok(Told {
+                fault: indexed.fault,
+                found: false,
+            });
+        }
+        let found = self.search(rt, node)?;
+        Ok(Told {
+            fault: indexed.fault || !found,
+            found,
+        })
+    }
+
+    // Indexes until all is indexed, or so many splits are. Whether a fault was told, and whether all is indexed. Behind a fault of
+    // the log its records may be passed over once, so that all is indexed only where that is said again.
+    fn index<Rt: Threads + Sync, S: ObjectStore + Drop, L: SourceLog>(
+        &self,
+        rt: &Rt,
+        book: &mut Book,
+        node: &mut DriveNode<S, L>,
+    ) -> Result<Told, Wrong> {
+        let mut told = Told {
+            fault: false,
+            found: false,
+        };
+        let mut published: u64 = 0;
+        let mut passes_over = false;
+        for _ in 0..STEPS {
+            let text = answered(rt, self.alloc, node, "indexer 0")?;
+            let said = Said::of(self.alloc, text.as_str())?;
+            book.look(self.disk, !said.is_fault())?;
+            match said {
+                Said::Going => {}
+                Said::Published => published = published.saturating_add(1),
+                Said::CaughtUp => told.found = !passes_over,
+                Said::StoreFault | Said::SourceFault => told.fault = true,
+            }
+            passes_over = said.passes_over(passes_over);
+            if told.found || self.splits == Some(published) || self.disk.state()?.is_dead() {
+                return Ok(told);
+            }
+        }
+        if self.disk.state()?.is_sound() {
+            return Err(Wrong::seen(self.alloc, "the indexer", "never ends"));
+        }
+        Ok(told)
+    }
+
+    // Searches for all. Whether there was an answer, which then has each record once.
+    fn search<Rt: Threads + Sync, S: ObjectStore + Drop, L: SourceLog>(
+        &self,
+        rt: &Rt,
+        node: &mut DriveNode<S, L>,
+    ) -> Result<bool, Wrong> {
+        let asked = "client a {\"search\":{\"query\":\"*\",\"max_hits\":100}}";
+        mem::drop(answered(rt, self.alloc, node, asked)?);
+        for _ in 0..STEPS {
+            let text = answered(rt, self.alloc, node, "client a")?;
+            if text.starts_with('{') {
+                return self.is_found(text.as_str());
+            }
+        }
+        Err(Wrong::seen(self.alloc, "search", "has no answer"))
+    }
+
+    // Whether an answer has each record once; a fault of the store has none, and there is no other answer.
+    fn is_found(&self, text: &str) -> Result<bool, Wrong> {
+        if text.contains("\"kind\":\"StoreFault\"") {
+            return Ok(false);
+        }
+        let alloc = self.alloc;
+        let records = self.records;
+        let count = format!(in alloc; "\"num_hits\":{records},")?;
+        let mut right = text.contains(count.as_str());
+        for number in 1..=records {
+            let record = format!(in alloc; "{{\"n\":{number}}}")?;
+            right = right && text.split(record.as_str()).count() == 2;
+        }
+        if right {
+            Ok(true)
+        } else {
+            Err(Wrong::seen(alloc, "answered", text))
+        }
+    }
+}
+
+// What a node answers to a line.
+fn answered<Rt: Threads + Sync, S: ObjectStore + Drop, L: SourceLog>(
+    rt: &Rt,
+    alloc: Global,
+    node: &mut DriveNode<S, L>,
+    text: &str,
+) -> Result<String, Wrong> {
+    let line = match read_line(alloc, text.as_bytes()) {
+        Ok(line) => line,
+        Err(LineError::BadLine) => return Err(Wrong::seen(alloc, "no line", text)),
+        Err(LineError::Memory(refused)) => return Err(Wrong::from(refused)),
+    };
+    match node.accepts(&line) {
+        Accepts::Yes => {
+            let out = node.step(rt, alloc, &line)?;
+            Ok(String::from_utf8_lossy(alloc, out.bytes.as_slice())?)
+        }
+        Accepts::BadLine | Accepts::TooManyClients => Err(Wrong::seen(alloc, "refused", text)),
+    }
+}

@@ -1,0 +1,92 @@
+//! What is said to a person on standard error. It stands outside of what is promised, and standard output does not change by it.
+
+use node_run::Logs;
+use object_store::SteadyStore;
+use real_edge::{FileLog, FolderStore, Reason, WriterLock};
+use source_log::{MemoryLog, SourceLog};
+use std::fs::Files;
+
+const USAGE: &str = "usage: quick_node STORE LOGS COMMAND
+
+  STORE     the folder of the index, or `memory`
+  LOGS      the folder of the logs, a file for each partition and a record on each line, or `memory`
+
+  create    makes the index of the configuration on standard input
+  drive     does the lines of a schedule on standard input
+  splits    writes a line for each split of the index
+  describe  writes the index as a whole";
+
+/// Why a call of the system failed first, of what keeps it.
+pub trait Reasoned {
+    fn first_reason(&self) -> Option<&Reason>;
+}
+
+impl<'a, F: WriterLock> Reasoned for FolderStore<'a, F> {
+    fn first_reason(&self) -> Option<&Reason> {
+        self.first_reason()
+    }
+}
+
+impl Reasoned for SteadyStore {
+    fn first_reason(&self) -> Option<&Reason> {
+        None
+    }
+}
+
+impl<'a, F: Files> Reasoned for FileLog<'a, F> {
+    fn first_reason(&self) -> Option<&Reason> {
+        self.first_reason()
+    }
+}
+
+impl Reasoned for MemoryLog {
+    fn first_reason(&self) -> Option<&Reason> {
+        None
+    }
+}
+
+/// The first reason of the first log that has one.
+pub fn reason_of_logs<L: SourceLog + Reasoned>(logs: &Logs<L>) -> Option<&Reason> {
+    match logs {
+        Logs::Unread(logs) => logs.iter().find_map(|log| log.first_reason()),
+        Logs::Read(indexers) => indexers
+            .iter()
+            .find_map(|indexer| indexer.log().first_reason()),
+    }
+}
+
+// What a status says where no call of the system failed.
+fn sentence_of(status: u8) -> &'static str {
+    match status {
+        1 => USAGE,
+        2 => "quick_node: the configuration is refused, with the key above",
+        3 =>
+            "quick_node: the schedule is refused from the line above on; the lines before it are done",
+        4 => "quick_node: the store failed",
+        5 => "quick_node: standard input failed",
+        6 => "quick_node: standard output failed; what was done is done",
+        7 => "quick_node: the store is no sound index, by the object above; nothing was written",
+        8 => "quick_node: the store has no index yet; `create` makes one",
+        9 => "quick_node: the store has an index already",
+        10 => "quick_node: the limit above was passed",
+        _ => "quick_node: there was no memory",
+    }
+}
+
+/// Says why a call of the system failed, if one did. Whether one did.
+pub fn tell_reason(rt: &HostRuntime, reason: Option<&Reason>) -> bool {
+    match reason {
+        Some(reason) => {
+            let _ = eprintln!(rt; "quick_node: {reason}");
+            true
+        }
+        None => false,
+    }
+}
+
+/// Says why a call ended with a status that is not 0, where no call of the system failed.
+pub fn tell_status(rt: &HostRuntime, status: u8) {
+    if status != 0 {
+        let _ = eprintln!(rt; "{}", sentence_of(status));
+    }
+}
