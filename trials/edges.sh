@@ -92,7 +92,7 @@ holds 'of the names, plain files that can be read are partitions' 'p0 p1' "$(sev
 printf '1\n2\n' >"$room/shrinks/logs/p0"
 holds 'a log that shrank is told, and keeps nobody from the rest of it' "$(several 'failed 1' end '[x] end' '[2] end')" \
     "$(several 'read p0 3 9' 'read p0 3 9' 'read p1 0 9' 'read p0 1 9' | as_timed "$room/shrinks" 1)"
-holds 'what is asked for by name and is no plain file is told' "$(several 'failed 1' 'failed 2' 'failed 3')" \
+holds 'what is asked for by name: a link and a pipe are no partitions, a file that may not be read is told' "$(several end end 'failed 1')" \
     "$(several 'read p2 0 9' 'read p3 0 9' 'read p4 0 9' | as_timed "$room/shrinks" 1)"
 
 exit $bad

@@ -10,8 +10,8 @@ of its times, the life is played anew with just this call answered EIO and not d
 makes the call), and behind it a life without a failure goes on over the same folders to its end.
 
 What has to hold of each: the record numbers that the last search finds are those of the log, each once; a run that was not
-right named a fault (a line with storefault, sourcefault or error, or a sentence on standard error with a status that is not
-0); and no file beside the keys is left. It prints a line for each kind of call, and ends with 0 where all held.
+right named a fault (a line with storefault, sourcefault or error, a reply with StoreFault, or a status that is not 0); and no
+file beside the keys is left. It prints a line for each kind of call, and ends with 0 where all held.
 """
 import argparse
 import collections
@@ -96,7 +96,7 @@ def numbers_in(said):
 
 def names_a_fault(run):
     said = run.stdout.decode(errors="replace")
-    return run.returncode != 0 or bool(re.search(r"storefault|sourcefault|^error ", said, re.MULTILINE))
+    return run.returncode != 0 or bool(re.search(r"storefault|sourcefault|^error |\"kind\":\"StoreFault\"", said, re.MULTILINE))
 
 
 def counted(program):
