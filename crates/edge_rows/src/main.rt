@@ -20,6 +20,7 @@ use source_checkpoint::Partition;
 use source_log::SourceLog;
 use std::alloc::{AllocError, Global};
 use std::fs::{self, Files};
+use std::thread::Threads;
 use std::{env, io};
 
 // The text of an answer: these words, or `-` where there are none.
@@ -187,27 +188,44 @@ fn laid<F: Files>(files: &F, alloc: Global, asked: &str, rest: &str) -> io::Resu
     Ok(String::from_str(alloc, "ok")?)
 }
 
-fn main(rt: HostRuntime) -> io::Result<()> {
-    let alloc = rt.alloc();
-    let word = env::args(&rt)?.nth(1);
-    let mut store = match word.as_deref() {
-        Some("reading") => FolderStore::reading(alloc, &rt, "store")?,
-        word => FolderStore::writing(alloc, &rt, "store", number(word))?,
-    };
-    let mut log = FileLog::over(alloc, &rt, "logs")?;
+// Answers the lines of the standard input.
+fn answer_all<Rt: Threads + Sync + Input + Print + Files, S: ObjectStore, L: SourceLog>(
+    rt: &Rt,
+    alloc: Global,
+    store: &mut S,
+    log: &mut L,
+) -> io::Result<()> {
     for line in rt.lines(alloc) {
         let line = line?;
         let (asked, rest) = line.split_once(' ').unwrap_or((line.as_str(), ""));
         if asked == "faults" {
-            play_table(&rt, alloc, number(Some(rest)).max(1))?;
+            play_table(rt, alloc, number(Some(rest)).max(1))?;
             continue;
         }
         let answer = match asked {
-            "folder" | "file" => laid(&rt, alloc, asked, rest)?,
-            "partitions" | "read" => logged(alloc, &mut log, asked, rest)?,
-            _ => stored(alloc, &mut store, asked, rest)?,
+            "folder" | "file" => laid(rt, alloc, asked, rest)?,
+            "partitions" | "read" => logged(alloc, log, asked, rest)?,
+            _ => stored(alloc, store, asked, rest)?,
         };
         println!(rt; "{answer}")?;
     }
     Ok(())
+}
+
+// The objects of a folder, for the word of the program.
+fn store_of<'a>(
+    rt: &'a HostRuntime,
+    word: Option<&str>,
+) -> Result<FolderStore<'a, HostRuntime>, AllocError> {
+    match word {
+        Some("reading") => FolderStore::reading(rt.alloc(), rt, "store"),
+        word => FolderStore::writing(rt.alloc(), rt, "store", number(word)),
+    }
+}
+
+fn main(rt: HostRuntime) -> io::Result<()> {
+    let word = env::args(&rt)?.nth(1);
+    let mut log = FileLog::over(rt.alloc(), &rt, "logs")?;
+    let mut store = store_of(&rt, word.as_deref())?;
+    answer_all(&rt, rt.alloc(), &mut store, &mut log)
 }

@@ -9,6 +9,8 @@ pub enum Wrong {
     Memory,
     /// What was seen that is not to be.
     Seen(String),
+    /// An answer lacks records, and has none twice.
+    Lacking(String),
     /// The disk was not looked at.
     Disk(io::Error),
 }
@@ -40,10 +42,19 @@ impl Wrong {
         }
     }
 
+    /// An answer that lacks records.
+    pub fn lacking(alloc: Global, answer: &str) -> Wrong {
+        match String::from_str(alloc, answer) {
+            Ok(text) => Wrong::Lacking(text),
+            Err(_) => Wrong::Memory,
+        }
+    }
+
     pub fn text(&self, alloc: Global) -> Result<String, AllocError> {
         match self {
             Wrong::Memory => String::from_str(alloc, "no memory"),
             Wrong::Seen(text) => String::from_str(alloc, text.as_str()),
+            Wrong::Lacking(text) => format!(in alloc; "lacks records: {text}"),
             Wrong::Disk(fault) => format!(in alloc; "the disk: {fault}"),
         }
     }
