@@ -1,0 +1,5 @@
+pub mod Noting
+pub mod Fronts
+pub mod Decimals
+pub mod Apart
+mod Worked
