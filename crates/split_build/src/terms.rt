@@ -48,37 +48,46 @@ impl Occurrences {
 // So many numbers are kept as hints.
 const HINTS: usize = 65_536;
 
-/// The numbers of keys that were found last, each where the bytes of its key say. A number is tried before it is taken, so
-/// any may stand there.
+/// The numbers of keys that were found last, each beside the mix of its key's bytes and where that says. A number is tried
+/// before it is taken, so any may stand there.
 #[derive(Drop)]
 pub struct Hints {
-    numbers: Vec<u32>,
+    mixes_and_numbers: Vec<(u32, u32)>,
 }
 
 impl Hints {
     fn vacant(alloc: Global) -> Result<Hints, AllocError> {
-        let numbers = vec![in alloc; 0u32; HINTS]?;
-        Ok(Hints { numbers })
+        let mixes_and_numbers = vec![in alloc; (0u32, 0u32); HINTS]?;
+        Ok(Hints { mixes_and_numbers })
     }
 
-    fn get(&self, place: usize) -> u32 {
-        self.numbers.get(place).copied().unwrap_or(0)
+    // A key with another mix is another key, so its bytes need not be looked at.
+    fn get(&self, mix: u32) -> Option<u32> {
+        match self.mixes_and_numbers.get(hint_place(mix)) {
+            Some((held, number)) if *held == mix => Some(*number),
+            _ => None,
+        }
     }
 
-    fn set(&mut self, place: usize, number: u32) {
-        if let Some(hint) = self.numbers.get_mut(place) {
-            *hint = number;
+    fn set(&mut self, mix: u32, number: u32) {
+        if let Some(hint) = self.mixes_and_numbers.get_mut(hint_place(mix)) {
+            *hint = (mix, number);
         }
     }
 }
 
-// Where the hint for a key stands.
-fn hint_place(key: &[u8]) -> usize {
-    let mut mixed: u32 = 0x811c_9dc5;
+// A mix of a key's bytes.
+fn mix_of(key: &[u8]) -> u32 {
+    let mut mix: u32 = 0x811c_9dc5;
     for byte in key {
-        mixed = (mixed ^ u32::from(*byte)).wrapping_mul(0x0100_0193);
+        mix = (mix ^ u32::from(*byte)).wrapping_mul(0x0100_0193);
     }
-    (mixed ^ (mixed >> 16)) as usize % HINTS
+    mix
+}
+
+// Where the hint for keys with a mix stands.
+fn hint_place(mix: u32) -> usize {
+    (mix ^ (mix >> 16)) as usize % HINTS
 }
 
 /// Each key that occurs, in the order of first sight, and where: the occurrences whose places are kept, and the others.
@@ -132,13 +141,14 @@ fn number_of(
     ensures grown { OnOk result ((more : List (List ℕ)) × (key_bytes keys.new.keys ≡ key_bytes keys.old.keys ++ more) × AllByRecursion (λ k. k ≡ key.now) more) }
     ensures number { IfOk result (λ n. slice_get (key_bytes keys.new.keys) n ≡ Some key.now) }
 {
-    let place = hint_place(key);
-    let hint = hints.get(place);
-    if has_number(keys, hint, key) {
-        return Ok(hint);
+    let mix = mix_of(key);
+    if let Some(hint) = hints.get(mix) {
+        if has_number(keys, hint, key) {
+            return Ok(hint);
+        }
     }
     let number = sought(alloc, keys, key)?;
-    hints.set(place, number);
+    hints.set(mix, number);
     Ok(number)
 }
 
