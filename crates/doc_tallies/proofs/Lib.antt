@@ -1,6 +1,8 @@
 pub mod Owned
 pub mod FieldValues
 pub mod Putting
+pub mod Stable
+pub mod Late
 pub mod Taken
 pub mod TimeValues
 pub mod Faults

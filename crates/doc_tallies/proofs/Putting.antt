@@ -1,6 +1,5 @@
 -- Items put in order, from the left and from the right.
-use Rattle.std.proofs.Common.{◌≡◌, ℕ, zero, suc, ◌+◌, ◌<◌, ◌≤◌, Bool, true, false, List, [], ◌∷◌, ◌++◌, take, drop, length, get_or, if◌then◌else◌, refl, ap, sym, ◌∙◌, arith, append_assoc}
-use Rattle.std.proofs.lemmas.List.{drop_all, drop_more, take_all, take_more}
+use Rattle.std.proofs.Common.{◌≡◌, ℕ, zero, suc, Bool, true, false, List, [], ◌∷◌, ◌++◌, take, if◌then◌else◌, refl, ap, sym, ◌∙◌, append_assoc}
 use Rattle.std.specs.Cmp.{IsStrictWeakOrder}
 use Rattle.doc_tallies.specs.Firsts.{put_by, sorted_by, firsts_by, put_last_by}
 
@@ -33,7 +32,7 @@ take_none : {X : Type 0} (n : ℕ) → take {A = X} n [] ≡ []
 take_none zero = refl
 take_none (suc n) = refl
 
-take_twice : {X : Type 0} (n : ℕ) (zs : List X) → take n (take n zs) ≡ take n zs
+pub take_twice : {X : Type 0} (n : ℕ) (zs : List X) → take n (take n zs) ≡ take n zs
 take_twice zero zs = refl
 take_twice (suc n) [] = refl
 take_twice (suc n) (z ∷ zs) = ap (λ ws. z ∷ ws) (take_twice n zs)
@@ -136,7 +135,7 @@ InOrder b [] = Unit {0}
 InOrder b (x ∷ []) = Unit {0}
 InOrder b (x ∷ y ∷ ys) = (b y x ≡ false) × InOrder b (y ∷ ys)
 
-sorted_self : {X : Type 0} (b : X → X → Bool) (xs : List X) → InOrder b xs → sorted_by b xs ≡ xs
+pub sorted_self : {X : Type 0} (b : X → X → Bool) (xs : List X) → InOrder b xs → sorted_by b xs ≡ xs
 sorted_self b [] h = refl
 sorted_self b (x ∷ []) h = refl
 sorted_self b (x ∷ y ∷ ys) h = ap (put_by b x) (sorted_self b (y ∷ ys) h.1) ∙ rw (h.0)
@@ -178,33 +177,3 @@ merged b o n xs ys =
     ∙ (puts_last_take b n (firsts_by n b ys) (sorted_by b xs)
     ∙ (ap (take n) (sym (sorted_append_last b o (firsts_by n b ys) xs) ∙ (sorted_append b xs (firsts_by n b ys) ∙ ap (puts b xs) (sorted_self b (firsts_by n b ys) (firsts_in_order b o n ys))))
     ∙ (puts_take b n xs (sorted_by b ys) ∙ ap (take n) (sym (sorted_append b xs ys)))))
-
--- ---- where an item is put
-
-put_from : {X : Type 0} (b : X → X → Bool) (x y : X) (ys : List X) (i : ℕ) → i < length ys → y ≡ get_or ys i y → drop i ys ≡ y ∷ drop (i + 1) ys
-put_from b x y ys i lt at = drop_more ys i y lt ∙ ap (λ z. z ∷ drop (i + 1) ys) (sym at)
-
-pub put_passed : {X : Type 0} (b : X → X → Bool) (x y : X) (ys : List X) (i : ℕ) → i < length ys → y ≡ get_or ys i y → b x y ≡ false → put_last_by b x ys ≡ take i ys ++ put_last_by b x (drop i ys)
-    → put_last_by b x ys ≡ take (i + 1) ys ++ put_last_by b x (drop (i + 1) ys)
-put_passed b x y ys i lt at passed before =
-    let rest = drop (i + 1) ys in
-    let one : put_last_by b x (y ∷ rest) ≡ y ∷ put_last_by b x rest = rw (passed) refl in
-    let front : take (i + 1) ys ≡ take i ys ++ y ∷ [] = take_more ys i y lt ∙ ap (λ z. take i ys ++ z ∷ []) (sym at) in
-    before ∙ (ap (λ zs. take i ys ++ put_last_by b x zs) (put_from b x y ys i lt at) ∙ (ap (λ zs. take i ys ++ zs) one
-    ∙ (sym (append_assoc (take i ys) (y ∷ []) (put_last_by b x rest)) ∙ ap (λ zs. zs ++ put_last_by b x rest) (sym front))))
-
-pub put_found : {X : Type 0} (b : X → X → Bool) (x y : X) (ys : List X) (i : ℕ) → i < length ys → y ≡ get_or ys i y → b x y ≡ true → put_last_by b x ys ≡ take i ys ++ put_last_by b x (drop i ys)
-    → take i ys ++ x ∷ drop i ys ≡ put_last_by b x ys
-put_found b x y ys i lt at found before =
-    let rest = drop (i + 1) ys in
-    let from : drop i ys ≡ y ∷ rest = put_from b x y ys i lt at in
-    let one : put_last_by b x (y ∷ rest) ≡ x ∷ y ∷ rest = rw (found) refl in
-    sym (before ∙ (ap (λ zs. take i ys ++ put_last_by b x zs) from ∙ (ap (λ zs. take i ys ++ zs) one ∙ ap (λ zs. take i ys ++ x ∷ zs) (sym from))))
-
-pub put_end : {X : Type 0} (b : X → X → Bool) (x : X) (ys : List X) (i n : ℕ) → length ys ≤ i → n ≡ length ys → put_last_by b x ys ≡ take i ys ++ put_last_by b x (drop i ys) → take n ys ++ x ∷ drop n ys ≡ put_last_by b x ys
-put_end b x ys i n le at before =
-    let none : drop i ys ≡ [] = drop_all i ys le in
-    let none_there : drop n ys ≡ [] = drop_all n ys (omega arith) in
-    let all : take i ys ≡ ys = take_all i ys le in
-    let all_there : take n ys ≡ ys = take_all n ys (omega arith) in
-    ap (λ zs. take n ys ++ x ∷ zs) none_there ∙ (ap (λ zs. zs ++ x ∷ []) (all_there ∙ sym all) ∙ (ap (λ zs. take i ys ++ put_last_by b x zs) (sym none) ∙ sym before))

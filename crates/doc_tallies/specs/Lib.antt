@@ -4,6 +4,7 @@ pub mod Cells
 pub mod Times
 pub mod Firsts
 pub mod Orders
+pub mod Bars
 pub mod AggColumns
 pub mod Ranks
 pub mod Marks

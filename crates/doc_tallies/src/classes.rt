@@ -1,6 +1,6 @@
 //! Classes of documents that count alike for an aggregation.
 
-ghost use Rattle.std.specs.Prelude.{◌≡◌, ◌<◌, ◌+◌, ◌^◌, ◌≤◌, ◌↔◌, ℕ, ℤ, pos, ◌≤ℤ◌, List, Option, IfOk, IfSome, IsTrue, length, vec_len};
+ghost use Rattle.std.specs.Prelude.{◌≡◌, false, ◌<◌, ◌+◌, ◌^◌, ◌≤◌, ◌↔◌, ℕ, ℤ, pos, ◌≤ℤ◌, List, Option, IfOk, IfSome, IsTrue, length, vec_len};
 ghost use Rattle.std.specs.Bool.{OnTrue};
 ghost use Rattle.std.specs.Int.{int_div_euclid};
 ghost use Rattle.std.specs.Int.RustNames.{unsigned_abs};
@@ -17,6 +17,7 @@ ghost use Rattle.doc_tallies.specs.Picked.{AllBelow};
 
 use crate::column_values::signed;
 use crate::field_column::FieldColumn;
+use crate::places::{places_of, reach_of};
 use crate::tables::tabled;
 use agg_model::{Agg, Distance};
 use doc_value::Kind;
@@ -30,8 +31,13 @@ pub(crate) struct Class {
     pub sample: u32,
 }
 
-// How many classes there are at most.
-pub(crate) const PLACES: usize = 16_384;
+// A prime, so that marks which are multiples of one another are looked for at places apart.
+const PRIME: u16 = 16_381;
+
+// At how many places the class of a mark is looked for, and how far apart these are: a prime beyond all places.
+const TRIES: usize = 16;
+
+const STRIDE: usize = 31_337;
 
 // The whole number for which a number of a column of a kind stands.
 fn whole_number(kind: Kind, number: u64) -> i128
@@ -108,23 +114,32 @@ fn is_same(a: Option<i128>, b: Option<i128>) -> bool
     }
 }
 
-// Where the class of a mark stands, if it stands anywhere.
+// Where the class of a mark is looked for first.
 fn place_of(mark: Option<i128>) -> usize
-    ensures { result < PLACES }
+    ensures { result < 16384 }
 {
-    match mark {
-        Some(mark) => mark.rem_euclid(PLACES as i128) as usize,
-        None => 0,
+    let Some(mark) = mark else {
+        return 0;
+    };
+    match i64::try_from(mark) {
+        Ok(mark) => mark.rem_euclid(PRIME as i64) as usize,
+        Err(_) => mark.rem_euclid(PRIME as i128) as usize,
     }
 }
 
-// Counts so many documents, of which this is one, in the class of their mark. It answers false where another class stands there.
-fn count_many(classes: &mut Vec<Class>, mark: Option<i128>, more: u64, document: u32) -> bool
-    requires { vec_len classes.old ≡ PLACES }
-    ensures len { vec_len classes.new ≡ PLACES }
+// Counts so many documents, of which this is one, in the class at a place. It answers false where the class of another mark stands there.
+fn count_at(
+    classes: &mut Vec<Class>,
+    place: usize,
+    mark: Option<i128>,
+    more: u64,
+    document: u32,
+) -> bool
+    requires { place < vec_len classes.old }
+    ensures len { vec_len classes.new ≡ vec_len classes.old }
+    ensures kept { result ≡ false → classes.new.items ≡ classes.old.items }
     ensures counted { OnTrue result (IsCounted mark more document classes.old.items classes.new.items) }
 {
-    let place = place_of(mark);
     let class = classes[place];
     if class.count > u64::MAX - more || class.count != 0 && !is_same(class.mark, mark) {
         return false;
@@ -137,10 +152,27 @@ fn count_many(classes: &mut Vec<Class>, mark: Option<i128>, more: u64, document:
     true
 }
 
-// Counts a document in the class of its mark. It answers false where another class stands there.
+// Counts so many documents, of which this is one, in the class of their mark. It answers false where at each of the places that it may
+// have the class of another mark stands.
+fn count_many(classes: &mut Vec<Class>, mark: Option<i128>, more: u64, document: u32) -> bool
+    requires { 0 < vec_len classes.old }
+    ensures len { vec_len classes.new ≡ vec_len classes.old }
+    ensures counted { OnTrue result (IsCounted mark more document classes.old.items classes.new.items) }
+{
+    let first = place_of(mark);
+    for step in 0..TRIES {
+        let place = (first + step * STRIDE) % classes.len();
+        if count_at(classes, place, mark, more, document) {
+            return true;
+        }
+    }
+    false
+}
+
+// Counts a document in the class of its mark. It answers false where there is no place for that.
 pub(crate) fn count_one(classes: &mut Vec<Class>, mark: Option<i128>, document: u32) -> bool
-    requires { vec_len classes.old ≡ PLACES }
-    ensures len { vec_len classes.new ≡ PLACES }
+    requires { 0 < vec_len classes.old }
+    ensures len { vec_len classes.new ≡ vec_len classes.old }
     ensures counted { OnTrue result (IsCounted mark 1 document classes.old.items classes.new.items) }
 {
     count_many(classes, mark, 1, document)
@@ -148,7 +180,7 @@ pub(crate) fn count_one(classes: &mut Vec<Class>, mark: Option<i128>, document: 
 
 // Adds the documents of some classes to those of the same marks, if there is room for all.
 pub(crate) fn regrouped(classes: &mut Vec<Class>, cells: &[Class]) -> bool
-    requires { vec_len classes.old ≡ PLACES }
+    requires { 0 < vec_len classes.old }
     ensures marked { (agg : Agg) (kind : Kind) (entries : List Entry) (bound : ℕ) → All (IsMarked agg kind entries bound) cells.now → All (IsMarked agg kind entries bound) classes.old.items
         → OnTrue result (IsRegrouped agg kind entries bound cells.now classes.old.items classes.new.items) }
     ensures total { OnTrue result (class_sum classes.new.items ≡ class_sum classes.old.items + class_sum cells.now) }
@@ -161,13 +193,13 @@ pub(crate) fn regrouped(classes: &mut Vec<Class>, cells: &[Class]) -> bool
     true
 }
 
-// Classes that have no documents.
-pub(crate) fn no_classes(alloc: Global) -> Result<Vec<Class>, AllocError>
-    ensures len { IfOk result (λ classes. vec_len classes ≡ PLACES) }
+// So many classes that have no documents.
+pub(crate) fn no_classes(alloc: Global, places: usize) -> Result<Vec<Class>, AllocError>
+    ensures len { IfOk result (λ classes. vec_len classes ≡ places) }
     ensures none { IfOk result (λ classes. All (λ c. c.count ≡ 0) classes.items) }
 {
-    let mut classes = Vec::with_capacity(alloc, PLACES)?;
-    for _place in 0..PLACES {
+    let mut classes = Vec::with_capacity(alloc, places)?;
+    for _place in 0..places {
         classes.push(Class {
             mark: None,
             count: 0,
@@ -189,7 +221,9 @@ fn classes_each(
         → IfOk result (λ o. IfSome o (λ classes. AreClasses agg.now field.now.kind entries bound numbers.now classes.items)) }
     ensures total { IfOk result (λ o. IfSome o (λ classes. class_sum classes.items ≡ length numbers.now)) }
 {
-    let mut classes = no_classes(alloc)?;
+    let reach = reach_of(&field.column, numbers);
+    let places = places_of(agg, field, reach, numbers.len());
+    let mut classes = no_classes(alloc, places)?;
     for number in numbers {
         let mark = mark_at(agg, field, *number);
         if !count_one(&mut classes, mark, *number) {

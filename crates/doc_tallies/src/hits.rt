@@ -1,13 +1,14 @@
 //! The first hits of some documents in order.
 
-ghost use Rattle.std.specs.Prelude.{◌≡◌, ◌≤◌, ◌++◌, ◌∷◌, [], List, ℕ, Ok, length, take, drop, vec_len, OnOk, MatchResult};
+ghost use Rattle.std.specs.Prelude.{◌≡◌, ◌≤◌, ◌++◌, ◌∷◌, [], List, ℕ, Ok, IfOk, OnOk, MatchResult};
+ghost use Rattle.std.specs.Bool.{OnTrue};
 ghost use Rattle.doc_value.specs.declared.schema.Schema.{Schema};
 ghost use Rattle.split_bundle.specs.declared.placed.Placed.{Placed};
 ghost use Rattle.split_bundle.specs.Files.{Parts, file_bytes};
 ghost use Rattle.split_bundle.specs.Lending.{IsPartOf};
 ghost use Rattle.split_bundle.specs.Wholes.{HaveAll, IsThere};
 ghost use Rattle.doc_tallies.specs.Causes.{AsksDocuments, AsksHits, HasCause};
-ghost use Rattle.doc_tallies.specs.Firsts.{put_last_by};
+ghost use Rattle.doc_tallies.specs.Bars.{HasBar};
 ghost use Rattle.doc_tallies.specs.Orders.{IsSortable, firsts, sort_field};
 ghost use Rattle.doc_tallies.specs.Orders as orders;
 ghost use Rattle.doc_tallies.specs.Picked.{AllBelow, picked};
@@ -15,37 +16,64 @@ ghost use Rattle.doc_tallies.specs.Ranks.{IsSortOf};
 
 use crate::HitOrder;
 use crate::near::{SortColumn, near_numbers, open_sort};
-use crate::order::comes_before;
+use crate::order::{comes_before, order_of_hits};
 use doc_value::Schema;
 use split_bundle::{PartView, Placed, PlacedList, SplitError};
 use std::alloc::{AllocError, Global};
 
-// Where a hit is to stand among hits: before the first one that stands behind it.
-fn place_among(order: Option<HitOrder>, kept: &[Placed], hit: &Placed) -> usize
-    ensures within { result ≤ length kept.now }
-    ensures place { take result kept.now ++ hit.now ∷ drop result kept.now ≡ put_last_by (orders.comes_before order) hit.now kept.now }
+// Whether a hit does not come before the last of the first so many, behind which none is among them.
+fn is_late(order: Option<HitOrder>, wanted: usize, kept: &[Placed], hit: &Placed) -> bool
+    ensures { HasBar (orders.comes_before order) wanted kept.now → OnTrue result (firsts wanted order (kept.now ++ hit.now ∷ []) ≡ firsts wanted order kept.now) }
 {
-    for (i, other) in kept.iter().enumerate() {
-        if comes_before(order, hit, other) {
-            return i;
-        }
+    let last = wanted.saturating_sub(1);
+    if last >= kept.len() {
+        return false;
     }
-    kept.len()
+    !comes_before(order, hit, &kept[last])
 }
 
-// Puts a hit among the first so many, of which the last one may fall out.
+// Drops all hits but the first so many, which are put in order.
+fn cut(order: Option<HitOrder>, wanted: usize, kept: &mut Vec<Placed>) -> Result<(), AllocError>
+    ensures { OnOk result (kept.new.items ≡ firsts wanted order kept.old.items) }
+{
+    kept.sort_by(|a, b| order_of_hits(order, a, b))?;
+    kept.truncate(wanted);
+    Ok(())
+}
+
+// Whether there are as many as are wanted, and any.
+fn is_full(wanted: usize, count: usize) -> bool
+    ensures { OnTrue result ((1 ≤ wanted) × (count ≡ wanted)) }
+{
+    count == wanted && wanted >= 1
+}
+
+// How many hits more than are wanted are kept before they are cut, at least.
+const SPARE: usize = 64;
+
+// Adds a hit to some among which the first so many of all are, unless it is late. It says whether so many are known not to stand
+// behind the last of these, as it is told of the hits before.
 fn keep(
     order: Option<HitOrder>,
     wanted: usize,
+    full: bool,
     kept: &mut Vec<Placed>,
     hit: Placed,
-) -> Result<(), AllocError>
-    ensures { OnOk result (kept.new.items ≡ take wanted (put_last_by (orders.comes_before order) hit kept.old.items)) }
+) -> Result<bool, AllocError>
+    requires { OnTrue full (HasBar (orders.comes_before order) wanted kept.old.items) }
+    ensures firsts { OnOk result (firsts wanted order kept.new.items ≡ firsts wanted order (kept.old.items ++ hit ∷ [])) }
+    ensures bar { IfOk result (λ full. OnTrue full (HasBar (orders.comes_before order) wanted kept.new.items)) }
 {
-    let place = place_among(order, kept.as_slice(), &hit);
-    kept.insert(place, hit)?;
-    kept.truncate(wanted);
-    Ok(())
+    if full && is_late(order, wanted, kept.as_slice(), &hit) {
+        return Ok(true);
+    }
+    kept.push(hit)?;
+    if kept.len().saturating_sub(wanted) < wanted.max(SPARE) {
+        return Ok(full);
+    }
+    cut(order, wanted, kept)?;
+    let count = kept.len();
+    Ok(is_full(wanted, count))
 }
 
 // The first so many of the documents of these numbers, each of which is read.
@@ -63,12 +91,14 @@ fn hits_among(
     ensures there { (documents : List Placed) (p : Parts) → IsPartOf view.now schema.now documents p → HaveAll (file_bytes p) view.now.pieces → IsThere result }
 {
     let mut kept = Vec::new(alloc);
+    let mut full = false;
     for number in numbers {
         match view.placed(alloc, schema, *number) {
-            Ok(hit) => keep(order, wanted, &mut kept, hit)?,
+            Ok(hit) => full = keep(order, wanted, full, &mut kept, hit)?,
             Err(fault) => return Err(fault),
         }
     }
+    cut(order, wanted, &mut kept)?;
     Ok(PlacedList::from_vec(kept))
 }
 

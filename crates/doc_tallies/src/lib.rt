@@ -11,6 +11,7 @@ mod laws;
 mod near;
 mod order;
 mod partials;
+mod places;
 mod repeats;
 mod span;
 mod tables;

@@ -43,14 +43,28 @@ fn order_of_values(order: HitOrder, a: &Doc, b: &Doc) -> Ordering
     }
 }
 
-// Whether a document stands before another by partition and offset.
-fn stands_before(a: &Placed, b: &Placed) -> bool
-    ensures { result ≡ is_lt (orders.place_cmp a.now b.now) }
+// The order of two documents by partition and offset.
+fn order_of_places(a: &Placed, b: &Placed) -> Ordering
+    ensures { result ≡ orders.place_cmp a.now b.now }
 {
     match a.partition.compare(&b.partition) {
-        Ordering::Less => true,
-        Ordering::Equal => a.offset < b.offset,
-        Ordering::Greater => false,
+        Ordering::Less => Ordering::Less,
+        Ordering::Equal => a.offset.cmp(&b.offset),
+        Ordering::Greater => Ordering::Greater,
+    }
+}
+
+// The order of two hits.
+pub(crate) fn order_of_hits(order: Option<HitOrder>, a: &Placed, b: &Placed) -> Ordering
+    ensures { is_lt result ≡ orders.comes_before order a.now b.now }
+{
+    match order {
+        None => order_of_places(a, b),
+        Some(order) => match order_of_values(order, &a.doc, &b.doc) {
+            Ordering::Less => Ordering::Less,
+            Ordering::Equal => order_of_places(a, b),
+            Ordering::Greater => Ordering::Greater,
+        },
     }
 }
 
@@ -59,12 +73,5 @@ fn stands_before(a: &Placed, b: &Placed) -> bool
 pub fn comes_before(order: Option<HitOrder>, a: &Placed, b: &Placed) -> bool
     ensures { result ≡ orders.comes_before order a.now b.now }
 {
-    match order {
-        None => stands_before(a, b),
-        Some(order) => match order_of_values(order, &a.doc, &b.doc) {
-            Ordering::Less => true,
-            Ordering::Equal => stands_before(a, b),
-            Ordering::Greater => false,
-        },
-    }
+    order_of_hits(order, a, b).is_lt()
 }

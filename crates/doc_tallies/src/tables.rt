@@ -14,28 +14,15 @@ ghost use Rattle.doc_tallies.specs.Marks.{mark_of};
 ghost use Rattle.doc_tallies.specs.Picked.{AllBelow};
 ghost use Rattle.doc_tallies.specs.Tables.{IsMarkAt, IsTable, StandsAt};
 
-use crate::classes::{Class, PLACES, count_one, mark_of, no_classes, regrouped};
+use crate::classes::{Class, count_one, mark_of, no_classes, regrouped};
 use crate::field_column::FieldColumn;
 use crate::first_values::FirstValues;
+use crate::places::{MOST, places_for, places_of, reach_of};
 use crate::span::Span;
 use agg_model::Agg;
 use doc_value::Kind;
 use fast_fields::Column;
 use std::alloc::{AllocError, Global};
-
-// One in so many documents is looked at to see how far the numbers reach.
-const APART: usize = 61;
-
-// How far the numbers of some of the documents stand above the least one.
-fn reach_of(column: &Column<'_>, least: u64, numbers: &[u32]) -> u64 {
-    let mut reach = 0;
-    for step in 0..numbers.len() / APART {
-        if let Some(number) = column.value_at(numbers[step * APART]) {
-            reach = reach.max(number.saturating_sub(least));
-        }
-    }
-    reach
-}
 
 // By how many bits numbers so far apart share a place, so that half of the places have room for them.
 fn shift_of(reach: u64) -> u8
@@ -44,7 +31,7 @@ fn shift_of(reach: u64) -> u8
     let mut shift = 0;
     let mut left = reach;
     for _bit in 0..50u8 {
-        if left < PLACES as u64 / 2 {
+        if left < MOST {
             return shift;
         }
         left /= 2;
@@ -53,10 +40,10 @@ fn shift_of(reach: u64) -> u8
     shift
 }
 
-// The span of a table for the numbers of some documents.
-fn span_of(column: &Column<'_>, numbers: &[u32]) -> Span {
+// The span of a table for numbers of a column that reach so far.
+fn span_of(column: &Column<'_>, reach: u64) -> Span {
     let least = column.least().unwrap_or(0);
-    let shift = shift_of(reach_of(column, least, numbers));
+    let shift = shift_of(reach);
     Span { least, shift }
 }
 
@@ -85,14 +72,20 @@ fn mark_there(agg: &Agg, kind: Kind, span: Span, place: usize) -> Option<i128>
     }
 }
 
-// A table without documents.
-fn table_of(alloc: Global, agg: &Agg, kind: Kind, span: Span) -> Result<Vec<Class>, AllocError>
+// A table of so many places, without documents.
+fn table_of(
+    alloc: Global,
+    agg: &Agg,
+    kind: Kind,
+    span: Span,
+    places: usize,
+) -> Result<Vec<Class>, AllocError>
     requires { HasInterval agg.now }
     ensures none { IfOk result (λ cells. All (λ c. c.count ≡ 0) cells.items) }
     ensures table { IfOk result (λ cells. IsTable agg.now kind span cells.items) }
 {
-    let mut cells = Vec::with_capacity(alloc, PLACES)?;
-    for place in 0..PLACES {
+    let mut cells = Vec::with_capacity(alloc, places)?;
+    for place in 0..places {
         let mark = mark_there(agg, kind, span, place);
         cells.push(Class {
             mark,
@@ -153,8 +146,8 @@ fn count_either(
     document: u32,
 ) -> bool
     requires interval { HasInterval agg.now }
-    requires len { vec_len classes.old ≡ PLACES }
-    ensures len { vec_len classes.new ≡ PLACES }
+    requires len { 0 < vec_len classes.old }
+    ensures len { vec_len classes.new ≡ vec_len classes.old }
     ensures counted { IsTable agg.now kind span cells.old.items → OnTrue result (IsCounted (option_map (mark_of agg.now kind) value) 1 document (cells.old.items ++ classes.old.items) (cells.new.items ++ classes.new.items)) }
     ensures table { IsTable agg.now kind span cells.old.items → IsTable agg.now kind span cells.new.items }
 {
@@ -181,9 +174,17 @@ pub(crate) fn tabled(
         → IfOk result (λ o. IfSome o (λ classes. AreClasses agg.now field.now.kind entries bound numbers.now classes.items)) }
     ensures total { IfOk result (λ o. IfSome o (λ classes. class_sum classes.items ≡ length numbers.now)) }
 {
-    let span = span_of(&field.column, numbers);
-    let mut cells = table_of(alloc, agg, field.kind, span)?;
-    let mut classes = no_classes(alloc)?;
+    let reach = reach_of(&field.column, numbers);
+    let span = span_of(&field.column, reach);
+    let mut cells = table_of(
+        alloc,
+        agg,
+        field.kind,
+        span,
+        places_for(reach >> span.shift),
+    )?;
+    let places = places_of(agg, field, reach, numbers.len());
+    let mut classes = no_classes(alloc, places)?;
     let mut values = FirstValues::over(field.column);
     for number in numbers {
         let value = values.value_at(*number);

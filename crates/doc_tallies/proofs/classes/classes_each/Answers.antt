@@ -1,4 +1,4 @@
-use Rattle.std.proofs.Common.{◌+◌, ◌<◌, ℕ, List, length, get_or, refl, ap, subst, ◌∙◌}
+use Rattle.std.proofs.Common.{◌+◌, ◌<◌, ℕ, List, length, get_or, refl, ap, subst, ◌∙◌, arith}
 use Rattle.std.proofs.lemmas.List.{take_all}
 use Rattle.doc_tallies.specs.Classes.{AreClasses}
 use Rattle.doc_tallies.proofs.Classing.{classes_more, counted_sum, none_classes, none_sum}
@@ -6,7 +6,7 @@ use Rattle.doc_tallies.proofs.classes.classes_each.Goals as goal
 
 pub loop-number-init : goal.loop-number-init
 loop-number-init c = record {
-  size = c.in_ok-classes.ensures.len;
+  size = omega (arith, c.in_ok-classes.ensures.len, c.places_of-places.ensures);
   total = none_sum c.in_ok-classes.classes.items c.in_ok-classes.ensures.none;
   only = λ texts entries bound holds below. none_classes c.args.agg.now c.args.field.now.kind entries bound c.in_ok-classes.classes.items c.in_ok-classes.ensures.none;
 }
@@ -18,7 +18,7 @@ loop-number-preserved c =
     let n : ℕ = get_or c.args.numbers.now c.loop-number.number-index 0 in
     let counted = c.if-not-count_one.ensures.counted in
     record {
-      size = c.if-not-count_one.ensures.len;
+      size = omega (arith, c.if-not-count_one.ensures.len, c.loop-number.invariant.size);
       total = counted_sum c.mark_at-mark.result 1 n old new counted ∙ ap (λ (k : ℕ). k + 1) c.loop-number.invariant.total;
       only = λ texts entries bound holds below.
           let i = c.loop-number.number-index in

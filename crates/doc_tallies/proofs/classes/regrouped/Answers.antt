@@ -23,7 +23,7 @@ loop-cell-preserved c =
           let counted = w.if-not-count_many.ensures.counted in
           let new = w.count_many.new.classes.items in
           rw w.classes-is (record {
-            size = w.if-not-count_many.ensures.len;
+            size = omega (arith, w.if-not-count_many.ensures.len, c.loop-cell.invariant.size);
             total = sum_more (class_sum new) (class_sum mid) (class_sum old) (class_sum (take i cells)) (class_sum (take (i + 1) cells)) cell.count (counted_sum cell.mark cell.count cell.sample mid new counted) c.loop-cell.invariant.total next;
             marked = λ agg kind entries bound all before.
                 regroup_more agg kind entries bound cells old mid new i none cell lt refl (λ zero. absurd (omega arith)) (all i none lt) counted (c.loop-cell.invariant.marked agg kind entries bound all before);

@@ -1,33 +1,35 @@
-use Rattle.std.proofs.Common.{◌<◌, ℕ, List, length, take, get_or, ap, sym, subst, ◌∙◌}
+use Rattle.std.proofs.Common.{◌<◌, ℕ, List, [], ◌∷◌, ◌++◌, length, take, get_or, ap, sym, subst, ◌∙◌}
 use Rattle.std.proofs.lemmas.List.{take_all}
 use Rattle.std.proofs.lemmas.List.Elements.{Contains-get_or}
 use Rattle.split_bundle.specs.declared.placed.Placed.{Placed}
-use Rattle.doc_tallies.specs.Firsts.{put_last_by}
 use Rattle.doc_tallies.specs.Orders.{comes_before, firsts}
 use Rattle.doc_tallies.specs.Picked.{picked}
 use Rattle.doc_tallies.proofs.Faults.{placed_lacks}
 use Rattle.doc_tallies.proofs.HitOrders.{hits_order}
 use Rattle.doc_tallies.proofs.PickedLists.{picked_more}
-use Rattle.doc_tallies.proofs.Putting.{firsts_more}
+use Rattle.doc_tallies.proofs.Late.{firsts_push}
 use Rattle.doc_tallies.proofs.TimeValues.{stands}
 use Rattle.doc_tallies.proofs.hits.hits_among.Goals as goal
 
 pub loop-number-preserved : goal.loop-number-preserved
-loop-number-preserved c = λ documents p part.
-    let i = c.loop-number.number-index in
-    let ns = c.args.numbers.now in
-    let wanted = c.args.wanted in
-    let before = comes_before c.args.order in
-    let lt : i < length ns = c.loop-number-test.true in
-    let counted = part.footer.layout.docs ∙ part.is_split.docs in
-    let at = stands documents (get_or ns i 0) (subst (λ (n : ℕ). get_or ns i 0 < n) counted (c.requires i 0 lt)) in
-    let same = c.in-Ok.ensures.only documents p at.document part at.here in
-    let kept : List Placed = c.loop-number.kept.items in
-    let done : List Placed = picked (take i ns) documents in
-    c.in_ok-keep-in-Ok.ensures
-    ∙ (ap (λ (hit : Placed). take wanted (put_last_by before hit kept)) same
-    ∙ (ap (λ (ks : List Placed). take wanted (put_last_by before at.document ks)) (c.loop-number.invariant documents p part)
-    ∙ (sym (firsts_more before (hits_order c.args.order) wanted done at.document) ∙ ap (firsts wanted c.args.order) (sym (picked_more ns i documents at.document lt at.here)))))
+loop-number-preserved c = record {
+  bar = c.in_ok-full-in-Ok.ensures.bar;
+  only = λ documents p part.
+      let i = c.loop-number.number-index in
+      let ns = c.args.numbers.now in
+      let wanted = c.args.wanted in
+      let before = comes_before c.args.order in
+      let lt : i < length ns = c.loop-number-test.true in
+      let counted = part.footer.layout.docs ∙ part.is_split.docs in
+      let at = stands documents (get_or ns i 0) (subst (λ (n : ℕ). get_or ns i 0 < n) counted (c.requires i 0 lt)) in
+      let same = c.in-Ok.ensures.only documents p at.document part at.here in
+      let kept : List Placed = c.loop-number.kept.items in
+      let done : List Placed = picked (take i ns) documents in
+      c.in_ok-full-in-Ok.ensures.firsts
+      ∙ (ap (λ (hit : Placed). firsts wanted c.args.order (kept ++ hit ∷ [])) same
+      ∙ (firsts_push before (hits_order c.args.order) wanted kept done at.document (c.loop-number.invariant.only documents p part)
+      ∙ ap (firsts wanted c.args.order) (sym (picked_more ns i documents at.document lt at.here))));
+}
 
 pub returns-in-Err-clause-only : goal.returns-in-Err-clause-only
 returns-in-Err-clause-only c = λ documents p part.
@@ -50,4 +52,6 @@ returns-in-Err-clause-there c = λ documents p part have.
 
 pub returns-clause-only : goal.returns-clause-only
 returns-clause-only c = λ documents p part.
-    c.from_vec.ensures ∙ (c.loop-number.invariant documents p part ∙ ap (λ (xs : List ℕ). firsts c.args.wanted c.args.order (picked xs documents)) (take_all c.loop-number.number-index c.args.numbers.now c.loop-number-test.false))
+    let kept = c.in_ok-cut.ensures in
+    c.from_vec.ensures ∙ (kept ∙ (c.loop-number.invariant.only documents p part
+    ∙ ap (λ (xs : List ℕ). firsts c.args.wanted c.args.order (picked xs documents)) (take_all c.loop-number.number-index c.args.numbers.now c.loop-number-test.false)))

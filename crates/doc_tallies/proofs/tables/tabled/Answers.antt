@@ -1,5 +1,4 @@
-use Rattle.std.proofs.Common.{◌≡◌, ◌+◌, ◌<◌, ◌++◌, ℕ, List, length, get_or, refl, ap, sym, subst, ◌∙◌}
-use Rattle.std.specs.List.{All}
+use Rattle.std.proofs.Common.{◌≡◌, ◌+◌, ◌<◌, ◌++◌, ℕ, List, length, get_or, refl, ap, sym, subst, ◌∙◌, arith}
 use Rattle.std.specs.Option.{option_map}
 use Rattle.std.proofs.lemmas.List.{take_all}
 use Rattle.std.proofs.lemmas.List.Elements.{All-append}
@@ -17,7 +16,7 @@ loop-number-init c =
     let classes = c.in_ok-classes.classes.items in
     let both = All-append (λ (x : Class). x.count ≡ 0) cells classes c.in_ok-cells.ensures.none c.in_ok-classes.ensures.none in
     record {
-      size = c.in_ok-classes.ensures.len;
+      size = omega (arith, c.in_ok-classes.ensures.len, c.places_of-places.ensures);
       column = c.over-values.ensures;
       table = c.in_ok-cells.ensures.table;
       total = none_sum (cells ++ classes) both;
@@ -35,7 +34,7 @@ loop-number-preserved c =
     let mark = option_map f c.value_at-value.result in
     let counted = c.if-not-count_either.ensures.counted c.loop-number.invariant.table in
     record {
-      size = c.if-not-count_either.ensures.len;
+      size = omega (arith, c.if-not-count_either.ensures.len, c.loop-number.invariant.size);
       column = c.value_at-value.ensures.column ∙ c.loop-number.invariant.column;
       table = c.if-not-count_either.ensures.table c.loop-number.invariant.table;
       total = counted_sum mark 1 n old new counted ∙ ap (λ (k : ℕ). k + 1) c.loop-number.invariant.total;

@@ -1,4 +1,4 @@
-use Rattle.std.proofs.Common.{◌≡◌, ◌++◌, ℕ, List, take, vec_len}
+use Rattle.std.proofs.Common.{◌≡◌, ◌<◌, ◌++◌, ℕ, List, take, vec_len}
 use Rattle.fast_fields.specs.Readers.{Holds}
 use Rattle.fast_fields.specs.declared.entries.Entry.{Entry}
 use Rattle.doc_tallies.specs.Classes.{AreClasses, class_sum}
@@ -8,7 +8,7 @@ use Rattle.doc_tallies.proofs.tables.tabled.Given as goal
 
 abbrev pub invariant-loop-number : goal.invariant-loop-number
 invariant-loop-number l = record {
-  size : vec_len l.classes ≡ 16384;
+  size : 0 < vec_len l.classes;
   column : l.values.column ≡ l.field.column;
   table : IsTable l.agg l.field.kind l.span l.cells.items;
   total : class_sum (l.cells.items ++ l.classes.items) ≡ l.number-index;
