@@ -10,3 +10,4 @@ pub mod Holding
 pub mod Stepping
 pub mod Reading
 pub mod Printing
+pub mod Ended

@@ -5,3 +5,4 @@ pub mod Asking
 pub mod Gathering
 pub mod Making
 pub mod Standing
+pub mod Ending

@@ -1,6 +1,6 @@
 //! What an indexer has read since its checkpoints.
 
-ghost use Rattle.std.specs.Prelude.{◌≡◌, ◌≤◌, ◌<◌, ◌+◌, ◌^◌, ℕ, suc, List, length, nat_lt, OnOk, IfOk, IfSome};
+ghost use Rattle.std.specs.Prelude.{◌≡◌, ◌≤◌, ◌<◌, ◌+◌, ◌^◌, ℕ, suc, List, length, nat_lt, OnOk, IfOk, IfSome, ◌-◌, [], min, IfNone};
 ghost use Rattle.doc_value.specs.Documents.{IsSchema};
 ghost use Rattle.source_checkpoint.specs.declared.ledger.Checkpoint.{Checkpoint};
 ghost use Rattle.indexing_run.specs.Gathering.{HasDocuments};
@@ -165,6 +165,7 @@ impl Batch {
     /// Where the next read begins, and how many records it may give.
     pub fn next_read(&self) -> Option<NextRead>
         ensures room { IfSome result (λ next. 1 ≤ next.room) }
+        ensures none { IfNone result (left_of self.now.queue ≡ []) }
         ensures next { (batch : Made) → BatchStands self.now batch → batch.count < batch.config.docs_target → result ≡ next_read batch.queue (read_limit batch) }
     {
         let mark = self.queue.first()?;
@@ -202,7 +203,10 @@ impl Batch {
     ) -> Result<(Batch, u64), AllocError>
         requires low { from + length records.now.list < 2 ^ 64 }
         requires moment { now < 2 ^ 62 }
-        ensures { (batch : Made) (mark : Checkpoint) (rest : List Checkpoint) → BatchStands self batch →
+        // Whatever was read.
+        ensures count { IfOk result (λ r. r.0.count ≡ min (self.count + r.1) (2 ^ 64 - 1)) }
+        ensures config { IfOk result (λ r. r.0.documents.mapping ≡ self.documents.mapping) }
+        ensures taken { (batch : Made) (mark : Checkpoint) (rest : List Checkpoint) → BatchStands self batch →
             ReadsOn batch mark rest records.now → partition.now ≡ mark.partition → from ≡ mark.at →
             IfOk result (λ r. (r.1 ≡ (taken_from batch.config mark.partition mark.at records.now.list (start_of batch)).count)
             × BatchStands r.0 (batch_read batch mark rest records.now now)) }

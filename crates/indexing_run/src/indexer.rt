@@ -1,7 +1,7 @@
 //! An indexer and its steps.
 
-ghost use Rattle.std.specs.Prelude.{◌≡◌, ◌<◌, ℕ, List, true, false, Some, None, IfOk};
-ghost use Rattle.byte_fields.specs.Causes.{HasCause};
+ghost use Rattle.std.specs.Prelude.{◌≡◌, ◌↔◌, ◌<◌, ℕ, List, true, false, Some, None, IfOk, IsErrOf, IsTrue};
+ghost use Rattle.byte_fields.specs.Causes.{Rose};
 ghost use Rattle.meta_journal.specs.Spelling.{CanSpellFacts};
 ghost use Rattle.meta_store.specs.declared.refusal.Refusal.{Refusal};
 ghost use Rattle.source_log.specs.Log.{Log};
@@ -12,6 +12,7 @@ ghost use Rattle.index_world.specs.Gate.{IsTrouble, IsUnmade, IsPublishable};
 ghost use Rattle.index_world.specs.SplitFile.{file_of};
 ghost use Rattle.indexing_run.specs.Making.{IsBatch, IsAssigned};
 ghost use Rattle.indexing_run.specs.Places.{Batch as Made, Held, Indexer as Actor, IsStagedHeld, IsUploadedHeld, is_idle, idle, reading, staged as staged_at, uploaded as uploaded_at};
+ghost use Rattle.indexing_run.specs.Ending.{fault_said, unstaged_said, refused_said, unpublished_said, Ends, EndsIdle, EndsOpen, EndsClosed, EndsBatch, EndsUpload, EndsPublish, EndsStep};
 ghost use Rattle.indexing_run.specs.Steps.{trouble_outcome, publish_refused, publish_outcome, stage_outcome};
 ghost use Rattle.indexing_run.specs.Standing.{BatchStands, IndexerStands, IsSaid, Answers, NamesGiven, HoldsOwn, StepsAs};
 
@@ -53,8 +54,11 @@ pub struct Indexer<L: SourceLog> {
 }
 
 // A fault of the world; want of memory is the step's own answer.
+#[tactic(auto, using(crate::proofs::Ended::told_as_fault))]
 fn faulted(error: WorldError) -> Result<IndexerOutcome, AllocError>
-    ensures { (trouble : Trouble) → IsTrouble error trouble → Answers result (trouble_outcome trouble) }
+    ensures trouble { (trouble : Trouble) → IsTrouble error trouble → Answers result (trouble_outcome trouble) }
+    // Whatever the world is.
+    ensures exact { result ≡ fault_said error }
 {
     match error {
         WorldError::Memory(refused) => Err(refused),
@@ -84,8 +88,10 @@ fn with_rejected(facts: RowFacts, rejected: u64) -> RowFacts
 }
 
 // What became of a Publish that was refused.
+#[tactic(auto, using(crate::proofs::Ended::lost_as))]
 fn refused_publish(number: u64, refusal: Refusal) -> IndexerOutcome
-    ensures { IsSaid result (publish_refused number refusal) }
+    ensures said { IsSaid result (publish_refused number refusal) }
+    ensures exact { result ≡ refused_said number refusal }
 {
     if let Refusal::Delta(
         StaleDelta::Stale {
@@ -107,8 +113,11 @@ fn refused_publish(number: u64, refusal: Refusal) -> IndexerOutcome
 }
 
 // Why a Publish was not made.
+#[tactic(auto, using(crate::proofs::Ended::unpublished_as_fault))]
 fn unpublished(number: u64, error: WorldError) -> Result<IndexerOutcome, AllocError>
-    ensures { (unmade : Unmade) → IsUnmade error unmade → Answers result (publish_outcome number unmade) }
+    ensures unmade { (unmade : Unmade) → IsUnmade error unmade → Answers result (publish_outcome number unmade) }
+    // Whatever the world is.
+    ensures exact { result ≡ unpublished_said number error }
 {
     match error {
         WorldError::Refused(refusal) => Ok(refused_publish(number, refusal)),
@@ -117,8 +126,11 @@ fn unpublished(number: u64, error: WorldError) -> Result<IndexerOutcome, AllocEr
 }
 
 // Why a Stage was not made.
+#[tactic(auto, using(crate::proofs::Ended::unstaged_as_fault))]
 fn unstaged(error: WorldError) -> Result<IndexerOutcome, AllocError>
-    ensures { (unmade : Unmade) → IsUnmade error unmade → Answers result (stage_outcome unmade) }
+    ensures unmade { (unmade : Unmade) → IsUnmade error unmade → Answers result (stage_outcome unmade) }
+    // Whatever the world is.
+    ensures exact { result ≡ unstaged_said error }
 {
     match error {
         WorldError::Refused(refusal) => Ok(IndexerOutcome::Refused { refusal }),
@@ -144,6 +156,7 @@ impl<L: SourceLog> Indexer<L> {
     /// Drops the batch. The log and the assignment stay.
     pub fn restart(&mut self)
         ensures log { self.new.log ≡ self.old.log }
+        ensures assignment { self.new.assignment ≡ self.old.assignment }
         ensures idle { self.new.place ≡ Place.Idle }
         ensures stands { (indexer : Actor) (core after : Core) (read : Log) → IndexerStands L.told L.fault_count self.old indexer core read →
             IndexerStands L.told L.fault_count self.new (record indexer { place = idle }) after read }
@@ -152,8 +165,9 @@ impl<L: SourceLog> Indexer<L> {
     }
 
     pub fn is_idle(&self) -> bool
-        ensures { (indexer : Actor) (core : Core) (read : Log) → IndexerStands L.told L.fault_count self.now indexer core read →
+        ensures stands { (indexer : Actor) (core : Core) (read : Log) → IndexerStands L.told L.fault_count self.now indexer core read →
             result ≡ is_idle indexer.place }
+        ensures exact { IsTrue result ↔ (self.now.place ≡ Place.Idle) }
     {
         match &self.place {
             Place::Idle => true,
@@ -191,6 +205,9 @@ impl<L: SourceLog> Indexer<L> {
         ensures names { (read : Log) → L.told self.old.log ≡ Some read →
             NamesGiven self.old.assignment result (L.fault_count self.old.log) (L.fault_count self.new.log) read }
         ensures told { (read : Log) → L.told self.old.log ≡ Some read → L.told self.new.log ≡ Some read }
+        // Over all logs: where names are assigned, none are asked for.
+        ensures failed { IsErrOf result ReadError.Failed → Rose (L.fault_count self.old.log) (L.fault_count self.new.log) × (self.old.assignment ≡ None) }
+        ensures assigned { (names : List (List ℕ)) → self.old.assignment ≡ Some names → IfOk result (λ given. given ≡ names) }
     {
         match &self.assignment {
             Some(partitions) => Ok(copied(alloc, partitions)?),
@@ -206,6 +223,9 @@ impl<L: SourceLog> Indexer<L> {
         ensures later { L.since self.old.log self.new.log }
         ensures later_gate { G.since gate.old gate.new }
         ensures owns { HoldsOwn G.Owns gate.old self.old.place → HoldsOwn G.Owns gate.new self.new.place }
+        ensures assignment { self.new.assignment ≡ self.old.assignment }
+        // Whatever the log and the gate tell.
+        ensures ends { self.old.place ≡ Place.Idle → Ends (EndsIdle (L.fault_count self.old.log) (L.fault_count self.new.log) (L.told self.old.log) self.old.assignment (G.configured gate.new)) result self.new.place }
         ensures step { (indexer : Actor) (core : Core) (read : Log) →
             IndexerStands L.told L.fault_count self.old (record indexer { place = idle }) core read → G.Stands gate.old core read →
             StepsAs L.told L.fault_count G.Stands G.Between G.Owns G.Adds result (record indexer { place = idle }) core read self.new gate.old gate.new }
@@ -238,6 +258,9 @@ impl<L: SourceLog> Indexer<L> {
         ensures later { L.since self.old.log self.new.log }
         ensures later_gate { G.since gate.old gate.new }
         ensures owns { HoldsOwn G.Owns gate.old self.old.place → HoldsOwn G.Owns gate.new self.new.place }
+        ensures assignment { self.new.assignment ≡ self.old.assignment }
+        // Whatever the log and the gate tell.
+        ensures ends { self.old.place ≡ Place.Idle → Ends (EndsOpen (L.fault_count self.old.log) (L.fault_count self.new.log) batch) result self.new.place }
         ensures step { (indexer : Actor) (core : Core) (read : Log) (made : Made) →
             IndexerStands L.told L.fault_count self.old (record indexer { place = idle }) core read → G.Stands gate.old core read → BatchStands batch made → IsBatch read made → IsConfigured made.config core → made.closed ≡ false →
             StepsAs L.told L.fault_count G.Stands G.Between G.Owns G.Adds result (record indexer { place = reading made }) core read self.new gate.old gate.new }
@@ -282,6 +305,9 @@ impl<L: SourceLog> Indexer<L> {
         ensures later { L.since self.old.log self.new.log }
         ensures later_gate { G.since gate.old gate.new }
         ensures owns { HoldsOwn G.Owns gate.old self.old.place → HoldsOwn G.Owns gate.new self.new.place }
+        ensures assignment { self.new.assignment ≡ self.old.assignment }
+        // Whatever the log and the gate tell.
+        ensures ends { self.old.place ≡ Place.Idle → (batch.count ≡ 0 → ⊥) → Ends (EndsClosed batch) result self.new.place }
         ensures step { (indexer : Actor) (core : Core) (read : Log) (made : Made) →
             IndexerStands L.told L.fault_count self.old (record indexer { place = idle }) core read → G.Stands gate.old core read → BatchStands batch made → IsBatch read made → IsConfigured made.config core → made.closed ≡ true → (made.count ≡ 0 → ⊥) →
             StepsAs L.told L.fault_count G.Stands G.Between G.Owns G.Adds result (record indexer { place = reading made }) core read self.new gate.old gate.new }
@@ -324,6 +350,9 @@ impl<L: SourceLog> Indexer<L> {
         ensures later { L.since self.old.log self.new.log }
         ensures later_gate { G.since gate.old gate.new }
         ensures owns { HoldsOwn G.Owns gate.old self.old.place → HoldsOwn G.Owns gate.new self.new.place }
+        ensures assignment { self.new.assignment ≡ self.old.assignment }
+        // Whatever the log and the gate tell.
+        ensures ends { self.old.place ≡ Place.Idle → Ends (EndsUpload staged.number bytes.now (G.told gate.old) (G.told gate.new)) result self.new.place }
         ensures step { (indexer : Actor) (core : Core) (read : Log) (held : Held) →
             IndexerStands L.told L.fault_count self.old (record indexer { place = idle }) core read → G.Stands gate.old core read → staged.number ≡ held.number → bytes.now ≡ file_of held.config held.documents → IsStagedHeld read core held →
             StepsAs L.told L.fault_count G.Stands G.Between G.Owns G.Adds result (record indexer { place = staged_at held }) core read self.new gate.old gate.new }
@@ -348,6 +377,9 @@ impl<L: SourceLog> Indexer<L> {
         ensures later { L.since self.old.log self.new.log }
         ensures later_gate { G.since gate.old gate.new }
         ensures owns { HoldsOwn G.Owns gate.old self.old.place → HoldsOwn G.Owns gate.new self.new.place }
+        ensures assignment { self.new.assignment ≡ self.old.assignment }
+        // Whatever the log and the gate tell.
+        ensures ends { self.old.place ≡ Place.Idle → Ends (EndsPublish uploaded.number) result self.new.place }
         ensures step { (indexer : Actor) (core : Core) (read : Log) (held : Held) →
             IndexerStands L.told L.fault_count self.old (record indexer { place = idle }) core read → G.Stands gate.old core read → uploaded.number ≡ held.number → IsUploadedHeld read core held →
             StepsAs L.told L.fault_count G.Stands G.Between G.Owns G.Adds result (record indexer { place = uploaded_at held }) core read self.new gate.old gate.new }
@@ -368,6 +400,9 @@ impl<L: SourceLog> Indexer<L> {
         ensures later { L.since self.old.log self.new.log }
         ensures later_gate { G.since gate.old gate.new }
         ensures owns { HoldsOwn G.Owns gate.old self.old.place → HoldsOwn G.Owns gate.new self.new.place }
+        ensures assignment { self.new.assignment ≡ self.old.assignment }
+        // Whatever the log and the gate tell.
+        ensures ends { self.old.place ≡ Place.Idle → Ends (EndsBatch (L.fault_count self.old.log) (L.fault_count self.new.log) batch) result self.new.place }
         ensures step { (indexer : Actor) (core : Core) (read : Log) (made : Made) →
             IndexerStands L.told L.fault_count self.old (record indexer { place = idle }) core read → G.Stands gate.old core read → BatchStands batch made → IsBatch read made → IsConfigured made.config core →
             StepsAs L.told L.fault_count G.Stands G.Between G.Owns G.Adds result (record indexer { place = reading made }) core read self.new gate.old gate.new }
@@ -395,6 +430,8 @@ impl<L: SourceLog> Indexer<L> {
         ensures later { L.since self.old.log self.new.log }
         ensures later_gate { G.since gate.old gate.new }
         ensures owns { HoldsOwn G.Owns gate.new self.new.place }
+        // Whatever the log and the gate tell: what a call answered is told as itself.
+        ensures ends { EndsStep L.told L.fault_count G.told G.configured self.old result self.new gate.old gate.new }
         ensures step { (indexer : Actor) (core : Core) (read : Log) →
             IndexerStands L.told L.fault_count self.old indexer core read → G.Stands gate.old core read →
             StepsAs L.told L.fault_count G.Stands G.Between G.Owns G.Adds result indexer core read self.new gate.old gate.new }

@@ -103,7 +103,9 @@ fn put_outcome(alloc: Global, out: &mut Bytes, outcome: &IndexerOutcome) -> Resu
 
 /// The words of an outcome, with one blank between.
 pub fn print_outcome(alloc: Global, outcome: &IndexerOutcome) -> Result<Bytes, AllocError>
-    ensures { (said : Outcome) → IsSaid outcome.now said → IfOk result (λ bytes. bytes ≡ words (outcome_words said)) }
+    ensures said { (said : Outcome) → IsSaid outcome.now said → IfOk result (λ bytes. bytes ≡ words (outcome_words said)) }
+    // Whatever the outcome is.
+    ensures exact { IfOk result (λ bytes. bytes ≡ words (said_words outcome.now)) }
 {
     let mut out = Bytes::vacant(alloc);
     put_outcome(alloc, &mut out, outcome)?;

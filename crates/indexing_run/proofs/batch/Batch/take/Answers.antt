@@ -7,8 +7,8 @@ use Rattle.indexing_run.proofs.batch.Batch.take.Goals as goal
 pub invariant_of-batch : goal.invariant_of-batch
 invariant_of-batch c = record { taken = ∥∥₁_map c.args.self.taken (λ r. let took = c.in-Ok.ensures.taken r.0 r.1 in (took.0, took.1)) }
 
-pub returns : goal.returns
-returns c = λ batch mark rest b r e f.
+pub returns-clause-taken : goal.returns-clause-taken
+returns-clause-taken c = λ batch mark rest b r e f.
     let held = c.args.self in
     let mapping = held.documents.mapping in
     let list = c.args.records.now.list in

@@ -1,5 +1,7 @@
-use Rattle.std.proofs.Common.{◌∙◌, sym, eq-eqb}
+use Rattle.std.proofs.Common.{◌∙◌, sym, eq-eqb, refl, inl, Ok}
 use Rattle.indexing_run.proofs.Stepping.{ends_empty, not_true, not_false}
+use Rattle.indexing_run.specs.declared.outcome.IndexerOutcome.TheVariants as said
+use Rattle.indexing_run.proofs.Ended.{ends_closed, ends_open}
 use Rattle.indexing_run.proofs.indexer.Indexer.go_on.Goals as goal
 
 pub returns-then-not-batch-clause-step : goal.returns-then-not-batch-clause-step
@@ -41,3 +43,18 @@ returns-clause-later_gate g c = c.stage.ensures.later_gate
 
 pub returns-clause-owns : goal.returns-clause-owns
 returns-clause-owns g c = c.stage.ensures.owns
+
+pub returns-then-not-batch-clause-ends : goal.returns-then-not-batch-clause-ends
+returns-then-not-batch-clause-ends g c = λ idle.
+    ends_open (g.L.SourceLog.fault_count c.args.self.now.log) (g.L.SourceLog.fault_count c.read_on.new.self.log) c.args.batch c.read_on.result c.read_on.new.self.place (not_true c.args.batch.closed c.if-not-batch.true)
+    (c.read_on.ensures.ends idle)
+
+pub returns-then-batch-eq0-clause-ends : goal.returns-then-batch-eq0-clause-ends
+returns-then-batch-eq0-clause-ends g c = λ idle.
+    let count = g.L.SourceLog.fault_count c.args.self.now.log in
+    ends_closed count count c.args.batch (Ok said.CaughtUp) c.args.self.now.place (not_false c.args.batch.closed c.if-not-batch.false) (inl (c.if-batch-eq0.true, refl, idle))
+
+pub returns-clause-ends : goal.returns-clause-ends
+returns-clause-ends g c = λ idle.
+    ends_closed (g.L.SourceLog.fault_count c.args.self.now.log) (g.L.SourceLog.fault_count c.stage.new.self.log) c.args.batch c.stage.result c.stage.new.self.place (not_false c.args.batch.closed c.if-not-batch.false)
+    (c.stage.ensures.ends idle (λ e. c.if-batch-eq0.false e))

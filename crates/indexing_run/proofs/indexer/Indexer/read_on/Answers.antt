@@ -1,4 +1,5 @@
-use Rattle.std.proofs.Common.{◌≡◌, ◌≤◌, ◌∙◌, refl, sym, ap, subst, arith, Err}
+use Rattle.std.proofs.Common.{◌≡◌, ◌≤◌, ◌∙◌, refl, sym, ap, subst, arith, Err, inl, inr}
+use Rattle.std.specs.Prelude.{[]}
 use Rattle.byte_fields.specs.Causes.{Rose}
 use Rattle.source_log.specs.Log.{IsToldLog}
 use Rattle.source_log.specs.declared.log.ReadError.TheVariants.{Failed}
@@ -8,12 +9,16 @@ use Rattle.indexing_run.specs.Standing.{HoldsOwn}
 use Rattle.indexing_run.proofs.Stepping.{as_put, called_configured, idle_stays, no_answer}
 use Rattle.indexing_run.proofs.Reading.{reads_something, next_is, asked_of, log_read, log_stays, slice_is, reads_on, moment_fails, reads_fault, reads_short, reads_some}
 use Rattle.indexing_run.proofs.Holding.{own_later}
+use Rattle.indexing_run.specs.declared.outcome.IndexerOutcome.{IndexerOutcome as Said}
+use Rattle.indexing_run.specs.Ending.{EndsOpen}
+use Rattle.indexing_run.specs.Standing.{left_of}
+use Rattle.indexing_run.proofs.Ended.{ends_by, ends_short, none_given, source_fault}
 use Rattle.indexing_run.proofs.indexer.Indexer.read_on.Goals as goal
 
 pub returns-in-Err-clause-step : goal.returns-in-Err-clause-step
 returns-in-Err-clause-step g c = λ indexer core read made s stands b m k closed.
     moment_fails g.L.SourceLog.told g.L.SourceLog.fault_count g.G.Gate.Stands g.G.Gate.Between g.G.Gate.Owns g.G.Gate.Adds indexer core read c.args.self.now c.args.gate.now c.moment.new.self s made closed (m.ahead closed) c.in-Err.error
-    c.faulted.result c.faulted.ensures (c.in-Err.ensures.step core read stands)
+    c.faulted.result c.faulted.ensures.trouble (c.in-Err.ensures.step core read stands)
 
 pub returns-in_err-batch-in-Ok-records-clause-step : goal.returns-in_err-batch-in-Ok-records-clause-step
 returns-in_err-batch-in-Ok-records-clause-step g c = λ indexer core read made s stands b m k closed.
@@ -36,7 +41,7 @@ returns-in_ok-batch-in-Ok-records-clause-step g c = λ indexer core read made s 
     c.in-Ok-records.ensures.slice in
     let later : indexer.log_faults ≤ c.faults-after.result = (let l = c.in-Ok-records.ensures.cause.later in let n = c.faults-after.ensures.count in let f = s.log_faults in omega (arith, l, n, f)) in
     let within : c.faults-after.result ≤ last_count = (let i = c.faults-after.type_inv in omega (arith, i)) in
-    let taken = c.in_ok-batch-in-Ok-records.ensures made nx.mark nx.rest b (reads_on read core made c.in-Some.next nx c.in-Ok-records.records m k closed c.in-Ok-records.ensures.bound) nx.name nx.from in
+    let taken = c.in_ok-batch-in-Ok-records.ensures.taken made nx.mark nx.rest b (reads_on read core made c.in-Some.next nx c.in-Ok-records.records m k closed c.in-Ok-records.ensures.bound) nx.name nx.from in
     as_put (record { log = c.read-records.new.self; assignment = c.args.self.now.assignment; place = c.args.self.now.place }) (places.Reading c.in_ok-batch-in-Ok-records.batch) c.put.new.place c.put.ensures
     (reads_some g.L.SourceLog.told g.L.SourceLog.fault_count g.G.Gate.Stands g.G.Gate.Between g.G.Gate.Owns g.G.Gate.Adds indexer core read c.args.self.now c.args.gate.now c.moment.new.self s c.faults-after.result
     (record { log = c.read-records.new.self; assignment = c.args.self.now.assignment; place = c.args.self.now.place }) t.is (sym c.faults-after.ensures.count) refl later within
@@ -128,3 +133,33 @@ returns-in-Err-Memory-clause-later_gate g c = c.moment.ensures.later
 
 pub returns-in-Err-Failed-clause-later_gate : goal.returns-in-Err-Failed-clause-later_gate
 returns-in-Err-Failed-clause-later_gate g c = c.moment.ensures.later
+
+pub returns-in-Err-clause-ends : goal.returns-in-Err-clause-ends
+returns-in-Err-clause-ends g c = λ idle.
+    let count = g.L.SourceLog.fault_count c.args.self.now.log in
+    ends_by (EndsOpen count count c.args.batch) c.faulted.result c.args.self.now.place idle (λ (outcome : Said) e. inl (c.in-Err.error, sym c.faulted.ensures.exact ∙ e, idle))
+
+pub returns-in_default-clause-ends : goal.returns-in_default-clause-ends
+returns-in_default-clause-ends g c = λ idle.
+    inr (inl (none_given c.next_read.result (left_of c.args.batch.queue ≡ []) c.next_read.ensures.none c.in_default.not-Some, refl, idle))
+
+pub returns-in_err-batch-in-Ok-records-clause-ends : goal.returns-in_err-batch-in-Ok-records-clause-ends
+returns-in_err-batch-in-Ok-records-clause-ends g c = λ idle.
+    ends_short (EndsOpen (g.L.SourceLog.fault_count c.args.self.now.log) (g.L.SourceLog.fault_count c.read-records.new.self) c.args.batch) c.from_residual.result c.args.self.now.place c.from_residual.ensures.0 idle
+
+pub returns-in_ok-batch-in-Ok-records-clause-ends : goal.returns-in_ok-batch-in-Ok-records-clause-ends
+returns-in_ok-batch-in-Ok-records-clause-ends g c = λ idle.
+    let taken = c.in_ok-batch-in-Ok-records in
+    inr (inr (inr (taken.count, taken.batch, refl, c.put.ensures, taken.ensures.count, taken.ensures.config)))
+
+pub returns-in-Err-Memory-clause-ends : goal.returns-in-Err-Memory-clause-ends
+returns-in-Err-Memory-clause-ends g c = λ idle. idle
+
+pub returns-in-Err-Failed-clause-ends : goal.returns-in-Err-Failed-clause-ends
+returns-in-Err-Failed-clause-ends g c = λ idle.
+    let field : c.in-Err-Failed.field-0 ≡ Failed = rw c.in-Err-Failed.is at c.in-Err-Failed.field-0-is in
+    inr (inr (inl (
+      c.read-records.ensures.cause.failed (c.in-Err-Failed.is ∙ ap Err field),
+      source_fault c.faults-before.result (g.L.SourceLog.fault_count c.args.self.now.log) c.faults-after.result (g.L.SourceLog.fault_count c.read-records.new.self) c.faults-before.ensures.count c.faults-after.ensures.count,
+      c.put-in-Err-Failed.ensures,
+    )))

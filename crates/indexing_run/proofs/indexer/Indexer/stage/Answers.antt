@@ -1,4 +1,4 @@
-use Rattle.std.proofs.Common.{◌∙◌, ap, refl, subst, sym}
+use Rattle.std.proofs.Common.{◌∙◌, ap, refl, subst, sym, inr, Ok, Err}
 use Rattle.index_config.specs.declared.config.IndexConfig.{IndexConfig}
 use Rattle.index_world.specs.SplitFile.{file_of, facts_of}
 use Rattle.index_world.proofs.InHand.{number_apart}
@@ -7,6 +7,9 @@ use Rattle.indexing_run.specs.declared.indexer.Place.TheVariants as places
 use Rattle.indexing_run.proofs.Reading.{target_ranges}
 use Rattle.indexing_run.proofs.Stepping.{as_put, staged_facts, built_splits, stage_short, stages, stage_fails, no_answer}
 use Rattle.indexing_run.proofs.Holding.{own_later}
+use Rattle.indexing_run.specs.declared.outcome.IndexerOutcome.{IndexerOutcome as Said}
+use Rattle.indexing_run.specs.Ending.{EndsClosed}
+use Rattle.indexing_run.proofs.Ended.{ends_by, ends_short}
 use Rattle.indexing_run.proofs.indexer.Indexer.stage.Goals as goal
 
 pub returns-in_err-bytes-clause-step : goal.returns-in_err-bytes-clause-step
@@ -36,7 +39,7 @@ returns-clause-step g c = λ indexer core read made s stands b m k closed some.
     c.from_vec-delta.result c.with_rejected-facts.result (c.from_vec-delta.ensures ∙ b.parts)
     (staged_facts made list c.in_ok-bytes.field-0.facts c.with_rejected-facts.result c.args.batch.count c.saturating_sub-rejected.result refl b.count
     built c.saturating_sub-rejected.ensures c.with_rejected-facts.ensures.facts m.few (target_ranges core made.config k).1)
-    c.in-Err.error c.unstaged.result c.unstaged.ensures (c.in-Err.ensures.step core read stands)
+    c.in-Err.error c.unstaged.result c.unstaged.ensures.unmade (c.in-Err.ensures.step core read stands)
 
 pub returns-in_err-bytes-clause-later_gate : goal.returns-in_err-bytes-clause-later_gate
 returns-in_err-bytes-clause-later_gate g c = g.met.G.Gate.since_same c.args.gate.now
@@ -52,3 +55,14 @@ with_rejected-facts-requires g c = c.in_ok-bytes.ensures.can
 
 pub stage-staged-requires : goal.stage-staged-requires
 stage-staged-requires g c = c.with_rejected-facts.ensures.can
+
+pub returns-in_err-bytes-clause-ends : goal.returns-in_err-bytes-clause-ends
+returns-in_err-bytes-clause-ends g c = λ idle some. ends_short (EndsClosed c.args.batch) c.from_residual.result c.args.self.now.place c.from_residual.ensures.0 idle
+
+pub returns-in-Ok-clause-ends : goal.returns-in-Ok-clause-ends
+returns-in-Ok-clause-ends g c = λ idle some.
+    inr (some, (Ok c.in-Ok.staged, (refl, (c.in_ok-bytes.field-0.bytes, c.put.ensures, λ documents taken. c.in_ok-bytes.ensures.bytes documents taken))))
+
+pub returns-clause-ends : goal.returns-clause-ends
+returns-clause-ends g c = λ idle some.
+    ends_by (EndsClosed c.args.batch) c.unstaged.result c.args.self.now.place idle (λ (outcome : Said) e. inr (some, (Err c.in-Err.error, (sym c.unstaged.ensures.exact ∙ e, idle))))
