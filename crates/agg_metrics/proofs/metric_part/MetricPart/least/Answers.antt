@@ -1,0 +1,8 @@
+use Rattle.std.proofs.Common.{arith, sym, ap}
+use Rattle.std.proofs.lemmas.Int.{ints}
+use Rattle.agg_metrics.specs.Metrics.{least_of}
+use Rattle.agg_metrics.proofs.Parts.{none_is}
+use Rattle.agg_metrics.proofs.metric_part.MetricPart.least.Goals as goal
+
+pub returns-else-self : goal.returns-else-self
+returns-else-self c = λ counted values h. let n = none_is c.args.self.now counted values h (omega (arith, ints)) in ap least_of (sym n)

@@ -1,0 +1,18 @@
+//! Aggregations of buckets with nested ones over the documents of each bucket, metrics and ranges.
+#![tactic(auto)]
+
+pub mod answer;
+pub mod checking;
+pub mod finishing;
+pub mod flat_part;
+pub mod flat_parts;
+mod laws;
+pub mod request;
+
+pub use answer::{FlatAnswer, NamedAnswer, NestedAnswer, NestedResult, RangeBucket};
+pub use checking::check_nested;
+pub use finishing::finish_flat;
+pub use flat_part::{FlatPart, collect_flat, merge_flat, vacant_flat};
+pub use flat_parts::{collect_flats, merge_flats, vacant_flats};
+pub use laws::plain_answers_stay;
+pub use request::{FlatAgg, MetricKind, NamedFlat, NestedAgg, NestedRequest, WholeRange};
