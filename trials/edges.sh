@@ -88,7 +88,11 @@ place shrinks
 mkdir "$room/shrinks/logs" && printf '1\n2\n3\n4\n' >"$room/shrinks/logs/p0" && printf 'x\n' >"$room/shrinks/logs/p1"
 ln -s p2 "$room/shrinks/logs/p2" && mkfifo "$room/shrinks/logs/p3" && printf 'y\n' >"$room/shrinks/logs/p4" && chmod 000 "$room/shrinks/logs/p4"
 chmod 755 "$room/shrinks/logs"
-holds 'of the names, plain files that can be read are partitions' 'p0 p1' "$(several partitions | as_timed "$room/shrinks" 1)"
+holds 'of the names, plain files are partitions: one that can not be read is told once, and passed over then' \
+    "$(several 'failed 1' 'p0 p1' 'p0 p1')" "$(several partitions partitions partitions | as_timed "$room/shrinks" 1)"
+chmod 644 "$room/shrinks/logs/p4"
+holds 'and is a partition when it can be read' 'p0 p1 p4' "$(several partitions | as_timed "$room/shrinks" 1)"
+chmod 000 "$room/shrinks/logs/p4"
 printf '1\n2\n' >"$room/shrinks/logs/p0"
 holds 'a log that shrank is told, and keeps nobody from the rest of it' "$(several 'failed 1' end '[x] end' '[2] end')" \
     "$(several 'read p0 3 9' 'read p0 3 9' 'read p1 0 9' 'read p0 1 9' | as_timed "$room/shrinks" 1)"
