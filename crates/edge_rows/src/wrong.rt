@@ -1,7 +1,7 @@
 //! What is wrong with a row of the table.
 
 use std::alloc::{AllocError, AllocFailed, Global};
-use std::io;
+use std::io::{self, ErrorKind};
 
 /// Why a life is not as it is to be.
 #[derive(Drop)]
@@ -9,10 +9,8 @@ pub enum Wrong {
     Memory,
     /// What was seen that is not to be.
     Seen(String),
-    /// An answer lacks records, and has none twice.
-    Lacking(String),
     /// The disk was not looked at.
-    Disk(io::Error),
+    Disk(ErrorKind),
 }
 
 impl From<AllocError> for Wrong {
@@ -29,7 +27,7 @@ impl<T: Drop> From<AllocFailed<T>> for Wrong {
 
 impl From<io::Error> for Wrong {
     fn from(fault: io::Error) -> Wrong {
-        Wrong::Disk(fault)
+        Wrong::Disk(fault.kind())
     }
 }
 
@@ -42,20 +40,23 @@ impl Wrong {
         }
     }
 
-    /// An answer that lacks records.
-    pub fn lacking(alloc: Global, answer: &str) -> Wrong {
-        match String::from_str(alloc, answer) {
-            Ok(text) => Wrong::Lacking(text),
-            Err(_) => Wrong::Memory,
-        }
-    }
-
     pub fn text(&self, alloc: Global) -> Result<String, AllocError> {
         match self {
             Wrong::Memory => String::from_str(alloc, "no memory"),
             Wrong::Seen(text) => String::from_str(alloc, text.as_str()),
-            Wrong::Lacking(text) => format!(in alloc; "lacks records: {text}"),
-            Wrong::Disk(fault) => format!(in alloc; "the disk: {fault}"),
+            Wrong::Disk(kind) => {
+                let fault = io::Error::from(*kind);
+                format!(in alloc; "the disk: {fault}")
+            }
         }
+    }
+}
+
+/// A thing is to be so.
+pub fn require(alloc: Global, holds: bool, thing: &str, what_else: &str) -> Result<(), Wrong> {
+    if holds {
+        Ok(())
+    } else {
+        Err(Wrong::seen(alloc, thing, what_else))
     }
 }
