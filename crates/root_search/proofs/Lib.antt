@@ -12,6 +12,8 @@ pub mod Recorded
 pub mod Fetches
 pub mod CallsMade
 pub mod RowReads
+pub mod Planning
+pub mod Leaving
 pub mod Unread
 pub mod Tails
 pub mod Kept

@@ -1,10 +1,11 @@
 -- Two lists in order are merged from their fronts.
-use Rattle.std.proofs.Common.{◌≡◌, ℕ, ◌≤◌, Bool, true, false, List, [], ◌∷◌, ◌++◌, take, length, Option, Some, None, refl, ap, ap₂, sym, subst, ◌∙◌, if◌then◌else◌, get_or, arith}
+use Rattle.std.proofs.Common.{◌≡◌, ℕ, ◌≤◌, Bool, true, false, List, [], ◌∷◌, ◌++◌, take, length, Option, Some, None, refl, ap, ap₂, sym, subst, ◌∙◌, if◌then◌else◌, get_or, arith, append_assoc, IsPermutation}
 use Rattle.std.specs.Cmp.{IsStrictWeakOrder}
 use Rattle.std.specs.List.{All}
 use Rattle.std.specs.Option.{option_to_list}
 use Rattle.std.proofs.lemmas.List.{append-nil, take-append-le, take_all}
 use Rattle.std.proofs.lemmas.List.Elements.{All-append, All-cons, All-head, All-nil, All-tail, All-weaker}
+use Rattle.std.proofs.lemmas.List.Sorted.{IsPermutation-append_comm, IsPermutation-append_left, IsPermutation-append_right, IsPermutation-refl, IsPermutation-trans}
 use Rattle.doc_tallies.specs.Firsts.{put_by, sorted_by, firsts_by}
 use Rattle.doc_tallies.proofs.Putting.{InOrder, firsts_in_order, merged, up_to}
 
@@ -127,12 +128,45 @@ taken_right_alone b o [] old new None e none right = ap (sorted_by b) e
 taken_right_alone b o [] old new (Some y) e none right = ap (sorted_by b) e ∙ right_first b o [] y new (subst (λ zs. sorted_by b zs ≡ zs) e right) (All-nil (λ z. b y z ≡ true))
 taken_right_alone b o (x ∷ xs) old new taken e none right = absurd (omega (arith, none))
 
+-- what is taken and what is left are all there was, in any order
+pub drawn_left : {X : Type 0} (old new ys : List X) (taken : Option X) → old ≡ option_to_list taken ++ new → IsPermutation (option_to_list taken ++ (new ++ ys)) (old ++ ys)
+drawn_left {X = X} old new ys taken e =
+    let t : List X = option_to_list taken in
+    subst (λ (zs : List X). IsPermutation (t ++ (new ++ ys)) zs) (sym (append_assoc t new ys) ∙ ap (λ (zs : List X). zs ++ ys) (sym e)) (IsPermutation-refl (t ++ (new ++ ys)))
+
+pub drawn_right : {X : Type 0} (xs old new : List X) (taken : Option X) → old ≡ option_to_list taken ++ new → IsPermutation (option_to_list taken ++ (xs ++ new)) (xs ++ old)
+drawn_right {X = X} xs old new taken e =
+    let t : List X = option_to_list taken in
+    subst (λ (zs : List X). IsPermutation zs (xs ++ old)) (append_assoc t xs new)
+    (subst (λ (zs : List X). IsPermutation ((t ++ xs) ++ new) zs) (append_assoc xs t new ∙ ap (λ (zs : List X). xs ++ zs) (sym e)) (IsPermutation-append_left new (t ++ xs) (xs ++ t) (IsPermutation-append_comm t xs)))
+
+-- one more is drawn
+pub drawn_more : {X : Type 0} (all taken more left right left' right' : List X) (next : Option X) (x : X) → IsPermutation (taken ++ (left ++ right)) all → IsPermutation (option_to_list next ++ (left' ++ right')) (left ++ right) → next ≡ Some x → more ≡ taken ++ x ∷ []
+    → IsPermutation (more ++ (left' ++ right')) all
+drawn_more {X = X} all taken more left right left' right' next x before drawn is e =
+    let rest : List X = left' ++ right' in
+    let one : IsPermutation (x ∷ rest) (left ++ right) = subst (λ (o : Option X). IsPermutation (option_to_list o ++ rest) (left ++ right)) is drawn in
+    subst (λ (zs : List X). IsPermutation (zs ++ rest) all) (sym e)
+    (subst (λ (zs : List X). IsPermutation zs all) (sym (append_assoc taken (x ∷ []) rest))
+    (IsPermutation-trans (taken ++ x ∷ rest) (taken ++ (left ++ right)) all (IsPermutation-append_right taken (x ∷ rest) (left ++ right) one) before))
+
 -- ---- some hits were taken from two lists, one after the other
 
 pub record IsMerging {X : Type 0} (b : X → X → Bool) (xs ys taken left right : List X) : Type 0 where
   pub joined : taken ++ sorted_by b (left ++ right) ≡ sorted_by b (xs ++ ys)
   pub ordered_left : sorted_by b left ≡ left
   pub ordered_right : sorted_by b right ≡ right
+
+-- one more was taken
+pub merging_more : {X : Type 0} (b : X → X → Bool) (xs ys taken more left right left' right' : List X) (x : X) → IsMerging b xs ys taken left right → (sorted_by b left ≡ left → sorted_by b right ≡ right → sorted_by b (left ++ right) ≡ x ∷ sorted_by b (left' ++ right'))
+    → (sorted_by b left ≡ left → sorted_by b left' ≡ left') → (sorted_by b right ≡ right → sorted_by b right' ≡ right') → more ≡ taken ++ x ∷ [] → IsMerging b xs ys more left' right'
+merging_more {X = X} b xs ys taken more left right left' right' x m first in_left in_right e =
+    let rest : List X = sorted_by b (left' ++ right') in
+    record {
+      joined = ap (λ (zs : List X). zs ++ rest) e ∙ (append_assoc taken (x ∷ []) rest ∙ (ap (λ (zs : List X). taken ++ zs) (sym (first m.ordered_left m.ordered_right)) ∙ m.joined));
+      ordered_left = in_left m.ordered_left;
+      ordered_right = in_right m.ordered_right;
+    }
 
 -- enough were taken, or no more are there
 pub enough_taken : {X : Type 0} (b : X → X → Bool) (n : ℕ) (xs ys taken left right : List X) → IsMerging b xs ys taken left right → length taken ≡ n → taken ≡ firsts_by n b (xs ++ ys)

@@ -39,6 +39,12 @@ use Rattle.root_search.proofs.Fetches.{by_refl, some_passages}
 pub vacant_unplanned : (r : GivenRequest) (q : GivenPlan) → r ≡ requests.Vacant → r ≡ requests.Planned q → ⊥
 vacant_unplanned r q was is = absurd (cc)
 
+pub vacant_unopened : (r : GivenRequest) (text : List ℕ) → r ≡ requests.Vacant → r ≡ requests.Opened text → ⊥
+vacant_unopened r text was is = absurd (cc)
+
+pub opened_one : (r : GivenRequest) (text other : List ℕ) → r ≡ requests.Opened text → r ≡ requests.Opened other → other ≡ text
+opened_one r text other was is = cc
+
 pub opened_unplanned : (r : GivenRequest) (text : List ℕ) (q : GivenPlan) → r ≡ requests.Opened text → r ≡ requests.Planned q → ⊥
 opened_unplanned r text q was is = absurd (cc)
 

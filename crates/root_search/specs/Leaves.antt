@@ -1,8 +1,8 @@
 -- The answers of many splits.
-use Rattle.std.specs.Prelude.{◌≡◌, ◌≢◌, ℕ, ◌^◌, ◌≤◌, List, flat_map, sum_by, slice_get, Some, None, Result, Ok, Err, IfOk, IsOk, MatchResult}
-use Rattle.std.specs.List.{AllByRecursion, AllZip}
+use Rattle.std.specs.Prelude.{◌≡◌, ◌≢◌, ℕ, ◌^◌, ◌≤◌, true, List, ◌∷◌, ◌++◌, flat_map, length, map, sum_by, slice_get, Some, None, Result, Ok, Err, IfOk, IsPermutation, MatchResult}
+use Rattle.std.specs.List.{AllZip}
 use Rattle.doc_value.specs.declared.schema.Schema.{Schema}
-use Rattle.agg_model.specs.Partials.{IsPartialOf, documents_in}
+use Rattle.agg_model.specs.Partials.{IsPartialOf, StandsFor, documents_in}
 use Rattle.split_bundle.specs.Files.{Parts, file_bytes}
 use Rattle.split_bundle.specs.Lending.{IsPartOf}
 use Rattle.split_bundle.specs.Wholes.{HaveAll}
@@ -10,9 +10,13 @@ use Rattle.split_bundle.specs.Pieces.{held_in}
 use Rattle.split_bundle.specs.declared.part_view.PartView.{PartView}
 use Rattle.split_bundle.specs.declared.placed.Placed.{Placed}
 use Rattle.doc_sets.specs.Faults.{HasCause, IsMemory}
+use Rattle.doc_sets.specs.Reads.{AreRead, ReadsAll}
 use Rattle.doc_sets.specs.declared.leaf_error.LeafError.{LeafError}
 use Rattle.doc_sets.specs.declared.leaf_error.LeafError.TheVariants as leaf
+use Rattle.doc_tallies.specs.Orders.{firsts}
+use Rattle.doc_tallies.specs.Picked.{docs_of}
 use Rattle.leaf_search.specs.Answers.{AsksLeaf, IsAnswerOf, IsAsked}
+use Rattle.leaf_search.specs.Counts.{only_counts, read_lookups}
 use Rattle.leaf_search.specs.declared.request.LeafAnswer.{LeafAnswer}
 use Rattle.leaf_search.specs.declared.request.LeafRequest.{LeafRequest}
 use Rattle.root_search.specs.declared.splits_error.SplitsError.{SplitsError}
@@ -50,17 +54,30 @@ pub record IsLeafAnswer (s : Schema) (r : LeafRequest) (v : PartView) (answer : 
       → MatchResult answer (IsAnswerOf s r documents) (HasCause (AsksLeaf v s documents p r) v.pieces)
   pub there : (documents : List Placed) (p : Parts) → IsPartOf v s documents p → HaveAll (file_bytes p) v.pieces → IsAsked s r → MatchResult answer (IsAnswerOf s r documents) IsMemory
   pub counted : IfOk answer (IsCounted r)
+  pub read : IfOk answer (λ a. AreRead v (read_lookups s r))
+  pub faults : only_counts r ≡ true → ReadsAll v (read_lookups s r) answer
 
 -- how many documents an answer counts
 abbrev pub count_in : Result LeafAnswer LeafError → ℕ
 count_in (Ok a) = a.count
 count_in (Err fault) = 0
 
--- the fault is that of the answer at a place, or the answers count too many documents together
+-- each of some splits answered
+abbrev pub all_ok : List LeafAnswer → List (Result LeafAnswer LeafError)
+all_ok answers = map (λ a. Ok a) answers
+
+-- the answer at a place is this fault, and there is none before it
+pub record FailsFirst (answers : List (Result LeafAnswer LeafError)) (place : ℕ) (fault : LeafError) : Type 0 where
+  pub front : List LeafAnswer
+  pub rest : List (Result LeafAnswer LeafError)
+  pub answers_are : answers ≡ all_ok front ++ Err fault ∷ rest
+  pub place_is : place ≡ length front
+
+-- the fault is that of the answer at a place, the first, or the answers count too many documents together
 abbrev pub IsFaultIn : List (Result LeafAnswer LeafError) → SplitsError → Type 0
 IsFaultIn answers (Memory a) = Unit {0}
-IsFaultIn answers (Missing place at) = slice_get answers place ≡ Some (Err (leaf.Missing at))
-IsFaultIn answers (Corrupt place section) = slice_get answers place ≡ Some (Err (leaf.Corrupt section))
+IsFaultIn answers (Missing place at) = FailsFirst answers place (leaf.Missing at)
+IsFaultIn answers (Corrupt place section) = FailsFirst answers place (leaf.Corrupt section)
 IsFaultIn answers TooMany = 2 ^ 62 ≤ sum_by count_in answers
 
 -- want of memory, or so many documents that they are not counted
@@ -104,22 +121,52 @@ WantsMemory TooMany = ⊥
 
 -- ---- over any bytes
 
--- What splits answer is joined: each of them answered, and so many documents are counted as they count together.
-pub record IsJoinOf (s : Schema) (r : LeafRequest) (views : List PartView) (all : LeafAnswer) : Type 0 where
-  pub answers : List (Result LeafAnswer LeafError)
-  pub are_leaves : AllZip (IsLeafAnswer s r) views answers
-  pub answered : AllByRecursion IsOk answers
-  pub count : all.count ≡ sum_by count_in answers
+-- the hits of some answers, one after the other
+abbrev pub all_hits : List LeafAnswer → List Placed
+all_hits answers = flat_map (λ a. a.hits) answers
 
--- the view at a place has not all that the request asks for of a split, of whatever documents
-pub record IsNoLeaf (s : Schema) (r : LeafRequest) (views : List PartView) (place : ℕ) : Type 0 where
+-- some of these documents, in some order
+abbrev pub AreSomeOf : List Placed → List Placed → Type 0
+AreSomeOf hits documents = (others : List Placed) × IsPermutation (hits ++ others) documents
+
+-- Answers are joined. As many documents are counted as they count together. The hits are some of theirs: the first of all documents, wherever each
+-- answer has the first of some. The partial is that of all documents, wherever that of each answer is of some.
+pub record AreJoined (r : LeafRequest) (answers : List LeafAnswer) (all : LeafAnswer) : Type 0 where
+  pub count : all.count ≡ sum_by (λ a. a.count) answers
+  pub drawn : AreSomeOf all.hits (all_hits answers)
+  pub hits : (lists : List (List Placed)) → AllZip (λ a own. a.hits ≡ firsts r.wanted r.order own) answers lists → all.hits ≡ firsts r.wanted r.order (all_of lists)
+  pub partial : (lists : List (List Placed)) → AllZip (λ a own. StandsFor r.aggs a.partial (docs_of own)) answers lists → StandsFor r.aggs all.partial (docs_of (all_of lists))
+
+-- each answer is one, and these are joined
+abbrev pub AllJoined : LeafRequest → List (Result LeafAnswer LeafError) → LeafAnswer → Type 0
+AllJoined r answers all = (given : List LeafAnswer) × (answers ≡ all_ok given) × AreJoined r given all
+
+-- the leaf answers this over a view
+abbrev pub LeafGives : Schema → LeafRequest → PartView → LeafAnswer → Type 0
+LeafGives s r view answer = IsLeafAnswer s r view (Ok answer)
+
+-- What splits answer is joined: the leaf of each of them answered.
+pub record IsJoinOf (s : Schema) (r : LeafRequest) (views : List PartView) (all : LeafAnswer) : Type 0 where
+  pub answers : List LeafAnswer
+  pub are_leaves : AllZip (LeafGives s r) views answers
+  pub joined : AreJoined r answers all
+
+-- The leaf of the view at a place is at fault, and there is none before it. This view has not all that the request asks for of a split, of
+-- whatever documents.
+pub record IsNoLeaf (s : Schema) (r : LeafRequest) (views : List PartView) (place : ℕ) (fault : LeafError) : Type 0 where
+  pub front : List PartView
   pub view : PartView
-  pub seen : slice_get views place ≡ Some view
+  pub rest : List PartView
+  pub views_are : views ≡ front ++ view ∷ rest
+  pub place_is : place ≡ length front
+  pub answers : List LeafAnswer
+  pub before : AllZip (LeafGives s r) front answers
+  pub failed : IsLeafAnswer s r view (Err fault)
   pub none : (documents : List Placed) → IsAsked s r → HasAsked s r view documents → ⊥
 
--- the split at a place is refused only where its view is none of a split
+-- the split at a place is refused only where its view is none of a split, the first
 abbrev pub IsRefusedIn : Schema → LeafRequest → List PartView → SplitsError → Type 0
 IsRefusedIn s r views (Memory a) = Unit {0}
-IsRefusedIn s r views (Missing place at) = IsNoLeaf s r views place
-IsRefusedIn s r views (Corrupt place section) = IsNoLeaf s r views place
+IsRefusedIn s r views (Missing place at) = IsNoLeaf s r views place (leaf.Missing at)
+IsRefusedIn s r views (Corrupt place section) = IsNoLeaf s r views place (leaf.Corrupt section)
 IsRefusedIn s r views TooMany = Unit {0}

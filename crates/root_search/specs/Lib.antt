@@ -14,6 +14,8 @@ pub mod Recorded
 pub mod Fetching
 pub mod FetchCalls
 pub mod StepReads
+pub mod StepPlans
+pub mod Leaving
 pub mod Footers
 pub mod Drawing
 pub mod Searching

@@ -1,17 +1,32 @@
 -- What is found in splits together, and which of them is refused.
-use Rattle.std.specs.Prelude.{◌≡◌, ℕ, List, [], ◌∷◌, IsPermutation, Some, slice_get}
+use Rattle.std.specs.Prelude.{◌≡◌, ◌⊎◌, ℕ, List, ◌∷◌, ◌++◌, IsPermutation, Some, Result, Ok, Err, drop, slice_get, take}
+use Rattle.std.specs.List.{AllZip}
+use Rattle.doc_value.specs.declared.doc.DocField.{DocField}
 use Rattle.doc_value.specs.declared.schema.Schema.{Schema}
+use Rattle.agg_model.specs.Answers.{IsFinished}
+use Rattle.agg_model.specs.Partials.{StandsFor}
+use Rattle.agg_model.specs.declared.agg_error.AggError.{AggError}
+use Rattle.agg_model.specs.declared.answer.NamedResult.{NamedResult}
+use Rattle.agg_model.specs.declared.partial.Partial.{Partial}
+use Rattle.agg_model.specs.declared.request.NamedAgg.{NamedAgg}
 use Rattle.split_bundle.specs.declared.part_view.PartView.{PartView}
 use Rattle.split_bundle.specs.declared.placed.Placed.{Placed}
+use Rattle.doc_sets.specs.Faults.{IsMemory}
+use Rattle.doc_sets.specs.declared.leaf_error.LeafError.{LeafError}
 use Rattle.leaf_search.specs.Answers.{IsAsked, found}
+use Rattle.leaf_search.specs.declared.request.LeafAnswer.{LeafAnswer}
 use Rattle.leaf_search.specs.declared.request.LeafRequest.{LeafRequest}
 use Rattle.meta_journal.specs.Places.{split_key}
+use Rattle.search_api.specs.Unanswered.{of_aggs}
 use Rattle.search_api.specs.declared.reply.Refusal.TheVariants as refusals
 use Rattle.search_api.specs.declared.reply.Said.{Said}
-use Rattle.search_api.specs.declared.reply.Said.TheVariants.{Refused}
-use Rattle.root_search.specs.Leaves.{HasAsked, all_of}
+use Rattle.search_api.specs.declared.reply.Said.TheVariants.{Found, Deleted, Refused}
+use Rattle.search_api.specs.declared.unanswered.Unanswered.TheVariants as reasons
+use Rattle.root_search.specs.Answer.{printed}
+use Rattle.root_search.specs.Leaves.{AreJoined, IsLeafAnswer, all_of}
 use Rattle.root_search.specs.Places.{OneAtEach}
-use Rattle.root_search.specs.SplitParts.{HasNeeded}
+use Rattle.root_search.specs.SplitParts.{HasNeeded, IsLentOf}
+use Rattle.root_search.specs.declared.leaf_asks.LeafAsk.{LeafAsk}
 use Rattle.root_search.specs.declared.part_answers.PartError.{PartError}
 use Rattle.root_search.specs.declared.part_answers.PartError.TheVariants.{Memory, Corrupt}
 use Rattle.root_search.specs.declared.split_parts.KeptSplit.{KeptSplit}
@@ -32,29 +47,46 @@ abbrev pub WantsRoom : PartError → Type 0
 WantsRoom (Memory e) = Unit {0}
 WantsRoom (Corrupt number) = ⊥
 
--- ---- a split that is refused
+-- ---- over any bytes
 
--- the view has of a split's documents what a request asks for, wherever its part has what the request needs of them
-abbrev pub IsViewOfPart : SplitPart → PartView → Type 0
-IsViewOfPart part view = (s : Schema) (r : LeafRequest) (documents : List Placed) → IsAsked s r → HasNeeded s r part documents → HasAsked s r view documents
+-- the view lends what was kept of a split
+pub record IsViewOfPart (part : SplitPart) (view : PartView) : Type 0 where
+  pub footer : view.footer ≡ part.footer
+  pub pieces : AllZip IsLentOf part.pieces view.pieces
 
--- the views are those of the first parts, in their order
-abbrev pub AreViewsOf : List PartView → List SplitPart → Type 0
-AreViewsOf [] parts = Unit {0}
-AreViewsOf (view ∷ views) [] = ⊥
-AreViewsOf (view ∷ views) (part ∷ parts) = IsViewOfPart part view × AreViewsOf views parts
+-- what the leaf answers over what was kept of a split
+pub record LeafOver (s : Schema) (r : LeafRequest) (part : SplitPart) (answer : Result LeafAnswer LeafError) : Type 0 where
+  pub view : PartView
+  pub lends : IsViewOfPart part view
+  pub is_leaf : IsLeafAnswer s r view answer
 
--- what was kept of the split with a number is not what the request needs of a split, of whatever documents
-pub record IsUnread (s : Schema) (r : LeafRequest) (parts : List SplitPart) (number : ℕ) : Type 0 where
-  pub place : ℕ
+abbrev pub PartGives : Schema → LeafRequest → SplitPart → LeafAnswer → Type 0
+PartGives s r part answer = LeafOver s r part (Ok answer)
+
+-- The leaf over each part answered, and their answers are joined.
+pub record AreAnswered (s : Schema) (r : LeafRequest) (parts : List SplitPart) (all : LeafAnswer) : Type 0 where
+  pub answers : List LeafAnswer
+  pub are_leaves : AllZip (PartGives s r) parts answers
+  pub joined : AreJoined r answers all
+
+-- The leaf over what was kept of the split with a number met a fault that is not want of memory, and none before it did. What was kept is not
+-- what the request needs of a split, of whatever documents.
+pub record IsBroken (s : Schema) (r : LeafRequest) (parts : List SplitPart) (number : ℕ) : Type 0 where
+  pub front : List SplitPart
   pub part : SplitPart
-  pub among : slice_get parts place ≡ Some part
+  pub rest : List SplitPart
+  pub parts_are : parts ≡ front ++ part ∷ rest
   pub number_is : part.number ≡ number
+  pub answers : List LeafAnswer
+  pub before : AllZip (PartGives s r) front answers
+  pub fault : LeafError
+  pub failed : LeafOver s r part (Err fault)
+  pub other : IsMemory fault → ⊥
   pub none : (documents : List Placed) → IsAsked s r → HasNeeded s r part documents → ⊥
 
 abbrev pub IsRefusedPart : Schema → LeafRequest → List SplitPart → PartError → Type 0
 IsRefusedPart s r parts (Memory e) = Unit {0}
-IsRefusedPart s r parts (Corrupt number) = IsUnread s r parts number
+IsRefusedPart s r parts (Corrupt number) = IsBroken s r parts number
 
 -- the split at a place is the one that is refused, if one is
 abbrev pub IsCorruptAt : List KeptSplit → ℕ → PartError → Type 0
@@ -67,14 +99,28 @@ IsFaultAt splits (errors.Missing place at) fault = IsCorruptAt splits place faul
 IsFaultAt splits (errors.Corrupt place section) fault = IsCorruptAt splits place fault
 IsFaultAt splits errors.TooMany fault = WantsRoom fault
 
--- Corrupt is answered with the key of such a split alone
-abbrev pub IsCorruptOf : Schema → LeafRequest → List SplitPart → Said → Type 0
-IsCorruptOf s r parts said = (key : List ℕ) → said ≡ Refused (refusals.Corrupt key) → (number : ℕ) × (key ≡ split_key number) × IsUnread s r parts number
-
 -- a corrupt split is replied as such, with its key
 abbrev pub IsSaidOf : PartError → Said → Type 0
 IsSaidOf (Memory e) said = ⊥
 IsSaidOf (Corrupt number) said = said ≡ Refused (refusals.Corrupt (split_key number))
 
-abbrev pub IsNotCorrupt : Said → Type 0
-IsNotCorrupt said = (key : List ℕ) → said ≡ Refused (refusals.Corrupt key) → ⊥
+-- ---- what is said
+
+-- this is answered of a partial, of whatever documents it is
+abbrev pub Finishes : List NamedAgg → Partial → Result (List NamedResult) AggError → Type 0
+Finishes aggs partial result = (documents : List (List DocField)) → StandsFor aggs partial documents → IsFinished aggs documents result
+
+-- What is said of an answer: how many match, those of its hits that stand on the page, as they are printed, and what its partial counts, or why it is
+-- refused.
+abbrev pub IsShownOf : Schema → LeafAsk → LeafAnswer → Said → Type 0
+IsShownOf s ask all (Found many lines results) =
+    (many ≡ all.count) × (lines ≡ printed s (take ask.page.shown (drop ask.page.passed all.hits))) × Finishes ask.request.aggs all.partial (Ok results)
+IsShownOf s ask all (Refused refusal) = (error : AggError) × (of_aggs error ≡ reasons.Refused refusal) × Finishes ask.request.aggs all.partial (Err error)
+IsShownOf s ask all (Deleted opstamp) = ⊥
+
+-- What is said over what was kept of splits: that of their answers, where the leaf over each of them answered; or that the first one is
+-- corrupt over which it met a fault, with its key.
+abbrev pub IsSaidOver : Schema → LeafAsk → List SplitPart → Said → Type 0
+IsSaidOver s ask parts said =
+    ((all : LeafAnswer) × AreAnswered s ask.request parts all × IsShownOf s ask all said)
+    ⊎ ((number : ℕ) × (said ≡ Refused (refusals.Corrupt (split_key number))) × IsBroken s ask.request parts number)

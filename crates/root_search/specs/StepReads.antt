@@ -17,6 +17,7 @@ use Rattle.meta_store.specs.declared.planning.PlanRow.{PlanRow}
 use Rattle.search_api.specs.declared.reply.Refusal.{Refusal}
 use Rattle.search_api.specs.declared.reply.Refusal.TheVariants as refusals
 use Rattle.search_api.specs.declared.reply.Said.TheVariants.{Refused}
+use Rattle.object_store.specs.Store.{State}
 use Rattle.source_log.specs.Log.{Log}
 use Rattle.split_bundle.specs.Files.{Parts, file_bytes}
 use Rattle.split_bundle.specs.Splits.{IsSplitOf}
@@ -25,7 +26,7 @@ use Rattle.split_bundle.specs.declared.placed.Placed.{Placed}
 use Rattle.root_search.specs.FetchCalls.{AreFetches, FetchCall, HasGiven, HaveFailed, IsNoPart, IsPartRead}
 use Rattle.root_search.specs.Fetching.{IsFileAt}
 use Rattle.root_search.specs.Footers.{entries}
-use Rattle.root_search.specs.PartAnswers.{IsCorruptOf}
+use Rattle.root_search.specs.PartAnswers.{IsSaidOver}
 use Rattle.root_search.specs.SplitParts.{IsKnown}
 use Rattle.root_search.specs.declared.fetching.FetchError.{FetchError}
 use Rattle.root_search.specs.declared.fetching.FetchError.TheVariants.{Memory, World, Corrupt}
@@ -54,13 +55,13 @@ refusal_of errors.NoIndex = Some refusals.Full
 refusal_of errors.IndexExists = Some refusals.Full
 refusal_of (errors.BadConfig bad) = Some refusals.Full
 
--- a step replies a refusal of which this holds, or finds no memory
-abbrev pub Refuses : (Refusal → Type 0) → Result SearchStep AllocError → Type 0
-Refuses holds (Ok Idle) = ⊥
-Refuses holds (Ok (Planned revision count)) = ⊥
-Refuses holds (Ok (Fetched number)) = ⊥
-Refuses holds (Ok (Replied reply)) = (refusal : Refusal) × (reply.said ≡ Refused refusal) × holds refusal
-Refuses holds (Err e) = ⊤
+-- a step replies a refusal of which this holds, over a revision, or finds no memory
+abbrev pub Refuses : ℕ → (Refusal → Type 0) → Result SearchStep AllocError → Type 0
+Refuses revision holds (Ok Idle) = ⊥
+Refuses revision holds (Ok (Planned at count)) = ⊥
+Refuses revision holds (Ok (Fetched number)) = ⊥
+Refuses revision holds (Ok (Replied reply)) = (refusal : Refusal) × (reply.revision ≡ revision) × (reply.said ≡ Refused refusal) × holds refusal
+Refuses revision holds (Err e) = ⊤
 
 -- the refusal of a fetch from the split with a number
 abbrev pub IsFetchRefusal : ℕ → FetchError → Refusal → Type 0
@@ -70,8 +71,9 @@ IsFetchRefusal number Corrupt refusal = refusal ≡ refusals.Corrupt (split_key 
 
 -- ---- a step that fetches
 
--- Where the gate stands for a core in which the row's file stands within the plan's grace, this file is no split of the index's
--- configuration. A footer that was known may be another file's.
+-- What may be called corrupt. Where the gate stands for a core in which a file of as many bytes as the row says stands under the row's number within the
+-- plan's grace, this file is no split of the index's configuration. So a sound split of another length than the row says is called corrupt too, and one
+-- whose footer was known from another file.
 abbrev pub IsNoSplit : {W : Type 0} → (W → Core → Log → Type 0) → Plan → ℕ → LeafRequest → Option Footer → W → Type 0
 IsNoSplit Stands plan place r known gate =
     (config : IndexConfig) (documents : List Placed) (p : Parts) (core : Core) (log : Log) → Stands gate core log → IsConfigured config core → IsFileAt core (grace_of config plan).until plan place (file_bytes p) → IsSplitOf config.schema documents p
@@ -101,30 +103,31 @@ abbrev pub SaysFetching : {W : Type 0} → (W → Core → Log → Type 0) → O
 SaysFetching Stands known row planned gate calls request (Ok Idle) = ⊥
 SaysFetching Stands known row planned gate calls request (Ok (Planned revision count)) = ⊥
 SaysFetching Stands known row planned gate calls request (Ok (Fetched number)) = (number ≡ row.number) × IsFurther known row planned calls request
-SaysFetching Stands known row planned gate calls request (Ok (Replied reply)) = (refusal : Refusal) × (reply.said ≡ Refused refusal) × IsReadRefusal Stands planned.plan planned.next planned.ask.request known row gate calls refusal
+SaysFetching Stands known row planned gate calls request (Ok (Replied reply)) = (refusal : Refusal) × (reply.revision ≡ planned.plan.revision) × (reply.said ≡ Refused refusal) × IsReadRefusal Stands planned.plan planned.next planned.ask.request known row gate calls refusal
 SaysFetching Stands known row planned gate calls request (Err e) = ⊤
 
 -- It calls the gate for bytes of the row's file and answers by these. Its footer may be kept.
-pub record FetchesRow {W : Type 0} (Stands : W → Core → Log → Type 0) (Between : Core → Core → Type 0) (Owns : W → ℕ → Type 0) (Adds : W → List CallMade → W → Type 0) (bytes_fetched : W → ℕ) (footers : Footers) (planned : GivenPlan) (row : PlanRow) (request : GivenRequest)
+pub record FetchesRow {W : Type 0} (Stands : W → Core → Log → Type 0) (Between : Core → Core → Type 0) (Owns : W → ℕ → Type 0) (Adds : W → List CallMade → W → Type 0) (bytes_fetched : W → ℕ) (told : W → Option State) (footers : Footers) (planned : GivenPlan) (row : PlanRow) (request : GivenRequest)
     (result : Result SearchStep AllocError) (old new : W) : Type 0 where
   pub calls : List FetchCall
-  pub are : AreFetches Stands Between Owns Adds bytes_fetched planned.plan planned.next old calls new
+  pub are : AreFetches Stands Between Owns Adds bytes_fetched told planned.plan planned.next old calls new
   pub says : SaysFetching Stands (lookup (nat_eq row.number) (entries footers)) row planned old calls request result
 
 -- a step of a planned search fetches of the next row, where there is one
-abbrev pub StepReads : {W : Type 0} → (W → Core → Log → Type 0) → (Core → Core → Type 0) → (W → ℕ → Type 0) → (W → List CallMade → W → Type 0) → (W → ℕ) → Searcher → Searcher → Result SearchStep AllocError → W → W → Type 0
-StepReads Stands Between Owns Adds bytes_fetched searcher after result old new =
+abbrev pub StepReads : {W : Type 0} → (W → Core → Log → Type 0) → (Core → Core → Type 0) → (W → ℕ → Type 0) → (W → List CallMade → W → Type 0) → (W → ℕ) → (W → Option State) → Searcher → Searcher → Result SearchStep AllocError → W → W → Type 0
+StepReads Stands Between Owns Adds bytes_fetched told searcher after result old new =
     (planned : GivenPlan) (row : PlanRow) → searcher.request ≡ requests.Planned planned → slice_get planned.plan.rows planned.next ≡ Some row →
-    FetchesRow Stands Between Owns Adds bytes_fetched searcher.footers planned row after.request result old new
+    FetchesRow Stands Between Owns Adds bytes_fetched told searcher.footers planned row after.request result old new
 
 -- ---- the last step
 
--- It replies over the plan's revision, and Corrupt with the key of a split alone of which what was fetched is none of a split of the gate's configuration.
+-- It replies over the plan's revision, under the gate's configuration: what the leaves over all parts that are kept answer together, or Corrupt with the key
+-- of the first part that is broken.
 abbrev pub SaysOver : IndexConfig → GivenPlan → Result SearchStep AllocError → Type 0
 SaysOver config planned (Ok Idle) = ⊥
 SaysOver config planned (Ok (Planned revision count)) = ⊥
 SaysOver config planned (Ok (Fetched number)) = ⊥
-SaysOver config planned (Ok (Replied reply)) = (reply.revision ≡ planned.plan.revision) × IsCorruptOf config.schema planned.ask.request planned.parts reply.said
+SaysOver config planned (Ok (Replied reply)) = (reply.revision ≡ planned.plan.revision) × IsSaidOver config.schema planned.ask planned.parts reply.said
 SaysOver config planned (Err e) = ⊤
 
 -- a step of a planned search of which each row is fetched

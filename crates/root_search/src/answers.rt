@@ -8,7 +8,7 @@ ghost use Rattle.leaf_search.specs.Answers.{IsAnswerOf};
 ghost use Rattle.search_api.specs.Resolved.{Search};
 ghost use Rattle.root_search.specs.Answer.{IsAnswer, printed};
 ghost use Rattle.root_search.specs.LeafAsks.{Asks};
-ghost use Rattle.root_search.specs.PartAnswers.{IsNotCorrupt};
+ghost use Rattle.root_search.specs.PartAnswers.{IsShownOf};
 
 use crate::leaf_asks::{LeafAsk, Page};
 use agg_model::finish;
@@ -38,7 +38,7 @@ fn printed_page(
 
 /// What a search is answered, of which this is the answer over some documents: how many match, those that are shown, and what they
 /// count, or TooManyBuckets with their number.
-pub fn shown(
+pub(crate) fn shown(
     alloc: Global,
     schema: &Schema,
     ask: &LeafAsk,
@@ -48,7 +48,8 @@ pub fn shown(
     requires partial { IsPartialOf ask.now.request.aggs answer.now.partial }
     ensures only { (search : Search) (documents : List Placed) → Asks search ask.now → IsAnswerOf schema.now ask.now.request documents answer.now
         → IfOk result (IsAnswer schema.now search documents) }
-    ensures other { IfOk result IsNotCorrupt }
+    // Of any answer.
+    ensures said { IfOk result (IsShownOf schema.now ask.now answer.now) }
 {
     match finish(alloc, &ask.request.aggs, &answer.partial) {
         Ok(aggregations) => Ok(Said::Found {

@@ -52,7 +52,7 @@ fn search_ask(alloc: Global, config: &IndexConfig, text: &[u8]) -> Result<Search
 }
 
 /// The search that a text asks of an index, or its first refusal.
-pub fn read_search(
+pub(crate) fn read_search(
     alloc: Global,
     config: &IndexConfig,
     text: &[u8],

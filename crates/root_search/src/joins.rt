@@ -1,6 +1,6 @@
 //! The answers of splits, joined.
 
-ghost use Rattle.std.specs.Prelude.{◌≡◌, ◌+◌, ◌^◌, ◌<◌, ◌++◌, [], ℕ, List, IfOk, IfNone};
+ghost use Rattle.std.specs.Prelude.{◌≡◌, ◌+◌, ◌^◌, ◌<◌, ◌++◌, ◌∷◌, [], ℕ, List, IfOk, IfNone, IsPermutation};
 ghost use Rattle.std.specs.Option.{option_to_list};
 ghost use Rattle.doc_value.specs.declared.schema.Schema.{Schema};
 ghost use Rattle.split_bundle.specs.declared.placed.Placed.{Placed};
@@ -8,7 +8,7 @@ ghost use Rattle.doc_tallies.specs.Firsts.{sorted_by};
 ghost use Rattle.doc_tallies.specs.Orders as orders;
 ghost use Rattle.doc_tallies.specs.Orders.{firsts};
 ghost use Rattle.leaf_search.specs.Answers.{IsAnswerOf};
-ghost use Rattle.root_search.specs.Leaves.{IsCounted};
+ghost use Rattle.root_search.specs.Leaves.{AreJoined, AreSomeOf, IsCounted};
 
 use agg_model::merge_partials;
 use doc_tallies::{HitOrder, comes_before};
@@ -27,6 +27,7 @@ fn next_hit(
         → sorted_by (orders.comes_before order) (left.old.items ++ right.old.items) ≡ option_to_list result ++ sorted_by (orders.comes_before order) (left.new.items ++ right.new.items) }
     ensures none { IfNone result (left.old.items ++ right.old.items ≡ []) }
     ensures left { sorted_by (orders.comes_before order) left.old.items ≡ left.old.items → sorted_by (orders.comes_before order) left.new.items ≡ left.new.items }
+    ensures drawn { IsPermutation (option_to_list result ++ (left.new.items ++ right.new.items)) (left.old.items ++ right.old.items) }
     ensures right { sorted_by (orders.comes_before order) right.old.items ≡ right.old.items → sorted_by (orders.comes_before order) right.new.items ≡ right.new.items }
 {
     match (left.front(), right.front()) {
@@ -50,7 +51,9 @@ fn merged_hits(
     one: PlacedList,
     other: PlacedList,
 ) -> Result<PlacedList, AllocError>
-    ensures { (xs ys : List Placed) → one ≡ firsts wanted order xs → other ≡ firsts wanted order ys → IfOk result (λ hits. hits ≡ firsts wanted order (xs ++ ys)) }
+    ensures only { (xs ys : List Placed) → one ≡ firsts wanted order xs → other ≡ firsts wanted order ys → IfOk result (λ hits. hits ≡ firsts wanted order (xs ++ ys)) }
+    // Of any lists.
+    ensures drawn { IfOk result (λ hits. AreSomeOf hits (one ++ other)) }
 {
     let mut left = VecDeque::from_vec(one.into_vec());
     let mut right = VecDeque::from_vec(other.into_vec());
@@ -65,7 +68,7 @@ fn merged_hits(
 }
 
 /// The answers to one request over two lists of documents, joined: the answer over the one list and then the other.
-pub fn merged(
+pub(crate) fn merged(
     alloc: Global,
     request: &LeafRequest,
     one: LeafAnswer,
@@ -79,6 +82,7 @@ pub fn merged(
     // Of any answers.
     ensures counted { IfOk result (IsCounted request.now) }
     ensures count { IfOk result (λ joined. joined.count ≡ one.count + other.count) }
+    ensures joined { IfOk result (AreJoined request.now (one ∷ other ∷ [])) }
 {
     let LeafAnswer {
         count,

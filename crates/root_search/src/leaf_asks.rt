@@ -16,14 +16,14 @@ use search_api::{SearchAsk, SortField};
 
 /// Which of the hits in order are shown: `shown` of them at most, behind the first `passed`.
 #[derive(Clone, Copy)]
-pub struct Page {
+pub(crate) struct Page {
     pub passed: usize,
     pub shown: usize,
 }
 
 /// What a search asks of each split, and which of the hits of all of them are shown.
 #[derive(Drop)]
-pub struct LeafAsk {
+pub(crate) struct LeafAsk {
     pub request: LeafRequest,
     pub page: Page,
 }
@@ -54,7 +54,7 @@ fn wanted_of(passed: u32, shown: u32) -> usize
 }
 
 /// What a search asks of each split. The number of the field by which it sorts is below 2^32, as each of a schema is.
-pub fn leaf_ask(ask: SearchAsk) -> LeafAsk
+pub(crate) fn leaf_ask(ask: SearchAsk) -> LeafAsk
     requires { ForSome ask.sort (λ sort. sort.field < 2 ^ 32) }
     ensures asks { Asks (search_view ask) result }
     // What the index of a schema can answer, a split of the schema can.

@@ -1,12 +1,12 @@
 //! The answer over many splits.
 
-ghost use Rattle.std.specs.Prelude.{◌≡◌, ◌+◌, ◌^◌, ◌<◌, ◌≤◌, ◌++◌, [], List, length, sum_by, Some, Err, IfErr, IfOk, IsOk, MatchResult};
-ghost use Rattle.std.specs.List.{All, AllByRecursion, AllZip};
+ghost use Rattle.std.specs.Prelude.{◌≡◌, ◌+◌, ◌^◌, ◌<◌, ◌≤◌, ◌++◌, ◌∷◌, [], List, length, Some, Err, IfErr, IfOk, MatchResult};
+ghost use Rattle.std.specs.List.{All, AllZip};
 ghost use Rattle.doc_value.specs.declared.schema.Schema.{Schema};
 ghost use Rattle.agg_model.specs.Checking.{HaveIntervals};
 ghost use Rattle.split_bundle.specs.declared.placed.Placed.{Placed};
 ghost use Rattle.leaf_search.specs.Answers.{IsAnswerOf, IsAsked};
-ghost use Rattle.root_search.specs.Leaves.{HasAsked, HasCauseIn, IsCounted, IsFaultIn, IsFull, IsJoinOf, IsLeafAnswer, IsRefusedIn, IsViewOf, IsWholeViewOf, WantsMemory, all_of, count_in, placed_fault};
+ghost use Rattle.root_search.specs.Leaves.{AllJoined, AreJoined, HasAsked, HasCauseIn, IsCounted, IsFaultIn, IsFull, IsJoinOf, IsLeafAnswer, IsRefusedIn, IsViewOf, IsWholeViewOf, WantsMemory, all_of, placed_fault};
 
 use crate::joins::merged;
 use crate::splits_error::SplitsError;
@@ -21,7 +21,7 @@ use std::thread::Threads;
 
 /// How splits are asked: one after the other in this thread, or in as many threads as there are processors.
 #[derive(Clone, Copy)]
-pub enum Manner {
+pub(crate) enum Manner {
     InTurn,
     InThreads,
 }
@@ -36,7 +36,7 @@ const TOO_MANY: u64 = 1 << 62;
 fn vacant_answer(alloc: Global, request: &LeafRequest) -> Result<LeafAnswer, AllocError>
     ensures only { (s : Schema) → IfOk result (IsAnswerOf s request.now []) }
     ensures counted { IfOk result (IsCounted request.now) }
-    ensures count { IfOk result (λ vacant. vacant.count ≡ 0) }
+    ensures none { IfOk result (λ vacant. vacant.hits ≡ []) }
 {
     Ok(LeafAnswer {
         count: 0,
@@ -57,7 +57,7 @@ fn added(
     ensures only { (s : Schema) (xs ys : List Placed) → IsAnswerOf s request.now xs all → IsAnswerOf s request.now ys next
         → IfOk result (IsAnswerOf s request.now (xs ++ ys)) }
     ensures counted { IfOk result (IsCounted request.now) }
-    ensures count { IfOk result (λ joined. joined.count ≡ all.count + next.count) }
+    ensures joined { IfOk result (AreJoined request.now (all ∷ next ∷ [])) }
     ensures full { IfErr result (IsFull (all.count + next.count)) }
 {
     if all.count + next.count >= TOO_MANY {
@@ -89,7 +89,7 @@ fn joined(
     ensures counted { IfOk result (IsCounted request.now) }
     ensures fault { IfErr result (IsFaultIn answers.items) }
     // A fault of one is never passed over.
-    ensures each { IfOk result (λ all. AllByRecursion IsOk answers.items × (all.count ≡ sum_by count_in answers.items)) }
+    ensures each { IfOk result (AllJoined request.now answers.items) }
 {
     let mut all = vacant_answer(alloc, request)?;
     let mut left = VecDeque::from_vec(answers);
@@ -181,7 +181,7 @@ fn answers_of<Rt: Threads + Sync>(
 
 /// What splits answer to a request together: the answer over the documents of the first one, then those of the second, and so on.
 /// In whatever manner they are asked, it is the same.
-pub fn search_all<Rt: Threads + Sync>(
+pub(crate) fn search_all<Rt: Threads + Sync>(
     rt: &Rt,
     alloc: Global,
     manner: Manner,
@@ -202,7 +202,8 @@ pub fn search_all<Rt: Threads + Sync>(
         → MatchResult result (IsAnswerOf schema.now request.now (all_of lists)) WantsMemory }
     // Over any bytes.
     ensures counted { IfOk result (IsCounted request.now) }
-    // Over any bytes: there is an answer only where each split has one, and a split is refused only where its view is none of a split.
+    // Over any bytes: there is an answer only where each split has one, and it is these, joined; and a split is refused only where its view is none of
+    // a split, the first.
     ensures each { IfOk result (IsJoinOf schema.now request.now views.now) }
     ensures refused { IfErr result (IsRefusedIn schema.now request.now views.now) }
 {

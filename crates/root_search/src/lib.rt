@@ -20,16 +20,7 @@ mod splits_error;
 mod step_laws;
 
 pub use answer_laws::same_answers;
-pub use answers::shown;
-pub use asking::read_search;
-pub use joins::merged;
-pub use leaf_asks::{LeafAsk, Page, leaf_ask};
-pub use leaves::{Manner, search_all};
 pub use outcome::{SearchStep, print_outcome};
-pub use part_answers::answer_over;
 pub use plan_laws::{planning_laws, ruling_laws};
-pub use reads::ReadSearch;
 pub use searcher::{Busy, Searcher};
-pub use split_parts::{KeptPiece, KeptPieces, SplitPart, SplitParts};
-pub use splits_error::SplitsError;
 pub use step_laws::steps_alone;

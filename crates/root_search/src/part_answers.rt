@@ -9,7 +9,7 @@ ghost use Rattle.search_api.specs.Resolved.{Search};
 ghost use Rattle.root_search.specs.Answer.{answer};
 ghost use Rattle.root_search.specs.LeafAsks.{Asks};
 ghost use Rattle.root_search.specs.Leaves.{IsCounted, WantsMemory, all_of};
-ghost use Rattle.root_search.specs.PartAnswers.{AreFound, IsCorruptAt, IsCorruptOf, IsFaultAt, IsRefusedPart, IsSaidOf, WantsRoom};
+ghost use Rattle.root_search.specs.PartAnswers.{AreAnswered, AreFound, IsCorruptAt, IsFaultAt, IsRefusedPart, IsSaidOf, IsSaidOver, WantsRoom};
 ghost use Rattle.root_search.specs.SplitParts.{HasNeeded};
 ghost use Rattle.root_search.specs.declared.leaves.Manner.TheVariants.{InTurn};
 
@@ -107,6 +107,7 @@ fn leaf_answer<Rt: Threads + Sync>(
     ensures only { (lists : List (List Placed)) → AllZip (HasNeeded schema.now ask.now.request) parts lists → length (all_of lists) < 2 ^ 62 → IsAsked schema.now ask.now.request
         → MatchResult result (IsAnswerOf schema.now ask.now.request (all_of lists)) WantsRoom }
     ensures counted { IfOk result (IsCounted ask.now.request) }
+    ensures answered { IfOk result (AreAnswered schema.now ask.now.request parts) }
     ensures refused { IfErr result (IsRefusedPart schema.now ask.now.request parts) }
 {
     let parted = part_ways(alloc, parts)?;
@@ -134,7 +135,7 @@ fn said_of(fault: PartError) -> Result<Said, AllocError>
 
 /// What a search is answered over what was fetched of splits: that of the documents of which they have what is found. A split
 /// whose bytes are not of its form is replied as Corrupt.
-pub fn answer_over<Rt: Threads + Sync>(
+pub(crate) fn answer_over<Rt: Threads + Sync>(
     rt: &Rt,
     alloc: Global,
     schema: &Schema,
@@ -146,8 +147,9 @@ pub fn answer_over<Rt: Threads + Sync>(
     ensures only { (search : Search) (lists : List (List Placed)) (documents : List Placed) → Asks search ask.now → IsAsked schema.now ask.now.request
         → AllZip (HasNeeded schema.now ask.now.request) parts lists → length (all_of lists) < 2 ^ 62 → AreFound schema.now ask.now.request lists documents
         → IfOk result (λ said. said ≡ answer schema.now search documents) }
-    // Over any bytes: Corrupt is replied with the key of a split alone of which what was fetched is none of a split.
-    ensures refused { IfOk result (IsCorruptOf schema.now ask.now.request parts) }
+    // Over any bytes: what is said is what the leaves over all parts answer together, or Corrupt with the key of the first part over which the leaf met
+    // a fault.
+    ensures said { IfOk result (IsSaidOver schema.now ask.now parts) }
 {
     match leaf_answer(rt, alloc, schema, ask, parts) {
         Ok(answer) => shown(alloc, schema, ask, &answer),

@@ -10,7 +10,7 @@ use index_world::Plan;
 
 /// A planned search: what it asks of each split, and what was fetched of the first rows.
 #[derive(Drop)]
-pub struct Planned {
+pub(crate) struct Planned {
     pub ask: LeafAsk,
     pub plan: Plan,
     /// The place of the row that is fetched next.

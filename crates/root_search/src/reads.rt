@@ -9,7 +9,7 @@ use meta_store::Choice;
 
 /// A search that was read: which rows are chosen for it, and what it asks of each split.
 #[derive(Drop)]
-pub struct ReadSearch {
+pub(crate) struct ReadSearch {
     pub choice: Choice,
     pub ask: LeafAsk,
     // No interval of its aggregations is 0.

@@ -1,8 +1,9 @@
 //! A client's searcher and its steps.
 
-ghost use Rattle.std.specs.Prelude.{◌≡◌, ◌+◌, ◌-◌, ◌^◌, ◌<◌, ◌≤◌, ◌++◌, ◌∷◌, [], ℕ, List, length, min, slice_get, None, Some, Ok, Err, IfOk, MatchResult};
+ghost use Rattle.std.specs.Prelude.{◌≡◌, ◌+◌, ◌-◌, ◌^◌, ◌<◌, ◌≤◌, ◌++◌, ◌∷◌, [], ℕ, List, length, min, slice_get, None, Some, Ok, Err, IfOk, IsSome, MatchResult};
 ghost use Rattle.source_log.specs.Log.{Log, IsLog};
 ghost use Rattle.doc_value.specs.Documents.{IsSchema};
+ghost use Rattle.doc_value.specs.declared.schema.Schema.{Schema};
 ghost use Rattle.index_world.specs.Calls.{Trouble};
 ghost use Rattle.index_world.specs.Core.{Core, IsConfigured};
 ghost use Rattle.index_world.specs.Gate.{IsTrouble};
@@ -14,7 +15,10 @@ ghost use Rattle.root_search.specs.Drawing.{NeverFetched, StepDraws};
 ghost use Rattle.root_search.specs.ReadSearches.{IsRead};
 ghost use Rattle.root_search.specs.Requests.{asked_of};
 ghost use Rattle.root_search.specs.Searching.{IsPlanned, SearcherStands, new_client, Submits, SearchesAs, IsAtWork, Ends, FaultEnds, IsRefusalOf};
+ghost use Rattle.root_search.specs.Leaving.{Restarts, StepLeaves, TakesText, Works};
+ghost use Rattle.root_search.specs.StepPlans.{PlansUnlessShort, StepPlans};
 ghost use Rattle.root_search.specs.StepReads.{FetchesRow, IsFetchRefusal, Refuses, SaysOver, StepAnswers, StepReads, refusal_of};
+ghost use Rattle.root_search.specs.declared.searcher.Request.TheVariants as requests;
 ghost use Rattle.root_search.specs.Steps as steps;
 ghost use Rattle.root_search.specs.Steps.{opened, without_request, reply_with, trouble_replied, refused_over};
 
@@ -133,8 +137,9 @@ impl Searcher {
     /// Drops the request and the footers that are kept. The client and its front stay.
     pub fn restart(&mut self)
         // Whatever the world is then.
-        ensures { (client : steps.Client) (core after : Core) (log : Log) → SearcherStands self.old client core log →
+        ensures step { (client : steps.Client) (core after : Core) (log : Log) → SearcherStands self.old client core log →
             SearcherStands self.new (without_request client) after log }
+        ensures leaves { Restarts self.old self.new }
     {
         self.hold(Request::Vacant);
         self.footers = Footers::vacant();
@@ -149,8 +154,9 @@ impl Searcher {
 
     /// Opens a request. Where one is unanswered the text is dropped.
     pub fn submit(&mut self, text: Text) -> Result<(), Busy>
-        ensures { (client : steps.Client) (core : Core) (log : Log) → SearcherStands self.old client core log →
+        ensures step { (client : steps.Client) (core : Core) (log : Log) → SearcherStands self.old client core log →
             Submits result self.new text client core log }
+        ensures leaves { TakesText result text self.old self.new }
     {
         match &self.request {
             Request::Vacant => {
@@ -165,6 +171,7 @@ impl Searcher {
         ensures step { (client : steps.Client) (core : Core) (log : Log) → IsAtWork self.old client core →
             Ends (Ok result) self.new (reply_with revision said client core) log }
         ensures replied { NeverFetched (Ok result) }
+        ensures leaves { self.new ≡ record self.old { front = revision } }
         ensures said { result ≡ SearchStep.Replied (record { client = self.old.client; revision = revision; said = said }) }
     {
         self.front = revision;
@@ -179,7 +186,8 @@ impl Searcher {
         ensures step { (trouble : Trouble) (client : steps.Client) (core : Core) (log : Log) → IsTrouble error trouble → IsAtWork self.old client core →
             Ends result self.new (trouble_replied revision trouble client core) log }
         ensures replied { NeverFetched result }
-        ensures refuses { Refuses (λ refusal. refusal_of error ≡ Some refusal) result }
+        ensures refuses { Refuses revision (λ refusal. refusal_of error ≡ Some refusal) result }
+        ensures leaves { self.old.request ≡ requests.Vacant → Works self.old result self.new }
     {
         let refusal = refused_by(error)?;
         Ok(self.reply(revision, Said::Refused(refusal)))
@@ -195,7 +203,8 @@ impl Searcher {
         ensures step { (client : steps.Client) (core : Core) (log : Log) → IsAtWork self.old client core →
             FaultEnds fault result self.new revision client core log }
         ensures replied { NeverFetched result }
-        ensures refuses { Refuses (IsFetchRefusal number fault) result }
+        ensures refuses { Refuses revision (IsFetchRefusal number fault) result }
+        ensures leaves { self.old.request ≡ requests.Vacant → Works self.old result self.new }
     {
         match fault {
             FetchError::World(error) => self.refuse(revision, error),
@@ -213,8 +222,10 @@ impl Searcher {
         refusal: Refusal,
         error: WorldError,
     ) -> Result<SearchStep, AllocError>
-        ensures { (trouble : Trouble) (client : steps.Client) (core : Core) (log : Log) → IsTrouble error trouble → IsAtWork self.old client core →
+        ensures step { (trouble : Trouble) (client : steps.Client) (core : Core) (log : Log) → IsTrouble error trouble → IsAtWork self.old client core →
             Ends result self.new (refused_over client.front refusal trouble client core) log }
+        ensures refuses { Refuses self.old.front (λ given. (given ≡ refusal) × IsSome (refusal_of error)) result }
+        ensures leaves { self.old.request ≡ requests.Vacant → Works self.old result self.new }
     {
         match refused_by(error) {
             Ok(fault) => {
@@ -235,10 +246,12 @@ impl Searcher {
         gate: &mut G,
         refusal: Refusal,
     ) -> Result<SearchStep, AllocError>
-        ensures { (text : List ℕ) (config : configs.IndexConfig) (client : steps.Client) (core : Core) (log : Log) →
+        ensures step { (text : List ℕ) (config : configs.IndexConfig) (client : steps.Client) (core : Core) (log : Log) →
             IsConfigured config core → asked_of config text ≡ Err (reasons.Refused refusal) → client.request ≡ opened text →
             G.Stands gate.old core log → IsAtWork self.old client core →
             SearchesAs G.Stands G.Between G.Adds gate.old result self.new gate.new client core log }
+        ensures plans { (s : Schema) → PlansUnlessShort G.Stands G.Between G.Owns G.Adds G.bytes_fetched s (Err (reasons.Refused refusal)) self.old.front self.new.request result gate.old gate.new }
+        ensures leaves { self.old.request ≡ requests.Vacant → Works self.old result self.new }
     {
         match gate.plan(alloc, &Choice::Look) {
             Ok(plan) => Ok(self.reply(plan.revision, Said::Refused(refusal))),
@@ -252,10 +265,13 @@ impl Searcher {
         gate: &mut G,
         read: ReadSearch,
     ) -> Result<SearchStep, AllocError>
-        ensures { (text : List ℕ) (search : Search) (config : configs.IndexConfig) (client : steps.Client) (core : Core) (log : Log) →
+        ensures step { (text : List ℕ) (search : Search) (config : configs.IndexConfig) (client : steps.Client) (core : Core) (log : Log) →
             IsConfigured config core → asked_of config text ≡ Ok search → IsRead config.schema search read → client.request ≡ opened text →
             G.Stands gate.old core log → IsAtWork self.old client core →
             SearchesAs G.Stands G.Between G.Adds gate.old result self.new gate.new client core log }
+        ensures plans { (s : Schema) (search : Search) → IsRead s search read →
+            PlansUnlessShort G.Stands G.Between G.Owns G.Adds G.bytes_fetched s (Ok search) self.old.front self.new.request result gate.old gate.new }
+        ensures leaves { self.old.request ≡ requests.Vacant → Works self.old result self.new }
     {
         match gate.plan(alloc, &read.choice) {
             Ok(plan) => {
@@ -283,8 +299,11 @@ impl Searcher {
         gate: &mut G,
         text: &Text,
     ) -> Result<SearchStep, AllocError>
-        ensures { (client : steps.Client) (core : Core) (log : Log) → client.request ≡ opened text.now → G.Stands gate.old core log →
+        ensures step { (client : steps.Client) (core : Core) (log : Log) → client.request ≡ opened text.now → G.Stands gate.old core log →
             IsAtWork self.old client core → SearchesAs G.Stands G.Between G.Adds gate.old result self.new gate.new client core log }
+        ensures plans { let config = G.configured gate.old in
+            PlansUnlessShort G.Stands G.Between G.Owns G.Adds G.bytes_fetched config.schema (asked_of config text.now) self.old.front self.new.request result gate.old gate.new }
+        ensures leaves { self.old.request ≡ requests.Vacant → Works self.old result self.new }
     {
         match read_search(alloc, gate.config(), text.as_slice()) {
             Ok(read) => self.plan_read(alloc, gate, read),
@@ -307,7 +326,8 @@ impl Searcher {
             G.Stands gate.old core log → IsAtWork self.old client core →
             StepDraws self.old search result (G.bytes_fetched gate.old) (G.bytes_fetched gate.new) core }
         ensures reads { (row : PlanRow) → slice_get planned.plan.rows planned.next ≡ Some row →
-            FetchesRow G.Stands G.Between G.Owns G.Adds G.bytes_fetched self.old.footers planned row self.new.request result gate.old gate.new }
+            FetchesRow G.Stands G.Between G.Owns G.Adds G.bytes_fetched G.told self.old.footers planned row self.new.request result gate.old gate.new }
+        ensures leaves { self.old.request ≡ requests.Vacant → Works self.old result self.new }
     {
         let place = planned.next;
         let number = planned.plan.rows.at(place as usize).number;
@@ -342,8 +362,9 @@ impl Searcher {
             G.Stands gate.old core log → IsAtWork self.old client core →
             StepDraws self.old search result (G.bytes_fetched gate.old) (G.bytes_fetched gate.new) core }
         ensures reads { (row : PlanRow) → slice_get planned.plan.rows planned.next ≡ Some row →
-            FetchesRow G.Stands G.Between G.Owns G.Adds G.bytes_fetched self.old.footers planned row self.new.request result gate.old gate.new }
+            FetchesRow G.Stands G.Between G.Owns G.Adds G.bytes_fetched G.told self.old.footers planned row self.new.request result gate.old gate.new }
         ensures answers { length planned.plan.rows ≤ planned.next → SaysOver (G.configured gate.old) planned result }
+        ensures leaves { self.old.request ≡ requests.Vacant → Works self.old result self.new }
     {
         if (planned.next as usize) < planned.plan.rows.len() {
             return self.fetch(alloc, gate, planned);
@@ -377,10 +398,14 @@ impl Searcher {
         ensures draws { (search : steps.Plan) (client : steps.Client) (core : Core) (log : Log) → client.request ≡ steps.planned search →
             G.Stands gate.old core log → SearcherStands self.old client core log →
             StepDraws self.old search result (G.bytes_fetched gate.old) (G.bytes_fetched gate.new) core }
-        // Whatever the gate tells: what it answers where it fetches of a planned split, by the bytes that its calls gave.
-        ensures reads { StepReads G.Stands G.Between G.Owns G.Adds G.bytes_fetched self.old self.new result gate.old gate.new }
+        // Whatever the gate tells: what it answers where it plans, by what its call answered.
+        ensures plans { StepPlans G.Stands G.Between G.Owns G.Adds G.bytes_fetched (G.configured gate.old) self.old self.new result gate.old gate.new }
+        // Where it fetches of a planned split, by the bytes that its calls gave.
+        ensures reads { StepReads G.Stands G.Between G.Owns G.Adds G.bytes_fetched G.told self.old self.new result gate.old gate.new }
         // And where each is fetched.
         ensures answers { StepAnswers (G.configured gate.old) self.old result }
+        // What it leaves of the searcher.
+        ensures leaves { StepLeaves self.old result self.new }
     {
         match mem::replace(&mut self.request, Request::Vacant) {
             Request::Vacant => Ok(SearchStep::Idle),

@@ -1,14 +1,9 @@
 //! What is fetched of split files.
 
-ghost use Rattle.std.specs.Prelude.{◌≡◌, IfOk, List, ℕ};
+ghost use Rattle.std.specs.Prelude.{◌≡◌, IfOk, List};
 ghost use Rattle.std.specs.List.{AllZip};
-ghost use Rattle.doc_value.specs.declared.schema.Schema.{Schema};
-ghost use Rattle.leaf_search.specs.Answers.{IsAsked};
-ghost use Rattle.leaf_search.specs.declared.request.LeafRequest.{LeafRequest};
-ghost use Rattle.split_bundle.specs.declared.placed.Placed.{Placed};
-ghost use Rattle.root_search.specs.Leaves.{HasAsked};
-ghost use Rattle.root_search.specs.PartAnswers.{AreViewsOf, IsViewOfPart};
-ghost use Rattle.root_search.specs.SplitParts.{HasNeeded, IsLentOf, IsParted};
+ghost use Rattle.root_search.specs.PartAnswers.{IsViewOfPart};
+ghost use Rattle.root_search.specs.SplitParts.{IsLentOf, IsParted};
 ghost use Rattle.root_search.specs.declared.split_parts.SplitPart.{SplitPart as Part};
 
 use byte_fields::{Bytes, List};
@@ -18,24 +13,24 @@ use std::collections::VecDeque;
 
 /// Bytes of a file, and where they start.
 #[derive(Drop)]
-pub struct KeptPiece {
+pub(crate) struct KeptPiece {
     pub start: u64,
     pub bytes: Bytes,
 }
 
 /// Pieces of a file.
-pub type KeptPieces = List<KeptPiece>;
+pub(crate) type KeptPieces = List<KeptPiece>;
 
 /// What is fetched of a split: its footer, and the pieces of its file that are needed.
 #[derive(Drop)]
-pub struct SplitPart {
+pub(crate) struct SplitPart {
     pub number: u64,
     pub footer: Footer,
     pub pieces: KeptPieces,
 }
 
 /// Parts of splits in their order.
-pub type SplitParts = List<SplitPart>;
+pub(crate) type SplitParts = List<SplitPart>;
 
 // What is kept of a split beside its footer.
 #[derive(Drop)]
@@ -96,9 +91,7 @@ pub(crate) fn views_of(
     footers: Vec<Footer>,
     splits: &[KeptSplit],
 ) -> Result<List<PartView<'_>>, AllocError>
-    ensures asked { (s : Schema) (r : LeafRequest) (parts : List Part) (lists : List (List Placed)) → IsAsked s r → IsParted parts footers.items splits.now → AllZip (HasNeeded s r) parts lists
-        → IfOk result (λ views. AllZip (HasAsked s r) views lists) }
-    ensures each { (parts : List Part) → IsParted parts footers.items splits.now → IfOk result (λ views. AreViewsOf views parts) }
+    ensures { (parts : List Part) → IsParted parts footers.items splits.now → IfOk result (AllZip IsViewOfPart parts) }
 {
     let mut left = VecDeque::from_vec(footers);
     let mut views = List::vacant(alloc);

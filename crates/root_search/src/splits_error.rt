@@ -5,7 +5,7 @@ use thiserror::Error;
 
 /// Why splits give no answer together. `place` is that of a split's view in the list of them.
 #[derive(Debug, Drop, Error)]
-pub enum SplitsError {
+pub(crate) enum SplitsError {
     #[error("no memory for the answers of splits")]
     Memory(AllocError),
     /// A part of the file is asked for that starts there, and no piece has it.

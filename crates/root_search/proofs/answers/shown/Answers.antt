@@ -1,8 +1,6 @@
-use Rattle.std.proofs.Common.{◌≡◌, ap, drop, sym, take, ◌∙◌}
+use Rattle.std.proofs.Common.{ap, drop, refl, sym, take, ◌∙◌}
 use Rattle.root_search.specs.Answer.{printed}
-use Rattle.search_api.specs.declared.reply.Refusal.TheVariants as refusals
 use Rattle.root_search.proofs.Showing.{found_shown, refused_shown}
-use Rattle.root_search.proofs.Unread.{never_corrupt_shown}
 use Rattle.root_search.proofs.answers.shown.Goals as goal
 
 pub returns-in_ok-printed_page-in-Ok-clause-only : goal.returns-in_ok-printed_page-in-Ok-clause-only
@@ -14,7 +12,12 @@ pub returns-in-Refused-clause-only : goal.returns-in-Refused-clause-only
 returns-in-Refused-clause-only c = λ search documents asks answer.
     refused_shown c.args.schema.now search c.args.ask.now documents c.in-Err.error c.in-Refused.refusal asks (sym c.from.ensures ∙ c.in-Refused.is) (c.in-Err.ensures _ answer.partial)
 
-pub returns-in-Refused-clause-other : goal.returns-in-Refused-clause-other
-returns-in-Refused-clause-other c = λ key e.
-    let same : c.in-Refused.refusal ≡ refusals.Corrupt key = cc in
-    never_corrupt_shown c.in-Err.error c.in-Refused.refusal key (sym c.from.ensures ∙ c.in-Refused.is) same
+pub returns-in_ok-printed_page-in-Ok-clause-said : goal.returns-in_ok-printed_page-in-Ok-clause-said
+returns-in_ok-printed_page-in-Ok-clause-said c = (
+  refl,
+  c.in_ok-printed_page-in-Ok.ensures ∙ ap (λ hits. printed c.args.schema.now (take c.args.ask.now.page.shown (drop c.args.ask.now.page.passed hits))) c.as_slice.ensures,
+  λ documents stands. c.in-Ok.ensures documents stands,
+)
+
+pub returns-in-Refused-clause-said : goal.returns-in-Refused-clause-said
+returns-in-Refused-clause-said c = (c.in-Err.error, sym c.from.ensures ∙ c.in-Refused.is, λ documents stands. c.in-Err.ensures documents stands)

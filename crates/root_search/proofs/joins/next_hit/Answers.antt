@@ -1,7 +1,7 @@
 use Rattle.std.proofs.Common.{◌∙◌, sym}
 use Rattle.doc_tallies.specs.Orders.{comes_before}
 use Rattle.doc_tallies.proofs.HitOrders.{hits_order}
-use Rattle.root_search.proofs.Merging.{kept_in_order, taken_left, taken_left_alone, taken_right, taken_right_alone}
+use Rattle.root_search.proofs.Merging.{drawn_left, drawn_right, kept_in_order, taken_left, taken_left_alone, taken_right, taken_right_alone}
 use Rattle.root_search.proofs.joins.next_hit.Goals as goal
 
 pub returns-then-comes_before-clause-first : goal.returns-then-comes_before-clause-first
@@ -35,3 +35,15 @@ returns-in-None-default-clause-first c = λ left right.
 
 pub returns-in-None-default-clause-right : goal.returns-in-None-default-clause-right
 returns-in-None-default-clause-right c = kept_in_order (comes_before c.args.order) (hits_order c.args.order) _ _ c.pop_front-in-None-default.result c.pop_front-in-None-default.ensures.items
+
+pub returns-then-comes_before-clause-drawn : goal.returns-then-comes_before-clause-drawn
+returns-then-comes_before-clause-drawn c = drawn_right c.args.left.now.items _ _ c.pop_front.result c.pop_front.ensures.items
+
+pub returns-else-comes_before-clause-drawn : goal.returns-else-comes_before-clause-drawn
+returns-else-comes_before-clause-drawn c = drawn_left _ _ c.args.right.now.items c.pop_front-else-comes_before.result c.pop_front-else-comes_before.ensures.items
+
+pub returns-in-Some-None-clause-drawn : goal.returns-in-Some-None-clause-drawn
+returns-in-Some-None-clause-drawn c = drawn_left _ _ c.args.right.now.items c.pop_front-in-Some-None.result c.pop_front-in-Some-None.ensures.items
+
+pub returns-in-None-default-clause-drawn : goal.returns-in-None-default-clause-drawn
+returns-in-None-default-clause-drawn c = drawn_right c.args.left.now.items _ _ c.pop_front-in-None-default.result c.pop_front-in-None-default.ensures.items

@@ -3,10 +3,10 @@ use Rattle.std.specs.List.{AllZip}
 use Rattle.split_bundle.specs.declared.pieces.FilePiece.{FilePiece}
 use Rattle.root_search.specs.SplitParts.{IsLentOf}
 use Rattle.root_search.specs.declared.split_parts.KeptPiece.{KeptPiece}
-use Rattle.root_search.proofs.PartViews.{has_asked}
 use Rattle.root_search.proofs.split_parts.view_of.Goals as goal
 
 pub returns : goal.returns
-returns c = λ part footer pieces s r documents ask needed.
-    has_asked s r part documents c.gather.result ask needed (c.gather.ensures.footer ∙ sym footer)
-    (subst (λ (ps : List FilePiece). AllZip IsLentOf part.pieces ps) (sym c.gather.ensures.pieces) (subst (λ (ks : List KeptPiece). AllZip IsLentOf ks c.in_ok-pieces.pieces) (sym pieces) c.in_ok-pieces.ensures))
+returns c = λ part footer pieces. record {
+  footer = c.gather.ensures.footer ∙ sym footer;
+  pieces = subst (λ (ps : List FilePiece). AllZip IsLentOf part.pieces ps) (sym c.gather.ensures.pieces) (subst (λ (ks : List KeptPiece). AllZip IsLentOf ks c.in_ok-pieces.pieces) (sym pieces) c.in_ok-pieces.ensures);
+}

@@ -11,6 +11,7 @@ use Rattle.root_search.specs.Steps.{answer_of, reply_with}
 use Rattle.root_search.specs.declared.outcome.SearchStep.TheVariants.{Fetched}
 use Rattle.root_search.proofs.Bounds.{no_answer, no_draw}
 use Rattle.root_search.proofs.Found.{are_found, found_few}
+use Rattle.root_search.proofs.Leaving.{works_replied, works_short}
 use Rattle.root_search.proofs.PlannedRows.{all_fetched, all_parts}
 use Rattle.root_search.proofs.Schemas.{few_fields, intervals_there}
 use Rattle.root_search.proofs.Stands.{config_then}
@@ -64,4 +65,10 @@ pub returns-in-Err-clause-answers : goal.returns-in-Err-clause-answers
 returns-in-Err-clause-answers g c over = over_short c.args.planned (g.G.Gate.configured c.args.gate.now) (Err c.in-Err.refused) refl
 
 pub returns-in-Ok-clause-answers : goal.returns-in-Ok-clause-answers
-returns-in-Ok-clause-answers g c over = over_reply c.args.planned c.reply.result _ c.in-Ok.said c.config.result.now (g.G.Gate.configured c.args.gate.now) c.reply.ensures.said c.config.ensures.value c.in-Ok.ensures.refused
+returns-in-Ok-clause-answers g c over = over_reply c.args.planned c.reply.result _ c.in-Ok.said c.config.result.now (g.G.Gate.configured c.args.gate.now) c.reply.ensures.said c.config.ensures.value c.in-Ok.ensures.said
+
+pub returns-in-Err-clause-leaves : goal.returns-in-Err-clause-leaves
+returns-in-Err-clause-leaves g c none = works_short c.args.self.now c.args.self.now (Err c.in-Err.refused) refl refl refl none
+
+pub returns-in-Ok-clause-leaves : goal.returns-in-Ok-clause-leaves
+returns-in-Ok-clause-leaves g c none = works_replied c.args.self.now c.reply.new.self c.reply.result c.args.planned.plan.revision c.in-Ok.said c.reply.ensures.said c.reply.ensures.leaves none

@@ -1,8 +1,9 @@
-use Rattle.std.proofs.Common.{sym, subst, Ok}
+use Rattle.std.proofs.Common.{refl, sym, subst, Ok}
 use Rattle.search_api.specs.declared.reply.Said.TheVariants.{Refused}
 use Rattle.root_search.specs.Searching.{Ends}
 use Rattle.root_search.specs.Steps.{reply_with, trouble_replied}
 use Rattle.root_search.proofs.Steps.{ends_short}
+use Rattle.root_search.proofs.Leaving.{works_replied, works_short}
 use Rattle.root_search.proofs.RowReads.{refused_reply}
 use Rattle.root_search.proofs.searcher.Searcher.refuse.Goals as goal
 
@@ -19,3 +20,9 @@ returns-clause-step c trouble client core log is w =
 
 pub returns-clause-refuses : goal.returns-clause-refuses
 returns-clause-refuses c = refused_reply _ c.reply.result _ _ c.in_ok-refusal.refusal c.reply.ensures.said c.in_ok-refusal.ensures.exact
+
+pub returns-in_err-refusal-clause-leaves : goal.returns-in_err-refusal-clause-leaves
+returns-in_err-refusal-clause-leaves c none = works_short c.args.self.now c.args.self.now c.from_residual.result c.from_residual.ensures.0 refl refl none
+
+pub returns-clause-leaves : goal.returns-clause-leaves
+returns-clause-leaves c none = works_replied c.args.self.now c.reply.new.self c.reply.result c.args.revision (Refused c.in_ok-refusal.refusal) c.reply.ensures.said c.reply.ensures.leaves none
