@@ -135,6 +135,7 @@ fn said_of(fault: PartError) -> Result<Said, AllocError>
 
 /// What a search is answered over what was fetched of splits: that of the documents of which they have what is found. A split
 /// whose bytes are not of its form is replied as Corrupt.
+#[tactic(auto, using(crate::proofs::Unread::only_room, crate::proofs::Unread::said_of_broken))]
 pub(crate) fn answer_over<Rt: Threads + Sync>(
     rt: &Rt,
     alloc: Global,
