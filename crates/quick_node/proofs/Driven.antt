@@ -161,31 +161,31 @@ module _ (history : List Entry) (before : Before) (after : After) (fresh last : 
       follows : IsPrefixOf history (journal_of last.core) × AnswersFrom (journal_of last.core) before.log (length history) [] lines outcomes
       follows = lives_follow history (journal_of last.core) before fresh is end lines outcomes last lives (unread_front last.core.history last.core.standing)
 
-  drives_of : (e : Ended) (read write status : ℕ) (text piece : List ℕ) → Met before fresh e read write text last → read ≤ after.read_faults → before.write_faults ≤ write → write ≤ after.write_faults →
+  drives_of : (e : Ended) (left : Option (List ℕ)) (read write status : ℕ) (text piece : List ℕ) → Met before fresh e left read write text last → after.left ≡ left → read ≤ after.read_faults → before.write_faults ≤ write → write ≤ after.write_faults →
       after.written ≡ (before.written ++ text) ++ piece →
       ((status ≡ ended_status e) × WroteLine write after.write_faults (last_line e) piece) ⊎ ((status ≡ 11) × (piece ≡ [])) → Drives history before after status
-  drives_of e read write status text piece m ra low wa written (inl w) =
-      drives_with status m.end m.lines m.outcomes (text ++ piece) (w.0 ∙ m.status_is) (m.ends after ra wa) (written ∙ append_assoc before.written text piece)
+  drives_of e left read write status text piece m same ra low wa written (inl w) =
+      drives_with status m.end m.lines m.outcomes (text ++ piece) (w.0 ∙ m.status_is) (m.ends after same ra wa) (written ∙ append_assoc before.written text piece)
       (m.wrote before.write_faults after.write_faults piece (earlier before.write_faults write after.write_faults (last_line e) piece low w.1)) m.lives m.tell
       (λ short. printed_on m.outcomes text piece (Answers fresh m.lines m.outcomes last) m.printed_all (silent_short e write after.write_faults piece (m.status_is ∙ ap status_of short) w.1))
-  drives_of e read write status text piece m ra low wa written (inr w) =
+  drives_of e left read write status text piece m same ra low wa written (inr w) =
       drives_with status out_of_memory m.lines m.outcomes (text ++ piece) w.0 m.reads (written ∙ append_assoc before.written text piece)
       (most_on m.outcomes text piece m.front w.1) m.short m.tell (λ short. printed_on m.outcomes text piece (Answers fresh m.lines m.outcomes last) m.printed_all w.1)
 
 -- the objects behind the call tell it
-module _ {S L R W : Type 0} (told : S → Option State) (count : S → ℕ) (log_count : L → ℕ) (since : L → L → Type 0) (read_count : R → ℕ) (taken : W → Option (List ℕ)) (write_count : W → ℕ) where
-  pub returned : (history : List Entry) (before : Before) (fresh last : Node) → IsFresh before history fresh → IsLog before.log → (e : Ended) (read write : ℕ) (text : List ℕ) →
-      Met before fresh e read write text last → (store : S) (store_faults log_faults status : ℕ) (firsts : List L) (input : R) (output : W) (kept : State) →
+module _ {S L R W : Type 0} (told : S → Option State) (count : S → ℕ) (log_count : L → ℕ) (since : L → L → Type 0) (left : R → Option (List ℕ)) (read_count : R → ℕ) (taken : W → Option (List ℕ)) (write_count : W → ℕ) where
+  pub returned : (history : List Entry) (before : Before) (fresh last : Node) → IsFresh before history fresh → IsLog before.log → (e : Ended) (here : Option (List ℕ)) (read write : ℕ) (text : List ℕ) →
+      Met before fresh e here read write text last → (store : S) (store_faults log_faults status : ℕ) (firsts : List L) (input : R) (output : W) (kept : State) →
       told store ≡ Some kept → count store ≡ store_faults → IsWorld kept last.core before.log → last.core.store_faults ≡ store_faults →
       (lasts : List L) → GivesLogs log_count since firsts lasts (log_counts last.indexers) → log_faults ≡ min (sum (map log_count lasts)) last_count →
-      read ≤ read_count input → before.write_faults ≤ write → write ≤ write_count output →
+      left input ≡ here → read ≤ read_count input → before.write_faults ≤ write → write ≤ write_count output →
       EndsSo e (before.written ++ text) (taken output) write (write_count output) status →
-      (after : After) × ShowsAfter told count log_count since read_count taken write_count store store_faults log_faults firsts input output after × Drives history before after status
+      (after : After) × ShowsAfter told count log_count since left read_count taken write_count store store_faults log_faults firsts input output after × Drives history before after status
       × GivesLogs log_count since firsts lasts after.log_faults
-  returned history before fresh last is is_log e read write text met store store_faults log_faults status firsts input output kept tells counted world counts lasts gives sums ra low wa line = (
+  returned history before fresh last is is_log e here read write text met store store_faults log_faults status firsts input output kept tells counted world counts lasts gives sums left_is ra low wa line = (
     after,
-    record { kept = tells; store_count = counted; reported = refl; let_go = let_go; read_faults = refl; written = line.written; write_faults = refl },
-    drives_of history before after fresh last is is_log counts refl world e read write status text line.text met ra low wa refl line.wrote,
+    record { kept = tells; store_count = counted; reported = refl; let_go = let_go; left_is = left_is; read_faults = refl; written = line.written; write_faults = refl },
+    drives_of history before after fresh last is is_log counts refl world e here read write status text line.text met refl ra low wa refl line.wrote,
     gives,
   )
     where
@@ -197,6 +197,7 @@ module _ {S L R W : Type 0} (told : S → Option State) (count : S → ℕ) (log
         kept = kept;
         store_faults = store_faults;
         log_faults = log_counts last.indexers;
+        left = here;
         read_faults = read_count input;
         written = (before.written ++ text) ++ line.text;
         write_faults = write_count output;

@@ -9,11 +9,11 @@ use Rattle.quick_node.specs.Serve.{Before, After, End, by_reading, no_index, ope
 -- why it ended
 pub run_ends : (before : Before) (after : After) (counts : Counts) (lines : List Line) (end : End) → counts.read_before ≡ before.read_faults →
     counts.read_after ≤ after.read_faults → counts.write_before ≡ before.write_faults → counts.write_after ≤ after.write_faults →
-    HasRunEnd (length before.log_faults) before.input counts lines end → HasEnd before after lines end
+    HasRunEnd (length before.log_faults) before.input after.left counts lines end → HasEnd before after lines end
 run_ends before after counts lines (by_reading ending) rb ra wb wa e = e
 run_ends before after counts lines no_index rb ra wb wa e = absurd e
 run_ends before after counts lines (opening_failed low high) rb ra wb wa e = absurd e
-run_ends before after counts lines read_failed rb ra wb wa e = (e.0, omega (arith, e.1, rb, ra))
+run_ends before after counts lines read_failed rb ra wb wa e = (e.0, omega (arith, e.1, rb, ra), e.2)
 run_ends before after counts lines write_failed rb ra wb wa e = (e.0, omega (arith, e.1, wb, wa))
 run_ends before after counts lines out_of_memory rb ra wb wa e = e
 

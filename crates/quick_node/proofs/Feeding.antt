@@ -9,7 +9,7 @@ use Rattle.quick_node.specs.declared.lines.Taken.{Taken}
 use Rattle.quick_node.specs.declared.lines.Taken.TheVariants as taken
 use Rattle.quick_node.specs.declared.lines.Next.{Next}
 use Rattle.quick_node.specs.declared.lines.Next.TheVariants as next
-use Rattle.quick_node.specs.Reading.{onto_line, raw_lines, max_line, max_input, end_of}
+use Rattle.quick_node.specs.Reading.{onto_line, raw_lines, max_line, max_input, end_of, next_feed}
 use Rattle.quick_node.specs.Held.{held}
 use Rattle.quick_node.specs.Pieces.{IsFed, IsFault, EndsWith, IsUnbroken, Splits, with_feed, Takes, Comes}
 
@@ -57,6 +57,17 @@ begins (c ∷ []) rest u some =
 begins (c ∷ d ∷ front) rest u some =
     onto_begins c (d ∷ front) (d ∷ front ++ rest) (All-head IsByte c (d ∷ front) u)
     (begins (d ∷ front) rest (All-tail IsByte c (d ∷ front) u) (omega arith))
+
+-- no byte of an unbroken piece stands behind the next line feed
+pub before_feed : (at : ℕ) (piece rest : List ℕ) → IsUnbroken piece → at + length piece ≤ next_feed at (raw_lines (piece ++ rest)) []
+before_feed at [] rest u = from_here (raw_lines rest)
+  where
+    from_here : (raws : List (List ℕ)) → at + 0 ≤ next_feed at raws []
+    from_here [] = omega arith
+    from_here (raw ∷ raws) = omega arith
+before_feed at (c ∷ piece) rest u =
+    let b = begins (c ∷ piece) rest u (omega arith) in
+    subst (λ raws. at + length (c ∷ piece) ≤ next_feed at raws []) (sym b.is) (omega (arith, b.longer))
 
 -- ---- a line that is under way
 

@@ -203,12 +203,12 @@ creates_so history before moment after told content content' mid status end is_l
 
 -- ---- the objects behind the call tell it
 
-module _ {S L R W : Type 0} (told : S → Option State) (count : S → ℕ) (log_count : L → ℕ) (since : L → L → Type 0) (read_count : R → ℕ) (taken : W → Option (List ℕ)) (write_count : W → ℕ) where
+module _ {S L R W : Type 0} (told : S → Option State) (count : S → ℕ) (log_count : L → ℕ) (since : L → L → Type 0) (left : R → Option (List ℕ)) (read_count : R → ℕ) (taken : W → Option (List ℕ)) (write_count : W → ℕ) where
   pub created_after : (history : List Entry) (before : Before) (moment : ℕ) → IsLog before.log → (end : Ended) (store : S) (store_faults log_faults status : ℕ) (firsts : List L) (input : R) (mid output : W) →
       CreatesUpTo history before moment (told store) (taken mid) (counts_at (count store) (read_count input) (write_count mid)) end → store_faults ≡ count store → (lasts : List L) → GivesLogs log_count since firsts lasts before.log_faults →
       log_faults ≡ min (sum (map log_count lasts)) last_count → before.write_faults ≤ write_count mid → write_count mid ≤ write_count output →
       ((held : List ℕ) → taken mid ≡ Some held → EndsSo end held (taken output) (write_count mid) (write_count output) status) →
-      (after : After) × ShowsAfter told count log_count since read_count taken write_count store store_faults log_faults firsts input output after × Creates history before moment after status × GivesLogs log_count since firsts lasts after.log_faults
+      (after : After) × ShowsAfter told count log_count since left read_count taken write_count store store_faults log_faults firsts input output after × Creates history before moment after status × GivesLogs log_count since firsts lasts after.log_faults
   created_after history before moment is_log end store store_faults log_faults status firsts input mid output u counted lasts gives sums low high writes = (
     after,
     record {
@@ -216,6 +216,7 @@ module _ {S L R W : Type 0} (told : S → Option State) (count : S → ℕ) (log
       store_count = refl;
       reported = counted;
       let_go = record { lasts = lasts; later = gives.later; counts_are = gives.counts_are; sum_is = sums };
+      left_is = refl;
       read_faults = refl;
       written = w.written;
       write_faults = refl;
@@ -233,6 +234,7 @@ module _ {S L R W : Type 0} (told : S → Option State) (count : S → ℕ) (log
             kept = u.kept;
             store_faults = count store;
             log_faults = before.log_faults;
+            left = left input;
             read_faults = read_count input;
             written = (before.written ++ u.said) ++ w.text;
             write_faults = write_count output;

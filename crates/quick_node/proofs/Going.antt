@@ -26,7 +26,7 @@ use Rattle.quick_node.specs.Serve.{by_reading, read_failed, write_failed, out_of
 use Rattle.quick_node.proofs.Clocks.{turn_ticks}
 use Rattle.quick_node.proofs.Fitted.{accepts_as, line_fits}
 use Rattle.quick_node.proofs.Names.{turn_named, names_go_on, moments_go_on}
-use Rattle.quick_node.proofs.Onward.{no_line_read, reads_stopped, reads_all, reads_here, reads_more}
+use Rattle.quick_node.proofs.Onward.{no_line_read, fails_behind, reads_stopped, reads_all, reads_here, reads_more}
 
 -- ---- what a line that fits leaves
 
@@ -121,9 +121,9 @@ module _ (Stands : Node → Type 0) (readers : ℕ) (input : List ℕ) (begun : 
   rest = hand ++ going.behind
 
   -- a run that ends here without a line more
-  ends_here : (Stands' : Node → Type 0) (content' : Option (List ℕ)) (counts : Counts) (e : Ended) (ending : Ending) → Stands' going.mid → content' ≡ content →
-      IsRunEnd e (by_reading ending) → ending ≢ stopped → Reads readers input going.lines ending → Runs Stands' readers input begun held content' counts e
-  ends_here Stands' content' counts e ending stands same is live reads =
+  ends_here : (Stands' : Node → Type 0) (content' left' : Option (List ℕ)) (counts : Counts) (e : Ended) (ending : Ending) → Stands' going.mid → content' ≡ content →
+      IsRunEnd e (by_reading ending) → ending ≢ stopped → Reads readers input going.lines ending → Runs Stands' readers input begun held content' left' counts e
+  ends_here Stands' content' left' counts e ending stands same is live reads =
       record {
         end = by_reading ending;
         is = is;
@@ -140,9 +140,9 @@ module _ (Stands : Node → Type 0) (readers : ℕ) (input : List ℕ) (begun : 
         printed_all = inl refl;
       }
 
-  pub ends_short : (Stands' : Node → Type 0) (content' : Option (List ℕ)) (counts : Counts) → Stands' going.mid → content' ≡ content →
-      Runs Stands' readers input begun held content' counts ended.Memory
-  ends_short Stands' content' counts stands same =
+  pub ends_short : (Stands' : Node → Type 0) (content' left' : Option (List ℕ)) (counts : Counts) → Stands' going.mid → content' ≡ content →
+      Runs Stands' readers input begun held content' left' counts ended.Memory
+  ends_short Stands' content' left' counts stands same =
       record {
         end = out_of_memory;
         is = refl;
@@ -159,14 +159,20 @@ module _ (Stands : Node → Type 0) (readers : ℕ) (input : List ℕ) (begun : 
         printed_all = inl refl;
       }
 
-  pub ends_by_fault : (counts : Counts) → Rose counts.read_before counts.read_after → Runs Stands readers input begun held content counts ended.ReadFault
-  ends_by_fault counts rose =
+  pub ends_by_fault : (n : Next) (line : List ℕ) (taken' : ℕ) (hand' behind' : List ℕ) (counts : Counts) → n ≡ next.Fault → Comes n taken rest line taken' (hand' ++ behind') → hand' ≡ [] →
+      Rose counts.read_before counts.read_after → Runs Stands readers input begun held content (Some behind') counts ended.ReadFault
+  ends_by_fault n line taken' hand' behind' counts is comes none rose =
+      let c : Comes next.Fault taken rest line taken' (hand' ++ behind') = subst (λ v. Comes v taken rest line taken' (hand' ++ behind')) is comes in
       record {
         end = read_failed;
         is = refl;
         lines = going.lines;
         outcomes = going.outcomes;
-        ends = (reads_stopped readers input going.lines taken rest going.read, rose);
+        ends = (
+          reads_stopped readers input going.lines taken rest going.read,
+          rose,
+          fails_behind readers input going.lines taken rest going.read line behind' (c.0 ∙ ap (λ h. line ++ (h ++ behind')) none) c.1,
+        );
         last = going.mid;
         did = going.turns;
         tell = going.tell;
@@ -192,24 +198,24 @@ module _ (Stands : Node → Type 0) (readers : ℕ) (input : List ℕ) (begun : 
   not_stopped-input : input_over ≢ stopped
   not_stopped-input e = cc
 
-  pub ends_at_end : (n : Next) (line : List ℕ) (taken' : ℕ) (rest' : List ℕ) (counts : Counts) → n ≡ next.End → Comes n taken rest line taken' rest' →
-      Runs Stands readers input begun held content counts ended.Done
-  ends_at_end n line taken' rest' counts is comes =
+  pub ends_at_end : (n : Next) (line : List ℕ) (taken' : ℕ) (rest' : List ℕ) (left' : Option (List ℕ)) (counts : Counts) → n ≡ next.End → Comes n taken rest line taken' rest' →
+      Runs Stands readers input begun held content left' counts ended.Done
+  ends_at_end n line taken' rest' left' counts is comes =
       let none : rest ≡ [] = subst (λ v. Comes v taken rest line taken' rest') is comes in
-      ends_here Stands content counts ended.Done all_read going.stands refl refl not_stopped-all (reads_all readers input going.lines taken rest going.read none)
+      ends_here Stands content left' counts ended.Done all_read going.stands refl refl not_stopped-all (reads_all readers input going.lines taken rest going.read none)
 
-  pub ends_at_line : (n : Next) (line : List ℕ) (taken' : ℕ) (rest' : List ℕ) (counts : Counts) → n ≡ next.LineOver → Comes n taken rest line taken' rest' →
-      Runs Stands readers input begun held content counts ended.LineOver
-  ends_at_line n line taken' rest' counts is comes =
+  pub ends_at_line : (n : Next) (line : List ℕ) (taken' : ℕ) (rest' : List ℕ) (left' : Option (List ℕ)) (counts : Counts) → n ≡ next.LineOver → Comes n taken rest line taken' rest' →
+      Runs Stands readers input begun held content left' counts ended.LineOver
+  ends_at_line n line taken' rest' left' counts is comes =
       let c : Comes next.LineOver taken rest line taken' rest' = subst (λ v. Comes v taken rest line taken' rest') is comes in
-      ends_here Stands content counts ended.LineOver line_over going.stands refl refl not_stopped-line
+      ends_here Stands content left' counts ended.LineOver line_over going.stands refl refl not_stopped-line
       (reads_here readers input going.lines taken rest going.read c.0 c.1 c.2 line_over c.3)
 
-  pub ends_at_input : (n : Next) (line : List ℕ) (taken' : ℕ) (rest' : List ℕ) (counts : Counts) → n ≡ next.InputOver → Comes n taken rest line taken' rest' →
-      Runs Stands readers input begun held content counts ended.InputOver
-  ends_at_input n line taken' rest' counts is comes =
+  pub ends_at_input : (n : Next) (line : List ℕ) (taken' : ℕ) (rest' : List ℕ) (left' : Option (List ℕ)) (counts : Counts) → n ≡ next.InputOver → Comes n taken rest line taken' rest' →
+      Runs Stands readers input begun held content left' counts ended.InputOver
+  ends_at_input n line taken' rest' left' counts is comes =
       let c : Comes next.InputOver taken rest line taken' rest' = subst (λ v. Comes v taken rest line taken' rest') is comes in
-      ends_here Stands content counts ended.InputOver input_over going.stands refl refl not_stopped-input
+      ends_here Stands content left' counts ended.InputOver input_over going.stands refl refl not_stopped-input
       (reads_here readers input going.lines taken rest going.read c.0 c.1 c.2 input_over c.3)
 
   -- the next line was read
@@ -248,11 +254,11 @@ module _ (Stands : Node → Type 0) (readers : ℕ) (input : List ℕ) (begun : 
     module _ (Stands' : Node → Type 0) (content' : Option (List ℕ)) (number' before after : ℕ) (next_number : number' ≡ number + 1) (counts : Counts)
         (earlier : counts.write_before ≤ before) (later : after ≤ counts.write_after) where
       abbrev Ends : Ended → Type 0
-      Ends e = Runs Stands' readers input begun held content' counts e
+      Ends e = Runs Stands' readers input begun held content' left' counts e
 
       ends_bad : (n : ℕ) → n ≡ number' → Stands' going.mid → content' ≡ Some (held ++ printed going.outcomes) → IsBad readers going.lines raw → Ends (ended.BadLine n)
       ends_bad n same stands written bad =
-          ends_here Stands' content' counts (ended.BadLine n) (bad_line n) stands (written ∙ sym going.written) refl (not_stopped-bad n)
+          ends_here Stands' content' left' counts (ended.BadLine n) (bad_line n) stands (written ∙ sym going.written) refl (not_stopped-bad n)
           (reads_here readers input going.lines taken rest going.read raw (raw_lines (hand' ++ behind')) comes.0 (bad_line n)
           (comes.1, omega (arith, same, next_number, going.count), bad))
 
@@ -266,7 +272,7 @@ module _ (Stands : Node → Type 0) (readers : ℕ) (input : List ℕ) (begun : 
 
       ends_many : Stands' going.mid → content' ≡ Some (held ++ printed going.outcomes) → IsNotTaken raw going.mid accepts.TooManyClients → Ends ended.ClientsOver
       ends_many stands written t =
-          ends_here Stands' content' counts ended.ClientsOver clients_over stands (written ∙ sym going.written) refl not_stopped-clients
+          ends_here Stands' content' left' counts ended.ClientsOver clients_over stands (written ∙ sym going.written) refl not_stopped-clients
           (reads_here readers input going.lines taken rest going.read raw (raw_lines (hand' ++ behind')) comes.0 clients_over
           (comes.1, (t.0, t.1, many_are (fit_of readers going.lines t.0) (sym (line_fits readers going.lines going.mid going.has t.0) ∙ t.2))))
 
@@ -352,7 +358,7 @@ module _ (Stands : Node → Type 0) (readers : ℕ) (input : List ℕ) (begun : 
       ends_memory refused t = by t.1
         where
           by : Stands' going.mid ⊎ ((said : Option Outcome) × Does Stands' raw going.mid said) → Ends ended.Memory
-          by (inl stands) = ends_short Stands' content' counts stands (t.0 ∙ sym going.written)
+          by (inl stands) = ends_short Stands' content' left' counts stands (t.0 ∙ sym going.written)
           by (inr d) = short_by d.0 d.1 t.0
 
       pub goes_or_ends : (r : Result (Option Ended) AllocError) → TakesLine Stands' raw number' going.mid (held ++ printed going.outcomes) content' before after r →
@@ -381,7 +387,7 @@ false_is_true : false ≡ true → ⊥
 false_is_true e = cc
 
 pub ends_in_short : (Stands : Node → Type 0) (readers : ℕ) (input : List ℕ) (begun : Node) (held : List ℕ) (content left : Option (List ℕ)) (hand : List ℕ) (taken number : ℕ) (counts : Counts)
-    (r : Result (Option Ended) AllocError) → IsErr r → Runs Stands readers input begun held content counts ended.Memory →
+    (r : Result (Option Ended) AllocError) → IsErr r → Runs Stands readers input begun held content left counts ended.Memory →
     GoesOrEnds Stands readers input begun held content left hand taken number counts r
 ends_in_short Stands readers input begun held content left hand taken number counts (Ok x) e run = absurd (false_is_true e)
 ends_in_short Stands readers input begun held content left hand taken number counts (Err refused) e run = run
@@ -397,7 +403,7 @@ pub done_or_ends : (Stands : Node → Type 0) (readers : ℕ) (input : List ℕ)
     (counts : Counts) (r : Result (Option Ended) AllocError) → left ≡ Some behind → hand ++ behind ≡ [] → GoesOrEnds Stands readers input begun held content left hand taken number counts r →
     GoesOrEnds Stands readers input begun held content left hand taken number counts (done_behind r)
 done_or_ends Stands readers input begun held content left hand behind taken number counts (Ok None) told none going =
-    ends_at_end Stands readers input begun held content left hand taken number going next.End [] taken [] counts refl
+    ends_at_end Stands readers input begun held content left hand taken number going next.End [] taken [] left counts refl
     (ap (λ l. hand ++ l) (some_list going.behind behind (sym going.left_is ∙ told)) ∙ none)
 done_or_ends Stands readers input begun held content left hand behind taken number counts (Ok (Some e)) told none ends = ends
 done_or_ends Stands readers input begun held content left hand behind taken number counts (Err refused) told none ends = ends
@@ -415,10 +421,10 @@ pub if_ok_err : {A E : Type 0} (r : Result A E) (P : A → Type 0) → IsErr r �
 if_ok_err (Ok a) P e = absurd (false_is_true e)
 if_ok_err (Err x) P e = tt
 
-pub run_in_short : (Stands : Node → Type 0) (readers : ℕ) (input : List ℕ) (begun : Node) (held : List ℕ) (content : Option (List ℕ)) (counts : Counts)
-    (r : Result Ended AllocError) → IsErr r → Runs Stands readers input begun held content counts ended.Memory → RunsOrShort Stands readers input begun held content counts r
-run_in_short Stands readers input begun held content counts (Ok x) e run = absurd (false_is_true e)
-run_in_short Stands readers input begun held content counts (Err refused) e run = run
+pub run_in_short : (Stands : Node → Type 0) (readers : ℕ) (input : List ℕ) (begun : Node) (held : List ℕ) (content left : Option (List ℕ)) (counts : Counts)
+    (r : Result Ended AllocError) → IsErr r → Runs Stands readers input begun held content left counts ended.Memory → RunsOrShort Stands readers input begun held content left counts r
+run_in_short Stands readers input begun held content left counts (Ok x) e run = absurd (false_is_true e)
+run_in_short Stands readers input begun held content left counts (Err refused) e run = run
 
 pub went_on : (Stands : Node → Type 0) (readers : ℕ) (input : List ℕ) (begun : Node) (held : List ℕ) (content left : Option (List ℕ)) (hand : List ℕ) (taken number : ℕ) (counts : Counts)
     (o : Option Ended) → o ≡ None → GoesOrEnds Stands readers input begun held content left hand taken number counts (Ok o) →
@@ -447,7 +453,7 @@ none_not_some e f = cc
 
 pub ended_by : (Stands : Node → Type 0) (readers : ℕ) (input : List ℕ) (begun : Node) (held : List ℕ) (content left : Option (List ℕ)) (hand : List ℕ) (taken number : ℕ) (counts : Counts)
     (o : Option Ended) (e : Ended) → o ≡ Some e → GoesOrEnds Stands readers input begun held content left hand taken number counts (Ok o) →
-    Runs Stands readers input begun held content counts e
+    Runs Stands readers input begun held content left counts e
 ended_by Stands readers input begun held content left hand taken number counts None e is g = absurd (none_not_some e is)
 ended_by Stands readers input begun held content left hand taken number counts (Some f) e is g =
-    subst (λ x. Runs Stands readers input begun held content counts x) (some_same f e is) g
+    subst (λ x. Runs Stands readers input begun held content left counts x) (some_same f e is) g

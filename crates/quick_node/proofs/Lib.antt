@@ -32,3 +32,5 @@ pub mod Printing
 pub mod Printed
 mod CausedReports
 mod Unread
+mod Finding
+mod Quiet

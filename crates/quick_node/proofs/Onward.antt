@@ -1,10 +1,13 @@
 -- A reading that goes on line by line.
-use Rattle.std.proofs.Common.{◌≡◌, ℕ, ◌+◌, ◌<◌, min, List, [], ◌∷◌, ◌++◌, length, refl, sym, ap, ◌∙◌, subst, inl, inr, arith, append_assoc, length-append}
+use Rattle.std.proofs.Common.{◌≡◌, ℕ, ◌+◌, ◌<◌, ◌≤◌, min, List, [], ◌∷◌, ◌++◌, length, refl, sym, ap, ◌∙◌, subst, inl, inr, arith, append_assoc, length-append}
 use Rattle.std.proofs.lemmas.List.{append-nil}
 use Rattle.node_run.specs.Lines.{Spells}
 use Rattle.node_run.specs.Node.{Line}
+use Rattle.std.specs.Prelude.{Some}
+use Rattle.quick_node.specs.Pieces.{IsUnbroken}
 use Rattle.quick_node.specs.Running.{ReadsTo, HasRead}
-use Rattle.quick_node.specs.Reading.{raw_lines, fits, fit_of, Ending, all_read, stopped, end_of, Within, EndsAt, ReadsFrom, Reads}
+use Rattle.quick_node.specs.Reading.{raw_lines, fits, fit_of, Ending, all_read, stopped, end_of, Within, EndsAt, ReadsFrom, Reads, next_feed, FailsBehind}
+use Rattle.quick_node.proofs.Feeding.{before_feed}
 
 module _ (readers total : ℕ) where
   -- the reading ends there
@@ -42,6 +45,13 @@ module _ (readers total : ℕ) where
         (subst (λ ls. fit_of readers ls line ≡ fits) (sym (append_assoc before (l ∷ []) lines)) f),
   )
 
+  -- the next line feed stands behind the lines that were read
+  feed_on : (at : ℕ) (before : List Line) (raws : List (List ℕ)) (lines : List Line) (at' : ℕ) (raws' : List (List ℕ)) → ReadsTo readers total at before raws lines at' raws' →
+      next_feed at raws lines ≡ next_feed at' raws' []
+  feed_on at before raws [] at' raws' r = ap (λ n. next_feed n raws []) (sym r.0) ∙ ap (λ rs. next_feed at' rs []) (sym r.1)
+  feed_on at before [] (line ∷ lines) at' raws' r = absurd r
+  feed_on at before (raw ∷ raws) (line ∷ lines) at' raws' r = feed_on (at + length raw + 1) (before ++ line ∷ []) raws lines at' raws' r.3
+
 pub no_line_read : (readers : ℕ) (input rest : List ℕ) → rest ≡ input → HasRead readers input [] 0 rest
 no_line_read readers input rest e = record { at = 0; reads = (refl, ap raw_lines e); place = omega arith; whole = omega (arith, ap length e); few = omega arith }
 
@@ -64,6 +74,17 @@ module _ (readers : ℕ) (input : List ℕ) (lines : List Line) (taken : ℕ) (r
   reads_all none =
       reads_end readers (length input) 0 [] (raw_lines input) lines h.at (raw_lines rest) all_read h.reads
       (subst (λ r. ReadsFrom readers (length input) h.at lines (raw_lines r) [] all_read) (sym none) (inl refl))
+
+  -- the input failed behind a piece of the next line
+  pub fails_behind : (piece left : List ℕ) → rest ≡ piece ++ left → IsUnbroken piece → FailsBehind input (Some left) lines
+  fails_behind piece left is u = (
+    left,
+    refl,
+    let feed = feed_on readers (length input) 0 [] (raw_lines input) lines h.at (raw_lines rest) h.reads in
+        let bound : h.at + length piece ≤ next_feed h.at (raw_lines rest) [] = subst (λ r. h.at + length piece ≤ next_feed h.at (raw_lines r) []) (sym is) (before_feed h.at piece left u) in
+        let long : length rest ≡ length piece + length left = ap length is ∙ length-append piece left in
+        omega (arith, feed, bound, long, h.place, h.whole),
+  )
 
   module _ (raw : List ℕ) (raws : List (List ℕ)) (first : raw_lines rest ≡ raw ∷ raws) where
     here : h.at ≡ taken

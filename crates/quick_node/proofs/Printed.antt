@@ -198,12 +198,12 @@ reports_so asked history before after told content content' mid status end is_lo
 
 -- ---- the objects behind the call tell it
 
-module _ {S L R W : Type 0} (told : S → Option State) (count : S → ℕ) (log_count : L → ℕ) (since : L → L → Type 0) (read_count : R → ℕ) (taken : W → Option (List ℕ)) (write_count : W → ℕ) where
+module _ {S L R W : Type 0} (told : S → Option State) (count : S → ℕ) (log_count : L → ℕ) (since : L → L → Type 0) (left : R → Option (List ℕ)) (read_count : R → ℕ) (taken : W → Option (List ℕ)) (write_count : W → ℕ) where
   pub reported_after : (asked : Report) (history : List Entry) (before : Before) → IsLog before.log → IsIndexOf before.kept history before.log → (end : Ended) (store : S) (store_faults log_faults status : ℕ) (firsts : List L) (input : R) (mid output : W) →
       ReportsUpTo asked history before (told store) (taken mid) (count store) (write_count mid) end → store_faults ≡ count store → (lasts : List L) → GivesLogs log_count since firsts lasts before.log_faults →
       log_faults ≡ min (sum (map log_count lasts)) last_count → before.write_faults ≤ write_count mid → write_count mid ≤ write_count output →
       ((held : List ℕ) → taken mid ≡ Some held → EndsSo end held (taken output) (write_count mid) (write_count output) status) →
-      (after : After) × ShowsAfter told count log_count since read_count taken write_count store store_faults log_faults firsts input output after × Reports asked history before after status × GivesLogs log_count since firsts lasts after.log_faults
+      (after : After) × ShowsAfter told count log_count since left read_count taken write_count store store_faults log_faults firsts input output after × Reports asked history before after status × GivesLogs log_count since firsts lasts after.log_faults
   reported_after asked history before is_log first end store store_faults log_faults status firsts input mid output u counted lasts gives sums low high writes = (
     after,
     record {
@@ -211,6 +211,7 @@ module _ {S L R W : Type 0} (told : S → Option State) (count : S → ℕ) (log
       store_count = refl;
       reported = counted;
       let_go = record { lasts = lasts; later = gives.later; counts_are = gives.counts_are; sum_is = sums };
+      left_is = refl;
       read_faults = refl;
       written = w.written;
       write_faults = refl;
@@ -228,6 +229,7 @@ module _ {S L R W : Type 0} (told : S → Option State) (count : S → ℕ) (log
             kept = u.kept;
             store_faults = count store;
             log_faults = before.log_faults;
+            left = left input;
             read_faults = read_count input;
             written = (before.written ++ u.said) ++ w.text;
             write_faults = write_count output;

@@ -1,16 +1,17 @@
 -- Where the words found no memory the call did nothing, which each command's clause allows.
-use Rattle.std.proofs.Common.{◌≡◌, ◌⊎◌, ℕ, ◌≤◌, List, [], ◌∷◌, ◌++◌, map, sum, refl, sym, ap, ◌∙◌, subst, inl, inr, append-nil, arith}
+use Rattle.std.proofs.Common.{◌≡◌, ◌⊎◌, ℕ, ◌≤◌, List, [], ◌++◌, map, sum, refl, sym, ap, ◌∙◌, subst, inl, inr, append-nil, arith}
 use Rattle.std.specs.List.{AllZip}
-use Rattle.std.specs.Prelude.{Option, Some, None, codes, min}
+use Rattle.std.specs.Prelude.{Option, Some, None, min}
 use Rattle.meta_journal.specs.declared.entry.Entry.{Entry}
 use Rattle.object_store.specs.Store.{State, HasLanded, WhereTold}
 use Rattle.source_log.specs.Log.{Log}
 use Rattle.index_world.specs.Core.{last_count}
+use Rattle.index_world.specs.Created.{IsToldBy}
 use Rattle.index_world.specs.Index.{IsIndexOf}
 use Rattle.node_run.specs.Calm.{log_counts}
 use Rattle.node_run.specs.Standing.{GivesLogs}
 use Rattle.quick_node.specs.Causes.{IsStatusOf}
-use Rattle.quick_node.specs.Creating.{Creates, CreatesUpTo, counts_at}
+use Rattle.quick_node.specs.Creating.{Creates, CreatesAt, CreatesUpTo, counts_at}
 use Rattle.quick_node.specs.Ending.{EndsSo, ended_status, last_line}
 use Rattle.quick_node.specs.Reporting.{Reports, ReportsUpTo}
 use Rattle.quick_node.specs.Serve.{Before, After, Shows, ShowsAfter, EntersAs, Drives, WroteLine, WroteWords}
@@ -18,6 +19,7 @@ use Rattle.quick_node.specs.declared.error_line.End.TheVariants as ended
 use Rattle.quick_node.specs.declared.reporting.Report.{Report}
 use Rattle.quick_node.proofs.Calmed.{reader_counts}
 use Rattle.quick_node.proofs.Driven.{begins, returned}
+use Rattle.quick_node.proofs.Finding.{some_moment}
 use Rattle.quick_node.proofs.Founded.{created_after}
 use Rattle.quick_node.proofs.LongerLog.{index_longer}
 use Rattle.quick_node.proofs.Printed.{reported_after}
@@ -72,24 +74,25 @@ module _ {S L R W : Type 0} (told : S → Option State) (count : S → ℕ) (log
   gives : (counts : List ℕ) → before.log_faults ≡ counts → GivesLogs log_count since logs lasts counts
   gives counts are = record { later = later; counts_are = ap (map log_count) same_logs ∙ shows.logs_show.log_faults ∙ are }
 
-  pub unread_drives : (after : After) × ShowsAfter told count log_count since read_count taken write_count store' store_faults log_faults logs input output' after × Drives history before after status
+  pub unread_drives : (after : After) × ShowsAfter told count log_count since left read_count taken write_count store' store_faults log_faults logs input output' after × Drives history before after status
       × GivesLogs log_count since logs lasts after.log_faults
   unread_drives =
       let b = begins history before enters in
       let counts : log_counts b.fresh.indexers ≡ before.log_faults = ap (λ n. log_counts n.indexers) b.is.is ∙ reader_counts before.log_faults in
-      returned told count log_count since read_count taken write_count history before b.fresh b.fresh b.is enters.is_log ended.Memory (read_count input) (write_count output) []
-      (met_unread before b.fresh (read_count input) (write_count output)) store' store_faults log_faults status logs input output' before.kept kept (ap count same ∙ sym reported) b.world
+      returned told count log_count since left read_count taken write_count history before b.fresh b.fresh b.is enters.is_log ended.Memory (left input) (read_count input) (write_count output) []
+      (met_unread before b.fresh (left input) (read_count input) (write_count output)) store' store_faults log_faults status logs input output' before.kept kept (ap count same ∙ sym reported) b.world
       (ap (λ n. n.core.store_faults) b.is.is ∙ sym shows.store_faults ∙ sym reported) lasts
-      (gives (log_counts b.fresh.indexers) (sym counts)) sums (omega arith) low counted
+      (gives (log_counts b.fresh.indexers) (sym counts)) sums refl (omega arith) low counted
       (writes (before.written ++ []) nothing)
 
-  pub unread_creates : (moment : ℕ) → (after : After) × ShowsAfter told count log_count since read_count taken write_count store' store_faults log_faults logs input output' after
-      × Creates history before moment after status × GivesLogs log_count since logs lasts after.log_faults
-  unread_creates moment =
-      created_after told count log_count since read_count taken write_count history before moment enters.is_log ended.Memory store' store_faults log_faults status logs input output output' met
-      (reported ∙ sym (ap count same)) lasts (gives before.log_faults refl) sums low counted writes
+  pub unread_creates : (clock : Option ℕ) → (after : After) × ShowsAfter told count log_count since left read_count taken write_count store' store_faults log_faults logs input output' after
+      × CreatesAt clock history before after status × GivesLogs log_count since logs lasts after.log_faults
+  unread_creates clock = (done.0, done.1, (at.0, at.1, done.2), done.3)
     where
-      met : CreatesUpTo history before moment (told store') (taken output) (counts_at (count store') (read_count input) (write_count output)) ended.Memory
+      at : (moment : ℕ) × IsToldBy clock moment
+      at = some_moment clock
+
+      met : CreatesUpTo history before at.0 (told store') (taken output) (counts_at (count store') (read_count input) (write_count output)) ended.Memory
       met = record {
         kept = before.kept;
         tells = kept;
@@ -101,10 +104,16 @@ module _ {S L R W : Type 0} (told : S → Option State) (count : S → ℕ) (log
         ends = (refl, refl);
       }
 
-  pub unread_reports : (asked : Report) → (after : After) × ShowsAfter told count log_count since read_count taken write_count store' store_faults log_faults logs input output' after
+      done : (after : After) × ShowsAfter told count log_count since left read_count taken write_count store' store_faults log_faults logs input output' after
+          × Creates history before at.0 after status × GivesLogs log_count since logs lasts after.log_faults
+      done =
+          created_after told count log_count since left read_count taken write_count history before at.0 enters.is_log ended.Memory store' store_faults log_faults status logs input output output' met
+          (reported ∙ sym (ap count same)) lasts (gives before.log_faults refl) sums low counted writes
+
+  pub unread_reports : (asked : Report) → (after : After) × ShowsAfter told count log_count since left read_count taken write_count store' store_faults log_faults logs input output' after
       × Reports asked history before after status × GivesLogs log_count since logs lasts after.log_faults
   unread_reports asked =
-      reported_after told count log_count since read_count taken write_count asked history before enters.is_log index ended.Memory store' store_faults log_faults status logs input output output' met
+      reported_after told count log_count since left read_count taken write_count asked history before enters.is_log index ended.Memory store' store_faults log_faults status logs input output output' met
       (reported ∙ sym (ap count same)) lasts (gives before.log_faults refl) sums low counted writes
     where
       met : ReportsUpTo asked history before (told store') (taken output) (count store') (write_count output) ended.Memory

@@ -23,13 +23,13 @@ use Rattle.quick_node.specs.declared.error_line.End.TheVariants as ended
 use Rattle.quick_node.proofs.Driving.{run_ends, run_lives}
 use Rattle.quick_node.proofs.Short.{opens_short}
 
--- So much was written, and this node is left. The counts of reading and of writing stand so.
-pub record Met (before : Before) (fresh : Node) (e : Ended) (read write : ℕ) (text : List ℕ) (last : Node) : Type 0 where
+-- So much was written, and this node is left, and this of the input. The counts of reading and of writing stand so.
+pub record Met (before : Before) (fresh : Node) (e : Ended) (left : Option (List ℕ)) (read write : ℕ) (text : List ℕ) (last : Node) : Type 0 where
   pub end : End
   pub lines : List Line
   pub outcomes : List Outcome
   pub status_is : ended_status e ≡ status_of end
-  pub ends : (after : After) → read ≤ after.read_faults → write ≤ after.write_faults → HasEnd before after lines end
+  pub ends : (after : After) → after.left ≡ left → read ≤ after.read_faults → write ≤ after.write_faults → HasEnd before after lines end
   pub wrote : (low high : ℕ) (piece : List ℕ) → WroteLine low high (last_line e) piece → Wrote low high end outcomes (text ++ piece)
   pub lives : Lives before end fresh lines outcomes last
   pub tell : AllByRecursion MayTell outcomes
@@ -53,13 +53,13 @@ none_from : (readers total at : ℕ) (before : List Line) (raws : List (List ℕ
 none_from readers total at before [] = inr refl
 none_from readers total at before (raw ∷ raws) = tt
 
-run_stops : (readers : ℕ) (input : List ℕ) (counts : Counts) (lines : List Line) (end : End) → HasRunEnd readers input counts lines end → Reads readers input lines stopped
-run_stops readers input counts lines (by_reading ending) e = stop_from readers (length input) 0 [] (raw_lines input) lines ending e.1
-run_stops readers input counts lines no_index e = absurd e
-run_stops readers input counts lines (opening_failed low high) e = absurd e
-run_stops readers input counts lines read_failed e = e.0
-run_stops readers input counts lines write_failed e = e.0
-run_stops readers input counts lines out_of_memory e = e
+run_stops : (readers : ℕ) (input : List ℕ) (left : Option (List ℕ)) (counts : Counts) (lines : List Line) (end : End) → HasRunEnd readers input left counts lines end → Reads readers input lines stopped
+run_stops readers input left counts lines (by_reading ending) e = stop_from readers (length input) 0 [] (raw_lines input) lines ending e.1
+run_stops readers input left counts lines no_index e = absurd e
+run_stops readers input left counts lines (opening_failed low high) e = absurd e
+run_stops readers input left counts lines read_failed e = e.0
+run_stops readers input left counts lines write_failed e = e.0
+run_stops readers input left counts lines out_of_memory e = e
 
 -- ---- a run
 
@@ -176,31 +176,31 @@ module _ (before : Before) (fresh opened : Node) (opens : Opens fresh (Ok tt) op
   run_printed lines outcomes last text (inr turns) = inr (record { opened = opened; opens = opens; turns = turns })
 
   -- of a run
-  pub met_run : (Stands : Node → Type 0) (content : Option (List ℕ)) (counts : Counts) (e : Ended) → counts.read_before ≡ before.read_faults → counts.write_before ≡ before.write_faults →
-      (r : Runs Stands (length before.log_faults) before.input opened before.written content counts e) → Met before fresh e counts.read_after counts.write_after r.text r.last
-  met_run Stands content counts e rb wb r = record {
+  pub met_run : (Stands : Node → Type 0) (content left : Option (List ℕ)) (counts : Counts) (e : Ended) → counts.read_before ≡ before.read_faults → counts.write_before ≡ before.write_faults →
+      (r : Runs Stands (length before.log_faults) before.input opened before.written content left counts e) → Met before fresh e left counts.read_after counts.write_after r.text r.last
+  met_run Stands content left counts e rb wb r = record {
     end = r.end;
     lines = r.lines;
     outcomes = r.outcomes;
     status_is = run_status e r.end r.is;
-    ends = λ after ra wa. run_ends before after counts r.lines r.end rb ra wb wa r.ends;
+    ends = λ after same ra wa. run_ends before after counts r.lines r.end rb ra wb wa (subst (λ l. HasRunEnd (length before.log_faults) before.input l counts r.lines r.end) (sym same) r.ends);
     wrote = λ low high piece l. run_wrote r.end r.outcomes r.text r.wrote low high piece (subst (λ line. WroteLine low high line piece) (run_line e r.end r.is) l);
     lives = run_lives before fresh opened opens r.end r.lines r.outcomes r.last r.did;
     tell = r.tell;
     printed_all = run_printed r.lines r.outcomes r.last r.text r.printed_all;
-    reads = run_stops (length before.log_faults) before.input counts r.lines r.end r.ends;
+    reads = run_stops (length before.log_faults) before.input left counts r.lines r.end r.ends;
     front = run_front r.end r.outcomes r.text r.wrote;
     short = run_short r.end r.lines r.outcomes r.last r.did;
   }
 
   -- of an opened world for which no node was started
-  pub met_unstarted : (read write : ℕ) → Met before fresh ended.Memory read write [] opened
-  met_unstarted read write = record {
+  pub met_unstarted : (left : Option (List ℕ)) (read write : ℕ) → Met before fresh ended.Memory left read write [] opened
+  met_unstarted left read write = record {
     end = out_of_memory;
     lines = [];
     outcomes = [];
     status_is = refl;
-    ends = λ after ra wa. none;
+    ends = λ after same ra wa. none;
     wrote = λ low high piece l. inl (silent low high piece l);
     lives = lives;
     tell = tt;
@@ -219,13 +219,13 @@ module _ (before : Before) (fresh opened : Node) (opens : Opens fresh (Ok tt) op
 -- ---- a store that wasn't opened
 
 -- for want of memory, before anything was done
-pub met_unread : (before : Before) (fresh : Node) (read write : ℕ) → Met before fresh ended.Memory read write [] fresh
-met_unread before fresh read write = record {
+pub met_unread : (before : Before) (fresh : Node) (left : Option (List ℕ)) (read write : ℕ) → Met before fresh ended.Memory left read write [] fresh
+met_unread before fresh left read write = record {
   end = out_of_memory;
   lines = [];
   outcomes = [];
   status_is = refl;
-  ends = λ after ra wa. none;
+  ends = λ after same ra wa. none;
   wrote = λ low high piece l. inl (silent low high piece l);
   lives = inl (refl, refl, refl);
   tell = tt;
@@ -238,7 +238,7 @@ met_unread before fresh read write = record {
     none : Reads (length before.log_faults) before.input [] stopped
     none = none_from (length before.log_faults) (length before.input) 0 [] (raw_lines before.input)
 
-module _ (before : Before) (fresh last : Node) (moment : fresh.core.moment ≡ moment_of (history fresh.core.history)) (unsure : fresh.core.unsure ≡ false) (marks : fresh.core.marks ≡ []) (read write : ℕ) where
+module _ (before : Before) (fresh last : Node) (moment : fresh.core.moment ≡ moment_of (history fresh.core.history)) (unsure : fresh.core.unsure ≡ false) (marks : fresh.core.marks ≡ []) (left : Option (List ℕ)) (read write : ℕ) where
   unopened : (why : Unread) → Opens fresh (Err why) last → Unopened fresh [] [] why last
   unopened why opens = record { no_lines = refl; no_outcomes = refl; opens = opens }
 
@@ -249,13 +249,13 @@ module _ (before : Before) (fresh last : Node) (moment : fresh.core.moment ≡ m
   none_read = none_from (length before.log_faults) (length before.input) 0 [] (raw_lines before.input)
 
   -- by its error
-  pub met_unopened : (error : WorldError) (why : Unread) → IsUnread error why → Opens fresh (Err why) last → Met before fresh (ended.NotOpened error) read write [] last
+  pub met_unopened : (error : WorldError) (why : Unread) → IsUnread error why → Opens fresh (Err why) last → Met before fresh (ended.NotOpened error) left read write [] last
   met_unopened (errors.Memory refused) why is opens = record {
     end = out_of_memory;
     lines = [];
     outcomes = [];
     status_is = refl;
-    ends = λ after ra wa. none_read;
+    ends = λ after same ra wa. none_read;
     wrote = λ low high piece l. inl (silent low high piece l);
     lives = unopened_short why opens;
     tell = tt;
@@ -270,7 +270,7 @@ module _ (before : Before) (fresh last : Node) (moment : fresh.core.moment ≡ m
     lines = [];
     outcomes = [];
     status_is = refl;
-    ends = λ after ra wa. refl;
+    ends = λ after same ra wa. refl;
     wrote = λ low high piece l. record { last = piece; is = refl; wrote = subst (λ line. WroteLine low high line piece) (fault_line a b) l };
     lives = unopened (not_read (faulted (store_fault a b))) (subst (λ w. Opens fresh (Err w) last) is opens);
     tell = tt;
@@ -289,7 +289,7 @@ module _ (before : Before) (fresh last : Node) (moment : fresh.core.moment ≡ m
     lines = [];
     outcomes = [];
     status_is = refl;
-    ends = λ after ra wa. refl;
+    ends = λ after same ra wa. refl;
     wrote = λ low high piece l. record { last = piece; is = refl; wrote = subst (λ line. WroteLine low high line piece) none_line l };
     lives = unopened calls.no_index (subst (λ w. Opens fresh (Err w) last) is opens);
     tell = tt;

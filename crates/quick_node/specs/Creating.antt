@@ -6,7 +6,7 @@ use Rattle.index_config.specs.declared.config.IndexConfig.{IndexConfig}
 use Rattle.index_config.specs.declared.config_error.ConfigError.{ConfigError}
 use Rattle.meta_journal.specs.declared.entry.Entry.{Entry}
 use Rattle.object_store.specs.Store.{State, HasLanded}
-use Rattle.index_world.specs.Created.{create_at, IsOfCreate}
+use Rattle.index_world.specs.Created.{create_at, IsOfCreate, IsToldBy}
 use Rattle.index_world.specs.Index.{IsIndexOf}
 use Rattle.index_world.specs.Taking.{IsFaultBetween}
 use Rattle.index_world.specs.declared.world_error.WorldError.{WorldError}
@@ -168,3 +168,7 @@ pub record Creates (history : List Entry) (before : Before) (moment : ℕ) (afte
   pub made : status ≡ 0 → IsMade history before.input moment exit × (after.written ≡ before.written ++ created_line)
   -- where nothing failed and nothing was late, the status is that of the journal and the input
   pub exact : IsCalm before after → before.kept.late ≡ [] → (status ≡ create_status history before.input) ⊎ (status ≡ 11)
+
+-- the same at the moment that the clock told, where it tells, and else at some moment
+abbrev pub CreatesAt : Option ℕ → List Entry → Before → After → ℕ → Type 0
+CreatesAt clock history before after status = (moment : ℕ) × IsToldBy clock moment × Creates history before moment after status

@@ -10,3 +10,5 @@ pub mod Faults
 pub mod CaughtUp
 pub mod Creating
 pub mod Reporting
+pub mod Opening
+pub mod Contract

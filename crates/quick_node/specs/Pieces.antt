@@ -84,7 +84,7 @@ ComesLine at text line at' rest =
     × (at' + length rest ≡ at + length text)
 
 -- What comes next of a text behind so many bytes: a line, which is the last one where nothing is left; or the text has no
--- more, or its next line passes a limit.
+-- more, or its next line passes a limit; or the input failed behind a piece of that line.
 abbrev pub Comes : Next → ℕ → List ℕ → List ℕ → ℕ → List ℕ → Type 0
 Comes next.Line at text line at' rest = ComesLine at text line at' rest
 Comes next.Last at text line at' rest = ComesLine at text line at' rest × (rest ≡ [])
@@ -93,4 +93,4 @@ Comes next.LineOver at text line at' rest =
     (raw : List ℕ) × (raws : List (List ℕ)) × (raw_lines text ≡ raw ∷ raws) × PassesLine at raw
 Comes next.InputOver at text line at' rest =
     (raw : List ℕ) × (raws : List (List ℕ)) × (raw_lines text ≡ raw ∷ raws) × PassesInput (at + length text) at raw
-Comes next.Fault at text line at' rest = Unit {0}
+Comes next.Fault at text line at' rest = (text ≡ line ++ rest) × IsUnbroken line

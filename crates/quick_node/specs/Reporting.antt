@@ -109,6 +109,21 @@ SaysReport text before after said ended.ReadFault = ⊥
 SaysReport text before after said ended.WriteFault = Rose before after × IsPrefixOf said text
 SaysReport text before after said ended.Memory = said ≡ []
 
+-- so the writing of a report may end
+abbrev pub EndsWriting : Ended → Type 0
+EndsWriting ended.Done = ⊤
+EndsWriting ended.BadWords = ⊥
+EndsWriting (ended.BadLine number) = ⊥
+EndsWriting ended.ClientsOver = ⊥
+EndsWriting ended.LineOver = ⊥
+EndsWriting ended.InputOver = ⊥
+EndsWriting ended.ConfigOver = ⊥
+EndsWriting (ended.NotOpened error) = ⊥
+EndsWriting (ended.NotMade error) = ⊥
+EndsWriting ended.ReadFault = ⊥
+EndsWriting ended.WriteFault = ⊤
+EndsWriting ended.Memory = ⊤
+
 -- how it may end over all objects, between these counts of the store and of the output
 abbrev pub EndsReportBy : (store written store' written' : ℕ) → Ended → Type 0
 EndsReportBy store written store' written' ended.Done = ⊤

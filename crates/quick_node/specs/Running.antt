@@ -13,7 +13,7 @@ use Rattle.node_run.specs.Telling.{MayTell, LineMayTell}
 use Rattle.node_run.specs.Turns.{Turn, Turns}
 use Rattle.quick_node.specs.declared.error_line.End.{End as Ended}
 use Rattle.quick_node.specs.declared.error_line.End.TheVariants as ended
-use Rattle.quick_node.specs.Reading.{raw_lines, fits, fit_of, names_in, last_moment, max_clients, Within, all_read, bad_line, clients_over, line_over, input_over, stopped, Reads}
+use Rattle.quick_node.specs.Reading.{raw_lines, fits, fit_of, names_in, last_moment, max_clients, Within, all_read, bad_line, clients_over, line_over, input_over, stopped, Reads, FailsBehind}
 use Rattle.quick_node.specs.Serve.{CutShort, WroteMost, End, by_reading, no_index, opening_failed, read_failed, write_failed, out_of_memory}
 
 -- ---- one line
@@ -92,14 +92,14 @@ pub record Counts : Type 0 where
   pub write_before : ℕ
   pub write_after : ℕ
 
--- which lines were read, and why no more were answered
-abbrev pub HasRunEnd : ℕ → List ℕ → Counts → List Line → End → Type 0
-HasRunEnd readers input counts lines (by_reading ending) = (ending ≢ stopped) × Reads readers input lines ending
-HasRunEnd readers input counts lines no_index = ⊥
-HasRunEnd readers input counts lines (opening_failed low high) = ⊥
-HasRunEnd readers input counts lines read_failed = Reads readers input lines stopped × Rose counts.read_before counts.read_after
-HasRunEnd readers input counts lines write_failed = Reads readers input lines stopped × Rose counts.write_before counts.write_after
-HasRunEnd readers input counts lines out_of_memory = Reads readers input lines stopped
+-- which lines were read, and why no more were answered, where this is left of the input
+abbrev pub HasRunEnd : ℕ → List ℕ → Option (List ℕ) → Counts → List Line → End → Type 0
+HasRunEnd readers input left counts lines (by_reading ending) = (ending ≢ stopped) × Reads readers input lines ending
+HasRunEnd readers input left counts lines no_index = ⊥
+HasRunEnd readers input left counts lines (opening_failed low high) = ⊥
+HasRunEnd readers input left counts lines read_failed = Reads readers input lines stopped × Rose counts.read_before counts.read_after × FailsBehind input left lines
+HasRunEnd readers input left counts lines write_failed = Reads readers input lines stopped × Rose counts.write_before counts.write_after
+HasRunEnd readers input left counts lines out_of_memory = Reads readers input lines stopped
 
 -- memory ran out in a line that was read
 pub record StopsShort (readers : ℕ) (input : List ℕ) (node : Node) (lines : List Line) (outcomes : List Outcome) (last : Node) : Type 0 where
@@ -129,12 +129,12 @@ HasWritten write_failed text outcomes = CutShort outcomes text
 HasWritten out_of_memory text outcomes = WroteMost outcomes text
 
 -- A run over the lines of an input, with so many readers, from this node.
-pub record Runs (Stands : Node → Type 0) (readers : ℕ) (input : List ℕ) (node : Node) (held : List ℕ) (content : Option (List ℕ)) (counts : Counts) (e : Ended) : Type 0 where
+pub record Runs (Stands : Node → Type 0) (readers : ℕ) (input : List ℕ) (node : Node) (held : List ℕ) (content left : Option (List ℕ)) (counts : Counts) (e : Ended) : Type 0 where
   pub end : End
   pub is : IsRunEnd e end
   pub lines : List Line
   pub outcomes : List Outcome
-  pub ends : HasRunEnd readers input counts lines end
+  pub ends : HasRunEnd readers input left counts lines end
   pub last : Node
   pub did : HasRun readers input end node lines outcomes last
   pub tell : AllByRecursion MayTell outcomes
@@ -195,14 +195,14 @@ pub record IsGoing (Stands : Node → Type 0) (readers : ℕ) (input : List ℕ)
 -- the run goes on behind a line, or it ended
 abbrev pub GoesOrEnds : (Node → Type 0) → ℕ → List ℕ → Node → List ℕ → Option (List ℕ) → Option (List ℕ) → List ℕ → ℕ → ℕ → Counts → Result (Option Ended) AllocError → Type 0
 GoesOrEnds Stands readers input begun held content left hand taken number counts (Ok None) = IsGoing Stands readers input begun held content left hand taken number
-GoesOrEnds Stands readers input begun held content left hand taken number counts (Ok (Some e)) = Runs Stands readers input begun held content counts e
-GoesOrEnds Stands readers input begun held content left hand taken number counts (Err refused) = Runs Stands readers input begun held content counts ended.Memory
+GoesOrEnds Stands readers input begun held content left hand taken number counts (Ok (Some e)) = Runs Stands readers input begun held content left counts e
+GoesOrEnds Stands readers input begun held content left hand taken number counts (Err refused) = Runs Stands readers input begun held content left counts ended.Memory
 
 abbrev pub counts_of : ℕ → ℕ → ℕ → ℕ → Counts
 counts_of read_before read_after write_before write_after =
     record { read_before = read_before; read_after = read_after; write_before = write_before; write_after = write_after }
 
 -- a run that ended, or for which there was no memory
-abbrev pub RunsOrShort : (Node → Type 0) → ℕ → List ℕ → Node → List ℕ → Option (List ℕ) → Counts → Result Ended AllocError → Type 0
-RunsOrShort Stands readers input begun held content counts (Ok e) = Runs Stands readers input begun held content counts e
-RunsOrShort Stands readers input begun held content counts (Err refused) = Runs Stands readers input begun held content counts ended.Memory
+abbrev pub RunsOrShort : (Node → Type 0) → ℕ → List ℕ → Node → List ℕ → Option (List ℕ) → Option (List ℕ) → Counts → Result Ended AllocError → Type 0
+RunsOrShort Stands readers input begun held content left counts (Ok e) = Runs Stands readers input begun held content left counts e
+RunsOrShort Stands readers input begun held content left counts (Err refused) = Runs Stands readers input begun held content left counts ended.Memory

@@ -25,13 +25,13 @@ use Rattle.search_api.specs.declared.reply.Said.{Said}
 use Rattle.search_api.specs.declared.reply.Said.TheVariants.{Found, Deleted, Refused}
 use Rattle.node_run.specs.Lines.{printed}
 use Rattle.node_run.specs.Node.{Node, Line, Open, StepClient, Outcome, client_said, request_opened}
-use Rattle.node_run.specs.Standing.{LetGo}
+use Rattle.node_run.specs.Standing.{GivesLogs, LetGo}
 use Rattle.node_run.specs.Telling.{MayTell}
 use Rattle.node_run.specs.Turns.{Turn, Turns, turns, opened_node}
 use Rattle.quick_node.specs.CaughtUp.{unseen, CatchesUp}
 use Rattle.quick_node.specs.Faults.{Interval, AreBetween, store_told, log_told}
 use Rattle.quick_node.specs.Once.{HoldsOnce, HoldsAt}
-use Rattle.quick_node.specs.Reading.{Ending, all_read, bad_line, clients_over, line_over, input_over, stopped, Reads, max_clients, max_line, max_input}
+use Rattle.quick_node.specs.Reading.{Ending, all_read, bad_line, clients_over, line_over, input_over, stopped, Reads, FailsBehind, max_clients, max_line, max_input}
 
 abbrev pub IsPrefixOf : {X : Type 0} → List X → List X → Type 0
 IsPrefixOf {X} xs ys = (rest : List X) × (ys ≡ xs ++ rest)
@@ -52,6 +52,7 @@ pub record After : Type 0 where
   pub kept : State
   pub store_faults : ℕ
   pub log_faults : List ℕ  -- of each reader as it was let go
+  pub left : Option (List ℕ)  -- of the input, where it tells
   pub read_faults : ℕ
   pub written : List ℕ
   pub write_faults : ℕ
@@ -144,7 +145,7 @@ HasEnd before after lines (by_reading ending) = (ending ≢ stopped) × Reads (l
 HasEnd before after lines no_index = lines ≡ []
 HasEnd before after lines (opening_failed low high) = lines ≡ []
 HasEnd before after lines read_failed =
-    Reads (length before.log_faults) before.input lines stopped × Rose before.read_faults after.read_faults
+    Reads (length before.log_faults) before.input lines stopped × Rose before.read_faults after.read_faults × FailsBehind before.input after.left lines
 HasEnd before after lines write_failed =
     Reads (length before.log_faults) before.input lines stopped × Rose before.write_faults after.write_faults
 HasEnd before after lines out_of_memory = Reads (length before.log_faults) before.input lines stopped
@@ -357,16 +358,24 @@ pub record Shows {S L R W : Type 0} (told : S → Option State) (count : S → �
   pub streams_show : StreamsShow left read_count taken write_count input output before
 
 -- and behind the call this; the counts that the call reports are those of the store that it gives back and of the logs
-pub record ShowsAfter {S L R W : Type 0} (told : S → Option State) (count : S → ℕ) (log_count : L → ℕ) (since : L → L → Type 0) (read_count : R → ℕ)
+pub record ShowsAfter {S L R W : Type 0} (told : S → Option State) (count : S → ℕ) (log_count : L → ℕ) (since : L → L → Type 0) (left : R → Option (List ℕ)) (read_count : R → ℕ)
     (taken : W → Option (List ℕ)) (write_count : W → ℕ) (store : S) (store_faults log_faults : ℕ) (logs : List L) (input : R) (output : W)
     (after : After) : Type 0 where
   pub kept : told store ≡ Some after.kept
   pub store_count : count store ≡ after.store_faults
   pub reported : store_faults ≡ after.store_faults
   pub let_go : LetGo log_count since logs after.log_faults log_faults
+  pub left_is : left input ≡ after.left
   pub read_faults : read_count input ≡ after.read_faults
   pub written : taken output ≡ Some after.written
   pub write_faults : write_count output ≡ after.write_faults
+
+-- Behind the call the objects show this, of which that holds, and the logs that are given back are later states with its counts.
+abbrev pub Returns : {S L R W : Type 0} → (told : S → Option State) (count : S → ℕ) (log_count : L → ℕ) (since : L → L → Type 0) (left : R → Option (List ℕ)) (read_count : R → ℕ)
+    (taken : W → Option (List ℕ)) (write_count : W → ℕ) (store : S) (store_faults log_faults : ℕ) (logs lasts : List L) (input : R) (output : W) → (After → Type 0) → Type 0
+Returns told count log_count since left read_count taken write_count store store_faults log_faults logs lasts input output Holds =
+    (after : After) × ShowsAfter told count log_count since left read_count taken write_count store store_faults log_faults logs input output after
+    × Holds after × GivesLogs log_count since logs lasts after.log_faults
 
 -- the store is an index with this journal, over a log that the handed-in one extends
 pub record EntersAs (history : List Entry) (before : Before) : Type 0 where

@@ -1,10 +1,12 @@
 //! The command `create`: an index out of the configuration that an input has.
 
-ghost use Rattle.std.specs.Prelude.{◌≡◌, ◌<◌, ◌≤◌, ◌++◌, ℕ, List, [], Some, IfOk, MatchResult, IsErr, IsOkAnd, length, take, vec_len};
+ghost use Rattle.std.specs.Prelude.{◌≡◌, ◌<◌, ◌≤◌, ◌++◌, ℕ, List, [], Option, Some, IfOk, MatchResult, IsErr, IsOkAnd, length, take, vec_len};
 ghost use Rattle.byte_fields.specs.Causes.{HasCause};
 ghost use Rattle.meta_journal.specs.declared.entry.Entry.{Entry};
+ghost use Rattle.index_world.specs.Created.{IsToldBy};
 ghost use Rattle.index_world.specs.Index.{IsIndexOf};
 ghost use Rattle.quick_node.specs.Creating.{IsWhole, IsFaulty, CreatesUpTo, EndsCreateBy, SaysCreated, counts_at};
+ghost use Rattle.quick_node.specs.Opening.{outside_of, IsConfigText, CreateFinds, BeforeLine};
 ghost use Rattle.quick_node.specs.Reading.{max_config};
 ghost use Rattle.quick_node.specs.Serve.{Before};
 
@@ -87,10 +89,15 @@ fn make_index<S: ObjectStore, C: Clock, W: Sink>(
     text: &[u8],
     output: &mut W,
 ) -> (End, S)
-    ensures makes { (history : List Entry) (before : Before) (moment read : ℕ) → S.told store ≡ Some before.kept → S.fault_count store ≡ before.store_faults →
-        C.told clock ≡ Some moment → text.now ≡ before.input → length text.now ≤ max_config → W.content output.old ≡ Some before.written →
+    ensures makes { (history : List Entry) (before : Before) (read : ℕ) → S.told store ≡ Some before.kept → S.fault_count store ≡ before.store_faults →
+        text.now ≡ before.input → length text.now ≤ max_config → W.content output.old ≡ Some before.written →
         W.fault_count output.old ≡ before.write_faults → IsIndexOf before.kept history before.log →
-        CreatesUpTo history before moment (S.told result.1) (W.content output.new) (counts_at (S.fault_count result.1) read (W.fault_count output.new)) result.0 }
+        (moment : ℕ) × IsToldBy (C.told clock) moment
+        × CreatesUpTo history before moment (S.told result.1) (W.content output.new) (counts_at (S.fault_count result.1) read (W.fault_count output.new)) result.0 }
+    // What any store that tells is found to be, and what is done to it, whatever the clock is.
+    ensures opening { (input left : Option (List ℕ)) (low high : ℕ) → IsConfigText input text.now →
+        BeforeLine (CreateFinds (C.told clock)) (outside_of (S.told store) (S.fault_count store) input low (W.content output.old) (W.fault_count output.old))
+        (outside_of (S.told result.1) (S.fault_count result.1) left high (W.content output.new) (W.fault_count output.new)) result.0 }
     ensures causes { (low high : ℕ) → EndsCreateBy (counts_at (S.fault_count store) low (W.fault_count output.old)) (counts_at (S.fault_count result.1) high (W.fault_count output.new)) result.0 }
     ensures later { W.fault_count output.old ≤ W.fault_count output.new }
 {
@@ -114,10 +121,14 @@ pub fn create_index<S: ObjectStore, C: Clock, R: Source, W: Sink>(
     input: &mut R,
     output: &mut W,
 ) -> (End, S)
-    ensures creates { (history : List Entry) (before : Before) (moment : ℕ) → S.told store ≡ Some before.kept → S.fault_count store ≡ before.store_faults →
-        C.told clock ≡ Some moment → R.left input.old ≡ Some before.input → R.fault_count input.old ≡ before.read_faults →
+    ensures creates { (history : List Entry) (before : Before) → S.told store ≡ Some before.kept → S.fault_count store ≡ before.store_faults →
+        R.left input.old ≡ Some before.input → R.fault_count input.old ≡ before.read_faults →
         W.content output.old ≡ Some before.written → W.fault_count output.old ≡ before.write_faults → IsIndexOf before.kept history before.log →
-        CreatesUpTo history before moment (S.told result.1) (W.content output.new) (counts_at (S.fault_count result.1) (R.fault_count input.new) (W.fault_count output.new)) result.0 }
+        (moment : ℕ) × IsToldBy (C.told clock) moment
+        × CreatesUpTo history before moment (S.told result.1) (W.content output.new) (counts_at (S.fault_count result.1) (R.fault_count input.new) (W.fault_count output.new)) result.0 }
+    ensures opening { BeforeLine (CreateFinds (C.told clock))
+        (outside_of (S.told store) (S.fault_count store) (R.left input.old) (R.fault_count input.old) (W.content output.old) (W.fault_count output.old))
+        (outside_of (S.told result.1) (S.fault_count result.1) (R.left input.new) (R.fault_count input.new) (W.content output.new) (W.fault_count output.new)) result.0 }
     ensures causes { EndsCreateBy (counts_at (S.fault_count store) (R.fault_count input.old) (W.fault_count output.old))
         (counts_at (S.fault_count result.1) (R.fault_count input.new) (W.fault_count output.new)) result.0 }
     ensures read_on { R.fault_count input.old ≤ R.fault_count input.new }

@@ -9,12 +9,16 @@ ghost use Rattle.meta_journal.specs.declared.entry.Entry.{Entry};
 ghost use Rattle.object_store.specs.Store.{State, with_object};
 ghost use Rattle.source_log.specs.Log.{Log, IsLog};
 ghost use Rattle.index_world.specs.Index.{IsIndexOf};
+ghost use Rattle.index_world.specs.Opened.{ObjectsFrom};
 ghost use Rattle.node_run.specs.Node.{Node, Line, Outcome};
 ghost use Rattle.node_run.specs.Turns.{Turn, turns};
 ghost use Rattle.quick_node.specs.Once.{HoldsOnce, HoldsAt};
+ghost use Rattle.quick_node.specs.Opening.{Outside, EndsBy, DriveFinds, ReportFinds, TellsFound};
 ghost use Rattle.quick_node.specs.Reading.{Ending, stopped, Reads};
 ghost use Rattle.quick_node.specs.Running.{Counts, HasRun, HasRunEnd};
 ghost use Rattle.quick_node.specs.Serve.{IsPrefixOf, Before, After, End, HasEnd, IsFresh, Opens, Answers, Lives, IsShown, IsCalm, AnswersFrom, EntersAs, create_entry, status_of, reading_status};
+
+use crate::reporting::Report;
 
 /// The published files of a sound index hold each accepted record below the checkpoints that is not removed once, and
 /// nothing else.
@@ -89,5 +93,17 @@ pub fn a_run_ends_as_the_call_did()
     ensures { (before : Before) (after : After) (counts : Counts) (lines : List Line) (end : End) →
         counts.read_before ≡ before.read_faults → counts.read_after ≤ after.read_faults →
         counts.write_before ≡ before.write_faults → counts.write_after ≤ after.write_faults →
-        HasRunEnd (length before.log_faults) before.input counts lines end → HasEnd before after lines end }
+        HasRunEnd (length before.log_faults) before.input after.left counts lines end → HasEnd before after lines end }
+{}
+
+/// Where nothing is late, the status of `drive` says what the objects of the journal are.
+pub fn the_status_of_drive_tells_the_objects()
+    ensures { (old : State) (objects : List (List ℕ)) → old.late ≡ [] → ObjectsFrom old 0 objects → (outside later : Outside) (status : ℕ) →
+        outside.store ≡ Some old → EndsBy DriveFinds outside later status → TellsFound old objects status }
+{}
+
+/// So does that of a report.
+pub fn the_status_of_a_report_tells_the_objects()
+    ensures { (old : State) (objects : List (List ℕ)) → old.late ≡ [] → ObjectsFrom old 0 objects → (asked : Report) (outside later : Outside) (status : ℕ) →
+        outside.store ≡ Some old → EndsBy (ReportFinds asked) outside later status → TellsFound old objects status }
 {}

@@ -1,6 +1,6 @@
 //! The lines of an input, within the limits.
 
-ghost use Rattle.std.specs.Prelude.{◌≡◌, ◌<◌, ◌≤◌, ◌+◌, true, false, IfOk, MatchResult, IsErr, IsOkAnd, Some, ℕ, [], List, ◌++◌, vec_len, length, take, drop};
+ghost use Rattle.std.specs.Prelude.{◌≡◌, ◌<◌, ◌≤◌, ◌+◌, true, false, IfOk, IfErr, MatchResult, IsErr, IsOkAnd, Some, ℕ, [], List, ◌++◌, vec_len, length, take, drop};
 ghost use Rattle.byte_fields.specs.Causes.{HasCause};
 ghost use Rattle.quick_node.specs.Reading.{max_line, max_input};
 ghost use Rattle.quick_node.specs.Pieces.{GoesOn, IsLine, IsFed, IsFault, EndsWith, Splits, Takes, Comes};
@@ -130,6 +130,7 @@ impl Lines {
         ensures taken { self.new.taken ≡ self.old.taken }
         ensures line { self.new.line ≡ self.old.line }
         ensures left { IfOk result (λ count. self.new.to ≡ self.new.from + count) }
+        ensures kept { IfErr result (λ _. (self.new.from ≡ self.old.from) × (self.new.to ≡ self.old.to)) }
         ensures reads { (more : List ℕ) → R.left input.old ≡ Some more → MatchResult result
             (λ count. (behind : List ℕ) × (R.left input.new ≡ Some behind)
             × (more ≡ held self.new ++ behind) × (count ≡ 0 → more ≡ []))
@@ -147,6 +148,9 @@ impl Lines {
         ensures taken { self.new.taken ≡ self.old.taken }
         ensures line { self.new.line ≡ self.old.line }
         ensures some { IfOk result (λ some. some ≡ true → self.new.from < self.new.to) }
+        // Where the input failed nothing was left of the last chunk, and nothing is.
+        ensures failed { IfErr result (λ _. (held self.old ≡ []) × (held self.new ≡ [])) }
+        ensures stays { (more : List ℕ) → R.left input.old ≡ Some more → IfErr result (λ _. R.left input.new ≡ Some more) }
         ensures reads { (more : List ℕ) → R.left input.old ≡ Some more → (behind : List ℕ) × (R.left input.new ≡ Some behind)
             × IfOk result (λ some. (held self.old ++ more
             ≡ held self.new ++ behind)
@@ -185,6 +189,7 @@ impl Lines {
             self.new.line.items self.new.taken (held self.new ++ behind)) }
         // Over every input: a line that is not the last one came with its line feed.
         ensures fed { IfOk result (λ next. IsFed next → self.new.taken ≡ self.old.taken + length self.new.line.items + 1) }
+        ensures none { IfOk result (λ next. IsFault next → held self.new ≡ []) }
         ensures cause { HasCause (R.fault_count input.old) (R.fault_count input.new) (IsOkAnd result IsFault) }
     {
         self.line.clear();

@@ -1,10 +1,11 @@
 //! The commands `splits` and `describe`: a report on the index of a store.
 
-ghost use Rattle.std.specs.Prelude.{◌≡◌, ◌≤◌, ◌++◌, ℕ, List, Some, IfOk, string_bytes};
+ghost use Rattle.std.specs.Prelude.{◌≡◌, ◌≤◌, ◌++◌, ℕ, List, Option, Some, IfOk, string_bytes};
 ghost use Rattle.meta_journal.specs.declared.entry.Entry.{Entry};
 ghost use Rattle.object_store.specs.Store.{HasLanded, WhereTold};
 ghost use Rattle.index_world.specs.Index.{IsIndexOf};
-ghost use Rattle.quick_node.specs.Reporting.{report_text, ReportsUpTo, EndsReportBy, SaysReport};
+ghost use Rattle.quick_node.specs.Opening.{outside_of, ReportFinds, BeforeLine};
+ghost use Rattle.quick_node.specs.Reporting.{report_text, ReportsUpTo, EndsReportBy, EndsWriting, SaysReport};
 ghost use Rattle.quick_node.specs.Serve.{Before};
 
 use crate::error_line::End;
@@ -40,6 +41,7 @@ fn say_report<W: Sink>(alloc: Global, asked: Report, meta: &Meta, output: &mut W
     ensures says { (held : List ℕ) → W.content output.old ≡ Some held → (said : List ℕ) × (W.content output.new ≡ Some (held ++ said))
         × SaysReport (report_text asked meta.now.state) (W.fault_count output.old) (W.fault_count output.new) said result }
     ensures causes { (low high : ℕ) → EndsReportBy low (W.fault_count output.old) high (W.fault_count output.new) result }
+    ensures writing { EndsWriting result }
     ensures later { W.fault_count output.old ≤ W.fault_count output.new }
 {
     let Ok(text) = print_report(alloc, asked, meta) else {
@@ -61,6 +63,10 @@ pub fn write_report<S: ObjectStore, W: Sink>(
     ensures reports { (history : List Entry) (before : Before) → S.told store ≡ Some before.kept → S.fault_count store ≡ before.store_faults →
         W.content output.old ≡ Some before.written → W.fault_count output.old ≡ before.write_faults → IsIndexOf before.kept history before.log →
         ReportsUpTo asked history before (S.told result.1) (W.content output.new) (S.fault_count result.1) (W.fault_count output.new) result.0 }
+    // What any store that tells is found to be, whatever the input is.
+    ensures opening { (input : Option (List ℕ)) (read : ℕ) →
+        BeforeLine (ReportFinds asked) (outside_of (S.told store) (S.fault_count store) input read (W.content output.old) (W.fault_count output.old))
+        (outside_of (S.told result.1) (S.fault_count result.1) input read (W.content output.new) (W.fault_count output.new)) result.0 }
     // Nothing is written to a store, whatever it is.
     ensures landed { WhereTold (S.told store) (S.told result.1) HasLanded }
     ensures causes { EndsReportBy (S.fault_count store) (W.fault_count output.old) (S.fault_count result.1) (W.fault_count output.new) result.0 }

@@ -144,7 +144,7 @@ fn run_lines<Rt: Threads + Sync, S: ObjectStore, L: SourceLog, R: Source, W: Sin
     ensures causes { IfOk result (EndsRunBy (counts_of (R.fault_count input.old) (R.fault_count input.new) (W.fault_count output.old) (W.fault_count output.new))) }
     ensures runs { (firsts : List L) (begun : Node) (text held : List ℕ) → NodeStands L.told L.fault_count L.since firsts node.old begun →
         begun.core.clock ≡ 0 → begun.clients ≡ [] → R.left input.old ≡ Some text → W.content output.old ≡ Some held →
-        RunsOrShort (λ n. NodeStands L.told L.fault_count L.since firsts node.new n) (length begun.indexers) text begun held (W.content output.new)
+        RunsOrShort (λ n. NodeStands L.told L.fault_count L.since firsts node.new n) (length begun.indexers) text begun held (W.content output.new) (R.left input.new)
         (counts_of (R.fault_count input.old) (R.fault_count input.new) (W.fault_count output.old) (W.fault_count output.new)) result }
 {
     let mut lines = Lines::start(alloc)?;
@@ -172,7 +172,7 @@ pub fn run<Rt: Threads + Sync, S: ObjectStore, L: SourceLog, R: Source, W: Sink>
     ensures causes { EndsRunBy (counts_of (R.fault_count input.old) (R.fault_count input.new) (W.fault_count output.old) (W.fault_count output.new)) result }
     ensures runs { (firsts : List L) (begun : Node) (text held : List ℕ) → NodeStands L.told L.fault_count L.since firsts node.old begun →
         begun.core.clock ≡ 0 → begun.clients ≡ [] → R.left input.old ≡ Some text → W.content output.old ≡ Some held →
-        Runs (λ n. NodeStands L.told L.fault_count L.since firsts node.new n) (length begun.indexers) text begun held (W.content output.new)
+        Runs (λ n. NodeStands L.told L.fault_count L.since firsts node.new n) (length begun.indexers) text begun held (W.content output.new) (R.left input.new)
         (counts_of (R.fault_count input.old) (R.fault_count input.new) (W.fault_count output.old) (W.fault_count output.new)) result }
 {
     match run_lines(rt, alloc, node, input, output) {

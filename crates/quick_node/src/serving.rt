@@ -10,12 +10,14 @@ ghost use Rattle.index_world.specs.Core.{last_count};
 ghost use Rattle.index_world.specs.World.{WorldStands};
 ghost use Rattle.node_run.specs.Node.{Node};
 ghost use Rattle.node_run.specs.Logs.{logs_in};
-ghost use Rattle.node_run.specs.Standing.{NodeStands, GivesLogs};
-ghost use Rattle.quick_node.specs.Causes.{faults_of, IsOneOf, other_statuses, DriveCauses, CreateCauses, ReportCauses, HasCauses, IsStatusOf};
-ghost use Rattle.quick_node.specs.Creating.{IsCreate, Creates};
+ghost use Rattle.node_run.specs.Standing.{NodeStands};
+ghost use Rattle.quick_node.specs.Causes.{faults_of, IsOneOf, other_statuses, DriveCauses, CreateCauses, ReportCauses};
+ghost use Rattle.quick_node.specs.Contract.{Serves};
+ghost use Rattle.quick_node.specs.Creating.{CreatesAt};
 ghost use Rattle.quick_node.specs.Ending.{EndsSo, ended_status};
-ghost use Rattle.quick_node.specs.Reporting.{IsSplits, IsDescribe, AsksFor, Reports, OnlyReads};
-ghost use Rattle.quick_node.specs.Serve.{Before, After, LogsShow, StreamsShow, Shows, ShowsAfter, EntersAs, IsFresh, Opens, Drives, IsDrive, RefusesWords, WroteWords};
+ghost use Rattle.quick_node.specs.Opening.{Outside, outside_of, IsFound, DriveFinds, CreateFinds, ReportFinds, EndsBy};
+ghost use Rattle.quick_node.specs.Reporting.{Reports};
+ghost use Rattle.quick_node.specs.Serve.{Before, LogsShow, StreamsShow, Shows, Returns, EntersAs, IsFresh, Opens, Drives, WroteWords};
 
 use crate::creating::create_index;
 use crate::error_line::{End, NO_MEMORY, print_end, status_of};
@@ -120,9 +122,10 @@ fn drive_node<Rt: Threads + Sync, S: ObjectStore, L: SourceLog, R: Source, W: Si
     ensures drives { (history : List Entry) (before : Before) (firsts : List L) (fresh opened : Node) → IsFresh before history fresh → Opens fresh (Ok tt) opened →
         NodeStands L.told L.fault_count L.since firsts node opened →
         StreamsShow R.left R.fault_count W.content W.fault_count input.old output.old before →
-        (after : After) × ShowsAfter S.told S.fault_count L.fault_count L.since R.fault_count W.content W.fault_count
-        result.0.store result.0.store_faults result.0.log_faults firsts input.new output.new after
-        × Drives history before after result.0.status × GivesLogs L.fault_count L.since firsts (logs_in result.1) after.log_faults }
+        Returns S.told S.fault_count L.fault_count L.since R.left R.fault_count W.content W.fault_count result.0.store result.0.store_faults result.0.log_faults
+        firsts (logs_in result.1) input.new output.new (λ after. Drives history before after result.0.status) }
+    ensures opening { (before : Outside) → IsFound before.store → EndsBy DriveFinds before
+        (outside_of (S.told result.0.store) (S.fault_count result.0.store) (R.left input.new) (R.fault_count input.new) (W.content output.new) (W.fault_count output.new)) result.0.status }
     ensures causes { (low high : ℕ) → DriveCauses (faults_of low (R.fault_count input.old) (W.fault_count output.old))
         (faults_of high (R.fault_count input.new) (W.fault_count output.new)) result.0.status }
     ensures store_faults { result.0.store_faults ≡ S.fault_count result.0.store }
@@ -147,9 +150,10 @@ fn drive_world<Rt: Threads + Sync, S: ObjectStore, L: SourceLog, R: Source, W: S
     ensures drives { (history : List Entry) (before : Before) (fresh opened : Node) → IsFresh before history fresh → Opens fresh (Ok tt) opened →
         WorldStands world opened.core before.log → IsLog before.log → LogsShow L.told L.fault_count logs.items before →
         StreamsShow R.left R.fault_count W.content W.fault_count input.old output.old before →
-        (after : After) × ShowsAfter S.told S.fault_count L.fault_count L.since R.fault_count W.content W.fault_count
-        result.0.store result.0.store_faults result.0.log_faults logs.items input.new output.new after
-        × Drives history before after result.0.status × GivesLogs L.fault_count L.since logs.items (logs_in result.1) after.log_faults }
+        Returns S.told S.fault_count L.fault_count L.since R.left R.fault_count W.content W.fault_count result.0.store result.0.store_faults result.0.log_faults
+        logs.items (logs_in result.1) input.new output.new (λ after. Drives history before after result.0.status) }
+    ensures opening { (before : Outside) → IsFound before.store → EndsBy DriveFinds before
+        (outside_of (S.told result.0.store) (S.fault_count result.0.store) (R.left input.new) (R.fault_count input.new) (W.content output.new) (W.fault_count output.new)) result.0.status }
     ensures causes { (low high : ℕ) → DriveCauses (faults_of low (R.fault_count input.old) (W.fault_count output.old))
         (faults_of high (R.fault_count input.new) (W.fault_count output.new)) result.0.status }
     ensures store_faults { result.0.store_faults ≡ S.fault_count result.0.store }
@@ -182,9 +186,10 @@ fn drive<Rt: Threads + Sync, S: ObjectStore, L: SourceLog, R: Source, W: Sink>(
     ensures drives { (history : List Entry) (before : Before) →
         Shows S.told S.fault_count L.told L.fault_count R.left R.fault_count W.content W.fault_count store logs.items input.old output.old before →
         EntersAs history before →
-        (after : After) × ShowsAfter S.told S.fault_count L.fault_count L.since R.fault_count W.content W.fault_count
-        result.0.store result.0.store_faults result.0.log_faults logs.items input.new output.new after
-        × Drives history before after result.0.status × GivesLogs L.fault_count L.since logs.items (logs_in result.1) after.log_faults }
+        Returns S.told S.fault_count L.fault_count L.since R.left R.fault_count W.content W.fault_count result.0.store result.0.store_faults result.0.log_faults
+        logs.items (logs_in result.1) input.new output.new (λ after. Drives history before after result.0.status) }
+    ensures opening { EndsBy DriveFinds (outside_of (S.told store) (S.fault_count store) (R.left input.old) (R.fault_count input.old) (W.content output.old) (W.fault_count output.old))
+        (outside_of (S.told result.0.store) (S.fault_count result.0.store) (R.left input.new) (R.fault_count input.new) (W.content output.new) (W.fault_count output.new)) result.0.status }
     ensures causes { DriveCauses (faults_of (S.fault_count store) (R.fault_count input.old) (W.fault_count output.old))
         (faults_of (S.fault_count result.0.store) (R.fault_count input.new) (W.fault_count output.new)) result.0.status }
     ensures store_faults { result.0.store_faults ≡ S.fault_count result.0.store }
@@ -214,12 +219,13 @@ fn create<S: ObjectStore, L: SourceLog, C: Clock, R: Source, W: Sink>(
     input: &mut R,
     output: &mut W,
 ) -> (Finished<S>, Logs<L>)
-    ensures creates { (history : List Entry) (before : Before) (moment : ℕ) →
+    ensures creates { (history : List Entry) (before : Before) →
         Shows S.told S.fault_count L.told L.fault_count R.left R.fault_count W.content W.fault_count store logs.items input.old output.old before →
-        EntersAs history before → C.told clock ≡ Some moment →
-        (after : After) × ShowsAfter S.told S.fault_count L.fault_count L.since R.fault_count W.content W.fault_count
-        result.0.store result.0.store_faults result.0.log_faults logs.items input.new output.new after
-        × Creates history before moment after result.0.status × GivesLogs L.fault_count L.since logs.items (logs_in result.1) after.log_faults }
+        EntersAs history before →
+        Returns S.told S.fault_count L.fault_count L.since R.left R.fault_count W.content W.fault_count result.0.store result.0.store_faults result.0.log_faults
+        logs.items (logs_in result.1) input.new output.new (λ after. CreatesAt (C.told clock) history before after result.0.status) }
+    ensures opening { EndsBy (CreateFinds (C.told clock)) (outside_of (S.told store) (S.fault_count store) (R.left input.old) (R.fault_count input.old) (W.content output.old) (W.fault_count output.old))
+        (outside_of (S.told result.0.store) (S.fault_count result.0.store) (R.left input.new) (R.fault_count input.new) (W.content output.new) (W.fault_count output.new)) result.0.status }
     ensures causes { CreateCauses (faults_of (S.fault_count store) (R.fault_count input.old) (W.fault_count output.old))
         (faults_of (S.fault_count result.0.store) (R.fault_count input.new) (W.fault_count output.new)) result.0.status }
     ensures store_faults { result.0.store_faults ≡ S.fault_count result.0.store }
@@ -243,10 +249,11 @@ fn report<S: ObjectStore, L: SourceLog, R: Source, W: Sink>(
     ensures reports { (history : List Entry) (before : Before) →
         Shows S.told S.fault_count L.told L.fault_count R.left R.fault_count W.content W.fault_count store logs.items _input.now output.old before →
         EntersAs history before →
-        (after : After) × ShowsAfter S.told S.fault_count L.fault_count L.since R.fault_count W.content W.fault_count
-        result.0.store result.0.store_faults result.0.log_faults logs.items _input.now output.new after
-        × Reports asked history before after result.0.status × GivesLogs L.fault_count L.since logs.items (logs_in result.1) after.log_faults }
+        Returns S.told S.fault_count L.fault_count L.since R.left R.fault_count W.content W.fault_count result.0.store result.0.store_faults result.0.log_faults
+        logs.items (logs_in result.1) _input.now output.new (λ after. Reports asked history before after result.0.status) }
     ensures landed { WhereTold (S.told store) (S.told result.0.store) HasLanded }
+    ensures opening { EndsBy (ReportFinds asked) (outside_of (S.told store) (S.fault_count store) (R.left _input.now) (R.fault_count _input.now) (W.content output.old) (W.fault_count output.old))
+        (outside_of (S.told result.0.store) (S.fault_count result.0.store) (R.left _input.now) (R.fault_count _input.now) (W.content output.new) (W.fault_count output.new)) result.0.status }
     ensures causes { ReportCauses (faults_of (S.fault_count store) (R.fault_count _input.now) (W.fault_count output.old))
         (faults_of (S.fault_count result.0.store) (R.fault_count _input.now) (W.fault_count output.new)) result.0.status }
     ensures store_faults { result.0.store_faults ≡ S.fault_count result.0.store }
@@ -282,39 +289,9 @@ pub fn serve_with_logs<
     input: &mut R,
     output: &mut W,
 ) -> (Finished<S>, Logs<L>)
-    ensures drives { (history : List Entry) (before : Before) → IsDrive (map string_bytes words.now) →
-        Shows S.told S.fault_count L.told L.fault_count R.left R.fault_count W.content W.fault_count store logs.items input.old output.old before →
-        EntersAs history before →
-        (after : After) × ShowsAfter S.told S.fault_count L.fault_count L.since R.fault_count W.content W.fault_count
-        result.0.store result.0.store_faults result.0.log_faults logs.items input.new output.new after
-        × Drives history before after result.0.status × GivesLogs L.fault_count L.since logs.items (logs_in result.1) after.log_faults }
-    ensures creates { (history : List Entry) (before : Before) (moment : ℕ) → IsCreate (map string_bytes words.now) →
-        Shows S.told S.fault_count L.told L.fault_count R.left R.fault_count W.content W.fault_count store logs.items input.old output.old before →
-        EntersAs history before → C.told clock ≡ Some moment →
-        (after : After) × ShowsAfter S.told S.fault_count L.fault_count L.since R.fault_count W.content W.fault_count
-        result.0.store result.0.store_faults result.0.log_faults logs.items input.new output.new after
-        × Creates history before moment after result.0.status × GivesLogs L.fault_count L.since logs.items (logs_in result.1) after.log_faults }
-    ensures reports { (asked : Report) (history : List Entry) (before : Before) → AsksFor asked (map string_bytes words.now) →
-        Shows S.told S.fault_count L.told L.fault_count R.left R.fault_count W.content W.fault_count store logs.items input.old output.old before →
-        EntersAs history before →
-        (after : After) × ShowsAfter S.told S.fault_count L.fault_count L.since R.fault_count W.content W.fault_count
-        result.0.store result.0.store_faults result.0.log_faults logs.items input.new output.new after
-        × Reports asked history before after result.0.status × GivesLogs L.fault_count L.since logs.items (logs_in result.1) after.log_faults }
-    // A report reads nothing of the input, and writes nothing to the store, whatever they are.
-    ensures only_reads { (asked : Report) → AsksFor asked (map string_bytes words.now) →
-        OnlyReads S.told R.left R.fault_count store result.0.store input.old input.new }
-    ensures refuses { (IsDrive (map string_bytes words.now) → ⊥) → (IsCreate (map string_bytes words.now) → ⊥) →
-        (IsSplits (map string_bytes words.now) → ⊥) → (IsDescribe (map string_bytes words.now) → ⊥) →
-        RefusesWords S.told S.fault_count L.fault_count R.left R.fault_count store result.0.store logs.items result.0.store_faults result.0.log_faults input.old input.new
-        × WroteWords result.0.status (W.fault_count output.old) (W.fault_count output.new) (W.content output.old) (W.content output.new) }
-    ensures causes { HasCauses (faults_of (S.fault_count store) (R.fault_count input.old) (W.fault_count output.old))
-        (faults_of (S.fault_count result.0.store) (R.fault_count input.new) (W.fault_count output.new)) result.0.status }
-    ensures statuses { IsStatusOf (map string_bytes words.now) result.0.status }
-    ensures counts { result.0.store_faults ≡ S.fault_count result.0.store }
-    // Over all logs, the count that is reported is the sum of those of the logs that are given back.
-    ensures log_sum { result.0.log_faults ≡ min (sum (map L.fault_count (logs_in result.1))) last_count }
-    // Other words leave the logs as they were.
-    ensures unread { (IsDrive (map string_bytes words.now) → ⊥) → logs_in result.1 ≡ logs.items }
+    ensures { Serves S.told S.fault_count L.told L.fault_count L.since R.left R.fault_count W.content W.fault_count
+        (map string_bytes words.now) store logs.items (C.told clock) input.old output.old
+        result.0.store result.0.store_faults result.0.log_faults (logs_in result.1) input.new output.new result.0.status }
 {
     let Ok(named) = read_words(alloc, words) else {
         return ended(alloc, store, Logs::Unread(logs), End::Memory, output);
@@ -349,35 +326,10 @@ pub fn serve<
     input: &mut R,
     output: &mut W,
 ) -> Finished<S>
-    ensures drives { (history : List Entry) (before : Before) → IsDrive (map string_bytes words.now) →
-        Shows S.told S.fault_count L.told L.fault_count R.left R.fault_count W.content W.fault_count store logs.items input.old output.old before →
-        EntersAs history before →
-        (after : After) × ShowsAfter S.told S.fault_count L.fault_count L.since R.fault_count W.content W.fault_count
-        result.store result.store_faults result.log_faults logs.items input.new output.new after
-        × Drives history before after result.status }
-    ensures creates { (history : List Entry) (before : Before) (moment : ℕ) → IsCreate (map string_bytes words.now) →
-        Shows S.told S.fault_count L.told L.fault_count R.left R.fault_count W.content W.fault_count store logs.items input.old output.old before →
-        EntersAs history before → C.told clock ≡ Some moment →
-        (after : After) × ShowsAfter S.told S.fault_count L.fault_count L.since R.fault_count W.content W.fault_count
-        result.store result.store_faults result.log_faults logs.items input.new output.new after
-        × Creates history before moment after result.status }
-    ensures reports { (asked : Report) (history : List Entry) (before : Before) → AsksFor asked (map string_bytes words.now) →
-        Shows S.told S.fault_count L.told L.fault_count R.left R.fault_count W.content W.fault_count store logs.items input.old output.old before →
-        EntersAs history before →
-        (after : After) × ShowsAfter S.told S.fault_count L.fault_count L.since R.fault_count W.content W.fault_count
-        result.store result.store_faults result.log_faults logs.items input.new output.new after
-        × Reports asked history before after result.status }
-    // A report reads nothing of the input, and writes nothing to the store, whatever they are.
-    ensures only_reads { (asked : Report) → AsksFor asked (map string_bytes words.now) →
-        OnlyReads S.told R.left R.fault_count store result.store input.old input.new }
-    ensures refuses { (IsDrive (map string_bytes words.now) → ⊥) → (IsCreate (map string_bytes words.now) → ⊥) →
-        (IsSplits (map string_bytes words.now) → ⊥) → (IsDescribe (map string_bytes words.now) → ⊥) →
-        RefusesWords S.told S.fault_count L.fault_count R.left R.fault_count store result.store logs.items result.store_faults result.log_faults input.old input.new
-        × WroteWords result.status (W.fault_count output.old) (W.fault_count output.new) (W.content output.old) (W.content output.new) }
-    ensures causes { HasCauses (faults_of (S.fault_count store) (R.fault_count input.old) (W.fault_count output.old))
-        (faults_of (S.fault_count result.store) (R.fault_count input.new) (W.fault_count output.new)) result.status }
-    ensures statuses { IsStatusOf (map string_bytes words.now) result.status }
-    ensures counts { result.store_faults ≡ S.fault_count result.store }
+    // The same of some logs.
+    ensures { (lasts : List L) × Serves S.told S.fault_count L.told L.fault_count L.since R.left R.fault_count W.content W.fault_count
+        (map string_bytes words.now) store logs.items (C.told clock) input.old output.old
+        result.store result.store_faults result.log_faults lasts input.new output.new result.status }
 {
     let (finished, logs) = serve_with_logs(rt, alloc, words, store, logs, clock, input, output);
     mem::drop(logs);

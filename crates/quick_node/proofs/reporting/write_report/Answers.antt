@@ -4,8 +4,11 @@ use Rattle.object_store.specs.Store.{State, HasLanded, WhereTold}
 use Rattle.meta_store.specs.State as meta
 use Rattle.index_world.specs.Core.{Core}
 use Rattle.index_world.specs.Loading.{LoadsWorld, LoadsNone}
+use Rattle.index_world.specs.Opened.{OpensIndex}
 use Rattle.index_world.specs.Taking.{IsFaultBetween}
+use Rattle.quick_node.specs.Opening.{outside_of, OutputStays}
 use Rattle.quick_node.specs.Reporting.{report_text, SaysReport}
+use Rattle.quick_node.proofs.Finding.{found_report, written_finds}
 use Rattle.quick_node.proofs.Founding.{first_core, first_world}
 use Rattle.quick_node.proofs.Printing.{opens_landed, opens_not_landed, opened_up_to, unopened_up_to}
 use Rattle.quick_node.proofs.reporting.write_report.Goals as goal
@@ -46,3 +49,17 @@ returns-in-Err-clause-reports g c history before told count content writes i =
 pub returns-in-Err-clause-landed : goal.returns-in-Err-clause-landed
 returns-in-Err-clause-landed g c =
     opens_not_landed (g.S.ObjectStore.told c.args.store) (g.S.ObjectStore.told c.in-Err.field-0.store) (g.S.ObjectStore.fault_count c.args.store) (g.S.ObjectStore.fault_count c.in-Err.field-0.store) c.in-Err.field-0.error c.in-Err.ensures.opened
+
+pub returns-in-Ok-clause-opening : goal.returns-in-Ok-clause-opening
+returns-in-Ok-clause-opening g c input read =
+    let before = outside_of (g.S.ObjectStore.told c.args.store) (g.S.ObjectStore.fault_count c.args.store) input read (g.W.Sink.content c.args.output.now) (g.W.Sink.fault_count c.args.output.now) in
+    let after = outside_of (g.S.ObjectStore.told c.unload-store.result.0) (g.S.ObjectStore.fault_count c.unload-store.result.0) input read (g.W.Sink.content c.say_report-end.new.output) (g.W.Sink.fault_count c.say_report-end.new.output) in
+    let opened = subst (λ (o : Option State). WhereTold (g.S.ObjectStore.told c.args.store) o (OpensIndex c.in-Ok.world)) (sym c.unload-store.ensures.told) c.in-Ok.ensures.opened in
+    written_finds c.args.asked (λ _. OutputStays before after) before after c.say_report-end.result c.say_report-end.ensures.writing
+    (found_report c.args.asked before after c.in-Ok.world c.say_report-end.result opened
+    (subst (λ (s : meta.State). (held : List ℕ) → g.W.Sink.content c.args.output.now ≡ Some held → (said : List ℕ) × (g.W.Sink.content c.say_report-end.new.output ≡ Some (held ++ said))
+    × SaysReport (report_text c.args.asked s) (g.W.Sink.fault_count c.args.output.now) (g.W.Sink.fault_count c.say_report-end.new.output) said c.say_report-end.result) c.meta.ensures
+    c.say_report-end.ensures.says))
+
+pub returns-in-Err-clause-opening : goal.returns-in-Err-clause-opening
+returns-in-Err-clause-opening g c input read = record { why = c.in-Err.ensures.opened; input = (refl, refl); line = (refl, refl) }

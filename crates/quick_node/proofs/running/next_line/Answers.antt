@@ -1,4 +1,4 @@
-use Rattle.std.proofs.Common.{◌≡◌, ◌+◌, ◌++◌, length, refl, sym, subst, arith}
+use Rattle.std.proofs.Common.{◌≡◌, ◌+◌, ◌++◌, List, ℕ, length, refl, sym, subst, arith}
 use Rattle.std.specs.Prelude.{Option, None, Result, IfOk, IfSome}
 use Rattle.std.specs.declared.alloc.AllocError.{AllocError}
 use Rattle.node_run.specs.Standing.{NodeStands}
@@ -7,7 +7,7 @@ use Rattle.node_run.specs.Node.{Node}
 use Rattle.quick_node.specs.declared.error_line.End.{End as Ended}
 use Rattle.quick_node.specs.declared.error_line.End.TheVariants as ended
 use Rattle.quick_node.specs.Causes.{EndsRunBy}
-use Rattle.quick_node.specs.Running.{counts_of, GoesOrEnds}
+use Rattle.quick_node.specs.Running.{counts_of, GoesOrEnds, Runs}
 use Rattle.quick_node.specs.Held.{held as in_hand}
 use Rattle.quick_node.specs.Pieces.{IsLine, IsFed, IsFault}
 use Rattle.quick_node.proofs.Going.{rose_earlier, ends_short, ends_by_fault, ends_at_end, ends_at_line, ends_at_input, came_line, came_last, line_came, done_or_ends, never_goes_on, ends_in_short, some_not_none, if_ok_any, if_ok_err}
@@ -29,7 +29,7 @@ returns-in_err-next-clause-goes g c firsts readers text begun held counts going 
     let content = g.W.Sink.content c.args.output.now in
     ends_in_short Stands readers text begun held content (g.R.Source.left c.next.new.input) (in_hand c.next.new.self) c.next.new.self.taken (c.args.number + 1) counts c.from_residual.result
     c.from_residual.ensures.0
-    (ends_short Stands readers text begun held content (g.R.Source.left c.args.input.now) (in_hand c.args.lines.now) c.args.lines.now.taken c.args.number going Stands content counts going.stands refl)
+    (ends_short Stands readers text begun held content (g.R.Source.left c.args.input.now) (in_hand c.args.lines.now) c.args.lines.now.taken c.args.number going Stands content (g.R.Source.left c.next.new.input) counts going.stands refl)
 
 pub returns-in-Line-clause-moves : goal.returns-in-Line-clause-moves
 returns-in-Line-clause-moves g c = if_ok_any c.take_line.result _ (λ end none. c.in_ok-next.ensures.fed (subst IsFed (sym c.in-Line.is) tt))
@@ -98,7 +98,7 @@ returns-in-End-clause-goes g c firsts readers text begun held counts going rb ra
     let Stands : Node → Type 0 = λ n. NodeStands g.L.SourceLog.told g.L.SourceLog.fault_count g.L.SourceLog.since firsts c.args.node.now n in
     let t = c.in_ok-next.ensures.comes going.behind going.left_is in
     ends_at_end Stands readers text begun held (g.W.Sink.content c.args.output.now) (g.R.Source.left c.args.input.now) (in_hand c.args.lines.now) c.args.lines.now.taken c.args.number going
-    c.in_ok-next.field-0 c.next.new.self.line.items c.next.new.self.taken (in_hand c.next.new.self ++ t.0) counts c.in-End.is t.2
+    c.in_ok-next.field-0 c.next.new.self.line.items c.next.new.self.taken (in_hand c.next.new.self ++ t.0) (g.R.Source.left c.next.new.input) counts c.in-End.is t.2
 
 pub returns-in-LineOver-clause-moves : goal.returns-in-LineOver-clause-moves
 returns-in-LineOver-clause-moves g c e = absurd (some_not_none ended.LineOver e)
@@ -114,7 +114,7 @@ returns-in-LineOver-clause-goes g c firsts readers text begun held counts going 
     let Stands : Node → Type 0 = λ n. NodeStands g.L.SourceLog.told g.L.SourceLog.fault_count g.L.SourceLog.since firsts c.args.node.now n in
     let t = c.in_ok-next.ensures.comes going.behind going.left_is in
     ends_at_line Stands readers text begun held (g.W.Sink.content c.args.output.now) (g.R.Source.left c.args.input.now) (in_hand c.args.lines.now) c.args.lines.now.taken c.args.number going
-    c.in_ok-next.field-0 c.next.new.self.line.items c.next.new.self.taken (in_hand c.next.new.self ++ t.0) counts c.in-LineOver.is t.2
+    c.in_ok-next.field-0 c.next.new.self.line.items c.next.new.self.taken (in_hand c.next.new.self ++ t.0) (g.R.Source.left c.next.new.input) counts c.in-LineOver.is t.2
 
 pub returns-in-InputOver-clause-moves : goal.returns-in-InputOver-clause-moves
 returns-in-InputOver-clause-moves g c e = absurd (some_not_none ended.InputOver e)
@@ -130,7 +130,7 @@ returns-in-InputOver-clause-goes g c firsts readers text begun held counts going
     let Stands : Node → Type 0 = λ n. NodeStands g.L.SourceLog.told g.L.SourceLog.fault_count g.L.SourceLog.since firsts c.args.node.now n in
     let t = c.in_ok-next.ensures.comes going.behind going.left_is in
     ends_at_input Stands readers text begun held (g.W.Sink.content c.args.output.now) (g.R.Source.left c.args.input.now) (in_hand c.args.lines.now) c.args.lines.now.taken c.args.number going
-    c.in_ok-next.field-0 c.next.new.self.line.items c.next.new.self.taken (in_hand c.next.new.self ++ t.0) counts c.in-InputOver.is t.2
+    c.in_ok-next.field-0 c.next.new.self.line.items c.next.new.self.taken (in_hand c.next.new.self ++ t.0) (g.R.Source.left c.next.new.input) counts c.in-InputOver.is t.2
 
 pub returns-in-Fault-clause-moves : goal.returns-in-Fault-clause-moves
 returns-in-Fault-clause-moves g c e = absurd (some_not_none ended.ReadFault e)
@@ -144,9 +144,12 @@ returns-in-Fault-clause-written g c = omega arith
 pub returns-in-Fault-clause-goes : goal.returns-in-Fault-clause-goes
 returns-in-Fault-clause-goes g c firsts readers text begun held counts going rb ra wb wa =
     let Stands : Node → Type 0 = λ n. NodeStands g.L.SourceLog.told g.L.SourceLog.fault_count g.L.SourceLog.since firsts c.args.node.now n in
-    ends_by_fault Stands readers text begun held (g.W.Sink.content c.args.output.now) (g.R.Source.left c.args.input.now) (in_hand c.args.lines.now) c.args.lines.now.taken c.args.number going counts
-    (rose_earlier counts.read_before (g.R.Source.fault_count c.args.input.now) (g.R.Source.fault_count c.next.new.input) counts.read_after rb
-    (c.in_ok-next.ensures.cause.failed (subst IsFault (sym c.in-Fault.is) tt)) ra)
+    let t = c.in_ok-next.ensures.comes going.behind going.left_is in
+    let fault : IsFault c.in_ok-next.field-0 = subst IsFault (sym c.in-Fault.is) tt in
+    subst (λ (left : Option (List ℕ)). Runs Stands readers text begun held (g.W.Sink.content c.args.output.now) left counts ended.ReadFault) (sym t.1)
+    (ends_by_fault Stands readers text begun held (g.W.Sink.content c.args.output.now) (g.R.Source.left c.args.input.now) (in_hand c.args.lines.now) c.args.lines.now.taken c.args.number going
+    c.in_ok-next.field-0 c.next.new.self.line.items c.next.new.self.taken (in_hand c.next.new.self) t.0 counts c.in-Fault.is t.2 (c.in_ok-next.ensures.none fault)
+    (rose_earlier counts.read_before (g.R.Source.fault_count c.args.input.now) (g.R.Source.fault_count c.next.new.input) counts.read_after rb (c.in_ok-next.ensures.cause.failed fault) ra))
 
 pub returns-in_err-next-clause-causes : goal.returns-in_err-next-clause-causes
 returns-in_err-next-clause-causes g c = if_ok_err c.from_residual.result _ c.from_residual.ensures.0

@@ -51,8 +51,8 @@ returns-in_err-lines-clause-runs g c firsts begun text held stands clock clients
     let left = g.R.Source.left c.args.input.now in
     let counts = counts_of (g.R.Source.fault_count c.args.input.now) (g.R.Source.fault_count c.args.input.now) (g.W.Sink.fault_count c.args.output.now) (g.W.Sink.fault_count c.args.output.now) in
     let going = begins Stands text begun held content left clock clients stands told written in
-    run_in_short Stands (length begun.indexers) text begun held content counts c.from_residual.result c.from_residual.ensures.0
-    (ends_short Stands (length begun.indexers) text begun held content left [] 0 0 going Stands content counts going.stands refl)
+    run_in_short Stands (length begun.indexers) text begun held content left counts c.from_residual.result c.from_residual.ensures.0
+    (ends_short Stands (length begun.indexers) text begun held content left [] 0 0 going Stands content left counts going.stands refl)
 
 pub returns-in_err-end-clause-read : goal.returns-in_err-end-clause-read
 returns-in_err-end-clause-read g c = omega (arith, c.lines.invariant.read, c.next_line.ensures.read)
@@ -65,7 +65,7 @@ returns-in_err-end-clause-runs g c firsts begun text held stands clock clients t
     let Stands : Node → Type 0 = λ n. NodeStands g.L.SourceLog.told g.L.SourceLog.fault_count g.L.SourceLog.since firsts c.next_line.new.node n in
     let counts = counts_of (g.R.Source.fault_count c.args.input.now) (g.R.Source.fault_count c.next_line.new.input) (g.W.Sink.fault_count c.args.output.now) (g.W.Sink.fault_count c.next_line.new.output) in
     let going = c.lines.invariant.going firsts begun text held stands clock clients told written in
-    run_in_short Stands (length begun.indexers) text begun held (g.W.Sink.content c.next_line.new.output) counts c.from_residual-in_err-end.result c.from_residual-in_err-end.ensures.0
+    run_in_short Stands (length begun.indexers) text begun held (g.W.Sink.content c.next_line.new.output) (g.R.Source.left c.next_line.new.input) counts c.from_residual-in_err-end.result c.from_residual-in_err-end.ensures.0
     (c.in_err-end.ensures.goes firsts (length begun.indexers) text begun held counts going c.lines.invariant.read (omega arith) c.lines.invariant.written (omega arith))
 
 pub returns-in-Some-clause-read : goal.returns-in-Some-clause-read

@@ -5,9 +5,13 @@ use Rattle.index_world.specs.Taking.{IsFaultBetween}
 use Rattle.node_run.specs.Calm.{log_counts}
 use Rattle.node_run.specs.Logs.{logs_in}
 use Rattle.node_run.specs.Node.{Node}
+use Rattle.object_store.specs.Store.{WhereTold}
+use Rattle.index_world.specs.Opened.{OpensNot}
+use Rattle.quick_node.specs.Opening.{outside_of}
 use Rattle.quick_node.specs.Serve.{Opens}
 use Rattle.quick_node.specs.declared.error_line.End.TheVariants as ended
 use Rattle.quick_node.proofs.Driven.{new_moment, new_sure, new_unmarked, opened_counts, begins, kept_logs, returned}
+use Rattle.quick_node.proofs.Finding.{opened_found}
 use Rattle.quick_node.proofs.UpToLast.{met_unopened}
 use Rattle.quick_node.specs.Causes.{faults_of}
 use Rattle.quick_node.proofs.Caused.{opening_causes}
@@ -39,17 +43,35 @@ returns-in-Err-clause-drives g c history before shows enters =
     c.in-Err.ensures.step before.kept fresh.core before.log shows.kept (shows.store_faults ∙ sym count) (ap Some (c.at.ensures ∙ sym clock)) (omega (arith, clock)) (ap (λ n. n.core.frozen) b.is.is) b.world in
     let last : Node = record fresh { core = l.after } in
     let opens : Opens fresh (Err l.unread) last = record { fate = l.loads.fate; core = l.after; did = l.loads.did; is = refl } in
-    returned g.S.ObjectStore.told g.S.ObjectStore.fault_count g.L.SourceLog.fault_count g.L.SourceLog.since g.R.Source.fault_count g.W.Sink.content g.W.Sink.fault_count
-    history before fresh last b.is enters.is_log (ended.NotOpened c.in-Err.field-0.error) (g.R.Source.fault_count c.args.input.now) (g.W.Sink.fault_count c.args.output.now) []
-    (met_unopened before fresh last (new_moment history before fresh b.is) (new_sure history before fresh b.is) (new_unmarked history before fresh b.is) (g.R.Source.fault_count c.args.input.now) (g.W.Sink.fault_count c.args.output.now)
+    returned g.S.ObjectStore.told g.S.ObjectStore.fault_count g.L.SourceLog.fault_count g.L.SourceLog.since g.R.Source.left g.R.Source.fault_count g.W.Sink.content g.W.Sink.fault_count
+    history before fresh last b.is enters.is_log (ended.NotOpened c.in-Err.field-0.error) (g.R.Source.left c.args.input.now) (g.R.Source.fault_count c.args.input.now) (g.W.Sink.fault_count c.args.output.now) []
+    (met_unopened before fresh last (new_moment history before fresh b.is) (new_sure history before fresh b.is) (new_unmarked history before fresh b.is) (g.R.Source.left c.args.input.now) (g.R.Source.fault_count c.args.input.now) (g.W.Sink.fault_count c.args.output.now)
     c.in-Err.field-0.error l.unread l.says opens)
     c.ended.result.0.store c.ended.result.0.store_faults c.ended.result.0.log_faults c.ended.result.0.status c.args.logs.items c.args.input.now c.ended.new.output
     l.kept (ap g.S.ObjectStore.told c.ended.ensures.store ∙ l.tells) (ap g.S.ObjectStore.fault_count c.ended.ensures.store ∙ sym c.ended.ensures.store_faults) l.world (sym (c.ended.ensures.store_faults ∙ l.counts))
     (logs_in c.ended.result.1)
     (kept_logs g.L.SourceLog.fault_count g.L.SourceLog.since g.met.L.SourceLog.since_itself c.args.logs.items (logs_in c.ended.result.1) (log_counts last.indexers)
     c.ended.ensures.logs (shows.logs_show.log_faults ∙ sym (opened_counts history before fresh b.is (Err l.unread) last opens))) c.ended.ensures.log_sum
-    (omega arith) (omega (arith, streams.write_faults)) c.ended.ensures.counted
+    refl (omega arith) (omega (arith, streams.write_faults)) c.ended.ensures.counted
     (c.ended.ensures.writes (before.written ++ []) (streams.written ∙ ap Some (sym (append-nil before.written))))
+
+pub returns-in-Ok-clause-opening : goal.returns-in-Ok-clause-opening
+returns-in-Ok-clause-opening g c =
+    c.drive_world.ensures.opening (outside_of (g.S.ObjectStore.told c.args.store) (g.S.ObjectStore.fault_count c.args.store) (g.R.Source.left c.args.input.now) (g.R.Source.fault_count c.args.input.now)
+    (g.W.Sink.content c.args.output.now) (g.W.Sink.fault_count c.args.output.now))
+    (opened_found (g.S.ObjectStore.told c.args.store) c.in-Ok.world.told c.in-Ok.world c.in-Ok.ensures.opened)
+
+pub returns-in-Err-clause-opening : goal.returns-in-Err-clause-opening
+returns-in-Err-clause-opening g c = record {
+  end = ended.NotOpened c.in-Err.field-0.error;
+  status_is = c.ended.ensures.status;
+  says = record {
+    why = subst (λ s. WhereTold (g.S.ObjectStore.told c.args.store) (g.S.ObjectStore.told s) (OpensNot (g.S.ObjectStore.fault_count c.args.store) (g.S.ObjectStore.fault_count s) c.in-Err.field-0.error))
+        (sym c.ended.ensures.store) c.in-Err.ensures.opened;
+    input = (refl, refl);
+    line = c.ended.ensures.writes;
+  };
+}
 
 pub returns-in-Ok-clause-causes : goal.returns-in-Ok-clause-causes
 returns-in-Ok-clause-causes g c = c.drive_world.ensures.causes (g.S.ObjectStore.fault_count c.args.store) (g.S.ObjectStore.fault_count c.drive_world.result.0.store)

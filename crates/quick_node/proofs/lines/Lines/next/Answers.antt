@@ -76,6 +76,19 @@ returns-in-Ok-false-clause-comes g c more told =
           (f.2.1 c.in-Ok-false.field-0-test) c.last.ensures u c.fill.new.self.limit,
     )
 
+pub returns-in-Err-clause-comes : goal.returns-in-Err-clause-comes
+returns-in-Err-clause-comes g c more told =
+    let r = c.pieces.invariant.reaches more told in
+    let f = c.in-Err.ensures.failed in
+    let u = filled _ _ _ _ _ _ _ _ (ap (λ v. v.items) c.in-Err.ensures.line) c.in-Err.ensures.taken (ap (λ h. h ++ r.0) (f.0 ∙ sym f.1)) r.2 in
+    (r.0, c.in-Err.ensures.stays r.0 r.1, (u.is, u.unbroken))
+
+pub returns-in-Err-clause-none : goal.returns-in-Err-clause-none
+returns-in-Err-clause-none g c fault = c.in-Err.ensures.failed.1
+
+pub returns-in-Ok-false-clause-none : goal.returns-in-Ok-false-clause-none
+returns-in-Ok-false-clause-none g c fault = absurd (ended_no_fault c.last.result c.args.self.now.taken c.fill.new.self.taken c.last.ensures fault)
+
 pub returns-in-Ok-false-clause-cause : goal.returns-in-Ok-false-clause-cause
 returns-in-Ok-false-clause-cause g c = record {
   later = omega (arith, c.pieces.invariant.counted, c.in-Ok-false.ensures.cause.later);
