@@ -21,3 +21,5 @@ pub mod LogCounts
 pub mod CalmTurns
 pub mod Counted
 pub mod Starting
+pub mod Printed
+pub mod Searches

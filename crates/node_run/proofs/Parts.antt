@@ -27,7 +27,6 @@ use Rattle.node_run.specs.Seen.{seen}
 use Rattle.node_run.specs.declared.line.Line.{Line as CodeLine}
 use Rattle.node_run.specs.declared.drive.Accepts.TheVariants as accepts
 use Rattle.indexing_run.specs.Standing.{IndexerStands, PlaceStands, Answers, IsSaid as IsIndexerSaid}
-use Rattle.indexing_run.specs.Steps as indexing
 use Rattle.indexing_run.specs.declared.indexer.Indexer.{Indexer as Reader}
 use Rattle.indexing_run.specs.declared.indexer.Place.{Place as HeldPlace}
 use Rattle.indexing_run.specs.declared.indexer.Place.TheVariants as places

@@ -12,3 +12,4 @@ pub mod Each
 pub mod Restarting
 pub mod Telling
 pub mod Logs
+pub mod Printing

@@ -1,6 +1,6 @@
 //! A node that takes the lines of a schedule one at a time.
 
-ghost use Rattle.std.specs.Prelude.{◌++◌, ◌∷◌, [], ◌+◌, vec_capacity, ◌≡◌, ◌<◌, ◌≤◌, ◌^◌, vec_len, length, List, All, map, min, sum, ℕ, IfOk, IfErr, IfSome, IfNone, IsErr, OnErr, Some, None, true, false};
+ghost use Rattle.std.specs.Prelude.{◌++◌, ◌∷◌, [], ◌+◌, vec_capacity, ◌≡◌, ◌<◌, ◌≤◌, ◌^◌, vec_len, length, List, All, map, min, sum, ℕ, IfOk, IfErr, IfSome, IfNone, IsErr, OnErr, OnOk, Some, None, true, false};
 ghost use Rattle.std.specs.List.{AllZip};
 ghost use Rattle.source_log.specs.Log.{Log, IsLog};
 ghost use Rattle.index_world.specs.Calls.{Fault, faulted, no_memory, not_read, no_index};
@@ -20,6 +20,7 @@ ghost use Rattle.node_run.specs.Logs.{logs_in};
 ghost use Rattle.node_run.specs.Named.{place_in, names_of, HasPlaces, IsKnown};
 ghost use Rattle.node_run.specs.Node.{Node};
 ghost use Rattle.node_run.specs.Node as said;
+ghost use Rattle.node_run.specs.Printing.{fault_text, EndsAlone, TellsSearch, HasMore, PrintsLine};
 ghost use Rattle.node_run.specs.Seen.{seen};
 ghost use Rattle.node_run.specs.Standing.{NodeStands, IsFresh, fresh_node, accepts_of, accepts_client, accepts_indexer, DoesLine, DoesMost, LetGo, GivesLogs, GivesStore};
 ghost use Rattle.node_run.specs.Turns.{made_idle, quiet, stopped};
@@ -83,6 +84,8 @@ fn step_indexer<S: ObjectStore, L: SourceLog>(
     ensures step { (actor : Actor) (core : Core) (log : Log) → IndexerStands L.told L.fault_count indexer.old actor core log →
         WorldStands gate.old.world core log →
         StepsAlone L.told L.fault_count result actor core log indexer.new gate.new.world }
+    // Whatever the log and the world are.
+    ensures ends { EndsAlone L.told L.fault_count indexer.old result indexer.new gate.old.world gate.new.world }
 {
     indexer.step(alloc, gate)
 }
@@ -93,9 +96,11 @@ fn step_searcher<Rt: Threads + Sync, S: ObjectStore>(
     gate: &mut Direct<S, ScriptClock>,
     searcher: &mut Searcher,
 ) -> Result<SearchStep, AllocError>
-    ensures { (client : Asker) (core : Core) (log : Log) → IsLog log → WorldStands gate.old.world core log →
+    ensures step { (client : Asker) (core : Core) (log : Log) → IsLog log → WorldStands gate.old.world core log →
         SearcherStands searcher.old client core log →
         SearchesAlone result searcher.new gate.new.world client core log }
+    // Whatever the world is.
+    ensures tells { IfOk result (TellsSearch searcher.old searcher.new) }
 {
     searcher.step(rt, alloc, gate)
 }
@@ -151,6 +156,7 @@ fn known(
         AllZip (λ searcher model. SearcherStands searcher model core log) clients.old.items models →
         HasPlaces places.old.entries (names_of models) →
         IsKnown client.now clients.new.items places.new.entries models place core log) }
+    ensures kept { OnOk result (HasMore clients.old.items clients.new.items) }
     ensures clients { OnErr result (clients.new.items ≡ clients.old.items) }
     ensures places { OnErr result (places.new.entries ≡ places.old.entries) }
 {
@@ -195,6 +201,8 @@ fn fault_line(alloc: Global, error: WorldError) -> Result<OutLine, AllocError>
     ensures fault { (fault : Fault) → IsUnread error (not_read (faulted fault)) →
         IfOk result (λ out. out.bytes ≡ outcome_text (said.node_failed (said.world_fault fault))) }
     ensures none { IsUnread error no_index → IfOk result (λ out. out.bytes ≡ outcome_text (said.node_failed said.no_index)) }
+    // Whatever the error is.
+    ensures exact { IfOk result (λ out. out.bytes ≡ fault_text error) }
 {
     match error {
         WorldError::Memory(refused) => Err(refused),
@@ -343,6 +351,8 @@ impl<S: ObjectStore, L: SourceLog> DriveNode<S, L> {
     // All actors are idle, and the node is down.
     fn stop(&mut self)
         ensures count { vec_len self.new.indexers ≡ vec_len self.old.indexers }
+        ensures world { self.new.gate.world ≡ self.old.gate.world }
+        ensures down { self.new.down ≡ true }
         ensures does { (firsts : List L) (node : Node) → NodeStands L.told L.fault_count L.since firsts self.old node → NodeStands L.told L.fault_count L.since firsts self.new (stopped node.core node) }
     {
         restart_indexers(self.indexers.as_mut_slice());
@@ -354,6 +364,8 @@ impl<S: ObjectStore, L: SourceLog> DriveNode<S, L> {
         ensures count { vec_len self.new.indexers ≡ vec_len self.old.indexers }
         ensures does { (firsts : List L) (node : Node) → NodeStands L.told L.fault_count L.since firsts self.old node →
             DoesMost L.told L.fault_count L.since firsts node said.RestartNode result self.new }
+        // Whatever the node is.
+        ensures prints { IfOk result (λ out. PrintsLine L.told L.fault_count said.RestartNode self.old self.new out.bytes) }
     {
         self.stop();
         match self.gate.world.reload(alloc) {
@@ -370,6 +382,8 @@ impl<S: ObjectStore, L: SourceLog> DriveNode<S, L> {
         ensures count { vec_len self.new.indexers ≡ vec_len self.old.indexers }
         ensures does { (firsts : List L) (node : Node) → NodeStands L.told L.fault_count L.since firsts self.old node →
             DoesMost L.told L.fault_count L.since firsts node (said.StepIndexer number) result self.new }
+        // Whatever the node is.
+        ensures prints { IfOk result (λ out. PrintsLine L.told L.fault_count (said.StepIndexer number) self.old self.new out.bytes) }
     {
         if self.down {
             return OutLine::indexer_down(alloc, number);
@@ -389,6 +403,8 @@ impl<S: ObjectStore, L: SourceLog> DriveNode<S, L> {
         ensures count { vec_len self.new.indexers ≡ vec_len self.old.indexers }
         ensures does { (firsts : List L) (node : Node) → NodeStands L.told L.fault_count L.since firsts self.old node →
             DoesMost L.told L.fault_count L.since firsts node (said.StepClient client.now) result self.new }
+        // Whatever the node is.
+        ensures prints { IfOk result (λ out. PrintsLine L.told L.fault_count (said.StepClient client.now) self.old self.new out.bytes) }
     {
         let place = known(&mut self.clients, &mut self.places, client)?;
         if self.down {
@@ -407,6 +423,8 @@ impl<S: ObjectStore, L: SourceLog> DriveNode<S, L> {
         ensures count { vec_len self.new.indexers ≡ vec_len self.old.indexers }
         ensures does { (firsts : List L) (node : Node) → NodeStands L.told L.fault_count L.since firsts self.old node →
             DoesMost L.told L.fault_count L.since firsts node (said.Open client.now text) result self.new }
+        // Whatever the node is.
+        ensures prints { IfOk result (λ out. PrintsLine L.told L.fault_count (said.Open client.now text) self.old self.new out.bytes) }
     {
         let place = known(&mut self.clients, &mut self.places, client)?;
         match self.clients[place].submit(text) {
@@ -425,6 +443,8 @@ impl<S: ObjectStore, L: SourceLog> DriveNode<S, L> {
         ensures count { vec_len self.new.indexers ≡ vec_len self.old.indexers }
         ensures does { (firsts : List L) (node : Node) → NodeStands L.told L.fault_count L.since firsts self.old node → AreNames partitions.now →
             DoesMost L.told L.fault_count L.since firsts node (said.Assign number partitions.now) result self.new }
+        // Whatever the node is.
+        ensures prints { IfOk result (λ out. PrintsLine L.told L.fault_count (said.Assign number partitions.now) self.old self.new out.bytes) }
     {
         let partitions = copied(alloc, partitions)?;
         match assign(&mut self.indexers[number as usize], partitions) {
@@ -437,6 +457,8 @@ impl<S: ObjectStore, L: SourceLog> DriveNode<S, L> {
         ensures count { vec_len self.new.indexers ≡ vec_len self.old.indexers }
         ensures does { (firsts : List L) (node : Node) → NodeStands L.told L.fault_count L.since firsts self.old node → moment < 2 ^ 62 →
             DoesMost L.told L.fault_count L.since firsts node (said.At moment) result self.new }
+        // Whatever the node is.
+        ensures prints { IfOk result (λ out. PrintsLine L.told L.fault_count (said.At moment) self.old self.new out.bytes) }
     {
         if moment < MOMENT_END {
             self.moment = moment;
@@ -450,6 +472,8 @@ impl<S: ObjectStore, L: SourceLog> DriveNode<S, L> {
         ensures count { vec_len self.new.indexers ≡ vec_len self.old.indexers }
         ensures does { (firsts : List L) (node : Node) → NodeStands L.told L.fault_count L.since firsts self.old node →
             DoesMost L.told L.fault_count L.since firsts node (said.RestartIndexer number) result self.new }
+        // Whatever the node is.
+        ensures prints { IfOk result (λ out. PrintsLine L.told L.fault_count (said.RestartIndexer number) self.old self.new out.bytes) }
     {
         self.indexers[number as usize].restart();
         OutLine::indexer_restarted(alloc, number)
@@ -459,6 +483,8 @@ impl<S: ObjectStore, L: SourceLog> DriveNode<S, L> {
         ensures count { vec_len self.new.indexers ≡ vec_len self.old.indexers }
         ensures does { (firsts : List L) (node : Node) → NodeStands L.told L.fault_count L.since firsts self.old node →
             DoesMost L.told L.fault_count L.since firsts node (said.RestartClient client.now) result self.new }
+        // Whatever the node is.
+        ensures prints { IfOk result (λ out. PrintsLine L.told L.fault_count (said.RestartClient client.now) self.old self.new out.bytes) }
     {
         let place = known(&mut self.clients, &mut self.places, client)?;
         self.clients[place].restart();
@@ -475,6 +501,8 @@ impl<S: ObjectStore, L: SourceLog> DriveNode<S, L> {
         ensures count { vec_len self.new.indexers ≡ vec_len self.old.indexers }
         ensures does { (firsts : List L) (node : Node) → NodeStands L.told L.fault_count L.since firsts self.old node → IsWellFormed (seen line.now) →
             DoesMost L.told L.fault_count L.since firsts node (seen line.now) result self.new }
+        // Whatever the node is.
+        ensures prints { IfOk result (λ out. PrintsLine L.told L.fault_count (seen line.now) self.old self.new out.bytes) }
     {
         match line {
             Line::At { moment } => self.at_line(alloc, *moment),
@@ -535,8 +563,10 @@ impl<S: ObjectStore, L: SourceLog> DriveNode<S, L> {
         line: &Line,
     ) -> Result<OutLine, AllocError>
         requires { IsNumbered line.now (vec_len self.old.indexers) }
-        ensures { (firsts : List L) (node : Node) → NodeStands L.told L.fault_count L.since firsts self.old node → IsWellFormed (seen line.now) →
+        ensures does { (firsts : List L) (node : Node) → NodeStands L.told L.fault_count L.since firsts self.old node → IsWellFormed (seen line.now) →
             DoesLine L.told L.fault_count L.since firsts node (seen line.now) result self.new }
+        // Whatever the node, its store and its logs are: what was answered is told as itself.
+        ensures prints { IfOk result (λ out. PrintsLine L.told L.fault_count (seen line.now) self.old self.new out.bytes) }
     {
         match self.do_line(rt, alloc, line) {
             Ok(out) => Ok(out),

@@ -7,6 +7,7 @@ ghost use Rattle.indexing_run.specs.Outcomes as indexing;
 ghost use Rattle.indexing_run.specs.Standing.{IsSaid};
 ghost use Rattle.node_run.specs.Lines.{outcome_text};
 ghost use Rattle.node_run.specs.Node as said;
+ghost use Rattle.node_run.specs.Printing.{fault_text, said_text};
 
 use byte_fields::{Bytes, Client};
 use index_world::{WorldError, put_fault, put_number, put_word};
@@ -83,8 +84,10 @@ impl OutLine {
         number: u64,
         outcome: &IndexerOutcome,
     ) -> Result<OutLine, AllocError>
-        ensures { (answer : indexing.IndexerOutcome) → IsSaid outcome.now answer →
+        ensures said { (answer : indexing.IndexerOutcome) → IsSaid outcome.now answer →
             IfOk result (λ out. out.bytes ≡ outcome_text (said.indexer_said number answer)) }
+        // Whatever the outcome is.
+        ensures exact { IfOk result (λ out. out.bytes ≡ said_text number outcome.now) }
     {
         let words = indexing_run::print_outcome(alloc, outcome)?;
         of_indexer(alloc, number, words.as_slice())
@@ -142,6 +145,8 @@ impl OutLine {
         ensures fault { (fault : Fault) → IsUnread error.now (not_read (faulted fault)) →
             IfOk result (λ out. out.bytes ≡ outcome_text (said.node_failed (said.world_fault fault))) }
         ensures none { IsUnread error.now no_index → IfOk result (λ out. out.bytes ≡ outcome_text (said.node_failed said.no_index)) }
+        // Whatever the error is.
+        ensures exact { IfOk result (λ out. out.bytes ≡ fault_text error.now) }
     {
         let mut bytes = Bytes::vacant(alloc);
         put_word(&mut bytes, b"node")?;

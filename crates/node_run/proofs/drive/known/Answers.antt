@@ -1,5 +1,5 @@
 use Rattle.std.proofs.Common.{◌≡◌, ◌∷◌, [], ◌++◌, List, ℕ, ap, sym, subst, ◌∙◌, false, None, Some, cond, refl, arith, length}
-use Rattle.std.proofs.lemmas.List.{map_push}
+use Rattle.std.proofs.lemmas.List.{append-nil, map_push}
 use Rattle.std.specs.BTreeMap.{is_at}
 use Rattle.std.specs.Cmp.Lexicographic.{slice_cmp}
 use Rattle.std.specs.List.{AllZip}
@@ -55,3 +55,9 @@ returns-in-Ok-clause-known c = λ models core log z has.
       placed = subst (HasPlaces c.insert.new.self.entries) (sym (ap names_of with ∙ map_push (λ m. m.name) models (fresh_client name)))
           (put_behind name (names_of models) c.args.places.now.entries c.insert.new.self.entries c.len-place.result last_name none has put);
     }
+
+pub returns-in-Some-clause-kept : goal.returns-in-Some-clause-kept
+returns-in-Some-clause-kept c = ([], sym (append-nil c.args.clients.now.items))
+
+pub returns-in-Ok-clause-kept : goal.returns-in-Ok-clause-kept
+returns-in-Ok-clause-kept c = (c.start.result ∷ [], c.in-Ok.ensures.items ∙ ap (λ (ss : List Searcher). ss ++ c.start.result ∷ []) c.reserve.ensures.items)

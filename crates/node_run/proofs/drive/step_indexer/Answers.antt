@@ -20,3 +20,6 @@ returns-clause-step g c actor core log indexer stands =
       goes_on = subst (λ (from : Core). GoesOn (number_held actor.place) from s.behind) s.passed s.goes_on;
       apart = s.apart;
     }
+
+pub returns-clause-ends : goal.returns-clause-ends
+returns-clause-ends g c = record { assignment = c.step.ensures.ends.assignment; ends = c.step.ensures.ends.ends }

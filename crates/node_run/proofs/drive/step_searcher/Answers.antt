@@ -1,10 +1,12 @@
 use Rattle.std.proofs.Common.{◌∙◌}
 use Rattle.root_search.specs.Steps.{luck_of}
 use Rattle.root_search.proofs.Steps.{step_alone}
+use Rattle.index_world.specs.DirectLaws.{config_kept}
+use Rattle.node_run.proofs.Searches.{tells_row, tells_search}
 use Rattle.node_run.proofs.drive.step_searcher.Goals as goal
 
-pub returns : goal.returns
-returns g c client core log is_log stands searcher =
+pub returns-clause-step : goal.returns-clause-step
+returns-clause-step g c client core log is_log stands searcher =
     let s = c.step.ensures.step client core log is_log stands searcher in
     record {
       luck = luck_of s.passage s.more s.short;
@@ -17,3 +19,7 @@ returns g c client core log is_log stands searcher =
       world_stands = s.gate_stands;
       goes_on = s.goes_on.alone (λ before behind same. same);
     }
+
+pub returns-clause-tells : goal.returns-clause-tells
+returns-clause-tells g c =
+    tells_search (config_kept c.args.gate.now.world) c.args.searcher.now c.step.new.self c.step.result (λ plan row is at. tells_row (c.step.ensures.reads plan row is at)) c.step.ensures.answers

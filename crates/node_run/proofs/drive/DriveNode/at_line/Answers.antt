@@ -18,3 +18,6 @@ returns-clause-does g c = λ firsts node p low.
           (clocked c.args.self.now.gate.world node.core node.log w.set.new.self c.args.moment p.world_stands low w.set.ensures)))
       | else-moment-lt-MOMENT_END w ↦ absurd (omega (arith, low, w.if-moment-lt-MOMENT_END.false))
     ]
+
+pub returns-clause-prints : goal.returns-clause-prints
+returns-clause-prints g c = c.at.ensures

@@ -3,6 +3,8 @@ use Rattle.node_run.specs.Lines.{IsWellFormed}
 use Rattle.node_run.specs.Seen.{seen}
 use Rattle.node_run.specs.Standing.{DoesMost}
 use Rattle.node_run.specs.declared.line.Line.{Line}
+use Rattle.std.specs.Prelude.{IfOk}
+use Rattle.node_run.specs.Printing.{PrintsLine}
 use Rattle.node_run.proofs.drive.DriveNode.do_line.Goals as goal
 
 pub returns-in-At-clause-does : goal.returns-in-At-clause-does
@@ -39,3 +41,31 @@ pub returns-in-Client-clause-does : goal.returns-in-Client-clause-does
 returns-in-Client-clause-does g c = λ firsts node s f.
     subst (λ (l : Line). DoesMost g.L.SourceLog.told g.L.SourceLog.fault_count g.L.SourceLog.since firsts node (seen l) c.client_line.result c.client_line.new.self) (sym c.in-Client.is)
     (c.client_line.ensures.does firsts node s)
+
+pub returns-in-At-clause-prints : goal.returns-in-At-clause-prints
+returns-in-At-clause-prints g c =
+    subst (λ (l : Line). IfOk c.at_line.result (λ out. PrintsLine g.L.SourceLog.told g.L.SourceLog.fault_count (seen l) c.args.self.now c.at_line.new.self out.bytes)) (sym c.in-At.is) c.at_line.ensures.prints
+
+pub returns-in-Assign-clause-prints : goal.returns-in-Assign-clause-prints
+returns-in-Assign-clause-prints g c =
+    subst (λ (l : Line). IfOk c.assign_line.result (λ out. PrintsLine g.L.SourceLog.told g.L.SourceLog.fault_count (seen l) c.args.self.now c.assign_line.new.self out.bytes)) (sym c.in-Assign.is) c.assign_line.ensures.prints
+
+pub returns-in-Indexer-clause-prints : goal.returns-in-Indexer-clause-prints
+returns-in-Indexer-clause-prints g c =
+    subst (λ (l : Line). IfOk c.indexer_line.result (λ out. PrintsLine g.L.SourceLog.told g.L.SourceLog.fault_count (seen l) c.args.self.now c.indexer_line.new.self out.bytes)) (sym c.in-Indexer.is) c.indexer_line.ensures.prints
+
+pub returns-in-RestartIndexer-clause-prints : goal.returns-in-RestartIndexer-clause-prints
+returns-in-RestartIndexer-clause-prints g c =
+    subst (λ (l : Line). IfOk c.restart_indexer.result (λ out. PrintsLine g.L.SourceLog.told g.L.SourceLog.fault_count (seen l) c.args.self.now c.restart_indexer.new.self out.bytes)) (sym c.in-RestartIndexer.is) c.restart_indexer.ensures.prints
+
+pub returns-in-RestartClient-clause-prints : goal.returns-in-RestartClient-clause-prints
+returns-in-RestartClient-clause-prints g c =
+    subst (λ (l : Line). IfOk c.restart_client.result (λ out. PrintsLine g.L.SourceLog.told g.L.SourceLog.fault_count (seen l) c.args.self.now c.restart_client.new.self out.bytes)) (sym c.in-RestartClient.is) c.restart_client.ensures.prints
+
+pub returns-in-RestartNode-clause-prints : goal.returns-in-RestartNode-clause-prints
+returns-in-RestartNode-clause-prints g c =
+    subst (λ (l : Line). IfOk c.restart_node.result (λ out. PrintsLine g.L.SourceLog.told g.L.SourceLog.fault_count (seen l) c.args.self.now c.restart_node.new.self out.bytes)) (sym c.in-RestartNode.is) c.restart_node.ensures.prints
+
+pub returns-in-Client-clause-prints : goal.returns-in-Client-clause-prints
+returns-in-Client-clause-prints g c =
+    subst (λ (l : Line). IfOk c.client_line.result (λ out. PrintsLine g.L.SourceLog.told g.L.SourceLog.fault_count (seen l) c.args.self.now c.client_line.new.self out.bytes)) (sym c.in-Client.is) c.client_line.ensures.prints

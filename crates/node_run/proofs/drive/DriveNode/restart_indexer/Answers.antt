@@ -12,3 +12,6 @@ returns-clause-does g c = λ firsts node p.
     c.args.number c.index_mut.result.now c.restart.new.self (omega (arith, c.requires, c.args.self.now.indexers.ok.0)) c.index_mut.ensures.value
     (subst (λ l. g.L.SourceLog.since c.index_mut.result.now.log l) (sym c.restart.ensures.log) (g.met.L.SourceLog.since_itself c.index_mut.result.now.log))
     c.restart.ensures.stands)
+
+pub returns-clause-prints : goal.returns-clause-prints
+returns-clause-prints g c = c.indexer_restarted.ensures

@@ -1,0 +1,44 @@
+-- What a printed line tells, whatever the node is.
+use Rattle.std.proofs.Common.{◌≡◌, ℕ, List, ◌∷◌, ◌++◌, length, get_or, sym, ap, ◌∙◌, subst, inl, inr}
+use Rattle.std.specs.Prelude.{◌⊎◌, ◌≤◌, ◌<◌, Bool, true, false, codes, decimal, slice_get, Some, None, Result, Ok, Err, IfOk, IsErr, MatchBool}
+use Rattle.std.proofs.lemmas.Option.{slice_get_cases, none-some}
+use Rattle.std.specs.declared.alloc.AllocError.{AllocError}
+use Rattle.index_world.specs.Saying.{words}
+use Rattle.indexing_run.specs.Standing.{said_words}
+use Rattle.indexing_run.specs.declared.outcome.IndexerOutcome.{IndexerOutcome as Said}
+use Rattle.indexing_run.proofs.Printing.{behind_word, said_started}
+use Rattle.node_run.specs.declared.out_line.OutLine.{OutLine}
+use Rattle.node_run.specs.Printing.{said_text}
+
+-- ---- a line, or no memory for it
+
+pub if_ok_where : (r : Result OutLine AllocError) (P Q : List ℕ → Type 0) → ((out : List ℕ) → P out → Q out) → IfOk r (λ out. P out.bytes) → IfOk r (λ out. Q out.bytes)
+if_ok_where (Ok out) P Q f h = f out.bytes h
+if_ok_where (Err refused) P Q f h = tt
+
+pub if_short : {A : Type 0} (r : Result A AllocError) (P : A → Type 0) → IsErr r → IfOk r P
+if_short (Ok a) P short = absurd cc
+if_short (Err refused) P short = tt
+
+-- a node that is down, or up
+pub where_down : (down : Bool) (r : Result OutLine AllocError) (P Q : List ℕ → Type 0) → down ≡ true → IfOk r (λ out. P out.bytes) → IfOk r (λ out. MatchBool down (P out.bytes) (Q out.bytes))
+where_down down r P Q is h = subst (λ b. IfOk r (λ out. MatchBool b (P out.bytes) (Q out.bytes))) (sym is) h
+
+pub where_up : (down : Bool) (r : Result OutLine AllocError) (P Q : List ℕ → Type 0) → down ≡ false → IfOk r (λ out. Q out.bytes) → IfOk r (λ out. MatchBool down (P out.bytes) (Q out.bytes))
+where_up down r P Q is h = subst (λ b. IfOk r (λ out. MatchBool b (P out.bytes) (Q out.bytes))) (sym is) h
+
+-- ---- words
+
+-- an indexer's words behind its number
+pub indexer_words : (number : ℕ) (outcome : Said) → codes "indexer" ++ 32 ∷ (decimal number ++ 32 ∷ words (said_words outcome)) ≡ said_text number outcome
+indexer_words number outcome = ap (λ text. codes "indexer" ++ 32 ∷ text) (sym (behind_word (decimal number) (said_words outcome) (said_started outcome)))
+
+-- ---- lists
+
+-- behind the last
+pub past_last : {X : Type 0} (xs : List X) (i : ℕ) → slice_get xs i ≡ None → length xs ≤ i
+past_last {X = X} xs i none = by (slice_get_cases xs i).1
+  where
+    by : ((x : X) × (i < length xs) × (slice_get xs i ≡ Some x) × (get_or xs i x ≡ x)) ⊎ ((length xs ≤ i) × (slice_get xs i ≡ None)) → length xs ≤ i
+    by (inl some) = absurd (none-some some.0 (sym none ∙ some.2))
+    by (inr past) = past.0
