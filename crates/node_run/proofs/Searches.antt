@@ -1,12 +1,13 @@
 -- What a step of a planned search tells.
 use Rattle.std.proofs.Common.{◌≡◌, ◌≤◌, ℕ, List, length}
-use Rattle.std.specs.Prelude.{Some, Result, Ok, Err, IfOk, nat_eq, slice_get}
+use Rattle.std.specs.Prelude.{Option, Some, Result, Ok, Err, IfOk, nat_eq, slice_get}
 use Rattle.std.specs.Map.{lookup}
 use Rattle.std.specs.declared.alloc.AllocError.{AllocError}
 use Rattle.index_config.specs.declared.config.IndexConfig.{IndexConfig}
 use Rattle.index_world.specs.CallsMade.{CallMade}
 use Rattle.index_world.specs.Core.{Core}
 use Rattle.meta_store.specs.declared.planning.PlanRow.{PlanRow}
+use Rattle.object_store.specs.Store.{State}
 use Rattle.source_log.specs.Log.{Log}
 use Rattle.root_search.specs.Footers.{entries}
 use Rattle.root_search.specs.StepReads.{FetchesRow, SaysFetching, SaysOver}
@@ -20,17 +21,17 @@ use Rattle.root_search.specs.declared.searcher.Searcher.{Searcher}
 use Rattle.node_run.specs.Printing.{TellsRow, TellsReply, TellsSearch}
 use Rattle.node_run.proofs.Printed.{past_last}
 
-module _ {W : Type 0} {Stands : W → Core → Log → Type 0} {Between : Core → Core → Type 0} {Owns : W → ℕ → Type 0} {Adds : W → List CallMade → W → Type 0} {bytes_fetched : W → ℕ} {footers : Footers} {planned : GivenPlan} {row : PlanRow}
+module _ {W : Type 0} {Stands : W → Core → Log → Type 0} {Between : Core → Core → Type 0} {Owns : W → ℕ → Type 0} {Adds : W → List CallMade → W → Type 0} {bytes_fetched : W → ℕ} {told : W → Option State} {footers : Footers} {planned : GivenPlan} {row : PlanRow}
     {request : GivenRequest} {result : Result SearchStep AllocError} {old new : W} where
   -- of a row
-  pub tells_row : FetchesRow Stands Between Owns Adds bytes_fetched footers planned row request result old new → IfOk result (TellsRow row request)
+  pub tells_row : FetchesRow Stands Between Owns Adds bytes_fetched told footers planned row request result old new → IfOk result (TellsRow row request)
   tells_row fetches = by result fetches.says
     where
       by : (r : Result SearchStep AllocError) → SaysFetching Stands (lookup (nat_eq row.number) (entries footers)) row planned old fetches.calls request r → IfOk r (TellsRow row request)
       by (Ok Idle) h = absurd h
       by (Ok (Planned revision count)) h = absurd h
       by (Ok (Fetched number)) h = (h.0, (h.1.later, h.1.request_is))
-      by (Ok (Replied reply)) h = (h.0, h.1)
+      by (Ok (Replied reply)) h = (h.0, h.2)
       by (Err refused) h = tt
 
 -- behind the last row

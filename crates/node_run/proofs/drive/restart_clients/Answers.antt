@@ -15,7 +15,7 @@ loop-i-preserved c =
     subst (λ n. ChangedUpTo Dropped n c.args.clients.now (slice_set c.loop-i.clients c.loop-i.i c.restart.new.self)) (sym (add-one c.loop-i.i))
     (one_changed Dropped c.loop-i.i c.args.clients.now c.loop-i.clients (get_or c.loop-i.clients c.loop-i.i c.index-clients-i.result) c.restart.new.self c.loop-i.invariant c.loop-i-test.true
     (ap (λ v. get_or c.loop-i.clients c.loop-i.i v) c.index-clients-i.is)
-    (record { stands = λ client core after log s. c.restart.ensures client core after log s }))
+    (record { stands = λ client core after log s. c.restart.ensures.step client core after log s }))
 
 pub returns : goal.returns
 returns c = λ models core after log z.

@@ -19,7 +19,7 @@ returns-in-Some g c = λ firsts node p.
     (subst (λ (ms : List Client). AllZip (λ searcher client. SearcherStands searcher client node.core node.log) (slice_set c.args.self.now.clients.items c.in-Some.place c.restart.new.self) ms)
     (sym (named_dropped node.core node.log c.args.client.now c.args.self.now.clients.items node.clients c.in-Some.place at p.clients))
     (named_set node.core node.core node.log c.args.client.now c.args.self.now.clients.items node.clients c.in-Some.place c.restart.new.self (without_request (client_named c.args.client.now node.clients))
-    (λ t m w. w) (named_name c.args.client.now node.clients) at p.clients (c.restart.ensures (client_named c.args.client.now node.clients) node.core node.core node.log old)))
+    (λ t m w. w) (named_name c.args.client.now node.clients) at p.clients (c.restart.ensures.step (client_named c.args.client.now node.clients) node.core node.core node.log old)))
     (subst (HasPlaces c.args.self.now.places.entries) (sym (names_dropped c.args.client.now node.clients)) p.placed)
 
 pub returns-in_default : goal.returns-in_default
