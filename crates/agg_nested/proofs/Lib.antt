@@ -1,6 +1,10 @@
 pub mod FlatAnswers
 pub mod FlatLists
 pub mod Flats
+pub mod Joining
+pub mod PartLists
 pub mod Plain
+pub mod Raised
 pub mod Refusals
+pub mod Spotted
 pub mod Zipped

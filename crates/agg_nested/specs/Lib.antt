@@ -1,7 +1,9 @@
 pub mod Answers
+pub mod Buckets
 pub mod Checking
 pub mod Examples
 pub mod Finished
+pub mod Groups
 pub mod Partials
 pub mod Plain
 pub mod Spots

@@ -30,8 +30,8 @@ pub enum FlatPart {
     Ranges(List<u64>),
 }
 
-// The document's values of a field.
-fn values_of(doc: &DocValues, field: u32) -> &[Value]
+/// The document's values of a field.
+pub fn values_of(doc: &DocValues, field: u32) -> &[Value]
     ensures { result.now ≡ values_in doc.now field }
 {
     for part in doc.as_slice() {

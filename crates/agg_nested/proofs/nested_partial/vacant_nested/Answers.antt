@@ -1,0 +1,14 @@
+use Rattle.std.proofs.Common.{[], ◌∙◌, ◌<◌, length, ap, get_or, List, arith}
+use Rattle.agg_nested.specs.Buckets.{PartStands}
+use Rattle.agg_nested.specs.declared.nested_partial.NestedPart.{NestedPart}
+use Rattle.agg_nested.specs.declared.request.NestedAgg.{NestedAgg}
+use Rattle.agg_nested.proofs.PartLists.{holds_push}
+use Rattle.agg_nested.proofs.nested_partial.vacant_nested.Goals as goal
+
+pub loop-asked-preserved : goal.loop-asked-preserved
+loop-asked-preserved c =
+    let same = ap length c.as_slice-asked-items.ensures in
+    let inside : c.loop-asked.asked-index < length c.args.request.now = omega arith in
+    rw c.in_ok-push.ensures.items (holds_push (λ (a : NestedAgg) (p : NestedPart). PartStands a p []) c.args.request.now c.loop-asked.parts.items c.loop-asked.asked-index c.asked-item.result _ inside
+    (c.asked-item.is ∙ ap (λ (l : List NestedAgg). get_or l c.loop-asked.asked-index c.asked-item.result) c.as_slice-asked-items.ensures)
+    c.loop-asked.invariant c.in_ok-vacant_part.ensures)

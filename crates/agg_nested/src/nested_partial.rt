@@ -1,0 +1,171 @@
+//! What some documents count for each aggregation of a request, and for each of its buckets.
+
+ghost use Rattle.std.specs.Prelude.{◌≡◌, ◌+◌, ◌^◌, ◌<◌, ◌∷◌, [], ◌++◌, List, length, IfOk, OnOk};
+ghost use Rattle.std.specs.List.{All, AllZip};
+ghost use Rattle.doc_value.specs.declared.doc.DocField.{DocField};
+ghost use Rattle.agg_nested.specs.Buckets.{PartStands, NestedStands};
+ghost use Rattle.agg_nested.specs.Checking.{HasStep, HaveSteps};
+
+use crate::flat_part::{FlatPart, collect_flat, merge_flat, vacant_flat};
+use crate::groups::{Groups, merge_groups, vacant_groups};
+use crate::request::{NestedAgg, NestedRequest};
+use crate::spotting::raise_spots;
+use agg_model::DocValues;
+use std::alloc::{AllocError, Global};
+
+/// What some documents count for one aggregation, and for its nested ones in each of its buckets.
+#[derive(Drop)]
+pub struct NestedPart {
+    pub(crate) flat: FlatPart,
+    pub(crate) groups: Groups,
+}
+
+/// What some documents count for each aggregation of a request.
+#[derive(Drop)]
+pub struct NestedPartial {
+    pub(crate) documents: u64,
+    pub(crate) parts: Vec<NestedPart>,
+}
+
+fn vacant_part(alloc: Global, asked: &NestedAgg) -> Result<NestedPart, AllocError>
+    ensures { IfOk result (λ part. PartStands asked.now part []) }
+{
+    let flat = vacant_flat(alloc, &asked.agg)?;
+    Ok(NestedPart {
+        flat,
+        groups: vacant_groups(alloc),
+    })
+}
+
+/// The partial of no documents.
+pub fn vacant_nested(alloc: Global, request: &NestedRequest) -> Result<NestedPartial, AllocError>
+    ensures { IfOk result (λ partial. NestedStands request.now partial []) }
+{
+    let mut parts = Vec::new(alloc);
+    for asked in request.as_slice() {
+        parts.push(vacant_part(alloc, asked)?)?;
+    }
+    Ok(NestedPartial {
+        documents: 0,
+        parts,
+    })
+}
+
+fn collect_part(
+    alloc: Global,
+    asked: &NestedAgg,
+    part: &mut NestedPart,
+    doc: &DocValues,
+    documents: u64,
+) -> Result<(), AllocError>
+    requires step { HasStep asked.now.agg }
+    requires steps { All (λ named. HasStep named.agg) asked.now.nested }
+    requires few { documents + 1 < 2 ^ 62 }
+    requires known { (docs : List (List DocField)) × PartStands asked.now part.old docs × (length docs ≡ documents) }
+    ensures { OnOk result ((docs : List (List DocField)) → length docs ≡ documents → PartStands asked.now part.old docs → PartStands asked.now part.new (docs ++ doc.now ∷ [])) }
+{
+    collect_flat(alloc, &asked.agg, &mut part.flat, doc)?;
+    raise_spots(
+        alloc,
+        &asked.agg,
+        asked.nested.as_slice(),
+        &mut part.groups,
+        doc,
+        documents + 1,
+    )
+}
+
+fn collect_parts(
+    alloc: Global,
+    request: &[NestedAgg],
+    parts: &mut Vec<NestedPart>,
+    doc: &DocValues,
+    documents: u64,
+) -> Result<(), AllocError>
+    requires steps { HaveSteps request.now }
+    requires few { documents + 1 < 2 ^ 62 }
+    requires known { (docs : List (List DocField)) × AllZip (λ asked part. PartStands asked part docs) request.now parts.old.items × (length docs ≡ documents) }
+    ensures { OnOk result ((docs : List (List DocField)) → length docs ≡ documents → AllZip (λ asked part. PartStands asked part docs) request.now parts.old.items
+        → AllZip (λ asked part. PartStands asked part (docs ++ doc.now ∷ [])) request.now parts.new.items) }
+{
+    for (i, asked) in request.iter().enumerate() {
+        collect_part(alloc, asked, &mut parts[i], doc, documents)?;
+    }
+    Ok(())
+}
+
+/// Counts one more document. After want of memory the partial is spent.
+pub fn collect_nested(
+    alloc: Global,
+    request: &NestedRequest,
+    partial: &mut NestedPartial,
+    doc: &DocValues,
+) -> Result<(), AllocError>
+    requires steps { HaveSteps request.now }
+    requires known { (documents : List (List DocField)) × NestedStands request.now partial.old documents × (length documents + 1 < 2 ^ 62) }
+    ensures { OnOk result ((documents : List (List DocField)) → NestedStands request.now partial.old documents → NestedStands request.now partial.new (documents ++ doc.now ∷ [])) }
+{
+    collect_parts(
+        alloc,
+        request.as_slice(),
+        &mut partial.parts,
+        doc,
+        partial.documents,
+    )?;
+    partial.documents += 1;
+    Ok(())
+}
+
+fn merge_part(
+    alloc: Global,
+    asked: &NestedAgg,
+    into: &mut NestedPart,
+    other: &NestedPart,
+) -> Result<(), AllocError>
+    requires known { (mine : List (List DocField)) × (yours : List (List DocField)) × PartStands asked.now into.old mine × PartStands asked.now other.now yours
+        × (length mine + length yours < 2 ^ 62) }
+    ensures { OnOk result ((mine : List (List DocField)) (yours : List (List DocField)) → PartStands asked.now into.old mine → PartStands asked.now other.now yours
+        → PartStands asked.now into.new (mine ++ yours)) }
+{
+    merge_flat(alloc, &asked.agg, &mut into.flat, &other.flat)?;
+    merge_groups(
+        alloc,
+        asked.nested.as_slice(),
+        &mut into.groups,
+        &other.groups,
+    )
+}
+
+fn merge_parts(
+    alloc: Global,
+    request: &[NestedAgg],
+    parts: &mut Vec<NestedPart>,
+    others: &Vec<NestedPart>,
+) -> Result<(), AllocError>
+    requires known { (mine : List (List DocField)) × (yours : List (List DocField)) × AllZip (λ asked part. PartStands asked part mine) request.now parts.old.items
+        × AllZip (λ asked part. PartStands asked part yours) request.now others.now.items × (length mine + length yours < 2 ^ 62) }
+    ensures { OnOk result ((mine : List (List DocField)) (yours : List (List DocField)) → AllZip (λ asked part. PartStands asked part mine) request.now parts.old.items
+        → AllZip (λ asked part. PartStands asked part yours) request.now others.now.items → AllZip (λ asked part. PartStands asked part (mine ++ yours)) request.now parts.new.items) }
+{
+    for (i, asked) in request.iter().enumerate() {
+        merge_part(alloc, asked, &mut parts[i], &others[i])?;
+    }
+    Ok(())
+}
+
+/// Adds what another partial of the same request counts. After want of memory the partial is spent.
+pub fn merge_nested(
+    alloc: Global,
+    request: &NestedRequest,
+    into: &mut NestedPartial,
+    other: &NestedPartial,
+) -> Result<(), AllocError>
+    requires known { (mine : List (List DocField)) × (yours : List (List DocField)) × NestedStands request.now into.old mine × NestedStands request.now other.now yours
+        × (length mine + length yours < 2 ^ 62) }
+    ensures { OnOk result ((mine : List (List DocField)) (yours : List (List DocField)) → NestedStands request.now into.old mine → NestedStands request.now other.now yours
+        → NestedStands request.now into.new (mine ++ yours)) }
+{
+    merge_parts(alloc, request.as_slice(), &mut into.parts, &other.parts)?;
+    into.documents += other.documents;
+    Ok(())
+}
