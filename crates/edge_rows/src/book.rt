@@ -1,9 +1,9 @@
 //! The objects that stood on a disk, each with its bytes.
 
-use crate::memory_disk::{Left, MemoryDisk, State};
+use crate::memory_disk::{MemoryDisk, State};
 use crate::wrong::Wrong;
 use object_store::Key;
-use std::alloc::{AllocError, Global};
+use std::alloc::Global;
 
 // The folder of the objects.
 const STORE: &str = "store";
@@ -56,55 +56,38 @@ impl Book {
         Ok(())
     }
 
-    // Keeps what a path has, if it is a key's and was not seen.
-    fn keep(&mut self, path: &str, bytes: &[u8], is_kept: bool) -> Result<(), AllocError> {
-        if !is_key(path) || self.has(path) {
-            return Ok(());
-        }
-        let path = String::from_str(self.alloc, path)?;
-        let bytes = Vec::from_slice(self.alloc, bytes)?;
-        self.seen.push(Seen {
-            path,
-            bytes,
-            is_kept,
-        })?;
-        Ok(())
-    }
-
-    fn look_at(&mut self, state: &State, are_kept: bool) -> Result<(), Wrong> {
-        self.check(state)?;
-        let found = state.files_in(STORE)?;
-        for one in found.as_slice() {
-            self.keep(one.path.as_str(), state.bytes(one.node), are_kept)?;
-        }
-        Ok(())
-    }
-
     /// Looks at what stands: each object that stood before has its bytes. Those that are new were made by a call that answered
     /// no fault, or may be lost with the power.
     pub fn look(&mut self, disk: &MemoryDisk, are_kept: bool) -> Result<(), Wrong> {
-        self.look_at(&*disk.state()?, are_kept)
+        let state = disk.state()?;
+        self.check(&state)?;
+        for found in state.files_in(STORE)? {
+            if is_key(found.path.as_str()) && !self.has(found.path.as_str()) {
+                let bytes = Vec::from_slice(self.alloc, state.bytes(found.node))?;
+                self.seen.push(Seen {
+                    path: found.path,
+                    bytes,
+                    is_kept: are_kept,
+                })?;
+            }
+        }
+        Ok(())
     }
 
-    fn forget(&mut self, state: &State) -> Result<(), Wrong> {
+    /// Forgets what was lost with the power, which is none of what is kept.
+    pub fn forget_lost(&mut self, disk: &MemoryDisk) -> Result<(), Wrong> {
+        let state = disk.state()?;
         self.seen
             .retain(|one| one.is_kept || state.find(one.path.as_str()).is_ok());
-        self.check(state)
-    }
-
-    /// The power goes and comes back. Forgets what was lost with it, which is none of what is kept.
-    pub fn lose(&mut self, disk: &MemoryDisk, left: Left) -> Result<(), Wrong> {
-        disk.lose(left)?;
-        self.forget(&*disk.state()?)
+        self.check(&state)
     }
 }
 
-/// No file is left beside the objects.
-pub fn none_beside(alloc: Global, disk: &MemoryDisk) -> Result<(), Wrong> {
-    let found = disk.state()?.files_in(STORE)?;
-    for one in found.as_slice() {
-        if one.path.ends_with(".half") {
-            return Err(Wrong::seen(alloc, one.path.as_str(), "is left"));
+/// A file that a writer left beside the objects, if there is one.
+pub fn left_beside(alloc: Global, disk: &MemoryDisk) -> Result<(), Wrong> {
+    for found in disk.state()?.files_in(STORE)? {
+        if found.path.ends_with(".half") {
+            return Err(Wrong::seen(alloc, found.path.as_str(), "is left"));
         }
     }
     Ok(())

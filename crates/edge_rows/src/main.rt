@@ -6,7 +6,6 @@
 ghost use Rattle.std.specs.Prelude.{◌≤◌};
 
 mod book;
-mod closed_log;
 mod failing;
 mod lives;
 mod memory_disk;
@@ -18,26 +17,25 @@ use crate::table::play_table;
 use object_store::{CreateError, GetError, Key, ObjectStore};
 use real_edge::{FileLog, FolderStore};
 use source_checkpoint::Partition;
-use source_log::{Records, SourceLog};
+use source_log::SourceLog;
 use std::alloc::{AllocError, Global};
 use std::fs::{self, Files};
 use std::thread::Threads;
 use std::{env, io};
 
-// A text has one word more.
-fn add_word(text: &mut String, word: &str) -> Result<(), AllocError> {
-    if !text.is_empty() {
-        text.push(' ')?;
+// The text of an answer: these words, or `-` where there are none.
+fn joined(alloc: Global, words: &[String]) -> Result<String, AllocError> {
+    let mut text = String::new(alloc);
+    for word in words {
+        if !text.is_empty() {
+            text.push(' ')?;
+        }
+        text.push_str(word.as_str())?;
     }
-    text.push_str(word)
-}
-
-// The text of an answer that has no words is `-`.
-fn mark_vacant(text: &mut String) -> Result<(), AllocError> {
     if text.is_empty() {
         text.push('-')?;
     }
-    Ok(())
+    Ok(text)
 }
 
 fn number(text: Option<&str>) -> u64 {
@@ -81,30 +79,20 @@ fn got<S: ObjectStore>(
     }
 }
 
-fn add_key(alloc: Global, text: &mut String, key: &Key) -> Result<(), AllocError> {
-    let word = String::from_utf8_lossy(alloc, key.as_bytes())?;
-    add_word(text, word.as_str())
-}
-
-fn keys_text(alloc: Global, keys: &[Key]) -> Result<String, AllocError> {
-    let mut text = String::new(alloc);
-    for key in keys {
-        add_key(alloc, &mut text, key)?;
-    }
-    mark_vacant(&mut text)?;
-    Ok(text)
-}
-
 fn listed<S: ObjectStore>(
     alloc: Global,
     store: &mut S,
     prefix: &Key,
     after: Option<&Key>,
 ) -> Result<String, AllocError> {
-    match store.list(alloc, prefix, after, 2) {
-        Ok(keys) => keys_text(alloc, keys.as_slice()),
-        Err(_) => failed(alloc, store.faults()),
+    let Ok(keys) = store.list(alloc, prefix, after, 2) else {
+        return failed(alloc, store.faults());
+    };
+    let mut words = Vec::new(alloc);
+    for key in keys.as_slice() {
+        words.push(String::from_utf8_lossy(alloc, key.as_bytes())?)?;
     }
+    joined(alloc, words.as_slice())
 }
 
 // What is asked of a store, by a key and what stands behind it.
@@ -136,43 +124,6 @@ fn stored<S: ObjectStore>(
     }
 }
 
-fn add_record(alloc: Global, text: &mut String, record: &[u8]) -> Result<(), AllocError> {
-    let record = String::from_utf8_lossy(alloc, record)?;
-    add_word(text, "[")?;
-    text.push_str(record.as_str())?;
-    text.push(']')
-}
-
-fn records_text(alloc: Global, records: &Records) -> Result<String, AllocError> {
-    let mut text = String::new(alloc);
-    for record in records.list.as_slice() {
-        add_record(alloc, &mut text, record.as_slice())?;
-    }
-    add_word(&mut text, if records.end { "end" } else { "more" })?;
-    Ok(text)
-}
-
-fn add_name(alloc: Global, text: &mut String, name: &Partition) -> Result<(), AllocError> {
-    let word = format!(in alloc; "{name}")?;
-    add_word(text, word.as_str())
-}
-
-fn names_text(alloc: Global, names: &[Partition]) -> Result<String, AllocError> {
-    let mut text = String::new(alloc);
-    for name in names {
-        add_name(alloc, &mut text, name)?;
-    }
-    mark_vacant(&mut text)?;
-    Ok(text)
-}
-
-fn partitions<L: SourceLog>(alloc: Global, log: &mut L) -> Result<String, AllocError> {
-    match log.partitions(alloc) {
-        Ok(names) => names_text(alloc, names.as_slice()),
-        Err(_) => failed(alloc, log.faults()),
-    }
-}
-
 fn read<L: SourceLog>(
     alloc: Global,
     log: &mut L,
@@ -182,10 +133,16 @@ fn read<L: SourceLog>(
 ) -> Result<String, AllocError>
     requires { 1 ≤ max }
 {
-    match log.read(alloc, partition, from, max) {
-        Ok(records) => records_text(alloc, &records),
-        Err(_) => failed(alloc, log.faults()),
+    let Ok(records) = log.read(alloc, partition, from, max) else {
+        return failed(alloc, log.faults());
+    };
+    let mut words = Vec::new(alloc);
+    for record in records.list.as_slice() {
+        let text = String::from_utf8_lossy(alloc, record.as_slice())?;
+        words.push(format!(in alloc; "[{text}]")?)?;
     }
+    words.push(String::from_str(alloc, if records.end { "end" } else { "more" })?)?;
+    joined(alloc, words.as_slice())
 }
 
 // What is asked of a log.
@@ -196,7 +153,14 @@ fn logged<L: SourceLog>(
     rest: &str,
 ) -> Result<String, AllocError> {
     if asked == "partitions" {
-        return partitions(alloc, log);
+        let Ok(names) = log.partitions(alloc) else {
+            return failed(alloc, log.faults());
+        };
+        let mut words = Vec::new(alloc);
+        for name in names.as_slice() {
+            words.push(format!(in alloc; "{name}")?)?;
+        }
+        return joined(alloc, words.as_slice());
     }
     let mut words = rest.split(' ');
     let Ok(partition) = Partition::from_text(words.next().unwrap_or("")) else {
@@ -224,37 +188,6 @@ fn laid<F: Files>(files: &F, alloc: Global, asked: &str, rest: &str) -> io::Resu
     Ok(String::from_str(alloc, "ok")?)
 }
 
-// What a line is answered.
-fn answered<F: Files, S: ObjectStore, L: SourceLog>(
-    files: &F,
-    alloc: Global,
-    store: &mut S,
-    log: &mut L,
-    asked: &str,
-    rest: &str,
-) -> io::Result<String> {
-    match asked {
-        "folder" | "file" => laid(files, alloc, asked, rest),
-        "partitions" | "read" => Ok(logged(alloc, log, asked, rest)?),
-        _ => Ok(stored(alloc, store, asked, rest)?),
-    }
-}
-
-fn answer_line<Rt: Threads + Sync + Print + Files, S: ObjectStore, L: SourceLog>(
-    rt: &Rt,
-    alloc: Global,
-    store: &mut S,
-    log: &mut L,
-    line: &str,
-) -> io::Result<()> {
-    let (asked, rest) = line.split_once(' ').unwrap_or((line, ""));
-    if asked == "faults" {
-        return play_table(rt, alloc, number(Some(rest)).max(1));
-    }
-    let answer = answered(rt, alloc, store, log, asked, rest)?;
-    println!(rt; "{answer}")
-}
-
 // Answers the lines of the standard input.
 fn answer_all<Rt: Threads + Sync + Input + Print + Files, S: ObjectStore, L: SourceLog>(
     rt: &Rt,
@@ -264,7 +197,17 @@ fn answer_all<Rt: Threads + Sync + Input + Print + Files, S: ObjectStore, L: Sou
 ) -> io::Result<()> {
     for line in rt.lines(alloc) {
         let line = line?;
-        answer_line(rt, alloc, store, log, line.as_str())?;
+        let (asked, rest) = line.split_once(' ').unwrap_or((line.as_str(), ""));
+        if asked == "faults" {
+            play_table(rt, alloc, number(Some(rest)).max(1))?;
+            continue;
+        }
+        let answer = match asked {
+            "folder" | "file" => laid(rt, alloc, asked, rest)?,
+            "partitions" | "read" => logged(alloc, log, asked, rest)?,
+            _ => stored(alloc, store, asked, rest)?,
+        };
+        println!(rt; "{answer}")?;
     }
     Ok(())
 }
@@ -280,19 +223,9 @@ fn store_of<'a>(
     }
 }
 
-// Answers all over the objects that a word names. The system is the runtime itself, whose leave to start threads is its own.
-fn answer_over<Rt: Threads + Sync + Input + Print + Files, L: SourceLog>(
-    rt: &Rt,
-    system: &HostRuntime,
-    word: Option<&str>,
-    log: &mut L,
-) -> io::Result<()> {
-    let mut store = store_of(system, word)?;
-    answer_all(rt, system.alloc(), &mut store, log)
-}
-
 fn main(rt: HostRuntime) -> io::Result<()> {
     let word = env::args(&rt)?.nth(1);
     let mut log = FileLog::over(rt.alloc(), &rt, "logs")?;
-    answer_over(&rt, &rt, word.as_deref(), &mut log)
+    let mut store = store_of(&rt, word.as_deref())?;
+    answer_all(&rt, rt.alloc(), &mut store, &mut log)
 }

@@ -60,9 +60,7 @@ pub struct State {
     struck: bool,
     keeps_files: bool,
     /// A name that no listing gives, as one that was made while the listing went on.
-    overlooked: Option<&'static str>,
-    /// A path that nobody may open.
-    closed: Option<&'static str>,
+    overlooked: Option<String>,
 }
 
 /// A file system in memory, which what is opened on it shares.
@@ -108,9 +106,21 @@ impl Content {
 impl MemoryDisk {
     /// A disk with one folder that is empty, the one in which all paths begin.
     pub fn vacant(alloc: Global) -> Result<MemoryDisk, AllocError> {
-        let state = State::over(alloc, root(alloc)?);
+        let mut nodes = Vec::new(alloc);
+        nodes.push(Node::Folder(Vec::new(alloc)))?;
+        let state = RefCell::new(State {
+            alloc,
+            nodes,
+            locked: Vec::new(alloc),
+            calls: 0,
+            changes: 0,
+            plan: None,
+            struck: false,
+            keeps_files: false,
+            overlooked: None,
+        });
         Ok(MemoryDisk {
-            state: Rc::new(alloc, RefCell::new(state))?,
+            state: Rc::new(alloc, state)?,
         })
     }
 
@@ -125,115 +135,56 @@ impl MemoryDisk {
     pub fn state(&self) -> io::Result<RefMut<'_, State>> {
         Ok(self.state.try_borrow_mut()?)
     }
-
-    /// From here on calls fail by this plan. The count of calls begins anew.
-    pub fn follow(&self, plan: Option<Plan>) -> io::Result<()> {
-        self.state()?.follow(plan);
-        Ok(())
-    }
-
-    /// Nothing fails from here on. How many calls were made by the plan, and whether one went as it says.
-    pub fn end_plan(&self) -> io::Result<(u64, bool)> {
-        Ok(self.state()?.end_plan())
-    }
-
-    /// From here on each removal of a file is refused, or none.
-    pub fn keep_files(&self, keeps: bool) -> io::Result<()> {
-        let mut state = self.state()?;
-        state.keeps_files = keeps;
-        Ok(())
-    }
-
-    /// From here on no listing gives a name.
-    pub fn overlook(&self, name: &'static str) -> io::Result<()> {
-        let mut state = self.state()?;
-        state.overlooked = Some(name);
-        Ok(())
-    }
-
-    /// From here on nobody may open a path, if there is one.
-    pub fn close(&self, path: Option<&'static str>) -> io::Result<()> {
-        let mut state = self.state()?;
-        state.closed = path;
-        Ok(())
-    }
-
-    /// How often a name was given or taken, or a file was written to.
-    pub fn changes(&self) -> io::Result<u64> {
-        Ok(self.state()?.changes)
-    }
-
-    /// Whether calls succeed from here on.
-    pub fn is_sound(&self) -> io::Result<bool> {
-        Ok(self.state()?.is_sound())
-    }
-
-    /// Whether every call fails from here on.
-    pub fn is_dead(&self) -> io::Result<bool> {
-        Ok(self.state()?.is_dead())
-    }
-
-    /// The power goes and comes back.
-    pub fn lose(&self, left: Left) -> io::Result<()> {
-        self.state()?.lose(left)
-    }
-}
-
-// The folder in which all paths begin.
-fn root(alloc: Global) -> Result<Vec<Node>, AllocError> {
-    let mut nodes = Vec::new(alloc);
-    nodes.push(Node::Folder(Vec::new(alloc)))?;
-    Ok(nodes)
 }
 
 impl State {
-    fn over(alloc: Global, nodes: Vec<Node>) -> State {
-        State {
-            alloc,
-            nodes,
-            locked: Vec::new(alloc),
-            calls: 0,
-            changes: 0,
-            plan: None,
-            struck: false,
-            keeps_files: false,
-            overlooked: None,
-            closed: None,
-        }
-    }
-
-    fn follow(&mut self, plan: Option<Plan>) {
+    /// From here on calls fail by this plan. The count of calls begins anew.
+    pub fn follow(&mut self, plan: Option<Plan>) {
         self.plan = plan;
         self.calls = 0;
         self.struck = false;
     }
 
-    fn end_plan(&mut self) -> (u64, bool) {
-        let ended = (self.calls, self.struck);
-        self.follow(None);
-        ended
+    /// From here on each removal of a file is refused, or none.
+    pub fn keep_files(&mut self, keeps: bool) {
+        self.keeps_files = keeps;
+    }
+
+    /// From here on no listing gives a name.
+    pub fn overlook(&mut self, text: &str) -> Result<(), AllocError> {
+        self.overlooked = Some(String::from_str(self.alloc, text)?);
+        Ok(())
     }
 
     fn is_overlooked(&self, text: &str) -> bool {
-        match self.overlooked {
-            Some(overlooked) => overlooked == text,
+        match &self.overlooked {
+            Some(overlooked) => overlooked.as_str() == text,
             None => false,
         }
     }
 
-    /// Whether nobody may open a path.
-    pub fn is_closed(&self, path: &str) -> bool {
-        match self.closed {
-            Some(closed) => closed == path,
-            None => false,
-        }
+    /// How many calls were made since the plan began.
+    pub fn calls(&self) -> u64 {
+        self.calls
     }
 
-    fn is_sound(&self) -> bool {
+    /// How often a name was given or taken, or a file was written to.
+    pub fn changes(&self) -> u64 {
+        self.changes
+    }
+
+    /// Whether calls succeed from here on.
+    pub fn is_sound(&self) -> bool {
         !self.is_dead() && !self.keeps_files
     }
 
-    fn is_dead(&self) -> bool {
+    /// Whether a call went as the plan says.
+    pub fn is_struck(&self) -> bool {
+        self.struck
+    }
+
+    /// Whether every call fails from here on.
+    pub fn is_dead(&self) -> bool {
         match self.plan {
             Some(plan) => plan.is_dead(self.calls),
             None => false,
@@ -427,7 +378,8 @@ impl State {
         Ok(())
     }
 
-    fn lose(&mut self, left: Left) -> io::Result<()> {
+    /// The power goes and comes back.
+    pub fn lose(&mut self, left: Left) -> io::Result<()> {
         for node in self.nodes.iter_mut() {
             match node {
                 Node::File(content) => content.lose()?,

@@ -1,7 +1,7 @@
 //! What is wrong with a row of the table.
 
 use std::alloc::{AllocError, AllocFailed, Global};
-use std::io::{self, ErrorKind};
+use std::io;
 
 /// Why a life is not as it is to be.
 #[derive(Drop)]
@@ -10,7 +10,7 @@ pub enum Wrong {
     /// What was seen that is not to be.
     Seen(String),
     /// The disk was not looked at.
-    Disk(ErrorKind),
+    Disk(io::Error),
 }
 
 impl From<AllocError> for Wrong {
@@ -27,7 +27,7 @@ impl<T: Drop> From<AllocFailed<T>> for Wrong {
 
 impl From<io::Error> for Wrong {
     fn from(fault: io::Error) -> Wrong {
-        Wrong::Disk(fault.kind())
+        Wrong::Disk(fault)
     }
 }
 
@@ -44,19 +44,7 @@ impl Wrong {
         match self {
             Wrong::Memory => String::from_str(alloc, "no memory"),
             Wrong::Seen(text) => String::from_str(alloc, text.as_str()),
-            Wrong::Disk(kind) => {
-                let fault = io::Error::from(*kind);
-                format!(in alloc; "the disk: {fault}")
-            }
+            Wrong::Disk(fault) => format!(in alloc; "the disk: {fault}"),
         }
-    }
-}
-
-/// A thing is to be so.
-pub fn require(alloc: Global, holds: bool, thing: &str, what_else: &str) -> Result<(), Wrong> {
-    if holds {
-        Ok(())
-    } else {
-        Err(Wrong::seen(alloc, thing, what_else))
     }
 }
