@@ -1,5 +1,5 @@
 -- Which lists of fields are a schema, and which documents are of a schema.
-use Rattle.std.specs.Prelude.{◌≡◌, ℕ, suc, true, ◌<◌, ◌≤◌, List, [], ◌∷◌, length, slice_get, if◌then◌else◌, IfSome, MatchOption, Option, Some, None}
+use Rattle.std.specs.Prelude.{◌≡◌, ℕ, suc, nat_eq, true, false, ◌<◌, ◌≤◌, List, [], ◌∷◌, ◌++◌, length, take, drop, slice_get, if◌then◌else◌, IfSome, MatchOption, Option, Some, None}
 use Rattle.std.specs.Ordering.{nat_cmp}
 use Rattle.std.specs.Str.{bytes_eq}
 use Rattle.std.specs.Cmp.Lexicographic.{slice_cmp}
@@ -8,6 +8,7 @@ use Rattle.doc_value.specs.declared.schema.Field.{Field}
 use Rattle.doc_value.specs.declared.schema.Kind.{Kind}
 use Rattle.doc_value.specs.declared.schema.Kind.TheVariants as kinds
 use Rattle.doc_value.specs.declared.schema.Schema.{Schema}
+use Rattle.doc_value.specs.declared.schema.Tokenizer.TheVariants as tokenizers
 use Rattle.doc_value.specs.declared.doc.Value.{Value}
 use Rattle.doc_value.specs.declared.doc.Value.TheVariants as values
 use Rattle.doc_value.specs.declared.doc.DocField.{DocField}
@@ -31,11 +32,33 @@ abbrev pub IsTimestamp : List Field → ℕ → Type 0
 IsTimestamp fields number =
     MatchOption (slice_get fields number) ⊥ (λ f. (f.kind ≡ kinds.Datetime) × (f.fast ≡ true))
 
--- at most 256 fields whose paths rise in byte order, and the number of a fast datetime field if there is a timestamp
+-- the field that holds what is not mapped: a list of texts, each one token, and no more than its terms is kept of it
+abbrev pub IsDynamic : List Field → ℕ → Type 0
+IsDynamic fields number = MatchOption (slice_get fields number) ⊥ (λ f.
+    (f.kind ≡ kinds.TextList) × (f.tokenizer ≡ tokenizers.Raw) × (f.indexed ≡ true) × (f.fast ≡ false) × (f.tag ≡ false) × (f.positions ≡ false))
+
+-- at most 256 fields whose paths rise in byte order, the number of a fast datetime field if there is a timestamp, and that of a
+-- field for what is not mapped if there is one
 pub record IsSchema (schema : Schema) : Type 0 where
   pub few : length schema.fields ≤ max_fields
   pub rise : PathsRise schema.fields
   pub timestamp : IfSome schema.timestamp (IsTimestamp schema.fields)
+  pub dynamic : IfSome schema.dynamic (IsDynamic schema.fields)
+
+-- the fields but the one of this number
+abbrev pub but_one : Option ℕ → List Field → List Field
+but_one None fields = fields
+but_one (Some n) fields = take n fields ++ drop (suc n) fields
+
+-- the fields that are mapped: all but the one that holds what is not
+abbrev pub mapped_fields : Schema → List Field
+mapped_fields schema = but_one schema.dynamic schema.fields
+
+-- a number unless it is that one
+abbrev pub but_number : Option ℕ → Option ℕ → Option ℕ
+but_number o None = None
+but_number None (Some n) = Some n
+but_number (Some m) (Some n) = if nat_eq m n then None else Some n
 
 -- a value is of its field's kind
 abbrev pub IsOfKind : Kind → Value → Type 0

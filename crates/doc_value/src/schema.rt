@@ -53,11 +53,13 @@ impl Replica for Field {
 /// Fields, which are named by their places from 0 on.
 pub type Fields = List<Field>;
 
-/// The fields of an index in byte order of their paths, at most 256, and the number of the timestamp field, if any.
+/// The fields of an index in byte order of their paths, at most 256, the number of the timestamp field, if any, and that of the
+/// field that holds what no other field takes, if any.
 #[derive(Drop)]
 pub struct Schema {
     pub fields: Fields,
     pub timestamp: Option<usize>,
+    pub dynamic: Option<usize>,
 }
 
 impl Schema {
@@ -87,6 +89,7 @@ impl Replica for Schema {
         Ok(Schema {
             fields: self.fields.copy(alloc)?,
             timestamp: self.timestamp,
+            dynamic: self.dynamic,
         })
     }
 }
