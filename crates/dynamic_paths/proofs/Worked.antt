@@ -19,7 +19,7 @@ field path = record { path = path; kind = kinds.Text; fast = false; indexed = tr
 
 -- a field of the record itself, and one in an object within an object
 abbrev schema : Schema
-schema = record { fields = field (codes "body") ∷ field (codes "o.p.q") ∷ []; timestamp = None }
+schema = record { fields = field (codes "body") ∷ field (codes "o.p.q") ∷ []; timestamp = None; dynamic = None }
 
 -- the leaf texts of a record in JSON
 abbrev kept : List ℕ → Option (Result (List (List ℕ)) LeafFault)

@@ -78,6 +78,7 @@ schema-fits root raws h =
       few = fields-few (tags_of root) raws h.1;
       rise = fields-rise (tags_of root) (in_order raws) (ordered-rises raws own);
       timestamp = timestamp-fits (timestamp_path root) (tags_of root) raws own h.2;
+      dynamic = tt;
     }
 
 root-schema : (root : Data) (config : IndexConfig) → IsRootOf root config → IsSchema config.schema

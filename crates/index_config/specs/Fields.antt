@@ -333,7 +333,7 @@ policy_in None = merging.StableLog 100000 10 12 172800
 policy_in (Some d) = policy_by_type (policy_type d) d
 
 abbrev pub schema_with : List Field → Option (List ℕ) → Schema
-schema_with fields path = record { fields = fields; timestamp = number_named fields path }
+schema_with fields path = record { fields = fields; timestamp = number_named fields path; dynamic = None }
 
 abbrev pub schema_of : Data → List RawField → Schema
 schema_of root raws = schema_with (fields_of (items_in (in_mapping (codes "tag_fields") root)) (in_order raws)) (timestamp_path root)

@@ -25,7 +25,7 @@ StaysConfigured entries more = (config : IndexConfig) → configuration entries 
 abbrev pub no_fields : IndexConfig
 no_fields =
     record {
-      schema = record { fields = []; timestamp = None };
+      schema = record { fields = []; timestamp = None; dynamic = None };
       mode = Strict;
       timestamp_field = None;
       formats = [];

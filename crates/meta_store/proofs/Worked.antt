@@ -15,7 +15,7 @@ use Rattle.meta_store.specs.State.{Legal}
 config : IndexConfig
 config =
     record {
-      schema = record { fields = []; timestamp = None };
+      schema = record { fields = []; timestamp = None; dynamic = None };
       mode = Strict;
       timestamp_field = None;
       formats = [];

@@ -37,6 +37,7 @@ logs_index =
             record { path = codes "body"; kind = kinds.Text; fast = false; indexed = true; tag = false; tokenizer = tokenizers.Default; positions = true }
             ∷ record { path = codes "level"; kind = kinds.Text; fast = true; indexed = true; tag = false; tokenizer = tokenizers.Raw; positions = false } ∷ [];
         timestamp = None;
+        dynamic = None;
       };
       mode = Strict;
       timestamp_field = None;

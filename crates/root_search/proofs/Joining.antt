@@ -65,7 +65,7 @@ none_joined s r all a none = record { count = a.count; drawn = ([], subst (λ (h
 
 -- nothing matches among no documents, under whatever schema
 pub vacant_joined : (r : LeafRequest) (all : LeafAnswer) → ((s : Schema) → IsAnswerOf s r [] all) → all.hits ≡ [] → AreJoined r [] all
-vacant_joined r all only none = none_joined (record { fields = []; timestamp = None }) r all (only (record { fields = []; timestamp = None })) none
+vacant_joined r all only none = none_joined (record { fields = []; timestamp = None; dynamic = None }) r all (only (record { fields = []; timestamp = None; dynamic = None })) none
 
 pub pair_joined : (r : LeafRequest) (one other joined : LeafAnswer) → joined.count ≡ one.count + other.count → AreSomeOf joined.hits (one.hits ++ other.hits)
     → ((xs ys : List Placed) → one.hits ≡ firsts r.wanted r.order xs → other.hits ≡ firsts r.wanted r.order ys → joined.hits ≡ firsts r.wanted r.order (xs ++ ys))

@@ -63,6 +63,7 @@ numbered =
     record {
       fields = record { path = codes "n"; kind = kinds.U64; fast = true; indexed = true; tag = false; tokenizer = tokenizers.Default; positions = false } ∷ [];
       timestamp = None;
+      dynamic = None;
     }
 
 -- three match, and the last of them is shown

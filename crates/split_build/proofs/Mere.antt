@@ -5,8 +5,9 @@ use Rattle.std.specs.Coded.{×_prop, Unit-prop}
 use Rattle.std.specs.Prelude.{slice_get, slice_index, MatchOption, IfSome}
 use Rattle.std.specs.List.{AllByRecursion}
 use base.Stored.{Coded-set}
-use Rattle.doc_value.specs.Documents.{IsBefore, PathsRise, IsTimestamp, IsSchema, max_fields}
+use Rattle.doc_value.specs.Documents.{IsBefore, PathsRise, IsTimestamp, IsDynamic, IsSchema, max_fields}
 use Rattle.doc_value.specs.contracts.schema.Kind as kind_row
+use Rattle.doc_value.specs.contracts.schema.Tokenizer as tokenizer_row
 use Rattle.doc_value.specs.declared.doc.DocField.{DocField}
 use Rattle.doc_value.specs.declared.doc.Value.{Value}
 use Rattle.doc_value.specs.declared.doc.Value.TheVariants as values
@@ -14,6 +15,8 @@ use Rattle.doc_value.specs.declared.schema.Field.{Field}
 use Rattle.doc_value.specs.declared.schema.Kind.{Kind}
 use Rattle.doc_value.specs.declared.schema.Kind.TheVariants as kinds
 use Rattle.doc_value.specs.declared.schema.Schema.{Schema}
+use Rattle.doc_value.specs.declared.schema.Tokenizer.{Tokenizer}
+use Rattle.doc_value.specs.declared.schema.Tokenizer.TheVariants as tokenizers
 use Rattle.fast_fields.specs.Columns.{DocumentsRise, Fits, TextsRise}
 use Rattle.fast_fields.specs.declared.entries.Entry.{Entry}
 use Rattle.query_ast.specs.Meaning.{values_in}
@@ -100,6 +103,9 @@ short_prop doc a b = λ i n. short_values (values_in doc n) (a n) (b n) i
 Kind-set : IsSet Kind
 Kind-set = Coded-set kind_row.the_row.coded
 
+Tokenizer-set : IsSet Tokenizer
+Tokenizer-set = Coded-set tokenizer_row.the_row.coded
+
 before_prop : (a b : List ℕ) → IsProp (IsBefore a b)
 before_prop a b = hlevel props
 
@@ -116,9 +122,19 @@ timestamp_prop : (fields : List Field) (o : Option ℕ) → IsProp (IfSome o (Is
 timestamp_prop fields None = hlevel props
 timestamp_prop fields (Some number) = stamp_prop (slice_get fields number)
 
+unmapped_prop : (o : Option Field) → IsProp (MatchOption o ⊥ (λ f.
+    (f.kind ≡ kinds.TextList) × (f.tokenizer ≡ tokenizers.Raw) × (f.indexed ≡ true) × (f.fast ≡ false) × (f.tag ≡ false) × (f.positions ≡ false)))
+unmapped_prop None = hlevel props
+unmapped_prop (Some f) = hlevel (Kind-set, Tokenizer-set, props)
+
+dynamic_prop : (fields : List Field) (o : Option ℕ) → IsProp (IfSome o (IsDynamic fields))
+dynamic_prop fields None = hlevel props
+dynamic_prop fields (Some number) = unmapped_prop (slice_get fields number)
+
 pub schema_prop : (s : Schema) → IsProp (IsSchema s)
 schema_prop s a b = λ i. record {
   few = le_prop (length s.fields) max_fields a.few b.few i;
   rise = paths_prop s.fields a.rise b.rise i;
   timestamp = timestamp_prop s.fields s.timestamp a.timestamp b.timestamp i;
+  dynamic = dynamic_prop s.fields s.dynamic a.dynamic b.dynamic i;
 }

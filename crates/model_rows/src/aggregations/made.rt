@@ -39,5 +39,6 @@ pub fn schema(alloc: Global, kind: Kind, fast: bool) -> Result<Schema, AllocErro
     Ok(Schema {
         fields: Fields::one(alloc, field)?,
         timestamp: None,
+        dynamic: None,
     })
 }

@@ -34,6 +34,7 @@ fn config(alloc: Global) -> IndexConfig {
         schema: Schema {
             fields: Fields::vacant(alloc),
             timestamp: None,
+            dynamic: None,
         },
         mode: Mode::Strict,
         timestamp_field: None,
@@ -132,6 +133,7 @@ fn covered(alloc: Global, meta: &Meta, numbers: &[u64]) -> Result<String, AllocE
     let schema = Schema {
         fields: Fields::vacant(alloc),
         timestamp: None,
+        dynamic: None,
     };
     let upto = numbers.get(1).copied().unwrap_or(0);
     let is_covered = covers(

@@ -43,5 +43,6 @@ pub fn schema(alloc: Global) -> Result<Schema, AllocError> {
     Ok(Schema {
         fields,
         timestamp: Some(6),
+        dynamic: None,
     })
 }

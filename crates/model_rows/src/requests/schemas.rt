@@ -36,5 +36,6 @@ pub fn logs(alloc: Global) -> Result<Schema, AllocError> {
     Ok(Schema {
         fields,
         timestamp: None,
+        dynamic: None,
     })
 }

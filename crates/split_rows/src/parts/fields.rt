@@ -11,6 +11,7 @@ pub fn schema(alloc: Global) -> Result<Schema, AllocError> {
     Ok(Schema {
         fields,
         timestamp: None,
+        dynamic: None,
     })
 }
 

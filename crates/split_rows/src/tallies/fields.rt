@@ -28,5 +28,6 @@ pub fn schema(alloc: Global) -> Result<Schema, AllocError> {
     Ok(Schema {
         fields,
         timestamp: Some(2),
+        dynamic: None,
     })
 }
