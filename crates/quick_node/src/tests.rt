@@ -326,7 +326,7 @@ struct Ended {
 
 impl Ended {
     fn written(&self) -> &[u8] {
-        self.output.content().as_slice()
+        self.output.content()
     }
 }
 
