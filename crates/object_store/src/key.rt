@@ -11,7 +11,7 @@ use thiserror::Error;
 
 const KEY_SIZE: usize = 128;
 
-/// A key: 1 to 128 bytes of lower-case letters, digits, `/` and `-`. Contracts see it as the list of its bytes.
+/// A key: 1 to 128 bytes of lower-case letters, digits, `/` and `-`, always. Contracts see it as the list of its bytes.
 pub struct Key {
     bytes: [u8; 128],
     len: usize,
@@ -33,11 +33,12 @@ impl Model for Key {
 
     ghost Value = { List ℕ };
 
+    ghost use Rattle.object_store.specs.Key.{IsKey};
     ghost use Rattle.object_store.specs.KeyFields.{key_again};
 
     ghost view = { λ k. take k.len k.bytes };
 
-    ghost invariant = { λ k. (k.len ≤ 128) × (length k.bytes ≡ 128) × (drop k.len k.bytes ≡ replicate (128 - k.len) 0) };
+    ghost invariant = { λ k. (k.len ≤ 128) × (length k.bytes ≡ 128) × (drop k.len k.bytes ≡ replicate (128 - k.len) 0) × IsKey (take k.len k.bytes) };
 
     ghost inverse = { λ v. record { bytes = v ++ replicate (128 - length v) 0; len = length v } };
 
@@ -96,7 +97,8 @@ impl Key {
     }
 
     pub fn as_bytes(&self) -> &[u8]
-        ensures { result.now ≡ self.now }
+        ensures bytes { result.now ≡ self.now }
+        ensures key { IsKey result.now }
     {
         &self.bytes[..self.len]
     }
