@@ -4,16 +4,19 @@ use Rattle.std.specs.Prelude.{codes}
 use Rattle.toml.specs.Data.{Data, Items}
 use Rattle.doc_value.specs.Documents.{IsSchema}
 use Rattle.index_config.specs.declared.config.IndexConfig.{IndexConfig}
+use Rattle.index_config.specs.declared.config.Mode.TheVariants as modes
 use Rattle.index_config.specs.declared.config_error.ConfigError.{ConfigError}
 use Rattle.index_config.specs.declared.raw.RawField.{RawField}
 use Rattle.index_config.specs.declared.raw.Purpose.TheVariants as purposes
-use Rattle.index_config.specs.Accepted.{AreNumbers, AreNamed, BeginPlain, AreTags, AreTextFields}
+use Rattle.index_config.specs.Accepted.{AreNumbers, AreNamed, BeginPlain, AreTags, AreTextFields, HoldsUnmapped, AreOutside, IsOutside}
 use Rattle.index_config.specs.Answer.{config_answer, root_of, read_answer, config_faults, first_answer}
 use Rattle.index_config.specs.Tables.{table_faults, items_in}
-use Rattle.index_config.specs.Fields.{all_raws, whole_faults, config_of, duplicate_faults, field_count, count_faults, timestamp_faults, timestamp_path, reference_faults, tags_path, defaults_path, search_list, mode_faults, mode_of, in_mapping, in_order, schema_of}
+use Rattle.index_config.specs.Fields.{all_raws, whole_faults, config_of, duplicate_faults, field_count, count_faults, timestamp_faults, timestamp_path, reference_faults, tags_path, defaults_path, search_list, mode_of, dynamic_raws, mapped_raws, in_mapping, in_order, schema_of}
 use Rattle.index_config.proofs.Distinct.{AreDistinct, both-empty, distinct}
 use Rattle.index_config.proofs.Rising.{ordered-rises, fields-rise, fields-few, formats-length}
-use Rattle.index_config.proofs.Named.{fields-named, fields-plain}
+use Rattle.index_config.proofs.Named.{fields-named, fields-plain, fields-paths}
+use Rattle.index_config.proofs.Unmapped.{dynamic-fits, dynamic-holds, dynamic-free}
+use Rattle.index_config.proofs.Within.{all-outside}
 use Rattle.index_config.proofs.Serving.{timestamp-fits, numbers-fit, texts-fit, tags-fit}
 
 -- a table without faults, and the configuration that it gives
@@ -35,7 +38,7 @@ root-ok (Some root) config e =
 pub accepted-root : (text : List ℕ) (config : IndexConfig) → config_answer text ≡ Ok config → (root : Data) × IsRootOf root config
 accepted-root text config e = root-ok (root_of text) config e
 
--- what could be wrong with the whole, up to the count of fields, the timestamp, the tag fields and the default fields
+-- what could be wrong with the whole, up to the count of fields, the timestamp and the tag fields
 abbrev counted_faults : Data → List RawField → List ConfigError
 counted_faults root raws = duplicate_faults [] raws ++ count_faults (field_count raws)
 
@@ -46,10 +49,6 @@ abbrev tagged_faults : Data → List RawField → List ConfigError
 tagged_faults root raws =
     timed_faults root raws ++ reference_faults purposes.Tag raws tags_path 0 (items_in (in_mapping (codes "tag_fields") root))
 
-abbrev named_faults : Data → List RawField → List ConfigError
-named_faults root raws =
-    tagged_faults root raws ++ reference_faults purposes.Default raws defaults_path 0 (items_in (search_list root))
-
 -- each of the five is empty where the whole is
 abbrev NothingWrong : Data → List RawField → Type 0
 NothingWrong root raws =
@@ -59,8 +58,7 @@ NothingWrong root raws =
 
 nothing-wrong : (root : Data) (raws : List RawField) → whole_faults root raws ≡ [] → NothingWrong root raws
 nothing-wrong root raws e =
-    let named = both-empty (named_faults root raws) (mode_faults (mode_of root)) e in
-    let tagged = both-empty (tagged_faults root raws) (reference_faults purposes.Default raws defaults_path 0 (items_in (search_list root))) named.0 in
+    let tagged = both-empty (tagged_faults root raws) (reference_faults purposes.Default raws defaults_path 0 (items_in (search_list root))) e in
     let timed =
     both-empty (timed_faults root raws) (reference_faults purposes.Tag raws tags_path 0 (items_in (in_mapping (codes "tag_fields") root))) tagged.0 in
     let counted = both-empty (counted_faults root raws) (timestamp_faults (timestamp_path root) raws) timed.0 in
@@ -71,19 +69,20 @@ nothing-wrong root raws e =
 abbrev tags_of : Data → Items
 tags_of root = items_in (in_mapping (codes "tag_fields") root)
 
-schema-fits : (root : Data) (raws : List RawField) → NothingWrong root raws → IsSchema (schema_of root raws)
-schema-fits root raws h =
+schema-fits : (root : Data) → NothingWrong root (all_raws root) → IsSchema (schema_of root (all_raws root))
+schema-fits root h =
+    let raws : List RawField = all_raws root in
     let own : AreDistinct raws = (distinct [] raws h.0).0 in
     record {
       few = fields-few (tags_of root) raws h.1;
       rise = fields-rise (tags_of root) (in_order raws) (ordered-rises raws own);
       timestamp = timestamp-fits (timestamp_path root) (tags_of root) raws own h.2;
-      dynamic = tt;
+      dynamic = dynamic-fits (mode_of root) (tags_of root) (mapped_raws root) tags_path own h.3;
     }
 
 root-schema : (root : Data) (config : IndexConfig) → IsRootOf root config → IsSchema config.schema
 root-schema root config h =
-    subst (λ (c : IndexConfig). IsSchema c.schema) h.2 (schema-fits root (all_raws root) (nothing-wrong root (all_raws root) h.1))
+    subst (λ (c : IndexConfig). IsSchema c.schema) h.2 (schema-fits root (nothing-wrong root (all_raws root) h.1))
 
 pub accepted-schema : (text : List ℕ) (config : IndexConfig) → config_answer text ≡ Ok config → IsSchema config.schema
 accepted-schema text config e = let found = accepted-root text config e in root-schema found.0 config found.1
@@ -129,3 +128,21 @@ accepted-texts text config e =
     let none = nothing-wrong found.0 raws found.1.1 in
     subst (λ (c : IndexConfig). AreTextFields c.schema.fields c.default_fields) found.1.2
     (texts-fit raws (distinct [] raws none.0).0 (tags_of found.0) defaults_path 0 (items_in (search_list found.0)) none.4)
+
+-- no path of such a table's fields is doubled
+root-distinct : (root : Data) → whole_faults root (all_raws root) ≡ [] → AreDistinct (dynamic_raws (mode_of root) ++ mapped_raws root)
+root-distinct root e = (distinct [] (all_raws root) (nothing-wrong root (all_raws root) e).0).0
+
+pub accepted-dynamic : (text : List ℕ) (config : IndexConfig) → config_answer text ≡ Ok config → HoldsUnmapped config.mode config.schema
+accepted-dynamic text config e =
+    let found = accepted-root text config e in
+    let root : Data = found.0 in
+    subst (λ (c : IndexConfig). HoldsUnmapped c.mode c.schema) found.1.2
+    (dynamic-holds (mode_of root) (tags_of root) (mapped_raws root) (timestamp_path root) (root-distinct root found.1.1))
+
+pub accepted-outside : (text : List ℕ) (config : IndexConfig) → config_answer text ≡ Ok config → config.mode ≡ modes.Dynamic → AreOutside config.schema.fields
+accepted-outside text config e =
+    let found = accepted-root text config e in
+    let root : Data = found.0 in
+    subst (λ (c : IndexConfig). c.mode ≡ modes.Dynamic → AreOutside c.schema.fields) found.1.2
+    (λ m. fields-paths IsOutside (tags_of root) (all_raws root) (all-outside root found.1.0 (dynamic-free (mode_of root) (mapped_raws root) (root-distinct root found.1.1) m)))

@@ -28,11 +28,11 @@ itself path = (bytes_eq-Decides path path).1 refl
 pub same-path : (a b : List ℕ) → bytes_eq a b ≡ true → a ≡ b
 same-path a b e = (bytes_eq-Decides a b).0 e
 
-or-none : (a b : Bool) → (a || b) ≡ false → (a ≡ false) × (b ≡ false)
+pub or-none : (a b : Bool) → (a || b) ≡ false → (a ≡ false) × (b ≡ false)
 or-none true b e = absurd (cc)
 or-none false b e = (refl, e)
 
-or-later : (a b : Bool) → b ≡ true → (a || b) ≡ true
+pub or-later : (a b : Bool) → b ≡ true → (a || b) ≡ true
 or-later true b e = refl
 or-later false b e = e
 

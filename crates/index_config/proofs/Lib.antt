@@ -8,6 +8,8 @@ pub mod Rising
 pub mod Serving
 pub mod Accepted
 pub mod Named
+pub mod Within
+pub mod Unmapped
 pub mod Ranges
 pub mod Asked
 pub mod References

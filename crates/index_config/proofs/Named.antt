@@ -15,10 +15,12 @@ use Rattle.index_config.specs.declared.raw.RawField.{RawField}
 use Rattle.index_config.specs.declared.rule.FieldType.{FieldType}
 use Rattle.index_config.specs.declared.rule.Rule.TheVariants as rules
 use Rattle.index_config.specs.declared.rule.Place.TheVariants as places
+use Rattle.index_config.specs.declared.config.Mode.{Mode}
+use Rattle.index_config.specs.declared.config.Mode.TheVariants as modes
 use Rattle.index_config.specs.declared.config_error.ConfigError.{ConfigError}
 use Rattle.index_config.specs.Rules.{under, member_path, is_name_byte, is_name_start, begins_as_name, is_field_name, wrong_unless, text_faults, scalar_faults, items_faults, list_faults}
 use Rattle.index_config.specs.Tables.{unknown_faults, members_in, asked, asked_value, required, optional, list_of, mappings_ask, text_in, items_in, type_of, is_object, field_faults, field_value_faults, field_note_faults, each_fault, inner_fields, member_at, fields_faults, where_table, optional_table, top_faults, mapping_faults, mapping_path, indexing_faults, indexing_path, search_faults, search_path, upkeep_faults, upkeep_path, table_faults}
-use Rattle.index_config.specs.Fields.{name_of, each_raw, inner_raws, raws_with, raw_member, raw_fields, in_option, all_raws, placed, sorted_by, in_order, field_of, fields_of}
+use Rattle.index_config.specs.Fields.{name_of, each_raw, inner_raws, raws_with, raw_member, in_option, in_mapping, mode_of, dynamic_path, dynamic_raws, mapped_raws, all_raws, placed, sorted_by, in_order, field_of, fields_of}
 use Rattle.index_config.specs.Accepted.{AreNamed, BeginsPlain, BeginPlain}
 use Rattle.index_config.proofs.Distinct.{both-empty}
 
@@ -29,13 +31,17 @@ IsNamed path = IsUtf8 path × (path ≢ []) × BeginsPlain path
 abbrev IsStart : List ℕ → Type 0
 IsStart path = IsUtf8 path × BeginsPlain path
 
-abbrev AreNamedRaws : List RawField → Type 0
-AreNamedRaws [] = Unit {0}
-AreNamedRaws (raw ∷ raws) = IsNamed raw.path × AreNamedRaws raws
+-- what holds of each path
+abbrev pub HavePaths : (List ℕ → Type 0) → List RawField → Type 0
+HavePaths P [] = Unit {0}
+HavePaths P (raw ∷ raws) = P raw.path × HavePaths P raws
 
-named-append : (xs ys : List RawField) → AreNamedRaws xs → AreNamedRaws ys → AreNamedRaws (xs ++ ys)
-named-append [] ys h k = k
-named-append (x ∷ xs) ys h k = (h.0, named-append xs ys h.1 k)
+pub paths-append : (P : List ℕ → Type 0) (xs ys : List RawField) → HavePaths P xs → HavePaths P ys → HavePaths P (xs ++ ys)
+paths-append P [] ys h k = k
+paths-append P (x ∷ xs) ys h k = (h.0, paths-append P xs ys h.1 k)
+
+abbrev AreNamedRaws : List RawField → Type 0
+AreNamedRaws raws = HavePaths IsNamed raws
 
 -- a name is of ASCII bytes
 name-byte : (c : ℕ) → is_name_byte c ≡ true → c < 128
@@ -70,15 +76,15 @@ passed true path e = refl
 passed false path e = absurd (cc)
 
 -- the name that is asked for
-name-text : (path : List ℕ) (o : Option (List ℕ)) → text_faults rules.FieldName path o ≡ [] → IsNamed (unwrap_or o [])
+name-text : (path : List ℕ) (o : Option (List ℕ)) → text_faults rules.FieldName path o ≡ [] → is_field_name (unwrap_or o []) ≡ true
 name-text path None e = absurd (cc)
-name-text path (Some text) e = named-text text (passed (is_field_name text) path e)
+name-text path (Some text) e = passed (is_field_name text) path e
 
-name-value : (path : List ℕ) (o : Option Data) → asked_value (required rules.FieldName) path o ≡ [] → IsNamed (unwrap_or (text_in o) [])
+name-value : (path : List ℕ) (o : Option Data) → asked_value (required rules.FieldName) path o ≡ [] → is_field_name (unwrap_or (text_in o) []) ≡ true
 name-value path None e = absurd (cc)
 name-value path (Some d) e = name-text path (as_str d) e
 
-name-asked : (place : List ℕ) (d : Data) → asked (required rules.FieldName) place (codes "name") d ≡ [] → IsNamed (name_of d)
+name-asked : (place : List ℕ) (d : Data) → asked (required rules.FieldName) place (codes "name") d ≡ [] → is_field_name (name_of d) ≡ true
 unfolding asked
 name-asked place d e = name-value (under place (codes "name")) (get (codes "name") d) e
 
@@ -126,7 +132,7 @@ parts-of-eight a b c d e f g i h =
 
 -- what a field's own keys give: its name, and the tables of its list
 field-parts : (deepest : Bool) (place : List ℕ) (d : Data) (t : Option FieldType) → field_faults deepest place d t ≡ []
-    → IsNamed (name_of d) × AreTables (items_in (get (codes "field_mappings") d))
+    → (is_field_name (name_of d) ≡ true) × AreTables (items_in (get (codes "field_mappings") d))
 field-parts deepest place d t e =
     let own =
     parts-of-six (unknown_faults (places.OfField t) place (members_in d)) (asked (required rules.FieldName) place (codes "name") d)
@@ -155,7 +161,7 @@ member-named : (deepest : Bool) (f : List ℕ → Items → List ConfigError) (g
 member-named deepest f g place path d by u e =
     let parts = both-empty (field_faults deepest place d (type_of d)) (inner_fields (is_object (type_of d)) f place d) e in
     let own = field-parts deepest place d (type_of d) parts.0 in
-    let named = under-named path (name_of d) u own.0 in
+    let named = under-named path (name_of d) u (named-text (name_of d) own.0) in
     (named, inner-named (is_object (type_of d)) f g place path d by (named.0, named.2) own.1 parts.1)
 
 each-named : (f : ℕ → Data → List ConfigError) (g : ℕ → Data → List RawField)
@@ -164,7 +170,7 @@ each-named : (f : ℕ → Data → List ConfigError) (g : ℕ → Data → List 
 each-named f g by n no_items t e = tt
 each-named f g by n (item d ds) t e =
     let parts = both-empty (f n d) (each_fault f (suc n) ds) e in
-    named-append (g n d) (each_raw g (suc n) ds) (by n d t.0 parts.0) (each-named f g by (suc n) ds t.1 parts.1)
+    paths-append IsNamed (g n d) (each_raw g (suc n) ds) (by n d t.0 parts.0) (each-named f g by (suc n) ds t.1 parts.1)
 
 member-at : (levels : ℕ) (list_place path : List ℕ) (n : ℕ) (d : Data) → IsStart path → is_some (as_table d) ≡ true
     → member_at levels list_place n d ≡ [] → AreNamedRaws (raw_member levels (member_path list_place n) path d)
@@ -189,30 +195,31 @@ no-key key (table ms) e = absurd (cc)
 abbrev list_path : List ℕ
 list_path = under mapping_path (codes "field_mappings")
 
-mapping-named : (d : Data) → mapping_faults mapping_path d ≡ [] → AreNamedRaws (raw_fields 16 list_path [] (items_in (get (codes "field_mappings") d)))
-mapping-named d e =
+-- the fields of the mapping are tables with which nothing is wrong
+abbrev AreListed : Items → Type 0
+AreListed items = AreTables items × (fields_faults 16 list_path items ≡ [])
+
+mapping-listed : (d : Data) → mapping_faults mapping_path d ≡ [] → AreListed (items_in (get (codes "field_mappings") d))
+mapping-listed d e =
     let parts =
     parts-of-eight (unknown_faults places.Mapping mapping_path (members_in d)) (asked (optional rules.ModeName) mapping_path (codes "mode") d)
     (asked (list_of rules.AnyTable) mapping_path (codes "field_mappings") d) (asked (optional rules.AnyText) mapping_path (codes "timestamp_field") d)
     (asked (list_of rules.AnyText) mapping_path (codes "tag_fields") d) (asked (optional rules.Truth) mapping_path (codes "store_source") d)
     (asked (optional rules.Truth) mapping_path (codes "index_field_presence") d)
     (fields_faults 16 list_path (items_in (get (codes "field_mappings") d))) e in
-    each-named (member_at 16 list_path) (λ n x. raw_member 16 (member_path list_path n) [] x)
-    (λ n x there f. member-at 16 list_path [] n x (IsUtf8-nil, tt) there f) 0 (items_in (get (codes "field_mappings") d))
-    (tables-asked false mapping_path d parts.0) parts.1
+    (tables-asked false mapping_path d parts.0, parts.1)
 
-where-named : (o : Option Data) → where_table (mapping_faults mapping_path) o ≡ []
-    → AreNamedRaws (raw_fields 16 list_path [] (items_in (in_option (codes "field_mappings") o)))
-where-named None e = tt
-where-named (Some d) e =
+where-listed : (o : Option Data) → where_table (mapping_faults mapping_path) o ≡ [] → AreListed (items_in (in_option (codes "field_mappings") o))
+where-listed None e = (tt, refl)
+where-listed (Some d) e =
     elim (cases_Bool (is_some (as_table d))) [
-      | inl there ↦ mapping-named d (rw there at e)
-      | inr lacks ↦ rw (no-key (codes "field_mappings") d lacks) tt
+      | inl there ↦ mapping-listed d (rw there at e)
+      | inr lacks ↦ rw (no-key (codes "field_mappings") d lacks) (tt, refl)
     ]
 
-pub all-named : (root : Data) → table_faults root ≡ [] → AreNamedRaws (all_raws root)
-all-named root e =
-    where-named (get mapping_path root)
+root-listed : (root : Data) → table_faults root ≡ [] → AreListed (items_in (in_mapping (codes "field_mappings") root))
+root-listed root e =
+    where-listed (get mapping_path root)
     (second (top_faults [] root) (where_table (mapping_faults mapping_path) (get mapping_path root))
     (optional_table indexing_path (indexing_faults indexing_path) (get indexing_path root))
     (optional_table search_path (search_faults search_path) (get search_path root))
@@ -221,33 +228,76 @@ all-named root e =
     second : (a b c d f : List ConfigError) → a ++ b ++ c ++ d ++ f ≡ [] → b ≡ []
     second a b c d f h = (both-empty a b (both-empty (a ++ b) c (both-empty (a ++ b ++ c) d (both-empty (a ++ b ++ c ++ d) f h).0).0).0).1
 
--- names stay where fields are put in order
-placed-named : (raw : RawField) (rs : List RawField) → IsNamed raw.path → AreNamedRaws rs → AreNamedRaws (placed raw rs)
-placed-named raw [] own h = (own, tt)
-placed-named raw (r ∷ rs) own h =
-    elim (cases_Bool (is_lt (slice_cmp nat_cmp r.path raw.path))) [
-      | inl before ↦ rw before (h.0, placed-named raw rs own h.1)
-      | inr after ↦ rw after (own, h)
-    ]
+mapped-named : (root : Data) → table_faults root ≡ [] → AreNamedRaws (mapped_raws root)
+mapped-named root e =
+    let listed = root-listed root e in
+    each-named (member_at 16 list_path) (λ n x. raw_member 16 (member_path list_path n) [] x)
+    (λ n x there f. member-at 16 list_path [] n x (IsUtf8-nil, tt) there f) 0 (items_in (in_mapping (codes "field_mappings") root)) listed.0 listed.1
 
-sorted-named : (kind : Option Kind) (raw : RawField) (rs : List RawField) → IsNamed raw.path → AreNamedRaws rs → AreNamedRaws (sorted_by kind raw rs)
-sorted-named None raw rs own h = h
-sorted-named (Some kind) raw rs own h = placed-named raw rs own h
+dynamic-named : (mode : Mode) → AreNamedRaws (dynamic_raws mode)
+dynamic-named modes.Strict = tt
+dynamic-named modes.Lenient = tt
+dynamic-named modes.Dynamic = (named-text dynamic_path refl, tt)
 
-ordered-named : (raws : List RawField) → AreNamedRaws raws → AreNamedRaws (in_order raws)
-ordered-named [] h = tt
-ordered-named (raw ∷ raws) h = sorted-named raw.kind raw (in_order raws) h.0 (ordered-named raws h.1)
+pub all-named : (root : Data) → table_faults root ≡ [] → AreNamedRaws (all_raws root)
+all-named root e = paths-append IsNamed (dynamic_raws (mode_of root)) (mapped_raws root) (dynamic-named (mode_of root)) (mapped-named root e)
 
-named-at : (tags : Items) (rs : List RawField) → AreNamedRaws rs → (n : ℕ) (f : Field) → slice_get (fields_of tags rs) n ≡ Some f → IsNamed f.path
-named-at tags [] h n f e = absurd (cc)
-named-at tags (r ∷ rs) h zero f e =
-    let here : field_of tags r ≡ f = cc in
-    subst (λ (x : Field). IsNamed x.path) here h.0
-named-at tags (r ∷ rs) h (suc n) f e = named-at tags rs h.1 n f e
+-- each member of a list has the name of a field
+abbrev pub HaveNames : Items → Type 0
+HaveNames no_items = Unit {0}
+HaveNames (item d ds) = (is_field_name (name_of d) ≡ true) × HaveNames ds
+
+member-name : (levels : ℕ) (path : List ℕ) (n : ℕ) (d : Data) → is_some (as_table d) ≡ true → member_at levels path n d ≡ [] → is_field_name (name_of d) ≡ true
+member-name zero path n d there e =
+    (field-parts true (member_path path n) d (type_of d)
+    (both-empty (field_faults true (member_path path n) d (type_of d)) (inner_fields (is_object (type_of d)) (λ p i. []) (member_path path n) d) (rw there at e)).0).0
+member-name (suc levels) path n d there e =
+    (field-parts false (member_path path n) d (type_of d)
+    (both-empty (field_faults false (member_path path n) d (type_of d))
+    (inner_fields (is_object (type_of d)) (λ p i. each_fault (member_at levels p) 0 i) (member_path path n) d) (rw there at e)).0).0
+
+each-name : (levels : ℕ) (path : List ℕ) (n : ℕ) (items : Items) → AreTables items → each_fault (member_at levels path) n items ≡ [] → HaveNames items
+each-name levels path n no_items t e = tt
+each-name levels path n (item d ds) t e =
+    let parts = both-empty (member_at levels path n d) (each_fault (member_at levels path) (suc n) ds) e in
+    (member-name levels path n d t.0 parts.0, each-name levels path (suc n) ds t.1 parts.1)
+
+pub mapping-names : (root : Data) → table_faults root ≡ [] → HaveNames (items_in (in_mapping (codes "field_mappings") root))
+mapping-names root e =
+    let listed = root-listed root e in each-name 16 list_path 0 (items_in (in_mapping (codes "field_mappings") root)) listed.0 listed.1
+
+-- paths stay where fields are put in order
+module _ (P : List ℕ → Type 0) where
+  placed-paths : (raw : RawField) (rs : List RawField) → P raw.path → HavePaths P rs → HavePaths P (placed raw rs)
+  placed-paths raw [] own h = (own, tt)
+  placed-paths raw (r ∷ rs) own h =
+      elim (cases_Bool (is_lt (slice_cmp nat_cmp r.path raw.path))) [
+        | inl before ↦ rw before (h.0, placed-paths raw rs own h.1)
+        | inr after ↦ rw after (own, h)
+      ]
+
+  sorted-paths : (kind : Option Kind) (raw : RawField) (rs : List RawField) → P raw.path → HavePaths P rs → HavePaths P (sorted_by kind raw rs)
+  sorted-paths None raw rs own h = h
+  sorted-paths (Some kind) raw rs own h = placed-paths raw rs own h
+
+  ordered-paths : (raws : List RawField) → HavePaths P raws → HavePaths P (in_order raws)
+  ordered-paths [] h = tt
+  ordered-paths (raw ∷ raws) h = sorted-paths raw.kind raw (in_order raws) h.0 (ordered-paths raws h.1)
+
+  path-at : (tags : Items) (rs : List RawField) → HavePaths P rs → (n : ℕ) (f : Field) → slice_get (fields_of tags rs) n ≡ Some f → P f.path
+  path-at tags [] h n f e = absurd (cc)
+  path-at tags (r ∷ rs) h zero f e =
+      let here : field_of tags r ≡ f = cc in
+      subst (λ (x : Field). P x.path) here h.0
+  path-at tags (r ∷ rs) h (suc n) f e = path-at tags rs h.1 n f e
+
+  -- so of the schema's fields too
+  pub fields-paths : (tags : Items) (raws : List RawField) → HavePaths P raws → (n : ℕ) (f : Field) → slice_get (fields_of tags (in_order raws)) n ≡ Some f → P f.path
+  fields-paths tags raws h = path-at tags (in_order raws) (ordered-paths raws h)
 
 field-named : (tags : Items) (root : Data) → table_faults root ≡ [] → (n : ℕ) (f : Field) → slice_get (fields_of tags (in_order (all_raws root))) n ≡ Some f
     → IsNamed f.path
-field-named tags root e = named-at tags (in_order (all_raws root)) (ordered-named (all_raws root) (all-named root e))
+field-named tags root e = fields-paths IsNamed tags (all_raws root) (all-named root e)
 
 pub fields-named : (tags : Items) (root : Data) → table_faults root ≡ [] → AreNamed (fields_of tags (in_order (all_raws root)))
 fields-named tags root e = λ n f a. let h = field-named tags root e n f a in (h.0, h.1)

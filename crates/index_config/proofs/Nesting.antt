@@ -3,12 +3,13 @@ use Rattle.std.proofs.Common.{◌≡◌, ℕ, zero, suc, ◌-◌, ◌<◌, true,
 use Rattle.std.specs.Prelude.{codes}
 use Rattle.std.proofs.lemmas.Bool.{cases_Bool}
 use Rattle.toml.specs.Data.{Data, Items, get, as_table}
+use Rattle.index_config.specs.declared.config.Mode.{Mode}
 use Rattle.index_config.specs.declared.raw.RawField.{RawField}
 use Rattle.index_config.specs.declared.config_error.ConfigError.{ConfigError}
 use Rattle.index_config.specs.declared.rule.FieldType.{FieldType}
 use Rattle.index_config.specs.Rules.{under, member_path, wrong_unless}
 use Rattle.index_config.specs.Tables.{type_of, is_object, items_in, field_faults, inner_fields, optional_table, where_table, member_at, fields_faults, each_fault, indexing_faults, indexing_key_faults, indexing_path, policy_faults, policy_path}
-use Rattle.index_config.specs.Fields.{name_of, raw_field, inner_raws, raw_member, raw_fields, each_raw, all_raws, in_mapping, in_option}
+use Rattle.index_config.specs.Fields.{name_of, raw_field, inner_raws, raw_member, raw_fields, each_raw, mode_of, dynamic_raws, mapped_raws, all_raws, in_mapping, in_option}
 use Rattle.index_config.specs.Sections.{section_faults}
 use Rattle.index_config.specs.declared.rule.Section.TheVariants as sections
 use Rattle.index_config.proofs.Named.{no-key}
@@ -94,9 +95,11 @@ pub settings-chain : (root : Data) (old mid new : List ConfigError) → mid ≡ 
     → new ≡ mid ++ section_faults sections.Policy root → new ≡ old ++ optional_table indexing_path (indexing_faults indexing_path) (get indexing_path root)
 settings-chain root old mid new m n = chain old mid new _ _ m n ∙ ap (λ x. old ++ x) (settings-parts (get indexing_path root))
 
-pub raws-all : (root : Data) (place path : List ℕ) (items : Items) (old new : List RawField) → old ≡ []
+pub raws-all : (root : Data) (mode : Mode) (place path : List ℕ) (items : Items) (old new : List RawField) → mode ≡ mode_of root → old ≡ dynamic_raws mode
     → place ≡ codes "doc_mapping.field_mappings" → path ≡ [] → items ≡ items_in (in_mapping (codes "field_mappings") root)
     → new ≡ old ++ raw_fields 16 place path items → new ≡ all_raws root
-raws-all root place path items old new o p q i e =
-    e ∙ ap (λ x. x ++ raw_fields 16 place path items) o ∙ ap (λ x. raw_fields 16 x path items) p
-    ∙ ap (λ x. raw_fields 16 (codes "doc_mapping.field_mappings") x items) q ∙ ap (raw_fields 16 (codes "doc_mapping.field_mappings") []) i
+raws-all root mode place path items old new m o p q i e =
+    let fields : raw_fields 16 place path items ≡ mapped_raws root =
+    ap (λ x. raw_fields 16 x path items) p ∙ ap (λ x. raw_fields 16 (codes "doc_mapping.field_mappings") x items) q
+    ∙ ap (raw_fields 16 (codes "doc_mapping.field_mappings") []) i in
+    e ∙ ap (λ x. x ++ raw_fields 16 place path items) (o ∙ ap dynamic_raws m) ∙ ap (λ x. dynamic_raws (mode_of root) ++ x) fields

@@ -32,7 +32,7 @@ free-serves purpose path (raw ∷ raws) f =
     (λ e. absurd (both_ways (bytes_eq raw.path path) parts.0 e), free-serves purpose path raws parts.1)
 
 -- where some field can serve, some field has the path
-such-stands : (purpose : Purpose) (path : List ℕ) (raws : List RawField) → has_such purpose path raws ≡ true → has_path path raws ≡ true
+pub such-stands : (purpose : Purpose) (path : List ℕ) (raws : List RawField) → has_such purpose path raws ≡ true → has_path path raws ≡ true
 such-stands purpose path [] h = absurd (cc)
 such-stands purpose path (raw ∷ raws) h =
     elim (cases_Bool (bytes_eq raw.path path)) [
@@ -212,7 +212,7 @@ word-such : (raws : List RawField) (path : List ℕ) (o : Option (List ℕ)) →
 word-such raws path None s w = absurd (cc)
 word-such raws path (Some v) s w = subst (λ (p : List ℕ). has_such purposes.Tag p raws ≡ true) (same-path v path w) s
 
-listed-such : (raws : List RawField) (place : List ℕ) (n : ℕ) (items : Items) (path : List ℕ) → reference_faults purposes.Tag raws place n items ≡ []
+pub listed-such : (raws : List RawField) (place : List ℕ) (n : ℕ) (items : Items) (path : List ℕ) → reference_faults purposes.Tag raws place n items ≡ []
     → has_text path items ≡ true → has_such purposes.Tag path raws ≡ true
 listed-such raws place n no_items path e h = absurd (cc)
 listed-such raws place n (item d ds) path e h =

@@ -1,11 +1,14 @@
 -- What holds of the fields of a configuration.
-use Rattle.std.specs.Prelude.{◌≡◌, ◌≢◌, ℕ, ◌<◌, ◌≤◌, ◌==◌, true, false, List, [], ◌∷◌, length, slice_get, Some, MatchOption}
+use Rattle.std.specs.Prelude.{◌≡◌, ◌≢◌, ℕ, ◌<◌, ◌≤◌, ◌==◌, true, false, List, [], ◌∷◌, ◌++◌, codes, length, slice_get, Some, MatchOption}
 use Rattle.std.specs.Str.{IsUtf8}
 use Rattle.doc_value.specs.declared.schema.Field.{Field}
 use Rattle.doc_value.specs.declared.schema.Kind.{Kind}
 use Rattle.doc_value.specs.declared.schema.Kind.TheVariants as kinds
 use Rattle.doc_value.specs.declared.schema.Tokenizer.{Tokenizer}
 use Rattle.doc_value.specs.declared.schema.Tokenizer.TheVariants as tokenizers
+use Rattle.doc_value.specs.declared.schema.Schema.{Schema}
+use Rattle.index_config.specs.declared.config.Mode.{Mode}
+use Rattle.index_config.specs.declared.config.Mode.TheVariants as modes
 use Rattle.index_config.specs.declared.config.Policy.{Policy}
 use Rattle.index_config.specs.declared.config.Policy.TheVariants as policies
 use Rattle.index_config.specs.declared.config.IndexConfig.{IndexConfig}
@@ -66,3 +69,15 @@ IsTextKind _ = ⊥
 abbrev pub AreTextFields : List Field → List ℕ → Type 0
 AreTextFields fields [] = Unit {0}
 AreTextFields fields (n ∷ ns) = MatchOption (slice_get fields n) ⊥ (λ f. IsTextKind f.kind) × AreTextFields fields ns
+
+-- exactly in mode dynamic a field holds what is not mapped, and it is the one whose path is `_dynamic`
+abbrev pub HoldsUnmapped : Mode → Schema → Type 0
+HoldsUnmapped mode schema = MatchOption schema.dynamic (mode ≢ modes.Dynamic)
+    (λ n. (mode ≡ modes.Dynamic) × MatchOption (slice_get schema.fields n) ⊥ (λ f. f.path ≡ codes "_dynamic"))
+
+-- a path doesn't go on behind `_dynamic` and a dot
+abbrev pub IsOutside : List ℕ → Type 0
+IsOutside path = (rest : List ℕ) → path ≢ codes "_dynamic." ++ rest
+
+abbrev pub AreOutside : List Field → Type 0
+AreOutside fields = (n : ℕ) (f : Field) → slice_get fields n ≡ Some f → IsOutside f.path

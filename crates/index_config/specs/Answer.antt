@@ -5,7 +5,7 @@ use Rattle.toml.specs.Data.{Data, table}
 use Rattle.toml.specs.Parse.{parse_document}
 use Rattle.index_config.specs.declared.config.IndexConfig.{IndexConfig}
 use Rattle.index_config.specs.declared.config_error.ConfigError.{ConfigError}
-use Rattle.index_config.specs.declared.config_error.ConfigError.TheVariants.{NotToml, UnknownKey, WrongKind, MissingKey, BadNumber, DuplicateField, BadTimestampField, ModeNotBuilt, TooManyFields, BadReference, Memory}
+use Rattle.index_config.specs.declared.config_error.ConfigError.TheVariants.{NotToml, UnknownKey, WrongKind, MissingKey, BadNumber, DuplicateField, BadTimestampField, TooManyFields, BadReference, Memory}
 use Rattle.index_config.specs.Tables.{table_faults}
 use Rattle.index_config.specs.Fields.{all_raws, whole_faults, config_of}
 
@@ -19,7 +19,6 @@ IsMemory (MissingKey path) = ⊥
 IsMemory (BadNumber path) = ⊥
 IsMemory (DuplicateField path) = ⊥
 IsMemory BadTimestampField = ⊥
-IsMemory ModeNotBuilt = ⊥
 IsMemory (TooManyFields count) = ⊥
 IsMemory (BadReference path) = ⊥
 

@@ -25,7 +25,7 @@ use Rattle.index_config.specs.declared.rule.FieldType.TheVariants as types
 use Rattle.index_config.specs.declared.rule.PolicyType.{PolicyType}
 use Rattle.index_config.specs.declared.rule.PolicyType.TheVariants as policies
 use Rattle.index_config.specs.declared.config_error.ConfigError.{ConfigError}
-use Rattle.index_config.specs.declared.config_error.ConfigError.TheVariants.{DuplicateField, BadTimestampField, ModeNotBuilt, TooManyFields, BadReference}
+use Rattle.index_config.specs.declared.config_error.ConfigError.TheVariants.{DuplicateField, BadTimestampField, TooManyFields, BadReference}
 use Rattle.index_config.specs.Rules.{under, member_path, duration_of}
 use Rattle.index_config.specs.Tables.{items_in, list_items, text_in, text_at, type_of, is_object, max_levels, number_at, merge_factor, policy_type, mapping_path}
 
@@ -123,9 +123,51 @@ in_option key (Some d) = get key d
 abbrev pub in_mapping : List ℕ → Data → Option Data
 in_mapping key root = in_option key (get mapping_path root)
 
-abbrev pub all_raws : Data → List RawField
-all_raws root =
+-- the mode, which is `dynamic` where it is absent
+abbrev pub mode_named : List ℕ → Mode
+mode_named w =
+    if bytes_eq w (codes "strict") then modes.Strict
+    else (if bytes_eq w (codes "lenient") then modes.Lenient
+    else modes.Dynamic)
+
+abbrev pub mode_by : Option (List ℕ) → Mode
+mode_by None = modes.Dynamic
+mode_by (Some w) = mode_named w
+
+abbrev pub mode_of : Data → Mode
+mode_of root = mode_by (text_in (in_mapping (codes "mode") root))
+
+-- the path of the field that holds what is not mapped
+abbrev pub dynamic_path : List ℕ
+dynamic_path = codes "_dynamic"
+
+-- that field, whose place is that of the mode
+abbrev pub dynamic_raw : RawField
+dynamic_raw = record {
+  place = under mapping_path (codes "mode");
+  path = dynamic_path;
+  kind = Some kinds.TextList;
+  fast = false;
+  indexed = true;
+  tokenizer = tokenizers.Raw;
+  positions = false;
+  formats = record { rfc3339 = true; unix = true };
+}
+
+-- the fields that a mode adds before those of the configuration
+abbrev pub dynamic_raws : Mode → List RawField
+dynamic_raws modes.Strict = []
+dynamic_raws modes.Lenient = []
+dynamic_raws modes.Dynamic = dynamic_raw ∷ []
+
+-- the fields and objects that the configuration lists, in reading order
+abbrev pub mapped_raws : Data → List RawField
+mapped_raws root =
     raw_fields max_levels (under mapping_path (codes "field_mappings")) [] (items_in (in_mapping (codes "field_mappings") root))
+
+-- those, behind the field that the mode adds
+abbrev pub all_raws : Data → List RawField
+all_raws root = dynamic_raws (mode_of root) ++ mapped_raws root
 
 -- some field or object has this path
 abbrev pub has_path : List ℕ → List RawField → Bool
@@ -216,25 +258,6 @@ reference_faults purpose raws place n (item d ds) =
 abbrev pub search_list : Data → Option Data
 search_list root = in_option (codes "default_search_fields") (get (codes "search_settings") root)
 
--- the mode, which is `dynamic` where it is absent
-abbrev pub mode_named : List ℕ → Mode
-mode_named w =
-    if bytes_eq w (codes "strict") then modes.Strict
-    else (if bytes_eq w (codes "lenient") then modes.Lenient
-    else modes.Dynamic)
-
-abbrev pub mode_by : Option (List ℕ) → Mode
-mode_by None = modes.Dynamic
-mode_by (Some w) = mode_named w
-
-abbrev pub mode_of : Data → Mode
-mode_of root = mode_by (text_in (in_mapping (codes "mode") root))
-
-abbrev pub mode_faults : Mode → List ConfigError
-mode_faults modes.Strict = []
-mode_faults modes.Lenient = []
-mode_faults modes.Dynamic = ModeNotBuilt ∷ []
-
 abbrev pub tags_path : List ℕ
 tags_path = codes "doc_mapping.tag_fields"
 
@@ -252,7 +275,6 @@ whole_faults root raws =
     ++ timestamp_faults (timestamp_path root) raws
     ++ reference_faults purposes.Tag raws tags_path 0 (items_in (in_mapping (codes "tag_fields") root))
     ++ reference_faults purposes.Default raws defaults_path 0 (items_in (search_list root))
-    ++ mode_faults (mode_of root)
 
 -- a field at its place in byte order of paths
 abbrev pub placed : RawField → List RawField → List RawField
@@ -332,11 +354,22 @@ abbrev pub policy_in : Option Data → Policy
 policy_in None = merging.StableLog 100000 10 12 172800
 policy_in (Some d) = policy_by_type (policy_type d) d
 
-abbrev pub schema_with : List Field → Option (List ℕ) → Schema
-schema_with fields path = record { fields = fields; timestamp = number_named fields path; dynamic = None }
+-- the path of the field for what is not mapped, where the mode has one
+abbrev pub dynamic_name : Mode → Option (List ℕ)
+dynamic_name modes.Strict = None
+dynamic_name modes.Lenient = None
+dynamic_name modes.Dynamic = Some dynamic_path
+
+abbrev pub schema_with : List Field → Option (List ℕ) → Mode → Schema
+schema_with fields path mode = record {
+  fields = fields;
+  timestamp = number_named fields path;
+  dynamic = number_named fields (dynamic_name mode);
+}
 
 abbrev pub schema_of : Data → List RawField → Schema
-schema_of root raws = schema_with (fields_of (items_in (in_mapping (codes "tag_fields") root)) (in_order raws)) (timestamp_path root)
+schema_of root raws =
+    schema_with (fields_of (items_in (in_mapping (codes "tag_fields") root)) (in_order raws)) (timestamp_path root) (mode_of root)
 
 -- the configuration that the tables give, where nothing is wrong with them
 abbrev pub config_with : Data → List RawField → Schema → IndexConfig

@@ -23,8 +23,6 @@ pub enum ConfigError {
     DuplicateField { path: Text },
     #[error("the timestamp field is no fast datetime field")]
     BadTimestampField,
-    #[error("mode dynamic is not built")]
-    ModeNotBuilt,
     #[error("{count} fields are too many")]
     TooManyFields { count: usize },
     #[error("a path of no such field")]

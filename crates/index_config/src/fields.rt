@@ -4,7 +4,7 @@ ghost use Rattle.toml.specs.Data.{get, as_str};
 ghost use Rattle.index_config.specs.Tables.{text_at as text_at_key};
 ghost use Rattle.index_config.specs.Fields as spec;
 
-use crate::config::Formats;
+use crate::config::{Formats, Mode};
 use crate::names::{is_same, member_path, tokenizer_named, under};
 use crate::raw::{RawField, RawFields};
 use crate::rule::FieldType;
@@ -123,6 +123,43 @@ fn raw_field(
         positions: keeps_positions(table),
         formats: formats_of(table),
     })
+}
+
+/// The path of the field that holds what is not mapped.
+pub const DYNAMIC_PATH: &str = "_dynamic";
+
+/// The field that holds what is not mapped.
+fn dynamic_raw(alloc: Global) -> Result<RawField, AllocError>
+    ensures { IfOk result (λ raw. raw ≡ spec.dynamic_raw) }
+{
+    Ok(RawField {
+        place: Text::from_str(alloc, "doc_mapping.mode")?,
+        path: Text::from_str(alloc, DYNAMIC_PATH)?,
+        kind: Some(Kind::TextList),
+        fast: false,
+        indexed: true,
+        tokenizer: Tokenizer::Raw,
+        positions: false,
+        formats: Formats {
+            rfc3339: true,
+            unix: true,
+        },
+    })
+}
+
+/// The fields that a mode adds before those of the configuration.
+pub fn dynamic_raws(alloc: Global, mode: Mode) -> Result<RawFields, AllocError>
+    ensures { IfOk result (λ raws. raws ≡ spec.dynamic_raws mode) }
+{
+    let mut raws = RawFields::vacant(alloc);
+    match mode {
+        Mode::Strict => Ok(raws),
+        Mode::Lenient => Ok(raws),
+        Mode::Dynamic => {
+            raws.push(dynamic_raw(alloc)?)?;
+            Ok(raws)
+        }
+    }
 }
 
 /// The fields and objects of a list in reading order, each object's own behind it.

@@ -2,9 +2,10 @@
 
 ghost use Rattle.std.specs.Prelude.{◌≡◌, ℕ, List, Ok, length};
 ghost use Rattle.doc_value.specs.Documents.{IsSchema};
-ghost use Rattle.index_config.specs.Accepted.{AreNamed, AreNumbers, AreTags, AreTextFields, BeginPlain, HasRanges};
+ghost use Rattle.index_config.specs.Accepted.{AreNamed, AreNumbers, AreOutside, AreTags, AreTextFields, BeginPlain, HasRanges, HoldsUnmapped};
 ghost use Rattle.index_config.specs.Answer.{config_answer};
 ghost use Rattle.index_config.specs.declared.config.IndexConfig.{IndexConfig};
+ghost use Rattle.index_config.specs.declared.config.Mode.TheVariants as modes;
 
 /// What holds of each configuration that is accepted.
 pub fn accepted_laws()
@@ -26,4 +27,8 @@ pub fn accepted_laws()
     ensures tags { (text : List ℕ) (config : IndexConfig) → config_answer text ≡ Ok config → AreTags config.schema.fields }
     // Each default search field is a field of texts.
     ensures texts { (text : List ℕ) (config : IndexConfig) → config_answer text ≡ Ok config → AreTextFields config.schema.fields config.default_fields }
+    // Exactly in mode dynamic a field holds what is not mapped, and its path is `_dynamic`.
+    ensures dynamic { (text : List ℕ) (config : IndexConfig) → config_answer text ≡ Ok config → HoldsUnmapped config.mode config.schema }
+    // In mode dynamic no path lies within that of this field.
+    ensures outside { (text : List ℕ) (config : IndexConfig) → config_answer text ≡ Ok config → config.mode ≡ modes.Dynamic → AreOutside config.schema.fields }
 {}

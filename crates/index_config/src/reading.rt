@@ -7,10 +7,10 @@ ghost use Rattle.index_config.specs.Fields.{all_raws, whole_faults};
 use crate::building::config_of;
 use crate::config::IndexConfig;
 use crate::config_error::ConfigError;
-use crate::fields::push_fields;
+use crate::fields::{dynamic_raws, push_fields};
 use crate::raw::{Faults, RawField, RawFields};
 use crate::tables::{MAX_LEVELS, check_tables};
-use crate::whole::{check_whole, mapping_items};
+use crate::whole::{check_whole, mapping_items, mode_of};
 use doc_value::Text;
 use std::alloc::{AllocError, Global};
 use std::{mem, str};
@@ -102,14 +102,14 @@ fn first_of_whole(
     }
 }
 
-/// The fields and objects of a configuration in reading order.
+/// The fields and objects of a configuration in reading order, behind the field that its mode adds.
 fn raws_of(alloc: Global, root: &Value) -> Result<RawFields, AllocError>
     ensures { IfOk result (λ raws. raws ≡ all_raws (view root.now)) }
 {
     let place = Text::from_str(alloc, "doc_mapping.field_mappings")?;
     let path = Text::vacant(alloc);
     let items = mapping_items(root, "field_mappings");
-    let mut raws = RawFields::vacant(alloc);
+    let mut raws = dynamic_raws(alloc, mode_of(root))?;
     let pushed = push_fields(alloc, &mut raws, MAX_LEVELS, &place, &path, items);
     mem::drop(place);
     mem::drop(path);

@@ -208,16 +208,6 @@ fn check_references(
     Ok(())
 }
 
-fn check_mode(faults: &mut Faults, root: &Value) -> Result<(), AllocError>
-    ensures { OnOk result (faults.new ≡ faults.old ++ spec.mode_faults (spec.mode_of (view root.now))) }
-{
-    match mode_of(root) {
-        Mode::Strict => Ok(()),
-        Mode::Lenient => Ok(()),
-        Mode::Dynamic => faults.push(ConfigError::ModeNotBuilt),
-    }
-}
-
 /// The value at a key of the mapping.
 pub fn in_mapping<'a>(root: &'a Value, key: &str) -> Option<&'a Value>
     ensures { option_map (λ v. view v.now) result ≡ spec.in_mapping key.now (view root.now) }
@@ -330,6 +320,5 @@ pub fn check_whole(
     check_count(faults, raws)?;
     check_timestamp(faults, root, raws)?;
     check_tags(alloc, faults, root, raws)?;
-    check_defaults(alloc, faults, root, raws)?;
-    check_mode(faults, root)
+    check_defaults(alloc, faults, root, raws)
 }

@@ -1,4 +1,4 @@
-use Rattle.index_config.proofs.Accepted.{accepted-schema, accepted-timestamp, accepted-formats, accepted-defaults, accepted-named, accepted-plain, accepted-tags, accepted-texts}
+use Rattle.index_config.proofs.Accepted.{accepted-schema, accepted-timestamp, accepted-formats, accepted-defaults, accepted-named, accepted-plain, accepted-tags, accepted-texts, accepted-dynamic, accepted-outside}
 use Rattle.index_config.proofs.Ranges.{accepted-ranges}
 use Rattle.index_config.proofs.laws.accepted_laws.Goals as goal
 
@@ -13,4 +13,6 @@ returns c = record {
   ranges = accepted-ranges;
   tags = accepted-tags;
   texts = accepted-texts;
+  dynamic = accepted-dynamic;
+  outside = accepted-outside;
 }
