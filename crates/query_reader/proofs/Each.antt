@@ -2,6 +2,7 @@
 use Rattle.std.proofs.Common.{◌≡◌, ℕ, suc, ◌+◌, ◌<◌, List, [], ◌∷◌, ◌++◌, map, length, drop, Result, Ok, Err, refl, ap, sym, ◌∙◌, arith, add-one, get_or}
 use Rattle.std.specs.Prelude.{slice_index_or}
 use Rattle.doc_value.specs.declared.schema.Field.{Field}
+use Rattle.doc_value.specs.declared.schema.Schema.{Schema}
 use Rattle.query_ast.specs.Sought.{Sought, Soughts, no_more, more, view, view_row, view_all}
 use Rattle.query_ast.specs.Sought as sought
 use Rattle.query_ast.specs.declared.query.Query.{Query, Row_of-Query, end_of-Query, more_of-Query, items-the_row-Query}
@@ -47,36 +48,36 @@ refuses_same r r' (refusals.NoPositions n) s h = sym s ∙ h
 refuses_same r r' (refusals.TooDeep n) s h = sym s ∙ h
 refuses_same r r' (refusals.NotIndexed n) s h = sym s ∙ h
 
-module _ (fields : List Field) (defaults : List ℕ) (text : List ℕ) where
+module _ (schema : Schema) (defaults : List ℕ) (text : List ℕ) where
   swap_bind : (r : Result Soughts QueryError) (q : Result Sought QueryError) (ts : List Tree)
-      → ((r >>= λ qs. q >>= λ x. Ok (and_then qs x)) >>= λ qs. resolve_after fields defaults text qs ts)
-      ≡ (r >>= λ qs. q >>= λ x. resolve_after fields defaults text (and_then qs x) ts)
+      → ((r >>= λ qs. q >>= λ x. Ok (and_then qs x)) >>= λ qs. resolve_after schema defaults text qs ts)
+      ≡ (r >>= λ qs. q >>= λ x. resolve_after schema defaults text (and_then qs x) ts)
   swap_bind (Err e) q ts = refl
   swap_bind (Ok qs) (Err e) ts = refl
   swap_bind (Ok qs) (Ok x) ts = refl
 
-  pub after_each : (done : Trees) (ts : List Tree) → resolve_each fields defaults text (trees_after done ts) ≡ (resolve_each fields defaults text done >>= λ qs. resolve_after fields defaults text qs ts)
-  after_each done [] = bind_ok (resolve_each fields defaults text done)
-  after_each done (t ∷ ts) = after_each (behind done t) ts ∙ swap_bind (resolve_each fields defaults text done) (resolve fields defaults text t) ts
+  pub after_each : (done : Trees) (ts : List Tree) → resolve_each schema defaults text (trees_after done ts) ≡ (resolve_each schema defaults text done >>= λ qs. resolve_after schema defaults text qs ts)
+  after_each done [] = bind_ok (resolve_each schema defaults text done)
+  after_each done (t ∷ ts) = after_each (behind done t) ts ∙ swap_bind (resolve_each schema defaults text done) (resolve schema defaults text t) ts
 
   -- an And and an Or of a list of members
   pub and_is : (t : Tree) (items xs : List Raw) → t ≡ trees.And (trees_after no_trees (map tree items)) → xs ≡ items
-      → (resolve_after fields defaults text no_more (map tree xs) >>= λ qs. Ok (sought.And qs)) ≡ resolve fields defaults text t
-  and_is t items xs e h = ap (λ ys. resolve_after fields defaults text no_more (map tree ys) >>= λ qs. Ok (sought.And qs)) h
-      ∙ ap (λ r. r >>= λ qs. Ok (sought.And qs)) (sym (after_each no_trees (map tree items))) ∙ ap (resolve fields defaults text) (sym e)
+      → (resolve_after schema defaults text no_more (map tree xs) >>= λ qs. Ok (sought.And qs)) ≡ resolve schema defaults text t
+  and_is t items xs e h = ap (λ ys. resolve_after schema defaults text no_more (map tree ys) >>= λ qs. Ok (sought.And qs)) h
+      ∙ ap (λ r. r >>= λ qs. Ok (sought.And qs)) (sym (after_each no_trees (map tree items))) ∙ ap (resolve schema defaults text) (sym e)
 
   pub or_is : (t : Tree) (items xs : List Raw) → t ≡ trees.Or (trees_after no_trees (map tree items)) → xs ≡ items
-      → (resolve_after fields defaults text no_more (map tree xs) >>= λ qs. Ok (sought.Or qs)) ≡ resolve fields defaults text t
-  or_is t items xs e h = ap (λ ys. resolve_after fields defaults text no_more (map tree ys) >>= λ qs. Ok (sought.Or qs)) h
-      ∙ ap (λ r. r >>= λ qs. Ok (sought.Or qs)) (sym (after_each no_trees (map tree items))) ∙ ap (resolve fields defaults text) (sym e)
+      → (resolve_after schema defaults text no_more (map tree xs) >>= λ qs. Ok (sought.Or qs)) ≡ resolve schema defaults text t
+  or_is t items xs e h = ap (λ ys. resolve_after schema defaults text no_more (map tree ys) >>= λ qs. Ok (sought.Or qs)) h
+      ∙ ap (λ r. r >>= λ qs. Ok (sought.Or qs)) (sym (after_each no_trees (map tree items))) ∙ ap (resolve schema defaults text) (sym e)
 
   -- one more member
-  pub each_step : (done : Soughts) (parts : List Raw) (i : ℕ) (x : Raw) (q : Sought) → i < length parts → x ≡ get_or parts i x → resolve fields defaults text (tree x) ≡ Ok q
-      → resolve_after fields defaults text done (map tree (drop i parts)) ≡ resolve_after fields defaults text (and_then done q) (map tree (drop (i + 1) parts))
+  pub each_step : (done : Soughts) (parts : List Raw) (i : ℕ) (x : Raw) (q : Sought) → i < length parts → x ≡ get_or parts i x → resolve schema defaults text (tree x) ≡ Ok q
+      → resolve_after schema defaults text done (map tree (drop i parts)) ≡ resolve_after schema defaults text (and_then done q) (map tree (drop (i + 1) parts))
   each_step done parts i x q l e h =
-      ap (λ ys. resolve_after fields defaults text done (map tree ys)) (drop-cons parts i x l)
-      ∙ ap (λ r. r >>= λ q. resolve_after fields defaults text (and_then done q) (map tree (drop (suc i) parts))) (ap (λ y. resolve fields defaults text (tree y)) (sym e) ∙ h)
-      ∙ ap (λ j. resolve_after fields defaults text (and_then done q) (map tree (drop j parts))) (sym (add-one i))
+      ap (λ ys. resolve_after schema defaults text done (map tree ys)) (drop-cons parts i x l)
+      ∙ ap (λ r. r >>= λ q. resolve_after schema defaults text (and_then done q) (map tree (drop (suc i) parts))) (ap (λ y. resolve schema defaults text (tree y)) (sym e) ∙ h)
+      ∙ ap (λ j. resolve_after schema defaults text (and_then done q) (map tree (drop j parts))) (sym (add-one i))
 
 -- one more field
 pub asked_step : (fields : List Field) (text : List ℕ) (done : Soughts) (ask : Asking) (numbers : List ℕ) (i : ℕ) → i < length numbers

@@ -8,3 +8,4 @@ pub mod Hiding
 pub mod Unescape
 pub mod Pieces
 pub mod Utf8
+pub mod Holding

@@ -3,12 +3,13 @@
 -- another And, Or or Not.
 use Rattle.std.specs.Prelude.{◌≡◌, ◌≢◌, ◌<◌, ◌≤◌, ℕ, IsUtf8, length, Ok, suc, ◌+◌, ◌||◌, Bool, true, false, not, List, [], ◌∷◌, ◌++◌, max, Some, slice_get, if◌then◌else◌, ℤ, pos, negsuc}
 use Rattle.std.specs.Fmt.{decimal, signed_decimal}
-use Rattle.std.specs.Option.{option_map_or}
+use Rattle.std.specs.Option.{IfSome, option_map_or}
 use Rattle.std.specs.Str.{bytes_eq}
 use Rattle.jiff.specs.Types.{DateTime}
 use Rattle.clock_time.specs.Datetimes.{IsShownAt, IsTimestampSecond, civil_text}
-use Rattle.doc_value.specs.Documents.{PathsRise}
+use Rattle.doc_value.specs.Documents.{PathsRise, IsDynamic}
 use Rattle.doc_value.specs.declared.schema.Field.{Field}
+use Rattle.doc_value.specs.declared.schema.Schema.{Schema}
 use Rattle.doc_value.specs.declared.doc.Value.{Value}
 use Rattle.doc_value.specs.declared.doc.Value.TheVariants as values
 use Rattle.query_ast.specs.declared.query.Item.{Item}
@@ -196,10 +197,11 @@ abbrev pub AreNumbers : List Field → List ℕ → Type 0
 AreNumbers fields [] = Unit {0}
 AreNumbers fields (n ∷ ns) = (n < length fields) × AreNumbers fields ns
 
--- a query over a schema's fields and some default fields, as a text gives it, and a text that is printed of it
-pub record IsPrintedOf (fields : List Field) (defaults text : List ℕ) (q : Sought) (shown : List ℕ) : Type 0 where
-  pub rise : PathsRise fields
-  pub named : AreNamed fields
-  pub within : AreNumbers fields defaults
-  pub read : query_of fields defaults text ≡ Ok q
-  pub printed : Spells (printed fields q) shown
+-- a query over a schema and some default fields, as a text gives it, and a text that is printed of it
+pub record IsPrintedOf (schema : Schema) (defaults text : List ℕ) (q : Sought) (shown : List ℕ) : Type 0 where
+  pub rise : PathsRise schema.fields
+  pub named : AreNamed schema.fields
+  pub dynamic : IfSome schema.dynamic (IsDynamic schema.fields)
+  pub within : AreNumbers schema.fields defaults
+  pub read : query_of schema defaults text ≡ Ok q
+  pub printed : Spells (printed schema.fields q) shown

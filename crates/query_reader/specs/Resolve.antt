@@ -5,7 +5,9 @@ use Rattle.std.specs.Str.{bytes_eq}
 use Rattle.doc_value.specs.declared.schema.Field.{Field}
 use Rattle.doc_value.specs.declared.schema.Kind.{Kind}
 use Rattle.doc_value.specs.declared.schema.Kind.TheVariants as kinds
+use Rattle.doc_value.specs.declared.schema.Schema.{Schema}
 use Rattle.doc_value.specs.declared.doc.Value.{Value}
+use Rattle.dynamic_paths.specs.LeafTexts.{leaf_text}
 use Rattle.query_ast.specs.declared.query.Item.{Item}
 use Rattle.query_ast.specs.declared.query.Edge.{Edge}
 use Rattle.query_ast.specs.declared.query.Edge.TheVariants as edges
@@ -186,16 +188,35 @@ module _ (fields : List Field) (text : List ℕ) (ask : Asking) (at : ℕ) (ns :
   abbrev pub clause_of : Result Sought QueryError
   clause_of = if all_indexed fields ns then valued_clause (first_bad fields text ask ns) else Err (refusals.NotIndexed at)
 
-module _ (fields : List Field) (defaults : List ℕ) (text : List ℕ) where
+-- a member of a set, as the leaf text of a path
+abbrev pub leaf_item : List ℕ → List ℕ → Member → Item
+leaf_item text path m = record { text = leaf_text path (text_at text m.place); quoted = m.quoted }
+
+-- a question to a path that no field has, as one to the field that holds the leaf texts of what is not mapped; no leaf text
+-- lies in a range
+abbrev pub leaf_clause : List ℕ → List ℕ → ℕ → Asking → Result Sought QueryError
+leaf_clause text path n asks.Any = Ok (sought.Prefix n (leaf_text path []))
+leaf_clause text path n (asks.Word s) = Ok (sought.Word n (leaf_text path (text_at text s)))
+leaf_clause text path n (asks.Prefix s) = Ok (sought.Prefix n (leaf_text path (text_at text s)))
+leaf_clause text path n (asks.Quoted s) = Ok (sought.Quoted n (leaf_text path (text_at text s)))
+leaf_clause text path n (asks.Within from r) = Err (refusals.BadValue from)
+leaf_clause text path n (asks.OneOf from ms) = Ok (sought.AnyOf n (map (leaf_item text path) ms))
+
+-- such a path is refused where the schema has no such field
+abbrev pub unnamed_clause : List ℕ → List ℕ → Option ℕ → Asking → Result Sought QueryError
+unnamed_clause text path None ask = Err (refusals.UnknownField path)
+unnamed_clause text path (Some n) ask = leaf_clause text path n ask
+
+module _ (schema : Schema) (defaults : List ℕ) (text : List ℕ) where
   abbrev pub named_clause : Option ℕ → Span → Asking → Result Sought QueryError
-  named_clause None s ask = Err (refusals.UnknownField (text_at text s))
-  named_clause (Some n) s ask = clause_of fields text ask (first_byte ask s.from) (n ∷ [])
+  named_clause None s ask = unnamed_clause text (text_at text s) schema.dynamic ask
+  named_clause (Some n) s ask = clause_of schema.fields text ask (first_byte ask s.from) (n ∷ [])
 
   -- a clause without a field asks the default fields; a lone star asks nothing
   abbrev pub resolve_clause : Option Span → Asking → Result Sought QueryError
-  resolve_clause (Some s) ask = named_clause (number_of fields (text_at text s) 0) s ask
+  resolve_clause (Some s) ask = named_clause (number_of schema.fields (text_at text s) 0) s ask
   resolve_clause None asks.Any = Ok sought.All
-  resolve_clause None ask = clause_of fields text ask (first_byte ask 0) defaults
+  resolve_clause None ask = clause_of schema.fields text ask (first_byte ask 0) defaults
 
   -- from the left, to the first refusal
   abbrev mutual
@@ -220,7 +241,7 @@ module _ (fields : List Field) (defaults : List ℕ) (text : List ℕ) where
   resolved (Err (faults.Syntax at)) = Err (refusals.Syntax at)
   resolved (Err (faults.TooDeep at)) = Err (refusals.TooDeep at)
 
-  -- what a query text is over a schema's fields and some default fields
+  -- what a query text is over a schema and some default fields
   abbrev pub query_of : Result Sought QueryError
   query_of = resolved (reads text)
 

@@ -13,6 +13,7 @@ mod scan;
 mod special;
 mod texts;
 mod tree;
+mod unmapped;
 
 pub use fault::{Fault, ReadError};
 pub use numbers::FieldNumbers;

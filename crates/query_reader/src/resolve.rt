@@ -13,6 +13,7 @@ use crate::reader::read_whole;
 use crate::refusal::QueryError;
 use crate::texts::text_of;
 use crate::tree::{Ask, Clause, Raw};
+use crate::unmapped::leaf_clause;
 use doc_value::{Field, Schema, Text};
 use query_ast::Query;
 use std::alloc::{AllocError, Global};
@@ -210,23 +211,40 @@ fn first_byte(ask: &Ask, clause: usize) -> usize
     }
 }
 
+/// A clause on a path that no field has.
+fn unnamed_clause(
+    alloc: Global,
+    schema: &Schema,
+    text: &[u8],
+    path: Text,
+    ask: &Ask,
+) -> Result<Query, QueryError>
+    ensures { spec.Gives view (spec.unnamed_clause text.now path schema.now.dynamic (view_ask ask.now)) result }
+{
+    match schema.dynamic {
+        Some(number) => leaf_clause(alloc, text, &path, ask, number),
+        None => Err(QueryError::UnknownField { name: path }),
+    }
+}
+
 /// A clause over the field that it names, or over the default fields.
 fn resolve_clause(
     alloc: Global,
-    fields: &[Field],
+    schema: &Schema,
     defaults: &[usize],
     text: &[u8],
     clause: &Clause,
 ) -> Result<Query, QueryError>
-    ensures { spec.Gives view (spec.resolve_clause fields.now defaults.now text.now clause.now.field (view_ask clause.now.ask)) result }
+    ensures { spec.Gives view (spec.resolve_clause schema.now defaults.now text.now clause.now.field (view_ask clause.now.ask)) result }
 {
+    let fields = schema.fields.as_slice();
     match clause.field {
         Some(span) => {
-            let name = text_of(alloc, text, span)?;
+            let path = text_of(alloc, text, span)?;
             let at = first_byte(&clause.ask, span.from);
-            match number_of(fields, &name) {
+            match number_of(fields, &path) {
                 Some(number) => clause_of(alloc, fields, text, &clause.ask, at, &[number]),
-                None => Err(QueryError::UnknownField { name }),
+                None => unnamed_clause(alloc, schema, text, path, &clause.ask),
             }
         }
         None => match clause.ask {
@@ -250,25 +268,25 @@ fn negated(alloc: Global, query: Query) -> Result<Query, QueryError>
 #[cycle(resolve)]
 fn resolve(
     alloc: Global,
-    fields: &[Field],
+    schema: &Schema,
     defaults: &[usize],
     text: &[u8],
     raw: &Raw,
 ) -> Result<Query, QueryError>
-    ensures { spec.Gives view (spec.resolve fields.now defaults.now text.now (tree raw.now)) result }
+    ensures { spec.Gives view (spec.resolve schema.now defaults.now text.now (tree raw.now)) result }
 {
     match raw {
-        Raw::Leaf(clause) => resolve_clause(alloc, fields, defaults, text, clause),
-        Raw::Group(inner) => resolve(alloc, fields, defaults, text, inner),
-        Raw::Not(inner) => match resolve(alloc, fields, defaults, text, inner) {
+        Raw::Leaf(clause) => resolve_clause(alloc, schema, defaults, text, clause),
+        Raw::Group(inner) => resolve(alloc, schema, defaults, text, inner),
+        Raw::Not(inner) => match resolve(alloc, schema, defaults, text, inner) {
             Ok(query) => negated(alloc, query),
             Err(refusal) => Err(refusal),
         },
-        Raw::And(parts) => match resolve_each(alloc, fields, defaults, text, parts.as_slice()) {
+        Raw::And(parts) => match resolve_each(alloc, schema, defaults, text, parts.as_slice()) {
             Ok(queries) => Ok(and_of(queries)),
             Err(refusal) => Err(refusal),
         },
-        Raw::Or(parts) => match resolve_each(alloc, fields, defaults, text, parts.as_slice()) {
+        Raw::Or(parts) => match resolve_each(alloc, schema, defaults, text, parts.as_slice()) {
             Ok(queries) => Ok(or_of(queries)),
             Err(refusal) => Err(refusal),
         },
@@ -278,16 +296,16 @@ fn resolve(
 #[cycle(resolve)]
 fn resolve_each(
     alloc: Global,
-    fields: &[Field],
+    schema: &Schema,
     defaults: &[usize],
     text: &[u8],
     parts: &[Raw],
 ) -> Result<Vec<Query>, QueryError>
-    ensures { spec.Gives (λ v. view_all v.items) (spec.resolve_after fields.now defaults.now text.now no_more (map tree parts.now)) result }
+    ensures { spec.Gives (λ v. view_all v.items) (spec.resolve_after schema.now defaults.now text.now no_more (map tree parts.now)) result }
 {
     let mut queries = Vec::new(alloc);
     for part in parts {
-        match resolve(alloc, fields, defaults, text, part) {
+        match resolve(alloc, schema, defaults, text, part) {
             Ok(query) => queries.push(query)?,
             Err(refusal) => return Err(refusal),
         }
@@ -295,7 +313,8 @@ fn resolve_each(
     Ok(queries)
 }
 
-/// Reads a query. A clause without a field asks the default fields.
+/// Reads a query. A clause without a field asks the default fields, and one on a path that no field has asks the field that
+/// holds what is not mapped, where the schema has one.
 pub fn read_query(
     alloc: Global,
     schema: &Schema,
@@ -303,16 +322,10 @@ pub fn read_query(
     text: &str,
 ) -> Result<Query, QueryError>
     // What is read is what the text is over the schema, or its refusal, unless memory runs out.
-    ensures { spec.Gives view (spec.query_of schema.now.fields defaults.now text.now) result }
+    ensures { spec.Gives view (spec.query_of schema.now defaults.now text.now) result }
 {
     match read_whole(alloc, text) {
-        Ok(raw) => resolve(
-            alloc,
-            schema.fields.as_slice(),
-            defaults.as_slice(),
-            text.as_bytes(),
-            &raw,
-        ),
+        Ok(raw) => resolve(alloc, schema, defaults.as_slice(), text.as_bytes(), &raw),
         Err(ReadError::Memory) => Err(QueryError::Memory(AllocError)),
         Err(ReadError::Refused(Fault::Syntax { at })) => Err(QueryError::Syntax { at }),
         Err(ReadError::Refused(Fault::TooDeep { at })) => Err(QueryError::TooDeep { at }),
