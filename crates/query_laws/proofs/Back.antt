@@ -2,6 +2,7 @@
 use Rattle.std.proofs.Common.{◌≡◌, ℕ, ◌+◌, ◌-◌, ◌<◌, ◌≤◌, ◌&&◌, Bool, true, false, not, List, [], ◌∷◌, ◌++◌, length, map, Some, None, Result, Ok, Err, refl, ap, sym, ◌∙◌, subst, arith, nat_lt, lt-ltb, le-ltb, ltb-true, ltb-false, is_some, if◌then◌else◌, append_assoc, append-nil, length-append, IsUtf8, option_and_then}
 use Rattle.std.specs.Option.{option_map_or}
 use Rattle.doc_value.specs.declared.schema.Field.{Field}
+use Rattle.doc_value.specs.declared.schema.Schema.{Schema}
 use Rattle.query_ast.specs.declared.query.Item.{Item}
 use Rattle.query_ast.specs.declared.query.Edge.{Edge}
 use Rattle.query_ast.specs.declared.query.Edge.TheVariants as edges
@@ -170,12 +171,12 @@ members_delimited : (fields : List Field) (between : List ℕ) (qs : Soughts) (u
 members_delimited fields between no_more u post s d = subst (λ u. Delimited (u ++ post)) (sym s) d
 members_delimited fields between (more q qs) u post s d = subst (λ u. Delimited (u ++ post)) (sym s.1) at_blank
 
-module _ (fields : List Field) (others text : List ℕ) where
+module _ (schema : Schema) (others text : List ℕ) where
   -- an operand as it was printed at a place
   pub record Back (q : Sought) (i : ℕ) (w post : List ℕ) : Type 0 where
     pub tree : Tree
     pub free : Bool
-    pub means : resolve fields others text tree ≡ Ok q
+    pub means : resolve schema others text tree ≡ Ok q
     pub runs : (f : Frame) (fs : List Frame) → bracket_depth q + nesting q + f.deep ≤ 64 → run i (state (Want true) f fs) (w ++ post) ≡ run (i + length w) (state (After free) (with_operand f tree) fs) post
     pub deep : (f : Frame) (fs : List Frame) → f.deep ≤ 64 → 64 < bracket_depth q + nesting q + f.deep → IsDeep (run i (state (Want true) f fs) (w ++ post))
 
@@ -183,21 +184,21 @@ module _ (fields : List Field) (others text : List ℕ) where
   abbrev Means : ℕ → Field → Sought → Asking → Type 0
   Means n g q a = (bad_value text a g ≡ None) × (unplaced text a g ≡ None) × (asked_of text a n g ≡ q)
 
-  clause_back : (n : ℕ) (g : Field) (q : Sought) (s : Span) (a : Asking) → IsAsked fields n g → text_at text s ≡ g.path → Means n g q a → resolve_clause fields others text (Some s) a ≡ Ok q
+  clause_back : (n : ℕ) (g : Field) (q : Sought) (s : Span) (a : Asking) → IsAsked schema.fields n g → text_at text s ≡ g.path → Means n g q a → resolve_clause schema others text (Some s) a ≡ Ok q
   clause_back n g q s a k e m =
       let pos = first_byte a s.from in
-      let found : number_of fields (text_at text s) 0 ≡ Some n = ap (λ p. number_of fields p 0) e ∙ k.named in
-      let indexed : all_indexed fields (n ∷ []) ≡ true = ap (λ o. option_map_or (λ f. f.indexed) o true && true) k.at ∙ ap (λ b. b && true) k.indexed in
-      let good : first_bad fields text a (n ∷ []) ≡ None = ap (λ o. first_of (option_and_then (bad_value text a) o) None) k.at ∙ ap (λ o. first_of o None) m.0 in
-      let placed : first_unplaced fields text a (n ∷ []) ≡ None = ap (λ o. first_of (option_and_then (unplaced text a) o) None) k.at ∙ ap (λ o. first_of o None) m.1 in
-      let one : asked_after fields text no_more a (n ∷ []) ≡ more q no_more = ap (λ o. more (option_map_or (asked_of text a n) o sought.Nothing) no_more) k.at ∙ ap (λ q. more q no_more) m.2 in
-      ap (λ o. named_clause fields others text o s a) found
-      ∙ ap (λ b. if b then valued_clause fields text a pos (n ∷ []) (first_bad fields text a (n ∷ [])) else Err (refusals.NotIndexed pos)) indexed
-      ∙ ap (valued_clause fields text a pos (n ∷ [])) good
-      ∙ ap (placed_clause fields text a pos (n ∷ [])) placed
+      let found : number_of schema.fields (text_at text s) 0 ≡ Some n = ap (λ p. number_of schema.fields p 0) e ∙ k.named in
+      let indexed : all_indexed schema.fields (n ∷ []) ≡ true = ap (λ o. option_map_or (λ f. f.indexed) o true && true) k.at ∙ ap (λ b. b && true) k.indexed in
+      let good : first_bad schema.fields text a (n ∷ []) ≡ None = ap (λ o. first_of (option_and_then (bad_value text a) o) None) k.at ∙ ap (λ o. first_of o None) m.0 in
+      let placed : first_unplaced schema.fields text a (n ∷ []) ≡ None = ap (λ o. first_of (option_and_then (unplaced text a) o) None) k.at ∙ ap (λ o. first_of o None) m.1 in
+      let one : asked_after schema.fields text no_more a (n ∷ []) ≡ more q no_more = ap (λ o. more (option_map_or (asked_of text a n) o sought.Nothing) no_more) k.at ∙ ap (λ q. more q no_more) m.2 in
+      ap (λ o. named_clause schema others text o s a) found
+      ∙ ap (λ b. if b then valued_clause schema.fields text a pos (n ∷ []) (first_bad schema.fields text a (n ∷ [])) else Err (refusals.NotIndexed pos)) indexed
+      ∙ ap (valued_clause schema.fields text a pos (n ∷ [])) good
+      ∙ ap (placed_clause schema.fields text a pos (n ∷ [])) placed
       ∙ ap (λ qs. over_fields qs pos) one
 
-  named_back : (n : ℕ) (g : Field) (q : Sought) (c : ℕ) (cs a : List ℕ) (ask : ℕ → Asking) (b : Bool) → IsAsked fields n g → g.path ≡ c ∷ cs → bracket_depth q + nesting q ≡ 0
+  named_back : (n : ℕ) (g : Field) (q : Sought) (c : ℕ) (cs a : List ℕ) (ask : ℕ → Asking) (b : Bool) → IsAsked schema.fields n g → g.path ≡ c ∷ cs → bracket_depth q + nesting q ≡ 0
       → (pre post : List ℕ) (i : ℕ) → text ≡ pre ++ (((word_text (c ∷ cs) ++ 58 ∷ []) ++ a) ++ post) → i ≡ length pre
       → ((x : Span) (j : ℕ) (f : Frame) (fs : List Frame) → run j (state (Behind x) f fs) (a ++ post) ≡ run (j + length a) (state (After b) (with_operand f (leaf (Some x) (ask j))) fs) post)
       → ((before : List ℕ) (j : ℕ) → text ≡ before ++ (a ++ post) → j ≡ length before → Means n g q (ask j))
@@ -225,11 +226,11 @@ module _ (fields : List Field) (others text : List ℕ) where
       }
 
   -- a field and what is asked of it
-  field_is : (n : ℕ) (g : Field) → IsAsked fields n g → path_of fields n ≡ g.path
+  field_is : (n : ℕ) (g : Field) → IsAsked schema.fields n g → path_of schema.fields n ≡ g.path
   field_is n g k = rw k.at refl
 
-  field_back : (n : ℕ) (g : Field) (q : Sought) (a : List ℕ) (ask : ℕ → Asking) (b : Bool) → IsAsked fields n g → bracket_depth q + nesting q ≡ 0
-      → (w pre post : List ℕ) (i : ℕ) → w ≡ field_text fields n ++ a → text ≡ pre ++ (w ++ post) → i ≡ length pre
+  field_back : (n : ℕ) (g : Field) (q : Sought) (a : List ℕ) (ask : ℕ → Asking) (b : Bool) → IsAsked schema.fields n g → bracket_depth q + nesting q ≡ 0
+      → (w pre post : List ℕ) (i : ℕ) → w ≡ field_text schema.fields n ++ a → text ≡ pre ++ (w ++ post) → i ≡ length pre
       → ((x : Span) (j : ℕ) (f : Frame) (fs : List Frame) → run j (state (Behind x) f fs) (a ++ post) ≡ run (j + length a) (state (After b) (with_operand f (leaf (Some x) (ask j))) fs) post)
       → ((before : List ℕ) (j : ℕ) → text ≡ before ++ (a ++ post) → j ≡ length before → Means n g q (ask j))
       → Back q i w post
@@ -240,12 +241,12 @@ module _ (fields : List Field) (others text : List ℕ) where
       (named_back n g q p.0 p.1 a ask b k p.2 flat pre post i (e ∙ ap (λ w. pre ++ (w ++ post)) same) at runs means)
 
   -- a word, a prefix and a quoted text
-  word_back : (n : ℕ) (g : Field) (v : List ℕ) → IsAsked fields n g → is_some (spelled g.kind v) ≡ true → HasFirst v → IsUtf8 v
-      → (w pre post : List ℕ) (i : ℕ) → Spells (asked fields n (word_text v)) w → text ≡ pre ++ (w ++ post) → i ≡ length pre → Delimited post → Back (sought.Word n v) i w post
+  word_back : (n : ℕ) (g : Field) (v : List ℕ) → IsAsked schema.fields n g → is_some (spelled g.kind v) ≡ true → HasFirst v → IsUtf8 v
+      → (w pre post : List ℕ) (i : ℕ) → Spells (asked schema.fields n (word_text v)) w → text ≡ pre ++ (w ++ post) → i ≡ length pre → Delimited post → Back (sought.Word n v) i w post
   unfolding WordRead
   word_back n g v k h p u w pre post i s e at d =
       let wt = word_text (p.0 ∷ p.1) in
-      let is : w ≡ field_text fields n ++ wt = s.1 ∙ ap (λ t. field_text fields n ++ t) (spells_written (word_text v) s.0 s.2 ∙ ap word_text p.2) in
+      let is : w ≡ field_text schema.fields n ++ wt = s.1 ∙ ap (λ t. field_text schema.fields n ++ t) (spells_written (word_text v) s.0 s.2 ∙ ap word_text p.2) in
       field_back n g (sought.Word n v) wt (λ j. asks.Word (span j (j + length wt))) false k refl w pre post i is e at
       (λ x j f fs.
       let r : WordRead (Behind x) (Fielded x) j f fs (j + length wt) wt post = word_reads (Behind x) (Fielded x) j f fs (λ c. refl) refl p.0 p.1 post (j + length wt) refl in
@@ -254,12 +255,12 @@ module _ (fields : List Field) (others text : List ℕ) where
       let z : text_at text (span j (j + length wt)) ≡ v = word_at text before post p.0 p.1 j (j + length wt) (subst IsUtf8 p.2 u) e a refl ∙ sym p.2 in
       (ap (λ t. place_unless (is_some (spelled g.kind t)) j) z ∙ ap (λ b. place_unless b j) h, refl, ap (sought.Word n) z))
 
-  prefix_back : (n : ℕ) (g : Field) (v : List ℕ) → IsAsked fields n g → is_text g.kind ≡ true → HasFirst v → IsUtf8 v
-      → (w pre post : List ℕ) (i : ℕ) → Spells (asked fields n (word_text v ++ 42 ∷ [])) w → text ≡ pre ++ (w ++ post) → i ≡ length pre → Delimited post → Back (sought.Prefix n v) i w post
+  prefix_back : (n : ℕ) (g : Field) (v : List ℕ) → IsAsked schema.fields n g → is_text g.kind ≡ true → HasFirst v → IsUtf8 v
+      → (w pre post : List ℕ) (i : ℕ) → Spells (asked schema.fields n (word_text v ++ 42 ∷ [])) w → text ≡ pre ++ (w ++ post) → i ≡ length pre → Delimited post → Back (sought.Prefix n v) i w post
   unfolding WordRead
   prefix_back n g v k h p u w pre post i s e at d =
       let wt = word_text (p.0 ∷ p.1) in
-      let is : w ≡ field_text fields n ++ (wt ++ 42 ∷ []) = s.1 ∙ ap (λ t. field_text fields n ++ t) (spells_written (word_text v ++ 42 ∷ []) s.0 s.2 ∙ ap (λ v. word_text v ++ 42 ∷ []) p.2) in
+      let is : w ≡ field_text schema.fields n ++ (wt ++ 42 ∷ []) = s.1 ∙ ap (λ t. field_text schema.fields n ++ t) (spells_written (word_text v ++ 42 ∷ []) s.0 s.2 ∙ ap (λ v. word_text v ++ 42 ∷ []) p.2) in
       field_back n g (sought.Prefix n v) (wt ++ 42 ∷ []) (λ j. asks.Prefix (span j (j + length wt))) false k refl w pre post i is e at
       (λ x j f fs.
       let r : WordRead (Behind x) (Fielded x) j f fs (j + length wt) wt (42 ∷ post) = word_reads (Behind x) (Fielded x) j f fs (λ c. refl) refl p.0 p.1 (42 ∷ post) (j + length wt) refl in
@@ -269,11 +270,11 @@ module _ (fields : List Field) (others text : List ℕ) where
       let z : text_at text (span j (j + length wt)) ≡ v = word_at text before (42 ∷ post) p.0 p.1 j (j + length wt) (subst IsUtf8 p.2 u) (sooner text before wt (42 ∷ []) post e) a refl ∙ sym p.2 in
       (ap (λ b. place_unless b j) h, refl, ap (sought.Prefix n) z))
 
-  quoted_back : (n : ℕ) (g : Field) (v : List ℕ) → IsAsked fields n g → is_some (spelled g.kind v) ≡ true → is_unplaced g v ≡ false → IsUtf8 v
-      → (w pre post : List ℕ) (i : ℕ) → Spells (asked fields n (quote_text v)) w → text ≡ pre ++ (w ++ post) → i ≡ length pre → Back (sought.Quoted n v) i w post
+  quoted_back : (n : ℕ) (g : Field) (v : List ℕ) → IsAsked schema.fields n g → is_some (spelled g.kind v) ≡ true → is_unplaced g v ≡ false → IsUtf8 v
+      → (w pre post : List ℕ) (i : ℕ) → Spells (asked schema.fields n (quote_text v)) w → text ≡ pre ++ (w ++ post) → i ≡ length pre → Back (sought.Quoted n v) i w post
   quoted_back n g v k h p u w pre post i s e at =
       let hv = hiding hides_in_quote v in
-      let is : w ≡ field_text fields n ++ quote_text v = s.1 ∙ ap (λ t. field_text fields n ++ t) (spells_written (quote_text v) s.0 s.2) in
+      let is : w ≡ field_text schema.fields n ++ quote_text v = s.1 ∙ ap (λ t. field_text schema.fields n ++ t) (spells_written (quote_text v) s.0 s.2) in
       field_back n g (sought.Quoted n v) (quote_text v) (λ j. asks.Quoted (span (j + 1) (j + 1 + length hv))) false k refl w pre post i is e at
       (λ x j f fs.
       ap (λ xs. run j (state (Behind x) f fs) (34 ∷ xs)) (append_assoc hv (34 ∷ []) post)
@@ -289,19 +290,19 @@ module _ (fields : List Field) (others text : List ℕ) where
         ap (sought.Quoted n) z,
       ))
 
-  exists_back : (n : ℕ) (g : Field) → IsAsked fields n g
-      → (w pre post : List ℕ) (i : ℕ) → Spells (asked fields n (42 ∷ [])) w → text ≡ pre ++ (w ++ post) → i ≡ length pre → Back (sought.Exists n) i w post
+  exists_back : (n : ℕ) (g : Field) → IsAsked schema.fields n g
+      → (w pre post : List ℕ) (i : ℕ) → Spells (asked schema.fields n (42 ∷ [])) w → text ≡ pre ++ (w ++ post) → i ≡ length pre → Back (sought.Exists n) i w post
   exists_back n g k w pre post i s e at =
-      let is : w ≡ field_text fields n ++ (42 ∷ []) = s.1 ∙ ap (λ t. field_text fields n ++ t) (spells_written (42 ∷ []) s.0 s.2) in
+      let is : w ≡ field_text schema.fields n ++ (42 ∷ []) = s.1 ∙ ap (λ t. field_text schema.fields n ++ t) (spells_written (42 ∷ []) s.0 s.2) in
       field_back n g (sought.Exists n) (42 ∷ []) (λ j. asks.Any) false k refl w pre post i is e at
       (λ x j f fs. star_behind x j f fs post) (λ before j e a. (refl, refl, refl))
 
-  set_back : (n : ℕ) (g : Field) (items : List Item) → IsAsked fields n g → AreItemsOf g items
-      → (w pre post : List ℕ) (i : ℕ) → Spells (asked fields n (set_text items)) w → text ≡ pre ++ (w ++ post) → i ≡ length pre → Back (sought.AnyOf n items) i w post
+  set_back : (n : ℕ) (g : Field) (items : List Item) → IsAsked schema.fields n g → AreItemsOf g items
+      → (w pre post : List ℕ) (i : ℕ) → Spells (asked schema.fields n (set_text items)) w → text ≡ pre ++ (w ++ post) → i ≡ length pre → Back (sought.AnyOf n items) i w post
   set_back n g items k h w pre post i s e at =
       let t = items_spelled g items h in
       let same : set_text items ≡ set_bytes t.shown = (λ k. 73 ∷ 78 ∷ 32 ∷ 91 ∷ t.all k ++ 93 ∷ []) in
-      let is : w ≡ field_text fields n ++ set_bytes t.shown = s.1 ∙ ap (λ t. field_text fields n ++ t) (spells_written (set_text items) s.0 s.2 ∙ same) in
+      let is : w ≡ field_text schema.fields n ++ set_bytes t.shown = s.1 ∙ ap (λ t. field_text schema.fields n ++ t) (spells_written (set_text items) s.0 s.2 ∙ same) in
       field_back n g (sought.AnyOf n items) (set_bytes t.shown) (λ j. asks.OneOf j (all_members (j + 4) t.shown)) true k refl w pre post i is e at
       (λ x j f fs. set_shown t.shown x j (j + length (set_bytes t.shown)) f fs post refl)
       (λ before j e a.
@@ -320,8 +321,8 @@ module _ (fields : List Field) (others text : List ℕ) where
   closes (edges.Included v) = refl
   closes edges.Unbounded = refl
 
-  range_back : (n : ℕ) (g : Field) (low high : Edge) → IsAsked fields n g → has_order g.kind ≡ true → IsEdgeOf g.kind low → IsEdgeOf g.kind high
-      → (w pre post : List ℕ) (i : ℕ) → Spells (Written (field_text fields n) ∷ range_pieces low high) w → text ≡ pre ++ (w ++ post) → i ≡ length pre → Back (sought.Range n low high) i w post
+  range_back : (n : ℕ) (g : Field) (low high : Edge) → IsAsked schema.fields n g → has_order g.kind ≡ true → IsEdgeOf g.kind low → IsEdgeOf g.kind high
+      → (w pre post : List ℕ) (i : ℕ) → Spells (Written (field_text schema.fields n) ∷ range_pieces low high) w → text ≡ pre ++ (w ++ post) → i ≡ length pre → Back (sought.Range n low high) i w post
   range_back n g low high k o hl hh w pre post i s e at =
       let p = spells_split (edge_pieces low) (Written (32 ∷ 84 ∷ 79 ∷ 32 ∷ []) ∷ (edge_pieces high ++ (Written (closing high) ∷ []))) s.2.0 s.2.2 in
       let q = spells_split (edge_pieces high) (Written (closing high) ∷ []) p.4.0 p.4.2 in
@@ -334,7 +335,7 @@ module _ (fields : List Field) (others text : List ℕ) where
       s.2.1 ∙ (λ k. opens low k ++ p.2 k) ∙ ap (λ r. begins (is_closed low) ∷ (p.0 ++ r)) p.4.1
       ∙ (λ k. begins (is_closed low) ∷ (l.are k ++ (32 ∷ (84 ∷ (79 ∷ (32 ∷ q.2 k))))))
       ∙ (λ k. begins (is_closed low) ∷ (edge_bytes l.edge ++ (32 ∷ (84 ∷ (79 ∷ (32 ∷ (h.are k ++ (spells_written (closing high) q.1 q.4 ∙ closes high) k))))))) in
-      let is : w ≡ field_text fields n ++ bytes = s.1 ∙ ap (λ t. field_text fields n ++ t) same in
+      let is : w ≡ field_text schema.fields n ++ bytes = s.1 ∙ ap (λ t. field_text schema.fields n ++ t) same in
       field_back n g (sought.Range n low high) bytes (λ j. asks.Within j (Between c (bound_at (j + 1) l.edge) (bound_at (high_from j l.edge) h.edge) d)) true k refl w pre post i is e at
       (λ x j f fs. range_shown c l.edge h.edge d x j (j + length bytes) f fs post refl)
       (λ before j e a.
@@ -378,7 +379,7 @@ module _ (fields : List Field) (others text : List ℕ) where
   -- the members of an And or an Or, as they were printed at a place
   record Chain (q : Sought) (i : ℕ) (w post : List ℕ) : Type 0 where
     tree : Tree
-    means : resolve fields others text tree ≡ Ok q
+    means : resolve schema others text tree ≡ Ok q
     runs : (d : ℕ) (fs : List Frame) → nesting q + d ≤ 64
         → (g : Frame) × (b : Bool) × (whole g ≡ Some tree) × (run i (state (Want true) (fresh d) fs) (w ++ post) ≡ run (i + length w) (state (After b) g fs) post)
     deep : (d : ℕ) (fs : List Frame) → d ≤ 64 → 64 < nesting q + d → IsDeep (run i (state (Want true) (fresh d) fs) (w ++ post))
@@ -410,13 +411,13 @@ module _ (fields : List Field) (others text : List ℕ) where
           let full : 64 ≤ f.deep = ltb-false f.deep 64 h in
           (i, ap (run i (state (Want true) f fs)) same ∙ open_deep i f fs (v ++ (41 ∷ post)) full)
 
-  more_means : (done : Trees) (t : Tree) (dq : Soughts) (q : Sought) → resolve_each fields others text done ≡ Ok dq → resolve fields others text t ≡ Ok q → resolve_each fields others text (behind done t) ≡ Ok (and_then dq q)
-  more_means done t dq q e h = ap (λ r. r >>= λ qs. resolve fields others text t >>= λ q. Ok (and_then qs q)) e ∙ ap (λ r. r >>= λ q. Ok (and_then dq q)) h
+  more_means : (done : Trees) (t : Tree) (dq : Soughts) (q : Sought) → resolve_each schema others text done ≡ Ok dq → resolve schema others text t ≡ Ok q → resolve_each schema others text (behind done t) ≡ Ok (and_then dq q)
+  more_means done t dq q e h = ap (λ r. r >>= λ qs. resolve schema others text t >>= λ q. Ok (and_then qs q)) e ∙ ap (λ r. r >>= λ q. Ok (and_then dq q)) h
 
   -- the members behind the first
   record AndsRest (qs : Soughts) (i : ℕ) (w post : List ℕ) (done : Trees) (dq : Soughts) : Type 0 where
     trees : Trees
-    means : resolve_each fields others text trees ≡ Ok (join dq qs)
+    means : resolve_each schema others text trees ≡ Ok (join dq qs)
     sizes : count trees ≡ count done + size qs
     runs : (b : Bool) (d : ℕ) (fs : List Frame) → nesting_all qs + d ≤ 64
         → (c : Bool) × (run i (state (After b) (level d no_trees done) fs) (w ++ post) ≡ run (i + length w) (state (After c) (level d no_trees trees) fs) post)
@@ -456,7 +457,7 @@ module _ (fields : List Field) (others text : List ℕ) where
   record OrsRest (qs : Soughts) (i : ℕ) (w post : List ℕ) (done : Trees) (last : Tree) (dq : Soughts) : Type 0 where
     trees : Trees
     end : Tree
-    means : resolve_each fields others text (behind trees end) ≡ Ok (join dq qs)
+    means : resolve_each schema others text (behind trees end) ≡ Ok (join dq qs)
     sizes : count trees ≡ count done + size qs
     runs : (b : Bool) (d : ℕ) (fs : List Frame) → nesting_all qs + d ≤ 64
         → (c : Bool) × (run i (state (After b) (level d done (behind no_trees last)) fs) (w ++ post) ≡ run (i + length w) (state (After c) (level d trees (behind no_trees end)) fs) post)
@@ -494,7 +495,7 @@ module _ (fields : List Field) (others text : List ℕ) where
           (begin c d fs ∙ b.runs (level d (behind done last) no_trees) fs fits)
           (r.deep b.free d fs l (omega (arith, m, fits)))
 
-  no_ands : (post : List ℕ) (i : ℕ) (w : List ℕ) (done : Trees) (dq : Soughts) → w ≡ [] → resolve_each fields others text done ≡ Ok dq → AndsRest no_more i w post done dq
+  no_ands : (post : List ℕ) (i : ℕ) (w : List ℕ) (done : Trees) (dq : Soughts) → w ≡ [] → resolve_each schema others text done ≡ Ok dq → AndsRest no_more i w post done dq
   no_ands post i w done dq e m = record {
     trees = done;
     means = m ∙ ap Ok (sym (join_none dq));
@@ -503,7 +504,7 @@ module _ (fields : List Field) (others text : List ℕ) where
     deep = λ b d fs l m. absurd (omega (arith, l, m));
   }
 
-  no_ors : (post : List ℕ) (i : ℕ) (w : List ℕ) (done : Trees) (last : Tree) (dq : Soughts) → w ≡ [] → resolve_each fields others text (behind done last) ≡ Ok dq → OrsRest no_more i w post done last dq
+  no_ors : (post : List ℕ) (i : ℕ) (w : List ℕ) (done : Trees) (last : Tree) (dq : Soughts) → w ≡ [] → resolve_each schema others text (behind done last) ≡ Ok dq → OrsRest no_more i w post done last dq
   no_ors post i w done last dq e m = record {
     trees = done;
     end = last;
@@ -585,121 +586,121 @@ module _ (fields : List Field) (others text : List ℕ) where
     one : List ℕ
     others' : List ℕ
     are : w ≡ before ++ (one ++ others')
-    first : Spells (inner q (printed fields q)) one
-    rest : Spells (printed_all fields between between qs) others'
+    first : Spells (inner q (printed schema.fields q)) one
+    rest : Spells (printed_all schema.fields between between qs) others'
 
-  members_of : (before between : List ℕ) (q : Sought) (qs : Soughts) (w : List ℕ) → Spells (printed_all fields between before (more q qs)) w → Members before between q qs w
+  members_of : (before between : List ℕ) (q : Sought) (qs : Soughts) (w : List ℕ) → Spells (printed_all schema.fields between before (more q qs)) w → Members before between q qs w
   members_of before between q qs w s =
-      let p = spells_split (inner q (printed fields q)) (printed_all fields between between qs) s.0 s.2 in
+      let p = spells_split (inner q (printed schema.fields q)) (printed_all schema.fields between between qs) s.0 s.2 in
       record { one = p.0; others' = p.1; are = s.1 ∙ ap (λ t. before ++ t) p.2; first = p.3; rest = p.4 }
 
   mutual
     -- an operand as it is printed
-    operand_back : {q : Sought} → Readable fields q → (w pre post : List ℕ) (i : ℕ) → Spells (inner q (printed fields q)) w → text ≡ pre ++ (w ++ post) → i ≡ length pre → Delimited post → Back q i w post
-    operand_back r_all w pre post i s e a d = all_back w post i (spells_written (42 ∷ []) w (bare (printed fields sought.All) w s))
-    operand_back (r_word {n} {f} {w = v} k h p u) w pre post i s e a d = word_back n f v k h p u w pre post i (bare (printed fields (sought.Word n v)) w s) e a d
-    operand_back (r_quoted {n} {f} {w = v} k h p u) w pre post i s e a d = quoted_back n f v k h p u w pre post i (bare (printed fields (sought.Quoted n v)) w s) e a
-    operand_back (r_prefix {n} {f} {w = v} k h p u) w pre post i s e a d = prefix_back n f v k h p u w pre post i (bare (printed fields (sought.Prefix n v)) w s) e a d
-    operand_back (r_exists {n} {f} k) w pre post i s e a d = exists_back n f k w pre post i (bare (printed fields (sought.Exists n)) w s) e a
-    operand_back (r_range {n} {f} {low} {high} k o hl hh) w pre post i s e a d = range_back n f low high k o hl hh w pre post i (bare (printed fields (sought.Range n low high)) w s) e a
-    operand_back (r_set {n} {f} {is = items} k h) w pre post i s e a d = set_back n f items k h w pre post i (bare (printed fields (sought.AnyOf n items)) w s) e a
+    operand_back : {q : Sought} → Readable schema.fields q → (w pre post : List ℕ) (i : ℕ) → Spells (inner q (printed schema.fields q)) w → text ≡ pre ++ (w ++ post) → i ≡ length pre → Delimited post → Back q i w post
+    operand_back r_all w pre post i s e a d = all_back w post i (spells_written (42 ∷ []) w (bare (printed schema.fields sought.All) w s))
+    operand_back (r_word {n} {f} {w = v} k h p u) w pre post i s e a d = word_back n f v k h p u w pre post i (bare (printed schema.fields (sought.Word n v)) w s) e a d
+    operand_back (r_quoted {n} {f} {w = v} k h p u) w pre post i s e a d = quoted_back n f v k h p u w pre post i (bare (printed schema.fields (sought.Quoted n v)) w s) e a
+    operand_back (r_prefix {n} {f} {w = v} k h p u) w pre post i s e a d = prefix_back n f v k h p u w pre post i (bare (printed schema.fields (sought.Prefix n v)) w s) e a d
+    operand_back (r_exists {n} {f} k) w pre post i s e a d = exists_back n f k w pre post i (bare (printed schema.fields (sought.Exists n)) w s) e a
+    operand_back (r_range {n} {f} {low} {high} k o hl hh) w pre post i s e a d = range_back n f low high k o hl hh w pre post i (bare (printed schema.fields (sought.Range n low high)) w s) e a
+    operand_back (r_set {n} {f} {is = items} k h) w pre post i s e a d = set_back n f items k h w pre post i (bare (printed schema.fields (sought.AnyOf n items)) w s) e a
     operand_back (r_not {q} r) w pre post i s e a d =
-        let t = bare (printed fields (sought.Not q)) w s in
+        let t = bare (printed schema.fields (sought.Not q)) w s in
         not_back q w t.0 post i t.1 (operand_back r t.0 (pre ++ 78 ∷ 79 ∷ 84 ∷ 32 ∷ []) post (i + 4) t.2
         (e ∙ ap (λ w. pre ++ (w ++ post)) t.1 ∙ sym (append_assoc pre (78 ∷ 79 ∷ 84 ∷ 32 ∷ []) (t.0 ++ post))) (omega (arith, a, length-append pre (78 ∷ 79 ∷ 84 ∷ 32 ∷ []))) d)
     operand_back (r_and {qs} rs l) w pre post i s e a d =
-        let p = spells_split (printed fields (sought.And qs)) (Written (41 ∷ []) ∷ []) s.0 s.2 in
+        let p = spells_split (printed schema.fields (sought.And qs)) (Written (41 ∷ []) ∷ []) s.0 s.2 in
         let is : w ≡ 40 ∷ (p.0 ++ 41 ∷ []) = s.1 ∙ ap (λ t. 40 ∷ t) (p.2 ∙ ap (λ t. p.0 ++ t) (spells_written (41 ∷ []) p.1 p.4)) in
         group_back (sought.And qs) w p.0 post i refl is (ands_back rs l p.0 (pre ++ 40 ∷ []) (41 ∷ post) (i + 1) p.3
         (e ∙ ap (λ w. pre ++ (w ++ post)) is ∙ ap (λ t. pre ++ (40 ∷ t)) (append_assoc p.0 (41 ∷ []) post) ∙ sym (append_assoc pre (40 ∷ []) (p.0 ++ (41 ∷ post)))) (omega (arith, a, length-append pre (40 ∷ []))) at_close)
     operand_back (r_or {qs} rs l) w pre post i s e a d =
-        let p = spells_split (printed fields (sought.Or qs)) (Written (41 ∷ []) ∷ []) s.0 s.2 in
+        let p = spells_split (printed schema.fields (sought.Or qs)) (Written (41 ∷ []) ∷ []) s.0 s.2 in
         let is : w ≡ 40 ∷ (p.0 ++ 41 ∷ []) = s.1 ∙ ap (λ t. 40 ∷ t) (p.2 ∙ ap (λ t. p.0 ++ t) (spells_written (41 ∷ []) p.1 p.4)) in
         group_back (sought.Or qs) w p.0 post i refl is (ors_back rs l p.0 (pre ++ 40 ∷ []) (41 ∷ post) (i + 1) p.3
         (e ∙ ap (λ w. pre ++ (w ++ post)) is ∙ ap (λ t. pre ++ (40 ∷ t)) (append_assoc p.0 (41 ∷ []) post) ∙ sym (append_assoc pre (40 ∷ []) (p.0 ++ (41 ∷ post)))) (omega (arith, a, length-append pre (40 ∷ []))) at_close)
 
-    ands_back : {qs : Soughts} → AreReadable fields qs → 2 ≤ size qs → (w pre post : List ℕ) (i : ℕ) → Spells (printed_all fields blank_and [] qs) w → text ≡ pre ++ (w ++ post) → i ≡ length pre → Delimited post → Chain (sought.And qs) i w post
+    ands_back : {qs : Soughts} → AreReadable schema.fields qs → 2 ≤ size qs → (w pre post : List ℕ) (i : ℕ) → Spells (printed_all schema.fields blank_and [] qs) w → text ≡ pre ++ (w ++ post) → i ≡ length pre → Delimited post → Chain (sought.And qs) i w post
     ands_back r_none l w pre post i s e a d = absurd (omega (arith, l))
     ands_back (r_more {q} {qs} r rs) l w pre post i s e a d =
         let m = members_of [] blank_and q qs w s in
-        let b = operand_back r m.one pre (m.others' ++ post) i m.first (e ∙ ap (λ w. pre ++ (w ++ post)) m.are ∙ ap (λ t. pre ++ t) (append_assoc m.one m.others' post)) a (members_delimited fields (65 ∷ 78 ∷ 68 ∷ 32 ∷ []) qs m.others' post m.rest d) in
+        let b = operand_back r m.one pre (m.others' ++ post) i m.first (e ∙ ap (λ w. pre ++ (w ++ post)) m.are ∙ ap (λ t. pre ++ t) (append_assoc m.one m.others' post)) a (members_delimited schema.fields (65 ∷ 78 ∷ 68 ∷ 32 ∷ []) qs m.others' post m.rest d) in
         and_chain q qs w m.one m.others' post i m.are (omega (arith, l)) b
         (ands_rest rs m.others' (pre ++ m.one) post (i + length m.one) m.rest (e ∙ ap (λ w. pre ++ (w ++ post)) m.are ∙ ap (λ t. pre ++ t) (append_assoc m.one m.others' post) ∙ sym (append_assoc pre m.one (m.others' ++ post)))
         (omega (arith, a, length-append pre m.one)) d (behind no_trees b.tree) (more q no_more) (more_means no_trees b.tree no_more q refl b.means))
 
-    ands_rest : {qs : Soughts} → AreReadable fields qs → (w pre post : List ℕ) (i : ℕ) → Spells (printed_all fields blank_and blank_and qs) w → text ≡ pre ++ (w ++ post) → i ≡ length pre → Delimited post
-        → (done : Trees) (dq : Soughts) → resolve_each fields others text done ≡ Ok dq → AndsRest qs i w post done dq
+    ands_rest : {qs : Soughts} → AreReadable schema.fields qs → (w pre post : List ℕ) (i : ℕ) → Spells (printed_all schema.fields blank_and blank_and qs) w → text ≡ pre ++ (w ++ post) → i ≡ length pre → Delimited post
+        → (done : Trees) (dq : Soughts) → resolve_each schema others text done ≡ Ok dq → AndsRest qs i w post done dq
     ands_rest r_none w pre post i s e a d done dq h = no_ands post i w done dq s h
     ands_rest (r_more {q} {qs} r rs) w pre post i s e a d done dq h =
         let m = members_of blank_and blank_and q qs w s in
         let here : text ≡ (pre ++ blank_and) ++ (m.one ++ (m.others' ++ post)) =
         e ∙ ap (λ w. pre ++ (w ++ post)) m.are ∙ ap (λ t. pre ++ (32 ∷ 65 ∷ 78 ∷ 68 ∷ 32 ∷ t)) (append_assoc m.one m.others' post) ∙ sym (append_assoc pre blank_and (m.one ++ (m.others' ++ post))) in
-        let b = operand_back r m.one (pre ++ blank_and) (m.others' ++ post) (i + 5) m.first here (omega (arith, a, length-append pre blank_and)) (members_delimited fields (65 ∷ 78 ∷ 68 ∷ 32 ∷ []) qs m.others' post m.rest d) in
+        let b = operand_back r m.one (pre ++ blank_and) (m.others' ++ post) (i + 5) m.first here (omega (arith, a, length-append pre blank_and)) (members_delimited schema.fields (65 ∷ 78 ∷ 68 ∷ 32 ∷ []) qs m.others' post m.rest d) in
         and_more q qs w m.one m.others' post i done dq m.are b
         (ands_rest rs m.others' ((pre ++ blank_and) ++ m.one) post (i + 5 + length m.one) m.rest (here ∙ sym (append_assoc (pre ++ blank_and) m.one (m.others' ++ post)))
         (omega (arith, a, length-append pre blank_and, length-append (pre ++ blank_and) m.one)) d (behind done b.tree) (and_then dq q) (more_means done b.tree dq q h b.means))
 
-    ors_back : {qs : Soughts} → AreReadable fields qs → 2 ≤ size qs → (w pre post : List ℕ) (i : ℕ) → Spells (printed_all fields blank_or [] qs) w → text ≡ pre ++ (w ++ post) → i ≡ length pre → Delimited post → Chain (sought.Or qs) i w post
+    ors_back : {qs : Soughts} → AreReadable schema.fields qs → 2 ≤ size qs → (w pre post : List ℕ) (i : ℕ) → Spells (printed_all schema.fields blank_or [] qs) w → text ≡ pre ++ (w ++ post) → i ≡ length pre → Delimited post → Chain (sought.Or qs) i w post
     ors_back r_none l w pre post i s e a d = absurd (omega (arith, l))
     ors_back (r_more {q} {qs} r rs) l w pre post i s e a d =
         let m = members_of [] blank_or q qs w s in
-        let b = operand_back r m.one pre (m.others' ++ post) i m.first (e ∙ ap (λ w. pre ++ (w ++ post)) m.are ∙ ap (λ t. pre ++ t) (append_assoc m.one m.others' post)) a (members_delimited fields (79 ∷ 82 ∷ 32 ∷ []) qs m.others' post m.rest d) in
+        let b = operand_back r m.one pre (m.others' ++ post) i m.first (e ∙ ap (λ w. pre ++ (w ++ post)) m.are ∙ ap (λ t. pre ++ t) (append_assoc m.one m.others' post)) a (members_delimited schema.fields (79 ∷ 82 ∷ 32 ∷ []) qs m.others' post m.rest d) in
         or_chain q qs w m.one m.others' post i m.are (omega (arith, l)) b
         (ors_rest rs m.others' (pre ++ m.one) post (i + length m.one) m.rest (e ∙ ap (λ w. pre ++ (w ++ post)) m.are ∙ ap (λ t. pre ++ t) (append_assoc m.one m.others' post) ∙ sym (append_assoc pre m.one (m.others' ++ post)))
         (omega (arith, a, length-append pre m.one)) d no_trees b.tree (more q no_more) (more_means no_trees b.tree no_more q refl b.means))
 
-    ors_rest : {qs : Soughts} → AreReadable fields qs → (w pre post : List ℕ) (i : ℕ) → Spells (printed_all fields blank_or blank_or qs) w → text ≡ pre ++ (w ++ post) → i ≡ length pre → Delimited post
-        → (done : Trees) (last : Tree) (dq : Soughts) → resolve_each fields others text (behind done last) ≡ Ok dq → OrsRest qs i w post done last dq
+    ors_rest : {qs : Soughts} → AreReadable schema.fields qs → (w pre post : List ℕ) (i : ℕ) → Spells (printed_all schema.fields blank_or blank_or qs) w → text ≡ pre ++ (w ++ post) → i ≡ length pre → Delimited post
+        → (done : Trees) (last : Tree) (dq : Soughts) → resolve_each schema others text (behind done last) ≡ Ok dq → OrsRest qs i w post done last dq
     ors_rest r_none w pre post i s e a d done last dq h = no_ors post i w done last dq s h
     ors_rest (r_more {q} {qs} r rs) w pre post i s e a d done last dq h =
         let m = members_of blank_or blank_or q qs w s in
         let here : text ≡ (pre ++ blank_or) ++ (m.one ++ (m.others' ++ post)) =
         e ∙ ap (λ w. pre ++ (w ++ post)) m.are ∙ ap (λ t. pre ++ (32 ∷ 79 ∷ 82 ∷ 32 ∷ t)) (append_assoc m.one m.others' post) ∙ sym (append_assoc pre blank_or (m.one ++ (m.others' ++ post))) in
-        let b = operand_back r m.one (pre ++ blank_or) (m.others' ++ post) (i + 4) m.first here (omega (arith, a, length-append pre blank_or)) (members_delimited fields (79 ∷ 82 ∷ 32 ∷ []) qs m.others' post m.rest d) in
+        let b = operand_back r m.one (pre ++ blank_or) (m.others' ++ post) (i + 4) m.first here (omega (arith, a, length-append pre blank_or)) (members_delimited schema.fields (79 ∷ 82 ∷ 32 ∷ []) qs m.others' post m.rest d) in
         or_more q qs w m.one m.others' post i done last dq m.are b
         (ors_rest rs m.others' ((pre ++ blank_or) ++ m.one) post (i + 4 + length m.one) m.rest (here ∙ sym (append_assoc (pre ++ blank_or) m.one (m.others' ++ post)))
         (omega (arith, a, length-append pre blank_or, length-append (pre ++ blank_or) m.one)) d (behind done last) b.tree (and_then dq q) (more_means (behind done last) b.tree dq q h b.means))
 
 -- the whole text of a query
-pub record Whole (fields : List Field) (others : List ℕ) (q : Sought) (text : List ℕ) : Type 0 where
-  pub again : nesting q ≤ 64 → query_of fields others text ≡ Ok q
-  pub deep : 64 < nesting q → (at : ℕ) × (query_of fields others text ≡ Err (refusals.TooDeep at))
+pub record Whole (schema : Schema) (others : List ℕ) (q : Sought) (text : List ℕ) : Type 0 where
+  pub again : nesting q ≤ 64 → query_of schema others text ≡ Ok q
+  pub deep : 64 < nesting q → (at : ℕ) × (query_of schema others text ≡ Err (refusals.TooDeep at))
 
-whole_chain : (fields : List Field) (others : List ℕ) (q : Sought) (text : List ℕ) → Chain fields others text q 0 text [] → Whole fields others q text
-whole_chain fields others q text c = record {
+whole_chain : (schema : Schema) (others : List ℕ) (q : Sought) (text : List ℕ) → Chain schema others text q 0 text [] → Whole schema others q text
+whole_chain schema others q text c = record {
   again = λ l.
       let r = c.runs 0 [] (omega (arith, l)) in
       let e : reads text ≡ Ok c.tree = ap (run 0 start) (sym (append-nil text)) ∙ r.3 ∙ end_run (0 + length text) r.1 r.0 c.tree r.2 in
-      ap (resolved fields others text) e ∙ c.means;
+      ap (resolved schema others text) e ∙ c.means;
   deep = λ l.
       let d = c.deep 0 [] (omega arith) (omega (arith, l)) in
-      (d.0, ap (resolved fields others text) (ap (run 0 start) (sym (append-nil text)) ∙ d.1));
+      (d.0, ap (resolved schema others text) (ap (run 0 start) (sym (append-nil text)) ∙ d.1));
 }
 
-whole_operand : (fields : List Field) (others : List ℕ) (q : Sought) (text : List ℕ) → bracket_depth q ≡ 0 → Back fields others text q 0 text [] → Whole fields others q text
-whole_operand fields others q text z b = record {
+whole_operand : (schema : Schema) (others : List ℕ) (q : Sought) (text : List ℕ) → bracket_depth q ≡ 0 → Back schema others text q 0 text [] → Whole schema others q text
+whole_operand schema others q text z b = record {
   again = λ l.
       let e : reads text ≡ Ok b.tree = ap (run 0 start) (sym (append-nil text)) ∙ b.runs (fresh 0) [] (omega (arith, l, z)) ∙ end_run (0 + length text) b.free (with_operand (fresh 0) b.tree) b.tree refl in
-      ap (resolved fields others text) e ∙ b.means;
+      ap (resolved schema others text) e ∙ b.means;
   deep = λ l.
       let d = b.deep (fresh 0) [] (omega arith) (omega (arith, l, z)) in
-      (d.0, ap (resolved fields others text) (ap (run 0 start) (sym (append-nil text)) ∙ d.1));
+      (d.0, ap (resolved schema others text) (ap (run 0 start) (sym (append-nil text)) ∙ d.1));
 }
 
-pub whole_back : (fields : List Field) (others : List ℕ) (q : Sought) (text : List ℕ) → Readable fields q → Spells (printed fields q) text → Whole fields others q text
-whole_back fields others q text r s = go r s
+pub whole_back : (schema : Schema) (others : List ℕ) (q : Sought) (text : List ℕ) → Readable schema.fields q → Spells (printed schema.fields q) text → Whole schema others q text
+whole_back schema others q text r s = go r s
   where
-    plain : (q : Sought) → bracket_depth q ≡ 0 → Readable fields q → Spells (inner q (printed fields q)) text → Whole fields others q text
-    plain q z r s = whole_operand fields others q text z (operand_back fields others text r text [] [] 0 s (sym (append-nil text)) refl at_end)
+    plain : (q : Sought) → bracket_depth q ≡ 0 → Readable schema.fields q → Spells (inner q (printed schema.fields q)) text → Whole schema others q text
+    plain q z r s = whole_operand schema others q text z (operand_back schema others text r text [] [] 0 s (sym (append-nil text)) refl at_end)
 
-    go : {q : Sought} → Readable fields q → Spells (printed fields q) text → Whole fields others q text
-    go (r_and {qs} rs l) s = whole_chain fields others (sought.And qs) text (ands_back fields others text rs l text [] [] 0 s (sym (append-nil text)) refl at_end)
-    go (r_or {qs} rs l) s = whole_chain fields others (sought.Or qs) text (ors_back fields others text rs l text [] [] 0 s (sym (append-nil text)) refl at_end)
-    go r_all s = plain sought.All refl r_all (unbare (printed fields sought.All) text s)
-    go (r_word {n} {f} {w = v} k h p u) s = plain (sought.Word n v) refl (r_word k h p u) (unbare (printed fields (sought.Word n v)) text s)
-    go (r_quoted {n} {f} {w = v} k h p u) s = plain (sought.Quoted n v) refl (r_quoted k h p u) (unbare (printed fields (sought.Quoted n v)) text s)
-    go (r_prefix {n} {f} {w = v} k h p u) s = plain (sought.Prefix n v) refl (r_prefix k h p u) (unbare (printed fields (sought.Prefix n v)) text s)
-    go (r_exists {n} {f} k) s = plain (sought.Exists n) refl (r_exists k) (unbare (printed fields (sought.Exists n)) text s)
-    go (r_range {n} {f} {low} {high} k o hl hh) s = plain (sought.Range n low high) refl (r_range k o hl hh) (unbare (printed fields (sought.Range n low high)) text s)
-    go (r_set {n} {f} {is = items} k h) s = plain (sought.AnyOf n items) refl (r_set k h) (unbare (printed fields (sought.AnyOf n items)) text s)
-    go (r_not {q} r) s = plain (sought.Not q) refl (r_not r) (unbare (printed fields (sought.Not q)) text s)
+    go : {q : Sought} → Readable schema.fields q → Spells (printed schema.fields q) text → Whole schema others q text
+    go (r_and {qs} rs l) s = whole_chain schema others (sought.And qs) text (ands_back schema others text rs l text [] [] 0 s (sym (append-nil text)) refl at_end)
+    go (r_or {qs} rs l) s = whole_chain schema others (sought.Or qs) text (ors_back schema others text rs l text [] [] 0 s (sym (append-nil text)) refl at_end)
+    go r_all s = plain sought.All refl r_all (unbare (printed schema.fields sought.All) text s)
+    go (r_word {n} {f} {w = v} k h p u) s = plain (sought.Word n v) refl (r_word k h p u) (unbare (printed schema.fields (sought.Word n v)) text s)
+    go (r_quoted {n} {f} {w = v} k h p u) s = plain (sought.Quoted n v) refl (r_quoted k h p u) (unbare (printed schema.fields (sought.Quoted n v)) text s)
+    go (r_prefix {n} {f} {w = v} k h p u) s = plain (sought.Prefix n v) refl (r_prefix k h p u) (unbare (printed schema.fields (sought.Prefix n v)) text s)
+    go (r_exists {n} {f} k) s = plain (sought.Exists n) refl (r_exists k) (unbare (printed schema.fields (sought.Exists n)) text s)
+    go (r_range {n} {f} {low} {high} k o hl hh) s = plain (sought.Range n low high) refl (r_range k o hl hh) (unbare (printed schema.fields (sought.Range n low high)) text s)
+    go (r_set {n} {f} {is = items} k h) s = plain (sought.AnyOf n items) refl (r_set k h) (unbare (printed schema.fields (sought.AnyOf n items)) text s)
+    go (r_not {q} r) s = plain (sought.Not q) refl (r_not r) (unbare (printed schema.fields (sought.Not q)) text s)

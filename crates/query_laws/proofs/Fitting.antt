@@ -1,27 +1,33 @@
 -- A query that was read is of the schema that it was read for.
-use Rattle.std.proofs.Common.{◌≡◌, ℕ, ◌≤◌, Bool, true, false, List, [], ◌∷◌, map, Option, Some, None, Ok, refl, subst, arith, is_some, slice_get, ℤ}
-use Rattle.doc_value.specs.Documents.{IsOfKind}
+use Rattle.std.proofs.Common.{◌≡◌, ℕ, ◌≤◌, Bool, true, false, List, [], ◌∷◌, map, Option, Some, None, Result, Ok, Err, refl, ap, subst, arith, is_some, slice_get, ℤ}
+use Rattle.std.specs.Option.{IfSome}
+use Rattle.doc_value.specs.Documents.{IsOfKind, IsDynamic}
 use Rattle.doc_value.specs.declared.schema.Field.{Field}
 use Rattle.doc_value.specs.declared.schema.Kind.{Kind as Sort}
 use Rattle.doc_value.specs.declared.schema.Kind.TheVariants as kinds
 use Rattle.doc_value.specs.declared.schema.Schema.{Schema}
 use Rattle.doc_value.specs.declared.doc.Value.{Value}
 use Rattle.doc_value.specs.declared.doc.Value.TheVariants as values
+use Rattle.dynamic_paths.specs.LeafTexts.{leaf_text}
 use Rattle.query_ast.specs.Meaning.{is_text}
 use Rattle.query_ast.specs.Queries as queries
 use Rattle.query_ast.specs.Queries.{IsInTime, EachSpells, IsQueryOf, AreQueriesOf, AreTwo}
 use Rattle.query_ast.specs.Spelled.{spelled, signed_of, unsigned_of, truth_of, datetime_of}
 use Rattle.query_ast.specs.Sought.{Sought, Soughts, no_more, more}
 use Rattle.query_ast.specs.declared.query.Edge.{Edge}
+use Rattle.query_reader.proofs.Holding.{IsHolder, holder}
+use Rattle.query_laws.proofs.Leaves.{if_holder}
 use Rattle.query_laws.proofs.Formed.{size, EachOf, Rules, unless_none, first_none, ordered_true, query_formed}
 use Rattle.query_laws.proofs.Readable.{IsEdgeOf, open_edge, included_edge, excluded_edge, edge_readable}
 use Rattle.query_laws.proofs.Spelling.{datetime_is}
 use Rattle.query_reader.specs.Asking.{Asking}
 use Rattle.query_reader.specs.Asking as asks
 use Rattle.query_reader.specs.Grammar.{IsQuery}
-use Rattle.query_reader.specs.Resolve.{resolve, asked_at, asked_of, and_then, bad_at, bad_value, bad_bound, bad_range, bad_members, range_of, item_of, has_order, member_byte, place_unless}
+use Rattle.query_reader.specs.Resolve.{resolve, asked_at, asked_of, leaf_item, leaf_clause, and_then, bad_at, bad_value, bad_bound, bad_range, bad_members, range_of, item_of, has_order, member_byte, place_unless}
 use Rattle.query_reader.specs.Texts.{text_at}
 use Rattle.query_reader.specs.Tree.{Tree}
+use Rattle.query_reader.specs.declared.refusal.QueryError.{QueryError}
+use Rattle.query_reader.specs.declared.refusal.QueryError.TheVariants as refusals
 use Rattle.query_reader.specs.declared.special.Member.{Member}
 use Rattle.query_reader.specs.declared.special.Compare.TheVariants.{AtLeast, AtMost, Above, Below}
 use Rattle.query_reader.specs.declared.special.Ranged.{Ranged}
@@ -106,6 +112,30 @@ at_fits s text n a b = go (slice_get s.fields n) refl
         let one : asked_of text a n f ≡ asked_at s.fields text a n = rw h refl in
         subst (IsQueryOf s) one (asked_fits s text n f h a (let y : bad_value text a f ≡ None = rw h at b in y))
 
+same_ok : (p q : Sought) → ◌≡◌ {A = Result Sought QueryError} (Ok p) (Ok q) → p ≡ q
+same_ok p q e = cc
+
+-- what is asked of a path that no field has
+module _ (s : Schema) (text path : List ℕ) (n : ℕ) (f : Field) (here : slice_get s.fields n ≡ Some f) (h : IsHolder f) where
+  leaf_spells : (w : List ℕ) → is_some (spelled f.kind w) ≡ true
+  leaf_spells w = ap (λ (kind : Sort). is_some (spelled kind w)) h.kind
+
+  leaf_items_fit : (ms : List Member) → EachSpells (map (leaf_item text path) ms) f
+  leaf_items_fit [] = tt
+  leaf_items_fit (m ∷ ms) = (leaf_spells (leaf_text path (text_at text m.place)), leaf_items_fit ms)
+
+  leaf_fits : (a : Asking) (q : Sought) → leaf_clause text path n a ≡ Ok q → IsQueryOf s q
+  leaf_fits asks.Any q e = subst (IsQueryOf s) (same_ok _ q e) (rw here (ap is_text h.kind))
+  leaf_fits (asks.Word p) q e = subst (IsQueryOf s) (same_ok _ q e) (rw here (leaf_spells (leaf_text path (text_at text p))))
+  leaf_fits (asks.Prefix p) q e = subst (IsQueryOf s) (same_ok _ q e) (rw here (ap is_text h.kind))
+  leaf_fits (asks.Quoted p) q e = subst (IsQueryOf s) (same_ok _ q e) (rw here (leaf_spells (leaf_text path (text_at text p))))
+  leaf_fits (asks.Within m r) q e = absurd (let y : ◌≡◌ {A = Result Sought QueryError} (Err (refusals.BadValue m)) (Ok q) = e in cc)
+  leaf_fits (asks.OneOf m ms) q e = subst (IsQueryOf s) (same_ok _ q e) (rw here (leaf_items_fit ms))
+
+unnamed_fits : (s : Schema) (text path : List ℕ) (n : ℕ) (a : Asking) (q : Sought) → IfSome s.dynamic (IsDynamic s.fields) → s.dynamic ≡ Some n → leaf_clause text path n a ≡ Ok q → IsQueryOf s q
+unnamed_fits s text path n a q d e h =
+    let r = holder s.fields n (if_holder s.fields s.dynamic n d e) in leaf_fits s text path n r.0 r.1 r.2 a q h
+
 two : (qs : Soughts) → 2 ≤ size qs → AreTwo qs
 two no_more l = omega (arith, l)
 two (more q no_more) l = omega (arith, l)
@@ -119,10 +149,11 @@ any_number : (ns : List ℕ) → EachOf (λ n. Unit {0}) ns
 any_number [] = tt
 any_number (n ∷ ns) = (tt, any_number ns)
 
-fitting_rules : (s : Schema) (defaults text : List ℕ) → Rules s.fields defaults text (λ n. Unit {0}) (IsQueryOf s) (AreQueriesOf s)
-fitting_rules s defaults text = record {
+fitting_rules : (s : Schema) (defaults text : List ℕ) → IfSome s.dynamic (IsDynamic s.fields) → Rules s defaults text (λ n. Unit {0}) (IsQueryOf s) (AreQueriesOf s)
+fitting_rules s defaults text d = record {
   asked = λ n a here w i b u. at_fits s text n a b;
   found = λ n f e. tt;
+  leaf = λ n p a q e w h. unnamed_fits s text (text_at text p) n a q d e h;
   within = any_number defaults;
   all = tt;
   negated = λ q h. h;
@@ -133,5 +164,5 @@ fitting_rules s defaults text = record {
   only = λ q h. h.0;
 }
 
-pub query_fits : (s : Schema) (defaults text : List ℕ) {t : Tree} {n : ℕ} (q : Sought) → IsQuery n text t → resolve s.fields defaults text t ≡ Ok q → IsQueryOf s q
-query_fits s defaults text q x e = query_formed s.fields defaults text (λ n. Unit {0}) (IsQueryOf s) (AreQueriesOf s) (fitting_rules s defaults text) q x e
+pub query_fits : (s : Schema) (defaults text : List ℕ) → IfSome s.dynamic (IsDynamic s.fields) → {t : Tree} {n : ℕ} (q : Sought) → IsQuery n text t → resolve s defaults text t ≡ Ok q → IsQueryOf s q
+query_fits s defaults text d q x e = query_formed s defaults text (λ n. Unit {0}) (IsQueryOf s) (AreQueriesOf s) (fitting_rules s defaults text d) q x e

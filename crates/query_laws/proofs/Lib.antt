@@ -6,6 +6,7 @@ pub mod Words
 pub mod Edges
 pub mod Digits
 pub mod Formed
+pub mod Leaves
 pub mod Readable
 pub mod Spelling
 pub mod Back

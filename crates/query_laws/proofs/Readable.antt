@@ -1,10 +1,13 @@
 -- What a query that was read has: fields that are found, texts with a first byte where a word needs one, edges and members that
 -- are values of their fields.
-use Rattle.std.proofs.Common.{◌≡◌, ◌≢◌, ℕ, zero, suc, ◌+◌, ◌-◌, ◌<◌, ◌≤◌, ◌&&◌, Bool, true, false, not, List, [], ◌∷◌, ◌++◌, map, Option, Some, None, Ok, refl, ap, sym, ◌∙◌, subst, arith, nat_eq, eqb-true, eq-eqb, is_some, slice_get, get_or, IsUtf8}
+use Rattle.std.proofs.Common.{◌≡◌, ◌≢◌, ℕ, zero, suc, ◌+◌, ◌-◌, ◌<◌, ◌≤◌, ◌&&◌, Bool, true, false, not, List, [], ◌∷◌, ◌++◌, map, Option, Some, None, Result, Ok, Err, refl, ap, sym, ◌∙◌, subst, arith, nat_eq, eqb-true, eq-eqb, is_some, slice_get, get_or, IsUtf8}
 use Rattle.std.specs.Prelude.{slice_range}
+use Rattle.std.specs.Option.{IfSome}
+use Rattle.std.proofs.lemmas.Str.{IsUtf8-nil}
 use Rattle.std.specs.Str.{bytes_eq}
 use Rattle.doc_value.specs.declared.schema.Field.{Field}
 use Rattle.doc_value.specs.declared.schema.Kind.{Kind as Sort}
+use Rattle.doc_value.specs.declared.schema.Schema.{Schema}
 use Rattle.doc_value.specs.declared.doc.Value.{Value}
 use Rattle.query_ast.specs.declared.query.Item.{Item}
 use Rattle.query_ast.specs.declared.query.Edge.{Edge}
@@ -19,22 +22,28 @@ use Rattle.query_reader.specs.Asking as asks
 use Rattle.query_reader.specs.Tree.{Tree}
 use Rattle.query_reader.specs.Texts.{unescaped, unescaped_from, text_at, run_at}
 use Rattle.query_reader.specs.Grammar.{Letters, no_letter, letter, escaped_letter, Word, Asks, a_word, a_prefix, a_quote, Items, no_item, item_blank, item_word, item_quoted, Specials, any_value, a_range, compared, a_set, IsQuery, span, member}
-use Rattle.query_reader.specs.Resolve.{resolve, asked_at, asked_of, and_then, indexed_at, bad_at, bad_value, bad_bound, bad_range, bad_members, unplaced_at, unplaced, unplaced_members, is_unplaced, place_unless, edge_of, edge_with, range_of, item_of, number_of, has_order, member_byte}
+use Rattle.query_reader.specs.Resolve.{resolve, asked_at, asked_of, leaf_item, leaf_clause, and_then, indexed_at, bad_at, bad_value, bad_bound, bad_range, bad_members, unplaced_at, unplaced, unplaced_members, is_unplaced, place_unless, edge_of, edge_with, range_of, item_of, number_of, has_order, member_byte}
 use Rattle.query_reader.specs.Printed.{AreNamed}
-use Rattle.doc_value.specs.Documents.{PathsRise, IsBefore}
+use Rattle.doc_value.specs.Documents.{PathsRise, IsBefore, IsDynamic}
 use Rattle.doc_value.proofs.Finding.{rise-between}
 use Rattle.std.proofs.lemmas.Map.Text.{is_eq-slice_cmp}
 use Rattle.std.specs.Ordering.{is_eq}
+use Rattle.dynamic_paths.specs.LeafTexts.{leaf_text}
 use Rattle.query_reader.specs.declared.kind.Kind.TheVariants.{Escape}
 use Rattle.query_reader.specs.declared.kind.Said.{Said}
+use Rattle.query_reader.specs.declared.refusal.QueryError.{QueryError}
+use Rattle.query_reader.specs.declared.refusal.QueryError.TheVariants as refusals
 use Rattle.query_reader.specs.declared.special.Member.{Member}
 use Rattle.query_reader.specs.declared.special.Bound.{Bound}
 use Rattle.query_reader.specs.declared.special.Bound.TheVariants as bounds
 use Rattle.query_reader.specs.declared.special.Compare.TheVariants.{AtLeast, AtMost, Above, Below}
 use Rattle.query_reader.specs.declared.special.Ranged.{Ranged}
 use Rattle.query_reader.specs.declared.special.Ranged.TheVariants.{Between, Compared}
+use Rattle.query_reader.specs.declared.tree.Span.{Span}
 use Rattle.query_reader.proofs.Steps.{slice_more}
 use Rattle.query_reader.proofs.Utf8.{lossy_utf8, lossy_some}
+use Rattle.query_reader.proofs.Holding.{IsHolder, holder}
+use Rattle.query_laws.proofs.Leaves.{leaf_utf8, leaf_some, if_holder, holder_placed, and_no}
 use Rattle.query_laws.proofs.Formed.{IsWritten, plain_written, special_written, size, EachOf, Rules, unless_none, first_none, not_true, ordered_true, query_formed}
 
 -- each field is found by its path, a text with at least one byte
@@ -281,10 +290,53 @@ at_readable fields text n a found within w i b u =
     let one : asked_at fields text a n ≡ asked_of text a n f = rw e refl in
     subst (Readable fields) (sym one) (asked_readable fields n f text a ask w (let y : bad_value text a f ≡ None = rw e at b in y) (let y : unplaced text a f ≡ None = rw e at u in y))
 
-readable_rules : (fields : List Field) (defaults text : List ℕ) → AreFound fields → Within fields defaults → Rules fields defaults text (IsField fields) (Readable fields) (AreReadable fields)
-readable_rules fields defaults text found within = record {
-  asked = λ n a here w i b u. at_readable fields text n a found here (written_worded w) i b u;
+same_ok : (p q : Sought) → ◌≡◌ {A = Result Sought QueryError} (Ok p) (Ok q) → p ≡ q
+same_ok p q e = cc
+
+-- what is asked of a path that no field has
+module _ (fields : List Field) (text path : List ℕ) (n : ℕ) (f : Field) (k : IsAsked fields n f) (h : IsHolder f) (utf : IsUtf8 path) where
+  leaf_value : (w : List ℕ) → is_some (spelled f.kind w) ≡ true
+  leaf_value w = ap (λ (kind : Sort). is_some (spelled kind w)) h.kind
+
+  leaf_first : (w : List ℕ) → HasFirst (leaf_text path w)
+  leaf_first w = has_first (leaf_text path w) (leaf_some path w)
+
+  leaf_said : (s : Span) → IsUtf8 (leaf_text path (text_at text s))
+  leaf_said s = leaf_utf8 path (text_at text s) utf (lossy_utf8 (unescaped (slice_range text s.from s.to)))
+
+  leaf_items : (ms : List Member) → AreItemsOf f (map (leaf_item text path) ms)
+  leaf_items [] = no_items
+  leaf_items (m ∷ ms) =
+      more_items (record {
+        value = leaf_value (leaf_text path (text_at text m.place));
+        placed = ap (λ b. m.quoted && b) (holder_placed f (leaf_text path (text_at text m.place)) h) ∙ and_no m.quoted;
+        first = λ e. leaf_first (text_at text m.place);
+        text = leaf_said m.place;
+      })
+      (leaf_items ms)
+
+  leaf_readable : (a : Asking) (q : Sought) → leaf_clause text path n a ≡ Ok q → Readable fields q
+  leaf_readable asks.Any q e = subst (Readable fields) (same_ok _ q e) (r_prefix k (ap is_text h.kind) (leaf_first []) (leaf_utf8 path [] utf IsUtf8-nil))
+  leaf_readable (asks.Word s) q e = subst (Readable fields) (same_ok _ q e) (r_word k (leaf_value (leaf_text path (text_at text s))) (leaf_first (text_at text s)) (leaf_said s))
+  leaf_readable (asks.Prefix s) q e = subst (Readable fields) (same_ok _ q e) (r_prefix k (ap is_text h.kind) (leaf_first (text_at text s)) (leaf_said s))
+  leaf_readable (asks.Quoted s) q e = subst (Readable fields) (same_ok _ q e) (r_quoted k (leaf_value (leaf_text path (text_at text s))) (holder_placed f (leaf_text path (text_at text s)) h) (leaf_said s))
+  leaf_readable (asks.Within m r) q e = absurd (let y : ◌≡◌ {A = Result Sought QueryError} (Err (refusals.BadValue m)) (Ok q) = e in cc)
+  leaf_readable (asks.OneOf m ms) q e = subst (Readable fields) (same_ok _ q e) (r_set k (leaf_items ms))
+
+unnamed_readable : (schema : Schema) (text : List ℕ) → AreFound schema.fields → IfSome schema.dynamic (IsDynamic schema.fields)
+    → (n : ℕ) (s : Span) (a : Asking) (q : Sought) → schema.dynamic ≡ Some n → leaf_clause text (text_at text s) n a ≡ Ok q → Readable schema.fields q
+unnamed_readable schema text found d n s a q e h =
+    let r = holder schema.fields n (if_holder schema.fields schema.dynamic n d e) in
+    let p = found n r.0 r.1 in
+    let k : IsAsked schema.fields n r.0 = record { at = r.1; named = p.0; indexed = r.2.indexed; first = has_first r.0.path p.2; text = p.1 } in
+    leaf_readable schema.fields text (text_at text s) n r.0 k r.2 (lossy_utf8 (unescaped (slice_range text s.from s.to))) a q h
+
+readable_rules : (schema : Schema) (defaults text : List ℕ) → AreFound schema.fields → IfSome schema.dynamic (IsDynamic schema.fields) → Within schema.fields defaults
+    → Rules schema defaults text (IsField schema.fields) (Readable schema.fields) (AreReadable schema.fields)
+readable_rules schema defaults text found d within = record {
+  asked = λ n a here w i b u. at_readable schema.fields text n a found here (written_worded w) i b u;
   found = λ n f e. (f, e);
+  leaf = λ n s a q e w h. unnamed_readable schema text found d n s a q e h;
   within = within;
   all = r_all;
   negated = λ q r. r_not r;
@@ -296,5 +348,7 @@ readable_rules fields defaults text found within = record {
 }
 
 -- a query that was read
-pub query_readable : (fields : List Field) (defaults text : List ℕ) → AreFound fields → Within fields defaults → {t : Tree} {n : ℕ} (q : Sought) → IsQuery n text t → resolve fields defaults text t ≡ Ok q → Readable fields q
-query_readable fields defaults text found within q x e = query_formed fields defaults text (IsField fields) (Readable fields) (AreReadable fields) (readable_rules fields defaults text found within) q x e
+pub query_readable : (schema : Schema) (defaults text : List ℕ) → AreFound schema.fields → IfSome schema.dynamic (IsDynamic schema.fields) → Within schema.fields defaults → {t : Tree} {n : ℕ} (q : Sought) → IsQuery n text t
+    → resolve schema defaults text t ≡ Ok q → Readable schema.fields q
+query_readable schema defaults text found d within q x e =
+    query_formed schema defaults text (IsField schema.fields) (Readable schema.fields) (AreReadable schema.fields) (readable_rules schema defaults text found d within) q x e

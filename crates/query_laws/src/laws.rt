@@ -1,7 +1,8 @@
 // Laws of the query language, over its definitions alone.
 
 ghost use Rattle.std.specs.Prelude.{◌≡◌, ◌↔◌, ◌<◌, ◌≤◌, ℕ, List, Ok, Err};
-ghost use Rattle.doc_value.specs.declared.schema.Field.{Field};
+ghost use Rattle.std.specs.Option.{IfSome};
+ghost use Rattle.doc_value.specs.Documents.{IsDynamic};
 ghost use Rattle.doc_value.specs.declared.schema.Schema.{Schema};
 ghost use Rattle.query_ast.specs.Queries.{IsQueryOf};
 ghost use Rattle.query_ast.specs.Sought.{Sought};
@@ -29,15 +30,17 @@ pub fn reading_laws()
 /// What is printed of a query that was read is read as that query again, with whatever default fields, or nests too deep.
 pub fn printing_laws()
     // Where brackets and NOTs of the printed text stand at most 64 one in another, that text is that query.
-    ensures again { (fields : List Field) (defaults others text shown : List ℕ) (q : Sought) → IsPrintedOf fields defaults text q shown →
-        nesting q ≤ 64 → query_of fields others shown ≡ Ok q }
+    ensures again { (schema : Schema) (defaults others text shown : List ℕ) (q : Sought) → IsPrintedOf schema defaults text q shown →
+        nesting q ≤ 64 → query_of schema others shown ≡ Ok q }
     // Where they stand deeper, it is too deep.
-    ensures deep { (fields : List Field) (defaults others text shown : List ℕ) (q : Sought) → IsPrintedOf fields defaults text q shown →
-        64 < nesting q → (at : ℕ) × (query_of fields others shown ≡ Err (TooDeep at)) }
+    ensures deep { (schema : Schema) (defaults others text shown : List ℕ) (q : Sought) → IsPrintedOf schema defaults text q shown →
+        64 < nesting q → (at : ℕ) × (query_of schema others shown ≡ Err (TooDeep at)) }
 {}
 
 /// A query that was read is of the schema that it was read for, whatever the default fields are.
 pub fn schema_laws()
     // Its fields stand in the schema, its texts, members and edges are values of them, and And and Or have two members or more.
-    ensures { (schema : Schema) (defaults text : List ℕ) (q : Sought) → query_of schema.fields defaults text ≡ Ok q → IsQueryOf schema q }
+    // That holds of each schema, whose field for what is not mapped, if it has one, is a list of whole texts.
+    ensures { (schema : Schema) (defaults text : List ℕ) (q : Sought) → IfSome schema.dynamic (IsDynamic schema.fields) →
+        query_of schema defaults text ≡ Ok q → IsQueryOf schema q }
 {}
