@@ -1,3 +1,4 @@
+pub mod Others
 pub mod Noting
 pub mod Fronts
 pub mod Decimals

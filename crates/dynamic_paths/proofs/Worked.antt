@@ -78,6 +78,18 @@ odd_keys : kept (codes "{\"_dynamic\":\"x\",\"\":{\"a\":1}}") ≡ are (codes "2:
 unfolding digits serde_json_on_literals
 odd_keys = refl
 
+-- The same with a field for what is not mapped: at its path nothing is mapped, and nothing lies in an object there.
+abbrev with_dynamic : Schema
+with_dynamic = record { fields = field (codes "_dynamic") ∷ field (codes "body") ∷ []; timestamp = None; dynamic = Some 0 }
+
+its_own_path : option_map (answer with_dynamic) (read (codes "{\"_dynamic\":\"x\",\"body\":\"red\"}")) ≡ are (codes "8:_dynamic:x" ∷ [])
+unfolding digits serde_json_on_literals
+its_own_path = refl
+
+below_its_path : option_map (answer with_dynamic) (read (codes "{\"_dynamic\":{\"body\":1},\"body\":\"red\"}")) ≡ are (codes "13:_dynamic.body:1" ∷ [])
+unfolding digits serde_json_on_literals
+below_its_path = refl
+
 -- an array has no members
 no_object : kept (codes "[\"x\"]") ≡ are []
 unfolding digits serde_json_on_literals

@@ -7,14 +7,16 @@ use Rattle.serde_json.specs.Data.{Num, Data, null, boolean, number, string, arra
 use Rattle.serde_json.specs.Find.{as_i64, as_u64, as_object}
 use Rattle.doc_value.specs.declared.schema.Field.{Field}
 use Rattle.doc_value.specs.declared.schema.Schema.{Schema}
+use Rattle.doc_value.specs.Documents.{mapped_fields}
 use Rattle.doc_value.specs.Printed as printed
 use Rattle.dynamic_paths.specs.LeafTexts.{Leaf, fitting_texts}
 use Rattle.dynamic_paths.specs.declared.fault.LeafFault.{LeafFault}
 use Rattle.dynamic_paths.specs.declared.fault.LeafFault.TheVariants.{TooManyLeaves, Memory}
 
--- The fields that are mapped. A field that holds what is not mapped is to be left out here, and nowhere else.
-abbrev pub mapped_fields : Schema → List Field
-mapped_fields schema = schema.fields
+-- a number is this one, if there is one
+abbrev pub is_number : Option ℕ → ℕ → Bool
+is_number None n = false
+is_number (Some m) n = nat_eq m n
 
 -- some field has this path
 abbrev pub is_field : List Field → List ℕ → Bool

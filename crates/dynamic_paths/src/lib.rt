@@ -11,4 +11,5 @@ mod walk;
 pub use fault::LeafFault;
 pub use gathered::{Leaves, MAX_LEAVES};
 pub use leaf::{MAX_LEAF_TEXT, leaf_text};
+pub use mapped::{is_dynamic, is_object};
 pub use walk::leaves;

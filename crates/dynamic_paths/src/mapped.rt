@@ -2,16 +2,27 @@
 
 ghost use Rattle.std.specs.Prelude.{◌≡◌, ◌∷◌, ◌++◌, [], nat_eq};
 ghost use Rattle.std.specs.List.{starts_with};
+ghost use Rattle.doc_value.specs.Documents.{mapped_fields};
 ghost use Rattle.dynamic_paths.specs.Leaves as spec;
 
 use doc_value::Schema;
 
+/// Whether a number is that of the field that holds what is not mapped.
+pub fn is_dynamic(schema: &Schema, number: usize) -> bool
+    ensures { result ≡ spec.is_number schema.now.dynamic number }
+{
+    match schema.dynamic {
+        Some(dynamic) => dynamic == number,
+        None => false,
+    }
+}
+
 /// Whether a mapped field has this path.
 pub fn is_field(schema: &Schema, path: &[u8]) -> bool
-    ensures { result ≡ spec.is_field (spec.mapped_fields schema.now) path.now }
+    ensures { result ≡ spec.is_field (mapped_fields schema.now) path.now }
 {
-    for field in schema.fields.as_slice() {
-        if field.path.as_slice() == path {
+    for (number, field) in schema.fields.as_slice().iter().enumerate() {
+        if !is_dynamic(schema, number) && field.path.as_slice() == path {
             return true;
         }
     }
@@ -20,10 +31,10 @@ pub fn is_field(schema: &Schema, path: &[u8]) -> bool
 
 /// Whether some mapped field lies in an object at this path.
 pub fn is_object(schema: &Schema, path: &[u8]) -> bool
-    ensures { result ≡ spec.is_object (spec.mapped_fields schema.now) (path.now ++ 46 ∷ []) }
+    ensures { result ≡ spec.is_object (mapped_fields schema.now) (path.now ++ 46 ∷ []) }
 {
-    for field in schema.fields.as_slice() {
-        if lies_below(field.path.as_slice(), path) {
+    for (number, field) in schema.fields.as_slice().iter().enumerate() {
+        if !is_dynamic(schema, number) && lies_below(field.path.as_slice(), path) {
             return true;
         }
     }

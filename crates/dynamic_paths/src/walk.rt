@@ -2,8 +2,9 @@
 
 ghost use Rattle.std.specs.Prelude.{◌≡◌, ◌++◌, Ok, Err, Some, OnOk, MatchResult, string_bytes};
 ghost use Rattle.serde_json.specs.View.{view, number_view, items_view, members_view};
+ghost use Rattle.doc_value.specs.Documents.{mapped_fields};
 ghost use Rattle.dynamic_paths.specs.Leaves as spec;
-ghost use Rattle.dynamic_paths.specs.Leaves.{answer, mapped_fields, IsMemory};
+ghost use Rattle.dynamic_paths.specs.Leaves.{answer, IsMemory};
 ghost use Rattle.dynamic_paths.specs.Walk.{noted_all};
 
 use crate::fault::LeafFault;

@@ -1,6 +1,8 @@
 use Rattle.std.proofs.Common.{◌≡◌, drop}
+use Rattle.doc_value.specs.Documents.{mapped_fields}
 use Rattle.dynamic_paths.specs.Leaves.{is_field}
+use Rattle.dynamic_paths.proofs.Others.{others_from}
 use Rattle.dynamic_paths.proofs.mapped.is_field.Given as goal
 
-abbrev pub invariant-loop-field : goal.invariant-loop-field
-invariant-loop-field l = is_field l.schema.fields l.path ≡ is_field (drop l.field-index l.schema.fields) l.path
+abbrev pub invariant-loop-number : goal.invariant-loop-number
+invariant-loop-number l = is_field (mapped_fields l.schema) l.path ≡ is_field (others_from l.schema.dynamic l.number (drop l.number l.schema.fields)) l.path

@@ -2,6 +2,7 @@ use Rattle.std.proofs.Common.{◌≡◌, ◌+◌, ◌<◌, ◌∷◌, ◌++◌, 
 use Rattle.std.proofs.lemmas.List.{drop_more}
 use Rattle.std.proofs.lemmas.Str.{IsUtf8-string_bytes}
 use Rattle.serde_json.specs.View.{view, items_view, members_view}
+use Rattle.doc_value.specs.Documents.{mapped_fields}
 use Rattle.dynamic_paths.specs.Leaves.{items_leaves, members_leaves, is_field}
 use Rattle.dynamic_paths.specs.Walk.{noted_all}
 use Rattle.dynamic_paths.proofs.Fronts.{splits_behind, cut_back}
@@ -11,7 +12,7 @@ use Rattle.dynamic_paths.proofs.walk.+walk.Goals.{members_leaves-then-not-is_fie
 
 pub items_leaves-loop-item-preserved : goal.items_leaves-loop-item-preserved
 items_leaves-loop-item-preserved t c =
-    let fields = c.args.schema.now.fields in
+    let fields = mapped_fields c.args.schema.now in
     let path = string_bytes c.args.path.now in
     let vs = c.args.items.now.items in
     let x = c.item-item.result in
@@ -39,7 +40,7 @@ members_leaves-truncate-requires t c = λ _.
 
 pub members_leaves-loop-key-preserved : goal.members_leaves-loop-key-preserved
 members_leaves-loop-key-preserved t c =
-    let fields = c.args.schema.now.fields in
+    let fields = mapped_fields c.args.schema.now in
     let start = string_bytes c.args.path.now in
     let key = string_bytes c.in-Some.key.now in
     let at = string_bytes c.push_str.new.self in
