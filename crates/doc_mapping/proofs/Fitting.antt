@@ -1,21 +1,25 @@
 -- The document of a record is of its schema.
 use Rattle.std.proofs.Common.{◌≡◌, ℕ, suc, ◌+◌, ◌≤◌, ◌&&◌, nat_le, nat_lt, is_some, append_assoc, Bool, true, false, List, [], ◌∷◌, ◌++◌, length, slice_get, Option, Some, None, Result, Ok, refl, sym, ap, ◌∙◌, subst, arith, inl, inr, IsTrue}
-use Rattle.std.specs.Prelude.{IfSome, ℤ}
+use Rattle.std.specs.Prelude.{IfSome, map, ℤ}
 use Rattle.std.proofs.lemmas.Bool.{cases_Bool}
 use Rattle.serde_json.specs.Data.{Data, Items, no_items, item, Members, depth}
 use Rattle.serde_json.specs.Find.{as_bool, as_str, as_array, as_object}
 use Rattle.doc_value.specs.declared.schema.Field.{Field}
 use Rattle.doc_value.specs.declared.schema.Kind.{Kind}
 use Rattle.doc_value.specs.declared.schema.Kind.TheVariants as kinds
+use Rattle.doc_value.specs.declared.schema.Schema.{Schema}
 use Rattle.doc_value.specs.declared.doc.Value.{Value}
+use Rattle.doc_value.specs.declared.doc.Value.TheVariants as values
+use Rattle.dynamic_paths.specs.LeafTexts.{fitting_texts}
+use Rattle.dynamic_paths.specs.Leaves.{is_number, leaf_list}
 use Rattle.doc_value.specs.declared.doc.DocField.{DocField}
 use Rattle.doc_value.specs.Documents.{AreOfKind, HasGoodCount, FitsFrom, IsOfSchema}
 use Rattle.doc_value.specs.Printed.{names_of}
 use Rattle.index_config.specs.declared.config.IndexConfig.{IndexConfig}
 use Rattle.doc_mapping.specs.declared.reject.Reject.{Reject}
 use Rattle.doc_mapping.specs.Faults.{i64_of, u64_of, all_texts, members_fault}
-use Rattle.doc_mapping.specs.Documents.{value_at, text_values, i64_values, u64_values, truth_values, second_of, date_values, texts_in, list_values, values_of, found_values, part_of, doc_from, has_number}
-use Rattle.doc_mapping.specs.Answer.{answer, read_answer, object_answer, fitting_answer, timed_answer, lacks_timestamp, value_of, max_record, max_levels}
+use Rattle.doc_mapping.specs.Documents.{value_at, text_values, i64_values, u64_values, truth_values, second_of, date_values, texts_in, list_values, values_of, found_values, part_of, leaf_values, leaves_for, values_from, doc_from, doc_of, has_number}
+use Rattle.doc_mapping.specs.Answer.{answer, read_answer, object_answer, counted_answer, fitting_answer, leaf_fault, timed_answer, lacks_timestamp, value_of, max_record, max_levels}
 
 -- no value, or as many as a field of this kind may have
 abbrev HasFewOf : Kind → List Value → Type 0
@@ -74,6 +78,25 @@ found-fit : (kind : Kind) (o : Option Data) → AreValuesOf kind (found_values k
 found-fit kind None = (tt, tt)
 found-fit kind (Some d) = values-fit kind d
 
+leaves-fit : (kind : Kind) (ls : List Value) → AreOfKind kinds.TextList ls → AreValuesOf kind (leaves_for kind ls)
+leaves-fit kinds.Text ls h = (tt, tt)
+leaves-fit kinds.I64 ls h = (tt, tt)
+leaves-fit kinds.U64 ls h = (tt, tt)
+leaves-fit kinds.Bool ls h = (tt, tt)
+leaves-fit kinds.Datetime ls h = (tt, tt)
+leaves-fit kinds.TextList ls h = (h, some-fit ls)
+
+from-fits : (o : Option ℕ) (ls : List Value) (n : ℕ) (f : Field) (d : Data) → AreOfKind kinds.TextList ls → AreValuesOf f.kind (values_from o ls n f d)
+from-fits o ls n f d h = by (is_number o n) refl
+  where
+    by : (b : Bool) → is_number o n ≡ b → AreValuesOf f.kind (values_from o ls n f d)
+    by true e = rw e (leaves-fit f.kind ls h)
+    by false e = rw e (found-fit f.kind (value_at (names_of f.path) d))
+
+all-texts : (ts : List (List ℕ)) → AreOfKind kinds.TextList (map values.Text ts)
+all-texts [] = tt
+all-texts (t ∷ ts) = (tt, all-texts ts)
+
 -- these fields stand in the whole list from number n on
 abbrev StandFrom : List Field → ℕ → List Field → Type 0
 StandFrom whole n fields = (m : ℕ) (f : Field) → slice_get fields m ≡ Some f → slice_get whole (n + m) ≡ Some f
@@ -93,15 +116,18 @@ part-fits : (whole : List Field) (n least : ℕ) (f : Field) (vs : List Value) (
 part-fits whole n least f [] parts at low own more = more least (omega arith)
 part-fits whole n least f (v ∷ vs) parts at low own more = (low, rw at own, more (suc n) (omega arith))
 
-doc-fits : (whole : List Field) (n least : ℕ) (fields : List Field) (d : Data) → StandFrom whole n fields → least ≤ n
-    → FitsFrom whole least (doc_from n fields d)
-doc-fits whole n least [] d at low = tt
-doc-fits whole n least (f ∷ fs) d at low =
-    part-fits whole n least f (found_values f.kind (value_at (names_of f.path) d)) (doc_from (suc n) fs d) (stands-here whole n f fs at) low
-    (found-fit f.kind (value_at (names_of f.path) d)) (λ l below. doc-fits whole (suc n) l fs d (stand-next whole n f fs at) below)
+module _ (o : Option ℕ) (ls : List Value) (texts : AreOfKind kinds.TextList ls) where
+  doc-fits : (whole : List Field) (n least : ℕ) (fields : List Field) (d : Data) → StandFrom whole n fields → least ≤ n
+      → FitsFrom whole least (doc_from o ls n fields d)
+  doc-fits whole n least [] d at low = tt
+  doc-fits whole n least (f ∷ fs) d at low =
+      part-fits whole n least f (values_from o ls n f d) (doc_from o ls (suc n) fs d) (stands-here whole n f fs at) low
+      (from-fits o ls n f d texts) (λ l below. doc-fits whole (suc n) l fs d (stand-next whole n f fs at) below)
 
-document-fits : (fields : List Field) (d : Data) → FitsFrom fields 0 (doc_from 0 fields d)
-document-fits fields d = doc-fits fields 0 0 fields d (λ m f e. let same : 0 + m ≡ m = omega arith in rw same e) (omega arith)
+document-fits : (schema : Schema) (d : Data) → FitsFrom schema.fields 0 (doc_of schema d)
+document-fits schema d =
+    doc-fits schema.dynamic (leaf_values schema d) (all-texts (fitting_texts (leaf_list schema d))) schema.fields 0 0 schema.fields d
+    (λ m f e. let same : 0 + m ≡ m = omega arith in rw same e) (omega arith)
 
 -- what an accepted document is
 abbrev IsTaken : IndexConfig → List DocField → Type 0
@@ -119,7 +145,11 @@ timed-taken config made doc fits e =
     ]
 
 fitting-taken : (config : IndexConfig) (d : Data) (fault : Option Reject) (doc : List DocField) → fitting_answer config d fault ≡ Ok doc → IsTaken config doc
-fitting-taken config d None doc e = timed-taken config (doc_from 0 config.schema.fields d) doc (document-fits config.schema.fields d) e
+fitting-taken config d None doc e = counted-taken (leaf_fault config.schema d) e
+  where
+    counted-taken : (fault : Option Reject) → counted_answer config d fault ≡ Ok doc → IsTaken config doc
+    counted-taken None c = timed-taken config (doc_of config.schema d) doc (document-fits config.schema d) c
+    counted-taken (Some refusal) c = absurd (cc)
 fitting-taken config d (Some refusal) doc e = absurd (cc)
 
 object-taken : (config : IndexConfig) (d : Data) (o : Option Members) (doc : List DocField) → object_answer config d o ≡ Ok doc → IsTaken config doc

@@ -20,21 +20,24 @@ use Rattle.std.specs.declared.cmp.Ordering.TheVariants.{Less, Equal, Greater}
 use Rattle.serde_json.specs.Data.{Data, null, boolean, number, string, array, object, Members, no_members, member, members_depth}
 use Rattle.serde_json.specs.Find.{get_member, as_object}
 use Rattle.doc_value.specs.declared.schema.Field.{Field}
+use Rattle.doc_value.specs.declared.schema.Schema.{Schema}
 use Rattle.doc_value.specs.declared.schema.Kind.{Kind}
 use Rattle.doc_value.specs.declared.doc.DocField.{DocField}
-use Rattle.doc_value.specs.Documents.{PathsRise, number_of}
+use Rattle.doc_value.specs.Documents.{PathsRise, mapped_fields, number_of}
+use Rattle.dynamic_paths.specs.Leaves.{is_object}
 use Rattle.doc_value.specs.Printed.{names_of}
 use Rattle.doc_value.proofs.Finding.{found}
 use Rattle.index_config.specs.Accepted.{BeginsPlain, BeginPlain}
 use Rattle.index_config.specs.declared.config.Formats.{Formats}
 use Rattle.index_config.specs.declared.config.IndexConfig.{IndexConfig}
 use Rattle.doc_mapping.specs.Documents.{value_at, values_of, found_values, doc_from}
-use Rattle.doc_mapping.specs.Faults.{under, formats_at, has_dot, is_object, first_of, value_fault, field_fault, key_fault, members_fault, inner_fault}
+use Rattle.doc_mapping.specs.Faults.{under, formats_at, has_dot, mapped_at, number_of_mapped, first_of, value_fault, field_fault, key_fault, members_fault, inner_fault}
 use Rattle.doc_mapping.specs.Held.{values_at, ArePlain}
 use Rattle.doc_mapping.specs.Walk.{AreRegular, RiseFrom, Enters, HasEntered, LiesAt, IsFree, Brings, Gathers, GoesBy, AreFree, BringAll, GatherAll, GatherInner}
-use Rattle.doc_mapping.proofs.Holding.{same_key, no_object, number_stands, object_by, object_from, name_first, plain_names, front}
-use Rattle.doc_mapping.proofs.Recorded.{own_order, values_found}
-use Rattle.doc_mapping.proofs.Numbering.{same_parts, doc_rises, values_past}
+use Rattle.doc_mapping.proofs.Holding.{same_key, no_object, name_first, plain_names, front}
+use Rattle.doc_mapping.proofs.Mapped.{mapped_is, stands_mapped, found_mapped, object_by, object_from}
+use Rattle.doc_mapping.proofs.Recorded.{own_order, values_mapped, values_unmapped}
+use Rattle.doc_mapping.proofs.Numbering.{same_parts, doc_rises}
 
 -- a path lies behind its first name
 pub names_lie : (p name : List ℕ) (names : List (List ℕ)) → names_of p ≡ name ∷ names → LiesAt name names p
@@ -104,9 +107,9 @@ lies_tail : (at : List ℕ) (names : List (List ℕ)) (p : List ℕ) → LiesAt 
 lies_tail at names p (inl here) = ([], (inl refl, here.1 ∙ sym (append-nil at)))
 lies_tail at names p (inr more) = (46 ∷ more.0, (inr (more.0, refl), more.1.1))
 
-module _ (fields : List Field) (prefix : List ℕ) where
+module _ (schema : Schema) (prefix : List ℕ) where
   -- a field goes by one key
-  one_way : (k l : List ℕ) (n : ℕ) (f g : Field) (names others : List (List ℕ)) → GoesBy fields prefix k names n f → GoesBy fields prefix l others n g → k ≡ l
+  one_way : (k l : List ℕ) (n : ℕ) (f g : Field) (names others : List (List ℕ)) → GoesBy schema prefix k names n f → GoesBy schema prefix l others n g → k ≡ l
   one_way k l n f g names others a b =
       let same : f ≡ g = let both : Some f ≡ Some g = sym a.1 ∙ b.1 in cc in
       let here = lies_tail (under prefix k) names f.path a.2 in
@@ -122,7 +125,7 @@ AreDistinct (member k d ms) = (get_member k ms ≡ None) × AreDistinct ms
 nothing_found : (kind : Kind) (names : List (List ℕ)) (o : Option Data) → o ≡ None → found_values kind (option_and_then (value_at names) o) ≡ []
 nothing_found kind names o e = rw e refl
 
-module _ (fields : List Field) (prefix : List ℕ) (ms : Members) (old : List DocField) where
+module _ (schema : Schema) (prefix : List ℕ) (ms : Members) (old : List DocField) where
   abbrev pub OwnLeft : List ℕ → List (List ℕ) → ℕ → Field → List DocField → Option Data → Type 0
   OwnLeft key names n f doc None = values_at doc n ≡ found_values f.kind (value_at (key ∷ names) (object ms))
   OwnLeft key names n f doc (Some e) = (values_at doc n ≡ []) × (get_member key ms ≡ Some e)
@@ -130,11 +133,11 @@ module _ (fields : List Field) (prefix : List ℕ) (ms : Members) (old : List Do
   -- what holds where these members are left
   pub record Leaves (rest : Members) (doc : List DocField) : Type 0 where
     pub rise : RiseFrom 0 doc
-    pub own : (key : List ℕ) (n : ℕ) (f : Field) (names : List (List ℕ)) → GoesBy fields prefix key names n f → OwnLeft key names n f doc (get_member key rest)
-    pub others : (n : ℕ) → ((key : List ℕ) (f : Field) (names : List (List ℕ)) → GoesBy fields prefix key names n f → ⊥) → values_at doc n ≡ values_at old n
+    pub own : (key : List ℕ) (n : ℕ) (f : Field) (names : List (List ℕ)) → GoesBy schema prefix key names n f → OwnLeft key names n f doc (get_member key rest)
+    pub others : (n : ℕ) → ((key : List ℕ) (f : Field) (names : List (List ℕ)) → GoesBy schema prefix key names n f → ⊥) → values_at doc n ≡ values_at old n
 
   abbrev pub MayLeave : Members → List DocField → Type 0
-  MayLeave rest doc = AreRegular fields → RiseFrom 0 old → AreFree fields prefix old → Leaves rest doc
+  MayLeave rest doc = AreRegular schema.fields → RiseFrom 0 old → AreFree schema prefix old → Leaves rest doc
 
   start_own : (key : List ℕ) (n : ℕ) (f : Field) (names : List (List ℕ)) → values_at old n ≡ [] → (o : Option Data) → get_member key ms ≡ o → OwnLeft key names n f old o
   start_own key n f names free None e = free ∙ sym (nothing_found f.kind names (get_member key ms) e)
@@ -147,23 +150,23 @@ module _ (fields : List Field) (prefix : List ℕ) (ms : Members) (old : List Do
     others = λ n none. refl;
   }
 
-  pub none_left : (doc : List DocField) → MayLeave no_members doc → GatherAll fields prefix ms old doc
+  pub none_left : (doc : List DocField) → MayLeave no_members doc → GatherAll schema prefix ms old doc
   none_left doc h = λ regular rise free.
       let end = h regular rise free in
       record { rise = end.rise; own = λ key n f names goes. end.own key n f names goes; others = end.others }
 
   module _ (key : List ℕ) (d : Data) (rest : Members) (doc new : List DocField) (distinct : AreDistinct (member key d rest)) (left : Leaves (member key d rest) doc)
-      (dots : has_dot key ≡ true → new ≡ doc) (gathers : has_dot key ≡ false → RiseFrom 0 doc → IsFree fields (under prefix key) doc → Brings fields (under prefix key) d doc new) where
-    at_key : (n : ℕ) (f : Field) (names : List (List ℕ)) → GoesBy fields prefix key names n f → (values_at doc n ≡ []) × (get_member key ms ≡ Some d)
+      (dots : has_dot key ≡ true → new ≡ doc) (gathers : has_dot key ≡ false → RiseFrom 0 doc → IsFree schema (under prefix key) doc → Brings schema (under prefix key) d doc new) where
+    at_key : (n : ℕ) (f : Field) (names : List (List ℕ)) → GoesBy schema prefix key names n f → (values_at doc n ≡ []) × (get_member key ms ≡ Some d)
     at_key n f names goes = let own = left.own key n f names goes in rw (own_order key) at own
 
-    free_there : has_dot key ≡ false → IsFree fields (under prefix key) doc
+    free_there : has_dot key ≡ false → IsFree schema (under prefix key) doc
     free_there plain = λ n f names a lies. (at_key n f names (plain, a, lies)).0
 
-    brought : has_dot key ≡ false → Brings fields (under prefix key) d doc new
+    brought : has_dot key ≡ false → Brings schema (under prefix key) d doc new
     brought plain = gathers plain left.rise (free_there plain)
 
-    still : (n : ℕ) → ((f : Field) (names : List (List ℕ)) → GoesBy fields prefix key names n f → ⊥) → values_at new n ≡ values_at doc n
+    still : (n : ℕ) → ((f : Field) (names : List (List ℕ)) → GoesBy schema prefix key names n f → ⊥) → values_at new n ≡ values_at doc n
     still n none = by (has_dot key) refl
       where
         by : (b : Bool) → has_dot key ≡ b → values_at new n ≡ values_at doc n
@@ -177,7 +180,7 @@ module _ (fields : List Field) (prefix : List ℕ) (ms : Members) (old : List Do
         by true h = subst (RiseFrom 0) (sym (dots h)) left.rise
         by false h = (brought h).rise
 
-    own_here : (n : ℕ) (f : Field) (names : List (List ℕ)) → GoesBy fields prefix key names n f → OwnLeft key names n f new (get_member key rest)
+    own_here : (n : ℕ) (f : Field) (names : List (List ℕ)) → GoesBy schema prefix key names n f → OwnLeft key names n f new (get_member key rest)
     own_here n f names goes =
         let at = at_key n f names goes in
         let found_there : value_at (key ∷ names) (object ms) ≡ value_at names d = ap (option_and_then (value_at names)) at.1 in
@@ -187,17 +190,17 @@ module _ (fields : List Field) (prefix : List ℕ) (ms : Members) (old : List Do
     own_moves k n f names e None h = e ∙ h
     own_moves k n f names e (Some x) h = (e ∙ h.0, h.1)
 
-    no_tie : (k : List ℕ) (n : ℕ) (f g : Field) (names others : List (List ℕ)) → GoesBy fields prefix k names n f → GoesBy fields prefix key others n g
+    no_tie : (k : List ℕ) (n : ℕ) (f g : Field) (names others : List (List ℕ)) → GoesBy schema prefix k names n f → GoesBy schema prefix key others n g
         → (o : Ordering) → slice_cmp nat_cmp k key ≡ o → o ≢ Equal → ⊥
     no_tie k n f g names others goes there o e other =
-        let here : k ≡ key = one_way fields prefix k key n f g names others goes there in
+        let here : k ≡ key = one_way schema prefix k key n f g names others goes there in
         other (sym e ∙ ap (λ (x : List ℕ). slice_cmp nat_cmp x key) here ∙ own_order key)
 
-    own_by : (k : List ℕ) (n : ℕ) (f : Field) (names : List (List ℕ)) → GoesBy fields prefix k names n f → (o : Ordering) → slice_cmp nat_cmp k key ≡ o
+    own_by : (k : List ℕ) (n : ℕ) (f : Field) (names : List (List ℕ)) → GoesBy schema prefix k names n f → (o : Ordering) → slice_cmp nat_cmp k key ≡ o
         → OwnLeft k names n f new (get_member k rest)
     own_by k n f names goes Equal e =
         let here : k ≡ key = same_key k key e in
-        subst (λ (x : List ℕ). GoesBy fields prefix x names n f → OwnLeft x names n f new (get_member x rest)) (sym here) (own_here n f names) goes
+        subst (λ (x : List ℕ). GoesBy schema prefix x names n f → OwnLeft x names n f new (get_member x rest)) (sym here) (own_here n f names) goes
     own_by k n f names goes Less e =
         own_moves k n f names (still n (λ g others there. no_tie k n f g names others goes there Less e (λ w. cc))) (get_member k rest) (rw e at (left.own k n f names goes))
     own_by k n f names goes Greater e =
@@ -211,7 +214,7 @@ module _ (fields : List Field) (prefix : List ℕ) (ms : Members) (old : List Do
     }
 
   pub step : (key : List ℕ) (d : Data) (rest : Members) (doc new : List DocField) → AreDistinct (member key d rest) → MayLeave (member key d rest) doc
-      → (has_dot key ≡ true → new ≡ doc) → (has_dot key ≡ false → Gathers fields (under prefix key) d doc new) → MayLeave rest new
+      → (has_dot key ≡ true → new ≡ doc) → (has_dot key ≡ false → Gathers schema (under prefix key) d doc new) → MayLeave rest new
   step key d rest doc new distinct left dots gathers = λ regular rise free.
       one_less key d rest doc new distinct (left regular rise free) dots (λ plain own none. gathers plain regular own none)
 
@@ -241,75 +244,75 @@ flat_by kind formats path (string s) e = refl
 flat_by kind formats path (array ds) e = refl
 flat_by kind formats path (object ms) e = no_object kind formats path ms e
 
-module _ (fields : List Field) (at : List ℕ) (d : Data) (old : List DocField) where
-  one_number : PathsRise fields → (n m : ℕ) (f g : Field) → slice_get fields n ≡ Some f → slice_get fields m ≡ Some g → f.path ≡ g.path → n ≡ m
+module _ (schema : Schema) (at : List ℕ) (d : Data) (old : List DocField) where
+  one_number : PathsRise schema.fields → (n m : ℕ) (f g : Field) → mapped_at schema n ≡ Some f → mapped_at schema m ≡ Some g → f.path ≡ g.path → n ≡ m
   one_number rise n m f g a b e =
-      let here : Some n ≡ number_of fields g.path = found fields n f g.path rise a (ap (slice_cmp nat_cmp g.path) e ∙ own_order g.path) in
-      let there : Some m ≡ number_of fields g.path = found fields m g g.path rise b (own_order g.path) in
+      let here : Some n ≡ number_of_mapped schema g.path = found_mapped schema n f g.path rise a (ap (slice_cmp nat_cmp g.path) e ∙ own_order g.path) in
+      let there : Some m ≡ number_of_mapped schema g.path = found_mapped schema m g g.path rise b (own_order g.path) in
       let both : Some n ≡ Some m = here ∙ sym there in
       cc
 
-  no_field : {B : Type 0} → PathsRise fields → number_of fields at ≡ None → (n : ℕ) (f : Field) → slice_get fields n ≡ Some f → f.path ≡ at → B
+  no_field : {B : Type 0} → PathsRise schema.fields → number_of_mapped schema at ≡ None → (n : ℕ) (f : Field) → mapped_at schema n ≡ Some f → f.path ≡ at → B
   no_field rise none n f a e =
-      let here : Some n ≡ number_of fields at = found fields n f at rise a (ap (slice_cmp nat_cmp at) e ∙ own_order at) in
+      let here : Some n ≡ number_of_mapped schema at = found_mapped schema n f at rise a (ap (slice_cmp nat_cmp at) e ∙ own_order at) in
       let wrong : Some n ≡ None = here ∙ none in
       absurd (cc)
 
   -- a value that fits the field of its path
-  pub field_brings : (m : ℕ) (g : Field) (new : List DocField) → slice_get fields m ≡ Some g → g.path ≡ at → as_object d ≡ None
-      → (RiseFrom 0 old → values_at old m ≡ [] → HasEntered fields m d old new) → Gathers fields at d old new
+  pub field_brings : (m : ℕ) (g : Field) (new : List DocField) → mapped_at schema m ≡ Some g → g.path ≡ at → as_object d ≡ None
+      → (RiseFrom 0 old → values_at old m ≡ [] → HasEntered schema.fields m d old new) → Gathers schema at d old new
   field_brings m g new b p flat enters = λ regular rise free.
-      let entered = enters rise (free m g [] b (inl (refl, p))) g b in
+      let entered = enters rise (free m g [] b (inl (refl, p))) g (mapped_is schema m g b).0 in
       record {
         rise = entered.rise;
         own = λ n f names a lies. own regular.0 rise free entered n f names a lies;
-        others = λ n none. entered.others n (λ same. none g [] (ap (slice_get fields) same ∙ b) (inl (refl, p)));
+        others = λ n none. entered.others n (λ same. none g [] (ap (mapped_at schema) same ∙ b) (inl (refl, p)));
       }
     where
-      own : PathsRise fields → RiseFrom 0 old → IsFree fields at old → Enters m (values_of g.kind d) old new → (n : ℕ) (f : Field) (names : List (List ℕ))
-          → slice_get fields n ≡ Some f → LiesAt at names f.path → values_at new n ≡ found_values f.kind (value_at names d)
+      own : PathsRise schema.fields → RiseFrom 0 old → IsFree schema at old → Enters m (values_of g.kind d) old new → (n : ℕ) (f : Field) (names : List (List ℕ))
+          → mapped_at schema n ≡ Some f → LiesAt at names f.path → values_at new n ≡ found_values f.kind (value_at names d)
       own up rise free entered n f names a (inl here) =
           let same : n ≡ m = one_number up n m f g a b (here.1 ∙ sym p) in
-          let field : f ≡ g = let both : Some f ≡ Some g = sym a ∙ ap (slice_get fields) same ∙ b in cc in
+          let field : f ≡ g = let both : Some f ≡ Some g = sym a ∙ ap (mapped_at schema) same ∙ b in cc in
           ap (values_at new) same ∙ entered.own ∙ ap (λ (x : Field). values_of x.kind d) (sym field) ∙ ap (λ ns. found_values f.kind (value_at ns d)) (sym here.0)
       own up rise free entered n f names a (inr more) =
-          let other : n ≢ m = λ same. let both : Some f ≡ Some g = sym a ∙ ap (slice_get fields) same ∙ b in
+          let other : n ≢ m = λ same. let both : Some f ≡ Some g = sym a ∙ ap (mapped_at schema) same ∙ b in
           let field : f ≡ g = cc in longer at more.0 (sym p ∙ ap (λ (x : Field). x.path) (sym field) ∙ more.1.1) in
           entered.others n other ∙ free n f names a (inr more) ∙ sym (behind_nothing more.0 names f.kind d more.1.0 flat)
 
   -- a path that is neither a field's nor an object's
-  pub nothing_there : number_of fields at ≡ None → is_object fields (at ++ 46 ∷ []) ≡ false → Gathers fields at d old old
+  pub nothing_there : number_of_mapped schema at ≡ None → is_object (mapped_fields schema) (at ++ 46 ∷ []) ≡ false → Gathers schema at d old old
   nothing_there none lacks = λ regular rise free. record { rise = rise; own = own regular.0; others = λ n h. refl }
     where
-      own : PathsRise fields → (n : ℕ) (f : Field) (names : List (List ℕ)) → slice_get fields n ≡ Some f → LiesAt at names f.path
+      own : PathsRise schema.fields → (n : ℕ) (f : Field) (names : List (List ℕ)) → mapped_at schema n ≡ Some f → LiesAt at names f.path
           → values_at old n ≡ found_values f.kind (value_at names d)
       own up n f names a (inl here) = no_field up none n f a here.1
       own up n f names a (inr more) =
-          absurd (let has : is_object fields (at ++ 46 ∷ []) ≡ true = object_by fields n f at more.0 a more.1.1 in let wrong : true ≡ false = sym has ∙ lacks in cc)
+          absurd (let has : is_object (mapped_fields schema) (at ++ 46 ∷ []) ≡ true = object_by schema n f at more.0 a more.1.1 in let wrong : true ≡ false = sym has ∙ lacks in cc)
 
   -- no object where one is asked
-  pub flat_there : number_of fields at ≡ None → as_object d ≡ None → Gathers fields at d old old
+  pub flat_there : number_of_mapped schema at ≡ None → as_object d ≡ None → Gathers schema at d old old
   flat_there none flat = λ regular rise free. record { rise = rise; own = own regular.0 free; others = λ n h. refl }
     where
-      own : PathsRise fields → IsFree fields at old → (n : ℕ) (f : Field) (names : List (List ℕ)) → slice_get fields n ≡ Some f → LiesAt at names f.path
+      own : PathsRise schema.fields → IsFree schema at old → (n : ℕ) (f : Field) (names : List (List ℕ)) → mapped_at schema n ≡ Some f → LiesAt at names f.path
           → values_at old n ≡ found_values f.kind (value_at names d)
       own up free n f names a (inl here) = no_field up none n f a here.1
       own up free n f names a (inr more) = free n f names a (inr more) ∙ sym (behind_nothing more.0 names f.kind d more.1.0 flat)
 
-is_plain : (fields : List Field) → BeginPlain fields → is_object fields (46 ∷ []) ≡ true → ⊥
-is_plain fields plain has =
-    let at = object_from fields [] has in
-    let own : BeginsPlain (46 ∷ at.2.1.0) = subst BeginsPlain at.2.1.1 (plain at.0 at.1 at.2.0) in
+is_plain : (schema : Schema) → BeginPlain schema.fields → is_object (mapped_fields schema) (46 ∷ []) ≡ true → ⊥
+is_plain schema plain has =
+    let at = object_from schema [] has in
+    let own : BeginsPlain (46 ∷ at.2.1.0) = subst BeginsPlain at.2.1.1 (plain at.0 at.1 (mapped_is schema at.0 at.1 at.2.0).0) in
     let wrong : true ≡ false = own in
     cc
 
-module _ (fields : List Field) (c : ℕ) (cs : List ℕ) where
+module _ (schema : Schema) (c : ℕ) (cs : List ℕ) where
   abbrev at : List ℕ
   at = c ∷ cs
 
   -- a path within the object, by its first name there
-  deeper : (n : ℕ) (f : Field) (rest : List ℕ) → slice_get fields n ≡ Some f → f.path ≡ at ++ 46 ∷ rest
-      → GoesBy fields at (name_first rest).0 (name_first rest).1 n f
+  deeper : (n : ℕ) (f : Field) (rest : List ℕ) → mapped_at schema n ≡ Some f → f.path ≡ at ++ 46 ∷ rest
+      → GoesBy schema at (name_first rest).0 (name_first rest).1 n f
   deeper n f rest a e = (
     (subst ArePlain (name_first rest).2 (plain_names rest)).0,
     a,
@@ -320,12 +323,12 @@ module _ (fields : List Field) (c : ℕ) (cs : List ℕ) where
       by (inl here) = inl (here.0, e ∙ ap (λ x. at ++ 46 ∷ x) here.1)
       by (inr more) = inr (more.0, (more.1.0, e ∙ ap (λ x. at ++ 46 ∷ x) more.1.1 ∙ sym (append_assoc at (46 ∷ (name_first rest).0) (46 ∷ more.0))))
 
-  higher : (key : List ℕ) (names : List (List ℕ)) (n : ℕ) (f : Field) → GoesBy fields at key names n f → (rest : List ℕ) × (f.path ≡ at ++ 46 ∷ rest)
+  higher : (key : List ℕ) (names : List (List ℕ)) (n : ℕ) (f : Field) → GoesBy schema at key names n f → (rest : List ℕ) × (f.path ≡ at ++ 46 ∷ rest)
   higher key names n f goes =
       let tail = lies_tail (under at key) names f.path goes.2 in
       (key ++ tail.0, tail.1.1 ∙ append_assoc at (46 ∷ key) tail.0)
 
-  pub object_brings : (ms : Members) (old new : List DocField) → number_of fields at ≡ None → GatherAll fields at ms old new → Gathers fields at (object ms) old new
+  pub object_brings : (ms : Members) (old new : List DocField) → number_of_mapped schema at ≡ None → GatherAll schema at ms old new → Gathers schema at (object ms) old new
   object_brings ms old new none inner = λ regular rise free.
       let brought = inner regular rise (λ key n f names goes. let up = higher key names n f goes in free n f (names_of up.0) goes.1 (inr (up.0, (refl, up.1)))) in
       record {
@@ -334,37 +337,37 @@ module _ (fields : List Field) (c : ℕ) (cs : List ℕ) where
         others = λ n h. brought.others n (λ key f names goes. let up = higher key names n f goes in h f (names_of up.0) goes.1 (inr (up.0, (refl, up.1))));
       }
     where
-      own : PathsRise fields → BringAll fields at ms old new → (n : ℕ) (f : Field) (names : List (List ℕ)) → slice_get fields n ≡ Some f → LiesAt at names f.path
+      own : PathsRise schema.fields → BringAll schema at ms old new → (n : ℕ) (f : Field) (names : List (List ℕ)) → mapped_at schema n ≡ Some f → LiesAt at names f.path
           → values_at new n ≡ found_values f.kind (value_at names (object ms))
-      own up brought n f names a (inl here) = no_field fields at (object ms) old up none n f a here.1
+      own up brought n f names a (inl here) = no_field schema at (object ms) old up none n f a here.1
       own up brought n f names a (inr more) =
           let way = deeper n f more.0 a more.1.1 in
           brought.own (name_first more.0).0 n f (name_first more.0).1 way
           ∙ ap (λ ns. found_values f.kind (value_at ns (object ms))) (sym (name_first more.0).2 ∙ sym more.1.0)
 
-pub inner_brings : (fields : List Field) (at : List ℕ) (ms : Members) (old new : List DocField) → number_of fields at ≡ None → is_object fields (at ++ 46 ∷ []) ≡ true
-    → GatherAll fields at ms old new → Gathers fields at (object ms) old new
-inner_brings fields [] ms old new none has inner = λ regular. absurd (is_plain fields regular.1 has)
-inner_brings fields (c ∷ cs) ms old new none has inner = object_brings fields c cs ms old new none inner
+pub inner_brings : (schema : Schema) (at : List ℕ) (ms : Members) (old new : List DocField) → number_of_mapped schema at ≡ None → is_object (mapped_fields schema) (at ++ 46 ∷ []) ≡ true
+    → GatherAll schema at ms old new → Gathers schema at (object ms) old new
+inner_brings schema [] ms old new none has inner = λ regular. absurd (is_plain schema regular.1 has)
+inner_brings schema (c ∷ cs) ms old new none has inner = object_brings schema c cs ms old new none inner
 
 -- what is gathered of a whole record is its document
-pub whole_gathered : (fields : List Field) (ms : Members) (new : List DocField) → AreRegular fields → GatherAll fields [] ms [] new → new ≡ doc_from 0 fields (object ms)
-whole_gathered fields ms new regular gathered =
-    same_parts new (doc_from 0 fields (object ms)) 0 brought.rise (doc_rises 0 0 fields (object ms) (omega arith)) (λ n. at n (slice_get fields n) refl)
+pub whole_gathered : (schema : Schema) (ms : Members) (new : List DocField) → AreRegular schema.fields → GatherAll schema [] ms [] new → new ≡ doc_from schema.dynamic [] 0 schema.fields (object ms)
+whole_gathered schema ms new regular gathered =
+    same_parts new (doc_from schema.dynamic [] 0 schema.fields (object ms)) 0 brought.rise (doc_rises schema.dynamic [] 0 0 schema.fields (object ms) (omega arith)) (λ n. at n (mapped_at schema n) refl)
   where
-    brought : BringAll fields [] ms [] new
+    brought : BringAll schema [] ms [] new
     brought = gathered regular tt (λ key n f names goes. refl)
 
-    at : (n : ℕ) (o : Option Field) → slice_get fields n ≡ o → values_at new n ≡ values_at (doc_from 0 fields (object ms)) n
+    at : (n : ℕ) (o : Option Field) → mapped_at schema n ≡ o → values_at new n ≡ values_at (doc_from schema.dynamic [] 0 schema.fields (object ms)) n
     at n None a =
         brought.others n (λ key f names goes. let wrong : None ≡ Some f = sym a ∙ goes.1 in cc)
-        ∙ sym (values_past fields 0 n n (object ms) a (omega arith))
+        ∙ sym (values_unmapped schema (object ms) n a)
     at n (Some f) a =
         let first = name_first f.path in
         let plain : has_dot first.0 ≡ false = (subst ArePlain first.2 (plain_names f.path)).0 in
         brought.own first.0 n f first.1 (plain, a, names_lie f.path first.0 first.1 first.2)
         ∙ ap (λ ns. found_values f.kind (value_at ns (object ms))) (sym first.2)
-        ∙ sym (values_found fields 0 n n f (object ms) a (omega arith))
+        ∙ sym (values_mapped schema [] (object ms) n f a)
 
 -- what the calls of the walk say
 pub object_of : (d : Data) (ms : Members) → Some ms ≡ as_object d → d ≡ object ms
@@ -379,62 +382,62 @@ pub empty_under : (prefix key : List ℕ) → length prefix ≡ 0 → key ≡ un
 empty_under [] key e = refl
 empty_under (c ∷ cs) key e = absurd (omega arith)
 
-module _ (fields : List Field) (d : Data) (old new : List DocField) where
+module _ (schema : Schema) (d : Data) (old new : List DocField) where
   abbrev pub GathersOn : Result (Option Reject) AllocError → List ℕ → Type 0
-  GathersOn r place = IfOk r (λ fault. fault ≡ None → Gathers fields place d old new)
+  GathersOn r place = IfOk r (λ fault. fault ≡ None → Gathers schema place d old new)
 
   pub gathers_on : (r : Result (Option Reject) AllocError) (a b : List ℕ) → a ≡ b → GathersOn r a → GathersOn r b
   gathers_on r a b e h = subst (GathersOn r) e h
 
-  pub gathers_as : (r : Result (Option Reject) AllocError) (place : List ℕ) → Gathers fields place d old new → GathersOn r place
+  pub gathers_as : (r : Result (Option Reject) AllocError) (place : List ℕ) → Gathers schema place d old new → GathersOn r place
   gathers_as (Ok fault) place h = λ none. h
   gathers_as (Err e) place h = tt
 
-  pub gathers_within : (r : Result (Option Reject) AllocError) (place : List ℕ) (ms : Members) → Some ms ≡ as_object d → None ≡ number_of fields place
-      → is_object fields (place ++ 46 ∷ []) ≡ true → IfOk r (λ fault. fault ≡ None → GatherAll fields place ms old new) → GathersOn r place
+  pub gathers_within : (r : Result (Option Reject) AllocError) (place : List ℕ) (ms : Members) → Some ms ≡ as_object d → None ≡ number_of_mapped schema place
+      → is_object (mapped_fields schema) (place ++ 46 ∷ []) ≡ true → IfOk r (λ fault. fault ≡ None → GatherAll schema place ms old new) → GathersOn r place
   gathers_within (Err e) place ms o n i h = tt
   gathers_within (Ok fault) place ms o n i h = λ none.
-      subst (λ (x : Data). Gathers fields place x old new) (sym (object_of d ms o)) (inner_brings fields place ms old new (sym n) i (h none))
+      subst (λ (x : Data). Gathers schema place x old new) (sym (object_of d ms o)) (inner_brings schema place ms old new (sym n) i (h none))
 
-  pub gathers_inner : (r : Result (Option Reject) AllocError) (place : List ℕ) → None ≡ number_of fields place → is_object fields (place ++ 46 ∷ []) ≡ true
-      → IfOk r (λ fault. fault ≡ None → GatherInner fields place (as_object d) old new) → GathersOn r place
+  pub gathers_inner : (r : Result (Option Reject) AllocError) (place : List ℕ) → None ≡ number_of_mapped schema place → is_object (mapped_fields schema) (place ++ 46 ∷ []) ≡ true
+      → IfOk r (λ fault. fault ≡ None → GatherInner schema place (as_object d) old new) → GathersOn r place
   gathers_inner r place n i h = by (as_object d) refl h
     where
       flat : (q : Result (Option Reject) AllocError) → as_object d ≡ None → IfOk q (λ fault. fault ≡ None → new ≡ old) → GathersOn q place
       flat (Err x) e g = tt
-      flat (Ok fault) e g = λ none. subst (λ (x : List DocField). Gathers fields place d old x) (sym (g none)) (flat_there fields place d old (sym n) e)
+      flat (Ok fault) e g = λ none. subst (λ (x : List DocField). Gathers schema place d old x) (sym (g none)) (flat_there schema place d old (sym n) e)
 
-      by : (o : Option Members) → as_object d ≡ o → IfOk r (λ fault. fault ≡ None → GatherInner fields place o old new) → GathersOn r place
+      by : (o : Option Members) → as_object d ≡ o → IfOk r (λ fault. fault ≡ None → GatherInner schema place o old new) → GathersOn r place
       by (Some ms) e g = gathers_within r place ms (sym e) n i g
       by None e g = flat r e g
 
 -- what is gathered of a record where an object is asked
-pub inner_gathered : (fields : List Field) (d : Data) (ms : Members) (old new : List DocField) → Some ms ≡ as_object d → old ≡ []
-    → GatherInner fields [] (as_object d) old new → AreRegular fields → new ≡ doc_from 0 fields d
-inner_gathered fields d ms old new o e h regular =
-    let inner : GatherAll fields [] ms old new = subst (λ (m : Option Members). GatherInner fields [] m old new) (sym o) h in
-    whole_gathered fields ms new regular (subst (λ (xs : List DocField). GatherAll fields [] ms xs new) e inner)
-    ∙ ap (doc_from 0 fields) (sym (object_of d ms o))
+pub inner_gathered : (schema : Schema) (d : Data) (ms : Members) (old new : List DocField) → Some ms ≡ as_object d → old ≡ []
+    → GatherInner schema [] (as_object d) old new → AreRegular schema.fields → new ≡ doc_from schema.dynamic [] 0 schema.fields d
+inner_gathered schema d ms old new o e h regular =
+    let inner : GatherAll schema [] ms old new = subst (λ (m : Option Members). GatherInner schema [] m old new) (sym o) h in
+    whole_gathered schema ms new regular (subst (λ (xs : List DocField). GatherAll schema [] ms xs new) e inner)
+    ∙ ap (doc_from schema.dynamic [] 0 schema.fields) (sym (object_of d ms o))
 
-module _ (config : IndexConfig) (path : List ℕ) (d : Data) (number : ℕ) (found_there : Some number ≡ number_of config.schema.fields path) where
-  stands : (f : Field) × ((slice_get config.schema.fields number ≡ Some f) × (f.path ≡ path))
-  stands =
-      let at = number_stands 0 config.schema.fields path number (sym found_there) in
-      let here : number ≡ at.0 = omega (arith, at.2.0) in
-      (at.1, (subst (λ (i : ℕ). slice_get config.schema.fields i ≡ Some at.1) (sym here) at.2.1, at.2.2))
+module _ (config : IndexConfig) (path : List ℕ) (d : Data) (number : ℕ) (found_there : Some number ≡ number_of_mapped config.schema path) where
+  stands : (f : Field) × ((mapped_at config.schema number ≡ Some f) × (f.path ≡ path))
+  stands = stands_mapped config.schema path number (sym found_there)
+
+  field_stands : slice_get config.schema.fields number ≡ Some stands.0
+  field_stands = (mapped_is config.schema number stands.0 stands.1.0).0
 
   pub number_within : number < length config.schema.fields
-  number_within = slice_get_within config.schema.fields number stands.0 stands.1.0
+  number_within = slice_get_within config.schema.fields number stands.0 field_stands
 
   pub field_gathers : (old new : List DocField) (r : Result (Option Reject) AllocError)
       → IfOk r (λ fault. fault ≡ field_fault config path d number (slice_get config.schema.fields number))
       → IfOk r (λ fault. fault ≡ None → RiseFrom 0 old → values_at old number ≡ [] → HasEntered config.schema.fields number d old new)
-      → GathersOn config.schema.fields d old new r path
+      → GathersOn config.schema d old new r path
   field_gathers old new (Err e) fault enters = tt
   field_gathers old new (Ok x) fault enters = λ none.
       let fits : field_fault config path d number (slice_get config.schema.fields number) ≡ None = sym fault ∙ none in
-      field_brings config.schema.fields path d old number stands.0 new stands.1.0 stands.1.1
-      (flat_by stands.0.kind (formats_at config.formats number) path d (rw stands.1.0 at fits)) (enters none)
+      field_brings config.schema path d old number stands.0 new stands.1.0 stands.1.1
+      (flat_by stands.0.kind (formats_at config.formats number) path d (rw field_stands at fits)) (enters none)
 
 -- the keys of a map
 all_after : (k : String Global) (es : List (String Global × Json)) → AllByRecursion (λ y. string_cmp k y ≡ Less) (keys_of es) → get_member (string_bytes k) (members_view es) ≡ None
@@ -453,10 +456,10 @@ module _ (config : IndexConfig) (prefix : List ℕ) (ms : Members) (levels : ℕ
   abbrev pub StandsAt : Members → List DocField → Type 0
   StandsAt rest doc =
       (members_fault config prefix ms ≡ members_fault config prefix rest) × (members_depth rest ≤ levels) × AreDistinct rest
-      × MayLeave config.schema.fields prefix ms old rest doc
+      × MayLeave config.schema prefix ms old rest doc
 
   pub begun : members_depth ms ≤ levels → AreDistinct ms → StandsAt ms old
-  begun deep distinct = (refl, deep, distinct, all_left config.schema.fields prefix ms old)
+  begun deep distinct = (refl, deep, distinct, all_left config.schema prefix ms old)
 
   none_from : (fault : Option Reject) → is_some fault ≡ false → fault ≡ None
   none_from None e = refl
@@ -464,14 +467,14 @@ module _ (config : IndexConfig) (prefix : List ℕ) (ms : Members) (levels : ℕ
 
   pub moved : (key bytes : List ℕ) (d : Data) (rest : Members) (doc new : List DocField) (fault : Option Reject) → bytes ≡ key → StandsAt (member key d rest) doc
       → fault ≡ key_fault config (under prefix bytes) bytes d (inner_fault config (under prefix bytes) d) → is_some fault ≡ false
-      → (has_dot bytes ≡ true → new ≡ doc) → (has_dot bytes ≡ false → fault ≡ None → Gathers config.schema.fields (under prefix bytes) d doc new) → StandsAt rest new
+      → (has_dot bytes ≡ true → new ≡ doc) → (has_dot bytes ≡ false → fault ≡ None → Gathers config.schema (under prefix bytes) d doc new) → StandsAt rest new
   moved key bytes d rest doc new fault e stands own none dots gathers =
       let here : StandsAt (member bytes d rest) doc = subst (λ (k : List ℕ). StandsAt (member k d rest) doc) (sym e) stands in
       let fits : key_fault config (under prefix bytes) bytes d (inner_fault config (under prefix bytes) d) ≡ None = sym own ∙ none_from fault none in (
         here.0 ∙ ap (λ o. first_of o (members_fault config prefix rest)) fits,
         omega (arith, here.1),
         here.2.1,
-        step config.schema.fields prefix ms old bytes d rest doc new here.2 here.3 dots (λ plain. gathers plain (none_from fault none)),
+        step config.schema prefix ms old bytes d rest doc new here.2 here.3 dots (λ plain. gathers plain (none_from fault none)),
       )
 
 -- the field at a guess has the path

@@ -1,5 +1,5 @@
 -- What stands at the paths of a record whose keys have no fault.
-use Rattle.std.proofs.Common.{◌≡◌, ℕ, zero, suc, ◌==◌, ◌+◌, nat_eq, Bool, true, false, ◌&&◌, ◌||◌, List, [], ◌∷◌, ◌++◌, length, take, drop, append_assoc, append-nil, slice_get, Option, Some, None, refl, ap, sym, ◌∙◌, subst, arith, inl, inr, if◌then◌else◌}
+use Rattle.std.proofs.Common.{◌≡◌, ℕ, zero, suc, ◌==◌, ◌+◌, nat_eq, Bool, true, false, ◌&&◌, ◌||◌, List, [], ◌∷◌, ◌++◌, length, take, drop, append_assoc, append-nil, slice_get, Option, Some, None, refl, ap, sym, ◌∙◌, arith, inl, inr, if◌then◌else◌}
 use Rattle.std.specs.Prelude.{ℤ, is_some, option_and_then}
 use Rattle.std.specs.List.{starts_with}
 use Rattle.std.specs.Ordering.{nat_cmp, is_eq}
@@ -20,7 +20,7 @@ use Rattle.doc_value.specs.Printed.{names_of, onto_first}
 use Rattle.index_config.specs.declared.config.Formats.{Formats}
 use Rattle.doc_mapping.specs.declared.reject.Reject.{Reject}
 use Rattle.doc_mapping.specs.declared.reject.Reject.TheVariants.{WrongType}
-use Rattle.doc_mapping.specs.Faults.{unless, first_of, all_texts, number_fault, date_fault, kind_fault, value_fault, is_object}
+use Rattle.doc_mapping.specs.Faults.{unless, first_of, all_texts, number_fault, date_fault, kind_fault, value_fault}
 use Rattle.doc_mapping.specs.Documents.{values_of, texts_in}
 use Rattle.doc_mapping.specs.Held.{AreTexts, IsJust, Holds, path_from, ArePlain}
 use Rattle.index_config.specs.Accepted.{BeginsPlain}
@@ -164,34 +164,11 @@ starts_itself r x =
     (bytes_eq-Decides (r ++ 46 ∷ []) (take (length (r ++ 46 ∷ [])) (r ++ 46 ∷ x))).1
     (sym (take_own (r ++ 46 ∷ []) x) ∙ ap (take (length (r ++ 46 ∷ []))) whole)
 
-starts_from : (xs w : List ℕ) → starts_with nat_eq xs (w ++ 46 ∷ []) ≡ true → (rest : List ℕ) × (xs ≡ w ++ 46 ∷ rest)
+pub starts_from : (xs w : List ℕ) → starts_with nat_eq xs (w ++ 46 ∷ []) ≡ true → (rest : List ℕ) × (xs ≡ w ++ 46 ∷ rest)
 starts_from xs w h =
     let n : ℕ = length (w ++ 46 ∷ []) in
     let front = (bytes_eq-Decides (w ++ 46 ∷ []) (take n xs)).0 h in
     (drop n xs, taken_apart n xs ∙ ap (λ z. z ++ drop n xs) (sym front) ∙ append_assoc w (46 ∷ []) (drop n xs))
-
-pub object_by : (fs : List Field) (n : ℕ) (f : Field) (r x : List ℕ) → slice_get fs n ≡ Some f → f.path ≡ r ++ 46 ∷ x → is_object fs (r ++ 46 ∷ []) ≡ true
-object_by [] n f r x a e = none_some f a
-object_by (g ∷ fs) zero f r x a e =
-    let same : g ≡ f = cc in
-    let begins : starts_with nat_eq g.path (r ++ 46 ∷ []) ≡ true = subst (λ p. starts_with nat_eq p (r ++ 46 ∷ []) ≡ true) (sym (ap (λ (z : Field). z.path) same ∙ e)) (starts_itself r x) in
-    rw begins refl
-object_by (g ∷ fs) (suc n) f r x a e = or_later (starts_with nat_eq g.path (r ++ 46 ∷ [])) _ (object_by fs n f r x a e)
-  where
-    or_later : (a b : Bool) → b ≡ true → (a || b) ≡ true
-    or_later true b h = refl
-    or_later false b h = h
-
-pub object_from : (fs : List Field) (w : List ℕ) → is_object fs (w ++ 46 ∷ []) ≡ true
-    → (n : ℕ) × (f : Field) × ((slice_get fs n ≡ Some f) × ((rest : List ℕ) × (f.path ≡ w ++ 46 ∷ rest)))
-object_from [] w h = absurd (let x : false ≡ true = h in cc)
-object_from (f ∷ fs) w h = by (object_from fs w) (starts_with nat_eq f.path (w ++ 46 ∷ [])) refl
-  where
-    by : (is_object fs (w ++ 46 ∷ []) ≡ true → (n : ℕ) × (g : Field) × ((slice_get fs n ≡ Some g) × ((rest : List ℕ) × (g.path ≡ w ++ 46 ∷ rest))))
-        → (b : Bool) → starts_with nat_eq f.path (w ++ 46 ∷ []) ≡ b
-        → (n : ℕ) × (g : Field) × ((slice_get (f ∷ fs) n ≡ Some g) × ((rest : List ℕ) × (g.path ≡ w ++ 46 ∷ rest)))
-    by more true e = (0, f, (refl, starts_from f.path w e))
-    by more false e = let m = more (rw e at h) in (suc m.0, m.1, m.2)
 
 -- names behind a path that isn't empty make it longer
 pub grows : (c : ℕ) (r : List ℕ) (names : List (List ℕ)) → (x : List ℕ) × (path_from (c ∷ r) names ≡ (c ∷ r) ++ x)

@@ -1,5 +1,5 @@
 -- Parts of documents by their numbers.
-use Rattle.std.proofs.Common.{nat_lt, ◌≡◌, ◌≢◌, ℕ, zero, suc, ◌==◌, ◌+◌, ◌<◌, ◌≤◌, Bool, true, false, List, [], ◌∷◌, ◌++◌, take, drop, length, slice_get, get_or, Some, None, refl, ap, sym, ◌∙◌, subst, arith, ◌⊎◌, inl, inr}
+use Rattle.std.proofs.Common.{nat_lt, ◌≡◌, ◌≢◌, ℕ, zero, suc, ◌==◌, ◌+◌, ◌<◌, ◌≤◌, Bool, true, false, List, [], ◌∷◌, ◌++◌, take, drop, length, slice_get, get_or, Option, Some, None, refl, ap, sym, ◌∙◌, subst, arith, ◌⊎◌, inl, inr}
 use Rattle.std.specs.Cmp.{unsigned_Decides}
 use Rattle.std.proofs.lemmas.Bool.{cases_Bool}
 use Rattle.std.proofs.lemmas.Bool.Decides.{nat_tests}
@@ -8,8 +8,7 @@ use Rattle.serde_json.specs.Data.{Data}
 use Rattle.doc_value.specs.declared.schema.Field.{Field}
 use Rattle.doc_value.specs.declared.doc.Value.{Value}
 use Rattle.doc_value.specs.declared.doc.DocField.{DocField}
-use Rattle.doc_value.specs.Printed.{names_of}
-use Rattle.doc_mapping.specs.Documents.{value_at, found_values, part_of, doc_from}
+use Rattle.doc_mapping.specs.Documents.{part_of, values_from, doc_from}
 use Rattle.doc_mapping.specs.Held.{values_at}
 use Rattle.doc_mapping.specs.Walk.{RiseFrom, Enters}
 
@@ -76,21 +75,21 @@ same_parts (a ∷ xs) (b ∷ ys) least h g e = by (λ r s. same_parts xs ys (suc
     by more (inr (inr above)) = no_first b a ys xs g.1 (above, h.1, h.2) (sym (e b.number))
 
 -- the document by its definition
-pub doc_rises : (n least : ℕ) (fs : List Field) (d : Data) → least ≤ n → RiseFrom least (doc_from n fs d)
-doc_rises n least [] d l = tt
-doc_rises n least (f ∷ fs) d l =
-    by (λ low le. doc_rises (suc n) low fs d le) (found_values f.kind (value_at (names_of f.path) d))
+pub doc_rises : (o : Option ℕ) (ls : List Value) (n least : ℕ) (fs : List Field) (d : Data) → least ≤ n → RiseFrom least (doc_from o ls n fs d)
+doc_rises o ls n least [] d l = tt
+doc_rises o ls n least (f ∷ fs) d l =
+    by (λ low le. doc_rises o ls (suc n) low fs d le) (values_from o ls n f d)
   where
-    by : ((low : ℕ) → low ≤ suc n → RiseFrom low (doc_from (suc n) fs d)) → (vs : List Value) → RiseFrom least (part_of n vs ++ doc_from (suc n) fs d)
+    by : ((low : ℕ) → low ≤ suc n → RiseFrom low (doc_from o ls (suc n) fs d)) → (vs : List Value) → RiseFrom least (part_of n vs ++ doc_from o ls (suc n) fs d)
     by more [] = more least (omega arith)
     by more (v ∷ vs) = (l, λ e. cc, more (suc n) (omega arith))
 
-pub values_past : (fs : List Field) (m k n : ℕ) (d : Data) → slice_get fs k ≡ None → n ≡ m + k → values_at (doc_from m fs d) n ≡ []
-values_past [] m k n d a e = refl
-values_past (g ∷ fs) m zero n d a e = absurd (cc)
-values_past (g ∷ fs) m (suc k) n d a e = by (found_values g.kind (value_at (names_of g.path) d)) (values_past fs (suc m) k n d a (omega arith))
+pub values_past : (o : Option ℕ) (ls : List Value) (fs : List Field) (m k n : ℕ) (d : Data) → slice_get fs k ≡ None → n ≡ m + k → values_at (doc_from o ls m fs d) n ≡ []
+values_past o ls [] m k n d a e = refl
+values_past o ls (g ∷ fs) m zero n d a e = absurd (cc)
+values_past o ls (g ∷ fs) m (suc k) n d a e = by (values_from o ls m g d) (values_past o ls fs (suc m) k n d a (omega arith))
   where
-    by : (vs : List Value) → values_at (doc_from (suc m) fs d) n ≡ [] → values_at (part_of m vs ++ doc_from (suc m) fs d) n ≡ []
+    by : (vs : List Value) → values_at (doc_from o ls (suc m) fs d) n ≡ [] → values_at (part_of m vs ++ doc_from o ls (suc m) fs d) n ≡ []
     by [] h = h
     by (v ∷ vs) h = rw (apart_above m n (omega arith)) h
 

@@ -1,5 +1,5 @@
 -- Among paths that rise, those that begin alike stand side by side.
-use Rattle.std.proofs.Common.{◌≡◌, ◌≢◌, ℕ, zero, suc, ◌+◌, ◌<◌, ◌≤◌, nat_eq, Bool, true, false, List, [], ◌∷◌, ◌||◌, ◌++◌, length, take, drop, slice_get, Some, refl, sym, ap, ◌∙◌, subst, arith, ◌⊎◌, inl, inr}
+use Rattle.std.proofs.Common.{◌≡◌, ◌≢◌, ℕ, zero, suc, ◌+◌, ◌<◌, ◌≤◌, nat_eq, Bool, true, false, List, [], ◌∷◌, ◌++◌, length, take, drop, slice_get, Some, refl, sym, ap, ◌∙◌, subst, arith, ◌⊎◌, inl, inr}
 use Rattle.std.specs.List.{starts_with}
 use Rattle.std.specs.Ordering.{nat_cmp, is_lt, ordering_then}
 use Rattle.std.specs.Cmp.{nat_cmp_is}
@@ -10,9 +10,12 @@ use Rattle.std.proofs.lemmas.Cmp.{nat_list_cmp_total}
 use Rattle.std.proofs.lemmas.Slice.Eq.{bytes_eq-Decides}
 use Rattle.std.proofs.lemmas.Option.{slice_get_within}
 use Rattle.doc_value.specs.declared.schema.Field.{Field}
-use Rattle.doc_value.specs.Documents.{IsBefore, PathsRise}
+use Rattle.doc_value.specs.declared.schema.Schema.{Schema}
+use Rattle.doc_value.specs.Documents.{IsBefore, PathsRise, mapped_fields}
 use Rattle.doc_value.proofs.Finding.{rise-between}
-use Rattle.doc_mapping.specs.Faults.{is_object}
+use Rattle.dynamic_paths.specs.Leaves.{is_object}
+use Rattle.doc_mapping.specs.Faults.{mapped_at}
+use Rattle.doc_mapping.proofs.Mapped.{mapped_is, mapped_by, object_begins, begins_object, Follows}
 use Rattle.doc_mapping.proofs.Numbering.{number_cases}
 
 abbrev pub Begins : List ℕ → List ℕ → Type 0
@@ -121,52 +124,63 @@ parts_lower fields start path low high middle g rise h m p l u less = record {
     here : slice_cmp nat_cmp g.path start ≢ Less
     here = subst (λ x. slice_cmp nat_cmp x start ≢ Less) p (not_less (slice_cmp nat_cmp path start) less)
 
-some_begins : (fields : List Field) (start : List ℕ) (n : ℕ) (f : Field) → slice_get fields n ≡ Some f → starts_with nat_eq f.path start ≡ true → is_object fields start ≡ true
-some_begins [] start n f a h = absurd (cc)
-some_begins (g ∷ fields) start zero f a h =
-    let same : g ≡ f = cc in
-    let here : starts_with nat_eq g.path start ≡ true = subst (λ (y : Field). starts_with nat_eq y.path start ≡ true) (sym same) h in
-    rw here refl
-some_begins (g ∷ fields) start (suc n) f a h = or_later (starts_with nat_eq g.path start) (is_object fields start) (some_begins fields start n f a h)
-  where
-    or_later : (x y : Bool) → y ≡ true → (x || y) ≡ true
-    or_later true y e = refl
-    or_later false y e = e
-
-all_fail : (fields : List Field) (start : List ℕ) → ((n : ℕ) (f : Field) → slice_get fields n ≡ Some f → starts_with nat_eq f.path start ≡ false) → is_object fields start ≡ false
-all_fail [] start h = refl
-all_fail (g ∷ fields) start h = rw (h 0 g refl) (all_fail fields start (λ n f a. h (suc n) f a))
-
 fails : (b : Bool) → (b ≡ true → ⊥) → b ≡ false
 fails true h = absurd (h refl)
 fails false h = refl
 
-module _ (fields : List Field) (start : List ℕ) (low high : ℕ) (parts : Parts fields start low high) (met : high ≤ low) where
-  lower_fails : (k : ℕ) (f : Field) → slice_get fields k ≡ Some f → k < low → starts_with nat_eq f.path start ≡ false
-  lower_fails k f a l = fails (starts_with nat_eq f.path start) (λ h.
+module _ (schema : Schema) (start : List ℕ) (low high : ℕ) (parts : Parts schema.fields start low high) where
+  none_begins : ((n : ℕ) (f : Field) → mapped_at schema n ≡ Some f → starts_with nat_eq f.path start ≡ true → ⊥) → is_object (mapped_fields schema) start ≡ false
+  none_begins h = fails (is_object (mapped_fields schema) start) (λ has. let s = begins_object schema start has in h s.0 s.1 s.2.0 s.2.1)
+
+  lower_fails : (k : ℕ) (f : Field) → slice_get schema.fields k ≡ Some f → k < low → starts_with nat_eq f.path start ≡ true → ⊥
+  lower_fails k f a l h =
       let begins = begins_from start f.path h in
-      long_after start begins.0 (subst (λ x. slice_cmp nat_cmp x start ≡ Less) begins.1 (parts.below k f a l)))
+      long_after start begins.0 (subst (λ x. slice_cmp nat_cmp x start ≡ Less) begins.1 (parts.below k f a l))
 
-  pub no_path : length fields ≤ low → false ≡ is_object fields start
-  no_path l = sym (all_fail fields start (λ k f a. let w : k < length fields = slice_get_within fields k f a in lower_fails k f a (omega arith)))
+  pub none_left : length schema.fields ≤ low → false ≡ is_object (mapped_fields schema) start
+  none_left l = sym (none_begins (λ k f a h.
+      let here = (mapped_is schema k f a).0 in
+      let w : k < length schema.fields = slice_get_within schema.fields k f here in
+      lower_fails k f here (omega (arith, w, l)) h))
 
-  pub first_tells : PathsRise fields → (g : Field) → slice_get fields low ≡ Some g → starts_with nat_eq g.path start ≡ is_object fields start
+module _ (schema : Schema) (start : List ℕ) (low high first : ℕ) (parts : Parts schema.fields start low high) (met : high ≤ low) (next : Follows schema.dynamic low first) where
+  -- a mapped field's number is below the middle, or not below the first number behind it
+  sides : (k : ℕ) (f : Field) → mapped_at schema k ≡ Some f → (k < low) ⊎ (first ≤ k)
+  sides k f a = elim (number_cases k low) [
+    | inl same ↦ inr (next.least k (mapped_is schema k f a).1 (omega (arith, same)))
+    | inr other ↦ elim other [ inl less ↦ inl less | inr more ↦ inr (next.least k (mapped_is schema k f a).1 (omega (arith, more))) ]
+  ]
+
+  pub no_path : length schema.fields ≤ first → false ≡ is_object (mapped_fields schema) start
+  no_path l = sym (none_begins schema start low high parts (λ k f a h. elim (sides k f a) [
+    | inl less ↦ lower_fails schema start low high parts k f (mapped_is schema k f a).0 less h
+    | inr more ↦ let w : k < length schema.fields = slice_get_within schema.fields k f (mapped_is schema k f a).0 in absurd (omega (arith, w, more, l))
+  ]))
+
+  pub first_tells : PathsRise schema.fields → (g : Field) → slice_get schema.fields first ≡ Some g → starts_with nat_eq g.path start ≡ is_object (mapped_fields schema) start
   first_tells rise g m = by (starts_with nat_eq g.path start) refl
     where
-      later : starts_with nat_eq g.path start ≡ false → (k : ℕ) (f : Field) → slice_get fields k ≡ Some f → starts_with nat_eq f.path start ≡ false
-      later lacks k f a = elim (number_cases k low) [
-        | inl same ↦ subst (λ (y : Field). starts_with nat_eq y.path start ≡ false) (same_field fields low k g f m a (sym same)) lacks
+      later : starts_with nat_eq g.path start ≡ false → (k : ℕ) (f : Field) → slice_get schema.fields k ≡ Some f → first ≤ k → starts_with nat_eq f.path start ≡ true → ⊥
+      later lacks k f a l h = elim (number_cases k first) [
+        | inl same ↦
+            let has : starts_with nat_eq g.path start ≡ true = subst (λ (y : Field). starts_with nat_eq y.path start ≡ true) (sym (same_field schema.fields first k g f m a (sym same))) h in
+            let wrong : true ≡ false = sym has ∙ lacks in
+            cc
         | inr other ↦ elim other [
-          | inl lower ↦ lower_fails k f a lower
-          | inr more ↦ fails (starts_with nat_eq f.path start) (λ h.
+          | inl lower ↦ absurd (omega (arith, lower, l))
+          | inr more ↦
               let begins = begins_from start f.path h in
-              let before : slice_cmp nat_cmp g.path (start ++ begins.0) ≡ Less = subst (λ x. slice_cmp nat_cmp g.path x ≡ Less) begins.1 (rise-between fields low k g f rise m a more) in
-              let has : starts_with nat_eq g.path start ≡ true = begins_so start g.path (between start begins.0 g.path (parts.above low g m met) (inr before)) in
+              let before : slice_cmp nat_cmp g.path (start ++ begins.0) ≡ Less = subst (λ x. slice_cmp nat_cmp g.path x ≡ Less) begins.1 (rise-between schema.fields first k g f rise m a more) in
+              let from : high ≤ first = omega (arith, next.above, met) in
+              let has : starts_with nat_eq g.path start ≡ true = begins_so start g.path (between start begins.0 g.path (parts.above first g m from) (inr before)) in
               let wrong : true ≡ false = sym has ∙ lacks in
-              cc)
+              cc
         ]
       ]
 
-      by : (b : Bool) → starts_with nat_eq g.path start ≡ b → b ≡ is_object fields start
-      by true h = sym (some_begins fields start low g m h)
-      by false h = sym (all_fail fields start (later h))
+      by : (b : Bool) → starts_with nat_eq g.path start ≡ b → b ≡ is_object (mapped_fields schema) start
+      by true h = sym (object_begins schema start first g (mapped_by schema first g m next.free) h)
+      by false h = sym (none_begins schema start low high parts (λ k f a b. elim (sides k f a) [
+        | inl less ↦ lower_fails schema start low high parts k f (mapped_is schema k f a).0 less b
+        | inr more ↦ later h k f (mapped_is schema k f a).0 more b
+      ]))

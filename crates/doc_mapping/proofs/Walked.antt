@@ -1,5 +1,5 @@
 -- What is reached by names in a record whose keys have no fault.
-use Rattle.std.proofs.Common.{◌≡◌, ℕ, Bool, true, false, List, [], ◌∷◌, ◌++◌, append_assoc, slice_get, Option, Some, None, refl, ap, sym, ◌∙◌, subst, arith, ◌⊎◌, inl, inr, if◌then◌else◌}
+use Rattle.std.proofs.Common.{◌≡◌, ℕ, Bool, true, false, List, [], ◌∷◌, ◌++◌, append_assoc, slice_get, Option, Some, None, refl, ap, sym, ◌∙◌, subst, ◌⊎◌, inl, inr, if◌then◌else◌}
 use Rattle.std.specs.Prelude.{option_and_then}
 use Rattle.std.specs.Ordering.{nat_cmp}
 use Rattle.std.specs.Cmp.Lexicographic.{slice_cmp}
@@ -8,13 +8,15 @@ use Rattle.std.specs.declared.cmp.Ordering.TheVariants.{Less, Equal, Greater}
 use Rattle.serde_json.specs.Data.{Data, null, boolean, number, string, array, object, Members, no_members, member}
 use Rattle.serde_json.specs.Find.{get_member}
 use Rattle.doc_value.specs.declared.schema.Field.{Field}
-use Rattle.doc_value.specs.Documents.{number_of}
+use Rattle.doc_value.specs.Documents.{mapped_fields}
+use Rattle.dynamic_paths.specs.Leaves.{is_object}
 use Rattle.index_config.specs.declared.config.Mode.TheVariants.{Strict}
 use Rattle.index_config.specs.declared.config.IndexConfig.{IndexConfig}
-use Rattle.doc_mapping.specs.Faults.{under, formats_at, unmapped, is_object, has_dot, path_fault, key_fault, members_fault, inner_fault}
+use Rattle.doc_mapping.specs.Faults.{under, formats_at, mapped_at, number_of_mapped, unmapped, has_dot, path_fault, key_fault, members_fault, inner_fault}
 use Rattle.doc_mapping.specs.Documents.{value_at}
 use Rattle.doc_mapping.specs.Held.{path_from, ArePlain}
-use Rattle.doc_mapping.proofs.Holding.{some_none, none_some, first_none, same_key, no_object, number_stands, grows, object_by}
+use Rattle.doc_mapping.proofs.Holding.{some_none, none_some, first_none, same_key, no_object, grows}
+use Rattle.doc_mapping.proofs.Mapped.{mapped_is, stands_mapped, object_by}
 
 and_itself : (o : Option Data) → o ≡ option_and_then (value_at []) o
 and_itself None = refl
@@ -47,7 +49,7 @@ module _ (config : IndexConfig) where
 
   -- what stands behind a key is looked at: in strict mode, or where some field lies there
   abbrev pub May : List ℕ → List ℕ → Type 0
-  May path key = (config.mode ≡ Strict) ⊎ ((has_dot key ≡ false) × (is_object config.schema.fields (path ++ 46 ∷ []) ≡ true))
+  May path key = (config.mode ≡ Strict) ⊎ ((has_dot key ≡ false) × (is_object (mapped_fields config.schema) (path ++ 46 ∷ []) ≡ true))
 
   pub strict_refuses : {B : Type 0} (path : List ℕ) → config.mode ≡ Strict → unmapped config.mode path ≡ None → B
   strict_refuses path e h = some_none _ (rw e at h)
@@ -55,7 +57,7 @@ module _ (config : IndexConfig) where
   step : (path key : List ℕ) (ms : Members) → May path key → IsFitting path key (object ms) → members_fault config path ms ≡ None
   step path key ms may h = dots (has_dot key) refl
     where
-      objects : (b : Bool) → is_object config.schema.fields (path ++ 46 ∷ []) ≡ b → (if b then members_fault config path ms else unmapped config.mode path) ≡ None
+      objects : (b : Bool) → is_object (mapped_fields config.schema) (path ++ 46 ∷ []) ≡ b → (if b then members_fault config path ms else unmapped config.mode path) ≡ None
           → members_fault config path ms ≡ None
       objects true e g = g
       objects false e g = elim may [
@@ -63,21 +65,20 @@ module _ (config : IndexConfig) where
         | inr parts ↦ absurd (let x : false ≡ true = sym e ∙ parts.1 in cc)
       ]
 
-      numbers : (o : Option ℕ) → number_of config.schema.fields path ≡ o → path_fault config path (object ms) (members_fault config path ms) o ≡ None
+      numbers : (o : Option ℕ) → number_of_mapped config.schema path ≡ o → path_fault config path (object ms) (members_fault config path ms) o ≡ None
           → members_fault config path ms ≡ None
       numbers (Some n) e g =
-          let at = number_stands 0 config.schema.fields path n e in
-          let same : at.0 ≡ n = omega (arith, at.2.0) in
-          let here : slice_get config.schema.fields n ≡ Some at.1 = subst (λ (i : ℕ). slice_get config.schema.fields i ≡ Some at.1) same at.2.1 in
-          no_object at.1.kind (formats_at config.formats n) path ms (rw here at g)
-      numbers None e g = objects (is_object config.schema.fields (path ++ 46 ∷ [])) refl g
+          let at = stands_mapped config.schema path n e in
+          let here : slice_get config.schema.fields n ≡ Some at.0 = (mapped_is config.schema n at.0 at.1.0).0 in
+          no_object at.0.kind (formats_at config.formats n) path ms (rw here at g)
+      numbers None e g = objects (is_object (mapped_fields config.schema) (path ++ 46 ∷ [])) refl g
 
       dots : (b : Bool) → has_dot key ≡ b → members_fault config path ms ≡ None
       dots true e = elim may [
         | inl strict ↦ strict_refuses path strict (rw e at h)
         | inr parts ↦ absurd (let x : true ≡ false = sym e ∙ parts.0 in cc)
       ]
-      dots false e = numbers (number_of config.schema.fields path) refl (rw e at h)
+      dots false e = numbers (number_of_mapped config.schema path) refl (rw e at h)
 
   -- in strict mode each key is plain
   plain_key : (path key : List ℕ) (d : Data) → IsFitting path key d → config.mode ≡ Strict → has_dot key ≡ false
@@ -96,14 +97,14 @@ module _ (config : IndexConfig) where
   descends_strict e path key [] = tt
   descends_strict e path key (n ∷ ns) = (inl e, descends_strict e (under path n) n ns)
 
-  pub descends_to : (names : List (List ℕ)) (c : ℕ) (r key : List ℕ) (n : ℕ) (f : Field) (tail : List ℕ) → slice_get config.schema.fields n ≡ Some f
+  pub descends_to : (names : List (List ℕ)) (c : ℕ) (r key : List ℕ) (n : ℕ) (f : Field) (tail : List ℕ) → mapped_at config.schema n ≡ Some f
       → f.path ≡ path_from (c ∷ r) names ++ tail → has_dot key ≡ false → ArePlain names → Descends (c ∷ r) key names
   descends_to [] c r key n f tail a e k p = tt
   descends_to (m ∷ ns) c r key n f tail a e k p =
       let g = grows c (r ++ 46 ∷ m) ns in
       let long : f.path ≡ (c ∷ r) ++ 46 ∷ (m ++ (g.0 ++ tail)) =
       e ∙ ap (λ y. y ++ tail) g.1 ∙ append_assoc (c ∷ (r ++ 46 ∷ m)) g.0 tail ∙ append_assoc (c ∷ r) (46 ∷ m) (g.0 ++ tail) in
-      (inr (k, object_by config.schema.fields n f (c ∷ r) (m ++ (g.0 ++ tail)) a long), descends_to ns c (r ++ 46 ∷ m) m n f tail a e p.0 p.1)
+      (inr (k, object_by config.schema n f (c ∷ r) (m ++ (g.0 ++ tail)) a long), descends_to ns c (r ++ 46 ∷ m) m n f tail a e p.0 p.1)
 
   -- what is reached has no fault, and in strict mode all names on the way are plain
   abbrev pub Reaches : List ℕ → List ℕ → List (List ℕ) → Data → Type 0

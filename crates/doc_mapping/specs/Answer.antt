@@ -6,11 +6,14 @@ use Rattle.serde_json.specs.Data.{Data, Members, depth}
 use Rattle.serde_json.specs.Find.{as_object}
 use Rattle.serde_json.specs.Read.{read}
 use Rattle.doc_value.specs.declared.doc.DocField.{DocField}
+use Rattle.doc_value.specs.declared.schema.Schema.{Schema}
+use Rattle.dynamic_paths.specs.LeafTexts.{Leaf}
+use Rattle.dynamic_paths.specs.Leaves.{leaf_list, max_leaves, counted}
 use Rattle.index_config.specs.declared.config.IndexConfig.{IndexConfig}
 use Rattle.doc_mapping.specs.declared.reject.Reject.{Reject}
-use Rattle.doc_mapping.specs.declared.reject.Reject.TheVariants.{NotJson, NotObject, Unmapped, WrongType, BadDate, MissingTimestamp, TooLong, TooDeep, Memory}
+use Rattle.doc_mapping.specs.declared.reject.Reject.TheVariants.{NotJson, NotObject, Unmapped, WrongType, BadDate, MissingTimestamp, TooLong, TooDeep, TooManyLeaves, Memory}
 use Rattle.doc_mapping.specs.Faults.{members_fault}
-use Rattle.doc_mapping.specs.Documents.{doc_from, has_number}
+use Rattle.doc_mapping.specs.Documents.{doc_of, has_number}
 
 abbrev pub max_record : ℕ
 max_record = 1048576
@@ -29,6 +32,7 @@ IsMemory (BadDate path) = ⊥
 IsMemory MissingTimestamp = ⊥
 IsMemory (TooLong size) = ⊥
 IsMemory TooDeep = ⊥
+IsMemory (TooManyLeaves count) = ⊥
 
 abbrev pub lacks_timestamp : Option ℕ → List DocField → Bool
 lacks_timestamp None doc = false
@@ -37,9 +41,21 @@ lacks_timestamp (Some n) doc = if has_number doc n then false else true
 abbrev pub timed_answer : Option ℕ → List DocField → Result (List DocField) Reject
 timed_answer timestamp doc = if lacks_timestamp timestamp doc then Err MissingTimestamp else Ok doc
 
+-- too many leaves, where the schema has a field for them; also those are counted whose text is not kept
+abbrev pub leaf_fault_by : Option ℕ → List Leaf → Option Reject
+leaf_fault_by None leaves = None
+leaf_fault_by (Some n) leaves = if nat_lt max_leaves (length leaves) then Some (TooManyLeaves (counted leaves)) else None
+
+abbrev pub leaf_fault : Schema → Data → Option Reject
+leaf_fault schema d = leaf_fault_by schema.dynamic (leaf_list schema d)
+
+abbrev pub counted_answer : IndexConfig → Data → Option Reject → Result (List DocField) Reject
+counted_answer config d (Some refusal) = Err refusal
+counted_answer config d None = timed_answer config.timestamp_field (doc_of config.schema d)
+
 abbrev pub fitting_answer : IndexConfig → Data → Option Reject → Result (List DocField) Reject
 fitting_answer config d (Some refusal) = Err refusal
-fitting_answer config d None = timed_answer config.timestamp_field (doc_from 0 config.schema.fields d)
+fitting_answer config d None = counted_answer config d (leaf_fault config.schema d)
 
 abbrev pub object_answer : IndexConfig → Data → Option Members → Result (List DocField) Reject
 object_answer config d None = Err NotObject

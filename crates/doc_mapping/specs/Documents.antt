@@ -1,15 +1,18 @@
--- The document of a record: for each path of the schema the values that stand there.
-use Rattle.std.specs.Prelude.{ℕ, suc, ◌==◌, ◌||◌, Bool, false, List, [], ◌∷◌, ◌++◌, Option, Some, None, option_and_then, ℤ}
+-- The document of a record: for each path of the schema the values that stand there, and the leaves that no path is of.
+use Rattle.std.specs.Prelude.{ℕ, suc, ◌==◌, ◌||◌, Bool, false, List, [], ◌∷◌, ◌++◌, Option, Some, None, map, option_and_then, ℤ, if◌then◌else◌}
 use Rattle.serde_json.specs.Data.{Data, Items, no_items, item}
 use Rattle.serde_json.specs.Find.{get, as_bool, as_str, as_array}
 use Rattle.clock_time.specs.Datetimes.{rfc3339_seconds, unix_seconds}
 use Rattle.doc_value.specs.declared.schema.Field.{Field}
+use Rattle.doc_value.specs.declared.schema.Schema.{Schema}
 use Rattle.doc_value.specs.declared.schema.Kind.{Kind}
 use Rattle.doc_value.specs.declared.schema.Kind.TheVariants as kinds
 use Rattle.doc_value.specs.declared.doc.Value.{Value}
 use Rattle.doc_value.specs.declared.doc.Value.TheVariants as values
 use Rattle.doc_value.specs.declared.doc.DocField.{DocField}
 use Rattle.doc_value.specs.Printed.{names_of}
+use Rattle.dynamic_paths.specs.LeafTexts.{fitting_texts}
+use Rattle.dynamic_paths.specs.Leaves.{is_number, leaf_list}
 use Rattle.doc_mapping.specs.Faults.{i64_of, u64_of}
 
 -- what stands in a value behind these names
@@ -70,10 +73,29 @@ abbrev pub part_of : ℕ → List Value → List DocField
 part_of n [] = []
 part_of n (v ∷ vs) = record { number = n; values = v ∷ vs } ∷ []
 
--- the fields from number n on, each with the values that stand at its path
-abbrev pub doc_from : ℕ → List Field → Data → List DocField
-doc_from n [] d = []
-doc_from n (field ∷ fields) d = part_of n (found_values field.kind (value_at (names_of field.path) d)) ++ doc_from (suc n) fields d
+-- the texts of a record's leaves, of those that are kept
+abbrev pub leaf_values : Schema → Data → List Value
+leaf_values schema d = map values.Text (fitting_texts (leaf_list schema d))
+
+-- a list of texts takes them, and no other field does
+abbrev pub leaves_for : Kind → List Value → List Value
+leaves_for kinds.TextList leaves = leaves
+leaves_for _ leaves = []
+
+-- the values of the field of a number: those that stand at its path, or these leaves where it holds what is not mapped
+abbrev pub values_from : Option ℕ → List Value → ℕ → Field → Data → List Value
+values_from dynamic leaves n field d =
+    if is_number dynamic n then leaves_for field.kind leaves else found_values field.kind (value_at (names_of field.path) d)
+
+-- the fields from number n on, each with its values
+abbrev pub doc_from : Option ℕ → List Value → ℕ → List Field → Data → List DocField
+doc_from dynamic leaves n [] d = []
+doc_from dynamic leaves n (field ∷ fields) d =
+    part_of n (values_from dynamic leaves n field d) ++ doc_from dynamic leaves (suc n) fields d
+
+-- the document of a record
+abbrev pub doc_of : Schema → Data → List DocField
+doc_of schema d = doc_from schema.dynamic (leaf_values schema d) 0 schema.fields d
 
 -- the document has values of a field
 abbrev pub has_number : List DocField → ℕ → Bool

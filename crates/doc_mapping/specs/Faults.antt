@@ -1,13 +1,15 @@
 -- The first thing in a record that doesn't fit the schema, key by key in byte order, an object's keys where it stands.
-use Rattle.std.specs.Prelude.{ℕ, ◌==◌, ◌&&◌, ◌||◌, nat_eq, Bool, true, false, List, [], ◌∷◌, ◌++◌, slice_get, Option, Some, None, is_some, unwrap_or, option_and_then, ℤ, if◌then◌else◌}
-use Rattle.std.specs.List.{list_any, starts_with}
+use Rattle.std.specs.Prelude.{ℕ, ◌==◌, ◌&&◌, ◌||◌, Bool, true, false, List, [], ◌∷◌, ◌++◌, slice_get, Option, Some, None, is_some, unwrap_or, option_and_then, ℤ, if◌then◌else◌}
+use Rattle.std.specs.List.{list_any}
 use Rattle.serde_json.specs.Data.{Data, null, boolean, number, string, array, object, Items, no_items, item, Members, no_members, member}
 use Rattle.serde_json.specs.Find.{as_null, as_bool, as_number, as_str, as_array, as_i64, as_u64}
 use Rattle.clock_time.specs.Datetimes.{rfc3339_seconds, unix_seconds}
 use Rattle.doc_value.specs.declared.schema.Field.{Field}
 use Rattle.doc_value.specs.declared.schema.Kind.{Kind}
 use Rattle.doc_value.specs.declared.schema.Kind.TheVariants as kinds
-use Rattle.doc_value.specs.Documents.{number_of}
+use Rattle.doc_value.specs.declared.schema.Schema.{Schema}
+use Rattle.doc_value.specs.Documents.{mapped_fields, but_number, number_of}
+use Rattle.dynamic_paths.specs.Leaves.{is_number, is_object}
 use Rattle.index_config.specs.declared.config.Mode.{Mode}
 use Rattle.index_config.specs.declared.config.Mode.TheVariants.{Strict, Lenient, Dynamic}
 use Rattle.index_config.specs.declared.config.Formats.{Formats}
@@ -83,10 +85,12 @@ unmapped Strict path = Some (Unmapped path)
 unmapped Lenient path = None
 unmapped Dynamic path = None
 
--- some field lies in the object whose path and dot these bytes are
-abbrev pub is_object : List Field → List ℕ → Bool
-is_object [] start = false
-is_object (field ∷ fields) start = starts_with nat_eq field.path start || is_object fields start
+-- the mapped field of a number, and the number of the mapped field with a path: the field that holds what is not mapped has neither
+abbrev pub mapped_at : Schema → ℕ → Option Field
+mapped_at schema n = if is_number schema.dynamic n then None else slice_get schema.fields n
+
+abbrev pub number_of_mapped : Schema → List ℕ → Option ℕ
+number_of_mapped schema path = but_number schema.dynamic (number_of schema.fields path)
 
 -- a dot in a key is none between names, so such a key names no field
 abbrev pub has_dot : List ℕ → Bool
@@ -101,11 +105,11 @@ field_fault config path d n (Some field) = value_fault field.kind (formats_at co
 abbrev pub path_fault : IndexConfig → List ℕ → Data → Option Reject → Option ℕ → Option Reject
 path_fault config path d inner (Some n) = field_fault config path d n (slice_get config.schema.fields n)
 path_fault config path d inner None =
-    if is_object config.schema.fields (path ++ 46 ∷ []) then inner else unmapped config.mode path
+    if is_object (mapped_fields config.schema) (path ++ 46 ∷ []) then inner else unmapped config.mode path
 
 abbrev pub key_fault : IndexConfig → List ℕ → List ℕ → Data → Option Reject → Option Reject
 key_fault config path key d inner =
-    if has_dot key then unmapped config.mode path else path_fault config path d inner (number_of config.schema.fields path)
+    if has_dot key then unmapped config.mode path else path_fault config path d inner (number_of_mapped config.schema path)
 
 -- the first refusal among the keys of an object with this path, and that of a value where an object is asked
 abbrev mutual

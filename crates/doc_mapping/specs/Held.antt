@@ -9,13 +9,13 @@ use Rattle.doc_value.specs.declared.schema.Kind.TheVariants as kinds
 use Rattle.doc_value.specs.declared.doc.Value.{Value}
 use Rattle.doc_value.specs.declared.doc.Value.TheVariants as values
 use Rattle.doc_value.specs.declared.doc.DocField.{DocField}
-use Rattle.doc_value.specs.Documents.{number_of}
+use Rattle.doc_value.specs.declared.schema.Schema.{Schema}
 use Rattle.doc_value.specs.Printed.{names_of}
 use Rattle.index_config.specs.declared.config.Mode.TheVariants.{Strict}
 use Rattle.index_config.specs.declared.config.Formats.{Formats}
 use Rattle.index_config.specs.declared.config.IndexConfig.{IndexConfig}
-use Rattle.doc_mapping.specs.Documents.{value_at}
-use Rattle.doc_mapping.specs.Faults.{under, formats_at, has_dot}
+use Rattle.doc_mapping.specs.Documents.{value_at, leaf_values}
+use Rattle.doc_mapping.specs.Faults.{under, formats_at, has_dot, mapped_at, number_of_mapped}
 
 -- the document's values of a field
 abbrev pub values_at : List DocField → ℕ → List Value
@@ -58,9 +58,9 @@ HoldsObject (Some (number n)) = ⊥
 HoldsObject (Some (string s)) = ⊥
 HoldsObject (Some (array ds)) = ⊥
 
--- some field lies in the object at this path, and no field stands there itself
-abbrev pub IsObjectAt : List Field → List ℕ → Type 0
-IsObjectAt fields path = ((n : ℕ) × (f : Field) × (rest : List ℕ) × ((slice_get fields n ≡ Some f) × (f.path ≡ path ++ 46 ∷ rest))) × (number_of fields path ≡ None)
+-- some mapped field lies in the object at this path, and none stands there itself
+abbrev pub IsObjectAt : Schema → List ℕ → Type 0
+IsObjectAt schema path = ((n : ℕ) × (f : Field) × (rest : List ℕ) × ((mapped_at schema n ≡ Some f) × (f.path ≡ path ++ 46 ∷ rest))) × (number_of_mapped schema path ≡ None)
 
 -- the path that names behind a path make
 abbrev pub path_from : List ℕ → List (List ℕ) → List ℕ
@@ -72,17 +72,20 @@ abbrev pub ArePlain : List (List ℕ) → Type 0
 ArePlain [] = Unit {0}
 ArePlain (name ∷ names) = (has_dot name ≡ false) × ArePlain names
 
--- what stands behind these names in a record is at a field's path, or in an object that some field lies in
-abbrev pub IsMapped : List Field → List (List ℕ) → Type 0
-IsMapped fields names =
+-- what stands behind these names in a record is at a mapped field's path, or in an object that some mapped field lies in
+abbrev pub IsMapped : Schema → List (List ℕ) → Type 0
+IsMapped schema names =
     ArePlain names
-    × ((n : ℕ) × (f : Field) × ((slice_get fields n ≡ Some f)
+    × ((n : ℕ) × (f : Field) × ((mapped_at schema n ≡ Some f)
     × ((f.path ≡ path_from [] names) ⊎ ((rest : List ℕ) × (f.path ≡ path_from [] names ++ 46 ∷ rest)))))
 
--- a record holds a document: at each field's path its values, at each object's an object, and in strict mode nothing else
+-- A record holds a document: at each mapped field's path its values, at each object's an object, in strict mode nothing else, and
+-- a field for what is not mapped has just the leaf texts that are kept.
 pub record IsHeldBy (config : IndexConfig) (d : Data) (doc : List DocField) : Type 0 where
-  pub mapped : (n : ℕ) (f : Field) → slice_get config.schema.fields n ≡ Some f
+  pub mapped : (n : ℕ) (f : Field) → mapped_at config.schema n ≡ Some f
       → Holds f.kind (formats_at config.formats n) (value_at (names_of f.path) d) (values_at doc n)
-  pub objects : (path : List ℕ) → IsObjectAt config.schema.fields path → HoldsObject (value_at (names_of path) d)
+  pub objects : (path : List ℕ) → IsObjectAt config.schema path → HoldsObject (value_at (names_of path) d)
   pub strict : config.mode ≡ Strict → (name : List ℕ) (names : List (List ℕ)) (e : Data) → value_at (name ∷ names) d ≡ Some e
-      → IsMapped config.schema.fields (name ∷ names)
+      → IsMapped config.schema (name ∷ names)
+  pub leaves : (n : ℕ) (f : Field) → config.schema.dynamic ≡ Some n → slice_get config.schema.fields n ≡ Some f → f.kind ≡ kinds.TextList
+      → values_at doc n ≡ leaf_values config.schema d

@@ -3,6 +3,7 @@ use Rattle.std.specs.Prelude.{◌≡◌, ◌≢◌, ◌⊎◌, ℕ, suc, true, f
 use Rattle.serde_json.specs.Data.{Data, object, Items, Members}
 use Rattle.serde_json.specs.Find.{as_str}
 use Rattle.doc_value.specs.declared.schema.Field.{Field}
+use Rattle.doc_value.specs.declared.schema.Schema.{Schema}
 use Rattle.doc_value.specs.declared.schema.Kind.{Kind}
 use Rattle.doc_value.specs.declared.schema.Kind.TheVariants as kinds
 use Rattle.doc_value.specs.declared.doc.Value.{Value}
@@ -16,7 +17,7 @@ use Rattle.doc_mapping.specs.declared.misfit.Misfit.TheVariants as misfits
 use Rattle.doc_mapping.specs.declared.reject.Reject.{Reject}
 use Rattle.doc_mapping.specs.declared.reject.Reject.TheVariants.{WrongType, BadDate}
 use Rattle.doc_mapping.specs.Documents.{value_at, second_of, texts_in, values_of, found_values}
-use Rattle.doc_mapping.specs.Faults.{under, has_dot, i64_of, u64_of, all_texts, date_fault, value_fault}
+use Rattle.doc_mapping.specs.Faults.{under, has_dot, mapped_at, i64_of, u64_of, all_texts, date_fault, value_fault}
 use Rattle.doc_mapping.specs.Held.{values_at}
 
 -- the paths of the fields rise, and none begins with a dot
@@ -77,40 +78,40 @@ abbrev pub LiesAt : List ℕ → List (List ℕ) → List ℕ → Type 0
 LiesAt at names path = ((names ≡ []) × (path ≡ at)) ⊎ ((rest : List ℕ) × ((names ≡ names_of rest) × (path ≡ at ++ 46 ∷ rest)))
 
 -- no part is of a field that lies there
-abbrev pub IsFree : List Field → List ℕ → List DocField → Type 0
-IsFree fields at parts = (n : ℕ) (f : Field) (names : List (List ℕ)) → slice_get fields n ≡ Some f → LiesAt at names f.path → values_at parts n ≡ []
+abbrev pub IsFree : Schema → List ℕ → List DocField → Type 0
+IsFree schema at parts = (n : ℕ) (f : Field) (names : List (List ℕ)) → mapped_at schema n ≡ Some f → LiesAt at names f.path → values_at parts n ≡ []
 
 -- parts with what a value at a path brings: of each field that lies there its values
-pub record Brings (fields : List Field) (at : List ℕ) (d : Data) (old new : List DocField) : Type 0 where
+pub record Brings (schema : Schema) (at : List ℕ) (d : Data) (old new : List DocField) : Type 0 where
   pub rise : RiseFrom 0 new
-  pub own : (n : ℕ) (f : Field) (names : List (List ℕ)) → slice_get fields n ≡ Some f → LiesAt at names f.path
+  pub own : (n : ℕ) (f : Field) (names : List (List ℕ)) → mapped_at schema n ≡ Some f → LiesAt at names f.path
       → values_at new n ≡ found_values f.kind (value_at names d)
-  pub others : (n : ℕ) → ((f : Field) (names : List (List ℕ)) → slice_get fields n ≡ Some f → LiesAt at names f.path → ⊥)
+  pub others : (n : ℕ) → ((f : Field) (names : List (List ℕ)) → mapped_at schema n ≡ Some f → LiesAt at names f.path → ⊥)
       → values_at new n ≡ values_at old n
 
 -- the same, of regular fields and of parts that rise and have nothing yet of what lies there
-abbrev pub Gathers : List Field → List ℕ → Data → List DocField → List DocField → Type 0
-Gathers fields at d old new = AreRegular fields → RiseFrom 0 old → IsFree fields at old → Brings fields at d old new
+abbrev pub Gathers : Schema → List ℕ → Data → List DocField → List DocField → Type 0
+Gathers schema at d old new = AreRegular schema.fields → RiseFrom 0 old → IsFree schema at old → Brings schema at d old new
 
 -- the way to a field goes by this key of the object at a path, and then by these names
-abbrev pub GoesBy : List Field → List ℕ → List ℕ → List (List ℕ) → ℕ → Field → Type 0
-GoesBy fields prefix key names n f = (has_dot key ≡ false) × (slice_get fields n ≡ Some f) × LiesAt (under prefix key) names f.path
+abbrev pub GoesBy : Schema → List ℕ → List ℕ → List (List ℕ) → ℕ → Field → Type 0
+GoesBy schema prefix key names n f = (has_dot key ≡ false) × (mapped_at schema n ≡ Some f) × LiesAt (under prefix key) names f.path
 
-abbrev pub AreFree : List Field → List ℕ → List DocField → Type 0
-AreFree fields prefix parts = (key : List ℕ) (n : ℕ) (f : Field) (names : List (List ℕ)) → GoesBy fields prefix key names n f → values_at parts n ≡ []
+abbrev pub AreFree : Schema → List ℕ → List DocField → Type 0
+AreFree schema prefix parts = (key : List ℕ) (n : ℕ) (f : Field) (names : List (List ℕ)) → GoesBy schema prefix key names n f → values_at parts n ≡ []
 
 -- parts with what the members of an object bring
-pub record BringAll (fields : List Field) (prefix : List ℕ) (ms : Members) (old new : List DocField) : Type 0 where
+pub record BringAll (schema : Schema) (prefix : List ℕ) (ms : Members) (old new : List DocField) : Type 0 where
   pub rise : RiseFrom 0 new
-  pub own : (key : List ℕ) (n : ℕ) (f : Field) (names : List (List ℕ)) → GoesBy fields prefix key names n f
+  pub own : (key : List ℕ) (n : ℕ) (f : Field) (names : List (List ℕ)) → GoesBy schema prefix key names n f
       → values_at new n ≡ found_values f.kind (value_at (key ∷ names) (object ms))
-  pub others : (n : ℕ) → ((key : List ℕ) (f : Field) (names : List (List ℕ)) → GoesBy fields prefix key names n f → ⊥)
+  pub others : (n : ℕ) → ((key : List ℕ) (f : Field) (names : List (List ℕ)) → GoesBy schema prefix key names n f → ⊥)
       → values_at new n ≡ values_at old n
 
-abbrev pub GatherAll : List Field → List ℕ → Members → List DocField → List DocField → Type 0
-GatherAll fields prefix ms old new = AreRegular fields → RiseFrom 0 old → AreFree fields prefix old → BringAll fields prefix ms old new
+abbrev pub GatherAll : Schema → List ℕ → Members → List DocField → List DocField → Type 0
+GatherAll schema prefix ms old new = AreRegular schema.fields → RiseFrom 0 old → AreFree schema prefix old → BringAll schema prefix ms old new
 
 -- the same, of a value where an object is asked
-abbrev pub GatherInner : List Field → List ℕ → Option Members → List DocField → List DocField → Type 0
-GatherInner fields path None old new = new ≡ old
-GatherInner fields path (Some ms) old new = GatherAll fields path ms old new
+abbrev pub GatherInner : Schema → List ℕ → Option Members → List DocField → List DocField → Type 0
+GatherInner schema path None old new = new ≡ old
+GatherInner schema path (Some ms) old new = GatherAll schema path ms old new

@@ -1,19 +1,21 @@
 ghost use Rattle.std.specs.Prelude.{◌≡◌, [], nat_le, true, Ok, Err, Some, MatchResult, MatchOption, IsTrue, IfOk, unwrap_or};
-ghost use Rattle.serde_json.specs.Data.{Members, depth};
+ghost use Rattle.serde_json.specs.Data.{Data, Members, depth};
 ghost use Rattle.serde_json.specs.Find.{as_object};
 ghost use Rattle.serde_json.specs.View.{view};
 ghost use Rattle.index_config.specs.declared.config.IndexConfig.{IndexConfig as Config};
-ghost use Rattle.doc_mapping.specs.Answer.{answer, read_answer, timed_answer, lacks_timestamp, IsMemory};
+ghost use Rattle.doc_mapping.specs.Answer.{answer, counted_answer, leaf_fault, lacks_timestamp, read_answer, timed_answer, IsMemory};
 ghost use Rattle.doc_mapping.specs.Documents.{doc_from, has_number};
+ghost use Rattle.doc_mapping.specs.Leaves.{AreOf};
 ghost use Rattle.doc_mapping.specs.Walk.{AreFlat, AreRegular};
 
 use crate::documents::doc_of;
 use crate::finder::Finder;
+use crate::leaf_texts::{LeafTexts, leaf_texts, with_leaves};
 use crate::levels::is_within;
 use crate::parts::Parts;
 use crate::reject::Reject;
 use crate::walk::record_fault;
-use doc_value::{Doc, Fields};
+use doc_value::{Doc, Schema};
 use index_config::IndexConfig;
 use serde_json::Value;
 use std::alloc::{AllocError, Global};
@@ -26,7 +28,8 @@ pub const MAX_RECORD: usize = 1_048_576;
 pub const MAX_LEVELS: usize = 32;
 
 /// The document of a record, or the first refusal: TooLong over 1,048,576 bytes, NotJson, NotObject, TooDeep over 32
-/// levels, then key by key in byte order Unmapped (in strict mode), WrongType or BadDate, and last MissingTimestamp.
+/// levels, then key by key in byte order Unmapped (in strict mode), WrongType or BadDate, behind all keys TooManyLeaves over 65,536
+/// leaves (where the schema has a field for what is not mapped), and last MissingTimestamp.
 pub fn accept(alloc: Global, config: &IndexConfig, bytes: &[u8]) -> Result<Doc, Reject>
     ensures { MatchResult result
         (λ doc. answer config.now bytes.now ≡ Ok doc)
@@ -83,29 +86,75 @@ fn accept_value(
         mem::drop(value);
         return Err(refusal);
     }
-    let (looked_for, mut parts) = match begun(
-        alloc,
-        &config.schema.fields,
-        finder.regular,
-        &value,
-    ) {
+    match leaf_texts(alloc, &config.schema, &value) {
+        Ok(texts) => accept_object(alloc, config, finder, value, texts),
+        Err(error) => {
+            mem::drop(value);
+            Err(Reject::Memory(error))
+        }
+    }
+}
+
+/// The same of an object that nests to few levels, told the texts of its leaves, which were taken before its values are moved.
+fn accept_object(
+    alloc: Global,
+    config: &IndexConfig,
+    finder: &Finder,
+    value: Value,
+    texts: LeafTexts,
+) -> Result<Doc, Reject>
+    requires rising { IsTrue finder.now.regular → AreRegular config.now.schema.fields }
+    requires flat { IsTrue finder.now.flat → AreFlat config.now.schema.fields }
+    requires object { (members : Members) × (Some members ≡ as_object (view value)) }
+    requires shallow { nat_le (depth (view value)) 32 ≡ true }
+    requires texts { AreOf config.now.schema (view value) texts }
+    ensures { MatchResult result
+        (λ doc. read_answer config.now (Some (view value)) ≡ Ok doc)
+        (λ refusal. ¬ IsMemory refusal → read_answer config.now (Some (view value)) ≡ Err refusal) }
+{
+    let (looked_for, mut parts) = match begun(alloc, &config.schema, finder.regular, &value) {
         Ok(begun) => begun,
         Err(error) => {
             mem::drop(value);
+            mem::drop(texts);
             return Err(Reject::Memory(error));
         }
     };
     let fault = record_fault(alloc, config, finder, value, &mut parts);
     let doc = doc_by(looked_for, parts);
     match fault {
-        Ok(None) => timed(config.timestamp_field, doc),
+        Ok(None) => whole(config, doc, texts),
         Ok(Some(refusal)) => {
             mem::drop(doc);
+            mem::drop(texts);
             Err(refusal)
         }
         Err(error) => {
             mem::drop(doc);
+            mem::drop(texts);
             Err(Reject::Memory(error))
+        }
+    }
+}
+
+/// The document of what the fields take and of the leaves' texts, unless there are too many leaves or a timestamp is missing.
+fn whole(config: &IndexConfig, doc: Doc, texts: LeafTexts) -> Result<Doc, Reject>
+    ensures { (d : Data) → AreOf config.now.schema d texts → doc ≡ doc_from config.now.schema.dynamic [] 0 config.now.schema.fields d →
+        MatchResult result
+        (λ whole. counted_answer config.now d (leaf_fault config.now.schema d) ≡ Ok whole)
+        (λ refusal. ¬ IsMemory refusal → counted_answer config.now d (leaf_fault config.now.schema d) ≡ Err refusal) }
+{
+    match texts {
+        LeafTexts::Dropped => timed(config.timestamp_field, doc),
+        LeafTexts::TooMany { count } => {
+            mem::drop(doc);
+            Err(Reject::TooManyLeaves { count })
+        }
+        LeafTexts::Kept { number, values } => {
+            match with_leaves(&config.schema, doc, number, values) {
+                Ok(whole) => timed(config.timestamp_field, whole),
+                Err(error) => Err(Reject::Memory(error)),
+            }
         }
     }
 }
@@ -128,19 +177,19 @@ fn shape_fault(value: &Value) -> Option<Reject>
 /// What the walk over a record begins with: the document where it is looked for path by path, and no parts.
 fn begun(
     alloc: Global,
-    fields: &Fields,
+    schema: &Schema,
     regular: bool,
     value: &Value,
 ) -> Result<(Option<Doc>, Parts), AllocError>
-    ensures found { IfOk result (λ x. MatchOption x.0 (IsTrue regular) (λ doc. doc ≡ doc_from 0 fields.now (view value.now))) }
+    ensures found { IfOk result (λ x. MatchOption x.0 (IsTrue regular) (λ doc. doc ≡ doc_from schema.now.dynamic [] 0 schema.now.fields (view value.now))) }
     ensures empty { IfOk result (λ x. x.1.items ≡ []) }
 {
     let members = match value.as_object() {
         Some(map) => map.len(),
         None => 0,
     };
-    let parts = Parts::with_capacity(alloc, members.min(fields.len()))?;
-    match looked_for(alloc, fields, regular, value) {
+    let parts = Parts::with_capacity(alloc, members.min(schema.fields.len()))?;
+    match looked_for(alloc, schema, regular, value) {
         Ok(found) => Ok((found, parts)),
         Err(error) => {
             mem::drop(parts);
@@ -152,16 +201,16 @@ fn begun(
 /// Where the fields are not regular, the document that is looked for path by path.
 fn looked_for(
     alloc: Global,
-    fields: &Fields,
+    schema: &Schema,
     regular: bool,
     value: &Value,
 ) -> Result<Option<Doc>, AllocError>
-    ensures { IfOk result (λ found. MatchOption found (IsTrue regular) (λ doc. doc ≡ doc_from 0 fields.now (view value.now))) }
+    ensures { IfOk result (λ found. MatchOption found (IsTrue regular) (λ doc. doc ≡ doc_from schema.now.dynamic [] 0 schema.now.fields (view value.now))) }
 {
     if regular {
         return Ok(None);
     }
-    Ok(Some(doc_of(alloc, fields, value)?))
+    Ok(Some(doc_of(alloc, schema, value)?))
 }
 
 /// The document: what was looked for, or else the parts that the walk gathered.

@@ -7,18 +7,19 @@ ghost use Rattle.clock_time.specs.Datetimes.{rfc3339_seconds, unix_seconds};
 ghost use Rattle.doc_mapping.specs.Documents as spec;
 
 use clock_time::{read_rfc3339, read_unix};
-use doc_value::{Doc, DocField, Field, Fields, Kind, Text, Value as DocValue, Values};
+use doc_value::{Doc, DocField, Field, Kind, Schema, Text, Value as DocValue, Values};
+use dynamic_paths::is_dynamic;
 use serde_json::Value;
 use std::alloc::{AllocError, Global};
 use std::mem;
 
-/// The values that stand at the paths of these fields, each looked for by itself.
-pub fn doc_of(alloc: Global, fields: &Fields, root: &Value) -> Result<Doc, AllocError>
-    ensures { IfOk result (λ doc. doc ≡ spec.doc_from 0 fields.now (view root.now)) }
+/// The values that stand at the paths of the mapped fields, each looked for by itself.
+pub fn doc_of(alloc: Global, schema: &Schema, root: &Value) -> Result<Doc, AllocError>
+    ensures { IfOk result (λ doc. doc ≡ spec.doc_from schema.now.dynamic [] 0 schema.now.fields (view root.now)) }
 {
     let mut doc = Doc::vacant(alloc);
-    for (number, field) in fields.as_slice().iter().enumerate() {
-        if let Err(error) = push_part(alloc, &mut doc, number, field, root) {
+    for (number, field) in schema.fields.as_slice().iter().enumerate() {
+        if let Err(error) = push_part(alloc, &mut doc, schema, number, field, root) {
             mem::drop(doc);
             return Err(error);
         }
@@ -26,22 +27,42 @@ pub fn doc_of(alloc: Global, fields: &Fields, root: &Value) -> Result<Doc, Alloc
     Ok(doc)
 }
 
-/// The values of a field, if it has any.
+/// The values of a field, if it is mapped and has any.
 fn push_part(
     alloc: Global,
     doc: &mut Doc,
+    schema: &Schema,
     number: usize,
     field: &Field,
     root: &Value,
 ) -> Result<(), AllocError>
     ensures { OnOk result (doc.new ≡ doc.old
-        ++ spec.part_of number (spec.found_values field.now.kind (spec.value_at (names_of field.now.path) (view root.now)))) }
+        ++ spec.part_of number (spec.values_from schema.now.dynamic [] number field.now (view root.now))) }
 {
-    let values = match value_at(root, field.path.as_str()) {
-        Some(value) => values_of(alloc, field.kind, value)?,
-        None => Values::vacant(alloc),
-    };
-    push_values(doc, number, values)
+    push_values(
+        doc,
+        number,
+        mapped_values(alloc, schema, number, field, root)?,
+    )
+}
+
+/// The values that stand at a field's path; none where the field is the one for what is not mapped.
+fn mapped_values(
+    alloc: Global,
+    schema: &Schema,
+    number: usize,
+    field: &Field,
+    root: &Value,
+) -> Result<Values, AllocError>
+    ensures { IfOk result (λ values. values ≡ spec.values_from schema.now.dynamic [] number field.now (view root.now)) }
+{
+    if is_dynamic(schema, number) {
+        return Ok(Values::vacant(alloc));
+    }
+    match value_at(root, field.path.as_str()) {
+        Some(value) => values_of(alloc, field.kind, value),
+        None => Ok(Values::vacant(alloc)),
+    }
 }
 
 fn push_values(doc: &mut Doc, number: usize, values: Values) -> Result<(), AllocError>

@@ -5,13 +5,15 @@ ghost use Rattle.serde_json.specs.View.{view, items_view};
 ghost use Rattle.clock_time.specs.Datetimes.{rfc3339_seconds, unix_seconds};
 ghost use Rattle.serde_json.specs.Find.{as_str, as_array};
 ghost use Rattle.doc_value.specs.Documents as words;
-ghost use Rattle.doc_value.specs.Documents.{PathsRise};
+ghost use Rattle.doc_value.specs.Documents.{PathsRise, mapped_fields};
+ghost use Rattle.dynamic_paths.specs.Leaves.{is_object};
 ghost use Rattle.index_config.specs.Accepted.{BeginPlain};
 ghost use Rattle.doc_mapping.specs.Faults as spec;
 ghost use Rattle.doc_mapping.specs.Walk.{AreFlat, AreRegular};
 
 use crate::finder::Finder;
 use doc_value::{Field, Fields, Schema};
+use dynamic_paths::is_dynamic;
 use index_config::{FieldFormats, Formats};
 use std::cmp::Ordering;
 
@@ -28,33 +30,13 @@ pub fn formats_at(formats: &FieldFormats, number: usize) -> Formats
     }
 }
 
-/// Whether some field lies in the object whose path and dot these bytes are.
-pub fn is_object(fields: &Fields, regular: bool, start: &[u8]) -> bool
-    requires { IsTrue regular → AreRegular fields.now }
-    ensures { result ≡ spec.is_object fields.now start.now }
+/// Whether some mapped field lies in the object whose path and dot these bytes are, where the paths rise: if some path begins
+/// so, the first one does that doesn't come before, or the next one where that is the path of the field for what is not mapped.
+pub fn is_object_by_halves(schema: &Schema, start: &[u8]) -> bool
+    requires { PathsRise schema.now.fields }
+    ensures { result ≡ is_object (mapped_fields schema.now) start.now }
 {
-    if regular {
-        return is_object_by_halves(fields, start);
-    }
-    is_object_one_by_one(fields.as_slice(), start)
-}
-
-fn is_object_one_by_one(fields: &[Field], start: &[u8]) -> bool
-    ensures { result ≡ spec.is_object fields.now start.now }
-{
-    for field in fields {
-        if field.path.as_slice().starts_with(start) {
-            return true;
-        }
-    }
-    false
-}
-
-/// The same where the paths rise: if some path begins so, the first one does that doesn't come before.
-fn is_object_by_halves(fields: &Fields, start: &[u8]) -> bool
-    requires { PathsRise fields.now }
-    ensures { result ≡ spec.is_object fields.now start.now }
-{
+    let fields = &schema.fields;
     let mut low = 0;
     let mut high = fields.len();
     while low < high {
@@ -68,7 +50,13 @@ fn is_object_by_halves(fields: &Fields, start: &[u8]) -> bool
     if low >= fields.len() {
         return false;
     }
-    fields.at(low).path.as_slice().starts_with(start)
+    if !is_dynamic(schema, low) {
+        return fields.at(low).path.as_slice().starts_with(start);
+    }
+    if low + 1 >= fields.len() {
+        return false;
+    }
+    fields.at(low + 1).path.as_slice().starts_with(start)
 }
 
 /// Whether one path comes before another in byte order.
@@ -135,10 +123,27 @@ pub fn has_dot(key: &[u8]) -> bool
     key.contains(&b'.')
 }
 
+/// The number of the mapped field with this path.
+#[inline(always)]
+pub fn number_of(schema: &Schema, finder: &Finder, guess: usize, path: &[u8]) -> Option<usize>
+    requires { IsTrue finder.now.regular → AreRegular schema.now.fields }
+    ensures { result ≡ spec.number_of_mapped schema.now path.now }
+{
+    match any_number_of(schema, finder, guess, path) {
+        Some(number) => {
+            if is_dynamic(schema, number) {
+                return None;
+            }
+            Some(number)
+        }
+        None => None,
+    }
+}
+
 /// The number of the field with this path: where the fields are regular the guess or the finder's, if one is right, or
 /// else found in logarithmic time.
 #[inline(always)]
-pub fn number_of(schema: &Schema, finder: &Finder, guess: usize, path: &[u8]) -> Option<usize>
+fn any_number_of(schema: &Schema, finder: &Finder, guess: usize, path: &[u8]) -> Option<usize>
     requires { IsTrue finder.now.regular → AreRegular schema.now.fields }
     ensures { result ≡ words.number_of schema.now.fields path.now }
 {

@@ -6,6 +6,7 @@ mod documents;
 mod faults;
 mod finder;
 pub mod laws;
+mod leaf_texts;
 mod levels;
 mod mapping;
 mod misfit;

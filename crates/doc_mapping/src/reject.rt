@@ -24,6 +24,9 @@ pub enum Reject {
     TooLong { size: usize },
     #[error("nested too deep")]
     TooDeep,
+    /// How many values stand at paths that no field has, where the schema has a field for them.
+    #[error("{count} values at paths that no field has are too many")]
+    TooManyLeaves { count: usize },
     #[error("out of memory")]
     Memory(AllocError),
 }

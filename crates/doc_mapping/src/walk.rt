@@ -1,5 +1,6 @@
 ghost use Rattle.std.specs.Prelude.{◌≡◌, ◌<◌, ◌≤◌, ◌++◌, ◌∷◌, [], length, slice_get, IfOk, OnOk, IsTrue, true, false, Some, None, is_some};
-ghost use Rattle.doc_value.specs.Documents as words;
+ghost use Rattle.doc_value.specs.Documents.{mapped_fields};
+ghost use Rattle.dynamic_paths.specs.Leaves.{is_object};
 ghost use Rattle.serde_json.specs.Data.{depth, members_depth};
 ghost use Rattle.serde_json.specs.View.{view, members_view};
 ghost use Rattle.doc_mapping.specs.Faults as spec;
@@ -10,13 +11,14 @@ ghost use Rattle.doc_mapping.specs.Held.{values_at};
 
 use crate::accepting::MAX_LEVELS;
 use crate::documents::one_value;
-use crate::faults::{formats_at, has_dot, is_object, number_of};
+use crate::faults::{formats_at, has_dot, is_object_by_halves, number_of};
 use crate::finder::Finder;
 use crate::misfit::{fitting_values, single_value};
 use crate::parts::{Parts, next_number, put};
 use crate::reject::Reject;
 use crate::taking::into_members;
 use doc_value::{Text, Value as DocValue};
+use dynamic_paths::is_object;
 use index_config::{IndexConfig, Mode};
 use serde_json::{Map, Value};
 use std::alloc::{AllocError, Global};
@@ -35,7 +37,7 @@ pub fn record_fault(
     requires shallow { depth (view root) ≤ 32 }
     ensures fault { IfOk result (λ fault. fault ≡ spec.inner_fault config.now [] (view root)) }
     ensures gathers { IfOk result (λ fault. fault ≡ None →
-        GatherInner config.now.schema.fields [] (as_object (view root)) parts.old.items parts.new.items) }
+        GatherInner config.now.schema [] (as_object (view root)) parts.old.items parts.new.items) }
 {
     if !finder.flat {
         return inner_fault(alloc, config, finder, "", root, MAX_LEVELS, parts);
@@ -58,7 +60,7 @@ fn flat_faults(
     requires flat { AreFlat config.now.schema.fields }
     ensures fault { IfOk result (λ fault. fault ≡ spec.members_fault config.now [] (members_view map.entries)) }
     ensures gathers { IfOk result (λ fault. fault ≡ None →
-        GatherAll config.now.schema.fields [] (members_view map.entries) parts.old.items parts.new.items) }
+        GatherAll config.now.schema [] (members_view map.entries) parts.old.items parts.new.items) }
 {
     for (key, value) in map {
         let fault = flat_fault(alloc, config, finder, key.as_str(), value, parts);
@@ -88,7 +90,7 @@ fn flat_fault(
         spec.key_fault config.now key.now key.now (view value) (spec.inner_fault config.now key.now (view value))) }
     ensures dotted { spec.has_dot key.now ≡ true → parts.new.items ≡ parts.old.items }
     ensures gathers { spec.has_dot key.now ≡ false → IfOk result (λ fault. fault ≡ None →
-        Gathers config.now.schema.fields key.now (view value) parts.old.items parts.new.items) }
+        Gathers config.now.schema key.now (view value) parts.old.items parts.new.items) }
 {
     match number_of(&config.schema, finder, next_number(parts), key.as_bytes()) {
         Some(number) => field_fault(alloc, config, number, key, value, parts),
@@ -114,7 +116,7 @@ fn members_fault(
     requires shallow { members_depth (members_view map.entries) ≤ levels }
     ensures fault { IfOk result (λ fault. fault ≡ spec.members_fault config.now prefix.now (members_view map.entries)) }
     ensures gathers { IfOk result (λ fault. fault ≡ None →
-        GatherAll config.now.schema.fields prefix.now (members_view map.entries) parts.old.items parts.new.items) }
+        GatherAll config.now.schema prefix.now (members_view map.entries) parts.old.items parts.new.items) }
 {
     for (key, value) in map {
         let fault = key_fault(
@@ -156,7 +158,7 @@ fn key_fault(
         (spec.inner_fault config.now (spec.under prefix.now key.now) (view value))) }
     ensures dotted { spec.has_dot key.now ≡ true → parts.new.items ≡ parts.old.items }
     ensures gathers { spec.has_dot key.now ≡ false → IfOk result (λ fault. fault ≡ None →
-        Gathers config.now.schema.fields (spec.under prefix.now key.now) (view value) parts.old.items parts.new.items) }
+        Gathers config.now.schema (spec.under prefix.now key.now) (view value) parts.old.items parts.new.items) }
 {
     if has_dot(key.as_bytes()) {
         mem::drop(value);
@@ -193,9 +195,9 @@ fn path_fault(
     requires shallow { depth (view value) ≤ levels }
     ensures fault { IfOk result (λ fault. fault ≡
         spec.path_fault config.now path.now (view value) (spec.inner_fault config.now path.now (view value))
-        (words.number_of config.now.schema.fields path.now)) }
+        (spec.number_of_mapped config.now.schema path.now)) }
     ensures gathers { IfOk result (λ fault. fault ≡ None →
-        Gathers config.now.schema.fields path.now (view value) parts.old.items parts.new.items) }
+        Gathers config.now.schema path.now (view value) parts.old.items parts.new.items) }
 {
     if let Some(number) = number_of(&config.schema, finder, next_number(parts), path.as_bytes()) {
         return field_fault(alloc, config, number, path, value, parts);
@@ -228,7 +230,7 @@ fn inner_fault(
     requires shallow { depth (view value) ≤ levels }
     ensures fault { IfOk result (λ fault. fault ≡ spec.inner_fault config.now path.now (view value)) }
     ensures gathers { IfOk result (λ fault. fault ≡ None →
-        GatherInner config.now.schema.fields path.now (as_object (view value)) parts.old.items parts.new.items) }
+        GatherInner config.now.schema path.now (as_object (view value)) parts.old.items parts.new.items) }
 {
     match into_members(value) {
         Ok(inner) => members_fault(alloc, config, finder, path, inner, levels - 1, parts),
@@ -353,7 +355,7 @@ fn unmapped_key(
     }
 }
 
-/// Whether a path is that of an object in which some field lies.
+/// Whether a path is that of an object in which some mapped field lies.
 fn lies_above_fields(
     alloc: Global,
     config: &IndexConfig,
@@ -361,10 +363,13 @@ fn lies_above_fields(
     path: &str,
 ) -> Result<bool, AllocError>
     requires { IsTrue regular → AreRegular config.now.schema.fields }
-    ensures { IfOk result (λ above. above ≡ spec.is_object config.now.schema.fields (path.now ++ 46 ∷ [])) }
+    ensures { IfOk result (λ above. above ≡ is_object (mapped_fields config.now.schema) (path.now ++ 46 ∷ [])) }
 {
+    if !regular {
+        return Ok(is_object(&config.schema, path.as_bytes()));
+    }
     let start = joined(alloc, path, "")?;
-    Ok(is_object(&config.schema.fields, regular, start.as_slice()))
+    Ok(is_object_by_halves(&config.schema, start.as_slice()))
 }
 
 /// The path of a key in an object with this path; the record itself has the empty path.

@@ -26,6 +26,6 @@ returns-in-Ok-Some-clause-gathers c = λ none. refused_not _ none
 pub returns-clause-gathers : goal.returns-clause-gathers
 returns-clause-gathers c = λ none.
     let h = c.in-None.ensures.steps in
-    none_left c.args.config.now.schema.fields [] (members_view c.args.map.entries) c.args.parts.now.items c.loop-key.parts.items
-    (subst (λ es. MayLeave c.args.config.now.schema.fields [] (members_view c.args.map.entries) c.args.parts.now.items (members_view es) c.loop-key.parts.items)
+    none_left c.args.config.now.schema [] (members_view c.args.map.entries) c.args.parts.now.items c.loop-key.parts.items
+    (subst (λ es. MayLeave c.args.config.now.schema [] (members_view c.args.map.entries) c.args.parts.now.items (members_view es) c.loop-key.parts.items)
     h.0 c.loop-key.invariant.3)
