@@ -1,5 +1,6 @@
 -- What is found among the leaf texts that a document lists.
-use Rattle.std.proofs.Common.{◌≡◌, ℕ, ◌&&◌, ◌||◌, Bool, true, false, List, [], ◌∷◌, length, map, refl, ap, sym, ◌∙◌, nat_eq, nat_le, not, if◌then◌else◌}
+use Rattle.std.proofs.Common.{◌≡◌, ℕ, ◌+◌, ◌<◌, ◌&&◌, ◌||◌, Bool, true, false, List, [], ◌∷◌, ◌++◌, length, length-append, map, decimal, refl, ap, sym, ◌∙◌, nat_eq, nat_le, not, if◌then◌else◌, arith}
+use Rattle.std.proofs.lemmas.Bool.Decides.{nat_tests}
 use Rattle.std.specs.List.{AllByRecursion, list_any, starts_with}
 use Rattle.std.specs.Str.{bytes_eq}
 use Rattle.std.proofs.lemmas.Slice.Eq.{bytes_eq-Decides}
@@ -9,7 +10,7 @@ use Rattle.doc_value.specs.declared.doc.Value.{Value}
 use Rattle.doc_value.specs.declared.doc.Value.TheVariants as values
 use Rattle.doc_value.specs.declared.schema.Field.{Field}
 use Rattle.doc_value.specs.declared.schema.Tokenizer.{Tokenizer}
-use Rattle.dynamic_paths.specs.LeafTexts.{Leaf, leaf_text, fits, fitting_texts}
+use Rattle.dynamic_paths.specs.LeafTexts.{Leaf, leaf_text, fits, fitting_texts, max_leaf_text}
 use Rattle.dynamic_paths.proofs.Apart.{apart, by_front, by_path}
 use Rattle.query_ast.specs.FieldTokens.{field_tokens, tokens_by, prefix_text, prefix_by}
 use Rattle.query_ast.specs.Meaning.{is_text, has_token, has_prefix, some_has_token, some_has_prefix, word_holds, quoted_holds, phrase_holds, each_holds, some_item_holds, equals_some}
@@ -32,6 +33,10 @@ or_no false = refl
 and_yes : (b : Bool) → b && true ≡ b
 and_yes true = refl
 and_yes false = refl
+
+no_and : (b : Bool) → b && false ≡ false
+no_and true = refl
+no_and false = refl
 
 one_has : (w v : List ℕ) → has_token w (raw_tokens v) ≡ (fits v && bytes_eq v w)
 one_has w v = go (nat_le (length v) max_token) (record { text = v; from = 0; to = length v; position = 0 }) refl
@@ -186,3 +191,40 @@ module _ (f : Field) (h : IsHolder f) where
     items_in text (m ∷ ms) =
         ap (λ b. b || some_item_holds f (map values.Text (fitting_texts leaves)) (map (leaf_item text path) ms)) (item_in m.quoted (text_at text m.place))
         ∙ ap (λ b. has_kept leaves path (text_at text m.place) || b) (items_in text ms)
+
+-- ---- a path so long that no leaf text of it is kept
+
+pub none_fits : (path text : List ℕ) → fits path ≡ false → fits (leaf_text path text) ≡ false
+none_fits path text e =
+    let long : max_leaf_text < length path = grind (arith, e, nat_tests) in
+    let one : length (leaf_text path text) ≡ length (decimal (length path)) + length (58 ∷ path ++ 58 ∷ text) = length-append (decimal (length path)) (58 ∷ path ++ 58 ∷ text) in
+    let two : length (path ++ 58 ∷ text) ≡ length path + length (58 ∷ text) = length-append path (58 ∷ text) in
+    let longer : max_leaf_text < length (leaf_text path text) = omega (arith, long, one, two) in
+    grind (arith, longer, nat_tests)
+
+pub none_kept : (leaves : List Leaf) (path text : List ℕ) → fits path ≡ false → has_kept leaves path text ≡ false
+none_kept leaves path text e = ap (λ b. b && list_any (λ (leaf : Leaf). bytes_eq path leaf.0 && bytes_eq text leaf.1) leaves) (none_fits path text e)
+
+pub none_of : (leaves : List Leaf) (path text : List ℕ) → fits path ≡ false → (ms : List Member) → list_any (λ (m : Member). has_kept leaves path (text_at text m.place)) ms ≡ false
+none_of leaves path text e [] = refl
+none_of leaves path text e (m ∷ ms) =
+    ap (λ b. b || list_any (λ (m : Member). has_kept leaves path (text_at text m.place)) ms) (none_kept leaves path (text_at text m.place) e) ∙ none_of leaves path text e ms
+
+-- a leaf that is kept has another path
+none_here : (path : List ℕ) → fits path ≡ false → (leaf : Leaf) (t : Bool) → (fits (leaf_text leaf.0 leaf.1) && (bytes_eq path leaf.0 && t)) ≡ false
+none_here path e leaf t = go (bytes_eq path leaf.0) refl
+  where
+    go : (b : Bool) → bytes_eq path leaf.0 ≡ b → (fits (leaf_text leaf.0 leaf.1) && (b && t)) ≡ false
+    go false h = no_and (fits (leaf_text leaf.0 leaf.1))
+    go true h =
+        let same : path ≡ leaf.0 = (bytes_eq-Decides path leaf.0).0 h in
+        ap (λ b. b && t) (ap (λ p. fits (leaf_text p leaf.1)) (sym same) ∙ none_fits path leaf.1 e)
+
+pub none_begins : (leaves : List Leaf) (path front : List ℕ) → fits path ≡ false → has_front leaves path front ≡ false
+none_begins [] path front e = refl
+none_begins (leaf ∷ leaves) path front e = ap (λ b. b || has_front leaves path front) (none_here path e leaf (starts_with nat_eq leaf.1 front)) ∙ none_begins leaves path front e
+
+pub none_there : (leaves : List Leaf) (path : List ℕ) → fits path ≡ false → has_path leaves path ≡ false
+none_there [] path e = refl
+none_there (leaf ∷ leaves) path e =
+    ap (λ b. b || has_path leaves path) (sym (ap (λ b. fits (leaf_text leaf.0 leaf.1) && b) (and_yes (bytes_eq path leaf.0))) ∙ none_here path e leaf true) ∙ none_there leaves path e

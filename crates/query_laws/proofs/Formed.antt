@@ -3,6 +3,7 @@ use Rattle.std.proofs.Common.{◌≡◌, ℕ, suc, ◌+◌, ◌≤◌, ◌&&◌,
 use Rattle.std.specs.Str.{bytes_eq}
 use Rattle.doc_value.specs.declared.schema.Field.{Field}
 use Rattle.doc_value.specs.declared.schema.Schema.{Schema}
+use Rattle.dynamic_paths.specs.LeafTexts.{fits}
 use Rattle.query_ast.specs.Sought.{Sought, Soughts, no_more, more}
 use Rattle.query_ast.specs.Sought as sought
 use Rattle.query_reader.specs.Asking.{Asking}
@@ -10,7 +11,7 @@ use Rattle.query_reader.specs.Asking as asks
 use Rattle.query_reader.specs.Tree.{Tree, Trees, no_trees, behind, Not, and_tree, or_tree}
 use Rattle.query_reader.specs.Texts.{text_at}
 use Rattle.query_reader.specs.Grammar.{Asks, Specials, Ors, one_and, by_or, Ands, one_operand, next_operand, by_and, Unary, by_not, by_plus, by_minus, anything, by_bracket, of_defaults, of_field, of_special, IsQuery, span}
-use Rattle.query_reader.specs.Resolve.{◌>>=◌, resolve, resolve_each, resolve_clause, leaf_clause, unnamed_clause, clause_of, over_fields, asked_after, asked_at, and_then, all_indexed, indexed_at, first_bad, bad_at, first_unplaced, unplaced_at, place_unless, first_of, number_of, first_byte}
+use Rattle.query_reader.specs.Resolve.{◌>>=◌, resolve, resolve_each, resolve_clause, leaf_clause, unnamed_clause, overlong_clause, clause_of, over_fields, asked_after, asked_at, and_then, all_indexed, indexed_at, first_bad, bad_at, first_unplaced, unplaced_at, place_unless, first_of, number_of, first_byte}
 use Rattle.query_reader.specs.declared.tree.Span.{Span}
 use Rattle.query_reader.specs.declared.refusal.QueryError.{QueryError}
 use Rattle.query_reader.specs.declared.refusal.QueryError.TheVariants as refusals
@@ -107,9 +108,24 @@ module _ (schema : Schema) (defaults text : List ℕ) (W : ℕ → Type 0) (P : 
           let y : over_fields (asked_after schema.fields text no_more a ns) at ≡ Ok q = rw (i, hb, hu) at e in
           over_formed (asked_after schema.fields text no_more a ns) at q (asked_all a ns within w i hb hu no_more rules.none) y
 
+  nothing_formed : (q : Sought) → ◌≡◌ {A = Result Sought QueryError} (Ok (sought.Not sought.All)) (Ok q) → P q
+  nothing_formed q e = subst P (let y : sought.Not sought.All ≡ q = cc in y) (rules.negated sought.All rules.all)
+
+  overlong_formed : (a : Asking) (q : Sought) → overlong_clause a ≡ Ok q → P q
+  overlong_formed asks.Any q e = nothing_formed q e
+  overlong_formed (asks.Word p) q e = nothing_formed q e
+  overlong_formed (asks.Prefix p) q e = nothing_formed q e
+  overlong_formed (asks.Quoted p) q e = nothing_formed q e
+  overlong_formed (asks.Within m r) q e = absurd (let y : ◌≡◌ {A = Result Sought QueryError} (Err (refusals.BadValue m)) (Ok q) = e in cc)
+  overlong_formed (asks.OneOf m ms) q e = nothing_formed q e
+
   unnamed_formed : (s : Span) (a : Asking) (q : Sought) (d : Option ℕ) → schema.dynamic ≡ d → IsWritten text a → unnamed_clause text (text_at text s) d a ≡ Ok q → P q
   unnamed_formed s a q None d w e = absurd (let y : ◌≡◌ {A = Result Sought QueryError} (Err (refusals.UnknownField (text_at text s))) (Ok q) = e in cc)
-  unnamed_formed s a q (Some n) d w e = rules.leaf n s a q d w e
+  unnamed_formed s a q (Some n) d w e = go (fits (text_at text s)) refl
+    where
+      go : (b : Bool) → fits (text_at text s) ≡ b → P q
+      go true h = rules.leaf n s a q d w (let y : leaf_clause text (text_at text s) n a ≡ Ok q = rw h at e in y)
+      go false h = overlong_formed a q (let y : overlong_clause a ≡ Ok q = rw h at e in y)
 
   leaf_formed : (field : Option Span) (a : Asking) (q : Sought) → IsWritten text a → resolve_clause schema defaults text field a ≡ Ok q → P q
   leaf_formed (Some s) a q w e = go (number_of schema.fields (text_at text s) 0) refl

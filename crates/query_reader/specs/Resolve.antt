@@ -7,7 +7,7 @@ use Rattle.doc_value.specs.declared.schema.Kind.{Kind}
 use Rattle.doc_value.specs.declared.schema.Kind.TheVariants as kinds
 use Rattle.doc_value.specs.declared.schema.Schema.{Schema}
 use Rattle.doc_value.specs.declared.doc.Value.{Value}
-use Rattle.dynamic_paths.specs.LeafTexts.{leaf_text}
+use Rattle.dynamic_paths.specs.LeafTexts.{leaf_text, fits}
 use Rattle.query_ast.specs.declared.query.Item.{Item}
 use Rattle.query_ast.specs.declared.query.Edge.{Edge}
 use Rattle.query_ast.specs.declared.query.Edge.TheVariants as edges
@@ -202,10 +202,19 @@ leaf_clause text path n (asks.Quoted s) = Ok (sought.Quoted n (leaf_text path (t
 leaf_clause text path n (asks.Within from r) = Err (refusals.BadValue from)
 leaf_clause text path n (asks.OneOf from ms) = Ok (sought.AnyOf n (map (leaf_item text path) ms))
 
+-- a question to a path so long that none of its leaf texts is kept: nothing matches
+abbrev pub overlong_clause : Asking → Result Sought QueryError
+overlong_clause asks.Any = Ok (sought.Not sought.All)
+overlong_clause (asks.Word s) = Ok (sought.Not sought.All)
+overlong_clause (asks.Prefix s) = Ok (sought.Not sought.All)
+overlong_clause (asks.Quoted s) = Ok (sought.Not sought.All)
+overlong_clause (asks.Within from r) = Err (refusals.BadValue from)
+overlong_clause (asks.OneOf from ms) = Ok (sought.Not sought.All)
+
 -- such a path is refused where the schema has no such field
 abbrev pub unnamed_clause : List ℕ → List ℕ → Option ℕ → Asking → Result Sought QueryError
 unnamed_clause text path None ask = Err (refusals.UnknownField path)
-unnamed_clause text path (Some n) ask = leaf_clause text path n ask
+unnamed_clause text path (Some n) ask = if fits path then leaf_clause text path n ask else overlong_clause ask
 
 module _ (schema : Schema) (defaults : List ℕ) (text : List ℕ) where
   abbrev pub named_clause : Option ℕ → Span → Asking → Result Sought QueryError

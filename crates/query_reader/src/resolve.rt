@@ -15,6 +15,7 @@ use crate::texts::text_of;
 use crate::tree::{Ask, Clause, Raw};
 use crate::unmapped::leaf_clause;
 use doc_value::{Field, Schema, Text};
+use dynamic_paths::MAX_LEAF_TEXT;
 use query_ast::Query;
 use std::alloc::{AllocError, Global};
 
@@ -222,8 +223,24 @@ fn unnamed_clause(
     ensures { spec.Gives view (spec.unnamed_clause text.now path schema.now.dynamic (view_ask ask.now)) result }
 {
     match schema.dynamic {
-        Some(number) => leaf_clause(alloc, text, &path, ask, number),
+        Some(number) if path.as_slice().len() <= MAX_LEAF_TEXT => {
+            leaf_clause(alloc, text, &path, ask, number)
+        }
+        Some(_) => overlong_clause(alloc, ask),
         None => Err(QueryError::UnknownField { name: path }),
+    }
+}
+
+/// A clause on a path so long that no text is kept under it: nothing matches. Each member of a set would take as much memory.
+fn overlong_clause(alloc: Global, ask: &Ask) -> Result<Query, QueryError>
+    ensures { spec.Gives view (spec.overlong_clause (view_ask ask.now)) result }
+{
+    match ask {
+        Ask::Within(from, _) => Err(QueryError::BadValue { at: *from }),
+        Ask::Any | Ask::Word(_) | Ask::Prefix(_) | Ask::Quoted(_) | Ask::OneOf(_, _) => negated(
+            alloc,
+            Query::All,
+        ),
     }
 }
 
