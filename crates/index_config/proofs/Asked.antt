@@ -7,7 +7,7 @@ use Rattle.index_config.specs.declared.rule.FieldType.{FieldType}
 use Rattle.index_config.specs.declared.rule.PolicyType.{PolicyType}
 use Rattle.index_config.specs.declared.rule.Place.TheVariants as places
 use Rattle.index_config.specs.declared.rule.Rule.TheVariants as rules
-use Rattle.index_config.specs.Tables.{asked, optional, required, list_of, whole, unknown_faults, members_in, field_note_faults, field_value_faults, mappings_ask, is_object, top_faults, indexing_key_faults, upkeep_faults, search_faults, policy_faults, policy_type, merge_factor}
+use Rattle.index_config.specs.Tables.{asked, optional, required, list_of, whole, unknown_faults, members_in, field_note_faults, field_value_faults, mappings_ask, is_object, top_faults, indexing_key_faults, upkeep_faults, search_faults, retention_faults, policy_faults, policy_type, merge_factor}
 use Rattle.index_config.proofs.Nesting.{chain}
 
 two : (old new a b : List ConfigError) → new ≡ old ++ (a ++ (b ++ [])) → new ≡ old ++ (a ++ b)
@@ -75,6 +75,14 @@ upkeep-keys old new path d h = three old new (unknown_faults places.Upkeep path 
     (asked (whole 1 2147483647) path (codes "staged_grace_secs") d)
     (asked (whole 1 2147483647) path (codes "deletion_grace_secs") d) h
 
+pub retention-keys : (old new : List ConfigError) (path : List ℕ) (d : Data) → new ≡ old ++ (unknown_faults places.Retention path (members_in d)
+    ++ (asked (required (rules.Duration 1)) path (codes "period") d
+    ++ (asked (optional rules.AnyText) path (codes "schedule") d ++ [])))
+    → new ≡ old ++ retention_faults path d
+retention-keys old new path d h = three old new (unknown_faults places.Retention path (members_in d))
+    (asked (required (rules.Duration 1)) path (codes "period") d)
+    (asked (optional rules.AnyText) path (codes "schedule") d) h
+
 pub search-keys : (old new : List ConfigError) (path : List ℕ) (d : Data) → new ≡ old ++ (unknown_faults places.Search path (members_in d)
     ++ (asked (list_of rules.AnyText) path (codes "default_search_fields") d ++ []))
     → new ≡ old ++ search_faults path d
@@ -88,7 +96,7 @@ pub policy-keys : (old new : List ConfigError) (path : List ℕ) (d : Data) (t :
     ++ (asked (whole 2 100) path (codes "merge_factor") d
     ++ (asked (whole m 100) path (codes "max_merge_factor") d
     ++ (asked (whole 1 100) path (codes "max_merge_ops") d
-    ++ (asked (optional rules.Duration) path (codes "maturation_period") d ++ [])))))))
+    ++ (asked (optional (rules.Duration 0)) path (codes "maturation_period") d ++ [])))))))
     → new ≡ old ++ policy_faults path d
 policy-keys old new path d t m e f h = seven old new (unknown_faults (places.OfPolicy (policy_type d)) path (members_in d))
     (asked (optional rules.PolicyName) path (codes "type") d)
@@ -96,7 +104,7 @@ policy-keys old new path d t m e f h = seven old new (unknown_faults (places.OfP
     (asked (whole 2 100) path (codes "merge_factor") d)
     (asked (whole (merge_factor d) 100) path (codes "max_merge_factor") d)
     (asked (whole 1 100) path (codes "max_merge_ops") d)
-    (asked (optional rules.Duration) path (codes "maturation_period") d)
+    (asked (optional (rules.Duration 0)) path (codes "maturation_period") d)
     (rw (e, f) at h)
 
 pub field-keys : (old new : List ConfigError) (path : List ℕ) (d : Data) (t : Option FieldType) → new ≡ old ++ (unknown_faults (places.OfField t) path (members_in d)

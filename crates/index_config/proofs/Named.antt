@@ -19,7 +19,7 @@ use Rattle.index_config.specs.declared.config.Mode.{Mode}
 use Rattle.index_config.specs.declared.config.Mode.TheVariants as modes
 use Rattle.index_config.specs.declared.config_error.ConfigError.{ConfigError}
 use Rattle.index_config.specs.Rules.{under, member_path, is_name_byte, is_name_start, begins_as_name, is_field_name, wrong_unless, text_faults, scalar_faults, items_faults, list_faults}
-use Rattle.index_config.specs.Tables.{unknown_faults, members_in, asked, asked_value, required, optional, list_of, mappings_ask, text_in, items_in, type_of, is_object, field_faults, field_value_faults, field_note_faults, each_fault, inner_fields, member_at, fields_faults, where_table, optional_table, top_faults, mapping_faults, mapping_path, indexing_faults, indexing_path, search_faults, search_path, upkeep_faults, upkeep_path, table_faults}
+use Rattle.index_config.specs.Tables.{unknown_faults, members_in, asked, asked_value, required, optional, list_of, mappings_ask, text_in, items_in, type_of, is_object, field_faults, field_value_faults, field_note_faults, each_fault, inner_fields, member_at, fields_faults, where_table, optional_table, top_faults, mapping_faults, mapping_path, indexing_faults, indexing_path, search_faults, search_path, retention_faults, retention_path, upkeep_faults, upkeep_path, table_faults}
 use Rattle.index_config.specs.Fields.{name_of, each_raw, inner_raws, raws_with, raw_member, in_option, in_mapping, mode_of, dynamic_path, dynamic_raws, mapped_raws, all_raws, placed, sorted_by, in_order, field_of, fields_of}
 use Rattle.index_config.specs.Accepted.{AreNamed, BeginsPlain, BeginPlain}
 use Rattle.index_config.proofs.Distinct.{both-empty}
@@ -223,10 +223,15 @@ root-listed root e =
     (second (top_faults [] root) (where_table (mapping_faults mapping_path) (get mapping_path root))
     (optional_table indexing_path (indexing_faults indexing_path) (get indexing_path root))
     (optional_table search_path (search_faults search_path) (get search_path root))
+    (optional_table retention_path (retention_faults retention_path) (get retention_path root))
     (optional_table upkeep_path (upkeep_faults upkeep_path) (get upkeep_path root)) e)
   where
-    second : (a b c d f : List ConfigError) → a ++ b ++ c ++ d ++ f ≡ [] → b ≡ []
-    second a b c d f h = (both-empty a b (both-empty (a ++ b) c (both-empty (a ++ b ++ c) d (both-empty (a ++ b ++ c ++ d) f h).0).0).0).1
+    second : (a b c d f g : List ConfigError) → a ++ b ++ c ++ d ++ f ++ g ≡ [] → b ≡ []
+    second a b c d f g h =
+        let five = both-empty (a ++ b ++ c ++ d ++ f) g h in
+        let four = both-empty (a ++ b ++ c ++ d) f five.0 in
+        let three = both-empty (a ++ b ++ c) d four.0 in
+        (both-empty a b (both-empty (a ++ b) c three.0).0).1
 
 mapped-named : (root : Data) → table_faults root ≡ [] → AreNamedRaws (mapped_raws root)
 mapped-named root e =

@@ -1,6 +1,6 @@
 -- The numbers of an accepted configuration lie within their ranges.
 use Rattle.std.proofs.Common.{◌≡◌, ℕ, max, ◌≤◌, nat_le, Bool, true, false, ◌&&◌, List, [], ◌++◌, Option, Some, None, Ok, is_some, refl, subst, arith}
-use Rattle.std.specs.Prelude.{ℤ, pos, negsuc, codes, unwrap_or}
+use Rattle.std.specs.Prelude.{ℤ, pos, negsuc, codes, unwrap_or, IfSome}
 use Rattle.std.proofs.lemmas.Bool.{and_parts, leb-true}
 use Rattle.toml.specs.Data.{Data, get, as_str, as_integer, as_table}
 use Rattle.index_config.specs.declared.config.IndexConfig.{IndexConfig}
@@ -11,8 +11,8 @@ use Rattle.index_config.specs.declared.rule.Rule.TheVariants as rules
 use Rattle.index_config.specs.declared.rule.Place.TheVariants as places
 use Rattle.index_config.specs.Accepted.{IsBetween, HasPolicyRanges, HasRanges}
 use Rattle.index_config.specs.Rules.{under, range_faults, whole_faults, seconds_faults, duration_faults, duration_of, max_seconds, wrong_unless}
-use Rattle.index_config.specs.Tables.{asked, asked_value, optional, whole, number_in, number_at, merge_factor, policy_type, policy_faults, policy_path, indexing_key_faults, indexing_faults, indexing_path, search_faults, search_path, upkeep_faults, upkeep_path, unknown_faults, members_in, table_by, optional_table, where_table, mapping_faults, mapping_path, top_faults, table_faults, text_in}
-use Rattle.index_config.specs.Fields.{number_or, in_option, seconds_in, seconds_at, greatest_factor, stable_log, policy_by_type, policy_in, config_of}
+use Rattle.index_config.specs.Tables.{asked, asked_value, optional, required, whole, text_at, retention_faults, retention_path, number_in, number_at, merge_factor, policy_type, policy_faults, policy_path, indexing_key_faults, indexing_faults, indexing_path, search_faults, search_path, upkeep_faults, upkeep_path, unknown_faults, members_in, table_by, optional_table, where_table, mapping_faults, mapping_path, top_faults, table_faults, text_in}
+use Rattle.index_config.specs.Fields.{period_of, retention_in, number_or, in_option, seconds_in, seconds_at, greatest_factor, stable_log, policy_by_type, policy_in, config_of}
 use Rattle.index_config.proofs.Distinct.{both-empty}
 use Rattle.index_config.specs.Answer.{config_answer}
 use Rattle.index_config.proofs.Accepted.{accepted-root}
@@ -45,19 +45,23 @@ asked-between : (least most : ℕ) (path key : List ℕ) (d : Data) (default : �
 unfolding asked
 asked-between least most path key d default fits h = value-between least most (under path key) default fits (get key d) h
 
-seconds-few : (path : List ℕ) (o : Option ℕ) → seconds_faults path o ≡ [] → unwrap_or o 172800 ≤ 2147483647
-seconds-few path None h = absurd (cc)
-seconds-few path (Some n) h = leb-true n max_seconds (in_range (nat_le n max_seconds) path h)
+seconds-between : (least : ℕ) (path : List ℕ) (o : Option ℕ) → seconds_faults least path o ≡ [] → IfSome o (IsBetween least 2147483647)
+seconds-between least path None h = tt
+seconds-between least path (Some n) h = both-le least max_seconds n (in_range (nat_le least n && nat_le n max_seconds) path h)
 
-period-text : (path : List ℕ) (o : Option (List ℕ)) → duration_faults path o ≡ [] → seconds_in 172800 o ≤ 2147483647
+seconds-few : (path : List ℕ) (o : Option ℕ) → seconds_faults 0 path o ≡ [] → unwrap_or o 172800 ≤ 2147483647
+seconds-few path None h = absurd (cc)
+seconds-few path (Some n) h = (seconds-between 0 path (Some n) h).1
+
+period-text : (path : List ℕ) (o : Option (List ℕ)) → duration_faults 0 path o ≡ [] → seconds_in 172800 o ≤ 2147483647
 period-text path None h = absurd (cc)
 period-text path (Some text) h = seconds-few path (duration_of text) h
 
-period-value : (path : List ℕ) (o : Option Data) → asked_value (optional rules.Duration) path o ≡ [] → seconds_in 172800 (text_in o) ≤ 2147483647
+period-value : (path : List ℕ) (o : Option Data) → asked_value (optional (rules.Duration 0)) path o ≡ [] → seconds_in 172800 (text_in o) ≤ 2147483647
 period-value path None h = omega arith
 period-value path (Some d) h = period-text path (as_str d) h
 
-period-asked : (path : List ℕ) (d : Data) → asked (optional rules.Duration) path (codes "maturation_period") d ≡ []
+period-asked : (path : List ℕ) (d : Data) → asked (optional (rules.Duration 0)) path (codes "maturation_period") d ≡ []
     → seconds_at (codes "maturation_period") 172800 d ≤ 2147483647
 unfolding asked
 period-asked path d h = period-value (under path (codes "maturation_period")) (get (codes "maturation_period") d) h
@@ -68,7 +72,7 @@ greatest-between factor h = (omega (arith, h.0), omega (arith, h.1))
 
 policy-ranges : (path : List ℕ) (d : Data) (t : Option PolicyType) → asked (whole 1 16777216) path (codes "min_level_num_docs") d ≡ []
     → asked (whole 2 100) path (codes "merge_factor") d ≡ [] → asked (whole (merge_factor d) 100) path (codes "max_merge_factor") d ≡ []
-    → asked (whole 1 100) path (codes "max_merge_ops") d ≡ [] → asked (optional rules.Duration) path (codes "maturation_period") d ≡ []
+    → asked (whole 1 100) path (codes "max_merge_ops") d ≡ [] → asked (optional (rules.Duration 0)) path (codes "maturation_period") d ≡ []
     → HasPolicyRanges (policy_by_type t d)
 policy-ranges path d t a b c e f = by t
   where
@@ -102,7 +106,7 @@ policy-table path d h =
     let b = asked (whole 2 100) path (codes "merge_factor") d in
     let c = asked (whole (merge_factor d) 100) path (codes "max_merge_factor") d in
     let e = asked (whole 1 100) path (codes "max_merge_ops") d in
-    let f = asked (optional rules.Duration) path (codes "maturation_period") d in
+    let f = asked (optional (rules.Duration 0)) path (codes "maturation_period") d in
     let six = both-empty (u ++ t ++ a ++ b ++ c ++ e) f h in
     let five = both-empty (u ++ t ++ a ++ b ++ c) e six.0 in
     let c4 = both-empty (u ++ t ++ a ++ b) c five.0 in
@@ -152,15 +156,40 @@ upkeep-option (Some d) h =
       asked-between 1 2147483647 upkeep_path (codes "deletion_grace_secs") d 1800 (omega arith, omega arith) last.1,
     )
 
+-- how long splits are kept
+kept-text : (path : List ℕ) (o : Option (List ℕ)) → duration_faults 1 path o ≡ [] → IfSome (period_of o) (IsBetween 1 2147483647)
+kept-text path None h = tt
+kept-text path (Some text) h = seconds-between 1 path (duration_of text) h
+
+kept-value : (path : List ℕ) (o : Option Data) → asked_value (required (rules.Duration 1)) path o ≡ [] → IfSome (period_of (text_in o)) (IsBetween 1 2147483647)
+kept-value path None h = tt
+kept-value path (Some d) h = kept-text path (as_str d) h
+
+kept-asked : (path : List ℕ) (d : Data) → asked (required (rules.Duration 1)) path (codes "period") d ≡ []
+    → IfSome (period_of (text_at (codes "period") d)) (IsBetween 1 2147483647)
+unfolding asked
+kept-asked path d h = kept-value (under path (codes "period")) (get (codes "period") d) h
+
+retention-option : (o : Option Data) → optional_table retention_path (retention_faults retention_path) o ≡ [] → IfSome (retention_in o) (IsBetween 1 2147483647)
+retention-option None h = tt
+retention-option (Some d) h =
+    let u = unknown_faults places.Retention retention_path (members_in d) in
+    let a = asked (required (rules.Duration 1)) retention_path (codes "period") d in
+    let b = asked (optional rules.AnyText) retention_path (codes "schedule") d in
+    let last = both-empty (u ++ a) b (table-own retention_path (retention_faults retention_path) d h) in
+    kept-asked retention_path d (both-empty u a last.0).1
+
 root-ranges : (root : Data) → table_faults root ≡ [] → HasRanges (config_of root)
 root-ranges root h =
     let t = top_faults [] root in
     let m = where_table (mapping_faults mapping_path) (get mapping_path root) in
     let i = optional_table indexing_path (indexing_faults indexing_path) (get indexing_path root) in
     let s = optional_table search_path (search_faults search_path) (get search_path root) in
+    let r = optional_table retention_path (retention_faults retention_path) (get retention_path root) in
     let u = optional_table upkeep_path (upkeep_faults upkeep_path) (get upkeep_path root) in
-    let upkeep = both-empty (t ++ m ++ i ++ s) u h in
-    let search_part = both-empty (t ++ m ++ i) s upkeep.0 in
+    let upkeep = both-empty (t ++ m ++ i ++ s ++ r) u h in
+    let kept = both-empty (t ++ m ++ i ++ s) r upkeep.0 in
+    let search_part = both-empty (t ++ m ++ i) s kept.0 in
     let indexing = indexing-option (get indexing_path root) (both-empty (t ++ m) i search_part.0).1 in
     let graces = upkeep-option (get upkeep_path root) upkeep.1 in
     record {
@@ -169,6 +198,7 @@ root-ranges root h =
       policy = indexing.2;
       staged_grace = graces.0;
       deletion_grace = graces.1;
+      retention = retention-option (get retention_path root) kept.1;
     }
 
 pub accepted-ranges : (text : List ℕ) (config : IndexConfig) → config_answer text ≡ Ok config → HasRanges config

@@ -96,10 +96,10 @@ date-found n tags path (r ∷ rs) k d e =
           (suc more.0, (omega (arith, more.1.0), more.1.1))
     ]
 
-pub timestamp-fits : (path : Option (List ℕ)) (tags : Items) (raws : List RawField) → AreDistinct raws → timestamp_faults path raws ≡ []
+pub timestamp-fits : (needed : Bool) (path : Option (List ℕ)) (tags : Items) (raws : List RawField) → AreDistinct raws → timestamp_faults needed path raws ≡ []
     → IfSome (number_named (fields_of tags (in_order raws)) path) (IsTimestamp (fields_of tags (in_order raws)))
-timestamp-fits None tags raws d e = tt
-timestamp-fits (Some path) tags raws d e = by (number_of (fields_of tags (in_order raws)) path) refl
+timestamp-fits needed None tags raws d e = tt
+timestamp-fits needed (Some path) tags raws d e = by (number_of (fields_of tags (in_order raws)) path) refl
   where
     such : has_such purposes.Timestamp path raws ≡ true
     such =

@@ -1,5 +1,5 @@
 -- What holds of the fields of a configuration.
-use Rattle.std.specs.Prelude.{◌≡◌, ◌≢◌, ℕ, ◌<◌, ◌≤◌, ◌==◌, true, false, List, [], ◌∷◌, ◌++◌, codes, length, slice_get, Some, MatchOption}
+use Rattle.std.specs.Prelude.{◌≡◌, ◌≢◌, ℕ, ◌<◌, ◌≤◌, ◌==◌, true, false, List, [], ◌∷◌, ◌++◌, codes, length, slice_get, Some, IfSome, MatchOption}
 use Rattle.std.specs.Str.{IsUtf8}
 use Rattle.doc_value.specs.declared.schema.Field.{Field}
 use Rattle.doc_value.specs.declared.schema.Kind.{Kind}
@@ -48,6 +48,7 @@ pub record HasRanges (config : IndexConfig) : Type 0 where
   pub policy : HasPolicyRanges config.policy
   pub staged_grace : IsBetween 1 2147483647 config.staged_grace
   pub deletion_grace : IsBetween 1 2147483647 config.deletion_grace
+  pub retention : IfSome config.retention (IsBetween 1 2147483647)
 
 -- a tag field is a text that is one token, a number or a truth value
 abbrev pub IsTagKind : Kind → Tokenizer → Type 0

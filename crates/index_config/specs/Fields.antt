@@ -25,9 +25,9 @@ use Rattle.index_config.specs.declared.rule.FieldType.TheVariants as types
 use Rattle.index_config.specs.declared.rule.PolicyType.{PolicyType}
 use Rattle.index_config.specs.declared.rule.PolicyType.TheVariants as policies
 use Rattle.index_config.specs.declared.config_error.ConfigError.{ConfigError}
-use Rattle.index_config.specs.declared.config_error.ConfigError.TheVariants.{DuplicateField, BadTimestampField, TooManyFields, BadReference}
+use Rattle.index_config.specs.declared.config_error.ConfigError.TheVariants.{DuplicateField, BadTimestampField, TooManyFields, BadReference, RetentionNotBuilt}
 use Rattle.index_config.specs.Rules.{under, member_path, duration_of}
-use Rattle.index_config.specs.Tables.{items_in, list_items, text_in, text_at, type_of, is_object, max_levels, number_at, merge_factor, policy_type, mapping_path}
+use Rattle.index_config.specs.Tables.{items_in, list_items, text_in, text_at, type_of, is_object, max_levels, number_at, merge_factor, policy_type, mapping_path, retention_path}
 
 abbrev pub truth_in : Bool → Option Data → Bool
 truth_in default None = default
@@ -237,9 +237,10 @@ abbrev pub has_such : Purpose → List ℕ → List RawField → Bool
 has_such purpose path [] = false
 has_such purpose path (raw ∷ raws) = (bytes_eq raw.path path && can_serve purpose raw) || has_such purpose path raws
 
-abbrev pub timestamp_faults : Option (List ℕ) → List RawField → List ConfigError
-timestamp_faults None raws = []
-timestamp_faults (Some path) raws = if has_such purposes.Timestamp path raws then [] else BadTimestampField ∷ []
+-- a timestamp field that can't serve so, or that isn't named where there has to be one
+abbrev pub timestamp_faults : Bool → Option (List ℕ) → List RawField → List ConfigError
+timestamp_faults needed None raws = if needed then BadTimestampField ∷ [] else []
+timestamp_faults needed (Some path) raws = if has_such purposes.Timestamp path raws then [] else BadTimestampField ∷ []
 
 -- a path of a list that no field of the list's purpose has
 abbrev pub reference_by : Bool → List ℕ → List ConfigError
@@ -267,14 +268,24 @@ defaults_path = codes "search_settings.default_search_fields"
 abbrev pub timestamp_path : Data → Option (List ℕ)
 timestamp_path root = text_in (in_mapping (codes "timestamp_field") root)
 
+-- a configuration that lets old splits go, by their times
+abbrev pub has_retention : Data → Bool
+has_retention root = is_some (get retention_path root)
+
+-- retention is not built
+abbrev pub unbuilt_faults : Bool → List ConfigError
+unbuilt_faults true = RetentionNotBuilt retention_path ∷ []
+unbuilt_faults false = []
+
 -- what is wrong with the configuration as a whole, behind all tables
 abbrev pub whole_faults : Data → List RawField → List ConfigError
 whole_faults root raws =
     duplicate_faults [] raws
     ++ count_faults (field_count raws)
-    ++ timestamp_faults (timestamp_path root) raws
+    ++ timestamp_faults (has_retention root) (timestamp_path root) raws
     ++ reference_faults purposes.Tag raws tags_path 0 (items_in (in_mapping (codes "tag_fields") root))
     ++ reference_faults purposes.Default raws defaults_path 0 (items_in (search_list root))
+    ++ unbuilt_faults (has_retention root)
 
 -- a field at its place in byte order of paths
 abbrev pub placed : RawField → List RawField → List RawField
@@ -354,6 +365,15 @@ abbrev pub policy_in : Option Data → Policy
 policy_in None = merging.StableLog 100000 10 12 172800
 policy_in (Some d) = policy_by_type (policy_type d) d
 
+abbrev pub period_of : Option (List ℕ) → Option ℕ
+period_of None = None
+period_of (Some text) = duration_of text
+
+-- how long splits are kept, in seconds; for ever without a table of retention
+abbrev pub retention_in : Option Data → Option ℕ
+retention_in None = None
+retention_in (Some d) = period_of (text_at (codes "period") d)
+
 -- the path of the field for what is not mapped, where the mode has one
 abbrev pub dynamic_name : Mode → Option (List ℕ)
 dynamic_name modes.Strict = None
@@ -384,6 +404,7 @@ config_with root raws schema = record {
   policy = policy_in (in_option (codes "merge_policy") (get (codes "indexing_settings") root));
   staged_grace = in_table (codes "upkeep") (codes "staged_grace_secs") 3600 root;
   deletion_grace = in_table (codes "upkeep") (codes "deletion_grace_secs") 1800 root;
+  retention = retention_in (get retention_path root);
 }
 
 abbrev pub config_of : Data → IndexConfig

@@ -143,7 +143,7 @@ has_form rules.AnyText text = true
 has_form rules.Truth text = false
 has_form rules.AnyTable text = false
 has_form (rules.Whole least most) text = false
-has_form rules.Duration text = false
+has_form (rules.Duration least) text = false
 
 -- a text that has to have the form of its rule
 abbrev pub text_faults : Rule → List ℕ → Option (List ℕ) → List ConfigError
@@ -163,13 +163,14 @@ abbrev pub whole_faults : ℕ → ℕ → List ℕ → Option ℤ → List Confi
 whole_faults least most path None = WrongKind path ∷ []
 whole_faults least most path (Some z) = range_faults (is_in least most z) path
 
-abbrev pub seconds_faults : List ℕ → Option ℕ → List ConfigError
-seconds_faults path None = WrongKind path ∷ []
-seconds_faults path (Some n) = range_faults (nat_le n max_seconds) path
+-- a duration of at least so many seconds
+abbrev pub seconds_faults : ℕ → List ℕ → Option ℕ → List ConfigError
+seconds_faults least path None = WrongKind path ∷ []
+seconds_faults least path (Some n) = range_faults (nat_le least n && nat_le n max_seconds) path
 
-abbrev pub duration_faults : List ℕ → Option (List ℕ) → List ConfigError
-duration_faults path None = WrongKind path ∷ []
-duration_faults path (Some text) = seconds_faults path (duration_of text)
+abbrev pub duration_faults : ℕ → List ℕ → Option (List ℕ) → List ConfigError
+duration_faults least path None = WrongKind path ∷ []
+duration_faults least path (Some text) = seconds_faults least path (duration_of text)
 
 -- a member of a list: its path has its place
 abbrev pub member_path : List ℕ → ℕ → List ℕ
@@ -180,7 +181,7 @@ abbrev pub scalar_faults : Rule → List ℕ → Data → List ConfigError
 scalar_faults rules.Truth path d = wrong_unless (is_some (as_bool d)) path
 scalar_faults rules.AnyTable path d = wrong_unless (is_some (as_table d)) path
 scalar_faults (rules.Whole least most) path d = whole_faults least most path (as_integer d)
-scalar_faults rules.Duration path d = duration_faults path (as_str d)
+scalar_faults (rules.Duration least) path d = duration_faults least path (as_str d)
 scalar_faults rules.AnyText path d = text_faults rules.AnyText path (as_str d)
 scalar_faults rules.IndexId path d = text_faults rules.IndexId path (as_str d)
 scalar_faults rules.FieldName path d = text_faults rules.FieldName path (as_str d)

@@ -19,7 +19,8 @@ use Rattle.index_config.specs.Rules.{under, member_path, value_faults, wrong_unl
 abbrev pub is_top_key : List ℕ → Bool
 is_top_key k =
     bytes_eq k (codes "version") || bytes_eq k (codes "index_id") || bytes_eq k (codes "index_uri") || bytes_eq k (codes "doc_mapping")
-    || bytes_eq k (codes "indexing_settings") || bytes_eq k (codes "search_settings") || bytes_eq k (codes "upkeep")
+    || bytes_eq k (codes "indexing_settings") || bytes_eq k (codes "search_settings") || bytes_eq k (codes "retention")
+    || bytes_eq k (codes "upkeep")
 
 abbrev pub is_mapping_key : List ℕ → Bool
 is_mapping_key k =
@@ -33,6 +34,9 @@ is_indexing_key k =
 
 abbrev pub is_search_key : List ℕ → Bool
 is_search_key k = bytes_eq k (codes "default_search_fields")
+
+abbrev pub is_retention_key : List ℕ → Bool
+is_retention_key k = bytes_eq k (codes "period") || bytes_eq k (codes "schedule")
 
 abbrev pub is_upkeep_key : List ℕ → Bool
 is_upkeep_key k = bytes_eq k (codes "staged_grace_secs") || bytes_eq k (codes "deletion_grace_secs")
@@ -81,6 +85,7 @@ is_known places.Top k = is_top_key k
 is_known places.Mapping k = is_mapping_key k
 is_known places.Indexing k = is_indexing_key k
 is_known places.Search k = is_search_key k
+is_known places.Retention k = is_retention_key k
 is_known places.Upkeep k = is_upkeep_key k
 is_known (places.OfField t) k = is_field_key t k
 is_known (places.OfPolicy t) k = is_policy_key t k
@@ -306,7 +311,7 @@ policy_faults path d =
     ++ asked (whole 2 100) path (codes "merge_factor") d
     ++ asked (whole (merge_factor d) 100) path (codes "max_merge_factor") d
     ++ asked (whole 1 100) path (codes "max_merge_ops") d
-    ++ asked (optional rules.Duration) path (codes "maturation_period") d
+    ++ asked (optional (rules.Duration 0)) path (codes "maturation_period") d
 
 -- the indexing settings' own keys
 abbrev pub indexing_key_faults : List ℕ → Data → List ConfigError
@@ -328,6 +333,15 @@ abbrev pub search_faults : List ℕ → Data → List ConfigError
 search_faults path d =
     unknown_faults places.Search path (members_in d)
     ++ asked (list_of rules.AnyText) path (codes "default_search_fields") d
+
+abbrev pub retention_path : List ℕ
+retention_path = codes "retention"
+
+abbrev pub retention_faults : List ℕ → Data → List ConfigError
+retention_faults path d =
+    unknown_faults places.Retention path (members_in d)
+    ++ asked (required (rules.Duration 1)) path (codes "period") d
+    ++ asked (optional rules.AnyText) path (codes "schedule") d
 
 abbrev pub upkeep_path : List ℕ
 upkeep_path = codes "upkeep"
@@ -353,4 +367,5 @@ table_faults d =
     ++ where_table (mapping_faults mapping_path) (get mapping_path d)
     ++ optional_table indexing_path (indexing_faults indexing_path) (get indexing_path d)
     ++ optional_table search_path (search_faults search_path) (get search_path d)
+    ++ optional_table retention_path (retention_faults retention_path) (get retention_path d)
     ++ optional_table upkeep_path (upkeep_faults upkeep_path) (get upkeep_path d)

@@ -53,7 +53,7 @@ fn has_form(rule: Rule, text: &[u8]) -> bool
         Rule::Truth => false,
         Rule::AnyTable => false,
         Rule::Whole { least: _, most: _ } => false,
-        Rule::Duration => false,
+        Rule::Duration { least: _ } => false,
     }
 }
 
@@ -92,20 +92,30 @@ fn check_whole(
     }
 }
 
-fn check_duration(faults: &mut Faults, path: Text, value: &Value) -> Result<(), AllocError>
-    ensures { OnOk result (faults.new ≡ faults.old ++ rules.duration_faults path (as_str (view value.now))) }
+fn check_duration(
+    faults: &mut Faults,
+    least: u64,
+    path: Text,
+    value: &Value,
+) -> Result<(), AllocError>
+    ensures { OnOk result (faults.new ≡ faults.old ++ rules.duration_faults least path (as_str (view value.now))) }
 {
     match value.as_str() {
-        Some(text) => check_seconds(faults, path, duration_of(text.as_bytes())),
+        Some(text) => check_seconds(faults, least, path, duration_of(text.as_bytes())),
         None => wrong_unless(faults, false, path),
     }
 }
 
-fn check_seconds(faults: &mut Faults, path: Text, seconds: Option<u64>) -> Result<(), AllocError>
-    ensures { OnOk result (faults.new ≡ faults.old ++ rules.seconds_faults path seconds) }
+fn check_seconds(
+    faults: &mut Faults,
+    least: u64,
+    path: Text,
+    seconds: Option<u64>,
+) -> Result<(), AllocError>
+    ensures { OnOk result (faults.new ≡ faults.old ++ rules.seconds_faults least path seconds) }
 {
     match seconds {
-        Some(seconds) => bad_unless(faults, seconds <= MAX_SECONDS, path),
+        Some(seconds) => bad_unless(faults, least <= seconds && seconds <= MAX_SECONDS, path),
         None => wrong_unless(faults, false, path),
     }
 }
@@ -123,7 +133,7 @@ fn check_scalar(
         Rule::Truth => wrong_unless(faults, value.is_bool(), path),
         Rule::AnyTable => wrong_unless(faults, value.is_table(), path),
         Rule::Whole { least, most } => check_whole(faults, least, most, path, value),
-        Rule::Duration => check_duration(faults, path, value),
+        Rule::Duration { least } => check_duration(faults, least, path, value),
         Rule::AnyText => check_form(faults, rule, path, value),
         Rule::IndexId => check_form(faults, rule, path, value),
         Rule::FieldName => check_form(faults, rule, path, value),

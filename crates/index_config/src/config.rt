@@ -37,7 +37,8 @@ pub enum Policy {
     NoMerge,
 }
 
-/// An accepted configuration. `formats` has one member for each field of the schema; times are in seconds.
+/// An accepted configuration. `formats` has one member for each field of the schema; times are in seconds. Without a `retention`
+/// splits are kept for ever.
 #[derive(Drop)]
 pub struct IndexConfig {
     pub schema: Schema,
@@ -50,6 +51,7 @@ pub struct IndexConfig {
     pub policy: Policy,
     pub staged_grace: u64,
     pub deletion_grace: u64,
+    pub retention: Option<u64>,
 }
 
 impl IndexConfig {
@@ -70,6 +72,7 @@ impl IndexConfig {
             policy: self.policy,
             staged_grace: self.staged_grace,
             deletion_grace: self.deletion_grace,
+            retention: self.retention,
         })
     }
 }

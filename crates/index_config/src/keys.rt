@@ -13,6 +13,7 @@ pub fn is_known(place: Place, key: &[u8]) -> bool
         Place::Mapping => is_mapping_key(key),
         Place::Indexing => is_indexing_key(key),
         Place::Search => is_search_key(key),
+        Place::Retention => is_retention_key(key),
         Place::Upkeep => is_upkeep_key(key),
         Place::OfField(field_type) => is_field_key(field_type, key),
         Place::OfPolicy(policy_type) => is_policy_key(policy_type, key),
@@ -28,6 +29,7 @@ fn is_top_key(key: &[u8]) -> bool
         || is_same(key, b"doc_mapping")
         || is_same(key, b"indexing_settings")
         || is_same(key, b"search_settings")
+        || is_same(key, b"retention")
         || is_same(key, b"upkeep")
 }
 
@@ -55,6 +57,12 @@ fn is_search_key(key: &[u8]) -> bool
     ensures { result ≡ spec.is_search_key key.now }
 {
     is_same(key, b"default_search_fields")
+}
+
+fn is_retention_key(key: &[u8]) -> bool
+    ensures { result ≡ spec.is_retention_key key.now }
+{
+    is_same(key, b"period") || is_same(key, b"schedule")
 }
 
 fn is_upkeep_key(key: &[u8]) -> bool

@@ -13,7 +13,7 @@ pub enum Rule {
     RecordName,
     FormatName,
     PolicyName,
-    Duration,
+    Duration { least: u64 },
 }
 
 /// What a table asks of a key: whether it has to be there, whether it is a list, and what its value or each member is.
@@ -51,6 +51,7 @@ pub enum Place {
     Mapping,
     Indexing,
     Search,
+    Retention,
     Upkeep,
     OfField(Option<FieldType>),
     OfPolicy(Option<PolicyType>),
@@ -62,5 +63,6 @@ pub enum Section {
     Indexing,
     Policy,
     Search,
+    Retention,
     Upkeep,
 }

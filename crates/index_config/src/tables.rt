@@ -358,7 +358,7 @@ fn check_policy(here: &Here, faults: &mut Faults) -> Result<(), AllocError>
         (whole!(2, 100), "merge_factor"),
         (whole!(least, 100), "max_merge_factor"),
         (whole!(1, 100), "max_merge_ops"),
-        (optional!(Rule::Duration), "maturation_period"),
+        (optional!(Rule::Duration { least: 0 }), "maturation_period"),
     ];
     check_table(here, faults, Place::OfPolicy(kind), &keys)
 }
@@ -380,6 +380,16 @@ fn check_search(here: &Here, faults: &mut Faults) -> Result<(), AllocError>
 {
     let keys = [(list_of!(Rule::AnyText), "default_search_fields")];
     check_table(here, faults, Place::Search, &keys)
+}
+
+fn check_retention(here: &Here, faults: &mut Faults) -> Result<(), AllocError>
+    ensures { OnOk result (faults.new ≡ faults.old ++ spec.retention_faults here.now.path (view here.now.table.now)) }
+{
+    let keys = [
+        (required!(Rule::Duration { least: 1 }), "period"),
+        (optional!(Rule::AnyText), "schedule"),
+    ];
+    check_table(here, faults, Place::Retention, &keys)
 }
 
 fn check_upkeep(here: &Here, faults: &mut Faults) -> Result<(), AllocError>
@@ -445,6 +455,7 @@ fn section_in(root: &Value, section: Section) -> Option<&Value>
         Section::Indexing => root.get("indexing_settings"),
         Section::Policy => policy_table(root),
         Section::Search => root.get("search_settings"),
+        Section::Retention => root.get("retention"),
         Section::Upkeep => root.get("upkeep"),
     }
 }
@@ -456,6 +467,7 @@ fn section_path(section: Section) -> &'static str
         Section::Indexing => "indexing_settings",
         Section::Policy => "indexing_settings.merge_policy",
         Section::Search => "search_settings",
+        Section::Retention => "retention",
         Section::Upkeep => "upkeep",
     }
 }
@@ -468,6 +480,7 @@ fn check_section(here: &Here, faults: &mut Faults, section: Section) -> Result<(
         Section::Indexing => check_indexing(here, faults),
         Section::Policy => check_policy(here, faults),
         Section::Search => check_search(here, faults),
+        Section::Retention => check_retention(here, faults),
         Section::Upkeep => check_upkeep(here, faults),
     }
 }
@@ -503,6 +516,7 @@ pub fn check_tables(alloc: Global, faults: &mut Faults, root: &Value) -> Result<
     check_section_at(alloc, faults, Section::Indexing, root)?;
     check_section_at(alloc, faults, Section::Policy, root)?;
     check_section_at(alloc, faults, Section::Search, root)?;
+    check_section_at(alloc, faults, Section::Retention, root)?;
     check_section_at(alloc, faults, Section::Upkeep, root)
 }
 

@@ -1,4 +1,4 @@
-ghost use Rattle.std.specs.Prelude.{◌≡◌, List, ◌++◌, [], IfOk, OnOk, option_map, codes};
+ghost use Rattle.std.specs.Prelude.{◌≡◌, List, ◌++◌, [], IfOk, None, OnOk, option_map, codes};
 ghost use Rattle.toml.specs.View.{view, items_view};
 ghost use Rattle.toml.specs.Data.{as_str};
 ghost use Rattle.index_config.specs.Tables.{items_in};
@@ -145,11 +145,41 @@ fn has_such(purpose: Purpose, path: &[u8], raws: &[RawField]) -> bool
     false
 }
 
+/// Whether old splits are to go, by their times.
+fn has_retention(root: &Value) -> bool
+    ensures { result ≡ spec.has_retention (view root.now) }
+{
+    root.get("retention").is_some()
+}
+
+/// No timestamp field is named.
+fn no_timestamp(faults: &mut Faults, needed: bool) -> Result<(), AllocError>
+    ensures { (raws : List RawFieldOf) → OnOk result (faults.new ≡ faults.old ++ spec.timestamp_faults needed None raws) }
+{
+    if needed {
+        return faults.push(ConfigError::BadTimestampField);
+    }
+    Ok(())
+}
+
+/// Retention is not built.
+fn check_built(alloc: Global, faults: &mut Faults, root: &Value) -> Result<(), AllocError>
+    ensures { OnOk result (faults.new ≡ faults.old ++ spec.unbuilt_faults (spec.has_retention (view root.now))) }
+{
+    if !has_retention(root) {
+        return Ok(());
+    }
+    faults.push(ConfigError::RetentionNotBuilt {
+        path: Text::from_str(alloc, "retention")?,
+    })
+}
+
 fn check_timestamp(faults: &mut Faults, root: &Value, raws: &[RawField]) -> Result<(), AllocError>
-    ensures { OnOk result (faults.new ≡ faults.old ++ spec.timestamp_faults (spec.timestamp_path (view root.now)) raws.now) }
+    ensures { OnOk result (faults.new ≡ faults.old
+        ++ spec.timestamp_faults (spec.has_retention (view root.now)) (spec.timestamp_path (view root.now)) raws.now) }
 {
     let Some(path) = timestamp_path(root) else {
-        return Ok(());
+        return no_timestamp(faults, has_retention(root));
     };
     if has_such(Purpose::Timestamp, path.as_bytes(), raws) {
         return Ok(());
@@ -320,5 +350,6 @@ pub fn check_whole(
     check_count(faults, raws)?;
     check_timestamp(faults, root, raws)?;
     check_tags(alloc, faults, root, raws)?;
-    check_defaults(alloc, faults, root, raws)
+    check_defaults(alloc, faults, root, raws)?;
+    check_built(alloc, faults, root)
 }

@@ -10,4 +10,5 @@ returns c =
     let settings = settings-chain (view c.args.root.now) _ _ _ c.in_ok-check_section_at.ensures c.in_ok-check_section_at-2.ensures in
     let s3 = chain _ _ _ _ _ s2 settings in
     let s4 = chain _ _ _ _ _ s3 c.in_ok-check_section_at-3.ensures in
-    on_ok_weaker c.check_section_at-4.result (chain _ _ _ _ _ s4) c.check_section_at-4.ensures
+    let s5 = chain _ _ _ _ _ s4 c.in_ok-check_section_at-4.ensures in
+    on_ok_weaker c.check_section_at-5.result (chain _ _ _ _ _ s5) c.check_section_at-5.ensures
