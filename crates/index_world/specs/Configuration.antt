@@ -35,6 +35,7 @@ no_fields =
       policy = NoMerge;
       staged_grace = 1;
       deletion_grace = 1;
+      retention = None;
     }
 
 abbrev pub config_or : Option IndexConfig → IndexConfig

@@ -75,9 +75,9 @@ config_words (configs.MissingKey path) = codes "missingkey" ∷ path ∷ []
 config_words (configs.BadNumber path) = codes "badnumber" ∷ path ∷ []
 config_words (configs.DuplicateField path) = codes "duplicatefield" ∷ path ∷ []
 config_words configs.BadTimestampField = codes "badtimestampfield" ∷ []
-config_words configs.ModeNotBuilt = codes "modenotbuilt" ∷ []
 config_words (configs.TooManyFields count) = codes "toomanyfields" ∷ []
 config_words (configs.BadReference path) = codes "badreference" ∷ path ∷ []
+config_words (configs.RetentionNotBuilt path) = codes "retentionnotbuilt" ∷ path ∷ []
 config_words (configs.Memory e) = codes "memory" ∷ []
 
 -- each error of a call of the world

@@ -161,9 +161,11 @@ fn put_config(out: &mut Bytes, error: &ConfigError) -> Result<(), AllocError>
         ConfigError::BadNumber { path } => put_named(out, b"badnumber", path.as_slice()),
         ConfigError::DuplicateField { path } => put_named(out, b"duplicatefield", path.as_slice()),
         ConfigError::BadTimestampField => put_word(out, b"badtimestampfield"),
-        ConfigError::ModeNotBuilt => put_word(out, b"modenotbuilt"),
         ConfigError::TooManyFields { .. } => put_word(out, b"toomanyfields"),
         ConfigError::BadReference { path } => put_named(out, b"badreference", path.as_slice()),
+        ConfigError::RetentionNotBuilt { path } => {
+            put_named(out, b"retentionnotbuilt", path.as_slice())
+        }
         ConfigError::Memory(_) => put_word(out, b"memory"),
     }
 }

@@ -25,6 +25,7 @@ config =
       policy = NoMerge;
       staged_grace = 10;
       deletion_grace = 20;
+      retention = None;
     }
 
 reads : Reads

@@ -48,6 +48,7 @@ logs_index =
       policy = StableLog 100 2 4 172800;
       staged_grace = 200;
       deletion_grace = 100;
+      retention = None;
     }
 
 pub config_read : config_answer logs_config ≡ Ok logs_index

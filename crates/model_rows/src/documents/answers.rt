@@ -3,7 +3,7 @@
 use crate::documents::{dates, records, tokens};
 use std::alloc::{AllocError, Global};
 
-/// `config T` reads a configuration, `first R`, `strict R` and `timed R` take in a record, `default T`, `whitespace T` and `raw T` cut a text
+/// `config T` reads a configuration, `fields M N` one of mode M with N fields, `first R`, `strict R` and `timed R` take in a record, `default T`, `whitespace T` and `raw T` cut a text
 /// into tokens, `date T` and `unix N` read a datetime, `second N` prints one, and `clock N` asks a clock.
 pub fn answer(alloc: Global, line: &str) -> Result<String, AllocError> {
     let Some((asked, rest)) = line.split_once(' ') else {
@@ -11,6 +11,7 @@ pub fn answer(alloc: Global, line: &str) -> Result<String, AllocError> {
     };
     match asked {
         "config" => records::configured(alloc, rest),
+        "fields" => records::of_fields(alloc, rest),
         "first" => records::taken_in(alloc, records::FIRST, rest),
         "strict" => records::taken_in(alloc, records::STRICT, rest),
         "timed" => records::taken_in(alloc, records::TIMED, rest),

@@ -21,10 +21,32 @@ pub const TIMED: &str =
 /// Why a text is no configuration, or `ok`. A `~` of the line stands for a line feed of the text.
 pub fn configured(alloc: Global, line: &str) -> Result<String, AllocError> {
     let text = line.replace(alloc, "~", "\n")?;
+    answered(alloc, text.as_str())
+}
+
+fn answered(alloc: Global, text: &str) -> Result<String, AllocError> {
     match read_config(alloc, text.as_bytes()) {
         Ok(_) => String::from_str(alloc, "ok"),
         Err(refusal) => refused(alloc, &refusal),
     }
+}
+
+/// The same of a configuration of a mode with so many fields.
+pub fn of_fields(alloc: Global, line: &str) -> Result<String, AllocError> {
+    let Some((mode, many)) = line.split_once(' ') else {
+        return String::from_str(alloc, "nothing asked");
+    };
+    let mut text = format!(in alloc;
+        "index_id='many'\n[doc_mapping]\nmode='{mode}'\nfield_mappings=["
+    )?;
+    for number in 0..many.parse::<u32>().unwrap_or(0) {
+        let name = format!(in alloc; "f{number}")?;
+        text.push_str("{name='")?;
+        text.push_str(name.as_str())?;
+        text.push_str("',type='u64'},")?;
+    }
+    text.push_str("]")?;
+    answered(alloc, text.as_str())
 }
 
 fn refused(alloc: Global, refusal: &ConfigError) -> Result<String, AllocError> {
@@ -34,7 +56,8 @@ fn refused(alloc: Global, refusal: &ConfigError) -> Result<String, AllocError> {
         | ConfigError::MissingKey { path }
         | ConfigError::BadNumber { path }
         | ConfigError::DuplicateField { path }
-        | ConfigError::BadReference { path } => {
+        | ConfigError::BadReference { path }
+        | ConfigError::RetentionNotBuilt { path } => {
             let path = path.as_str();
             format!(in alloc; "{refusal}: {path}")
         }

@@ -45,6 +45,7 @@ fn config(alloc: Global) -> IndexConfig {
         policy: Policy::NoMerge,
         staged_grace: 200,
         deletion_grace: 100,
+        retention: None,
     }
 }
 

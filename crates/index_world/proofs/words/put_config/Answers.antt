@@ -21,11 +21,11 @@ returns-in-DuplicateField c = rw (c.in-DuplicateField.is, ← c.as_slice-in-Dupl
 pub returns-in-BadTimestampField : goal.returns-in-BadTimestampField
 returns-in-BadTimestampField c = rw c.in-BadTimestampField.is c.put_word-in-BadTimestampField.ensures
 
-pub returns-in-ModeNotBuilt : goal.returns-in-ModeNotBuilt
-returns-in-ModeNotBuilt c = rw c.in-ModeNotBuilt.is c.put_word-in-ModeNotBuilt.ensures
-
 pub returns-in-TooManyFields : goal.returns-in-TooManyFields
 returns-in-TooManyFields c = rw c.in-TooManyFields.is c.put_word-in-TooManyFields.ensures
 
 pub returns-in-BadReference : goal.returns-in-BadReference
 returns-in-BadReference c = rw (c.in-BadReference.is, ← c.as_slice-in-BadReference.ensures) c.put_named-in-BadReference.ensures
+
+pub returns-in-RetentionNotBuilt : goal.returns-in-RetentionNotBuilt
+returns-in-RetentionNotBuilt c = rw (c.in-RetentionNotBuilt.is, ← c.as_slice-in-RetentionNotBuilt.ensures) c.put_named-in-RetentionNotBuilt.ensures
