@@ -1,5 +1,5 @@
 -- In the document of a record no field lies in another, since no value stands in what is no object.
-use Rattle.std.proofs.Common.{◌≡◌, ◌≢◌, ℕ, suc, ◌+◌, ◌<◌, ◌≤◌, nat_lt, nat_le, nat_eq, eqb-true, leb-true, Bool, true, false, List, [], ◌∷◌, ◌++◌, length, slice_get, Option, Some, None, option_and_then, Result, Ok, refl, sym, ap, ap₂, ◌∙◌, subst, arith, inl, inr, if◌then◌else◌}
+use Rattle.std.proofs.Common.{◌≡◌, ◌≢◌, ℕ, suc, ◌+◌, ◌<◌, ◌≤◌, nat_lt, nat_le, nat_eq, eqb-true, leb-true, Bool, true, false, List, [], ◌∷◌, ◌++◌, length, slice_get, Option, Some, None, option_and_then, Result, Ok, Err, refl, sym, ap, ap₂, ◌∙◌, subst, arith, ◌⊎◌, inl, inr, if◌then◌else◌}
 use Rattle.std.proofs.lemmas.Bool.{cases_Bool}
 use Rattle.std.specs.Ordering.{nat_cmp}
 use Rattle.std.specs.Cmp.Lexicographic.{slice_cmp}
@@ -12,15 +12,21 @@ use Rattle.doc_value.specs.Printed.{names_of, onto_first, printed_doc}
 use Rattle.doc_value.specs.declared.schema.Field.{Field}
 use Rattle.doc_value.specs.declared.schema.Kind.{Kind}
 use Rattle.doc_value.specs.declared.schema.Kind.TheVariants as kinds
+use Rattle.doc_value.specs.declared.schema.Schema.{Schema}
 use Rattle.doc_value.specs.declared.doc.Value.{Value}
 use Rattle.doc_value.specs.declared.doc.DocField.{DocField}
+use Rattle.dynamic_paths.specs.Leaves.{is_number}
 use Rattle.index_config.specs.declared.config.IndexConfig.{IndexConfig}
-use Rattle.doc_mapping.specs.Answer.{answer, read_answer, object_answer, fitting_answer, timed_answer, lacks_timestamp, value_of, max_record, max_levels}
-use Rattle.doc_mapping.specs.Documents.{value_at, values_of, found_values, part_of, doc_from}
-use Rattle.doc_mapping.specs.Faults.{members_fault}
+use Rattle.doc_mapping.specs.Answer.{answer, read_answer, object_answer, counted_answer, fitting_answer, leaf_fault, timed_answer, lacks_timestamp, value_of, max_record, max_levels}
+use Rattle.doc_mapping.specs.Documents.{value_at, values_of, found_values, part_of, leaf_values, leaves_for, values_from, doc_from, doc_of}
+use Rattle.doc_mapping.specs.Faults.{has_dot, members_fault}
+use Rattle.doc_mapping.specs.Walk.{LiesAt}
 use Rattle.doc_mapping.specs.declared.reject.Reject.{Reject}
 use Rattle.doc_mapping.proofs.Fitting.{accepted-fits}
-use Rattle.document_laws.specs.ReadBack.{IsFront, AreApart, IsApartFrom, AllApart, AreShort, HasNumbers, HasRisingKeys, ReadsBack, paths_of}
+use Rattle.doc_mapping.proofs.Flat.{dot_between}
+use Rattle.doc_mapping.proofs.Gathering.{names_lie}
+use Rattle.doc_mapping.proofs.Holding.{name_first}
+use Rattle.document_laws.specs.ReadBack.{IsFront, AreApart, IsApartFrom, AllApart, AreShort, IsBeside, HasNumbers, HasRisingKeys, ReadsBack, paths_of}
 use Rattle.document_laws.proofs.Building.{is_object, plain_value_at}
 use Rattle.document_laws.proofs.Entries.{names_some}
 use Rattle.document_laws.proofs.Keys.{before-trans, equal-key}
@@ -122,6 +128,9 @@ stands_here whole n f fs h =
     let here : n + 0 ≡ n = omega arith in
     subst (λ (i : ℕ). slice_get whole i ≡ Some f) here (h 0 f refl)
 
+pub same_place : (fields : List Field) → StandFrom fields 0 fields
+same_place fields m f e = let same : 0 + m ≡ m = omega arith in rw same e
+
 -- a path comes before all of these fields'
 abbrev ComesFirst : List ℕ → List Field → Type 0
 ComesFirst path [] = Unit {0}
@@ -139,29 +148,140 @@ rest_rises : (f : Field) (fs : List Field) → PathsRise (f ∷ fs) → PathsRis
 rest_rises f [] h = tt
 rest_rises f (g ∷ fs) h = h.1
 
-module _ (whole : List Field) (d : Data) where
-  abbrev Found : Field → List Value
-  Found f = found_values f.kind (value_at (names_of f.path) d)
+-- this field's path is short, and apart from that of each field before or behind it
+abbrev pub IsAlone : List Field → Field → Type 0
+IsAlone whole f =
+    (length (names_of f.path) ≤ 126)
+    × ((m : ℕ) (g : Field) → slice_get whole m ≡ Some g
+    → (IsBefore f.path g.path → AreApart (names_of f.path) (names_of g.path)) × (IsBefore g.path f.path → AreApart (names_of g.path) (names_of f.path)))
 
-  apart_later : (f : Field) → StandsPlain (names_of f.path) d → (n : ℕ) (fs : List Field) → StandFrom whole n fs → ComesFirst f.path fs → IsApartFrom (names_of f.path) (paths_of whole (doc_from n fs d))
-  apart_later f s n [] at l = tt
-  apart_later f s n (g ∷ fs) at l = go (Found g) refl (apart_later f s (suc n) fs (stand_next whole n g fs at) l.1)
+module _ (o : Option ℕ) (ls : List Value) (whole : List Field) (d : Data) where
+  -- the field for what is not mapped is alone, or has nothing
+  abbrev pub AreAlone : Type 0
+  AreAlone = (n : ℕ) (f : Field) → slice_get whole n ≡ Some f → is_number o n ≡ true → leaves_for f.kind ls ≢ [] → IsAlone whole f
+
+  abbrev Kept : Field → Type 0
+  Kept f = StandsPlain (names_of f.path) d ⊎ IsAlone whole f
+
+  kept : AreAlone → (n : ℕ) (f : Field) → slice_get whole n ≡ Some f → values_from o ls n f d ≢ [] → Kept f
+  kept alone n f a some = by (is_number o n) refl
     where
-      go : (vs : List Value) → Found g ≡ vs → IsApartFrom (names_of f.path) (paths_of whole (doc_from (suc n) fs d)) → IsApartFrom (names_of f.path) (paths_of whole (part_of n vs ++ doc_from (suc n) fs d))
+      by : (b : Bool) → is_number o n ≡ b → Kept f
+      by true h = inr (alone n f a h (λ z. some (rw h z)))
+      by false h = inl (stands_plain f.kind (names_of f.path) d (λ z. some (rw h z)))
+
+  apart_both : (f g : Field) (k n : ℕ) → slice_get whole k ≡ Some f → slice_get whole n ≡ Some g → IsBefore f.path g.path → Kept f → Kept g
+      → AreApart (names_of f.path) (names_of g.path)
+  apart_both f g k n a b l (inr alone) t = (alone.1 n g b).0 l
+  apart_both f g k n a b l (inl s) (inr alone) = (alone.1 k f a).1 l
+  apart_both f g k n a b l (inl s) (inl t) = apart_two f g d l s t
+
+  apart_later : AreAlone → (f : Field) (k : ℕ) → slice_get whole k ≡ Some f → Kept f → (n : ℕ) (fs : List Field) → StandFrom whole n fs → ComesFirst f.path fs
+      → IsApartFrom (names_of f.path) (paths_of whole (doc_from o ls n fs d))
+  apart_later alone f k a s n [] at l = tt
+  apart_later alone f k a s n (g ∷ fs) at l = go (values_from o ls n g d) refl (apart_later alone f k a s (suc n) fs (stand_next whole n g fs at) l.1)
+    where
+      go : (vs : List Value) → values_from o ls n g d ≡ vs → IsApartFrom (names_of f.path) (paths_of whole (doc_from o ls (suc n) fs d))
+          → IsApartFrom (names_of f.path) (paths_of whole (part_of n vs ++ doc_from o ls (suc n) fs d))
       go [] e h = h
       go (v ∷ vs) e h =
-          let t : StandsPlain (names_of g.path) d = stands_plain g.kind (names_of g.path) d (λ z. absurd (let y : v ∷ vs ≡ [] = sym e ∙ z in cc)) in
-          rw (stands_here whole n g fs at) (apart_two f g d l.0 s t, h)
+          let here : slice_get whole n ≡ Some g = stands_here whole n g fs at in
+          let t : Kept g = kept alone n g here (λ z. absurd (let y : v ∷ vs ≡ [] = sym e ∙ z in cc)) in
+          rw here (apart_both f g k n a here l.0 s t, h)
 
-  all_apart : (n : ℕ) (fs : List Field) → StandFrom whole n fs → PathsRise fs → AllApart (paths_of whole (doc_from n fs d))
-  all_apart n [] at r = tt
-  all_apart n (f ∷ fs) at r = go (Found f) refl (all_apart (suc n) fs (stand_next whole n f fs at) (rest_rises f fs r))
+  pub all_apart : AreAlone → (n : ℕ) (fs : List Field) → StandFrom whole n fs → PathsRise fs → AllApart (paths_of whole (doc_from o ls n fs d))
+  all_apart alone n [] at r = tt
+  all_apart alone n (f ∷ fs) at r = go (values_from o ls n f d) refl (all_apart alone (suc n) fs (stand_next whole n f fs at) (rest_rises f fs r))
     where
-      go : (vs : List Value) → Found f ≡ vs → AllApart (paths_of whole (doc_from (suc n) fs d)) → AllApart (paths_of whole (part_of n vs ++ doc_from (suc n) fs d))
+      go : (vs : List Value) → values_from o ls n f d ≡ vs → AllApart (paths_of whole (doc_from o ls (suc n) fs d)) → AllApart (paths_of whole (part_of n vs ++ doc_from o ls (suc n) fs d))
       go [] e h = h
       go (v ∷ vs) e h =
-          let s : StandsPlain (names_of f.path) d = stands_plain f.kind (names_of f.path) d (λ z. absurd (let y : v ∷ vs ≡ [] = sym e ∙ z in cc)) in
-          rw (stands_here whole n f fs at) (apart_later f s (suc n) fs (stand_next whole n f fs at) (comes_first f fs r), h)
+          let here : slice_get whole n ≡ Some f = stands_here whole n f fs at in
+          let s : Kept f = kept alone n f here (λ z. absurd (let y : v ∷ vs ≡ [] = sym e ∙ z in cc)) in
+          rw here (apart_later alone f n here s (suc n) fs (stand_next whole n f fs at) (comes_first f fs r), h)
+
+-- ---- the field for what is not mapped
+
+one_name : (path : List ℕ) → has_dot path ≡ false → names_of path ≡ path ∷ []
+one_name path plain = lies (names_lie path first more_names (name_first path).2)
+  where
+    first : List ℕ
+    first = (name_first path).0
+
+    more_names : List (List ℕ)
+    more_names = (name_first path).1
+
+    lies : LiesAt first more_names path → names_of path ≡ path ∷ []
+    lies (inl here) = (name_first path).2 ∙ ap₂ (λ x xs. x ∷ xs) (sym here.1) here.0
+    lies (inr more) = absurd (let wrong : true ≡ false = sym (dot_between first more.0) ∙ ap has_dot (sym more.1.1) ∙ plain in cc)
+
+not_same_names : (f g : Field) → (IsBefore f.path g.path) ⊎ (IsBefore g.path f.path) → names_of f.path ≢ names_of g.path
+not_same_names f g (inl l) e = other_names f.path g.path l e
+not_same_names f g (inr l) e = other_names g.path f.path l (sym e)
+
+-- a path of one name and one that doesn't go on behind it
+beside_apart : (f g : Field) → has_dot f.path ≡ false → ((rest : List ℕ) → g.path ≢ f.path ++ 46 ∷ rest) → (IsBefore f.path g.path) ⊎ (IsBefore g.path f.path)
+    → AreApart (names_of f.path) (names_of g.path)
+beside_apart f g plain outside order = lies (names_lie g.path first more_names (name_first g.path).2)
+  where
+    first : List ℕ
+    first = (name_first g.path).0
+
+    more_names : List (List ℕ)
+    more_names = (name_first g.path).1
+
+    own : names_of f.path ≡ f.path ∷ []
+    own = one_name f.path plain
+
+    same : f.path ≡ first → more_names ≡ [] → names_of f.path ≡ names_of g.path
+    same e n = own ∙ ap₂ (λ x xs. x ∷ xs) e (sym n) ∙ sym (name_first g.path).2
+
+    into : IsFront (names_of f.path) (names_of g.path) → f.path ≡ first
+    into h = let k : IsFront (f.path ∷ []) (first ∷ more_names) = rw (own, (name_first g.path).2) at h in k.0
+
+    back_from : IsFront (names_of g.path) (names_of f.path) → (first ≡ f.path) × IsFront more_names []
+    back_from h = let k : IsFront (first ∷ more_names) (f.path ∷ []) = rw (own, (name_first g.path).2) at h in k
+
+    none_front : (ns : List (List ℕ)) → IsFront ns [] → ns ≡ []
+    none_front [] h = refl
+    none_front (n ∷ ns) h = absurd h
+
+    backward : IsFront (names_of g.path) (names_of f.path) → ⊥
+    backward h = let k = back_from h in not_same_names f g order (same (sym k.0) (none_front more_names k.1))
+
+    lies : LiesAt first more_names g.path → AreApart (names_of f.path) (names_of g.path)
+    lies (inl here) = (λ h. not_same_names f g order (same (into h) here.0), backward)
+    lies (inr more) = (λ h. outside more.0 (more.1.1 ∙ ap (λ x. x ++ 46 ∷ more.0) (sym (into h))), backward)
+
+swapped : (ns ms : List (List ℕ)) → AreApart ns ms → AreApart ms ns
+swapped ns ms h = (h.1, h.0)
+
+its_own : (o : Option ℕ) (n : ℕ) → is_number o n ≡ true → o ≡ Some n
+its_own None n h = absurd (let x : false ≡ true = h in cc)
+its_own (Some m) n h = ap Some (eqb-true m n h)
+
+beside_alone : (schema : Schema) (ls : List Value) (d : Data) → IsBeside schema → AreAlone schema.dynamic ls schema.fields d
+beside_alone schema ls d beside n f a h some =
+    let own = beside n f (its_own schema.dynamic n h) a in (
+      omega (arith, ap length (one_name f.path own.0)),
+      λ m g b. (
+        λ l. beside_apart f g own.0 (λ rest. own.1 m g rest b) (inl l),
+        λ l. swapped (names_of f.path) (names_of g.path) (beside_apart f g own.0 (λ rest. own.1 m g rest b) (inr l)),
+      ),
+    )
+
+pub nothing_for : (kind : Kind) → leaves_for kind [] ≡ []
+nothing_for kinds.Text = refl
+nothing_for kinds.I64 = refl
+nothing_for kinds.U64 = refl
+nothing_for kinds.Bool = refl
+nothing_for kinds.Datetime = refl
+nothing_for kinds.TextList = refl
+
+-- the mapped fields of a document
+pub mapped_apart : (schema : Schema) (d : Data) → PathsRise schema.fields → AllApart (paths_of schema.fields (doc_from schema.dynamic [] 0 schema.fields d))
+mapped_apart schema d r =
+    all_apart schema.dynamic [] schema.fields d (λ n f a h some. absurd (some (nothing_for f.kind))) 0 schema.fields (same_place schema.fields) r
 
 -- ---- their paths are short
 
@@ -192,21 +312,26 @@ at_depth (n ∷ ns) d e a = go (get n d) refl (λ y h. at_depth ns y e h)
         let deep : length ns ≤ depth y = again y (ap (option_and_then (value_at ns)) (sym h) ∙ a) in
         omega (arith, deep, get_depth n d y h)
 
-all_short : (whole : List Field) (d : Data) (n : ℕ) (fs : List Field) → StandFrom whole n fs → depth d ≤ 32 → AreShort (paths_of whole (doc_from n fs d))
-all_short whole d n [] at l = tt
-all_short whole d n (f ∷ fs) at l = go (found_values f.kind (value_at (names_of f.path) d)) refl (all_short whole d (suc n) fs (stand_next whole n f fs at) l)
+all_short : (o : Option ℕ) (ls : List Value) (whole : List Field) (d : Data) → AreAlone o ls whole d → (n : ℕ) (fs : List Field) → StandFrom whole n fs → depth d ≤ 32
+    → AreShort (paths_of whole (doc_from o ls n fs d))
+all_short o ls whole d alone n [] at l = tt
+all_short o ls whole d alone n (f ∷ fs) at l = go (values_from o ls n f d) refl (all_short o ls whole d alone (suc n) fs (stand_next whole n f fs at) l)
   where
-    go : (vs : List Value) → found_values f.kind (value_at (names_of f.path) d) ≡ vs → AreShort (paths_of whole (doc_from (suc n) fs d)) → AreShort (paths_of whole (part_of n vs ++ doc_from (suc n) fs d))
+    short : StandsPlain (names_of f.path) d ⊎ IsAlone whole f → length (names_of f.path) ≤ 126
+    short (inr own) = own.0
+    short (inl s) = let deep : length (names_of f.path) ≤ depth d = at_depth (names_of f.path) d s.0 s.1 in omega (arith, deep, l)
+
+    go : (vs : List Value) → values_from o ls n f d ≡ vs → AreShort (paths_of whole (doc_from o ls (suc n) fs d)) → AreShort (paths_of whole (part_of n vs ++ doc_from o ls (suc n) fs d))
     go [] e h = h
     go (v ∷ vs) e h =
-        let s : StandsPlain (names_of f.path) d = stands_plain f.kind (names_of f.path) d (λ z. absurd (let y : v ∷ vs ≡ [] = sym e ∙ z in cc)) in
-        let deep : length (names_of f.path) ≤ depth d = at_depth (names_of f.path) d s.0 s.1 in
-        rw (stands_here whole n f fs at) (omega (arith, deep, l), h)
+        let here : slice_get whole n ≡ Some f = stands_here whole n f fs at in
+        let s = kept o ls whole d alone n f here (λ z. absurd (let y : v ∷ vs ≡ [] = sym e ∙ z in cc)) in
+        rw here (short s, h)
 
 -- ---- the document of a record
 
 abbrev pub IsFrom : IndexConfig → Option Data → List DocField → Type 0
-IsFrom config o doc = (d : Data) × (o ≡ Some d) × (depth d ≤ 32) × (doc_from 0 config.schema.fields d ≡ doc)
+IsFrom config o doc = (d : Data) × (o ≡ Some d) × (depth d ≤ 32) × (doc_of config.schema d ≡ doc) × (leaf_fault config.schema d ≡ None)
 
 timed_same : (config : IndexConfig) (made doc : List DocField) → timed_answer config.timestamp_field made ≡ Ok doc → made ≡ doc
 timed_same config made doc e =
@@ -215,15 +340,26 @@ timed_same config made doc e =
       | inr timed ↦ let here : ◌≡◌ {A = Result (List DocField) Reject} (Ok made) (Ok doc) = rw timed at e in cc
     ]
 
-fitting_same : (config : IndexConfig) (d : Data) (fault : Option Reject) (doc : List DocField) → fitting_answer config d fault ≡ Ok doc → doc_from 0 config.schema.fields d ≡ doc
-fitting_same config d None doc e = timed_same config (doc_from 0 config.schema.fields d) doc e
+fitting_same : (config : IndexConfig) (d : Data) (fault : Option Reject) (doc : List DocField) → fitting_answer config d fault ≡ Ok doc
+    → (doc_of config.schema d ≡ doc) × (leaf_fault config.schema d ≡ None)
+fitting_same config d None doc e = by (leaf_fault config.schema d) refl
+  where
+    by : (o : Option Reject) → leaf_fault config.schema d ≡ o → (doc_of config.schema d ≡ doc) × (leaf_fault config.schema d ≡ None)
+    by None h =
+        let timed : timed_answer config.timestamp_field (doc_of config.schema d) ≡ Ok doc = ap (counted_answer config d) (sym h) ∙ e in
+        (timed_same config (doc_of config.schema d) doc timed, h)
+    by (Some refusal) h =
+        let refused : ◌≡◌ {A = Result (List DocField) Reject} (Err refusal) (Ok doc) = ap (counted_answer config d) (sym h) ∙ e in
+        absurd (cc)
 fitting_same config d (Some refusal) doc e = absurd (cc)
 
 object_from : (config : IndexConfig) (d : Data) (o : Option Members) (doc : List DocField) → object_answer config d o ≡ Ok doc → IsFrom config (Some d) doc
 object_from config d None doc e = absurd (cc)
 object_from config d (Some members) doc e =
     elim (cases_Bool (nat_le (depth d) max_levels)) [
-      | inl within ↦ (d, refl, leb-true (depth d) max_levels within, fitting_same config d (members_fault config [] members) doc (rw within at e))
+      | inl within ↦
+          let made = fitting_same config d (members_fault config [] members) doc (rw within at e) in
+          (d, refl, leb-true (depth d) max_levels within, made.0, made.1)
       | inr deep ↦ absurd (let refused = rw deep at e in cc)
     ]
 
@@ -238,21 +374,28 @@ made_from config bytes doc e =
       | inr short ↦ read_from config (value_of bytes) doc (rw short at e)
     ]
 
-pub same_place : (fields : List Field) → StandFrom fields 0 fields
-same_place fields m f e = let same : 0 + m ≡ m = omega arith in rw same e
-
-pub record_apart : (config : IndexConfig) (bytes : List ℕ) (doc : List DocField) → PathsRise config.schema.fields → answer config bytes ≡ Ok doc → AllApart (paths_of config.schema.fields doc)
-record_apart config bytes doc r e =
+pub record_apart : (config : IndexConfig) (bytes : List ℕ) (doc : List DocField) → PathsRise config.schema.fields → IsBeside config.schema → answer config bytes ≡ Ok doc
+    → AllApart (paths_of config.schema.fields doc)
+record_apart config bytes doc r beside e =
     let m = made_from config bytes doc e in
-    subst (λ (x : List DocField). AllApart (paths_of config.schema.fields x)) m.3 (all_apart config.schema.fields m.0 0 config.schema.fields (same_place config.schema.fields) r)
+    let fields = config.schema.fields in
+    let ls = leaf_values config.schema m.0 in
+    subst (λ (x : List DocField). AllApart (paths_of fields x)) m.3
+    (all_apart config.schema.dynamic ls fields m.0 (beside_alone config.schema ls m.0 beside) 0 fields (same_place fields) r)
 
-record_short : (config : IndexConfig) (bytes : List ℕ) (doc : List DocField) → answer config bytes ≡ Ok doc → AreShort (paths_of config.schema.fields doc)
-record_short config bytes doc e =
+record_short : (config : IndexConfig) (bytes : List ℕ) (doc : List DocField) → IsBeside config.schema → answer config bytes ≡ Ok doc → AreShort (paths_of config.schema.fields doc)
+record_short config bytes doc beside e =
     let m = made_from config bytes doc e in
-    subst (λ (x : List DocField). AreShort (paths_of config.schema.fields x)) m.3 (all_short config.schema.fields m.0 0 config.schema.fields (same_place config.schema.fields) m.2)
+    let fields = config.schema.fields in
+    let ls = leaf_values config.schema m.0 in
+    subst (λ (x : List DocField). AreShort (paths_of fields x)) m.3
+    (all_short config.schema.dynamic ls fields m.0 (beside_alone config.schema ls m.0 beside) 0 fields (same_place fields) m.2)
 
-pub record_rises : (config : IndexConfig) (bytes : List ℕ) (doc : List DocField) → PathsRise config.schema.fields → answer config bytes ≡ Ok doc → HasNumbers doc → HasRisingKeys (printed_doc config.schema doc)
-record_rises config bytes doc r e numbers = rising config.schema doc (accepted-fits config bytes doc e) (record_apart config bytes doc r e) numbers
+pub record_rises : (config : IndexConfig) (bytes : List ℕ) (doc : List DocField) → PathsRise config.schema.fields → IsBeside config.schema → answer config bytes ≡ Ok doc → HasNumbers doc
+    → HasRisingKeys (printed_doc config.schema doc)
+record_rises config bytes doc r beside e numbers = rising config.schema doc (accepted-fits config bytes doc e) (record_apart config bytes doc r beside e) numbers
 
-pub record_back : (config : IndexConfig) (bytes : List ℕ) (doc : List DocField) → PathsRise config.schema.fields → answer config bytes ≡ Ok doc → HasNumbers doc → ReadsBack config.schema doc
-record_back config bytes doc r e numbers = back config.schema doc (accepted-fits config bytes doc e) (record_apart config bytes doc r e) numbers (record_short config bytes doc e)
+pub record_back : (config : IndexConfig) (bytes : List ℕ) (doc : List DocField) → PathsRise config.schema.fields → IsBeside config.schema → answer config bytes ≡ Ok doc → HasNumbers doc
+    → ReadsBack config.schema doc
+record_back config bytes doc r beside e numbers =
+    back config.schema doc (accepted-fits config bytes doc e) (record_apart config bytes doc r beside e) numbers (record_short config bytes doc beside e)

@@ -1,5 +1,5 @@
 -- What the JSON that is printed of a document reads as.
-use Rattle.std.specs.Prelude.{◌≡◌, ◌⊎◌, ℕ, ◌^◌, ◌<◌, ◌≤◌, List, [], ◌∷◌, length, slice_get, MatchOption, Option, Some, None, ℤ, pos, negsuc}
+use Rattle.std.specs.Prelude.{◌≡◌, ◌≢◌, ◌⊎◌, ℕ, ◌^◌, ◌<◌, ◌≤◌, false, List, [], ◌∷◌, ◌++◌, length, slice_get, MatchOption, Option, Some, None, ℤ, pos, negsuc}
 use Rattle.json.specs.Json as json
 use Rattle.json.specs.Lex.{tokens}
 use Rattle.json.specs.Tree.{json_tokens}
@@ -16,6 +16,7 @@ use Rattle.doc_value.specs.declared.doc.Value.{Value}
 use Rattle.doc_value.specs.declared.doc.Value.TheVariants as values
 use Rattle.doc_value.specs.declared.doc.DocField.{DocField}
 use Rattle.doc_mapping.specs.Documents.{value_at}
+use Rattle.doc_mapping.specs.Faults.{has_dot}
 
 -- ---- which documents
 
@@ -51,6 +52,11 @@ path_before (Some f) paths = names_of f.path ∷ paths
 abbrev pub paths_of : List Field → List DocField → List (List (List ℕ))
 paths_of fields [] = []
 paths_of fields (part ∷ parts) = path_before (slice_get fields part.number) (paths_of fields parts)
+
+-- the path of a field for what is not mapped is one name, and no other field's path goes on behind it
+abbrev pub IsBeside : Schema → Type 0
+IsBeside schema = (n : ℕ) (f : Field) → schema.dynamic ≡ Some n → slice_get schema.fields n ≡ Some f
+    → (has_dot f.path ≡ false) × ((m : ℕ) (g : Field) (rest : List ℕ) → slice_get schema.fields m ≡ Some g → g.path ≢ f.path ++ 46 ∷ rest)
 
 -- a whole number of 64 bits with a sign
 abbrev pub IsI64 : ℤ → Type 0
