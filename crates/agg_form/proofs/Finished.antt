@@ -28,7 +28,7 @@ is_answer : (agg : Agg) (ds : Documents) → IsAnswerOf agg ds (answer_of agg ds
 is_answer (Terms field size) ds = record { all = terms_of field ds; counted = terms_counted field ds; order = terms_sorted field ds; cut = (refl, refl) }
 is_answer (Histogram field interval offset least dated) ds = record { steps = steps_of field interval offset least ds; are = steps_shown_are field interval offset ds least; given = refl }
 
-answer_one : (agg : Agg) (ds : Documents) (answer : AggAnswer) → IsAnswerOf agg ds answer → answer ≡ answer_of agg ds
+pub answer_one : (agg : Agg) (ds : Documents) (answer : AggAnswer) → IsAnswerOf agg ds answer → answer ≡ answer_of agg ds
 answer_one (Terms field size) ds (answers.Terms buckets others) h =
     ap₂ (λ (bs : List Bucket) (n : ℕ). answers.Terms bs n) h.cut.0 h.cut.1 ∙ ap (λ (all : List ValueCount). terms_answer size all) (terms_one field ds h.all h.counted h.order)
 answer_one (Terms field size) ds (answers.Histogram buckets) h = absurd h.cut

@@ -86,6 +86,11 @@ IsAnswerOf (Terms field size) documents answer = IsTermsAnswer field size docume
 IsAnswerOf (Histogram field interval offset least dated) documents answer =
     IsHistogramAnswer interval offset least (step_count field interval offset documents) answer
 
+-- a histogram whose answer has empty steps too
+abbrev pub ShowsEmpty : Agg → Type 0
+ShowsEmpty (Terms field size) = ⊥
+ShowsEmpty (Histogram field interval offset least dated) = least ≡ 0
+
 -- how many buckets an aggregation's answer has
 abbrev pub HasBuckets : Agg → List (List DocField) → ℕ → Type 0
 HasBuckets (Terms field size) documents many = (all : List ValueCount) × AreCounted field documents all × (many ≡ min size (length all))

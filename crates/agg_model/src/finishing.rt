@@ -1,11 +1,11 @@
 //! What a partial answers.
 
-ghost use Rattle.std.specs.Prelude.{◌≡◌, ℕ, ◌+◌, ◌<◌, ◌≤◌, ◌^◌, ◌*◌, ℤ, pos, ◌≤ℤ◌, List, map, length, unwrap_or, IfOk, IfSome, IfErr};
+ghost use Rattle.std.specs.Prelude.{◌≡◌, ℕ, ◌+◌, ◌<◌, ◌≤◌, ◌^◌, ◌*◌, ℤ, pos, ◌≤ℤ◌, List, [], ◌∷◌, map, length, unwrap_or, IfOk, IfSome, IfErr};
 ghost use Rattle.std.specs.List.{AllZip};
 ghost use Rattle.std.specs.BTreeMap.{get, IsOrdered};
 ghost use Rattle.std.specs.Ordering.{int_cmp};
 ghost use Rattle.doc_value.specs.declared.doc.DocField.{DocField};
-ghost use Rattle.agg_model.specs.Answers.{IsAnswerOf, IsHistogramAnswer, HasBuckets, HaveBuckets, AreAnswersOf, IsFinished, step_bucket, most_buckets};
+ghost use Rattle.agg_model.specs.Answers.{IsAnswerOf, IsHistogramAnswer, HasBuckets, HaveBuckets, AreAnswersOf, IsFinished, ShowsEmpty, step_bucket, most_buckets};
 ghost use Rattle.agg_model.specs.Checking.{HasInterval, HaveIntervals};
 ghost use Rattle.agg_model.specs.Listed.{AreUnique, all_listed};
 ghost use Rattle.agg_model.specs.Partials.{IsNear, IsPart, IsStep, IsPartialOf, StandsFor, CountsFor};
@@ -92,7 +92,7 @@ fn histogram_answer(
 ) -> Result<AggAnswer, AllocError>
     requires some { pos 1 ≤ℤ scale.now.interval }
     requires near { (number : ℕ) × ((z : ℤ) → IfSome (get int_cmp steps.now z) (IsStep number scale.now.interval scale.now.offset z)) }
-    requires few { length (steps_shown least steps.now.entries) ≤ most_buckets }
+    requires few { least ≡ 0 → length (steps_shown least steps.now.entries) ≤ most_buckets }
     ensures { IfOk result (λ r. (count : ℤ → ℕ) → ((z : ℤ) → unwrap_or (get int_cmp steps.now z) 0 ≡ count z)
         → IsHistogramAnswer scale.now.interval scale.now.offset least count r) }
 {
@@ -113,7 +113,7 @@ fn histogram_answer(
 fn answer(alloc: Global, agg: &Agg, counts: &Counts) -> Result<AggAnswer, AllocError>
     requires interval { HasInterval agg.now }
     requires part { (number : ℕ) × IsPart number agg.now counts.now }
-    requires few { shown_in agg.now counts.now ≤ most_buckets }
+    requires few { ShowsEmpty agg.now → shown_in agg.now counts.now ≤ most_buckets }
     ensures { IfOk result (λ r. (ds : List (List DocField)) → CountsFor agg.now counts.now ds → IsAnswerOf agg.now ds r) }
 {
     match agg {
@@ -131,6 +131,17 @@ fn answer(alloc: Global, agg: &Agg, counts: &Counts) -> Result<AggAnswer, AllocE
             histogram_answer(alloc, &scale, *min_doc_count, &counts.steps)
         }
     }
+}
+
+/// The answer of an aggregation that shows no empty steps over the documents for which its partial stands, however many buckets it has.
+pub fn full_answer(alloc: Global, agg: &Agg, partial: &Partial) -> Result<AggAnswer, AllocError>
+    requires interval { HasInterval agg.now }
+    requires listed { ShowsEmpty agg.now → ⊥ }
+    requires partial { (name : List ℕ) × IsPartialOf (record { name = name; agg = agg.now } ∷ []) partial.now }
+    ensures { IfOk result (λ r. (name : List ℕ) (documents : List (List DocField)) → StandsFor (record { name = name; agg = agg.now } ∷ []) partial.now documents
+        → IsAnswerOf agg.now documents r) }
+{
+    answer(alloc, agg, &partial.parts[0])
 }
 
 // How many buckets an aggregation shows.

@@ -19,7 +19,7 @@ pub use agg_error::AggError;
 pub use answer::{AggAnswer, AggResult, Bucket, Buckets, Key, NamedResult};
 pub use checking::check_aggs;
 pub use distance::Distance;
-pub use finishing::finish;
+pub use finishing::{finish, full_answer};
 pub use merging::merge_partials;
 pub use partial::{Partial, collect_one, vacant_partial};
 pub use request::{Agg, AggRequest, DocValues, NamedAgg};

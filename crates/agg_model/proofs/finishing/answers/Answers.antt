@@ -18,7 +18,7 @@ answer-requires-clause-part c = (
 )
 
 pub answer-requires-clause-few : goal.answer-requires-clause-few
-answer-requires-clause-few c =
+answer-requires-clause-few c = λ _.
     let long : length c.args.parts.now.items ≡ length c.args.request.now = all_zip_long (λ (n : NamedAgg) (p : Counts). IsPart c.requires.parts.0 n.agg p) _ _ c.requires.parts.1 in
     let one = one_of_total c.args.request.now c.args.parts.now.items c.loop-i.i c.index-request-i.result c.index.result.now (omega arith) long in
     let own = rw (← c.index-request-i.is, ← c.index.ensures) at one in
