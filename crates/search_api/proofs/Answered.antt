@@ -1,6 +1,7 @@
 -- What a request asks of a schema can be answered from its index.
 use Rattle.std.proofs.Common.{◌≡◌, ℕ, ◌&&◌, ◌||◌, Bool, true, false, not, List, Option, Some, None, Result, Ok, Err, refl, sym, ◌∙◌, subst, if◌then◌else◌, slice_get, is_some}
 use Rattle.std.specs.Option.{IfSome, option_map_or}
+use Rattle.doc_value.specs.Documents.{IsDynamic}
 use Rattle.doc_value.specs.declared.facts.TimeRange.{TimeRange}
 use Rattle.doc_value.specs.declared.schema.Field.{Field}
 use Rattle.doc_value.specs.declared.schema.Schema.{Schema}
@@ -74,11 +75,11 @@ timed_can s times given e =
     subst (λ (t : TimeRange). AreTimed s t) h.0 (record { start = h.1; end = h.2 })
 
 -- ---- the query and the aggregations
-query_in_can : (s : Schema) (numbers text : List ℕ) (q : Sought) → query_in s numbers text ≡ Ok q → CanAsk s q
-query_in_can s numbers text q e = go (query_of s.fields numbers text) refl e
+query_in_can : (s : Schema) (numbers text : List ℕ) (q : Sought) → IfSome s.dynamic (IsDynamic s.fields) → query_in s numbers text ≡ Ok q → CanAsk s q
+query_in_can s numbers text q dynamic e = go (query_of s numbers text) refl e
   where
-    go : (r : Result Sought QueryError) → query_of s.fields numbers text ≡ r → query_or r ≡ Ok q → CanAsk s q
-    go (Ok p) h k = query_can s numbers text q (let y : ◌≡◌ {A = Result Sought Unanswered} (Ok p) (Ok q) = k in let z : p ≡ q = cc in subst (λ (x : Sought). query_of s.fields numbers text ≡ Ok x) z h)
+    go : (r : Result Sought QueryError) → query_of s numbers text ≡ r → query_or r ≡ Ok q → CanAsk s q
+    go (Ok p) h k = query_can s numbers text q dynamic (let y : ◌≡◌ {A = Result Sought Unanswered} (Ok p) (Ok q) = k in let z : p ≡ q = cc in subst (λ (x : Sought). query_of s numbers text ≡ Ok x) z h)
     go (Err error) h k = absurd (let y : ◌≡◌ {A = Result Sought Unanswered} (Err (of_query error)) (Ok q) = k in cc)
 
 counted_can : (s : Schema) (asked : List AskedAgg) (aggs given : List NamedAgg) → aggs_of s.fields asked ≡ Ok aggs → checked s aggs ≡ Ok given → AreCounted s given
@@ -93,9 +94,9 @@ counted_can s asked aggs given h e = go (first_refusal s.fields aggs) refl e
 
 -- ---- requests
 -- what a search asks over a schema
-pub search_can : (s : Schema) (defaults : List ℕ) (asked : SearchRequest) (search : Search) → search_in s defaults asked ≡ Ok search → IsAnswerable s search
+pub search_can : (s : Schema) (defaults : List ℕ) (asked : SearchRequest) (search : Search) → IfSome s.dynamic (IsDynamic s.fields) → search_in s defaults asked ≡ Ok search → IsAnswerable s search
 unfolding search_in
-search_can s defaults asked search e =
+search_can s defaults asked search dynamic e =
     let a = bind_some (searched s.fields defaults asked.selection.fields) _ search e in
     let b = bind_some (sort_of s.fields asked.sort_by) _ search a.2 in
     let c = bind_some (aggs_of s.fields asked.aggs) _ search b.2 in
@@ -107,7 +108,7 @@ search_can s defaults asked search e =
     let y : ◌≡◌ {A = Result Search Unanswered} (Ok made) (Ok search) = k.2 in
     subst (λ (x : Search). IsAnswerable s x) (let z : made ≡ search = cc in z)
     (record {
-      query = query_in_can s a.0 asked.selection.query q.0 q.1;
+      query = query_in_can s a.0 asked.selection.query q.0 dynamic q.1;
       sort = sort_can s asked.sort_by b.0 d.0 b.1 d.1;
       times = timed_can s asked.selection.times t.0 t.1;
       aggs = counted_can s asked.aggs c.0 k.0 c.1 k.1;

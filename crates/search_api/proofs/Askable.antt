@@ -1,10 +1,13 @@
 -- A query that was read can be asked of the schema's index.
-use Rattle.std.proofs.Common.{◌≡◌, ℕ, ◌&&◌, Bool, true, false, not, nat_lt, List, [], ◌∷◌, length, map, Option, Some, None, Result, Ok, Err, refl, subst, if◌then◌else◌, slice_get}
+use Rattle.std.proofs.Common.{◌≡◌, ℕ, ◌&&◌, Bool, true, false, not, nat_lt, List, [], ◌∷◌, length, map, Option, Some, None, Result, Ok, Err, refl, ap, sym, ◌∙◌, subst, if◌then◌else◌, slice_get}
 use Rattle.std.proofs.lemmas.Bool.{lt-ltb}
+use Rattle.std.specs.Option.{IfSome}
+use Rattle.doc_value.specs.Documents.{IsDynamic}
 use Rattle.doc_value.specs.declared.schema.Field.{Field}
 use Rattle.doc_value.specs.declared.schema.Kind.{Kind}
 use Rattle.doc_value.specs.declared.schema.Kind.TheVariants as kinds
 use Rattle.doc_value.specs.declared.schema.Schema.{Schema}
+use Rattle.dynamic_paths.specs.LeafTexts.{leaf_text, fits}
 use Rattle.query_ast.specs.FieldTokens.{field_tokens}
 use Rattle.query_ast.specs.Meaning.{is_text}
 use Rattle.query_ast.specs.Queries as queries
@@ -13,7 +16,8 @@ use Rattle.query_ast.specs.Sought as sought
 use Rattle.query_reader.specs.Asking.{Asking}
 use Rattle.query_reader.specs.Asking as asks
 use Rattle.query_reader.specs.Machine.{reads}
-use Rattle.query_reader.specs.Resolve.{◌>>=◌, has_order, place_unless, first_of, bad_value, bad_range, bad_at, first_bad, is_unplaced, unplaced, unplaced_at, unplaced_members, first_unplaced, indexed_at, all_indexed, asked_of, asked_at, asked_after, range_of, item_of, member_byte, and_then, over_fields, clause_of, resolve_clause, resolve, resolve_each, number_of, first_byte, query_of}
+use Rattle.query_reader.specs.Resolve.{◌>>=◌, leaf_item, leaf_clause, overlong_clause, unnamed_clause, has_order, place_unless, first_of, bad_value, bad_range, bad_at, first_bad, is_unplaced, unplaced, unplaced_at, unplaced_members, first_unplaced, indexed_at, all_indexed, asked_of, asked_at, asked_after, range_of, item_of, member_byte, and_then, over_fields, clause_of, resolve_clause, resolve, resolve_each, number_of, first_byte, query_of}
+use Rattle.query_reader.proofs.Holding.{IsHolder, holder, few_tokens}
 use Rattle.query_reader.specs.Texts.{text_at}
 use Rattle.query_reader.specs.Tree.{Tree, Trees, no_trees, behind}
 use Rattle.query_reader.specs.Tree as trees
@@ -105,6 +109,35 @@ at_can s text n a i b u = go (slice_get s.fields n) refl
         let loose : unplaced text a f ≡ None = rw h at u in
         subst (λ (q : Sought). CanAsk s q) one (asked_can s text n f h indexed a bad loose)
 
+same_ok : {A : Type 0} (x y : A) → ◌≡◌ {A = Result A QueryError} (Ok x) (Ok y) → x ≡ y
+same_ok x y e = cc
+
+-- ---- what is asked of a path that no field has
+holder_place : (f : Field) (w : List ℕ) → IsHolder f → CanPlace w f
+holder_place f w h e l = absurd (let y : true ≡ false = sym (lt-ltb 1 (length (field_tokens f w)) l) ∙ few_tokens f w h in cc)
+
+module _ (s : Schema) (text path : List ℕ) (n : ℕ) (f : Field) (here : slice_get s.fields n ≡ Some f) (h : IsHolder f) where
+  place_each : (ms : List Member) → CanPlaceEach (map (leaf_item text path) ms) f
+  place_each [] = tt
+  place_each (m ∷ ms) = (λ e. holder_place f (leaf_text path (text_at text m.place)) h, place_each ms)
+
+  path_can : (a : Asking) (q : Sought) → leaf_clause text path n a ≡ Ok q → CanAsk s q
+  path_can asks.Any q e = subst (λ (q : Sought). CanAsk s q) (same_ok _ q e) (rw here (h.indexed, ap is_text h.kind))
+  path_can (asks.Word p) q e = subst (λ (q : Sought). CanAsk s q) (same_ok _ q e) (rw here (h.indexed, tt))
+  path_can (asks.Prefix p) q e = subst (λ (q : Sought). CanAsk s q) (same_ok _ q e) (rw here (h.indexed, ap is_text h.kind))
+  path_can (asks.Quoted p) q e = subst (λ (q : Sought). CanAsk s q) (same_ok _ q e) (rw here (h.indexed, holder_place f (leaf_text path (text_at text p)) h))
+  path_can (asks.Within m r) q e = absurd (let y : ◌≡◌ {A = Result Sought QueryError} (Err (refusals.BadValue m)) (Ok q) = e in cc)
+  path_can (asks.OneOf m ms) q e = subst (λ (q : Sought). CanAsk s q) (same_ok _ q e) (rw here (h.indexed, place_each ms))
+
+-- nothing is asked of a path that is too long
+overlong_can : (s : Schema) (a : Asking) (q : Sought) → overlong_clause a ≡ Ok q → CanAsk s q
+overlong_can s asks.Any q e = subst (λ (q : Sought). CanAsk s q) (same_ok _ q e) tt
+overlong_can s (asks.Word p) q e = subst (λ (q : Sought). CanAsk s q) (same_ok _ q e) tt
+overlong_can s (asks.Prefix p) q e = subst (λ (q : Sought). CanAsk s q) (same_ok _ q e) tt
+overlong_can s (asks.Quoted p) q e = subst (λ (q : Sought). CanAsk s q) (same_ok _ q e) tt
+overlong_can s (asks.Within m r) q e = absurd (let y : ◌≡◌ {A = Result Sought QueryError} (Err (refusals.BadValue m)) (Ok q) = e in cc)
+overlong_can s (asks.OneOf m ms) q e = subst (λ (q : Sought). CanAsk s q) (same_ok _ q e) tt
+
 more_can : (s : Schema) (qs : Soughts) (q : Sought) → CanAskEach s qs → CanAsk s q → CanAskEach s (and_then qs q)
 more_can s no_more q h e = (e, tt)
 more_can s (more p ps) q h e = (h.0, more_can s ps q h.1 e)
@@ -113,11 +146,8 @@ bind_some : {A B : Type 0} (r : Result A QueryError) (k : A → Result B QueryEr
 bind_some (Ok x) k y e = (x, refl, e)
 bind_some {A} {B} (Err r) k y e = absurd (let z : ◌≡◌ {A = Result B QueryError} (Err r) (Ok y) = e in cc)
 
-same_ok : {A : Type 0} (x y : A) → ◌≡◌ {A = Result A QueryError} (Ok x) (Ok y) → x ≡ y
-same_ok x y e = cc
-
 -- ---- clauses and queries
-module _ (s : Schema) (defaults text : List ℕ) where
+module _ (s : Schema) (dynamic : IfSome s.dynamic (IsDynamic s.fields)) (defaults text : List ℕ) where
   after_can : (a : Asking) (ns : List ℕ) → all_indexed s.fields ns ≡ true → first_bad s.fields text a ns ≡ None → first_unplaced s.fields text a ns ≡ None
       → (done : Soughts) → CanAskEach s done → CanAskEach s (asked_after s.fields text done a ns)
   after_can a [] i b u done h = h
@@ -144,11 +174,23 @@ module _ (s : Schema) (defaults text : List ℕ) where
           let y : over_fields (asked_after s.fields text no_more a ns) at ≡ Ok q = rw (i, hb, hu) at e in
           over_can (asked_after s.fields text no_more a ns) at q (after_can a ns i hb hu no_more tt) y
 
-  leaf_can : (field : Option Span) (a : Asking) (q : Sought) → resolve_clause s.fields defaults text field a ≡ Ok q → CanAsk s q
+  -- a path that no field has
+  unnamed_can : (p : Span) (a : Asking) (q : Sought) (d : Option ℕ) → s.dynamic ≡ d → unnamed_clause text (text_at text p) d a ≡ Ok q → CanAsk s q
+  unnamed_can p a q None d e = absurd (let y : ◌≡◌ {A = Result Sought QueryError} (Err (refusals.UnknownField (text_at text p))) (Ok q) = e in cc)
+  unnamed_can p a q (Some n) d e = go (fits (text_at text p)) refl
+    where
+      go : (b : Bool) → fits (text_at text p) ≡ b → CanAsk s q
+      go true h =
+          let r = holder s.fields n (subst (λ (o : Option ℕ). IfSome o (IsDynamic s.fields)) d dynamic) in
+          let y : leaf_clause text (text_at text p) n a ≡ Ok q = rw h at e in
+          path_can s text (text_at text p) n r.0 r.1 r.2 a q y
+      go false h = overlong_can s a q (let y : overlong_clause a ≡ Ok q = rw h at e in y)
+
+  leaf_can : (field : Option Span) (a : Asking) (q : Sought) → resolve_clause s defaults text field a ≡ Ok q → CanAsk s q
   leaf_can (Some p) a q e = go (number_of s.fields (text_at text p) 0) refl
     where
       go : (o : Option ℕ) → number_of s.fields (text_at text p) 0 ≡ o → CanAsk s q
-      go None h = absurd (let y : ◌≡◌ {A = Result Sought QueryError} (Err (refusals.UnknownField (text_at text p))) (Ok q) = rw h at e in cc)
+      go None h = unnamed_can p a q s.dynamic refl (let y : unnamed_clause text (text_at text p) s.dynamic a ≡ Ok q = rw h at e in y)
       go (Some n) h =
           let y : clause_of s.fields text a (first_byte a p.from) (n ∷ []) ≡ Ok q = rw h at e in
           clause_can a (first_byte a p.from) (n ∷ []) q y
@@ -156,35 +198,35 @@ module _ (s : Schema) (defaults text : List ℕ) where
   leaf_can None a q e = clause_can a (first_byte a 0) defaults q e
 
   mutual
-    tree_can : (t : Tree) (q : Sought) → resolve s.fields defaults text t ≡ Ok q → CanAsk s q
+    tree_can : (t : Tree) (q : Sought) → resolve s defaults text t ≡ Ok q → CanAsk s q
     tree_can (trees.Leaf field a) q e = leaf_can field a q e
     tree_can (trees.Group t) q e = tree_can t q e
     tree_can (trees.Not t) q e =
-        let p = bind_some (resolve s.fields defaults text t) (λ q. Ok (sought.Not q)) q e in
+        let p = bind_some (resolve s defaults text t) (λ q. Ok (sought.Not q)) q e in
         let y : ◌≡◌ {A = Result Sought QueryError} (Ok (sought.Not p.0)) (Ok q) = p.2 in
         subst (λ (q : Sought). CanAsk s q) (let z : sought.Not p.0 ≡ q = cc in z) (tree_can t p.0 p.1)
     tree_can (trees.And ts) q e =
-        let p = bind_some (resolve_each s.fields defaults text ts) (λ qs. Ok (sought.And qs)) q e in
+        let p = bind_some (resolve_each s defaults text ts) (λ qs. Ok (sought.And qs)) q e in
         let y : ◌≡◌ {A = Result Sought QueryError} (Ok (sought.And p.0)) (Ok q) = p.2 in
         subst (λ (q : Sought). CanAsk s q) (let z : sought.And p.0 ≡ q = cc in z) (each_can ts p.0 p.1)
     tree_can (trees.Or ts) q e =
-        let p = bind_some (resolve_each s.fields defaults text ts) (λ qs. Ok (sought.Or qs)) q e in
+        let p = bind_some (resolve_each s defaults text ts) (λ qs. Ok (sought.Or qs)) q e in
         let y : ◌≡◌ {A = Result Sought QueryError} (Ok (sought.Or p.0)) (Ok q) = p.2 in
         subst (λ (q : Sought). CanAsk s q) (let z : sought.Or p.0 ≡ q = cc in z) (each_can ts p.0 p.1)
 
-    each_can : (ts : Trees) (qs : Soughts) → resolve_each s.fields defaults text ts ≡ Ok qs → CanAskEach s qs
+    each_can : (ts : Trees) (qs : Soughts) → resolve_each s defaults text ts ≡ Ok qs → CanAskEach s qs
     each_can no_trees qs e = subst (λ (qs : Soughts). CanAskEach s qs) (same_ok no_more qs e) tt
     each_can (behind ts t) qs e =
-        let a = bind_some (resolve_each s.fields defaults text ts) (λ qs. resolve s.fields defaults text t >>= λ q. Ok (and_then qs q)) qs e in
-        let b = bind_some (resolve s.fields defaults text t) (λ q. Ok (and_then a.0 q)) qs a.2 in
+        let a = bind_some (resolve_each s defaults text ts) (λ qs. resolve s defaults text t >>= λ q. Ok (and_then qs q)) qs e in
+        let b = bind_some (resolve s defaults text t) (λ q. Ok (and_then a.0 q)) qs a.2 in
         let y : ◌≡◌ {A = Result Soughts QueryError} (Ok (and_then a.0 b.0)) (Ok qs) = b.2 in
         subst (λ (qs : Soughts). CanAskEach s qs) (let z : and_then a.0 b.0 ≡ qs = cc in z) (more_can s a.0 b.0 (each_can ts a.0 a.1) (tree_can t b.0 b.1))
 
 -- each clause of a query that was read can be asked
-pub query_can : (s : Schema) (defaults text : List ℕ) (q : Sought) → query_of s.fields defaults text ≡ Ok q → CanAsk s q
-query_can s defaults text q e = go (reads text) refl
+pub query_can : (s : Schema) (defaults text : List ℕ) (q : Sought) → IfSome s.dynamic (IsDynamic s.fields) → query_of s defaults text ≡ Ok q → CanAsk s q
+query_can s defaults text q dynamic e = go (reads text) refl
   where
     go : (r : Result Tree Fault) → reads text ≡ r → CanAsk s q
-    go (Ok t) h = tree_can s defaults text t q (let y : resolve s.fields defaults text t ≡ Ok q = rw h at e in y)
+    go (Ok t) h = tree_can s dynamic defaults text t q (let y : resolve s defaults text t ≡ Ok q = rw h at e in y)
     go (Err (faults.Syntax n)) h = absurd (let y : ◌≡◌ {A = Result Sought QueryError} (Err (refusals.Syntax n)) (Ok q) = rw h at e in cc)
     go (Err (faults.TooDeep n)) h = absurd (let y : ◌≡◌ {A = Result Sought QueryError} (Err (refusals.TooDeep n)) (Ok q) = rw h at e in cc)

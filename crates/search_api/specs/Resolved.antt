@@ -118,7 +118,7 @@ query_or (Ok query) = Ok query
 query_or (Err error) = Err (of_query error)
 
 abbrev pub query_in : Schema → List ℕ → List ℕ → Result Sought Unanswered
-query_in schema numbers text = query_or (query_of schema.fields numbers text)
+query_in schema numbers text = query_or (query_of schema numbers text)
 
 abbrev pub unless_refused : List NamedAgg → Option AggError → Result (List NamedAgg) Unanswered
 unless_refused aggs None = Ok aggs

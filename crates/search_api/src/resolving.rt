@@ -11,7 +11,8 @@ ghost use Rattle.search_api.specs.Unanswered.{WantsMemory, Shows};
 ghost use Rattle.search_api.specs.Answerable.{CanAnswer};
 ghost use Rattle.search_api.specs.Resolved as spec;
 ghost use Rattle.search_api.specs.Same.{same};
-ghost use Rattle.doc_value.specs.Documents.{number_of};
+ghost use Rattle.std.specs.Option.{IfSome};
+ghost use Rattle.doc_value.specs.Documents.{IsDynamic, number_of};
 
 use crate::reply::Refusal;
 use crate::request::{AggShape, AskedAgg, Paths, Request, SearchRequest, Selection, SortBy};
@@ -353,8 +354,10 @@ pub fn resolve(
     request: &Request,
 ) -> Result<Resolved, Unanswered>
     ensures resolved { Shows spec.view (spec.resolved schema.now defaults.now request.now) result }
-    // What it gives can be answered from the index of the schema.
-    ensures answerable { IfOk result (λ asked. CanAnswer schema.now (spec.view asked)) }
+    // What it gives can be answered from the index of the schema, whose field for what is not mapped, if it has one, is a
+    // list of whole texts, as each schema's is.
+    ensures answerable { IfSome schema.now.dynamic (IsDynamic schema.now.fields) →
+        IfOk result (λ asked. CanAnswer schema.now (spec.view asked)) }
 {
     match request {
         Request::Search(asked) => {
