@@ -134,7 +134,7 @@ search_in_of s defaults x =
     bind_of (aggs_of s.fields x.aggs) _ (aggs_of_text s.fields x.aggs) (λ aggs.
     bind_of (fast_sort s.fields x.sort_by named) _ (fast_of s.fields x.sort_by named) (λ sort.
     bind_of (timed s x.selection.times) _ (timed_of s x.selection.times) (λ times.
-    bind_of (query_in s numbers x.selection.query) _ (query_or_of (query_of s.fields numbers x.selection.query)) (λ query.
+    bind_of (query_in s numbers x.selection.query) _ (query_or_of (query_of s numbers x.selection.query)) (λ query.
     bind_of (checked s aggs) _ (refused_of aggs (first_refusal s.fields aggs)) (λ aggs. tt)))))))
 
 delete_in_of : (s : Schema) (defaults : List ℕ) (x : Selection) → OfText (delete_in s defaults x)
@@ -142,7 +142,7 @@ unfolding delete_in
 delete_in_of s defaults x =
     bind_of (searched s.fields defaults x.fields) _ (searched_of s.fields defaults x.fields) (λ numbers.
     bind_of (timed s x.times) _ (timed_of s x.times) (λ times.
-    bind_of (query_in s numbers x.query) _ (query_or_of (query_of s.fields numbers x.query)) (λ query. tt)))
+    bind_of (query_in s numbers x.query) _ (query_or_of (query_of s numbers x.query)) (λ query. tt)))
 
 resolved_of : (s : Schema) (defaults : List ℕ) (request : Request) → OfText (resolved s defaults request)
 resolved_of s defaults (requests.Search x) = bind_of (search_in s defaults x) _ (search_in_of s defaults x) (λ search. tt)

@@ -8,9 +8,16 @@ use Rattle.std.proofs.lemmas.Bool.{and_parts}
 use Rattle.std.proofs.lemmas.List.Elements.{All-nil, All-cons, All-head, All-tail}
 use Rattle.std.proofs.lemmas.Option.{slice_get_within}
 use lib.Signed.{le_z_yes}
-use Rattle.doc_value.specs.Documents.{IsSchema}
+use base.Stored.{Coded-set}
+use Rattle.doc_value.specs.Documents.{IsDynamic, IsSchema}
+use Rattle.doc_value.specs.contracts.schema.Kind as kind_row
+use Rattle.doc_value.specs.contracts.schema.Tokenizer as tokenizer_row
 use Rattle.doc_value.specs.declared.schema.Field.{Field}
+use Rattle.doc_value.specs.declared.schema.Kind.{Kind}
+use Rattle.doc_value.specs.declared.schema.Kind.TheVariants as kinds
 use Rattle.doc_value.specs.declared.schema.Schema.{Schema}
+use Rattle.doc_value.specs.declared.schema.Tokenizer.{Tokenizer}
+use Rattle.doc_value.specs.declared.schema.Tokenizer.TheVariants as tokenizers
 use Rattle.query_ast.specs.Queries.{HasField}
 use Rattle.agg_model.specs.Checking.{has_interval, HasInterval, HaveIntervals}
 use Rattle.agg_model.specs.declared.request.Agg.{Agg}
@@ -25,6 +32,26 @@ few_prop a b = hlevel props
 
 pub few_fields : (s : Schema) → ∥ IsSchema s ∥₁ → length s.fields ≤ 256
 few_fields s h = ∥∥₁_elim h (few_prop (length s.fields) 256) (λ x. x.few)
+
+-- ---- the field for what is not mapped
+
+Kind-set : IsSet Kind
+Kind-set = Coded-set kind_row.the_row.coded
+
+Tokenizer-set : IsSet Tokenizer
+Tokenizer-set = Coded-set tokenizer_row.the_row.coded
+
+unmapped_prop : (o : Option Field) → IsProp (MatchOption o ⊥ (λ f.
+    (f.kind ≡ kinds.TextList) × (f.tokenizer ≡ tokenizers.Raw) × (f.indexed ≡ true) × (f.fast ≡ false) × (f.tag ≡ false) × (f.positions ≡ false)))
+unmapped_prop None = hlevel props
+unmapped_prop (Some f) = hlevel (Kind-set, Tokenizer-set, props)
+
+dynamic_prop : (fields : List Field) (o : Option ℕ) → IsProp (IfSome o (IsDynamic fields))
+dynamic_prop fields None = hlevel props
+dynamic_prop fields (Some number) = unmapped_prop (slice_get fields number)
+
+pub dynamic_field : (s : Schema) → ∥ IsSchema s ∥₁ → IfSome s.dynamic (IsDynamic s.fields)
+dynamic_field s h = ∥∥₁_elim h (dynamic_prop s.fields s.dynamic) (λ x. x.dynamic)
 
 -- ---- the field that is sorted by
 
