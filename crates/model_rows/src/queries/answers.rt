@@ -1,6 +1,7 @@
 //! What a line asks, and its answer.
 
 use super::fields::schema;
+use super::leaves;
 use doc_value::{
     Bytes, Doc, DocField, FieldTags, Schema, TagFacts, Tags, Terms, Text, TimeRange, Value, Values,
     term_bytes,
@@ -11,7 +12,8 @@ use std::alloc::{AllocError, Global};
 
 /// `read Q` and `bare Q` print a query that is read with the default field body or with none; `found D/Q` says whether a document
 /// whose body is D matches, `tagged T/Q` whether one may whose levels are all T, `sized N/Q` whether one may whose sizes are all N,
-/// and `from N/M` whether one of the second M lies in the times from N on and before 6.
+/// and `from N/M` whether one of the second M lies in the times from N on and before 6. `leaf Q` says whether a document of values
+/// at paths that no field has matches, and `path Q` prints a query over its schema.
 pub fn answer(alloc: Global, line: &str) -> Result<String, AllocError> {
     let schema = schema(alloc)?;
     answered(alloc, &schema, line)
@@ -29,11 +31,13 @@ fn answered(alloc: Global, schema: &Schema, line: &str) -> Result<String, AllocE
         "tagged" => tagged(alloc, schema, first, second),
         "sized" => sized(alloc, schema, first, second),
         "from" => timed(alloc, schema, first, second),
+        "leaf" => leaves::found(alloc, rest),
+        "path" => leaves::read(alloc, rest),
         _ => String::from_str(alloc, "nothing asked"),
     }
 }
 
-fn printed(
+pub fn printed(
     alloc: Global,
     schema: &Schema,
     defaults: &[usize],
@@ -51,7 +55,7 @@ fn shown(alloc: Global, schema: &Schema, query: &Query) -> Result<String, AllocE
     String::from_str(alloc, printed.as_str())
 }
 
-fn refused(alloc: Global, refusal: &QueryError) -> Result<String, AllocError> {
+pub fn refused(alloc: Global, refusal: &QueryError) -> Result<String, AllocError> {
     match refusal {
         QueryError::UnknownField { name } => {
             let name = name.as_str();
@@ -75,7 +79,7 @@ fn found_in(alloc: Global, schema: &Schema, doc: &Doc, text: &str) -> Result<Str
 }
 
 /// Whether a copy of the query matches.
-fn matched(alloc: Global, schema: &Schema, doc: &Doc, query: &Query) -> Result<String, AllocError> {
+pub fn matched(alloc: Global, schema: &Schema, doc: &Doc, query: &Query) -> Result<String, AllocError> {
     let query = copy_query(alloc, query)?;
     said(alloc, matches(alloc, schema, &query, doc)?)
 }
