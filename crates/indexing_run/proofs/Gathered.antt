@@ -9,7 +9,6 @@ use Rattle.doc_mapping.proofs.Fitting.{accepted-fits}
 use Rattle.doc_value.specs.Documents.{IsSchema, IsOfSchema}
 use Rattle.doc_value.specs.declared.doc.DocField.{DocField}
 use Rattle.doc_value.specs.declared.schema.Schema.{Schema}
-use Rattle.document_laws.proofs.Sized.{record_size}
 use Rattle.index_config.specs.declared.config.IndexConfig.{IndexConfig}
 use Rattle.index_world.specs.Accepted.{accepted}
 use Rattle.split_build.proofs.Mere.{schema_prop}
@@ -20,8 +19,7 @@ use Rattle.split_build.specs.declared.builder.Builder.{Builder}
 use Rattle.split_build.specs.declared.build_error.BuildError.TheVariants.{Memory, TooManyDocs, TooLarge}
 use Rattle.split_bundle.specs.Documents.{weight as weight_of, total_weight}
 use Rattle.split_bundle.specs.declared.placed.Placed.{Placed}
-use Rattle.weight_laws.proofs.Fitting.{record_numbers}
-use Rattle.weight_laws.proofs.Weighed.{document_weight}
+use Rattle.weight_laws.proofs.Weighed.{schema_weight}
 use Rattle.indexing_run.proofs.Light.{accepted_as}
 
 -- ---- a document more
@@ -52,10 +50,9 @@ pub accepted_light : (config : IndexConfig) (bytes : List ℕ) (p : Placed) → 
 accepted_light config bytes p kept e offset =
     let said = accepted_as config bytes p.doc e in
     let schema = schema_is config.schema kept in
-    let size = record_size config bytes p.doc schema.rise said in
     let short = record_short config bytes p.doc said in
-    let whole = document_weight config.schema p schema (accepted-fits config bytes p.doc said) (record_numbers config bytes p.doc said) (omega (arith, size, short)) offset in
-    omega (arith, whole, size, short)
+    let whole = schema_weight config bytes p schema said offset in
+    omega (arith, whole, short)
 
 -- ---- documents that are light
 
