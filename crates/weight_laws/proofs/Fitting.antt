@@ -1,6 +1,6 @@
 -- The values of a record's document have 64 bits.
 use Rattle.std.proofs.Common.{◌≡◌, ℕ, suc, ◌/◌, ◌^◌, ◌≤◌, ◌||◌, Bool, true, false, List, [], ◌∷◌, ◌++◌, Option, Some, None, Result, Ok, Err, refl, subst, arith, if◌then◌else◌}
-use Rattle.std.specs.Prelude.{ℤ, pos, negsuc, neg_ℤ, ◌-ℤ◌, int_lt, nat_lt, nat_le, option_and_then}
+use Rattle.std.specs.Prelude.{ℤ, pos, negsuc, neg_ℤ, ◌-ℤ◌, int_lt, nat_lt, nat_le, map, option_and_then}
 use Rattle.std.specs.Str.{is_utf8}
 use Rattle.std.proofs.lemmas.Bool.{and_parts, ltb-true, leb-true}
 use Rattle.jiff.specs.Words.{IsTimestampNanos, parse_timestamp, full, temporal_datetime, nanos_of_seconds}
@@ -19,12 +19,15 @@ use Rattle.serde_json.specs.Read.{read}
 use Rattle.doc_value.specs.Printed.{names_of}
 use Rattle.doc_value.specs.declared.doc.DocField.{DocField}
 use Rattle.doc_value.specs.declared.doc.Value.{Value}
+use Rattle.doc_value.specs.declared.doc.Value.TheVariants as values
+use Rattle.dynamic_paths.specs.LeafTexts.{fitting_texts}
+use Rattle.dynamic_paths.specs.Leaves.{is_number, leaf_list}
 use Rattle.doc_value.specs.declared.schema.Field.{Field}
 use Rattle.doc_value.specs.declared.schema.Kind.{Kind}
 use Rattle.doc_value.specs.declared.schema.Kind.TheVariants as kinds
 use Rattle.index_config.specs.declared.config.IndexConfig.{IndexConfig}
 use Rattle.doc_mapping.specs.Answer.{answer, value_of}
-use Rattle.doc_mapping.specs.Documents.{value_at, i64_values, u64_values, date_values, texts_in, values_of, found_values, part_of, doc_from}
+use Rattle.doc_mapping.specs.Documents.{value_at, i64_values, u64_values, date_values, texts_in, values_of, found_values, part_of, leaf_values, leaves_for, values_from, doc_from}
 use Rattle.document_laws.specs.ReadBack.{IsI64, AreInType, HasNumbers}
 use Rattle.document_laws.proofs.Recorded.{made_from}
 use Rattle.weight_laws.proofs.Numbers.{IsNum64, Has64, read_64, at_64}
@@ -168,17 +171,40 @@ values_fit kinds.TextList (object ms) h = tt
 
 -- ---- the document
 
-fields_fit : (n : ℕ) (fs : List Field) (d : Data) → Has64 d → HasNumbers (doc_from n fs d)
-fields_fit n [] d h = tt
-fields_fit n (f ∷ fs) d h = go (value_at (names_of f.path) d) refl (fields_fit (suc n) fs d h)
-  where
-    with : (vs : List Value) → AreInType vs → HasNumbers (doc_from (suc n) fs d) → HasNumbers (part_of n vs ++ doc_from (suc n) fs d)
-    with [] l rest = rest
-    with (v ∷ vs) l rest = (l, rest)
+texts_have : (ts : List (List ℕ)) → AreInType (map values.Text ts)
+texts_have [] = tt
+texts_have (t ∷ ts) = (tt, texts_have ts)
 
-    go : (o : Option Data) → value_at (names_of f.path) d ≡ o → HasNumbers (doc_from (suc n) fs d) → HasNumbers (part_of n (found_values f.kind o) ++ doc_from (suc n) fs d)
-    go None e rest = rest
-    go (Some x) e rest = with (values_of f.kind x) (values_fit f.kind x (at_64 (names_of f.path) d x h e)) rest
+leaves_have : (kind : Kind) (ls : List Value) → AreInType ls → AreInType (leaves_for kind ls)
+leaves_have kinds.Text ls h = tt
+leaves_have kinds.I64 ls h = tt
+leaves_have kinds.U64 ls h = tt
+leaves_have kinds.Bool ls h = tt
+leaves_have kinds.Datetime ls h = tt
+leaves_have kinds.TextList ls h = h
+
+module _ (o : Option ℕ) (ls : List Value) (d : Data) (leaves : AreInType ls) (h : Has64 d) where
+  found_have : (f : Field) → AreInType (found_values f.kind (value_at (names_of f.path) d))
+  found_have f = go (value_at (names_of f.path) d) refl
+    where
+      go : (x : Option Data) → value_at (names_of f.path) d ≡ x → AreInType (found_values f.kind x)
+      go None e = tt
+      go (Some x) e = values_fit f.kind x (at_64 (names_of f.path) d x h e)
+
+  field_has : (n : ℕ) (f : Field) → AreInType (values_from o ls n f d)
+  field_has n f = by (is_number o n) refl
+    where
+      by : (b : Bool) → is_number o n ≡ b → AreInType (values_from o ls n f d)
+      by true e = rw e (leaves_have f.kind ls leaves)
+      by false e = rw e (found_have f)
+
+  fields_fit : (n : ℕ) (fs : List Field) → HasNumbers (doc_from o ls n fs d)
+  fields_fit n [] = tt
+  fields_fit n (f ∷ fs) = with (values_from o ls n f d) (field_has n f) (fields_fit (suc n) fs)
+    where
+      with : (vs : List Value) → AreInType vs → HasNumbers (doc_from o ls (suc n) fs d) → HasNumbers (part_of n vs ++ doc_from o ls (suc n) fs d)
+      with [] l rest = rest
+      with (v ∷ vs) l rest = (l, rest)
 
 value_64 : (bytes : List ℕ) (d : Data) → value_of bytes ≡ Some d → Has64 d
 value_64 bytes d e = by (is_utf8 bytes) e
@@ -190,4 +216,5 @@ value_64 bytes d e = by (is_utf8 bytes) e
 pub record_numbers : (config : IndexConfig) (bytes : List ℕ) (doc : List DocField) → answer config bytes ≡ Ok doc → HasNumbers doc
 record_numbers config bytes doc e =
     let m = made_from config bytes doc e in
-    subst HasNumbers m.3 (fields_fit 0 config.schema.fields m.0 (value_64 bytes m.0 m.1))
+    subst HasNumbers m.3
+    (fields_fit config.schema.dynamic (leaf_values config.schema m.0) m.0 (texts_have (fitting_texts (leaf_list config.schema m.0))) (value_64 bytes m.0 m.1) 0 config.schema.fields)

@@ -23,9 +23,10 @@ pub fn weight_laws()
     // A document of a schema weighs at most ten times as much as its texts have bytes, and 8,000.
     ensures document { (s : Schema) (p : Placed) → IsSchema s → IsOfSchema s p.doc → HasNumbers p.doc → doc_size p.doc < 2 ^ 60 → p.offset < 2 ^ 64 →
         weight p ≤ 8000 + 10 * doc_size p.doc }
-    // So the document of a record weighs at most ten times as much as the record has bytes, and 8,000.
+    // So the document of a record weighs at most ten times as much as the record has bytes, and 8,000, and what 65,536 leaf
+    // texts of 255 bytes can weigh, each with the two bytes of its length.
     ensures record_bytes { (text bytes : List ℕ) (config : IndexConfig) (p : Placed) → config_answer text ≡ Ok config → answer config bytes ≡ Ok p.doc →
-        p.offset < 2 ^ 64 → weight p ≤ 8000 + 10 * length bytes }
+        p.offset < 2 ^ 64 → weight p ≤ 8000 + 10 * length bytes + 16842752 }
     // And that is less than half of what a split may weigh.
     ensures light { (text bytes : List ℕ) (config : IndexConfig) (p : Placed) → config_answer text ≡ Ok config → answer config bytes ≡ Ok p.doc →
         p.offset < 2 ^ 64 → weight p ≤ 134217728 }
