@@ -9,3 +9,4 @@ pub mod Lexed
 pub mod Parsed
 pub mod Cut
 pub mod Sized
+pub mod Beside

@@ -7,6 +7,7 @@ ghost use Rattle.doc_value.specs.Documents.{IsOfSchema, PathsRise};
 ghost use Rattle.doc_value.specs.Printed.{printed_doc};
 ghost use Rattle.doc_value.specs.declared.doc.DocField.{DocField};
 ghost use Rattle.doc_value.specs.declared.schema.Schema.{Schema};
+ghost use Rattle.index_config.specs.Answer.{config_answer};
 ghost use Rattle.index_config.specs.declared.config.IndexConfig.{IndexConfig};
 ghost use Rattle.document_laws.specs.ReadBack.{AllApart, AreShort, HasNumbers, HasRisingKeys, IsBeside, ReadsBack, paths_of};
 ghost use Rattle.document_laws.specs.Sizes.{mapped_size, max_leaf_size, values_size};
@@ -36,4 +37,6 @@ pub fn record_laws()
     // Those of the field for what is not mapped are at most 65,536 of 255 bytes.
     ensures leaves { (config : IndexConfig) (bytes : List ℕ) (doc : List DocField) (n : ℕ) → answer config bytes ≡ Ok doc →
         config.schema.dynamic ≡ Some n → values_size (values_at doc n) ≤ max_leaf_size }
+    // Under a configuration that was read no path goes on behind that field's.
+    ensures beside { (text : List ℕ) (config : IndexConfig) → config_answer text ≡ Ok config → IsBeside config.schema }
 {}
