@@ -204,6 +204,9 @@ fn play<Rt: Threads + Sync>(rt: &Rt, alloc: Global, row: &Row, call: u64) -> Res
     if told.fault && is_quiet(row.manner) {
         return Err(Wrong::seen(alloc, "a life", "told a fault"));
     }
+    if !told.fault {
+        left_beside(alloc, &disk)?;
+    }
     if !struck {
         return Ok(false);
     }
@@ -243,8 +246,8 @@ fn appended<Rt: Threads + Sync>(rt: &Rt, alloc: Global, writers: [u64; 2]) -> Re
     disk.state()?.follow(None);
     disk.state()?.keep_files(true);
     let told = life(rt, alloc, &disk, &mut book, writers)?;
-    if !told.fault && !told.found {
-        return Err(Wrong::seen(alloc, "a life", "ended with no answer"));
+    if !told.fault {
+        return Err(Wrong::seen(alloc, "a life", "told no fault"));
     }
     disk.state()?.keep_files(false);
     clean_up(rt, alloc, &disk, &mut book)

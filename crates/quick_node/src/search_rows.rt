@@ -355,4 +355,146 @@ word --turns
 word 0
 < error 1 badwords
 run 1
+row a dynamic index is asked by paths that are no field
+vacant
+command create
+> version = "0.9"
+> index_id = "logs"
+> [doc_mapping]
+> mode = "dynamic"
+> [[doc_mapping.field_mappings]]
+> name = "body"
+> type = "text"
+> record = "position"
+> [[doc_mapping.field_mappings]]
+> name = "level"
+> type = "text"
+> tokenizer = "raw"
+> fast = true
+> [indexing_settings.merge_policy]
+> type = "stable_log"
+> min_level_num_docs = 100
+> merge_factor = 2
+> max_merge_factor = 4
+> [search_settings]
+> default_search_fields = ["body"]
+> [upkeep]
+> staged_grace_secs = 200
+> deletion_grace_secs = 100
+< created
+run 0
+log
+record p0 {"body":"red","user":{"id":7,"ok":true},"f":1.5,"tags":["x","y"]}
+> at 1000
+> indexer 0
+> indexer 0
+> indexer 0
+> indexer 0
+> indexer 0
+> client a {"search":{"query":"user.id:7"}}
+> client a
+> client a
+> client a
+> client a {"search":{"query":"user.id:8"}}
+> client a
+> client a
+> client a
+> client a {"search":{"query":"f:*"}}
+> client a
+> client a
+> client a
+> client a {"search":{"query":"tags: IN [y z]"}}
+> client a
+> client a
+> client a
+> client a {"search":{"query":"user.ok:tr*"}}
+> client a
+> client a
+> client a
+> client a {"search":{"query":"user.id:[1 TO 9]"}}
+> client a
+> client a {"search":{"query":"*","sort_by":"user.id"}}
+> client a
+< at 1000
+< indexer 0 checkpoint
+< indexer 0 read 1
+< indexer 0 staged 1
+< indexer 0 uploaded 1
+< indexer 0 published 1
+< a opened
+< a planned 3 1
+< a fetched 1
+< {"aggregations":{},"client":"a","hits":[{"_dynamic":["4:tags:x","4:tags:y","7:user.id:7","7:user.ok:true"],"body":"red"}],"num_hits":1,"revision":3}
+< a opened
+< a planned 3 1
+< a fetched 1
+< {"aggregations":{},"client":"a","hits":[],"num_hits":0,"revision":3}
+< a opened
+< a planned 3 1
+< a fetched 1
+< {"aggregations":{},"client":"a","hits":[],"num_hits":0,"revision":3}
+< a opened
+< a planned 3 1
+< a fetched 1
+< {"aggregations":{},"client":"a","hits":[{"_dynamic":["4:tags:x","4:tags:y","7:user.id:7","7:user.ok:true"],"body":"red"}],"num_hits":1,"revision":3}
+< a opened
+< a planned 3 1
+< a fetched 1
+< {"aggregations":{},"client":"a","hits":[{"_dynamic":["4:tags:x","4:tags:y","7:user.id:7","7:user.ok:true"],"body":"red"}],"num_hits":1,"revision":3}
+< a opened
+< {"client":"a","error":{"at":8,"kind":"BadValue"},"revision":3}
+< a opened
+< {"client":"a","error":{"kind":"UnknownField","name":"user.id"},"revision":3}
+run 0
+row without a mode nothing is lost of a record that no field takes
+vacant
+command create
+> version = "0.9"
+> index_id = "logs"
+> [doc_mapping]
+> [[doc_mapping.field_mappings]]
+> name = "body"
+> type = "text"
+> record = "position"
+> [[doc_mapping.field_mappings]]
+> name = "level"
+> type = "text"
+> tokenizer = "raw"
+> fast = true
+> [indexing_settings.merge_policy]
+> type = "stable_log"
+> min_level_num_docs = 100
+> merge_factor = 2
+> max_merge_factor = 4
+> [search_settings]
+> default_search_fields = ["body"]
+> [upkeep]
+> staged_grace_secs = 200
+> deletion_grace_secs = 100
+< created
+run 0
+log
+record p0 {"n":18446744073709551615}
+record p0 {"body":{"a":1}}
+> at 1000
+> indexer 0
+> indexer 0
+> indexer 0
+> indexer 0
+> indexer 0
+> client a {"search":{"query":"n:18446744073709551615"}}
+> client a
+> client a
+> client a
+< at 1000
+< indexer 0 checkpoint
+< indexer 0 read 2
+< indexer 0 staged 1
+< indexer 0 uploaded 1
+< indexer 0 published 1
+< a opened
+< a planned 3 1
+< a fetched 1
+< {"aggregations":{},"client":"a","hits":[{"_dynamic":["1:n:18446744073709551615"]}],"num_hits":1,"revision":3}
+run 0
 "#;
