@@ -79,7 +79,12 @@ fn found_in(alloc: Global, schema: &Schema, doc: &Doc, text: &str) -> Result<Str
 }
 
 /// Whether a copy of the query matches.
-pub fn matched(alloc: Global, schema: &Schema, doc: &Doc, query: &Query) -> Result<String, AllocError> {
+pub fn matched(
+    alloc: Global,
+    schema: &Schema,
+    doc: &Doc,
+    query: &Query,
+) -> Result<String, AllocError> {
     let query = copy_query(alloc, query)?;
     said(alloc, matches(alloc, schema, &query, doc)?)
 }

@@ -8,12 +8,7 @@ use std::alloc::{AllocError, Global};
 /// The leaf texts of `{"body":"red","tags":["x","y"],"user":{"id":7,"ok":true}}`, but of body.
 const LEAF_TEXTS: [&str; 4] = ["4:tags:x", "4:tags:y", "7:user.id:7", "7:user.ok:true"];
 
-fn field(
-    alloc: Global,
-    path: &str,
-    kind: Kind,
-    tokenizer: Tokenizer,
-) -> Result<Field, AllocError> {
+fn field(alloc: Global, path: &str, kind: Kind, tokenizer: Tokenizer) -> Result<Field, AllocError> {
     Ok(Field {
         path: Text::from_str(alloc, path)?,
         kind,
