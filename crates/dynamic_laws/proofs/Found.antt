@@ -1,5 +1,5 @@
 -- What is found among the leaf texts that a document lists.
-use Rattle.std.proofs.Common.{◌≡◌, ℕ, ◌+◌, ◌<◌, ◌&&◌, ◌||◌, Bool, true, false, List, [], ◌∷◌, ◌++◌, length, length-append, map, decimal, refl, ap, sym, ◌∙◌, nat_eq, nat_le, not, if◌then◌else◌, arith}
+use Rattle.std.proofs.Common.{◌≡◌, ℕ, ◌<◌, ◌&&◌, ◌||◌, Bool, true, false, List, [], ◌∷◌, ◌++◌, length, length-append, map, decimal, refl, ap, sym, ◌∙◌, nat_eq, nat_le, not, if◌then◌else◌, arith}
 use Rattle.std.proofs.lemmas.Bool.Decides.{nat_tests}
 use Rattle.std.specs.List.{AllByRecursion, list_any, starts_with}
 use Rattle.std.specs.Str.{bytes_eq}
@@ -197,8 +197,8 @@ module _ (f : Field) (h : IsHolder f) where
 pub none_fits : (path text : List ℕ) → fits path ≡ false → fits (leaf_text path text) ≡ false
 none_fits path text e =
     let long : max_leaf_text < length path = grind (arith, e, nat_tests) in
-    let one : length (leaf_text path text) ≡ length (decimal (length path)) + length (58 ∷ path ++ 58 ∷ text) = length-append (decimal (length path)) (58 ∷ path ++ 58 ∷ text) in
-    let two : length (path ++ 58 ∷ text) ≡ length path + length (58 ∷ text) = length-append path (58 ∷ text) in
+    let one = length-append (decimal (length path) ++ 58 ∷ path) (58 ∷ text) in
+    let two = length-append (decimal (length path)) (58 ∷ path) in
     let longer : max_leaf_text < length (leaf_text path text) = omega (arith, long, one, two) in
     grind (arith, longer, nat_tests)
 
