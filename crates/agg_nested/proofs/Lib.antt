@@ -1,3 +1,6 @@
+pub mod Answered
+pub mod Buckets
+pub mod Filled
 pub mod FlatAnswers
 pub mod FlatLists
 pub mod Flats
@@ -7,4 +10,5 @@ pub mod Plain
 pub mod Raised
 pub mod Refusals
 pub mod Spotted
+pub mod Sums
 pub mod Zipped

@@ -109,7 +109,7 @@ pub any_flip : (spots : List Spot) (spot : Spot) → list_any (same_spot spot) s
 any_flip [] spot = refl
 any_flip (s ∷ ss) spot = rw (same_spot_flip spot s, any_flip ss spot) refl
 
-few_at : (agg : FlatAgg) (documents : List (List DocField)) (spot : Spot) → length (documents_at agg documents spot) ≤ length documents
+pub few_at : (agg : FlatAgg) (documents : List (List DocField)) (spot : Spot) → length (documents_at agg documents spot) ≤ length documents
 few_at agg documents spot = rw (length-filter (has_spot agg spot) documents) (count_by-le-length (has_spot agg spot) documents)
 
 pub can_raise : (agg : FlatAgg) (nested : List NamedFlat) (groups : Groups) (documents : List (List DocField)) (number : ℕ) → length documents + 1 < 2 ^ 62

@@ -61,18 +61,26 @@ nested_answer documents asked = record {
   nested = map (λ spot. flat_answers asked.nested (documents_at asked.agg documents spot)) (spots_in (flat_answer documents asked.agg));
 }
 
--- how many buckets it has, with those of its nested answers
+-- how many buckets nested answers have
+abbrev pub inner_buckets : List NamedFlat → List (List DocField) → ℕ
+inner_buckets request documents = sum_by (λ named. flat_buckets documents named.agg) request
+
+-- how many buckets an aggregation's answer has, with those of its nested answers
 abbrev pub nested_buckets : List (List DocField) → NestedAgg → ℕ
 nested_buckets documents asked = flat_buckets documents asked.agg
-    + sum_by (λ spot. sum_by (λ named. flat_buckets (documents_at asked.agg documents spot) named.agg) asked.nested) (spots_in (flat_answer documents asked.agg))
+    + sum_by (λ spot. inner_buckets asked.nested (documents_at asked.agg documents spot)) (spots_in (flat_answer documents asked.agg))
 
 -- and those of all aggregations of a request together
 abbrev pub all_buckets : List NestedAgg → List (List DocField) → ℕ
 all_buckets request documents = sum_by (nested_buckets documents) request
 
--- the answers, or their number of buckets where these are too many, of which 128 bits tell no more than 2^128 - 1
+-- of a number 128 bits tell no more than 2^128 - 1
+abbrev pub told : ℕ → ℕ
+told many = min many (2 ^ 128 - 1)
+
+-- the answers, or their number of buckets where these are too many
 abbrev pub answered : ℕ → List NestedAnswer → Result (List NestedAnswer) AggError
-answered many results = if nat_lt most_buckets many then Err (refusals.TooManyBuckets (min many (2 ^ 128 - 1))) else Ok results
+answered many results = if nat_lt most_buckets many then Err (refusals.TooManyBuckets (told many)) else Ok results
 
 unfoldable pub nested : List NestedAgg → List (List DocField) → Result (List NestedAnswer) AggError
 nested request documents = answered (all_buckets request documents) (map (nested_answer documents) request)

@@ -2,12 +2,14 @@
 use Rattle.std.specs.Prelude.{◌≡◌, ◌≤◌, List, length, Option, None, nat_eq}
 use Rattle.std.specs.HashMap.{get, get_by_text}
 use Rattle.std.specs.List.{AllZip}
+use Rattle.std.specs.Option.{option_map_or}
 use Rattle.std.specs.Ordering.{int_eq}
 use Rattle.doc_value.specs.declared.doc.DocField.{DocField}
 use Rattle.agg_model.specs.Counting.{text, signed, unsigned, truth, datetime}
 use Rattle.agg_nested.specs.Groups.{GroupStands, last_of}
 use Rattle.agg_nested.specs.Partials.{FlatStands}
 use Rattle.agg_nested.specs.Spots.{Spot, value, step, range, documents_at}
+use Rattle.agg_nested.specs.declared.flat_part.FlatPart.{FlatPart}
 use Rattle.agg_nested.specs.declared.group.Group.{Group}
 use Rattle.agg_nested.specs.declared.groups.Groups.{Groups}
 use Rattle.agg_nested.specs.declared.nested_partial.NestedPart.{NestedPart}
@@ -25,6 +27,10 @@ group_at groups (value (truth z)) = get int_eq groups.truths z
 group_at groups (value (datetime z)) = get int_eq groups.datetimes z
 group_at groups (step z) = get int_eq groups.steps z
 group_at groups (range n) = get nat_eq groups.ranges n
+
+-- the parts of a bucket: those of its group, or the vacant ones where there is none
+abbrev pub parts_of : List FlatPart → Option Group → List FlatPart
+parts_of vacant o = option_map_or (λ group. group.parts.items) o vacant
 
 abbrev pub AreVacant : Groups → Type 0
 AreVacant groups = (spot : Spot) → group_at groups spot ≡ None

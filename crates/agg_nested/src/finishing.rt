@@ -61,7 +61,8 @@ fn metric_answer(kind: MetricKind, part: &MetricPart) -> Option<i128>
     }
 }
 
-fn range_buckets(
+/// A bucket of each range.
+pub fn range_buckets(
     alloc: Global,
     ranges: &[WholeRange],
     counts: &[u64],

@@ -1,0 +1,11 @@
+use Rattle.std.proofs.Common.{◌≡◌, List, map, take}
+use Rattle.doc_value.specs.declared.doc.DocField.{DocField}
+use Rattle.agg_nested.specs.Answers.{flat_answers}
+use Rattle.agg_nested.specs.Buckets.{GroupsStand}
+use Rattle.agg_nested.specs.Spots.{Spot, documents_at, spots_in}
+use Rattle.agg_nested.proofs.nested_finishing.inner_answers.Given as goal
+
+abbrev pub invariant-loop-i : goal.invariant-loop-i
+invariant-loop-i l =
+    (documents : List (List DocField)) → GroupsStand l.asked.agg l.asked.nested l.part.groups documents
+    → l.inner ≡ map (λ (spot : Spot). flat_answers l.asked.nested (documents_at l.asked.agg documents spot)) (take l.i (spots_in l.answer))

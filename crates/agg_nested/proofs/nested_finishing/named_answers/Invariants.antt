@@ -1,0 +1,8 @@
+use Rattle.std.proofs.Common.{◌≡◌, List, take}
+use Rattle.doc_value.specs.declared.doc.DocField.{DocField}
+use Rattle.agg_nested.specs.Answers.{flat_answers}
+use Rattle.agg_nested.specs.Partials.{AreStanding}
+use Rattle.agg_nested.proofs.nested_finishing.named_answers.Given as goal
+
+abbrev pub invariant-loop-i : goal.invariant-loop-i
+invariant-loop-i l = (documents : List (List DocField)) → AreStanding l.nested l.parts documents → l.answers ≡ flat_answers (take l.i l.nested) documents

@@ -1,0 +1,12 @@
+use Rattle.std.proofs.Common.{◌≡◌, List, take}
+use Rattle.std.specs.List.{AllZip}
+use Rattle.doc_value.specs.declared.doc.DocField.{DocField}
+use Rattle.agg_nested.specs.Answers.{all_buckets, told}
+use Rattle.agg_nested.specs.Buckets.{PartStands}
+use Rattle.agg_nested.specs.declared.nested_partial.NestedPart.{NestedPart}
+use Rattle.agg_nested.specs.declared.request.NestedAgg.{NestedAgg}
+use Rattle.agg_nested.proofs.totals.count_parts.Given as goal
+
+abbrev pub invariant-loop-i : goal.invariant-loop-i
+invariant-loop-i l =
+    (documents : List (List DocField)) → AllZip (λ (a : NestedAgg) (p : NestedPart). PartStands a p documents) l.request l.parts.items → l.many ≡ told (all_buckets (take l.i l.request) documents)
