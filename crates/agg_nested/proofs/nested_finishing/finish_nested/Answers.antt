@@ -1,5 +1,4 @@
-use Rattle.std.proofs.Common.{arith, ◌≡◌, ◌≤◌}
-use Rattle.agg_model.specs.Answers.{most_buckets}
+use Rattle.std.proofs.Common.{arith, ◌≡◌}
 use Rattle.agg_nested.specs.Answers.{all_buckets, told}
 use Rattle.agg_nested.proofs.Answered.{many_answered, few_answered}
 use Rattle.agg_nested.proofs.nested_finishing.finish_nested.Goals as goal

@@ -1,7 +1,6 @@
-use Rattle.std.proofs.Common.{arith, ◌≡◌, ◌<◌, ◌∙◌, ap, length, get_or, List, map}
+use Rattle.std.proofs.Common.{arith, ◌<◌, ◌∙◌, ap, length, get_or, List, map}
 use Rattle.std.proofs.lemmas.List.{take_all}
 use Rattle.std.proofs.lemmas.List.Sums.{get_or-le-sum_by}
-use Rattle.std.specs.List.{sum_by}
 use Rattle.agg_nested.specs.Answers.{flat_answers, inner_buckets}
 use Rattle.agg_nested.specs.Spots.{Spot, range, documents_at, spots_in}
 use Rattle.agg_nested.proofs.Buckets.{mapped_next, parts_stand}

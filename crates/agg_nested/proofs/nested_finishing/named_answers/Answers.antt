@@ -1,4 +1,4 @@
-use Rattle.std.proofs.Common.{arith, ◌≡◌, ◌≤◌, ◌∙◌, subst, sym, ap, ap₂, refl, length, List, ℕ}
+use Rattle.std.proofs.Common.{arith, ◌≡◌, ◌∙◌, subst, sym, ap, ap₂, refl, length, List, ℕ}
 use Rattle.std.proofs.lemmas.List.{take_all}
 use Rattle.std.proofs.lemmas.List.Sums.{get_or-le-sum_by}
 use Rattle.agg_model.proofs.Parts.{all_zip_long}
@@ -6,7 +6,6 @@ use Rattle.agg_nested.specs.Answers.{flat_answer, flat_answers, flat_buckets}
 use Rattle.agg_nested.specs.Checking.{HasStep}
 use Rattle.agg_nested.specs.Partials.{FlatStands}
 use Rattle.agg_nested.specs.declared.answer.FlatAnswer.{FlatAnswer}
-use Rattle.agg_nested.specs.declared.answer.NamedAnswer.{NamedAnswer}
 use Rattle.agg_nested.specs.declared.flat_part.FlatPart.{FlatPart}
 use Rattle.agg_nested.specs.declared.request.NamedFlat.{NamedFlat}
 use Rattle.agg_nested.proofs.Buckets.{mapped_next}

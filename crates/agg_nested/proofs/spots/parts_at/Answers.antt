@@ -1,4 +1,4 @@
-use Rattle.std.proofs.Common.{◌≡◌, ◌∙◌, ap, sym}
+use Rattle.std.proofs.Common.{◌∙◌, ap, sym}
 use Rattle.agg_nested.specs.Buckets.{group_at, parts_of}
 use Rattle.agg_nested.specs.Spots.{Spot}
 use Rattle.agg_nested.proofs.Buckets.{place_first}
