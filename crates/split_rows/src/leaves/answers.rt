@@ -51,6 +51,7 @@ fn search_of(
     config: &IndexConfig,
     text: &str,
 ) -> Result<Option<SearchAsk>, Unanswered>
+    requires { IsSchema config.now.schema }
     ensures { IfOk result (λ o. IfSome o (λ search. HaveIntervals search.aggs)) }
 {
     let request = read_request(alloc, text.as_bytes())?;
