@@ -3,6 +3,7 @@ use Rattle.std.proofs.Common.{◌≡◌, ℕ, ◌-◌, List, [], ◌∷◌, ◌+
 use Rattle.std.specs.List.{AllByRecursion}
 use Rattle.std.proofs.lemmas.List.{map-append}
 use Rattle.source_log.specs.Log.{Log}
+use Rattle.index_world.specs.Answering.{Answered}
 use Rattle.index_world.specs.CallsMade.{CallMade}
 use Rattle.index_world.specs.Core.{Core}
 use Rattle.index_world.specs.declared.tokens.Plan.{Plan}
@@ -33,15 +34,15 @@ failed_more error xs ys a f =
       failed = f.failed;
     }
 
-module _ {W : Type 0} (Stands : W → Core → Log → Type 0) (Between : Core → Core → Type 0) (Owns : W → ℕ → Type 0) (Adds : W → List CallMade → W → Type 0) (bytes_fetched : W → ℕ) (told : W → Option State) (plan : Plan) (place : ℕ) where
-  pub fetches_more : (xs ys : List FetchCall) (old mid new : W) → AreFetches Stands Between Owns Adds bytes_fetched told plan place old xs mid → AreFetches Stands Between Owns Adds bytes_fetched told plan place mid ys new → AreFetches Stands Between Owns Adds bytes_fetched told plan place old (xs ++ ys) new
-  fetches_more [] ys old mid new a b = subst (λ (w : W). AreFetches Stands Between Owns Adds bytes_fetched told plan place w ys new) a b
+module _ {W : Type 0} (Stands : W → Core → Log → Type 0) (Between : Core → Core → Type 0) (Owns : W → ℕ → Type 0) (Adds : W → List CallMade → W → Type 0) (bytes_fetched : W → ℕ) (told : W → Option State) (Answers : W → Answered → W → Type 0) (plan : Plan) (place : ℕ) where
+  pub fetches_more : (xs ys : List FetchCall) (old mid new : W) → AreFetches Stands Between Owns Adds bytes_fetched told Answers plan place old xs mid → AreFetches Stands Between Owns Adds bytes_fetched told Answers plan place mid ys new → AreFetches Stands Between Owns Adds bytes_fetched told Answers plan place old (xs ++ ys) new
+  fetches_more [] ys old mid new a b = subst (λ (w : W). AreFetches Stands Between Owns Adds bytes_fetched told Answers plan place w ys new) a b
   fetches_more (x ∷ xs) ys old mid new a b = (a.0, a.1, fetches_more xs ys a.0 mid new a.2 b)
 
   -- ---- calls that all gave bytes
 
   pub record AllGave (calls : List FetchCall) (old new : W) : Type 0 where
-    pub are : AreFetches Stands Between Owns Adds bytes_fetched told plan place old calls new
+    pub are : AreFetches Stands Between Owns Adds bytes_fetched told Answers plan place old calls new
     pub given : AllByRecursion HasGiven calls
 
   pub none_called : (old : W) → AllGave [] old old
@@ -51,15 +52,15 @@ module _ {W : Type 0} (Stands : W → Core → Log → Type 0) (Between : Core �
   all_more xs ys old mid new a b = record { are = fetches_more xs ys old mid new a.are b.are; given = given_more HasGiven xs ys a.given b.given }
 
   -- those of what was answered well
-  pub all_of : {A : Type 0} (holds : A → List FetchCall → Type 0) (refused : List FetchCall → Type 0) (a : A) (old new : W) → (f : ReadsAs Stands Between Owns Adds bytes_fetched told plan place holds refused (Ok a) old new) → AllGave f.calls old new
+  pub all_of : {A : Type 0} (holds : A → List FetchCall → Type 0) (refused : List FetchCall → Type 0) (a : A) (old new : W) → (f : ReadsAs Stands Between Owns Adds bytes_fetched told Answers plan place holds refused (Ok a) old new) → AllGave f.calls old new
   all_of holds refused a old new f = record { are = f.are; given = f.says.0 }
 
-  pub read_well : {A : Type 0} (holds : A → List FetchCall → Type 0) (refused : List FetchCall → Type 0) (a : A) (calls : List FetchCall) (old new : W) → AllGave calls old new → holds a calls → ReadsAs Stands Between Owns Adds bytes_fetched told plan place holds refused (Ok a) old new
+  pub read_well : {A : Type 0} (holds : A → List FetchCall → Type 0) (refused : List FetchCall → Type 0) (a : A) (calls : List FetchCall) (old new : W) → AllGave calls old new → holds a calls → ReadsAs Stands Between Owns Adds bytes_fetched told Answers plan place holds refused (Ok a) old new
   read_well holds refused a calls old new g h = record { calls = calls; are = g.are; says = (g.given, h) }
 
   -- what they gave is refused, or no memory is found behind them
   pub read_ill : {A : Type 0} (holds : A → List FetchCall → Type 0) (refused : List FetchCall → Type 0) (r : Result A FetchError) (e : FetchError) (calls : List FetchCall) (old new : W) → AllGave calls old new → IsErrAnd r (λ y. y ≡ e) → IsFaultWhere (refused calls) e
-      → ReadsAs Stands Between Owns Adds bytes_fetched told plan place holds refused r old new
+      → ReadsAs Stands Between Owns Adds bytes_fetched told Answers plan place holds refused r old new
   read_ill holds refused (Ok a) e calls old new g h f = absurd h
   read_ill holds refused (Err y) e calls old new g h f = record { calls = calls; are = g.are; says = by y (subst (IsFaultWhere (refused calls)) (sym h) f) }
     where
@@ -70,7 +71,7 @@ module _ {W : Type 0} (Stands : W → Core → Log → Type 0) (Between : Core �
 
   -- what is made of what they gave
   pub read_match : {A : Type 0} (good : A → Type 0) (holds : A → List FetchCall → Type 0) (refused : List FetchCall → Type 0) (P : Type 0) (r : Result A FetchError) (calls : List FetchCall) (old new : W) → AllGave calls old new
-      → MatchResult r good (IsFaultWhere P) → ((a : A) → good a → holds a calls) → (P → refused calls) → ReadsAs Stands Between Owns Adds bytes_fetched told plan place holds refused r old new
+      → MatchResult r good (IsFaultWhere P) → ((a : A) → good a → holds a calls) → (P → refused calls) → ReadsAs Stands Between Owns Adds bytes_fetched told Answers plan place holds refused r old new
   read_match good holds refused P (Ok a) calls old new g m well ill = read_well holds refused a calls old new g (well a m)
   read_match good holds refused P (Err e) calls old new g m well ill = read_ill holds refused (Err e) e calls old new g refl (by e m)
     where
@@ -81,7 +82,7 @@ module _ {W : Type 0} (Stands : W → Core → Log → Type 0) (Between : Core �
 
   -- further calls behind them, with what is said of these
   pub then_read : {A : Type 0} (first holds : A → List FetchCall → Type 0) (one two : List FetchCall → Type 0) (r : Result A FetchError) (xs : List FetchCall) (old mid new : W) → AllGave xs old mid → ((a : A) (ys : List FetchCall) → first a ys → holds a (xs ++ ys))
-      → ((ys : List FetchCall) → one ys → two (xs ++ ys)) → ReadsAs Stands Between Owns Adds bytes_fetched told plan place first one r mid new → ReadsAs Stands Between Owns Adds bytes_fetched told plan place holds two r old new
+      → ((ys : List FetchCall) → one ys → two (xs ++ ys)) → ReadsAs Stands Between Owns Adds bytes_fetched told Answers plan place first one r mid new → ReadsAs Stands Between Owns Adds bytes_fetched told Answers plan place holds two r old new
   then_read first holds one two r xs old mid new g well ill f = record { calls = xs ++ f.calls; are = fetches_more xs f.calls old mid new g.are f.are; says = by r f.says }
     where
       by : (q : Result _ FetchError) → SaysRead first one q f.calls → SaysRead holds two q (xs ++ f.calls)
@@ -92,7 +93,7 @@ module _ {W : Type 0} (Stands : W → Core → Log → Type 0) (Between : Core �
 
   -- a fault of further calls that is handed on
   pub then_lost : {A B : Type 0} (first : A → List FetchCall → Type 0) (holds : B → List FetchCall → Type 0) (one two : List FetchCall → Type 0) (e : FetchError) (r : Result B FetchError) (xs : List FetchCall) (old mid new : W) → AllGave xs old mid → IsErrAnd r (λ y. y ≡ e)
-      → ((ys : List FetchCall) → one ys → two (xs ++ ys)) → ReadsAs Stands Between Owns Adds bytes_fetched told plan place first one (Err e) mid new → ReadsAs Stands Between Owns Adds bytes_fetched told plan place holds two r old new
+      → ((ys : List FetchCall) → one ys → two (xs ++ ys)) → ReadsAs Stands Between Owns Adds bytes_fetched told Answers plan place first one (Err e) mid new → ReadsAs Stands Between Owns Adds bytes_fetched told Answers plan place holds two r old new
   then_lost first holds one two e (Ok b) xs old mid new g h ill f = absurd h
   then_lost first holds one two e (Err y) xs old mid new g h ill f =
       record { calls = xs ++ f.calls; are = fetches_more xs f.calls old mid new g.are f.are; says = by y (subst (λ (z : FetchError). SaysRead first one (Err z) f.calls) (sym h) f.says) }
@@ -102,17 +103,17 @@ module _ {W : Type 0} (Stands : W → Core → Log → Type 0) (Between : Core �
       by (Memory m) s = given_more HasGiven xs f.calls g.given s
       by Corrupt s = (given_more HasGiven xs f.calls g.given s.0, ill f.calls s.1)
 
-  pub then_all : {A : Type 0} (holds : A → List FetchCall → Type 0) (refused : List FetchCall → Type 0) (a : A) (xs : List FetchCall) (old mid new : W) → AllGave xs old mid → (f : ReadsAs Stands Between Owns Adds bytes_fetched told plan place holds refused (Ok a) mid new) → AllGave (xs ++ f.calls) old new
+  pub then_all : {A : Type 0} (holds : A → List FetchCall → Type 0) (refused : List FetchCall → Type 0) (a : A) (xs : List FetchCall) (old mid new : W) → AllGave xs old mid → (f : ReadsAs Stands Between Owns Adds bytes_fetched told Answers plan place holds refused (Ok a) mid new) → AllGave (xs ++ f.calls) old new
   then_all holds refused a xs old mid new g f = all_more xs f.calls old mid new g (all_of holds refused a mid new f)
 
   -- ---- one call
 
-  pub one_gave : (from len : ℕ) (kept : KeptPiece) (piece : Piece) (old new : W) → IsFetch Stands Between Owns Adds bytes_fetched told plan place old (gave from len piece) new → kept ≡ kept_by from (Ok piece)
-      → ReadsAs Stands Between Owns Adds bytes_fetched told plan place (IsPieceRead from len) NeverRefused (Ok kept) old new
+  pub one_gave : (from len : ℕ) (kept : KeptPiece) (piece : Piece) (old new : W) → IsFetch Stands Between Owns Adds bytes_fetched told Answers plan place old (gave from len piece) new → kept ≡ kept_by from (Ok piece)
+      → ReadsAs Stands Between Owns Adds bytes_fetched told Answers plan place (IsPieceRead from len) NeverRefused (Ok kept) old new
   one_gave from len kept piece old new f same = record { calls = gave from len piece ∷ []; are = (new, f, refl); says = ((refl, tt), record { piece = piece; calls_are = refl; kept_is = same }) }
 
-  pub one_lost : (from len : ℕ) (error : WorldError) (old new : W) → IsFetch Stands Between Owns Adds bytes_fetched told plan place old (record { from = from; len = len; answer = Err error }) new
-      → ReadsAs Stands Between Owns Adds bytes_fetched told plan place (IsPieceRead from len) NeverRefused (Err (World error)) old new
+  pub one_lost : (from len : ℕ) (error : WorldError) (old new : W) → IsFetch Stands Between Owns Adds bytes_fetched told Answers plan place old (record { from = from; len = len; answer = Err error }) new
+      → ReadsAs Stands Between Owns Adds bytes_fetched told Answers plan place (IsPieceRead from len) NeverRefused (Err (World error)) old new
   one_lost from len error old new f =
       record { calls = record { from = from; len = len; answer = Err error } ∷ []; are = (new, f, refl); says = record { before = []; last = record { from = from; len = len; answer = Err error }; calls_are = refl; given = tt; failed = refl } }
 

@@ -4,6 +4,7 @@ use Rattle.std.specs.Prelude.{IsErr}
 use Rattle.std.specs.declared.alloc.AllocError.{AllocError}
 use Rattle.doc_value.specs.declared.schema.Schema.{Schema}
 use Rattle.index_config.specs.declared.config.IndexConfig.{IndexConfig}
+use Rattle.index_world.specs.Answering.{Answered, plan_answered}
 use Rattle.index_world.specs.Calls.{asked_and_looked}
 use Rattle.index_world.specs.CallsMade.{CallMade, of_plan}
 use Rattle.index_world.specs.Core.{Core}
@@ -32,26 +33,26 @@ pub begins : (s : Schema) (search : Search) (read : ReadSearch) (plan : Plan) (r
 begins s search read plan request planned is held same ask next parts =
     record { planned = planned; request_is = held; plan_is = same; asks = subst (Asks search) (sym ask) is.asks; asked = subst (λ (a : LeafAsk). IsAsked s a.request) (sym ask) is.asked; next = next; parts = parts }
 
-module _ {W : Type 0} (Stands : W → Core → Log → Type 0) (Between : Core → Core → Type 0) (Owns : W → ℕ → Type 0) (Adds : W → List CallMade → W → Type 0) (bytes_fetched : W → ℕ) (front : ℕ) (request : GivenRequest) (result : Result SearchStep AllocError) (old new : W) where
-  unless_short : (s : Schema) (asked : Result Search Unanswered) (r : Result SearchStep AllocError) → Plans Stands Between Owns Adds bytes_fetched s asked front request r old new → PlansUnlessShort Stands Between Owns Adds bytes_fetched s asked front request r old new
+module _ {W : Type 0} (Stands : W → Core → Log → Type 0) (Between : Core → Core → Type 0) (Owns : W → ℕ → Type 0) (Adds : W → List CallMade → W → Type 0) (bytes_fetched : W → ℕ) (Answers : W → Answered → W → Type 0) (front : ℕ) (request : GivenRequest) (result : Result SearchStep AllocError) (old new : W) where
+  unless_short : (s : Schema) (asked : Result Search Unanswered) (r : Result SearchStep AllocError) → Plans Stands Between Owns Adds bytes_fetched Answers s asked front request r old new → PlansUnlessShort Stands Between Owns Adds bytes_fetched Answers s asked front request r old new
   unless_short s asked (Ok step) p = p
   unless_short s asked (Err e) p = tt
 
-  pub plans_as : (s : Schema) (asked : Result Search Unanswered) (choice : Choice) (answer : Result Plan WorldError) → bytes_fetched new ≡ bytes_fetched old
+  pub plans_as : (s : Schema) (asked : Result Search Unanswered) (choice : Choice) (answer : Result Plan WorldError) → Answers old (plan_answered choice answer) new → bytes_fetched new ≡ bytes_fetched old
       → ((core : Core) (log : Log) → Stands old core log → Does Stands Between Owns Adds None (of_plan choice) asked_and_looked IsTrouble (IsPlan choice) answer core log old new) → SaysPlan s asked choice answer front request result
-      → PlansUnlessShort Stands Between Owns Adds bytes_fetched s asked front request result old new
-  plans_as s asked choice answer same step says = unless_short s asked result (record { choice = choice; answer = answer; call = record { same = same; step = step }; says = says })
+      → PlansUnlessShort Stands Between Owns Adds bytes_fetched Answers s asked front request result old new
+  plans_as s asked choice answer gave same step says = unless_short s asked result (record { choice = choice; answer = answer; call = record { answered = gave; same = same; step = step }; says = says })
 
-  pub plans_short : (s : Schema) (asked : Result Search Unanswered) → IsErr result → PlansUnlessShort Stands Between Owns Adds bytes_fetched s asked front request result old new
+  pub plans_short : (s : Schema) (asked : Result Search Unanswered) → IsErr result → PlansUnlessShort Stands Between Owns Adds bytes_fetched Answers s asked front request result old new
   plans_short s asked short = by result short
     where
-      by : (r : Result SearchStep AllocError) → IsErr r → PlansUnlessShort Stands Between Owns Adds bytes_fetched s asked front request r old new
+      by : (r : Result SearchStep AllocError) → IsErr r → PlansUnlessShort Stands Between Owns Adds bytes_fetched Answers s asked front request r old new
       by (Ok step) short = absurd (cc)
       by (Err e) short = tt
 
   -- under the configuration that the gate keeps
-  pub plans_under : (config kept : IndexConfig) (text : List ℕ) (asked : Result Search Unanswered) → config ≡ kept → asked_of config text ≡ asked → PlansUnlessShort Stands Between Owns Adds bytes_fetched config.schema asked front request result old new
-      → PlansUnlessShort Stands Between Owns Adds bytes_fetched kept.schema (asked_of kept text) front request result old new
+  pub plans_under : (config kept : IndexConfig) (text : List ℕ) (asked : Result Search Unanswered) → config ≡ kept → asked_of config text ≡ asked → PlansUnlessShort Stands Between Owns Adds bytes_fetched Answers config.schema asked front request result old new
+      → PlansUnlessShort Stands Between Owns Adds bytes_fetched Answers kept.schema (asked_of kept text) front request result old new
   plans_under config kept text asked same is p =
-      subst (λ (c : IndexConfig). PlansUnlessShort Stands Between Owns Adds bytes_fetched c.schema (asked_of c text) front request result old new) same
-      (subst (λ (a : Result Search Unanswered). PlansUnlessShort Stands Between Owns Adds bytes_fetched config.schema a front request result old new) (sym is) p)
+      subst (λ (c : IndexConfig). PlansUnlessShort Stands Between Owns Adds bytes_fetched Answers c.schema (asked_of c text) front request result old new) same
+      (subst (λ (a : Result Search Unanswered). PlansUnlessShort Stands Between Owns Adds bytes_fetched Answers config.schema a front request result old new) (sym is) p)

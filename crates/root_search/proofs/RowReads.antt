@@ -6,6 +6,7 @@ use Rattle.std.proofs.lemmas.Option.{slice_get_within}
 use Rattle.std.specs.declared.alloc.AllocError.{AllocError}
 use Rattle.source_log.specs.Log.{Log}
 use Rattle.index_config.specs.declared.config.IndexConfig.{IndexConfig}
+use Rattle.index_world.specs.Answering.{Answered}
 use Rattle.index_world.specs.CallsMade.{CallMade}
 use Rattle.index_world.specs.Core.{Core}
 use Rattle.meta_store.specs.declared.planning.PlanRow.{PlanRow}
@@ -45,19 +46,19 @@ never_corrupt grace number Stands Between Adds bytes_fetched holds (World error)
 never_corrupt grace number Stands Between Adds bytes_fetched holds (Memory m) core log old new f e = absurd (cc)
 never_corrupt grace number Stands Between Adds bytes_fetched holds Corrupt core log old new f e = f.says
 
-module _ {W : Type 0} (Stands : W → Core → Log → Type 0) (Between : Core → Core → Type 0) (Owns : W → ℕ → Type 0) (Adds : W → List CallMade → W → Type 0) (bytes_fetched : W → ℕ) (told : W → Option State) (footers : Footers) (planned : GivenPlan) (row : PlanRow) (request : GivenRequest) (old new : W)
+module _ {W : Type 0} (Stands : W → Core → Log → Type 0) (Between : Core → Core → Type 0) (Owns : W → ℕ → Type 0) (Adds : W → List CallMade → W → Type 0) (bytes_fetched : W → ℕ) (told : W → Option State) (Answers : W → Answered → W → Type 0) (footers : Footers) (planned : GivenPlan) (row : PlanRow) (request : GivenRequest) (old new : W)
     (known : Option Footer) (found : known ≡ lookup (nat_eq row.number) (entries footers)) where
   said_of : (r : Result SearchStep AllocError) (calls : List FetchCall) → SaysFetching Stands known row planned old calls request r → SaysFetching Stands (lookup (nat_eq row.number) (entries footers)) row planned old calls request r
   said_of r calls s = subst (λ (k : Option Footer). SaysFetching Stands k row planned old calls request r) found s
 
   -- no memory is found behind the calls
-  pub row_short : {A : Type 0} (holds : A → List FetchCall → Type 0) (refused : List FetchCall → Type 0) (q : Result A FetchError) (r : Result SearchStep AllocError) → ReadsAs Stands Between Owns Adds bytes_fetched told planned.plan planned.next holds refused q old new → IsErr r
-      → FetchesRow Stands Between Owns Adds bytes_fetched told footers planned row request r old new
+  pub row_short : {A : Type 0} (holds : A → List FetchCall → Type 0) (refused : List FetchCall → Type 0) (q : Result A FetchError) (r : Result SearchStep AllocError) → ReadsAs Stands Between Owns Adds bytes_fetched told Answers planned.plan planned.next holds refused q old new → IsErr r
+      → FetchesRow Stands Between Owns Adds bytes_fetched told Answers footers planned row request r old new
   row_short holds refused q (Ok step) f short = absurd (cc)
   row_short holds refused q (Err e) f short = record { calls = f.calls; are = f.are; says = tt }
 
-  pub row_read : (part : SplitPart) (later : GivenPlan) (number : ℕ) → ReadsAs Stands Between Owns Adds bytes_fetched told planned.plan planned.next (IsPartRead known row.number row.size) (IsNoPart known row.size) (Ok part) old new → number ≡ row.number → request ≡ given.Planned later
-      → later.ask ≡ planned.ask → later.plan ≡ planned.plan → later.next ≡ min (planned.next + 1) (2 ^ 32 - 1) → later.parts ≡ planned.parts ++ part ∷ [] → FetchesRow Stands Between Owns Adds bytes_fetched told footers planned row request (Ok (Fetched number)) old new
+  pub row_read : (part : SplitPart) (later : GivenPlan) (number : ℕ) → ReadsAs Stands Between Owns Adds bytes_fetched told Answers planned.plan planned.next (IsPartRead known row.number row.size) (IsNoPart known row.size) (Ok part) old new → number ≡ row.number → request ≡ given.Planned later
+      → later.ask ≡ planned.ask → later.plan ≡ planned.plan → later.next ≡ min (planned.next + 1) (2 ^ 32 - 1) → later.parts ≡ planned.parts ++ part ∷ [] → FetchesRow Stands Between Owns Adds bytes_fetched told Answers footers planned row request (Ok (Fetched number)) old new
   row_read part later number f same is ask plan next parts =
       record {
         calls = f.calls;
@@ -65,8 +66,8 @@ module _ {W : Type 0} (Stands : W → Core → Log → Type 0) (Between : Core �
         says = said_of (Ok (Fetched number)) f.calls (same, record { part = part; later = later; all_gave = f.says.0; read = f.says.1; request_is = is; ask = ask; plan = plan; next = next; parts = parts });
       }
 
-  pub row_refused : (fault : FetchError) (r : Result SearchStep AllocError) → ReadsAs Stands Between Owns Adds bytes_fetched told planned.plan planned.next (IsPartRead known row.number row.size) (IsNoPart known row.size) (Err fault) old new → Refuses planned.plan.revision (IsFetchRefusal row.number fault) r
-      → (fault ≡ Corrupt → IsNoSplit Stands planned.plan planned.next planned.ask.request known old) → FetchesRow Stands Between Owns Adds bytes_fetched told footers planned row request r old new
+  pub row_refused : (fault : FetchError) (r : Result SearchStep AllocError) → ReadsAs Stands Between Owns Adds bytes_fetched told Answers planned.plan planned.next (IsPartRead known row.number row.size) (IsNoPart known row.size) (Err fault) old new → Refuses planned.plan.revision (IsFetchRefusal row.number fault) r
+      → (fault ≡ Corrupt → IsNoSplit Stands planned.plan planned.next planned.ask.request known old) → FetchesRow Stands Between Owns Adds bytes_fetched told Answers footers planned row request r old new
   row_refused fault r f refuses none = record { calls = f.calls; are = f.are; says = said_of r f.calls (by fault r f.says refuses none) }
     where
       by : (e : FetchError) (q : Result SearchStep AllocError) → SaysRead (IsPartRead known row.number row.size) (IsNoPart known row.size) (Err e) f.calls → Refuses planned.plan.revision (IsFetchRefusal row.number e) q

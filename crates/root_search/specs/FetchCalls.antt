@@ -2,6 +2,7 @@
 use Rattle.std.specs.Prelude.{◌≡◌, ◌⊎◌, ℕ, ◌-◌, List, [], ◌∷◌, ◌++◌, map, min, Option, Some, None, Result, Ok, Err, IsErr, IsOk, ⊤, slice_get}
 use Rattle.std.specs.List.{AllByRecursion}
 use Rattle.index_config.specs.declared.config.IndexConfig.{IndexConfig}
+use Rattle.index_world.specs.Answering.{Answered, fetch_answered}
 use Rattle.index_world.specs.Asked as asked
 use Rattle.index_world.specs.Asked.{Behind, FetchesFile}
 use Rattle.index_world.specs.Calls.{fetched_from}
@@ -33,21 +34,22 @@ pub record FetchCall : Type 0 where
   pub len : ℕ
   pub answer : Result Piece WorldError
 
--- What a gate says of a fetch between two of its states. By what it gave the count of fetched bytes rose. Over every store an error is want of memory,
+-- What a gate says of a fetch between two of its states: its call answered so. By what it gave the count of fetched bytes rose. Over every store an error is want of memory,
 -- a fault of the store, Missing with the key of the row's file, or Expired with the plan's moment. Over a store that tells, what it gave is of what
 -- stands under that key behind what others did, and Missing comes exactly where nothing does. And where it stands for a core, it gave what stands
 -- there, or it met no file, or it came too late.
-pub record IsFetch {W : Type 0} (Stands : W → Core → Log → Type 0) (Between : Core → Core → Type 0) (Owns : W → ℕ → Type 0) (Adds : W → List CallMade → W → Type 0) (bytes_fetched : W → ℕ) (told : W → Option State) (plan : Plan) (place : ℕ) (old : W) (call : FetchCall) (new : W) : Type 0 where
+pub record IsFetch {W : Type 0} (Stands : W → Core → Log → Type 0) (Between : Core → Core → Type 0) (Owns : W → ℕ → Type 0) (Adds : W → List CallMade → W → Type 0) (bytes_fetched : W → ℕ) (told : W → Option State) (Answers : W → Answered → W → Type 0) (plan : Plan) (place : ℕ) (old : W) (call : FetchCall) (new : W) : Type 0 where
   pub counts : bytes_fetched new ≡ fetched_more call.answer (bytes_fetched old)
+  pub answered : (row : PlanRow) → slice_get plan.rows place ≡ Some row → Answers old (fetch_answered row.number plan.moment call.from call.len call.answer) new
   pub kinds : (row : PlanRow) → slice_get plan.rows place ≡ Some row → asked.IsFetch (split_key row.number) plan.moment call.answer
   pub answers : (row : PlanRow) → slice_get plan.rows place ≡ Some row → WhereTold (told old) (told new) (Behind (FetchesFile (split_key row.number) call.from call.len call.answer))
   pub step : (core : Core) (log : Log) (config : IndexConfig) (row : PlanRow) → Stands old core log → IsConfigured config core → slice_get plan.rows place ≡ Some row
       → Does Stands Between Owns Adds None (of_fetch row.number call.from call.len) (fetched_from (grace_of config plan) row.number) IsUnfetched (IsPieceGiven row.number call.from call.len) call.answer core log old new
 
 -- fetches one after another
-abbrev pub AreFetches : {W : Type 0} → (W → Core → Log → Type 0) → (Core → Core → Type 0) → (W → ℕ → Type 0) → (W → List CallMade → W → Type 0) → (W → ℕ) → (W → Option State) → Plan → ℕ → W → List FetchCall → W → Type 0
-AreFetches Stands Between Owns Adds bytes_fetched told plan place old [] new = new ≡ old
-AreFetches {W} Stands Between Owns Adds bytes_fetched told plan place old (call ∷ more) new = (mid : W) × IsFetch Stands Between Owns Adds bytes_fetched told plan place old call mid × AreFetches Stands Between Owns Adds bytes_fetched told plan place mid more new
+abbrev pub AreFetches : {W : Type 0} → (W → Core → Log → Type 0) → (Core → Core → Type 0) → (W → ℕ → Type 0) → (W → List CallMade → W → Type 0) → (W → ℕ) → (W → Option State) → (W → Answered → W → Type 0) → Plan → ℕ → W → List FetchCall → W → Type 0
+AreFetches Stands Between Owns Adds bytes_fetched told Answers plan place old [] new = new ≡ old
+AreFetches {W} Stands Between Owns Adds bytes_fetched told Answers plan place old (call ∷ more) new = (mid : W) × IsFetch Stands Between Owns Adds bytes_fetched told Answers plan place old call mid × AreFetches Stands Between Owns Adds bytes_fetched told Answers plan place mid more new
 
 abbrev pub gave : ℕ → ℕ → Piece → FetchCall
 gave from len piece = record { from = from; len = len; answer = Ok piece }
@@ -75,10 +77,10 @@ SaysRead holds refused (Err (Memory e)) calls = AllByRecursion HasGiven calls
 SaysRead holds refused (Err Corrupt) calls = AllByRecursion HasGiven calls × refused calls
 
 -- some calls were made one after another, and this is answered over what they gave
-pub record ReadsAs {W A : Type 0} (Stands : W → Core → Log → Type 0) (Between : Core → Core → Type 0) (Owns : W → ℕ → Type 0) (Adds : W → List CallMade → W → Type 0) (bytes_fetched : W → ℕ) (told : W → Option State) (plan : Plan) (place : ℕ) (holds : A → List FetchCall → Type 0) (refused : List FetchCall → Type 0)
+pub record ReadsAs {W A : Type 0} (Stands : W → Core → Log → Type 0) (Between : Core → Core → Type 0) (Owns : W → ℕ → Type 0) (Adds : W → List CallMade → W → Type 0) (bytes_fetched : W → ℕ) (told : W → Option State) (Answers : W → Answered → W → Type 0) (plan : Plan) (place : ℕ) (holds : A → List FetchCall → Type 0) (refused : List FetchCall → Type 0)
     (result : Result A FetchError) (old new : W) : Type 0 where
   pub calls : List FetchCall
-  pub are : AreFetches Stands Between Owns Adds bytes_fetched told plan place old calls new
+  pub are : AreFetches Stands Between Owns Adds bytes_fetched told Answers plan place old calls new
   pub says : SaysRead holds refused result calls
 
 -- nothing refuses what was given

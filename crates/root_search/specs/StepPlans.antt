@@ -3,6 +3,7 @@ use Rattle.std.specs.Prelude.{◌≡◌, ℕ, List, [], length, Some, None, Resu
 use Rattle.std.specs.declared.alloc.AllocError.{AllocError}
 use Rattle.doc_value.specs.declared.schema.Schema.{Schema}
 use Rattle.index_config.specs.declared.config.IndexConfig.{IndexConfig}
+use Rattle.index_world.specs.Answering.{Answered, plan_answered}
 use Rattle.index_world.specs.Calls.{asked_and_looked}
 use Rattle.index_world.specs.CallsMade.{CallMade, of_plan}
 use Rattle.index_world.specs.Core.{Core}
@@ -27,9 +28,10 @@ use Rattle.root_search.specs.declared.searcher.Request.{Request as GivenRequest}
 use Rattle.root_search.specs.declared.searcher.Request.TheVariants as requests
 use Rattle.root_search.specs.declared.searcher.Searcher.{Searcher}
 
--- What a gate says of a plan of this choice that answered so, between two of its states: no byte was fetched, and where it stands for a core, it did
+-- What a gate says of a plan of this choice between two of its states: its call answered so, no byte was fetched, and where it stands for a core, it did
 -- what a plan does there.
-pub record IsPlanning {W : Type 0} (Stands : W → Core → Log → Type 0) (Between : Core → Core → Type 0) (Owns : W → ℕ → Type 0) (Adds : W → List CallMade → W → Type 0) (bytes_fetched : W → ℕ) (choice : Choice) (answer : Result Plan WorldError) (old new : W) : Type 0 where
+pub record IsPlanning {W : Type 0} (Stands : W → Core → Log → Type 0) (Between : Core → Core → Type 0) (Owns : W → ℕ → Type 0) (Adds : W → List CallMade → W → Type 0) (bytes_fetched : W → ℕ) (Answers : W → Answered → W → Type 0) (choice : Choice) (answer : Result Plan WorldError) (old new : W) : Type 0 where
+  pub answered : Answers old (plan_answered choice answer) new
   pub same : bytes_fetched new ≡ bytes_fetched old
   pub step : (core : Core) (log : Log) → Stands old core log → Does Stands Between Owns Adds None (of_plan choice) asked_and_looked IsTrouble (IsPlan choice) answer core log old new
 
@@ -56,19 +58,19 @@ SaysPlan s (Err (reasons.Refused own)) choice (Err error) front request result =
 SaysPlan s (Err (reasons.Memory e)) choice answer front request result = ⊥
 
 -- one call of the gate for a plan, and what is answered over it
-pub record Plans {W : Type 0} (Stands : W → Core → Log → Type 0) (Between : Core → Core → Type 0) (Owns : W → ℕ → Type 0) (Adds : W → List CallMade → W → Type 0) (bytes_fetched : W → ℕ) (s : Schema) (asked : Result Search Unanswered) (front : ℕ) (request : GivenRequest)
+pub record Plans {W : Type 0} (Stands : W → Core → Log → Type 0) (Between : Core → Core → Type 0) (Owns : W → ℕ → Type 0) (Adds : W → List CallMade → W → Type 0) (bytes_fetched : W → ℕ) (Answers : W → Answered → W → Type 0) (s : Schema) (asked : Result Search Unanswered) (front : ℕ) (request : GivenRequest)
     (result : Result SearchStep AllocError) (old new : W) : Type 0 where
   pub choice : Choice
   pub answer : Result Plan WorldError
-  pub call : IsPlanning Stands Between Owns Adds bytes_fetched choice answer old new
+  pub call : IsPlanning Stands Between Owns Adds bytes_fetched Answers choice answer old new
   pub says : SaysPlan s asked choice answer front request result
 
 -- or there was no memory
-abbrev pub PlansUnlessShort : {W : Type 0} → (W → Core → Log → Type 0) → (Core → Core → Type 0) → (W → ℕ → Type 0) → (W → List CallMade → W → Type 0) → (W → ℕ) → Schema → Result Search Unanswered → ℕ → GivenRequest → Result SearchStep AllocError → W → W → Type 0
-PlansUnlessShort Stands Between Owns Adds bytes_fetched s asked front request (Ok step) old new = Plans Stands Between Owns Adds bytes_fetched s asked front request (Ok step) old new
-PlansUnlessShort Stands Between Owns Adds bytes_fetched s asked front request (Err e) old new = ⊤
+abbrev pub PlansUnlessShort : {W : Type 0} → (W → Core → Log → Type 0) → (Core → Core → Type 0) → (W → ℕ → Type 0) → (W → List CallMade → W → Type 0) → (W → ℕ) → (W → Answered → W → Type 0) → Schema → Result Search Unanswered → ℕ → GivenRequest → Result SearchStep AllocError → W → W → Type 0
+PlansUnlessShort Stands Between Owns Adds bytes_fetched Answers s asked front request (Ok step) old new = Plans Stands Between Owns Adds bytes_fetched Answers s asked front request (Ok step) old new
+PlansUnlessShort Stands Between Owns Adds bytes_fetched Answers s asked front request (Err e) old new = ⊤
 
 -- a step of a text that was opened, which is read under the gate's configuration
-abbrev pub StepPlans : {W : Type 0} → (W → Core → Log → Type 0) → (Core → Core → Type 0) → (W → ℕ → Type 0) → (W → List CallMade → W → Type 0) → (W → ℕ) → IndexConfig → Searcher → Searcher → Result SearchStep AllocError → W → W → Type 0
-StepPlans Stands Between Owns Adds bytes_fetched config searcher after result old new =
-    (text : List ℕ) → searcher.request ≡ requests.Opened text → PlansUnlessShort Stands Between Owns Adds bytes_fetched config.schema (asked_of config text) searcher.front after.request result old new
+abbrev pub StepPlans : {W : Type 0} → (W → Core → Log → Type 0) → (Core → Core → Type 0) → (W → ℕ → Type 0) → (W → List CallMade → W → Type 0) → (W → ℕ) → (W → Answered → W → Type 0) → IndexConfig → Searcher → Searcher → Result SearchStep AllocError → W → W → Type 0
+StepPlans Stands Between Owns Adds bytes_fetched Answers config searcher after result old new =
+    (text : List ℕ) → searcher.request ≡ requests.Opened text → PlansUnlessShort Stands Between Owns Adds bytes_fetched Answers config.schema (asked_of config text) searcher.front after.request result old new

@@ -4,6 +4,7 @@ use Rattle.std.specs.List.{AllByRecursion}
 use Rattle.std.specs.Map.{lookup}
 use Rattle.std.specs.declared.alloc.AllocError.{AllocError}
 use Rattle.index_config.specs.declared.config.IndexConfig.{IndexConfig}
+use Rattle.index_world.specs.Answering.{Answered}
 use Rattle.index_world.specs.CallsMade.{CallMade}
 use Rattle.index_world.specs.Core.{Core, IsConfigured}
 use Rattle.index_world.specs.Gate.{grace_of}
@@ -107,17 +108,17 @@ SaysFetching Stands known row planned gate calls request (Ok (Replied reply)) = 
 SaysFetching Stands known row planned gate calls request (Err e) = ⊤
 
 -- It calls the gate for bytes of the row's file and answers by these. Its footer may be kept.
-pub record FetchesRow {W : Type 0} (Stands : W → Core → Log → Type 0) (Between : Core → Core → Type 0) (Owns : W → ℕ → Type 0) (Adds : W → List CallMade → W → Type 0) (bytes_fetched : W → ℕ) (told : W → Option State) (footers : Footers) (planned : GivenPlan) (row : PlanRow) (request : GivenRequest)
+pub record FetchesRow {W : Type 0} (Stands : W → Core → Log → Type 0) (Between : Core → Core → Type 0) (Owns : W → ℕ → Type 0) (Adds : W → List CallMade → W → Type 0) (bytes_fetched : W → ℕ) (told : W → Option State) (Answers : W → Answered → W → Type 0) (footers : Footers) (planned : GivenPlan) (row : PlanRow) (request : GivenRequest)
     (result : Result SearchStep AllocError) (old new : W) : Type 0 where
   pub calls : List FetchCall
-  pub are : AreFetches Stands Between Owns Adds bytes_fetched told planned.plan planned.next old calls new
+  pub are : AreFetches Stands Between Owns Adds bytes_fetched told Answers planned.plan planned.next old calls new
   pub says : SaysFetching Stands (lookup (nat_eq row.number) (entries footers)) row planned old calls request result
 
 -- a step of a planned search fetches of the next row, where there is one
-abbrev pub StepReads : {W : Type 0} → (W → Core → Log → Type 0) → (Core → Core → Type 0) → (W → ℕ → Type 0) → (W → List CallMade → W → Type 0) → (W → ℕ) → (W → Option State) → Searcher → Searcher → Result SearchStep AllocError → W → W → Type 0
-StepReads Stands Between Owns Adds bytes_fetched told searcher after result old new =
+abbrev pub StepReads : {W : Type 0} → (W → Core → Log → Type 0) → (Core → Core → Type 0) → (W → ℕ → Type 0) → (W → List CallMade → W → Type 0) → (W → ℕ) → (W → Option State) → (W → Answered → W → Type 0) → Searcher → Searcher → Result SearchStep AllocError → W → W → Type 0
+StepReads Stands Between Owns Adds bytes_fetched told Answers searcher after result old new =
     (planned : GivenPlan) (row : PlanRow) → searcher.request ≡ requests.Planned planned → slice_get planned.plan.rows planned.next ≡ Some row →
-    FetchesRow Stands Between Owns Adds bytes_fetched told searcher.footers planned row after.request result old new
+    FetchesRow Stands Between Owns Adds bytes_fetched told Answers searcher.footers planned row after.request result old new
 
 -- ---- the last step
 

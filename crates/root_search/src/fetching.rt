@@ -65,7 +65,7 @@ fn fetch_piece<G: Gate>(
     requires { place < length plan.now.rows }
     ensures step { (config : configs.IndexConfig) (bytes : List ℕ) (core : Core) (log : Log) → G.Stands gate.old core log → IsConfigured config core → (file : IsFileAt core (grace_of config plan.now).until plan.now place bytes) →
         FetchesAs (grace_of config plan.now) file.row.number G.Stands G.Between G.Adds G.bytes_fetched (IsPieceFetched bytes start len) result core log gate.old gate.new }
-    ensures reads { ReadsAs G.Stands G.Between G.Owns G.Adds G.bytes_fetched G.told plan.now place (IsPieceRead start len) NeverRefused result gate.old gate.new }
+    ensures reads { ReadsAs G.Stands G.Between G.Owns G.Adds G.bytes_fetched G.told G.Answers plan.now place (IsPieceRead start len) NeverRefused result gate.old gate.new }
 {
     match gate.fetch(alloc, plan, place, start, len) {
         Ok(piece) => Ok(KeptPiece {
@@ -141,7 +141,7 @@ fn read_footer<G: Gate>(
     ensures step { (config : configs.IndexConfig) (s : Schema) (documents : List Placed) (p : Parts) (core : Core) (log : Log) → G.Stands gate.old core log → IsConfigured config core →
         (file : IsFileAt core (grace_of config plan.now).until plan.now place (file_bytes p)) → IsSplitOf s documents p → size ≡ length (file_bytes p) →
         FetchesAs (grace_of config plan.now) file.row.number G.Stands G.Between G.Adds G.bytes_fetched (IsFooterFetched None p) result core log gate.old gate.new }
-    ensures reads { ReadsAs G.Stands G.Between G.Owns G.Adds G.bytes_fetched G.told plan.now place (IsFooterGiven None size) (IsNoFooter None size) result gate.old gate.new }
+    ensures reads { ReadsAs G.Stands G.Between G.Owns G.Adds G.bytes_fetched G.told G.Answers plan.now place (IsFooterGiven None size) (IsNoFooter None size) result gate.old gate.new }
 {
     let end = size.saturating_sub(TRAILER);
     let trailer = fetch_piece(alloc, gate, plan, place, end, TRAILER)?;
@@ -165,7 +165,7 @@ fn footer_of<G: Gate>(
         (file : IsFileAt core (grace_of config plan.now).until plan.now place (file_bytes p)) → IsSplitOf s documents p → IsKnown (file_bytes p) known →
         FetchesAs (grace_of config plan.now) file.row.number G.Stands G.Between G.Adds G.bytes_fetched (IsFooterFetched known p) result core log gate.old gate.new }
     ensures reads { (row : PlanRow) → slice_get plan.now.rows place ≡ Some row →
-        ReadsAs G.Stands G.Between G.Owns G.Adds G.bytes_fetched G.told plan.now place (IsFooterGiven known row.size) (IsNoFooter known row.size) result gate.old gate.new }
+        ReadsAs G.Stands G.Between G.Owns G.Adds G.bytes_fetched G.told G.Answers plan.now place (IsFooterGiven known row.size) (IsNoFooter known row.size) result gate.old gate.new }
 {
     match known {
         Some(footer) => Ok(footer),
@@ -188,7 +188,7 @@ fn fetch_ranges<G: Gate>(
     requires { place < length plan.now.rows }
     ensures step { (config : configs.IndexConfig) (bytes : List ℕ) (core : Core) (log : Log) → G.Stands gate.old core log → IsConfigured config core → (file : IsFileAt core (grace_of config plan.now).until plan.now place bytes) →
         FetchesAs (grace_of config plan.now) file.row.number G.Stands G.Between G.Adds G.bytes_fetched (λ done. AreRangesFetched bytes ranges.now pieces.old pieces.new) result core log gate.old gate.new }
-    ensures reads { ReadsAs G.Stands G.Between G.Owns G.Adds G.bytes_fetched G.told plan.now place (λ done. AreKeptBehind pieces.old pieces.new) NeverRefused result gate.old gate.new }
+    ensures reads { ReadsAs G.Stands G.Between G.Owns G.Adds G.bytes_fetched G.told G.Answers plan.now place (λ done. AreKeptBehind pieces.old pieces.new) NeverRefused result gate.old gate.new }
 {
     for range in ranges {
         let piece = fetch_piece(alloc, gate, plan, place, range.start, range.len)?;
@@ -246,7 +246,7 @@ fn fetch_blocks<G: Gate>(
     ensures step { (config : configs.IndexConfig) (documents : List Placed) (p : Parts) (core : Core) (log : Log) → G.Stands gate.old core log → IsConfigured config core →
         (file : IsFileAt core (grace_of config plan.now).until plan.now place (file_bytes p)) → IsSplitOf config.schema documents p → IsFooterOf p footer.now →
         FetchesAs (grace_of config plan.now) file.row.number G.Stands G.Between G.Adds G.bytes_fetched (AreBlocksFetched config.schema request.now documents p footer.now) result core log gate.old gate.new }
-    ensures reads { ReadsAs G.Stands G.Between G.Owns G.Adds G.bytes_fetched G.told plan.now place (AreKeptBehind []) NeverRefused result gate.old gate.new }
+    ensures reads { ReadsAs G.Stands G.Between G.Owns G.Adds G.bytes_fetched G.told G.Answers plan.now place (AreKeptBehind []) NeverRefused result gate.old gate.new }
 {
     let blocks = blocks_needed(alloc, &gate.config().schema, request, footer)?;
     let mut pieces = KeptPieces::vacant(alloc);
@@ -269,7 +269,7 @@ fn fetch_lists<G: Gate>(
         (file : IsFileAt core (grace_of config plan.now).until plan.now place (file_bytes p)) → IsSplitOf config.schema documents p → IsFooterOf p footer.now → IsAsked config.schema request.now →
         HoldsBlocks config.schema request.now documents p footer.now blocks →
         FetchesAs (grace_of config plan.now) file.row.number G.Stands G.Between G.Adds G.bytes_fetched (AreListsFetched config.schema request.now documents p footer.now blocks) result core log gate.old gate.new }
-    ensures reads { ReadsAs G.Stands G.Between G.Owns G.Adds G.bytes_fetched G.told plan.now place (AreKeptBehind blocks) (λ calls. ⊤) result gate.old gate.new }
+    ensures reads { ReadsAs G.Stands G.Between G.Owns G.Adds G.bytes_fetched G.told G.Answers plan.now place (AreKeptBehind blocks) (λ calls. ⊤) result gate.old gate.new }
 {
     let schema = &gate.config().schema;
     let lists = lists_of(alloc, schema, request, footer, blocks.as_slice())?;
@@ -292,7 +292,7 @@ fn fetch_needed<G: Gate>(
         (file : IsFileAt core (grace_of config plan.now).until plan.now place (file_bytes p)) → IsSplitOf config.schema documents p → IsAsked config.schema request.now → IsKnown (file_bytes p) known →
         FetchesAs (grace_of config plan.now) file.row.number G.Stands G.Between G.Adds G.bytes_fetched (IsPartFetched config.schema request.now known documents p (needed_calls known)) result core log gate.old gate.new }
     ensures reads { (row : PlanRow) → slice_get plan.now.rows place ≡ Some row →
-        ReadsAs G.Stands G.Between G.Owns G.Adds G.bytes_fetched G.told plan.now place (IsPartRead known row.number row.size) (IsNoPart known row.size) result gate.old gate.new }
+        ReadsAs G.Stands G.Between G.Owns G.Adds G.bytes_fetched G.told G.Answers plan.now place (IsPartRead known row.number row.size) (IsNoPart known row.size) result gate.old gate.new }
 {
     let number = plan.rows.at(place as usize).number;
     let footer = footer_of(alloc, gate, plan, place, known)?;
@@ -323,7 +323,7 @@ fn look<G: Gate>(
     requires { place < length plan.now.rows }
     ensures step { (config : configs.IndexConfig) (bytes : List ℕ) (core : Core) (log : Log) → G.Stands gate.old core log → IsConfigured config core → (file : IsFileAt core (grace_of config plan.now).until plan.now place bytes) →
         FetchesAs (grace_of config plan.now) file.row.number G.Stands G.Between G.Adds G.bytes_fetched (IsLooked part) result core log gate.old gate.new }
-    ensures reads { ReadsAs G.Stands G.Between G.Owns G.Adds G.bytes_fetched G.told plan.now place (IsPartLooked part) NeverRefused result gate.old gate.new }
+    ensures reads { ReadsAs G.Stands G.Between G.Owns G.Adds G.bytes_fetched G.told G.Answers plan.now place (IsPartLooked part) NeverRefused result gate.old gate.new }
 {
     match fetch_piece(alloc, gate, plan, place, 0, 0) {
         Ok(_) => Ok(part),
@@ -349,7 +349,7 @@ pub(crate) fn fetch_part<G: Gate>(
         (file : IsFileAt core (grace_of config plan.now).until plan.now place (file_bytes p)) → IsSplitOf config.schema documents p → IsAsked config.schema request.now → IsKnown (file_bytes p) known →
         FetchesAs (grace_of config plan.now) file.row.number G.Stands G.Between G.Adds G.bytes_fetched (IsPartFetched config.schema request.now known documents p (part_calls known)) result core log gate.old gate.new }
     ensures reads { (row : PlanRow) → slice_get plan.now.rows place ≡ Some row →
-        ReadsAs G.Stands G.Between G.Owns G.Adds G.bytes_fetched G.told plan.now place (IsPartRead known row.number row.size) (IsNoPart known row.size) result gate.old gate.new }
+        ReadsAs G.Stands G.Between G.Owns G.Adds G.bytes_fetched G.told G.Answers plan.now place (IsPartRead known row.number row.size) (IsNoPart known row.size) result gate.old gate.new }
 {
     let was_known = known.is_some();
     let part = fetch_needed(alloc, gate, plan, place, request, known)?;

@@ -250,7 +250,7 @@ impl Searcher {
             IsConfigured config core → asked_of config text ≡ Err (reasons.Refused refusal) → client.request ≡ opened text →
             G.Stands gate.old core log → IsAtWork self.old client core →
             SearchesAs G.Stands G.Between G.Adds gate.old result self.new gate.new client core log }
-        ensures plans { (s : Schema) → PlansUnlessShort G.Stands G.Between G.Owns G.Adds G.bytes_fetched s (Err (reasons.Refused refusal)) self.old.front self.new.request result gate.old gate.new }
+        ensures plans { (s : Schema) → PlansUnlessShort G.Stands G.Between G.Owns G.Adds G.bytes_fetched G.Answers s (Err (reasons.Refused refusal)) self.old.front self.new.request result gate.old gate.new }
         ensures leaves { self.old.request ≡ requests.Vacant → Works self.old result self.new }
     {
         match gate.plan(alloc, &Choice::Look) {
@@ -270,7 +270,7 @@ impl Searcher {
             G.Stands gate.old core log → IsAtWork self.old client core →
             SearchesAs G.Stands G.Between G.Adds gate.old result self.new gate.new client core log }
         ensures plans { (s : Schema) (search : Search) → IsRead s search read →
-            PlansUnlessShort G.Stands G.Between G.Owns G.Adds G.bytes_fetched s (Ok search) self.old.front self.new.request result gate.old gate.new }
+            PlansUnlessShort G.Stands G.Between G.Owns G.Adds G.bytes_fetched G.Answers s (Ok search) self.old.front self.new.request result gate.old gate.new }
         ensures leaves { self.old.request ≡ requests.Vacant → Works self.old result self.new }
     {
         match gate.plan(alloc, &read.choice) {
@@ -302,7 +302,7 @@ impl Searcher {
         ensures step { (client : steps.Client) (core : Core) (log : Log) → client.request ≡ opened text.now → G.Stands gate.old core log →
             IsAtWork self.old client core → SearchesAs G.Stands G.Between G.Adds gate.old result self.new gate.new client core log }
         ensures plans { let config = G.configured gate.old in
-            PlansUnlessShort G.Stands G.Between G.Owns G.Adds G.bytes_fetched config.schema (asked_of config text.now) self.old.front self.new.request result gate.old gate.new }
+            PlansUnlessShort G.Stands G.Between G.Owns G.Adds G.bytes_fetched G.Answers config.schema (asked_of config text.now) self.old.front self.new.request result gate.old gate.new }
         ensures leaves { self.old.request ≡ requests.Vacant → Works self.old result self.new }
     {
         match read_search(alloc, gate.config(), text.as_slice()) {
@@ -326,7 +326,7 @@ impl Searcher {
             G.Stands gate.old core log → IsAtWork self.old client core →
             StepDraws self.old search result (G.bytes_fetched gate.old) (G.bytes_fetched gate.new) core }
         ensures reads { (row : PlanRow) → slice_get planned.plan.rows planned.next ≡ Some row →
-            FetchesRow G.Stands G.Between G.Owns G.Adds G.bytes_fetched G.told self.old.footers planned row self.new.request result gate.old gate.new }
+            FetchesRow G.Stands G.Between G.Owns G.Adds G.bytes_fetched G.told G.Answers self.old.footers planned row self.new.request result gate.old gate.new }
         ensures leaves { self.old.request ≡ requests.Vacant → Works self.old result self.new }
     {
         let place = planned.next;
@@ -362,7 +362,7 @@ impl Searcher {
             G.Stands gate.old core log → IsAtWork self.old client core →
             StepDraws self.old search result (G.bytes_fetched gate.old) (G.bytes_fetched gate.new) core }
         ensures reads { (row : PlanRow) → slice_get planned.plan.rows planned.next ≡ Some row →
-            FetchesRow G.Stands G.Between G.Owns G.Adds G.bytes_fetched G.told self.old.footers planned row self.new.request result gate.old gate.new }
+            FetchesRow G.Stands G.Between G.Owns G.Adds G.bytes_fetched G.told G.Answers self.old.footers planned row self.new.request result gate.old gate.new }
         ensures answers { length planned.plan.rows ≤ planned.next → SaysOver (G.configured gate.old) planned result }
         ensures leaves { self.old.request ≡ requests.Vacant → Works self.old result self.new }
     {
@@ -399,9 +399,9 @@ impl Searcher {
             G.Stands gate.old core log → SearcherStands self.old client core log →
             StepDraws self.old search result (G.bytes_fetched gate.old) (G.bytes_fetched gate.new) core }
         // Whatever the gate tells: what it answers where it plans, by what its call answered.
-        ensures plans { StepPlans G.Stands G.Between G.Owns G.Adds G.bytes_fetched (G.configured gate.old) self.old self.new result gate.old gate.new }
+        ensures plans { StepPlans G.Stands G.Between G.Owns G.Adds G.bytes_fetched G.Answers (G.configured gate.old) self.old self.new result gate.old gate.new }
         // Where it fetches of a planned split, by the bytes that its calls gave.
-        ensures reads { StepReads G.Stands G.Between G.Owns G.Adds G.bytes_fetched G.told self.old self.new result gate.old gate.new }
+        ensures reads { StepReads G.Stands G.Between G.Owns G.Adds G.bytes_fetched G.told G.Answers self.old self.new result gate.old gate.new }
         // And where each is fetched.
         ensures answers { StepAnswers (G.configured gate.old) self.old result }
         // What it leaves of the searcher.

@@ -42,15 +42,15 @@ returns-clause-step g c = λ config documents p core log stands configured file 
     (record { held = record { blocks = ranges; are_blocks = blocks; pieces = kept }; each = refl; few = omega arith })
 
 pub returns-in_err-blocks-clause-reads : goal.returns-in_err-blocks-clause-reads
-returns-in_err-blocks-clause-reads g c = read_ill g.G.Gate.Stands g.G.Gate.Between g.G.Gate.Owns g.G.Gate.Adds g.G.Gate.bytes_fetched g.G.Gate.told c.args.plan.now c.args.place (AreKeptBehind []) NeverRefused c.from_residual.result _ [] c.args.gate.now _ (none_called g.G.Gate.Stands g.G.Gate.Between g.G.Gate.Owns g.G.Gate.Adds g.G.Gate.bytes_fetched g.G.Gate.told c.args.plan.now c.args.place c.args.gate.now) c.from_residual.ensures.1 tt
+returns-in_err-blocks-clause-reads g c = read_ill g.G.Gate.Stands g.G.Gate.Between g.G.Gate.Owns g.G.Gate.Adds g.G.Gate.bytes_fetched g.G.Gate.told g.G.Gate.Answers c.args.plan.now c.args.place (AreKeptBehind []) NeverRefused c.from_residual.result _ [] c.args.gate.now _ (none_called g.G.Gate.Stands g.G.Gate.Between g.G.Gate.Owns g.G.Gate.Adds g.G.Gate.bytes_fetched g.G.Gate.told g.G.Gate.Answers c.args.plan.now c.args.place c.args.gate.now) c.from_residual.ensures.1 tt
 
 pub returns-in_err-fetch_ranges-clause-reads : goal.returns-in_err-fetch_ranges-clause-reads
 returns-in_err-fetch_ranges-clause-reads g c =
-    then_lost g.G.Gate.Stands g.G.Gate.Between g.G.Gate.Owns g.G.Gate.Adds g.G.Gate.bytes_fetched g.G.Gate.told c.args.plan.now c.args.place (λ done. AreKeptBehind c.vacant-pieces.result c.fetch_ranges.new.pieces) (AreKeptBehind []) NeverRefused NeverRefused c.in_err-fetch_ranges.field-0.0 c.from_residual-in_err-fetch_ranges.result [] c.args.gate.now c.args.gate.now _
-    (none_called g.G.Gate.Stands g.G.Gate.Between g.G.Gate.Owns g.G.Gate.Adds g.G.Gate.bytes_fetched g.G.Gate.told c.args.plan.now c.args.place c.args.gate.now) c.from_residual-in_err-fetch_ranges.ensures.1 (λ ys never. never) c.in_err-fetch_ranges.ensures.reads
+    then_lost g.G.Gate.Stands g.G.Gate.Between g.G.Gate.Owns g.G.Gate.Adds g.G.Gate.bytes_fetched g.G.Gate.told g.G.Gate.Answers c.args.plan.now c.args.place (λ done. AreKeptBehind c.vacant-pieces.result c.fetch_ranges.new.pieces) (AreKeptBehind []) NeverRefused NeverRefused c.in_err-fetch_ranges.field-0.0 c.from_residual-in_err-fetch_ranges.result [] c.args.gate.now c.args.gate.now _
+    (none_called g.G.Gate.Stands g.G.Gate.Between g.G.Gate.Owns g.G.Gate.Adds g.G.Gate.bytes_fetched g.G.Gate.told g.G.Gate.Answers c.args.plan.now c.args.place c.args.gate.now) c.from_residual-in_err-fetch_ranges.ensures.1 (λ ys never. never) c.in_err-fetch_ranges.ensures.reads
 
 pub returns-clause-reads : goal.returns-clause-reads
 returns-clause-reads g c =
     let f = c.in_ok-fetch_ranges.ensures.reads in
-    read_well g.G.Gate.Stands g.G.Gate.Between g.G.Gate.Owns g.G.Gate.Adds g.G.Gate.bytes_fetched g.G.Gate.told c.args.plan.now c.args.place (AreKeptBehind []) NeverRefused c.fetch_ranges.new.pieces f.calls c.args.gate.now _ (all_of g.G.Gate.Stands g.G.Gate.Between g.G.Gate.Owns g.G.Gate.Adds g.G.Gate.bytes_fetched g.G.Gate.told c.args.plan.now c.args.place (λ done. AreKeptBehind c.vacant-pieces.result c.fetch_ranges.new.pieces) NeverRefused _ c.args.gate.now _ f)
+    read_well g.G.Gate.Stands g.G.Gate.Between g.G.Gate.Owns g.G.Gate.Adds g.G.Gate.bytes_fetched g.G.Gate.told g.G.Gate.Answers c.args.plan.now c.args.place (AreKeptBehind []) NeverRefused c.fetch_ranges.new.pieces f.calls c.args.gate.now _ (all_of g.G.Gate.Stands g.G.Gate.Between g.G.Gate.Owns g.G.Gate.Adds g.G.Gate.bytes_fetched g.G.Gate.told g.G.Gate.Answers c.args.plan.now c.args.place (λ done. AreKeptBehind c.vacant-pieces.result c.fetch_ranges.new.pieces) NeverRefused _ c.args.gate.now _ f)
     (f.says.1 ∙ ap (λ (l : List KeptPiece). l ++ map kept_of f.calls) c.vacant-pieces.ensures)

@@ -48,21 +48,21 @@ returns-clause-step g c = λ config documents p core log stands configured file 
 
 pub returns-in_err-footer-clause-reads : goal.returns-in_err-footer-clause-reads
 returns-in_err-footer-clause-reads g c = λ row there.
-    then_lost g.G.Gate.Stands g.G.Gate.Between g.G.Gate.Owns g.G.Gate.Adds g.G.Gate.bytes_fetched g.G.Gate.told c.args.plan.now c.args.place (IsFooterGiven c.args.known row.size) (IsPartRead c.args.known row.number row.size) (IsNoFooter c.args.known row.size) (IsNoPart c.args.known row.size) c.in_err-footer.field-0.0 c.from_residual.result [] c.args.gate.now c.args.gate.now _
-    (none_called g.G.Gate.Stands g.G.Gate.Between g.G.Gate.Owns g.G.Gate.Adds g.G.Gate.bytes_fetched g.G.Gate.told c.args.plan.now c.args.place c.args.gate.now) c.from_residual.ensures.1 (λ ys none. inl none) (c.in_err-footer.ensures.reads row there)
+    then_lost g.G.Gate.Stands g.G.Gate.Between g.G.Gate.Owns g.G.Gate.Adds g.G.Gate.bytes_fetched g.G.Gate.told g.G.Gate.Answers c.args.plan.now c.args.place (IsFooterGiven c.args.known row.size) (IsPartRead c.args.known row.number row.size) (IsNoFooter c.args.known row.size) (IsNoPart c.args.known row.size) c.in_err-footer.field-0.0 c.from_residual.result [] c.args.gate.now c.args.gate.now _
+    (none_called g.G.Gate.Stands g.G.Gate.Between g.G.Gate.Owns g.G.Gate.Adds g.G.Gate.bytes_fetched g.G.Gate.told g.G.Gate.Answers c.args.plan.now c.args.place c.args.gate.now) c.from_residual.ensures.1 (λ ys none. inl none) (c.in_err-footer.ensures.reads row there)
 
 pub returns-in_err-blocks-clause-reads : goal.returns-in_err-blocks-clause-reads
 returns-in_err-blocks-clause-reads g c = λ row there.
     let k = c.in_ok-footer.ensures.reads row there in
-    then_lost g.G.Gate.Stands g.G.Gate.Between g.G.Gate.Owns g.G.Gate.Adds g.G.Gate.bytes_fetched g.G.Gate.told c.args.plan.now c.args.place (AreKeptBehind []) (IsPartRead c.args.known row.number row.size) NeverRefused (IsNoPart c.args.known row.size) c.in_err-blocks.field-0.0 c.from_residual-in_err-blocks.result k.calls c.args.gate.now _ _
-    (all_of g.G.Gate.Stands g.G.Gate.Between g.G.Gate.Owns g.G.Gate.Adds g.G.Gate.bytes_fetched g.G.Gate.told c.args.plan.now c.args.place (IsFooterGiven c.args.known row.size) (IsNoFooter c.args.known row.size) c.in_ok-footer.footer c.args.gate.now _ k) c.from_residual-in_err-blocks.ensures.1 (λ ys never. absurd never) c.in_err-blocks.ensures.reads
+    then_lost g.G.Gate.Stands g.G.Gate.Between g.G.Gate.Owns g.G.Gate.Adds g.G.Gate.bytes_fetched g.G.Gate.told g.G.Gate.Answers c.args.plan.now c.args.place (AreKeptBehind []) (IsPartRead c.args.known row.number row.size) NeverRefused (IsNoPart c.args.known row.size) c.in_err-blocks.field-0.0 c.from_residual-in_err-blocks.result k.calls c.args.gate.now _ _
+    (all_of g.G.Gate.Stands g.G.Gate.Between g.G.Gate.Owns g.G.Gate.Adds g.G.Gate.bytes_fetched g.G.Gate.told g.G.Gate.Answers c.args.plan.now c.args.place (IsFooterGiven c.args.known row.size) (IsNoFooter c.args.known row.size) c.in_ok-footer.footer c.args.gate.now _ k) c.from_residual-in_err-blocks.ensures.1 (λ ys never. absurd never) c.in_err-blocks.ensures.reads
 
 pub returns-in_err-pieces-clause-reads : goal.returns-in_err-pieces-clause-reads
 returns-in_err-pieces-clause-reads g c = λ row there.
     let k = c.in_ok-footer.ensures.reads row there in
     let b = c.in_ok-blocks.ensures.reads in
-    then_lost g.G.Gate.Stands g.G.Gate.Between g.G.Gate.Owns g.G.Gate.Adds g.G.Gate.bytes_fetched g.G.Gate.told c.args.plan.now c.args.place (AreKeptBehind c.in_ok-blocks.blocks) (IsPartRead c.args.known row.number row.size) (λ calls. ⊤) (IsNoPart c.args.known row.size) c.in_err-pieces.field-0.0 c.from_residual-in_err-pieces.result (k.calls ++ b.calls) c.args.gate.now _ _
-    (then_all g.G.Gate.Stands g.G.Gate.Between g.G.Gate.Owns g.G.Gate.Adds g.G.Gate.bytes_fetched g.G.Gate.told c.args.plan.now c.args.place (AreKeptBehind []) NeverRefused c.in_ok-blocks.blocks k.calls c.args.gate.now _ _ (all_of g.G.Gate.Stands g.G.Gate.Between g.G.Gate.Owns g.G.Gate.Adds g.G.Gate.bytes_fetched g.G.Gate.told c.args.plan.now c.args.place (IsFooterGiven c.args.known row.size) (IsNoFooter c.args.known row.size) c.in_ok-footer.footer c.args.gate.now _ k) b) c.from_residual-in_err-pieces.ensures.1
+    then_lost g.G.Gate.Stands g.G.Gate.Between g.G.Gate.Owns g.G.Gate.Adds g.G.Gate.bytes_fetched g.G.Gate.told g.G.Gate.Answers c.args.plan.now c.args.place (AreKeptBehind c.in_ok-blocks.blocks) (IsPartRead c.args.known row.number row.size) (λ calls. ⊤) (IsNoPart c.args.known row.size) c.in_err-pieces.field-0.0 c.from_residual-in_err-pieces.result (k.calls ++ b.calls) c.args.gate.now _ _
+    (then_all g.G.Gate.Stands g.G.Gate.Between g.G.Gate.Owns g.G.Gate.Adds g.G.Gate.bytes_fetched g.G.Gate.told g.G.Gate.Answers c.args.plan.now c.args.place (AreKeptBehind []) NeverRefused c.in_ok-blocks.blocks k.calls c.args.gate.now _ _ (all_of g.G.Gate.Stands g.G.Gate.Between g.G.Gate.Owns g.G.Gate.Adds g.G.Gate.bytes_fetched g.G.Gate.told g.G.Gate.Answers c.args.plan.now c.args.place (IsFooterGiven c.args.known row.size) (IsNoFooter c.args.known row.size) c.in_ok-footer.footer c.args.gate.now _ k) b) c.from_residual-in_err-pieces.ensures.1
     (λ ys done. inr (record { footer = c.in_ok-footer.footer; footer_calls = k.calls; rest = b.calls ++ ys; calls_are = append_assoc k.calls b.calls ys; footer_given = k.says.1 })) c.in_err-pieces.ensures.reads
 
 pub returns-clause-reads : goal.returns-clause-reads
@@ -71,8 +71,8 @@ returns-clause-reads g c = λ row there.
     let b = c.in_ok-blocks.ensures.reads in
     let l = c.in_ok-pieces.ensures.reads in
     let same : c.at.result.now ≡ row = same_row _ c.at.result.now row c.at.ensures there in
-    let two = then_all g.G.Gate.Stands g.G.Gate.Between g.G.Gate.Owns g.G.Gate.Adds g.G.Gate.bytes_fetched g.G.Gate.told c.args.plan.now c.args.place (AreKeptBehind []) NeverRefused c.in_ok-blocks.blocks k.calls c.args.gate.now _ _ (all_of g.G.Gate.Stands g.G.Gate.Between g.G.Gate.Owns g.G.Gate.Adds g.G.Gate.bytes_fetched g.G.Gate.told c.args.plan.now c.args.place (IsFooterGiven c.args.known row.size) (IsNoFooter c.args.known row.size) c.in_ok-footer.footer c.args.gate.now _ k) b in
-    read_well g.G.Gate.Stands g.G.Gate.Between g.G.Gate.Owns g.G.Gate.Adds g.G.Gate.bytes_fetched g.G.Gate.told c.args.plan.now c.args.place (IsPartRead c.args.known row.number row.size) (IsNoPart c.args.known row.size) _ ((k.calls ++ b.calls) ++ l.calls) c.args.gate.now _ (then_all g.G.Gate.Stands g.G.Gate.Between g.G.Gate.Owns g.G.Gate.Adds g.G.Gate.bytes_fetched g.G.Gate.told c.args.plan.now c.args.place (AreKeptBehind c.in_ok-blocks.blocks) (λ calls. ⊤) c.in_ok-pieces.pieces (k.calls ++ b.calls) c.args.gate.now _ _ two l)
+    let two = then_all g.G.Gate.Stands g.G.Gate.Between g.G.Gate.Owns g.G.Gate.Adds g.G.Gate.bytes_fetched g.G.Gate.told g.G.Gate.Answers c.args.plan.now c.args.place (AreKeptBehind []) NeverRefused c.in_ok-blocks.blocks k.calls c.args.gate.now _ _ (all_of g.G.Gate.Stands g.G.Gate.Between g.G.Gate.Owns g.G.Gate.Adds g.G.Gate.bytes_fetched g.G.Gate.told g.G.Gate.Answers c.args.plan.now c.args.place (IsFooterGiven c.args.known row.size) (IsNoFooter c.args.known row.size) c.in_ok-footer.footer c.args.gate.now _ k) b in
+    read_well g.G.Gate.Stands g.G.Gate.Between g.G.Gate.Owns g.G.Gate.Adds g.G.Gate.bytes_fetched g.G.Gate.told g.G.Gate.Answers c.args.plan.now c.args.place (IsPartRead c.args.known row.number row.size) (IsNoPart c.args.known row.size) _ ((k.calls ++ b.calls) ++ l.calls) c.args.gate.now _ (then_all g.G.Gate.Stands g.G.Gate.Between g.G.Gate.Owns g.G.Gate.Adds g.G.Gate.bytes_fetched g.G.Gate.told g.G.Gate.Answers c.args.plan.now c.args.place (AreKeptBehind c.in_ok-blocks.blocks) (λ calls. ⊤) c.in_ok-pieces.pieces (k.calls ++ b.calls) c.args.gate.now _ _ two l)
     (record {
       footer_calls = k.calls;
       piece_calls = b.calls ++ l.calls;

@@ -39,14 +39,14 @@ returns-clause-step g c = λ config documents p core log stands configured file 
 
 pub returns-in_err-part-clause-reads : goal.returns-in_err-part-clause-reads
 returns-in_err-part-clause-reads g c = λ row there.
-    then_lost g.G.Gate.Stands g.G.Gate.Between g.G.Gate.Owns g.G.Gate.Adds g.G.Gate.bytes_fetched g.G.Gate.told c.args.plan.now c.args.place (IsPartRead c.args.known row.number row.size) (IsPartRead c.args.known row.number row.size) (IsNoPart c.args.known row.size) (IsNoPart c.args.known row.size) c.in_err-part.field-0.0 c.from_residual.result [] c.args.gate.now c.args.gate.now _
-    (none_called g.G.Gate.Stands g.G.Gate.Between g.G.Gate.Owns g.G.Gate.Adds g.G.Gate.bytes_fetched g.G.Gate.told c.args.plan.now c.args.place c.args.gate.now) c.from_residual.ensures.1 (λ ys none. none) (c.in_err-part.ensures.reads row there)
+    then_lost g.G.Gate.Stands g.G.Gate.Between g.G.Gate.Owns g.G.Gate.Adds g.G.Gate.bytes_fetched g.G.Gate.told g.G.Gate.Answers c.args.plan.now c.args.place (IsPartRead c.args.known row.number row.size) (IsPartRead c.args.known row.number row.size) (IsNoPart c.args.known row.size) (IsNoPart c.args.known row.size) c.in_err-part.field-0.0 c.from_residual.result [] c.args.gate.now c.args.gate.now _
+    (none_called g.G.Gate.Stands g.G.Gate.Between g.G.Gate.Owns g.G.Gate.Adds g.G.Gate.bytes_fetched g.G.Gate.told g.G.Gate.Answers c.args.plan.now c.args.place c.args.gate.now) c.from_residual.ensures.1 (λ ys none. none) (c.in_err-part.ensures.reads row there)
 
 pub returns-then-asked_nothing-clause-reads : goal.returns-then-asked_nothing-clause-reads
 returns-then-asked_nothing-clause-reads g c = λ row there.
     let part = c.in_ok-part.part in
     let k = c.in_ok-part.ensures.reads row there in
-    then_read g.G.Gate.Stands g.G.Gate.Between g.G.Gate.Owns g.G.Gate.Adds g.G.Gate.bytes_fetched g.G.Gate.told c.args.plan.now c.args.place (IsPartLooked part) (IsPartRead c.args.known row.number row.size) NeverRefused (IsNoPart c.args.known row.size) c.look.result k.calls c.args.gate.now _ _ (all_of g.G.Gate.Stands g.G.Gate.Between g.G.Gate.Owns g.G.Gate.Adds g.G.Gate.bytes_fetched g.G.Gate.told c.args.plan.now c.args.place (IsPartRead c.args.known row.number row.size) (IsNoPart c.args.known row.size) part c.args.gate.now _ k)
+    then_read g.G.Gate.Stands g.G.Gate.Between g.G.Gate.Owns g.G.Gate.Adds g.G.Gate.bytes_fetched g.G.Gate.told g.G.Gate.Answers c.args.plan.now c.args.place (IsPartLooked part) (IsPartRead c.args.known row.number row.size) NeverRefused (IsNoPart c.args.known row.size) c.look.result k.calls c.args.gate.now _ _ (all_of g.G.Gate.Stands g.G.Gate.Between g.G.Gate.Owns g.G.Gate.Adds g.G.Gate.bytes_fetched g.G.Gate.told g.G.Gate.Answers c.args.plan.now c.args.place (IsPartRead c.args.known row.number row.size) (IsNoPart c.args.known row.size) part c.args.gate.now _ k)
     (λ given ys l. part_looked c.args.known row.number row.size part given k.calls ys k.says.1 l) (λ ys never. absurd never) c.look.ensures.reads
 
 pub returns-clause-reads : goal.returns-clause-reads

@@ -17,8 +17,8 @@ returns-in-Err-clause-step g c = λ config bytes core log stands configured file
 
 pub returns-in-Ok-clause-reads : goal.returns-in-Ok-clause-reads
 returns-in-Ok-clause-reads g c =
-    one_gave g.G.Gate.Stands g.G.Gate.Between g.G.Gate.Owns g.G.Gate.Adds g.G.Gate.bytes_fetched g.G.Gate.told c.args.plan.now c.args.place c.args.start c.args.len _ c.in-Ok.piece c.args.gate.now _ (record { counts = c.in-Ok.ensures.counts; kinds = c.in-Ok.ensures.kinds; answers = c.in-Ok.ensures.answers; step = c.in-Ok.ensures.step })
+    one_gave g.G.Gate.Stands g.G.Gate.Between g.G.Gate.Owns g.G.Gate.Adds g.G.Gate.bytes_fetched g.G.Gate.told g.G.Gate.Answers c.args.plan.now c.args.place c.args.start c.args.len _ c.in-Ok.piece c.args.gate.now _ (record { counts = c.in-Ok.ensures.counts; answered = c.in-Ok.ensures.answered; kinds = c.in-Ok.ensures.kinds; answers = c.in-Ok.ensures.answers; step = c.in-Ok.ensures.step })
     (ap (λ (n : ℕ). let kept : KeptPiece = record { start = n; bytes = c.in-Ok.piece.bytes } in kept) c.min.ensures)
 
 pub returns-in-Err-clause-reads : goal.returns-in-Err-clause-reads
-returns-in-Err-clause-reads g c = one_lost g.G.Gate.Stands g.G.Gate.Between g.G.Gate.Owns g.G.Gate.Adds g.G.Gate.bytes_fetched g.G.Gate.told c.args.plan.now c.args.place c.args.start c.args.len c.in-Err.error c.args.gate.now _ (record { counts = c.in-Err.ensures.counts; kinds = c.in-Err.ensures.kinds; answers = c.in-Err.ensures.answers; step = c.in-Err.ensures.step })
+returns-in-Err-clause-reads g c = one_lost g.G.Gate.Stands g.G.Gate.Between g.G.Gate.Owns g.G.Gate.Adds g.G.Gate.bytes_fetched g.G.Gate.told g.G.Gate.Answers c.args.plan.now c.args.place c.args.start c.args.len c.in-Err.error c.args.gate.now _ (record { counts = c.in-Err.ensures.counts; answered = c.in-Err.ensures.answered; kinds = c.in-Err.ensures.kinds; answers = c.in-Err.ensures.answers; step = c.in-Err.ensures.step })

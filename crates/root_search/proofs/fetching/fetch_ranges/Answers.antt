@@ -15,7 +15,7 @@ use Rattle.root_search.proofs.fetching.fetch_ranges.Goals as goal
 pub loop-range-init : goal.loop-range-init
 loop-range-init g c = record {
   step = λ config bytes core log stands configured file. (none_made (grace_of config c.args.plan.now) file.row.number g.G.Gate.Stands g.G.Gate.Between g.G.Gate.Adds g.G.Gate.bytes_fetched core log _ (g.met.G.Gate.adds_none c.args.gate.now) stands, sym (append-nil c.args.pieces.now));
-  reads = ([], none_called g.G.Gate.Stands g.G.Gate.Between g.G.Gate.Owns g.G.Gate.Adds g.G.Gate.bytes_fetched g.G.Gate.told c.args.plan.now c.args.place c.args.gate.now, sym (append-nil c.args.pieces.now));
+  reads = ([], none_called g.G.Gate.Stands g.G.Gate.Between g.G.Gate.Owns g.G.Gate.Adds g.G.Gate.bytes_fetched g.G.Gate.told g.G.Gate.Answers c.args.plan.now c.args.place c.args.gate.now, sym (append-nil c.args.pieces.now));
 }
 
 pub loop-range-preserved : goal.loop-range-preserved
@@ -35,7 +35,7 @@ loop-range-preserved g c = record {
       let r = c.range-item.result in
       let f = c.in_ok-piece.ensures.reads in (
         i.0 ++ f.calls,
-        then_all g.G.Gate.Stands g.G.Gate.Between g.G.Gate.Owns g.G.Gate.Adds g.G.Gate.bytes_fetched g.G.Gate.told c.args.plan.now c.args.place (IsPieceRead r.start r.len) NeverRefused c.in_ok-piece.piece i.0 c.args.gate.now _ _ i.1 f,
+        then_all g.G.Gate.Stands g.G.Gate.Between g.G.Gate.Owns g.G.Gate.Adds g.G.Gate.bytes_fetched g.G.Gate.told g.G.Gate.Answers c.args.plan.now c.args.place (IsPieceRead r.start r.len) NeverRefused c.in_ok-piece.piece i.0 c.args.gate.now _ _ i.1 f,
         piece_kept c.args.pieces.now c.loop-range.pieces c.push.new.self r.start r.len c.in_ok-piece.piece i.0 f.calls i.2 f.says.1 c.in_ok-push.ensures.ok,
       )
       );
@@ -75,16 +75,16 @@ pub returns-in_err-piece-clause-reads : goal.returns-in_err-piece-clause-reads
 returns-in_err-piece-clause-reads g c =
     let i = c.loop-range.invariant.reads in
     let r = c.range-item.result in
-    then_lost g.G.Gate.Stands g.G.Gate.Between g.G.Gate.Owns g.G.Gate.Adds g.G.Gate.bytes_fetched g.G.Gate.told c.args.plan.now c.args.place (IsPieceRead r.start r.len) _ NeverRefused NeverRefused c.in_err-piece.field-0.0 c.from_residual.result i.0 c.args.gate.now _ _ i.1 c.from_residual.ensures.1 (λ ys never. never) c.in_err-piece.ensures.reads
+    then_lost g.G.Gate.Stands g.G.Gate.Between g.G.Gate.Owns g.G.Gate.Adds g.G.Gate.bytes_fetched g.G.Gate.told g.G.Gate.Answers c.args.plan.now c.args.place (IsPieceRead r.start r.len) _ NeverRefused NeverRefused c.in_err-piece.field-0.0 c.from_residual.result i.0 c.args.gate.now _ _ i.1 c.from_residual.ensures.1 (λ ys never. never) c.in_err-piece.ensures.reads
 
 pub returns-in_err-push-clause-reads : goal.returns-in_err-push-clause-reads
 returns-in_err-push-clause-reads g c =
     let i = c.loop-range.invariant.reads in
     let r = c.range-item.result in
     let f = c.in_ok-piece.ensures.reads in
-    read_ill g.G.Gate.Stands g.G.Gate.Between g.G.Gate.Owns g.G.Gate.Adds g.G.Gate.bytes_fetched g.G.Gate.told c.args.plan.now c.args.place _ NeverRefused c.from_residual-in_err-push.result _ (i.0 ++ f.calls) c.args.gate.now _ (then_all g.G.Gate.Stands g.G.Gate.Between g.G.Gate.Owns g.G.Gate.Adds g.G.Gate.bytes_fetched g.G.Gate.told c.args.plan.now c.args.place (IsPieceRead r.start r.len) NeverRefused c.in_ok-piece.piece i.0 c.args.gate.now _ _ i.1 f) c.from_residual-in_err-push.ensures.1 tt
+    read_ill g.G.Gate.Stands g.G.Gate.Between g.G.Gate.Owns g.G.Gate.Adds g.G.Gate.bytes_fetched g.G.Gate.told g.G.Gate.Answers c.args.plan.now c.args.place _ NeverRefused c.from_residual-in_err-push.result _ (i.0 ++ f.calls) c.args.gate.now _ (then_all g.G.Gate.Stands g.G.Gate.Between g.G.Gate.Owns g.G.Gate.Adds g.G.Gate.bytes_fetched g.G.Gate.told g.G.Gate.Answers c.args.plan.now c.args.place (IsPieceRead r.start r.len) NeverRefused c.in_ok-piece.piece i.0 c.args.gate.now _ _ i.1 f) c.from_residual-in_err-push.ensures.1 tt
 
 pub returns-clause-reads : goal.returns-clause-reads
 returns-clause-reads g c =
     let i = c.loop-range.invariant.reads in
-    read_well g.G.Gate.Stands g.G.Gate.Between g.G.Gate.Owns g.G.Gate.Adds g.G.Gate.bytes_fetched g.G.Gate.told c.args.plan.now c.args.place (λ done. AreKeptBehind c.args.pieces.now c.loop-range.pieces) NeverRefused tt i.0 c.args.gate.now _ i.1 i.2
+    read_well g.G.Gate.Stands g.G.Gate.Between g.G.Gate.Owns g.G.Gate.Adds g.G.Gate.bytes_fetched g.G.Gate.told g.G.Gate.Answers c.args.plan.now c.args.place (λ done. AreKeptBehind c.args.pieces.now c.loop-range.pieces) NeverRefused tt i.0 c.args.gate.now _ i.1 i.2

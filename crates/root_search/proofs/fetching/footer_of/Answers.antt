@@ -26,11 +26,11 @@ returns-in-None-clause-step g c = λ config s documents p core log stands config
 
 pub returns-in-Some-clause-reads : goal.returns-in-Some-clause-reads
 returns-in-Some-clause-reads g c = λ row there.
-    subst (λ (o : Option Footer). ReadsAs g.G.Gate.Stands g.G.Gate.Between g.G.Gate.Owns g.G.Gate.Adds g.G.Gate.bytes_fetched g.G.Gate.told c.args.plan.now c.args.place (IsFooterGiven o row.size) (IsNoFooter o row.size) (Ok c.in-Some.footer) c.args.gate.now c.args.gate.now) (sym c.in-Some.is)
-    (read_well g.G.Gate.Stands g.G.Gate.Between g.G.Gate.Owns g.G.Gate.Adds g.G.Gate.bytes_fetched g.G.Gate.told c.args.plan.now c.args.place (IsFooterGiven (Some c.in-Some.footer) row.size) (IsNoFooter (Some c.in-Some.footer) row.size) c.in-Some.footer [] c.args.gate.now c.args.gate.now (none_called g.G.Gate.Stands g.G.Gate.Between g.G.Gate.Owns g.G.Gate.Adds g.G.Gate.bytes_fetched g.G.Gate.told c.args.plan.now c.args.place c.args.gate.now) (refl, refl))
+    subst (λ (o : Option Footer). ReadsAs g.G.Gate.Stands g.G.Gate.Between g.G.Gate.Owns g.G.Gate.Adds g.G.Gate.bytes_fetched g.G.Gate.told g.G.Gate.Answers c.args.plan.now c.args.place (IsFooterGiven o row.size) (IsNoFooter o row.size) (Ok c.in-Some.footer) c.args.gate.now c.args.gate.now) (sym c.in-Some.is)
+    (read_well g.G.Gate.Stands g.G.Gate.Between g.G.Gate.Owns g.G.Gate.Adds g.G.Gate.bytes_fetched g.G.Gate.told g.G.Gate.Answers c.args.plan.now c.args.place (IsFooterGiven (Some c.in-Some.footer) row.size) (IsNoFooter (Some c.in-Some.footer) row.size) c.in-Some.footer [] c.args.gate.now c.args.gate.now (none_called g.G.Gate.Stands g.G.Gate.Between g.G.Gate.Owns g.G.Gate.Adds g.G.Gate.bytes_fetched g.G.Gate.told g.G.Gate.Answers c.args.plan.now c.args.place c.args.gate.now) (refl, refl))
 
 pub returns-in-None-clause-reads : goal.returns-in-None-clause-reads
 returns-in-None-clause-reads g c = λ row there.
     let same : c.at.result.now ≡ row = same_row _ c.at.result.now row c.at.ensures there in
-    subst (λ (o : Option Footer). ReadsAs g.G.Gate.Stands g.G.Gate.Between g.G.Gate.Owns g.G.Gate.Adds g.G.Gate.bytes_fetched g.G.Gate.told c.args.plan.now c.args.place (IsFooterGiven o row.size) (IsNoFooter o row.size) c.read_footer.result c.args.gate.now c.read_footer.new.gate) (sym c.in-None.is)
-    (subst (λ (n : ℕ). ReadsAs g.G.Gate.Stands g.G.Gate.Between g.G.Gate.Owns g.G.Gate.Adds g.G.Gate.bytes_fetched g.G.Gate.told c.args.plan.now c.args.place (IsFooterGiven None n) (IsNoFooter None n) c.read_footer.result c.args.gate.now c.read_footer.new.gate) (ap (λ (r : PlanRow). r.size) same) c.read_footer.ensures.reads)
+    subst (λ (o : Option Footer). ReadsAs g.G.Gate.Stands g.G.Gate.Between g.G.Gate.Owns g.G.Gate.Adds g.G.Gate.bytes_fetched g.G.Gate.told g.G.Gate.Answers c.args.plan.now c.args.place (IsFooterGiven o row.size) (IsNoFooter o row.size) c.read_footer.result c.args.gate.now c.read_footer.new.gate) (sym c.in-None.is)
+    (subst (λ (n : ℕ). ReadsAs g.G.Gate.Stands g.G.Gate.Between g.G.Gate.Owns g.G.Gate.Adds g.G.Gate.bytes_fetched g.G.Gate.told g.G.Gate.Answers c.args.plan.now c.args.place (IsFooterGiven None n) (IsNoFooter None n) c.read_footer.result c.args.gate.now c.read_footer.new.gate) (ap (λ (r : PlanRow). r.size) same) c.read_footer.ensures.reads)

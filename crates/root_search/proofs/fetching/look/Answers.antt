@@ -21,9 +21,9 @@ returns-clause-step g c = λ config bytes core log stands configured file.
 pub returns-in-Ok-clause-reads : goal.returns-in-Ok-clause-reads
 returns-in-Ok-clause-reads g c =
     let f = c.in-Ok.ensures.reads in
-    read_well g.G.Gate.Stands g.G.Gate.Between g.G.Gate.Owns g.G.Gate.Adds g.G.Gate.bytes_fetched g.G.Gate.told c.args.plan.now c.args.place (IsPartLooked c.args.part) NeverRefused c.args.part f.calls c.args.gate.now _ (all_of g.G.Gate.Stands g.G.Gate.Between g.G.Gate.Owns g.G.Gate.Adds g.G.Gate.bytes_fetched g.G.Gate.told c.args.plan.now c.args.place (IsPieceRead 0 0) NeverRefused _ c.args.gate.now _ f)
+    read_well g.G.Gate.Stands g.G.Gate.Between g.G.Gate.Owns g.G.Gate.Adds g.G.Gate.bytes_fetched g.G.Gate.told g.G.Gate.Answers c.args.plan.now c.args.place (IsPartLooked c.args.part) NeverRefused c.args.part f.calls c.args.gate.now _ (all_of g.G.Gate.Stands g.G.Gate.Between g.G.Gate.Owns g.G.Gate.Adds g.G.Gate.bytes_fetched g.G.Gate.told g.G.Gate.Answers c.args.plan.now c.args.place (IsPieceRead 0 0) NeverRefused _ c.args.gate.now _ f)
     (record { same = refl; no_bytes = subst (λ (cs : List FetchCall). AllByRecursion (λ call. call.len ≡ 0) cs) (sym f.says.1.calls_are) (refl, tt) })
 
 pub returns-clause-reads : goal.returns-clause-reads
 returns-clause-reads g c =
-    then_lost g.G.Gate.Stands g.G.Gate.Between g.G.Gate.Owns g.G.Gate.Adds g.G.Gate.bytes_fetched g.G.Gate.told c.args.plan.now c.args.place (IsPieceRead 0 0) (IsPartLooked c.args.part) NeverRefused NeverRefused c.in-Err.error _ [] c.args.gate.now c.args.gate.now _ (none_called g.G.Gate.Stands g.G.Gate.Between g.G.Gate.Owns g.G.Gate.Adds g.G.Gate.bytes_fetched g.G.Gate.told c.args.plan.now c.args.place c.args.gate.now) refl (λ ys never. never) c.in-Err.ensures.reads
+    then_lost g.G.Gate.Stands g.G.Gate.Between g.G.Gate.Owns g.G.Gate.Adds g.G.Gate.bytes_fetched g.G.Gate.told g.G.Gate.Answers c.args.plan.now c.args.place (IsPieceRead 0 0) (IsPartLooked c.args.part) NeverRefused NeverRefused c.in-Err.error _ [] c.args.gate.now c.args.gate.now _ (none_called g.G.Gate.Stands g.G.Gate.Between g.G.Gate.Owns g.G.Gate.Adds g.G.Gate.bytes_fetched g.G.Gate.told g.G.Gate.Answers c.args.plan.now c.args.place c.args.gate.now) refl (λ ys never. never) c.in-Err.ensures.reads

@@ -65,14 +65,14 @@ returns-clause-step g c = λ config s documents p core log stands configured fil
 
 pub returns-in_err-trailer-clause-reads : goal.returns-in_err-trailer-clause-reads
 returns-in_err-trailer-clause-reads g c =
-    then_lost g.G.Gate.Stands g.G.Gate.Between g.G.Gate.Owns g.G.Gate.Adds g.G.Gate.bytes_fetched g.G.Gate.told c.args.plan.now c.args.place (IsPieceRead c.saturating_sub-end.result 12) (IsFooterGiven None c.args.size) NeverRefused (IsNoFooter None c.args.size) c.in_err-trailer.field-0.0 c.from_residual.result [] c.args.gate.now c.args.gate.now _
-    (none_called g.G.Gate.Stands g.G.Gate.Between g.G.Gate.Owns g.G.Gate.Adds g.G.Gate.bytes_fetched g.G.Gate.told c.args.plan.now c.args.place c.args.gate.now) c.from_residual.ensures.1 (λ ys never. absurd never) c.in_err-trailer.ensures.reads
+    then_lost g.G.Gate.Stands g.G.Gate.Between g.G.Gate.Owns g.G.Gate.Adds g.G.Gate.bytes_fetched g.G.Gate.told g.G.Gate.Answers c.args.plan.now c.args.place (IsPieceRead c.saturating_sub-end.result 12) (IsFooterGiven None c.args.size) NeverRefused (IsNoFooter None c.args.size) c.in_err-trailer.field-0.0 c.from_residual.result [] c.args.gate.now c.args.gate.now _
+    (none_called g.G.Gate.Stands g.G.Gate.Between g.G.Gate.Owns g.G.Gate.Adds g.G.Gate.bytes_fetched g.G.Gate.told g.G.Gate.Answers c.args.plan.now c.args.place c.args.gate.now) c.from_residual.ensures.1 (λ ys never. absurd never) c.in_err-trailer.ensures.reads
 
 pub returns-in_err-start-clause-reads : goal.returns-in_err-start-clause-reads
 returns-in_err-start-clause-reads g c =
     let f = c.in_ok-trailer.ensures.reads in
     let slice = c.as_slice.result.now in
-    read_ill g.G.Gate.Stands g.G.Gate.Between g.G.Gate.Owns g.G.Gate.Adds g.G.Gate.bytes_fetched g.G.Gate.told c.args.plan.now c.args.place (IsFooterGiven None c.args.size) (IsNoFooter None c.args.size) c.from_residual-in_err-start.result c.in_err-start.field-0.0 f.calls c.args.gate.now _ (all_of g.G.Gate.Stands g.G.Gate.Between g.G.Gate.Owns g.G.Gate.Adds g.G.Gate.bytes_fetched g.G.Gate.told c.args.plan.now c.args.place (IsPieceRead c.saturating_sub-end.result 12) NeverRefused c.in_ok-trailer.trailer c.args.gate.now _ f)
+    read_ill g.G.Gate.Stands g.G.Gate.Between g.G.Gate.Owns g.G.Gate.Adds g.G.Gate.bytes_fetched g.G.Gate.told g.G.Gate.Answers c.args.plan.now c.args.place (IsFooterGiven None c.args.size) (IsNoFooter None c.args.size) c.from_residual-in_err-start.result c.in_err-start.field-0.0 f.calls c.args.gate.now _ (all_of g.G.Gate.Stands g.G.Gate.Between g.G.Gate.Owns g.G.Gate.Adds g.G.Gate.bytes_fetched g.G.Gate.told g.G.Gate.Answers c.args.plan.now c.args.place (IsPieceRead c.saturating_sub-end.result 12) NeverRefused c.in_ok-trailer.trailer c.args.gate.now _ f)
     c.from_residual-in_err-start.ensures.1
     (fault_where (start_of (footer_of c.args.size slice) ≡ None) (IsNoFooter None c.args.size f.calls) c.in_err-start.field-0.0
     (λ none. inl (no_start c.args.size c.saturating_sub-end.result c.in_ok-trailer.trailer slice f.calls c.saturating_sub-end.ensures f.says.1 c.as_slice.ensures none)) c.in_err-start.ensures.exact)
@@ -80,15 +80,15 @@ returns-in_err-start-clause-reads g c =
 pub returns-in_err-footer-clause-reads : goal.returns-in_err-footer-clause-reads
 returns-in_err-footer-clause-reads g c =
     let f = c.in_ok-trailer.ensures.reads in
-    then_lost g.G.Gate.Stands g.G.Gate.Between g.G.Gate.Owns g.G.Gate.Adds g.G.Gate.bytes_fetched g.G.Gate.told c.args.plan.now c.args.place (IsPieceRead c.in_ok-start.start c.saturating_sub.result) (IsFooterGiven None c.args.size) NeverRefused (IsNoFooter None c.args.size) c.in_err-footer.field-0.0 c.from_residual-in_err-footer.result f.calls c.args.gate.now _ _
-    (all_of g.G.Gate.Stands g.G.Gate.Between g.G.Gate.Owns g.G.Gate.Adds g.G.Gate.bytes_fetched g.G.Gate.told c.args.plan.now c.args.place (IsPieceRead c.saturating_sub-end.result 12) NeverRefused c.in_ok-trailer.trailer c.args.gate.now _ f) c.from_residual-in_err-footer.ensures.1 (λ ys never. absurd never) c.in_err-footer.ensures.reads
+    then_lost g.G.Gate.Stands g.G.Gate.Between g.G.Gate.Owns g.G.Gate.Adds g.G.Gate.bytes_fetched g.G.Gate.told g.G.Gate.Answers c.args.plan.now c.args.place (IsPieceRead c.in_ok-start.start c.saturating_sub.result) (IsFooterGiven None c.args.size) NeverRefused (IsNoFooter None c.args.size) c.in_err-footer.field-0.0 c.from_residual-in_err-footer.result f.calls c.args.gate.now _ _
+    (all_of g.G.Gate.Stands g.G.Gate.Between g.G.Gate.Owns g.G.Gate.Adds g.G.Gate.bytes_fetched g.G.Gate.told g.G.Gate.Answers c.args.plan.now c.args.place (IsPieceRead c.saturating_sub-end.result 12) NeverRefused c.in_ok-trailer.trailer c.args.gate.now _ f) c.from_residual-in_err-footer.ensures.1 (λ ys never. absurd never) c.in_err-footer.ensures.reads
 
 pub returns-in_err-append-clause-reads : goal.returns-in_err-append-clause-reads
 returns-in_err-append-clause-reads g c =
     let f = c.in_ok-trailer.ensures.reads in
     let k = c.in_ok-footer.ensures.reads in
-    read_ill g.G.Gate.Stands g.G.Gate.Between g.G.Gate.Owns g.G.Gate.Adds g.G.Gate.bytes_fetched g.G.Gate.told c.args.plan.now c.args.place (IsFooterGiven None c.args.size) (IsNoFooter None c.args.size) c.from_residual-in_err-append.result _ (f.calls ++ k.calls) c.args.gate.now _
-    (then_all g.G.Gate.Stands g.G.Gate.Between g.G.Gate.Owns g.G.Gate.Adds g.G.Gate.bytes_fetched g.G.Gate.told c.args.plan.now c.args.place (IsPieceRead c.in_ok-start.start c.saturating_sub.result) NeverRefused c.in_ok-footer.footer f.calls c.args.gate.now _ _ (all_of g.G.Gate.Stands g.G.Gate.Between g.G.Gate.Owns g.G.Gate.Adds g.G.Gate.bytes_fetched g.G.Gate.told c.args.plan.now c.args.place (IsPieceRead c.saturating_sub-end.result 12) NeverRefused c.in_ok-trailer.trailer c.args.gate.now _ f) k)
+    read_ill g.G.Gate.Stands g.G.Gate.Between g.G.Gate.Owns g.G.Gate.Adds g.G.Gate.bytes_fetched g.G.Gate.told g.G.Gate.Answers c.args.plan.now c.args.place (IsFooterGiven None c.args.size) (IsNoFooter None c.args.size) c.from_residual-in_err-append.result _ (f.calls ++ k.calls) c.args.gate.now _
+    (then_all g.G.Gate.Stands g.G.Gate.Between g.G.Gate.Owns g.G.Gate.Adds g.G.Gate.bytes_fetched g.G.Gate.told g.G.Gate.Answers c.args.plan.now c.args.place (IsPieceRead c.in_ok-start.start c.saturating_sub.result) NeverRefused c.in_ok-footer.footer f.calls c.args.gate.now _ _ (all_of g.G.Gate.Stands g.G.Gate.Between g.G.Gate.Owns g.G.Gate.Adds g.G.Gate.bytes_fetched g.G.Gate.told g.G.Gate.Answers c.args.plan.now c.args.place (IsPieceRead c.saturating_sub-end.result 12) NeverRefused c.in_ok-trailer.trailer c.args.gate.now _ f) k)
     c.from_residual-in_err-append.ensures.1 tt
 
 pub returns-clause-reads : goal.returns-clause-reads
@@ -99,6 +99,6 @@ returns-clause-reads g c =
     let tail = c.as_slice-3.result.now in
     let end = end_given size c.saturating_sub-end.result c.in_ok-start.start c.saturating_sub.result c.in_ok-trailer.trailer c.in_ok-footer.footer c.as_slice.result.now c.as_slice-2.result.now tail f.calls k.calls c.saturating_sub-end.ensures c.saturating_sub.ensures f.says.1 k.says.1
     c.as_slice.ensures c.as_slice-2.ensures c.in_ok-start.ensures.exact (c.as_slice-3.ensures ∙ c.in_ok-append.ensures.ok) in
-    read_match g.G.Gate.Stands g.G.Gate.Between g.G.Gate.Owns g.G.Gate.Adds g.G.Gate.bytes_fetched g.G.Gate.told c.args.plan.now c.args.place (λ footer. footer_of size tail ≡ Ok (held footer)) (IsFooterGiven None size) (IsNoFooter None size) (IsErr (footer_of size tail)) c.footer_at.result (f.calls ++ k.calls) c.args.gate.now _
-    (then_all g.G.Gate.Stands g.G.Gate.Between g.G.Gate.Owns g.G.Gate.Adds g.G.Gate.bytes_fetched g.G.Gate.told c.args.plan.now c.args.place (IsPieceRead c.in_ok-start.start c.saturating_sub.result) NeverRefused c.in_ok-footer.footer f.calls c.args.gate.now _ _ (all_of g.G.Gate.Stands g.G.Gate.Between g.G.Gate.Owns g.G.Gate.Adds g.G.Gate.bytes_fetched g.G.Gate.told c.args.plan.now c.args.place (IsPieceRead c.saturating_sub-end.result 12) NeverRefused c.in_ok-trailer.trailer c.args.gate.now _ f) k)
+    read_match g.G.Gate.Stands g.G.Gate.Between g.G.Gate.Owns g.G.Gate.Adds g.G.Gate.bytes_fetched g.G.Gate.told g.G.Gate.Answers c.args.plan.now c.args.place (λ footer. footer_of size tail ≡ Ok (held footer)) (IsFooterGiven None size) (IsNoFooter None size) (IsErr (footer_of size tail)) c.footer_at.result (f.calls ++ k.calls) c.args.gate.now _
+    (then_all g.G.Gate.Stands g.G.Gate.Between g.G.Gate.Owns g.G.Gate.Adds g.G.Gate.bytes_fetched g.G.Gate.told g.G.Gate.Answers c.args.plan.now c.args.place (IsPieceRead c.in_ok-start.start c.saturating_sub.result) NeverRefused c.in_ok-footer.footer f.calls c.args.gate.now _ _ (all_of g.G.Gate.Stands g.G.Gate.Between g.G.Gate.Owns g.G.Gate.Adds g.G.Gate.bytes_fetched g.G.Gate.told g.G.Gate.Answers c.args.plan.now c.args.place (IsPieceRead c.saturating_sub-end.result 12) NeverRefused c.in_ok-trailer.trailer c.args.gate.now _ f) k)
     c.footer_at.ensures.exact (λ footer h. (end.0, end.1 ∙ h)) (λ e. inr (end.0, subst IsErr (sym end.1) e))

@@ -108,21 +108,21 @@ returns-in_err-later-in-Ok-clause-reads g c row there =
     let same : c.at.result.now ≡ row = same_row _ c.at.result.now row c.at.ensures there in
     let number : c.at.result.now.number ≡ row.number = ap (λ (r : PlanRow). r.number) same in
     let found = c.take-known.ensures.found ∙ ap (λ (n : ℕ). lookup (nat_eq n) (entries c.args.self.now.footers)) number in
-    row_short g.G.Gate.Stands g.G.Gate.Between g.G.Gate.Owns g.G.Gate.Adds g.G.Gate.bytes_fetched g.G.Gate.told c.args.self.now.footers c.args.planned row _ c.args.gate.now _ c.take-known.result found (IsPartRead c.take-known.result row.number row.size) (IsNoPart c.take-known.result row.size) _ c.from_residual.result (c.in-Ok.ensures.reads row there) c.from_residual.ensures.0
+    row_short g.G.Gate.Stands g.G.Gate.Between g.G.Gate.Owns g.G.Gate.Adds g.G.Gate.bytes_fetched g.G.Gate.told g.G.Gate.Answers c.args.self.now.footers c.args.planned row _ c.args.gate.now _ c.take-known.result found (IsPartRead c.take-known.result row.number row.size) (IsNoPart c.take-known.result row.size) _ c.from_residual.result (c.in-Ok.ensures.reads row there) c.from_residual.ensures.0
 
 pub returns-in_ok-later-in-Ok-clause-reads : goal.returns-in_ok-later-in-Ok-clause-reads
 returns-in_ok-later-in-Ok-clause-reads g c row there =
     let same : c.at.result.now ≡ row = same_row _ c.at.result.now row c.at.ensures there in
     let number : c.at.result.now.number ≡ row.number = ap (λ (r : PlanRow). r.number) same in
     let found = c.take-known.ensures.found ∙ ap (λ (n : ℕ). lookup (nat_eq n) (entries c.args.self.now.footers)) number in
-    row_read g.G.Gate.Stands g.G.Gate.Between g.G.Gate.Owns g.G.Gate.Adds g.G.Gate.bytes_fetched g.G.Gate.told c.args.self.now.footers c.args.planned row _ c.args.gate.now _ c.take-known.result found c.in-Ok.part _ c.at.result.now.number (c.in-Ok.ensures.reads row there) number (ap (λ (s : Searcher). s.request) c.hold.ensures) c.in_ok-later-in-Ok.ensures.ask c.in_ok-later-in-Ok.ensures.plan c.in_ok-later-in-Ok.ensures.next c.in_ok-later-in-Ok.ensures.parts
+    row_read g.G.Gate.Stands g.G.Gate.Between g.G.Gate.Owns g.G.Gate.Adds g.G.Gate.bytes_fetched g.G.Gate.told g.G.Gate.Answers c.args.self.now.footers c.args.planned row _ c.args.gate.now _ c.take-known.result found c.in-Ok.part _ c.at.result.now.number (c.in-Ok.ensures.reads row there) number (ap (λ (s : Searcher). s.request) c.hold.ensures) c.in_ok-later-in-Ok.ensures.ask c.in_ok-later-in-Ok.ensures.plan c.in_ok-later-in-Ok.ensures.next c.in_ok-later-in-Ok.ensures.parts
 
 pub returns-in-Err-clause-reads : goal.returns-in-Err-clause-reads
 returns-in-Err-clause-reads g c row there =
     let same : c.at.result.now ≡ row = same_row _ c.at.result.now row c.at.ensures there in
     let number : c.at.result.now.number ≡ row.number = ap (λ (r : PlanRow). r.number) same in
     let found = c.take-known.ensures.found ∙ ap (λ (n : ℕ). lookup (nat_eq n) (entries c.args.self.now.footers)) number in
-    row_refused g.G.Gate.Stands g.G.Gate.Between g.G.Gate.Owns g.G.Gate.Adds g.G.Gate.bytes_fetched g.G.Gate.told c.args.self.now.footers c.args.planned row _ c.args.gate.now _ c.take-known.result found c.in-Err.fault c.refuse_fetch.result (c.in-Err.ensures.reads row there)
+    row_refused g.G.Gate.Stands g.G.Gate.Between g.G.Gate.Owns g.G.Gate.Adds g.G.Gate.bytes_fetched g.G.Gate.told g.G.Gate.Answers c.args.self.now.footers c.args.planned row _ c.args.gate.now _ c.take-known.result found c.in-Err.fault c.refuse_fetch.result (c.in-Err.ensures.reads row there)
     (subst (λ (n : ℕ). Refuses c.args.planned.plan.revision (IsFetchRefusal n c.in-Err.fault) c.refuse_fetch.result) number c.refuse_fetch.ensures.refuses)
     (λ is_corrupt config documents p core log stands configured file is asked known.
     never_corrupt (grace_of config c.args.planned.plan) file.row.number g.G.Gate.Stands g.G.Gate.Between g.G.Gate.Adds g.G.Gate.bytes_fetched (IsPartFetched config.schema c.args.planned.ask.request c.take-known.result documents p (part_calls c.take-known.result)) c.in-Err.fault core log c.args.gate.now _ (c.in-Err.ensures.step config documents p core log stands configured file is asked known) is_corrupt)

@@ -23,12 +23,12 @@ returns-in-Err-Memory-clause-step g c client core log asked stands w =
 pub returns-in-Ok-clause-plans : goal.returns-in-Ok-clause-plans
 returns-in-Ok-clause-plans g c =
     let r = c.in-Ok.ensures in
-    plans_under g.G.Gate.Stands g.G.Gate.Between g.G.Gate.Owns g.G.Gate.Adds g.G.Gate.bytes_fetched c.args.self.now.front c.plan_read.new.self.request c.plan_read.result c.args.gate.now c.plan_read.new.gate c.config.result.now (g.G.Gate.configured c.args.gate.now) c.args.text.now (Ok r.0)
+    plans_under g.G.Gate.Stands g.G.Gate.Between g.G.Gate.Owns g.G.Gate.Adds g.G.Gate.bytes_fetched g.G.Gate.Answers c.args.self.now.front c.plan_read.new.self.request c.plan_read.result c.args.gate.now c.plan_read.new.gate c.config.result.now (g.G.Gate.configured c.args.gate.now) c.args.text.now (Ok r.0)
     c.config.ensures.value (ap (asked_of c.config.result.now) (sym c.as_slice.ensures) ∙ r.1) (c.plan_read.ensures.plans c.config.result.now.schema r.0 r.2)
 
 pub returns-in-Err-Refused-clause-plans : goal.returns-in-Err-Refused-clause-plans
 returns-in-Err-Refused-clause-plans g c =
-    plans_under g.G.Gate.Stands g.G.Gate.Between g.G.Gate.Owns g.G.Gate.Adds g.G.Gate.bytes_fetched c.args.self.now.front c.refuse_asked.new.self.request c.refuse_asked.result c.args.gate.now c.refuse_asked.new.gate c.config.result.now (g.G.Gate.configured c.args.gate.now) c.args.text.now (Err (Refused c.in-Err-Refused.refusal))
+    plans_under g.G.Gate.Stands g.G.Gate.Between g.G.Gate.Owns g.G.Gate.Adds g.G.Gate.bytes_fetched g.G.Gate.Answers c.args.self.now.front c.refuse_asked.new.self.request c.refuse_asked.result c.args.gate.now c.refuse_asked.new.gate c.config.result.now (g.G.Gate.configured c.args.gate.now) c.args.text.now (Err (Refused c.in-Err-Refused.refusal))
     c.config.ensures.value
     (ap (asked_of c.config.result.now) (sym c.as_slice.ensures) ∙ refused_is (asked_of c.config.result.now c.as_slice.result.now) c.in-Err-Refused.field-0 c.in-Err-Refused.refusal c.in-Err-Refused.field-0-is c.in-Err-Refused.ensures)
     (c.refuse_asked.ensures.plans c.config.result.now.schema)

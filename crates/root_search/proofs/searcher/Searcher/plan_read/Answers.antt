@@ -40,14 +40,14 @@ returns-in-Err-clause-step g c text search config client core log configured wor
 pub returns-in-Ok-clause-plans : goal.returns-in-Ok-clause-plans
 returns-in-Ok-clause-plans g c s search read =
     let held = ap (λ (x : Searcher). x.request) c.hold.ensures in
-    plans_as g.G.Gate.Stands g.G.Gate.Between g.G.Gate.Owns g.G.Gate.Adds g.G.Gate.bytes_fetched c.args.self.now.front c.hold.new.self.request (Ok (Planned c.in-Ok.plan.revision c.len-count.result)) c.args.gate.now c.plan.new.self s (Ok search) c.args.read.choice (Ok c.in-Ok.plan)
-    c.in-Ok.ensures.same c.in-Ok.ensures.step
+    plans_as g.G.Gate.Stands g.G.Gate.Between g.G.Gate.Owns g.G.Gate.Adds g.G.Gate.bytes_fetched g.G.Gate.Answers c.args.self.now.front c.hold.new.self.request (Ok (Planned c.in-Ok.plan.revision c.len-count.result)) c.args.gate.now c.plan.new.self s (Ok search) c.args.read.choice (Ok c.in-Ok.plan)
+    c.in-Ok.ensures.answered c.in-Ok.ensures.same c.in-Ok.ensures.step
     (read.choice, ap (λ (n : ℕ). Ok (Planned c.in-Ok.plan.revision n)) c.len-count.ensures, begins s search c.args.read c.in-Ok.plan c.hold.new.self.request _ read held refl refl refl c.vacant.ensures)
 
 pub returns-in-Err-clause-plans : goal.returns-in-Err-clause-plans
 returns-in-Err-clause-plans g c s search read =
-    plans_as g.G.Gate.Stands g.G.Gate.Between g.G.Gate.Owns g.G.Gate.Adds g.G.Gate.bytes_fetched c.args.self.now.front c.refuse.new.self.request c.refuse.result c.args.gate.now c.plan.new.self s (Ok search) c.args.read.choice (Err c.in-Err.error)
-    c.in-Err.ensures.same c.in-Err.ensures.step (read.choice, c.refuse.ensures.refuses)
+    plans_as g.G.Gate.Stands g.G.Gate.Between g.G.Gate.Owns g.G.Gate.Adds g.G.Gate.bytes_fetched g.G.Gate.Answers c.args.self.now.front c.refuse.new.self.request c.refuse.result c.args.gate.now c.plan.new.self s (Ok search) c.args.read.choice (Err c.in-Err.error)
+    c.in-Err.ensures.answered c.in-Err.ensures.same c.in-Err.ensures.step (read.choice, c.refuse.ensures.refuses)
 
 pub returns-in-Ok-clause-leaves : goal.returns-in-Ok-clause-leaves
 returns-in-Ok-clause-leaves g c none = works_planned c.args.self.now c.hold.new.self c.in-Ok.plan.revision c.len-count.result _ c.hold.ensures

@@ -38,13 +38,13 @@ returns-in-Err-clause-step g c text config client core log configured none asked
 
 pub returns-in-Ok-clause-plans : goal.returns-in-Ok-clause-plans
 returns-in-Ok-clause-plans g c s =
-    plans_as g.G.Gate.Stands g.G.Gate.Between g.G.Gate.Owns g.G.Gate.Adds g.G.Gate.bytes_fetched c.args.self.now.front c.reply.new.self.request (Ok c.reply.result) c.args.gate.now c.plan.new.self s (Err (reasons.Refused c.args.refusal)) Look (Ok c.in-Ok.plan)
-    c.in-Ok.ensures.same c.in-Ok.ensures.step (refl, refused_reply _ c.reply.result _ _ c.args.refusal c.reply.ensures.said refl)
+    plans_as g.G.Gate.Stands g.G.Gate.Between g.G.Gate.Owns g.G.Gate.Adds g.G.Gate.bytes_fetched g.G.Gate.Answers c.args.self.now.front c.reply.new.self.request (Ok c.reply.result) c.args.gate.now c.plan.new.self s (Err (reasons.Refused c.args.refusal)) Look (Ok c.in-Ok.plan)
+    c.in-Ok.ensures.answered c.in-Ok.ensures.same c.in-Ok.ensures.step (refl, refused_reply _ c.reply.result _ _ c.args.refusal c.reply.ensures.said refl)
 
 pub returns-in-Err-clause-plans : goal.returns-in-Err-clause-plans
 returns-in-Err-clause-plans g c s =
-    plans_as g.G.Gate.Stands g.G.Gate.Between g.G.Gate.Owns g.G.Gate.Adds g.G.Gate.bytes_fetched c.args.self.now.front c.refuse_unplanned.new.self.request c.refuse_unplanned.result c.args.gate.now c.plan.new.self s (Err (reasons.Refused c.args.refusal)) Look (Err c.in-Err.error)
-    c.in-Err.ensures.same c.in-Err.ensures.step (refl, c.refuse_unplanned.ensures.refuses)
+    plans_as g.G.Gate.Stands g.G.Gate.Between g.G.Gate.Owns g.G.Gate.Adds g.G.Gate.bytes_fetched g.G.Gate.Answers c.args.self.now.front c.refuse_unplanned.new.self.request c.refuse_unplanned.result c.args.gate.now c.plan.new.self s (Err (reasons.Refused c.args.refusal)) Look (Err c.in-Err.error)
+    c.in-Err.ensures.answered c.in-Err.ensures.same c.in-Err.ensures.step (refl, c.refuse_unplanned.ensures.refuses)
 
 pub returns-in-Ok-clause-leaves : goal.returns-in-Ok-clause-leaves
 returns-in-Ok-clause-leaves g c none = works_replied c.args.self.now c.reply.new.self c.reply.result _ (Refused c.args.refusal) c.reply.ensures.said c.reply.ensures.leaves none

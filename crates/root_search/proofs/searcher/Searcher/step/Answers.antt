@@ -59,7 +59,7 @@ returns-in-Opened-clause-reads g c planned row is there = absurd (opened_unplann
 pub returns-in-Planned-clause-reads : goal.returns-in-Planned-clause-reads
 returns-in-Planned-clause-reads g c planned row is there =
     let same : planned ≡ c.in-Planned.planned = planned_one c.args.self.now.request c.in-Planned.planned planned (sym c.replace.ensures.value ∙ c.in-Planned.is) is in
-    subst (λ (q : GivenPlan). FetchesRow g.G.Gate.Stands g.G.Gate.Between g.G.Gate.Owns g.G.Gate.Adds g.G.Gate.bytes_fetched g.G.Gate.told c.args.self.now.footers q row c.go_on.new.self.request c.go_on.result c.args.gate.now c.go_on.new.gate) (sym same)
+    subst (λ (q : GivenPlan). FetchesRow g.G.Gate.Stands g.G.Gate.Between g.G.Gate.Owns g.G.Gate.Adds g.G.Gate.bytes_fetched g.G.Gate.told g.G.Gate.Answers c.args.self.now.footers q row c.go_on.new.self.request c.go_on.result c.args.gate.now c.go_on.new.gate) (sym same)
     (c.go_on.ensures.reads row (subst (λ (q : GivenPlan). slice_get q.plan.rows q.next ≡ Some row) same there))
 
 pub returns-in-Vacant-clause-answers : goal.returns-in-Vacant-clause-answers
@@ -80,7 +80,7 @@ pub returns-in-Opened-clause-plans : goal.returns-in-Opened-clause-plans
 returns-in-Opened-clause-plans g c text is =
     let same : text ≡ c.in-Opened.text = opened_one c.args.self.now.request c.in-Opened.text text (sym c.replace.ensures.value ∙ c.in-Opened.is) is in
     let config = g.G.Gate.configured c.args.gate.now in
-    subst (λ (t : List ℕ). PlansUnlessShort g.G.Gate.Stands g.G.Gate.Between g.G.Gate.Owns g.G.Gate.Adds g.G.Gate.bytes_fetched config.schema (asked_of config t) c.args.self.now.front c.plan.new.self.request c.plan.result c.args.gate.now c.plan.new.gate) (sym same) c.plan.ensures.plans
+    subst (λ (t : List ℕ). PlansUnlessShort g.G.Gate.Stands g.G.Gate.Between g.G.Gate.Owns g.G.Gate.Adds g.G.Gate.bytes_fetched g.G.Gate.Answers config.schema (asked_of config t) c.args.self.now.front c.plan.new.self.request c.plan.result c.args.gate.now c.plan.new.gate) (sym same) c.plan.ensures.plans
 
 pub returns-in-Planned-clause-plans : goal.returns-in-Planned-clause-plans
 returns-in-Planned-clause-plans g c text is = absurd (opened_unplanned c.args.self.now.request text c.in-Planned.planned is (sym c.replace.ensures.value ∙ c.in-Planned.is))
