@@ -1,7 +1,6 @@
 -- What a printed line tells, whatever the node is.
-use Rattle.std.proofs.Common.{◌≡◌, ℕ, List, ◌∷◌, ◌++◌, length, get_or, sym, ap, ◌∙◌, subst, inl, inr}
-use Rattle.std.specs.Prelude.{◌⊎◌, ◌≤◌, ◌<◌, Bool, true, false, codes, decimal, slice_get, Some, None, Result, Ok, Err, IfOk, IsErr, MatchBool}
-use Rattle.std.proofs.lemmas.Option.{slice_get_cases, none-some}
+use Rattle.std.proofs.Common.{◌≡◌, ℕ, List, ◌∷◌, ◌++◌, sym, ap, subst}
+use Rattle.std.specs.Prelude.{Bool, true, false, codes, decimal, Result, Ok, Err, IfOk, IsErr, MatchBool}
 use Rattle.std.specs.declared.alloc.AllocError.{AllocError}
 use Rattle.index_world.specs.Saying.{words}
 use Rattle.indexing_run.specs.Standing.{said_words}
@@ -32,13 +31,3 @@ where_up down r P Q is h = subst (λ b. IfOk r (λ out. MatchBool b (P out.bytes
 -- an indexer's words behind its number
 pub indexer_words : (number : ℕ) (outcome : Said) → codes "indexer" ++ 32 ∷ (decimal number ++ 32 ∷ words (said_words outcome)) ≡ said_text number outcome
 indexer_words number outcome = ap (λ text. codes "indexer" ++ 32 ∷ text) (sym (behind_word (decimal number) (said_words outcome) (said_started outcome)))
-
--- ---- lists
-
--- behind the last
-pub past_last : {X : Type 0} (xs : List X) (i : ℕ) → slice_get xs i ≡ None → length xs ≤ i
-past_last {X = X} xs i none = by (slice_get_cases xs i).1
-  where
-    by : ((x : X) × (i < length xs) × (slice_get xs i ≡ Some x) × (get_or xs i x ≡ x)) ⊎ ((length xs ≤ i) × (slice_get xs i ≡ None)) → length xs ≤ i
-    by (inl some) = absurd (none-some some.0 (sym none ∙ some.2))
-    by (inr past) = past.0

@@ -1,30 +1,45 @@
 -- What the printed line of each line tells, whatever the store, the logs and the node are: what was answered, as itself.
-use Rattle.std.specs.Prelude.{◌≡◌, ◌⊎◌, ℕ, ◌++◌, Bool, List, ◌∷◌, length, decimal, codes, slice_get, slice_set, Option, Some, None, Result, Ok, Err, ⊤, MatchBool}
+use Rattle.std.specs.Prelude.{◌≡◌, ◌⊎◌, ℕ, ◌++◌, Bool, List, ◌∷◌, length, decimal, codes, slice_get, slice_set, Option, Some, Result, Ok, Err, ⊤, MatchBool}
 use Rattle.std.specs.Result.{is_err}
 use Rattle.std.specs.declared.alloc.AllocError.{AllocError}
-use Rattle.meta_store.specs.declared.planning.PlanRow.{PlanRow}
-use Rattle.object_store.specs.Store.{WhereTold}
+use Rattle.clock_time.specs.declared.clock.ScriptClock.{ScriptClock}
+use Rattle.object_store.specs.Store.{State, WhereTold}
 use Rattle.source_log.specs.Log.{Log}
-use Rattle.index_world.specs.DirectLaws.{config_kept}
+use Rattle.index_world.specs.Answering.{Answered, IsAnswer}
+use Rattle.index_world.specs.Core.{Core}
+use Rattle.index_world.specs.DirectLaws.{AnyNumber, Anything, config_kept}
+use Rattle.index_world.specs.Gate.{NoneBetween}
 use Rattle.index_world.specs.Opened.{OpensAnew}
 use Rattle.index_world.specs.Saying.{words, error_words}
-use Rattle.index_world.specs.World.{Keeping}
+use Rattle.index_world.specs.World.{Keeping, WorldStands}
+use Rattle.index_world.specs.declared.direct.Direct.{Direct}
 use Rattle.index_world.specs.declared.world_error.WorldError.{WorldError}
 use Rattle.indexing_run.specs.Ending.{EndsStep}
 use Rattle.indexing_run.specs.Standing.{said_words}
 use Rattle.indexing_run.specs.declared.indexer.Indexer.{Indexer as Reader}
 use Rattle.indexing_run.specs.declared.outcome.IndexerOutcome.{IndexerOutcome as Said}
+use Rattle.root_search.specs.Leaving.{StepLeaves}
+use Rattle.root_search.specs.StepPlans.{StepPlans}
+use Rattle.root_search.specs.StepReads.{StepAnswers, StepReads}
 use Rattle.root_search.specs.declared.outcome.SearchStep.{SearchStep}
-use Rattle.root_search.specs.declared.outcome.SearchStep.TheVariants.{Idle, Planned, Fetched, Replied}
-use Rattle.root_search.specs.declared.planned.Planned.{Planned as GivenPlan}
-use Rattle.root_search.specs.declared.searcher.Request.{Request as GivenRequest}
-use Rattle.root_search.specs.declared.searcher.Request.TheVariants as requests
 use Rattle.root_search.specs.declared.searcher.Searcher.{Searcher}
-use Rattle.search_api.specs.declared.reply.Refusal.{Refusal}
-use Rattle.search_api.specs.declared.reply.Said.TheVariants.{Refused}
 use Rattle.node_run.specs.declared.drive.DriveNode.{DriveNode}
 use Rattle.node_run.specs.Lines.{outcome_text}
 use Rattle.node_run.specs.Node.{Line, At, Assign, StepIndexer, RestartIndexer, RestartClient, RestartNode, Open, StepClient, at_said, assigned, indexer_busy, indexer_down, indexer_restarted, client_restarted, node_restarted, request_opened, request_busy, client_said, client_down}
+
+-- ---- a world through which one actor acts after the other
+
+abbrev pub StandsAlone : {S : Type 0} → Direct S ScriptClock → Core → Log → Type 0
+StandsAlone gate core log = WorldStands gate.world core log
+
+abbrev pub AnswersAlone : {S : Type 0} → Direct S ScriptClock → Answered → Direct S ScriptClock → Type 0
+AnswersAlone old call new = IsAnswer call old.world new.world
+
+abbrev pub told_alone : {S : Type 0} → Direct S ScriptClock → Option State
+told_alone gate = gate.world.told
+
+abbrev pub drawn : {S : Type 0} → Direct S ScriptClock → ℕ
+drawn gate = gate.fetched
 
 -- ---- a restart of the node
 
@@ -47,7 +62,7 @@ pub record PrintsRestart (old new : Keeping) (down : Bool) (out : List ℕ) : Ty
 
 -- a step through a world alone ended so
 abbrev pub EndsAlone : {L : Type 0} → (L → Option Log) → (L → ℕ) → Reader L → Result Said AllocError → Reader L → Keeping → Keeping → Type 0
-EndsAlone tells count before result reader old new = EndsStep tells count (λ (world : Keeping). world.told) config_kept before result reader old new
+EndsAlone tells count before result reader old new = EndsStep tells count (λ (world : Keeping). world.told) config_kept (λ (was : Keeping) call (now : Keeping). IsAnswer call was now) before result reader old new
 
 -- the words of an outcome behind the indexer's number
 abbrev pub said_text : (indexer : ℕ) → Said → List ℕ
@@ -65,31 +80,20 @@ pub record PrintsIndexer {L : Type 0} (tells : L → Option Log) (count : L → 
 
 -- ---- a client's step
 
--- a step that fetches of a row: it is fetched, or a refusal is replied
-abbrev pub TellsRow : PlanRow → GivenRequest → SearchStep → Type 0
-TellsRow row request Idle = ⊥
-TellsRow row request (Planned revision count) = ⊥
-TellsRow row request (Fetched number) = (number ≡ row.number) × ((later : GivenPlan) × (request ≡ requests.Planned later))
-TellsRow row request (Replied reply) = (refusal : Refusal) × (reply.said ≡ Refused refusal)
-
--- the step behind the last row: a reply over the plan's revision
-abbrev pub TellsReply : (revision : ℕ) → SearchStep → Type 0
-TellsReply revision Idle = ⊥
-TellsReply revision (Planned r count) = ⊥
-TellsReply revision (Fetched number) = ⊥
-TellsReply revision (Replied reply) = reply.revision ≡ revision
-
--- what a planned search is told: never that nothing was asked
-pub record TellsSearch (searcher after : Searcher) (outcome : SearchStep) : Type 0 where
-  pub row : (plan : GivenPlan) (row : PlanRow) → searcher.request ≡ requests.Planned plan → slice_get plan.plan.rows plan.next ≡ Some row → TellsRow row after.request outcome
-  pub reply : (plan : GivenPlan) → searcher.request ≡ requests.Planned plan → slice_get plan.plan.rows plan.next ≡ None → TellsReply plan.plan.revision outcome
+-- What a searcher's step through a world alone answers, over every store: where it plans, by what its plan answered; where it fetches of a row, by what each
+-- of its fetches gave; behind the last row, by what is kept of all; and what it leaves of the searcher.
+pub record TellsSearch {S : Type 0} (searcher after : Searcher) (outcome : SearchStep) (old new : Direct S ScriptClock) : Type 0 where
+  pub plans : StepPlans StandsAlone NoneBetween AnyNumber Anything drawn AnswersAlone (config_kept old.world) searcher after (Ok outcome) old new
+  pub reads : StepReads StandsAlone NoneBetween AnyNumber Anything drawn told_alone AnswersAlone searcher after (Ok outcome) old new
+  pub answers : StepAnswers (config_kept old.world) searcher (Ok outcome)
+  pub leaves : StepLeaves searcher (Ok outcome) after
 
 -- others may stand behind them
 abbrev pub HasMore : {X : Type 0} → List X → List X → Type 0
 HasMore {X} old new = (more : List X) × (new ≡ old ++ more)
 
 -- A searcher of the node, or one that begins behind them, took a step, and its outcome is told.
-pub record PrintsSearch (name : List ℕ) (searchers later : List Searcher) (out : List ℕ) : Type 0 where
+pub record PrintsSearch {S : Type 0} (name : List ℕ) (searchers later : List Searcher) (old new : Direct S ScriptClock) (out : List ℕ) : Type 0 where
   pub more : List Searcher
   pub place : ℕ
   pub searcher : Searcher
@@ -97,7 +101,7 @@ pub record PrintsSearch (name : List ℕ) (searchers later : List Searcher) (out
   pub at : slice_get (searchers ++ more) place ≡ Some searcher
   pub behind : later ≡ slice_set (searchers ++ more) place after
   pub outcome : SearchStep
-  pub tells : TellsSearch searcher after outcome
+  pub tells : TellsSearch searcher after outcome old new
   pub printed : out ≡ outcome_text (client_said name outcome)
 
 -- ---- each line
@@ -111,4 +115,4 @@ PrintsLine tells count (RestartIndexer indexer) old new out = out ≡ outcome_te
 PrintsLine tells count (RestartClient name) old new out = out ≡ outcome_text (client_restarted name)
 PrintsLine tells count RestartNode old new out = PrintsRestart old.gate.world new.gate.world new.down out
 PrintsLine tells count (Open name text) old new out = (out ≡ outcome_text (request_opened name)) ⊎ (out ≡ outcome_text (request_busy name))
-PrintsLine tells count (StepClient name) old new out = MatchBool old.down (out ≡ outcome_text (client_down name)) (PrintsSearch name old.clients.items new.clients.items out)
+PrintsLine tells count (StepClient name) old new out = MatchBool old.down (out ≡ outcome_text (client_down name)) (PrintsSearch name old.clients.items new.clients.items old.gate new.gate out)

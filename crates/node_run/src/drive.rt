@@ -100,7 +100,7 @@ fn step_searcher<Rt: Threads + Sync, S: ObjectStore>(
         SearcherStands searcher.old client core log →
         SearchesAlone result searcher.new gate.new.world client core log }
     // Whatever the world is.
-    ensures tells { IfOk result (TellsSearch searcher.old searcher.new) }
+    ensures tells { IfOk result (λ outcome. TellsSearch searcher.old searcher.new outcome gate.old gate.new) }
 {
     searcher.step(rt, alloc, gate)
 }

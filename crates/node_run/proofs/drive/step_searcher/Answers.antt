@@ -1,8 +1,7 @@
 use Rattle.std.proofs.Common.{◌∙◌}
 use Rattle.root_search.specs.Steps.{luck_of}
 use Rattle.root_search.proofs.Steps.{step_alone}
-use Rattle.index_world.specs.DirectLaws.{config_kept}
-use Rattle.node_run.proofs.Searches.{tells_row, tells_search}
+use Rattle.node_run.proofs.Searches.{tells_search}
 use Rattle.node_run.proofs.drive.step_searcher.Goals as goal
 
 pub returns-clause-step : goal.returns-clause-step
@@ -21,5 +20,4 @@ returns-clause-step g c client core log is_log stands searcher =
     }
 
 pub returns-clause-tells : goal.returns-clause-tells
-returns-clause-tells g c =
-    tells_search (config_kept c.args.gate.now.world) c.args.searcher.now c.step.new.self c.step.result (λ plan row is at. tells_row (c.step.ensures.reads plan row is at)) c.step.ensures.answers
+returns-clause-tells g c = tells_search c.args.searcher.now c.step.new.self c.step.result c.args.gate.now c.step.new.gate c.step.ensures.plans c.step.ensures.reads c.step.ensures.answers c.step.ensures.leaves

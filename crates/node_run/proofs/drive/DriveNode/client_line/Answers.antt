@@ -43,7 +43,7 @@ returns-in_err-place-clause-prints g c = if_short c.from_residual.result _ c.fro
 pub returns-then-self-clause-prints : goal.returns-then-self-clause-prints
 returns-then-self-clause-prints g c =
     where_down c.args.self.now.down c.client_down.result (λ out. out ≡ outcome_text (said.client_down c.args.client.now))
-    (PrintsSearch c.args.client.now c.args.self.now.clients.items c.known.new.clients.items) c.if-self.true c.client_down.ensures
+    (PrintsSearch c.args.client.now c.args.self.now.clients.items c.known.new.clients.items c.args.self.now.gate c.args.self.now.gate) c.if-self.true c.client_down.ensures
 
 pub returns-in_err-outcome-clause-prints : goal.returns-in_err-outcome-clause-prints
 returns-in_err-outcome-clause-prints g c = if_short c.from_residual-in_err-outcome.result _ c.from_residual-in_err-outcome.ensures.0
@@ -58,8 +58,8 @@ returns-clause-prints g c =
     let more = c.in_ok-place.ensures.kept in
     let at : slice_get known place ≡ Some c.index_mut.result.now =
     slice_get_read known (length known) place c.index_mut.result.now refl (omega (arith, c.in_ok-place.ensures.bound, c.known.new.clients.ok.0)) c.index_mut.ensures.value in
-    where_up c.args.self.now.down c.client.result (λ out. out ≡ outcome_text (said.client_down name)) (PrintsSearch name old later) c.if-self.false
-    (if_ok_where c.client.result (λ out. out ≡ outcome_text (said.client_said name c.in_ok-outcome.outcome)) (PrintsSearch name old later) (λ out h. record {
+    where_up c.args.self.now.down c.client.result (λ out. out ≡ outcome_text (said.client_down name)) (PrintsSearch name old later c.args.self.now.gate c.step_searcher.new.gate) c.if-self.false
+    (if_ok_where c.client.result (λ out. out ≡ outcome_text (said.client_said name c.in_ok-outcome.outcome)) (PrintsSearch name old later c.args.self.now.gate c.step_searcher.new.gate) (λ out h. record {
       more = more.0;
       place = place;
       searcher = c.index_mut.result.now;
