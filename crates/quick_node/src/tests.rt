@@ -529,7 +529,7 @@ fn runs_from<Rt: Threads + Wait + Sync + Abort>(
 
 #[test]
 fn rows_of_drive(rt: HostRuntime) -> Result<(), Fail> {
-    do_rows(&rt, rt.alloc(), ROWS, 53)
+    do_rows(&rt, rt.alloc(), ROWS, 54)
 }
 
 #[test]
