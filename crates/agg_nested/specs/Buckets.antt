@@ -1,5 +1,5 @@
 -- The groups of the buckets of an aggregation, and which documents they stand for.
-use Rattle.std.specs.Prelude.{◌≡◌, ◌≤◌, List, length, Option, None, nat_eq}
+use Rattle.std.specs.Prelude.{◌≡◌, ◌≢◌, ℕ, ◌<◌, ◌≤◌, ◌^◌, List, [], length, Option, None, nat_eq}
 use Rattle.std.specs.HashMap.{get, get_by_text}
 use Rattle.std.specs.List.{AllZip}
 use Rattle.std.specs.Option.{option_map_or}
@@ -40,12 +40,30 @@ pub record GroupsStand (agg : FlatAgg) (nested : List NamedFlat) (groups : Group
   pub each : (spot : Spot) → GroupStands nested (group_at groups spot) (documents_at agg documents spot)
   pub last : (spot : Spot) → last_of (group_at groups spot) ≤ length documents
 
--- the part of an aggregation stands for documents, and what it has of each bucket for the documents of this bucket
+-- the part of an aggregation stands for documents, and where anything is nested, what it has of each bucket for the documents of this bucket
 pub record PartStands (asked : NestedAgg) (part : NestedPart) (documents : List (List DocField)) : Type 0 where
   pub flat : FlatStands asked.agg part.flat documents
-  pub groups : GroupsStand asked.agg asked.nested part.groups documents
+  pub groups : asked.nested ≢ [] → GroupsStand asked.agg asked.nested part.groups documents
 
 -- the partial of a request stands for documents
 pub record NestedStands (request : List NestedAgg) (partial : NestedPartial) (documents : List (List DocField)) : Type 0 where
   pub many : partial.documents ≡ length documents
   pub parts : AllZip (λ asked part. PartStands asked part documents) request partial.parts.items
+
+-- how many documents a partial counts
+abbrev pub documents_counted : NestedPartial → ℕ
+documents_counted partial = partial.documents
+
+-- the part of an aggregation stands for some documents, so many
+pub record IsPartFor (asked : NestedAgg) (number : ℕ) (part : NestedPart) : Type 0 where
+  pub documents : List (List DocField)
+  pub stands : PartStands asked part documents
+  pub many : length documents ≡ number
+
+abbrev pub ArePartsFor : List NestedAgg → ℕ → List NestedPart → Type 0
+ArePartsFor request number parts = AllZip (λ asked part. IsPartFor asked number part) request parts
+
+-- a partial of the request: each part stands for as many documents as are counted, whichever they are
+pub record IsNestedPartial (request : List NestedAgg) (partial : NestedPartial) : Type 0 where
+  pub few : partial.documents < 2 ^ 62
+  pub parts : ArePartsFor request partial.documents partial.parts.items

@@ -1,15 +1,16 @@
 //! What a partial answers.
 
-ghost use Rattle.std.specs.Prelude.{◌≡◌, ◌^◌, ◌<◌, ◌≤◌, [], List, length, map, IfOk};
+ghost use Rattle.std.specs.Prelude.{◌≡◌, ℕ, ◌^◌, ◌<◌, ◌≤◌, [], ◌∷◌, List, length, map, replicate, IfOk};
 ghost use Rattle.std.specs.List.{All, AllZip, sum_by};
 ghost use Rattle.doc_value.specs.declared.doc.DocField.{DocField};
 ghost use Rattle.agg_model.specs.Answers.{most_buckets};
 ghost use Rattle.agg_nested.specs.Answers.{flat_answer, flat_answers, flat_buckets, inner_buckets, nested_answer, nested_buckets, all_buckets, nested};
-ghost use Rattle.agg_nested.specs.Buckets.{GroupsStand, PartStands, NestedStands};
+ghost use Rattle.agg_nested.specs.Buckets.{GroupsStand, PartStands, NestedStands, ArePartsFor, IsNestedPartial};
 ghost use Rattle.agg_nested.specs.Checking.{HasStep, HaveSteps};
 ghost use Rattle.agg_nested.specs.Finished.{HadMemory};
 ghost use Rattle.agg_nested.specs.Partials.{FlatStands, AreStanding};
 ghost use Rattle.agg_nested.specs.Spots.{documents_at, spots_in};
+ghost use Rattle.agg_nested.specs.declared.request.NestedAgg.{NestedAgg};
 
 use crate::answer::{FlatAnswer, NamedAnswer, NestedAnswer, NestedResult};
 use crate::finishing::finish_flat;
@@ -27,8 +28,9 @@ use std::alloc::{AllocError, Global};
 // The answer of an aggregation with few buckets.
 fn few_answer(alloc: Global, agg: &FlatAgg, part: &FlatPart) -> Result<FlatAnswer, AllocError>
     requires step { HasStep agg.now }
-    requires few { (documents : List (List DocField)) × FlatStands agg.now part.now documents × (length documents < 2 ^ 62) × (flat_buckets documents agg.now ≤ most_buckets) }
-    ensures { IfOk result (λ answer. (documents : List (List DocField)) → FlatStands agg.now part.now documents → answer ≡ flat_answer documents agg.now) }
+    requires known { (documents : List (List DocField)) × FlatStands agg.now part.now documents × (length documents < 2 ^ 62) }
+    ensures { IfOk result (λ answer. (documents : List (List DocField)) → FlatStands agg.now part.now documents → flat_buckets documents agg.now ≤ most_buckets
+        → answer ≡ flat_answer documents agg.now) }
 {
     match finish_flat(alloc, agg, part) {
         Ok(answer) => Ok(answer),
@@ -48,9 +50,9 @@ fn named_answers(
     parts: &[FlatPart],
 ) -> Result<List<NamedAnswer>, AllocError>
     requires steps { All (λ named. HasStep named.agg) nested.now }
-    requires few { (documents : List (List DocField)) × AreStanding nested.now parts.now documents × (length documents < 2 ^ 62)
-        × (inner_buckets nested.now documents ≤ most_buckets) }
-    ensures { IfOk result (λ answers. (documents : List (List DocField)) → AreStanding nested.now parts.now documents → answers ≡ flat_answers nested.now documents) }
+    requires known { (documents : List (List DocField)) × AreStanding nested.now parts.now documents × (length documents < 2 ^ 62) }
+    ensures { IfOk result (λ answers. (documents : List (List DocField)) → AreStanding nested.now parts.now documents → inner_buckets nested.now documents ≤ most_buckets
+        → answers ≡ flat_answers nested.now documents) }
 {
     let mut answers = List::vacant(alloc);
     for (i, named) in nested.iter().enumerate() {
@@ -73,9 +75,9 @@ fn inner_answers(
 ) -> Result<List<List<NamedAnswer>>, AllocError>
     requires steps { All (λ named. HasStep named.agg) asked.now.nested }
     requires vacant { AreStanding asked.now.nested vacant.now [] }
-    requires few { (documents : List (List DocField)) × GroupsStand asked.now.agg asked.now.nested part.now.groups documents × (length documents < 2 ^ 62)
-        × (sum_by (λ spot. inner_buckets asked.now.nested (documents_at asked.now.agg documents spot)) (spots_in answer.now) ≤ most_buckets) }
+    requires known { (documents : List (List DocField)) × GroupsStand asked.now.agg asked.now.nested part.now.groups documents × (length documents < 2 ^ 62) }
     ensures { IfOk result (λ inner. (documents : List (List DocField)) → GroupsStand asked.now.agg asked.now.nested part.now.groups documents
+        → sum_by (λ spot. inner_buckets asked.now.nested (documents_at asked.now.agg documents spot)) (spots_in answer.now) ≤ most_buckets
         → inner ≡ map (λ spot. flat_answers asked.now.nested (documents_at asked.now.agg documents spot)) (spots_in answer.now)) }
 {
     let mut inner = List::vacant(alloc);
@@ -86,6 +88,37 @@ fn inner_answers(
     Ok(inner)
 }
 
+// No answers for each of so many buckets.
+fn no_answers(alloc: Global, many: usize) -> Result<List<List<NamedAnswer>>, AllocError>
+    ensures { IfOk result (λ inner. inner ≡ replicate many []) }
+{
+    let mut inner = List::vacant(alloc);
+    for _bucket in 0..many {
+        inner.push(List::vacant(alloc))?;
+    }
+    Ok(inner)
+}
+
+// The nested answers of each bucket of an answer, if anything is nested.
+fn each_inner(
+    alloc: Global,
+    asked: &NestedAgg,
+    part: &NestedPart,
+    answer: &FlatAnswer,
+) -> Result<List<List<NamedAnswer>>, AllocError>
+    requires steps { All (λ named. HasStep named.agg) asked.now.nested }
+    requires known { (documents : List (List DocField)) × PartStands asked.now part.now documents × (length documents < 2 ^ 62) }
+    ensures { IfOk result (λ inner. (documents : List (List DocField)) → PartStands asked.now part.now documents
+        → sum_by (λ spot. inner_buckets asked.now.nested (documents_at asked.now.agg documents spot)) (spots_in answer.now) ≤ most_buckets
+        → inner ≡ map (λ spot. flat_answers asked.now.nested (documents_at asked.now.agg documents spot)) (spots_in answer.now)) }
+{
+    if asked.nested.is_empty() {
+        return no_answers(alloc, buckets_in(answer));
+    }
+    let vacant = vacant_flats(alloc, asked.nested.as_slice())?;
+    inner_answers(alloc, asked, vacant.as_slice(), part, answer)
+}
+
 // The answer of an aggregation and of its nested ones, which have few buckets together.
 fn part_answer(
     alloc: Global,
@@ -94,13 +127,12 @@ fn part_answer(
 ) -> Result<NestedAnswer, AllocError>
     requires step { HasStep asked.now.agg }
     requires steps { All (λ named. HasStep named.agg) asked.now.nested }
-    requires few { (documents : List (List DocField)) × PartStands asked.now part.now documents × (length documents < 2 ^ 62)
-        × (nested_buckets documents asked.now ≤ most_buckets) }
-    ensures { IfOk result (λ answer. (documents : List (List DocField)) → PartStands asked.now part.now documents → answer ≡ nested_answer documents asked.now) }
+    requires known { (documents : List (List DocField)) × PartStands asked.now part.now documents × (length documents < 2 ^ 62) }
+    ensures { IfOk result (λ answer. (documents : List (List DocField)) → PartStands asked.now part.now documents → nested_buckets documents asked.now ≤ most_buckets
+        → answer ≡ nested_answer documents asked.now) }
 {
-    let vacant = vacant_flats(alloc, asked.nested.as_slice())?;
     let answer = few_answer(alloc, &asked.agg, &part.flat)?;
-    let nested = inner_answers(alloc, asked, vacant.as_slice(), part, &answer)?;
+    let nested = each_inner(alloc, asked, part, &answer)?;
     Ok(NestedAnswer {
         name: asked.name.copy(alloc)?,
         answer,
@@ -114,16 +146,82 @@ fn part_answers(
     parts: &Vec<NestedPart>,
 ) -> Result<NestedResult, AllocError>
     requires steps { HaveSteps request.now }
-    requires few { (documents : List (List DocField)) × AllZip (λ asked part. PartStands asked part documents) request.now parts.now.items × (length documents < 2 ^ 62)
-        × (all_buckets request.now documents ≤ most_buckets) }
+    requires known { (number : ℕ) × ArePartsFor request.now number parts.now.items × (number < 2 ^ 62) }
     ensures { IfOk result (λ answers. (documents : List (List DocField)) → AllZip (λ asked part. PartStands asked part documents) request.now parts.now.items
-        → answers ≡ map (nested_answer documents) request.now) }
+        → all_buckets request.now documents ≤ most_buckets → answers ≡ map (nested_answer documents) request.now) }
 {
     let mut answers = NestedResult::vacant(alloc);
     for (i, asked) in request.iter().enumerate() {
         answers.push(part_answer(alloc, asked, &parts[i])?)?;
     }
     Ok(answers)
+}
+
+// The answers to a request of one aggregation in which nothing is nested, of what it answers itself.
+fn plain_answers(
+    alloc: Global,
+    asked: &NestedAgg,
+    answer: FlatAnswer,
+) -> Result<NestedResult, AllocError>
+    ensures { IfOk result (λ answers. (documents : List (List DocField)) → asked.now.nested ≡ [] → answer ≡ flat_answer documents asked.now.agg
+        → answers ≡ nested_answer documents asked.now ∷ []) }
+{
+    let nested = no_answers(alloc, buckets_in(&answer))?;
+    let name = asked.name.copy(alloc)?;
+    NestedResult::one(
+        alloc,
+        NestedAnswer {
+            name,
+            answer,
+            nested,
+        },
+    )
+}
+
+// The same, or TooManyBuckets where it has too many.
+fn plain_answered(
+    alloc: Global,
+    asked: &NestedAgg,
+    answer: FlatAnswer,
+) -> Result<NestedResult, AggError>
+    ensures { (documents : List (List DocField)) → asked.now.nested ≡ [] → answer ≡ flat_answer documents asked.now.agg → HadMemory result → result ≡ nested (asked.now ∷ []) documents }
+{
+    let count = buckets_in(&answer) as u128;
+    if count > MOST_BUCKETS {
+        return Err(AggError::TooManyBuckets { count });
+    }
+    match plain_answers(alloc, asked, answer) {
+        Ok(answers) => Ok(answers),
+        Err(error) => Err(AggError::Memory(error)),
+    }
+}
+
+// The refusal of one aggregation in which nothing is nested, with so many buckets.
+fn too_many(count: u128) -> Result<NestedResult, AggError>
+    ensures { (asked : NestedAgg) (documents : List (List DocField)) → asked.nested ≡ [] → count ≡ flat_buckets documents asked.agg → most_buckets < count
+        → result ≡ nested (asked ∷ []) documents }
+{
+    Err(AggError::TooManyBuckets { count })
+}
+
+// The answers to a request of one aggregation in which nothing is nested, which is finished once.
+fn finish_plain(
+    alloc: Global,
+    asked: &NestedAgg,
+    part: &NestedPart,
+) -> Result<NestedResult, AggError>
+    requires step { HasStep asked.now.agg }
+    requires known { (documents : List (List DocField)) × PartStands asked.now part.now documents × (length documents < 2 ^ 62) }
+    ensures { (documents : List (List DocField)) → asked.now.nested ≡ [] → PartStands asked.now part.now documents → HadMemory result → result ≡ nested (asked.now ∷ []) documents }
+{
+    match finish_flat(alloc, &asked.agg, &part.flat) {
+        Ok(answer) => plain_answered(alloc, asked, answer),
+        Err(AggError::TooManyBuckets { count }) => too_many(count),
+        Err(AggError::Memory(error)) => Err(AggError::Memory(error)),
+        Err(AggError::NotFast { .. } | AggError::BadInterval { .. }) => {
+            Ok(NestedResult::vacant(alloc))
+        }
+    }
 }
 
 /// The answers to a request over the documents for which the partial stands. More than 65,000 buckets, nested ones among them, are
@@ -134,9 +232,15 @@ pub fn finish_nested(
     partial: &NestedPartial,
 ) -> Result<NestedResult, AggError>
     requires steps { HaveSteps request.now }
-    requires known { (documents : List (List DocField)) × NestedStands request.now partial.now documents × (length documents < 2 ^ 62) }
+    requires partial { IsNestedPartial request.now partial.now }
     ensures { (documents : List (List DocField)) → NestedStands request.now partial.now documents → HadMemory result → result ≡ nested request.now documents }
 {
+    if request.len() == 1 && partial.parts.len() == 1 {
+        let asked = request.at(0);
+        if asked.nested.is_empty() {
+            return finish_plain(alloc, asked, &partial.parts[0]);
+        }
+    }
     let count = match count_parts(alloc, request.as_slice(), &partial.parts) {
         Ok(count) => count,
         Err(error) => return Err(AggError::Memory(error)),

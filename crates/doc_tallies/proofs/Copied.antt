@@ -17,6 +17,7 @@ use Rattle.agg_model.specs.declared.request.NamedAgg.{NamedAgg}
 use Rattle.agg_model.specs.declared.counts.Counts.{Counts}
 use Rattle.agg_model.specs.declared.partial.Partial.{Partial}
 use Rattle.doc_tallies.specs.AggColumns.{HasValuesOf}
+use Rattle.doc_tallies.specs.Counted.{agg_fields}
 
 count_copies : (p : List DocField → Bool) (ds : List (List DocField)) (n : ℕ) (x y : List DocField) → p x ≡ p y → count_by p (ds ++ replicate n x) ≡ count_by p (ds ++ replicate n y)
 count_copies p ds n x y e =
@@ -33,7 +34,7 @@ counts_copies (Histogram field interval offset least dated) counts ds n shown do
     counted step ∙ count_copies (lies_in field interval offset step) ds n shown doc
     (ap (λ (vs : List Value). option_map_or (λ z. int_eq (step_of interval offset z) step) (option_and_then whole (slice_get vs 0)) false) e)
 
-parts_copies : (request : List NamedAgg) (parts : List Counts) (ds : List (List DocField)) (n : ℕ) (shown doc : List DocField) → HasValuesOf request doc shown
+parts_copies : (request : List NamedAgg) (parts : List Counts) (ds : List (List DocField)) (n : ℕ) (shown doc : List DocField) → HasValuesOf (agg_fields request) doc shown
     → AllZip (λ named counts. CountsFor named.agg counts (ds ++ replicate n shown)) request parts → AllZip (λ named counts. CountsFor named.agg counts (ds ++ replicate n doc)) request parts
 parts_copies [] [] ds n shown doc same counted = tt
 parts_copies [] (c ∷ cs) ds n shown doc same counted = absurd counted
@@ -45,7 +46,7 @@ length_copies ds n x y =
     length-append ds (replicate n x) ∙ (ap (λ (k : ℕ). length ds + k) (length-replicate n x ∙ sym (length-replicate n y)) ∙ sym (length-append ds (replicate n y)))
 
 -- a partial stands for documents in the place of their values
-pub stands_copies : (request : List NamedAgg) (partial : Partial) (ds : List (List DocField)) (n : ℕ) (shown doc : List DocField) → HasValuesOf request doc shown → StandsFor request partial (ds ++ replicate n shown)
+pub stands_copies : (request : List NamedAgg) (partial : Partial) (ds : List (List DocField)) (n : ℕ) (shown doc : List DocField) → HasValuesOf (agg_fields request) doc shown → StandsFor request partial (ds ++ replicate n shown)
     → StandsFor request partial (ds ++ replicate n doc)
 stands_copies request partial ds n shown doc same stands = record {
   many = stands.many ∙ length_copies ds n shown doc;

@@ -27,6 +27,7 @@ use Rattle.split_bundle.specs.Columns.{column_rows}
 use Rattle.fast_fields.specs.Readers.{IsOf}
 use Rattle.doc_tallies.specs.declared.field_column.FieldColumn.{FieldColumn}
 use Rattle.doc_tallies.specs.AggColumns.{AreColumnsFor, HasValuesOf}
+use Rattle.doc_tallies.specs.Counted.{agg_fields}
 use Rattle.doc_tallies.specs.Cells.{IsColumnFor}
 
 -- both words for the values of a field say the same
@@ -48,7 +49,7 @@ counts_last (Histogram field interval offset least dated) counts ds shown doc e 
     counted step ∙ count_last (lies_in field interval offset step) ds shown doc
     (ap (λ (vs : List Value). option_map_or (λ z. int_eq (step_of interval offset z) step) (option_and_then whole (slice_get vs 0)) false) e)
 
-parts_last : (request : List NamedAgg) (parts : List Counts) (ds : List (List DocField)) (shown doc : List DocField) → HasValuesOf request doc shown
+parts_last : (request : List NamedAgg) (parts : List Counts) (ds : List (List DocField)) (shown doc : List DocField) → HasValuesOf (agg_fields request) doc shown
     → AllZip (λ named counts. CountsFor named.agg counts (ds ++ shown ∷ [])) request parts → AllZip (λ named counts. CountsFor named.agg counts (ds ++ doc ∷ [])) request parts
 parts_last [] [] ds shown doc same counted = tt
 parts_last [] (c ∷ cs) ds shown doc same counted = absurd counted
@@ -60,7 +61,7 @@ length_last [] x y = refl
 length_last (d ∷ ds) x y = ap (λ (n : ℕ). suc n) (length_last ds x y)
 
 -- a partial stands for a document in the place of its values
-pub stands_last : (request : List NamedAgg) (partial : Partial) (ds : List (List DocField)) (shown doc : List DocField) → HasValuesOf request doc shown → StandsFor request partial (ds ++ shown ∷ []) → StandsFor request partial (ds ++ doc ∷ [])
+pub stands_last : (request : List NamedAgg) (partial : Partial) (ds : List (List DocField)) (shown doc : List DocField) → HasValuesOf (agg_fields request) doc shown → StandsFor request partial (ds ++ shown ∷ []) → StandsFor request partial (ds ++ doc ∷ [])
 stands_last request partial ds shown doc same stands = record {
   many = stands.many ∙ length_last ds shown doc;
   parts = parts_last request partial.parts.items ds shown doc same stands.parts;
@@ -89,22 +90,22 @@ shown_has d n (c ∷ cs) has = go (c.number == n) refl has (shown_has d n cs)
     go false e (inl same) rest = absurd (let yes : (c.number == n) ≡ true = eq-eqb c.number n same in cc)
     go false e (inr more) rest = rest more
 
-number_more : (aggs : List NamedAgg) (c : FieldColumn) (cs : List FieldColumn) → AllByRecursion (λ named. HasNumber (field_of named.agg) cs) aggs → AllByRecursion (λ named. HasNumber (field_of named.agg) (c ∷ cs)) aggs
+number_more : (fields : List ℕ) (c : FieldColumn) (cs : List FieldColumn) → AllByRecursion (λ k. HasNumber k cs) fields → AllByRecursion (λ k. HasNumber k (c ∷ cs)) fields
 number_more [] c cs has = tt
 number_more (a ∷ as_more) c cs has = (inr has.0, number_more as_more c cs has.1)
 
-has_numbers : (s : Schema) (documents : List Placed) (aggs : List NamedAgg) (columns : List FieldColumn) → AreColumnsFor s documents aggs columns → AllByRecursion (λ named. HasNumber (field_of named.agg) columns) aggs
+has_numbers : (s : Schema) (documents : List Placed) (fields : List ℕ) (columns : List FieldColumn) → AreColumnsFor s documents fields columns → AllByRecursion (λ k. HasNumber k columns) fields
 has_numbers s documents [] [] are = tt
 has_numbers s documents [] (c ∷ cs) are = absurd are
 has_numbers s documents (a ∷ rest) [] are = absurd are
 has_numbers s documents (a ∷ rest) (c ∷ cs) are = (inl are.0.number_is, number_more rest c cs (has_numbers s documents rest cs are.1))
 
-values_by : (d : Placed) (aggs : List NamedAgg) (columns : List FieldColumn) → AllByRecursion (λ named. HasNumber (field_of named.agg) columns) aggs → HasValuesOf aggs d.doc (shown_of d columns)
+values_by : (d : Placed) (fields : List ℕ) (columns : List FieldColumn) → AllByRecursion (λ k. HasNumber k columns) fields → HasValuesOf fields d.doc (shown_of d columns)
 values_by d [] columns has = tt
-values_by d (a ∷ rest) columns has = (shown_has d (field_of a.agg) columns has.0, values_by d rest columns has.1)
+values_by d (a ∷ rest) columns has = (shown_has d a columns has.0, values_by d rest columns has.1)
 
-pub shown_values : (s : Schema) (documents : List Placed) (d : Placed) (aggs : List NamedAgg) (columns : List FieldColumn) → AreColumnsFor s documents aggs columns → HasValuesOf aggs d.doc (shown_of d columns)
-shown_values s documents d aggs columns are = values_by d aggs columns (has_numbers s documents aggs columns are)
+pub shown_values : (s : Schema) (documents : List Placed) (d : Placed) (fields : List ℕ) (columns : List FieldColumn) → AreColumnsFor s documents fields columns → HasValuesOf fields d.doc (shown_of d columns)
+shown_values s documents d fields columns are = values_by d fields columns (has_numbers s documents fields columns are)
 
 -- ---- columns one by one
 
@@ -112,12 +113,12 @@ pub record IsColumnOfSome (s : Schema) (documents : List Placed) (c : FieldColum
   pub number : ℕ
   pub is_for : IsColumnFor s documents number c
 
-pub column_at : (s : Schema) (documents : List Placed) (aggs : List NamedAgg) (columns : List FieldColumn) (i : ℕ) (c : FieldColumn) → AreColumnsFor s documents aggs columns → i < length columns → c ≡ get_or columns i c
+pub column_at : (s : Schema) (documents : List Placed) (fields : List ℕ) (columns : List FieldColumn) (i : ℕ) (c : FieldColumn) → AreColumnsFor s documents fields columns → i < length columns → c ≡ get_or columns i c
     → IsColumnOfSome s documents c
 column_at s documents [] [] i c are lt e = absurd (omega arith)
 column_at s documents [] (x ∷ xs) i c are lt e = absurd are
 column_at s documents (a ∷ rest) [] i c are lt e = absurd are
-column_at s documents (a ∷ rest) (x ∷ xs) zero c are lt e = record { number = field_of a.agg; is_for = subst (λ (y : FieldColumn). IsColumnFor s documents (field_of a.agg) y) (sym e) are.0 }
+column_at s documents (a ∷ rest) (x ∷ xs) zero c are lt e = record { number = a; is_for = subst (λ (y : FieldColumn). IsColumnFor s documents a y) (sym e) are.0 }
 column_at s documents (a ∷ rest) (x ∷ xs) (suc i) c are lt e = column_at s documents rest xs i c are.1 (omega arith) e
 
 -- what a column's values in a document are
@@ -136,19 +137,19 @@ values_of_column s documents n c d is of held =
       held = subst (λ (k : ℕ). AllByRecursion IsHeldValue (meant.values_in d.doc k)) same are.held;
     }
 
-zip_push : (s : Schema) (documents : List Placed) (aggs : List NamedAgg) (columns : List FieldColumn) (a : NamedAgg) (c : FieldColumn) → AreColumnsFor s documents aggs columns → IsColumnFor s documents (field_of a.agg) c
-    → AreColumnsFor s documents (aggs ++ a ∷ []) (columns ++ c ∷ [])
+zip_push : (s : Schema) (documents : List Placed) (fields : List ℕ) (columns : List FieldColumn) (a : ℕ) (c : FieldColumn) → AreColumnsFor s documents fields columns → IsColumnFor s documents a c
+    → AreColumnsFor s documents (fields ++ a ∷ []) (columns ++ c ∷ [])
 zip_push s documents [] [] a c are is = (is, tt)
 zip_push s documents [] (x ∷ xs) a c are is = absurd are
 zip_push s documents (b ∷ bs) [] a c are is = absurd are
 zip_push s documents (b ∷ bs) (x ∷ xs) a c are is = (are.0, zip_push s documents bs xs a c are.1 is)
 
-pub columns_push : (s : Schema) (documents : List Placed) (aggs : List NamedAgg) (old new : List FieldColumn) (i : ℕ) (a : NamedAgg) (o : Option FieldColumn) → i < length aggs → a ≡ get_or aggs i a
-    → AreColumnsFor s documents (take i aggs) old → IsSomeAnd o (IsColumnFor s documents (field_of a.agg)) → new ≡ old ++ option_to_list o → AreColumnsFor s documents (take (i + 1) aggs) new
-columns_push s documents aggs old new i a None lt at are is e = absurd is
-columns_push s documents aggs old new i a (Some c) lt at are is e =
-    let front : take (i + 1) aggs ≡ take i aggs ++ a ∷ [] = take_more aggs i a lt ∙ ap (λ (x : NamedAgg). take i aggs ++ x ∷ []) (sym at) in
-    rw (front, e) (zip_push s documents (take i aggs) old a c are is)
+pub columns_push : (s : Schema) (documents : List Placed) (fields : List ℕ) (old new : List FieldColumn) (i : ℕ) (a : ℕ) (o : Option FieldColumn) → i < length fields → a ≡ get_or fields i a
+    → AreColumnsFor s documents (take i fields) old → IsSomeAnd o (IsColumnFor s documents a) → new ≡ old ++ option_to_list o → AreColumnsFor s documents (take (i + 1) fields) new
+columns_push s documents fields old new i a None lt at are is e = absurd is
+columns_push s documents fields old new i a (Some c) lt at are is e =
+    let front : take (i + 1) fields ≡ take i fields ++ a ∷ [] = take_more fields i a lt ∙ ap (λ (x : ℕ). take i fields ++ x ∷ []) (sym at) in
+    rw (front, e) (zip_push s documents (take i fields) old a c are is)
 
 pub fields_push : (d : Placed) (columns : List FieldColumn) (i : ℕ) (c : FieldColumn) (old new : List DocField) (values : List Value) → i < length columns → c ≡ get_or columns i c → old ≡ shown_of d (take i columns)
     → values ≡ meant.values_in d.doc c.number → new ≡ old ++ record { number = c.number; values = values } ∷ [] → new ≡ shown_of d (take (i + 1) columns)

@@ -8,6 +8,10 @@ pub mod TimeValues
 pub mod Faults
 pub mod PickedLists
 pub mod Counted
+pub mod Alike
+pub mod Shown
+pub mod Requests
+pub mod Metrics
 pub mod HitOrders
 pub mod Parting
 pub mod RankOrders

@@ -12,7 +12,7 @@ use Rattle.agg_model.specs.Counting.{step_of, whole}
 use Rattle.fast_fields.specs.Columns.{AreEntries, IsNumber, cells_of, turned}
 use Rattle.fast_fields.specs.declared.entries.Entry.{Entry}
 use Rattle.split_bundle.specs.Held.{IsHeldValue}
-use Rattle.doc_tallies.specs.Marks.{IsSingle, unturned, whole_number}
+use Rattle.doc_tallies.specs.Marks.{IsSingle, unturned, whole_number, whole_there}
 use Rattle.doc_tallies.proofs.FieldValues.{AreValues}
 use Rattle.doc_tallies.proofs.Owned.{first_of}
 
@@ -128,15 +128,6 @@ same_ones texts kind vs ws a b (inr is) (inr other) e =
 
 -- ---- steps
 
--- the whole number of a first value, by its number
-abbrev pub whole_there : Kind → Option ℕ → Option ℤ
-whole_there kinds.Text o = None
-whole_there kinds.TextList o = None
-whole_there kinds.I64 o = option_map unturned o
-whole_there kinds.U64 o = option_map pos o
-whole_there kinds.Bool o = None
-whole_there kinds.Datetime o = option_map unturned o
-
 whole_value : (texts : List (List ℕ)) (kind : Kind) (v : Value) (x : ℕ) → ValueOf texts kind x v → whole v ≡ whole_there kind (Some x)
 whole_value texts kinds.Text v x is = ap whole is.1
 whole_value texts kinds.TextList v x is = ap whole is.1
@@ -153,7 +144,7 @@ none_there kinds.U64 = refl
 none_there kinds.Bool = refl
 none_there kinds.Datetime = refl
 
-whole_first : (texts : List (List ℕ)) (k : ℕ) (kind : Kind) (vs : List Value) (own : List Entry) → AreEntries texts (cells_of k vs) own → AreValues kind vs → option_and_then whole (slice_get vs 0) ≡ whole_there kind (first_of own)
+pub whole_first : (texts : List (List ℕ)) (k : ℕ) (kind : Kind) (vs : List Value) (own : List Entry) → AreEntries texts (cells_of k vs) own → AreValues kind vs → option_and_then whole (slice_get vs 0) ≡ whole_there kind (first_of own)
 whole_first texts k kind [] [] are h = sym (none_there kind)
 whole_first texts k kind [] (e ∷ es) are h = absurd are
 whole_first texts k kind (v ∷ vs) [] are h = absurd are

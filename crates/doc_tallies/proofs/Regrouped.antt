@@ -28,6 +28,7 @@ use Rattle.split_bundle.specs.declared.placed.Placed.{Placed}
 use Rattle.doc_tallies.specs.declared.classes.Class.{Class}
 use Rattle.doc_tallies.specs.declared.field_column.FieldColumn.{FieldColumn}
 use Rattle.doc_tallies.specs.AggColumns.{AreColumnsFor}
+use Rattle.doc_tallies.specs.Counted.{agg_fields}
 use Rattle.doc_tallies.specs.Cells.{IsColumnFor}
 use Rattle.doc_tallies.specs.Classes.{AreClasses, CountAlike, GroupsAlike, IsAmong, RespectsDocs, class_sum, doc_at, spread, weighed}
 use Rattle.doc_tallies.specs.Marks.{IsSingle, mark_at, mark_of}
@@ -40,13 +41,13 @@ use Rattle.doc_tallies.proofs.TimeValues.{stands}
 
 -- ---- a document in a column
 
-record InColumn (documents : List Placed) (number : ℕ) (kind : Kind) (texts : List (List ℕ)) (entries : List Entry) (n : ℕ) : Type 0 where
-  document : Placed
-  here : slice_get documents n ≡ Some document
-  own : Own texts n (meant.values_in document.doc number) entries
-  values : AreValues kind (meant.values_in document.doc number)
+pub record InColumn (documents : List Placed) (number : ℕ) (kind : Kind) (texts : List (List ℕ)) (entries : List Entry) (n : ℕ) : Type 0 where
+  pub document : Placed
+  pub here : slice_get documents n ≡ Some document
+  pub own : Own texts n (meant.values_in document.doc number) entries
+  pub values : AreValues kind (meant.values_in document.doc number)
 
-in_column : (s : Schema) (documents : List Placed) (number : ℕ) (c : FieldColumn) (n : ℕ) → AreDocumentsOf s documents → (is : IsColumnFor s documents number c) → n < length documents
+pub in_column : (s : Schema) (documents : List Placed) (number : ℕ) (c : FieldColumn) (n : ℕ) → AreDocumentsOf s documents → (is : IsColumnFor s documents number c) → n < length documents
     → InColumn documents number c.kind is.is_of.texts is.is_of.entries n
 in_column s documents number c n of is lt =
     let at = stands documents n lt in
@@ -165,6 +166,9 @@ picked_length documents (n ∷ ns) below =
     let at = stands documents n below.0 in
     rw (at.here) (let rest = picked_length documents ns below.1 in omega arith)
 
+pub picked_long : (documents : List Placed) (ns : List ℕ) → AllBelow (length documents) ns → length (docs_of (picked ns documents)) ≡ length ns
+picked_long documents ns below = picked_length documents ns (recursion_from_All (λ (n : ℕ). n < length documents) ns below)
+
 pub stands_regrouped : (aggs : List NamedAgg) (named : NamedAgg) (partial : Partial) (documents : List Placed) (numbers : List ℕ) (classes : List Class) → length aggs ≡ 1 → slice_get aggs 0 ≡ Some named → AllBelow (length documents) numbers
     → class_sum classes ≡ length numbers → GroupsAlike named.agg documents numbers classes → StandsFor aggs partial (spread documents classes) → StandsFor aggs partial (docs_of (picked numbers documents))
 stands_regrouped [] named partial documents numbers classes one first below sum groups stands = absurd (omega arith)
@@ -178,7 +182,7 @@ stands_regrouped (a ∷ []) named partial documents numbers classes one first be
     }
 
 -- the column of the one aggregation
-pub one_column : (s : Schema) (documents : List Placed) (aggs : List NamedAgg) (columns : List FieldColumn) (named : NamedAgg) (c : FieldColumn) → AreColumnsFor s documents aggs columns → slice_get aggs 0 ≡ Some named → slice_get columns 0 ≡ Some c
+pub one_column : (s : Schema) (documents : List Placed) (aggs : List NamedAgg) (columns : List FieldColumn) (named : NamedAgg) (c : FieldColumn) → AreColumnsFor s documents (agg_fields aggs) columns → slice_get aggs 0 ≡ Some named → slice_get columns 0 ≡ Some c
     → IsColumnFor s documents (field_of named.agg) c
 one_column s documents [] columns named c are at there = absurd (cc)
 one_column s documents (a ∷ rest) [] named c are at there = absurd (cc)
@@ -211,17 +215,3 @@ pub some_wider : {X E : Type 0} (P Q : X → Type 0) (r : Result (Option X) E) �
 some_wider P Q (Ok None) wider h = tt
 some_wider P Q (Ok (Some x)) wider h = wider x h
 some_wider P Q (Err e) wider h = tt
-
--- ---- where nothing is asked
-
-no_parts : (parts : List Counts) (xs ys : List (List DocField)) → AllZip (λ (named : NamedAgg) counts. CountsFor named.agg counts xs) [] parts → AllZip (λ (named : NamedAgg) counts. CountsFor named.agg counts ys) [] parts
-no_parts [] xs ys counted = tt
-no_parts (c ∷ cs) xs ys counted = absurd counted
-
-pub stands_unasked : (aggs : List NamedAgg) (partial : Partial) (documents : List Placed) (numbers : List ℕ) (n : ℕ) (doc : List DocField) → aggs ≡ [] → n ≡ length numbers → AllBelow (length documents) numbers
-    → StandsFor aggs partial (replicate n doc) → StandsFor aggs partial (docs_of (picked numbers documents))
-stands_unasked [] partial documents numbers n doc none long below stands = record {
-  many = stands.many ∙ (length-replicate n doc ∙ (long ∙ sym (picked_length documents numbers (recursion_from_All (λ (n : ℕ). n < length documents) numbers below))));
-  parts = no_parts partial.parts.items (replicate n doc) (docs_of (picked numbers documents)) stands.parts;
-}
-stands_unasked (a ∷ rest) partial documents numbers n doc none long below stands = absurd (cc)

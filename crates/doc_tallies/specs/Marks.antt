@@ -1,9 +1,10 @@
 -- What tells documents apart for an aggregation, by their numbers in a column.
-use Rattle.std.specs.Prelude.{ℕ, ℤ, pos, negsuc, ◌-◌, nat_lt, List, Option, if◌then◌else◌}
-use Rattle.std.specs.Option.{option_map}
+use Rattle.std.specs.Prelude.{◌≡◌, ℕ, ℤ, pos, negsuc, ◌-◌, nat_lt, List, length, Option, None, if◌then◌else◌}
+use Rattle.std.specs.Option.{option_map, option_map_or}
+use Rattle.doc_value.specs.declared.doc.DocField.{DocField}
 use Rattle.doc_value.specs.declared.schema.Kind.{Kind}
 use Rattle.doc_value.specs.declared.schema.Kind.TheVariants as kinds
-use Rattle.agg_model.specs.Counting.{step_of}
+use Rattle.agg_model.specs.Counting.{first_whole, step_of, values_in}
 use Rattle.agg_model.specs.declared.request.Agg.{Agg}
 use Rattle.agg_model.specs.declared.request.Agg.TheVariants.{Terms, Histogram}
 use Rattle.fast_fields.specs.Readers.{first_number}
@@ -39,3 +40,17 @@ IsSingle kinds.I64 = Unit {0}
 IsSingle kinds.U64 = Unit {0}
 IsSingle kinds.Bool = Unit {0}
 IsSingle kinds.Datetime = Unit {0}
+
+-- the whole number of a first value, by its number in a column, if there is one
+abbrev pub whole_there : Kind → Option ℕ → Option ℤ
+whole_there kinds.Text o = None
+whole_there kinds.TextList o = None
+whole_there kinds.I64 o = option_map unturned o
+whole_there kinds.U64 o = option_map pos o
+whole_there kinds.Bool o = None
+whole_there kinds.Datetime o = option_map unturned o
+
+-- a document has one value of a field of a kind, of which the column has this number, or none
+pub record HasFirst (field : ℕ) (kind : Kind) (value : Option ℕ) (doc : List DocField) : Type 0 where
+  pub many : length (values_in doc field) ≡ option_map_or (λ n. 1) value 0
+  pub first : first_whole field doc ≡ whole_there kind value

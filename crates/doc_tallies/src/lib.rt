@@ -1,13 +1,18 @@
 //! What columns and documents say of some documents of a split: aggregations, times and the first hits.
 #![tactic(auto)]
 
+mod by_column;
 mod classes;
 mod column_values;
+mod columns;
+mod each;
 mod field_column;
+mod fields;
 mod first_values;
 mod hit_order;
 mod hits;
 mod laws;
+mod metric;
 mod near;
 mod order;
 mod partials;

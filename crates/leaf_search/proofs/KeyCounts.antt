@@ -15,10 +15,10 @@ use Rattle.query_ast.specs.Meaning.{meaning, values_in, is_text, is_unlimited, h
 use Rattle.query_ast.specs.Sought.{Sought, view}
 use Rattle.query_ast.specs.Sought as sought
 use Rattle.query_ast.specs.Spelled.{spelled}
-use Rattle.agg_model.specs.declared.counts.Counts.{Counts}
-use Rattle.agg_model.specs.declared.partial.Partial.{Partial}
-use Rattle.agg_model.specs.declared.request.NamedAgg.{NamedAgg}
-use Rattle.agg_model.specs.Partials.{CountsFor, IsPart, IsPartialOf, StandsFor, documents_in}
+use Rattle.agg_nested.specs.Buckets.{IsNestedPartial, IsPartFor, NestedStands, PartStands, documents_counted}
+use Rattle.agg_nested.specs.declared.nested_partial.NestedPart.{NestedPart}
+use Rattle.agg_nested.specs.declared.nested_partial.NestedPartial.{NestedPartial}
+use Rattle.agg_nested.specs.declared.request.NestedAgg.{NestedAgg}
 use Rattle.term_postings.specs.declared.list.Posting.{Posting}
 use Rattle.split_bundle.specs.declared.placed.Placed.{Placed}
 use Rattle.split_bundle.specs.Keys.{field_key, keys_of}
@@ -132,7 +132,7 @@ pub record OnlyCounts (s : Schema) (r : LeafRequest) (key : List ℕ) : Type 0 w
   pub aggs : r.aggs ≡ []
   pub query : one_key s (view r.query) ≡ some key
 
-pub no_aggs : (aggs : List NamedAgg) → (length aggs == 0) ≡ true → aggs ≡ []
+pub no_aggs : (aggs : List NestedAgg) → (length aggs == 0) ≡ true → aggs ≡ []
 no_aggs [] e = refl
 no_aggs (a ∷ aggs) e = absurd (let none : length (a ∷ aggs) ≡ 0 = eqb-true (length (a ∷ aggs)) 0 e in omega arith)
 
@@ -182,15 +182,15 @@ many_posted s key test n (d ∷ ds) all =
 
 -- ---- the answer
 
-no_parts : (documents : ℕ) (docs : List (List DocField)) (parts : List Counts) → AllZip (λ (named : NamedAgg) (part : Counts). IsPart documents named.agg part) [] parts → AllZip (λ (named : NamedAgg) (part : Counts). CountsFor named.agg part docs) [] parts
-no_parts documents docs [] h = tt
-no_parts documents docs (x ∷ xs) h = absurd h
+no_parts : (number : ℕ) (docs : List (List DocField)) (parts : List NestedPart) → AllZip (λ (asked : NestedAgg) (part : NestedPart). IsPartFor asked number part) [] parts → AllZip (λ (asked : NestedAgg) (part : NestedPart). PartStands asked part docs) [] parts
+no_parts number docs [] h = tt
+no_parts number docs (x ∷ xs) h = absurd h
 
-pub stands_for : (aggs : List NamedAgg) (partial : Partial) (docs : List (List DocField)) → aggs ≡ [] → IsPartialOf aggs partial → documents_in partial ≡ length docs → StandsFor aggs partial docs
+pub stands_for : (aggs : List NestedAgg) (partial : NestedPartial) (docs : List (List DocField)) → aggs ≡ [] → IsNestedPartial aggs partial → documents_counted partial ≡ length docs → NestedStands aggs partial docs
 stands_for aggs partial docs none is many = record {
   many = many;
-  parts = subst (λ (l : List NamedAgg). AllZip (λ (named : NamedAgg) (part : Counts). CountsFor named.agg part docs) l partial.parts.items) (sym none)
-      (no_parts partial.documents docs partial.parts.items (subst (λ (l : List NamedAgg). AllZip (λ (named : NamedAgg) (part : Counts). IsPart partial.documents named.agg part) l partial.parts.items) none is.parts));
+  parts = subst (λ (l : List NestedAgg). AllZip (λ (asked : NestedAgg) (part : NestedPart). PartStands asked part docs) l partial.parts.items) (sym none)
+      (no_parts partial.documents docs partial.parts.items (subst (λ (l : List NestedAgg). AllZip (λ (asked : NestedAgg) (part : NestedPart). IsPartFor asked partial.documents part) l partial.parts.items) none is.parts));
 }
 
 pub many_docs : (ds : List Placed) → length ds ≡ length (docs_of ds)
@@ -198,7 +198,7 @@ many_docs [] = refl
 many_docs (d ∷ ds) = ap suc (many_docs ds)
 
 pub is_counted : (s : Schema) (r : LeafRequest) (ds : List Placed) (key : List ℕ) (a : LeafAnswer) → AreDocumentsOf s ds → length s.fields ≤ 256 → IsAsked s r → OnlyCounts s r key → a.count ≡ length (posting_list s ds key) → a.hits ≡ []
-    → documents_in a.partial ≡ a.count → IsPartialOf r.aggs a.partial → IsAnswerOf s r ds a
+    → documents_counted a.partial ≡ a.count → IsNestedPartial r.aggs a.partial → IsAnswerOf s r ds a
 is_counted s r ds key a docs few ask c count hits documents partial =
     let all = all_map (λ d. IsOfSchema s d.doc) (λ d. passes s r d.doc ≡ has_key key (keys_of s d.doc)) ds (λ d h. passes_key s r key d.doc few h c ask.query) docs.of_schema in
     let many : a.count ≡ length (found s r ds) = count ∙ many_posted s key (passes s r) 0 ds all in

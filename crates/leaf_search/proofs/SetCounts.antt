@@ -5,7 +5,7 @@ use Rattle.doc_value.specs.declared.schema.Schema.{Schema}
 use Rattle.doc_value.specs.declared.doc.DocField.{DocField}
 use Rattle.query_ast.specs.Meaning.{meaning, is_unlimited}
 use Rattle.query_ast.specs.Sought.{view}
-use Rattle.agg_model.specs.Partials.{IsPartialOf, documents_in}
+use Rattle.agg_nested.specs.Buckets.{IsNestedPartial, documents_counted}
 use Rattle.split_bundle.specs.declared.placed.Placed.{Placed}
 use Rattle.doc_tallies.specs.Orders.{firsts}
 use Rattle.doc_tallies.specs.Picked.{docs_of}
@@ -16,8 +16,8 @@ use Rattle.leaf_search.specs.declared.request.LeafRequest.{LeafRequest}
 use Rattle.leaf_search.proofs.KeyCounts.{and_both, many_docs, no_aggs, stands_for}
 use Rattle.leaf_search.proofs.LeafSteps.{many, unlimited}
 
-pub count_answer : (s : Schema) (r : LeafRequest) (ds : List Placed) (n : ℕ) (a : LeafAnswer) → only_counts r ≡ true → n ≡ length (filter (λ d. meaning s d.doc (view r.query)) ds) → a.count ≡ n → a.hits ≡ [] → documents_in a.partial ≡ a.count
-    → IsPartialOf r.aggs a.partial → IsAnswerOf s r ds a
+pub count_answer : (s : Schema) (r : LeafRequest) (ds : List Placed) (n : ℕ) (a : LeafAnswer) → only_counts r ≡ true → n ≡ length (filter (λ d. meaning s d.doc (view r.query)) ds) → a.count ≡ n → a.hits ≡ [] → documents_counted a.partial ≡ a.count
+    → IsNestedPartial r.aggs a.partial → IsAnswerOf s r ds a
 count_answer s r ds n a counts is count hits documents partial =
     let first = and_both (r.wanted == 0) (is_unlimited r.times.start r.times.end && (length r.aggs == 0)) counts in
     let second = and_both (is_unlimited r.times.start r.times.end) (length r.aggs == 0) first.1 in

@@ -1,5 +1,6 @@
 //! Aggregations of documents.
 
+mod answered;
 pub mod answers;
 mod counted;
 mod made;

@@ -2,6 +2,6 @@
 
 pub mod answers;
 mod asked;
-mod refusals;
-mod replies;
+pub mod refusals;
+pub mod replies;
 mod schemas;

@@ -1,5 +1,5 @@
 -- What a text is refused for, or what it counts, is of the text.
-use Rattle.std.proofs.Common.{ℕ, ◌&&◌, ◌||◌, Bool, true, false, not, nat_lt, List, [], ◌∷◌, Option, Some, None, Result, Ok, Err, is_some, if◌then◌else◌, length, option_and_then}
+use Rattle.std.proofs.Common.{ℕ, ◌&&◌, ◌||◌, Bool, true, false, not, nat_lt, List, [], ◌∷◌, Option, Some, None, Result, Ok, Err, is_some, if◌then◌else◌, length, map, option_and_then}
 use Rattle.doc_value.specs.declared.schema.Field.{Field}
 use Rattle.doc_value.specs.declared.schema.Schema.{Schema}
 use Rattle.doc_value.specs.declared.facts.TimeRange.{TimeRange}
@@ -9,21 +9,23 @@ use Rattle.query_ast.specs.Sought.{Sought}
 use Rattle.query_reader.specs.Resolve.{query_of}
 use Rattle.query_reader.specs.declared.refusal.QueryError.{QueryError}
 use Rattle.query_reader.specs.declared.refusal.QueryError.TheVariants as query_errors
-use Rattle.agg_form.specs.Finished.{answers_of, buckets_of}
+use Rattle.agg_nested.specs.Answers.{all_buckets, nested_answer, told}
+use Rattle.agg_nested.specs.declared.answer.NestedAnswer.{NestedAnswer}
+use Rattle.agg_nested.specs.declared.request.NestedAgg.{NestedAgg}
 use Rattle.agg_model.specs.Answers.{most_buckets}
-use Rattle.agg_model.specs.Checking.{first_refusal}
+use Rattle.agg_nested.specs.Checking.{first_refusal}
 use Rattle.agg_model.specs.declared.agg_error.AggError.{AggError}
 use Rattle.agg_model.specs.declared.agg_error.AggError.TheVariants as agg_errors
-use Rattle.agg_model.specs.declared.request.NamedAgg.{NamedAgg}
 use Rattle.split_bundle.specs.declared.placed.Placed.{Placed}
 use Rattle.doc_tallies.specs.Picked.{docs_of}
 use Rattle.search_api.specs.Kinds.{◌>>=◌}
 use Rattle.search_api.specs.Requests.{request_of}
-use Rattle.search_api.specs.Resolved.{Search, Asked, IsSearch, IsDelete, known, has_text, text_number, text_numbers, searched, sort_of, narrow, agg_of, aggs_of, is_fast, fast_sort, timed, query_or, query_in, unless_refused, checked, search_in, delete_in, resolved}
+use Rattle.search_api.specs.Resolved.{Search, Asked, IsSearch, IsDelete, known, has_text, text_number, text_numbers, searched, sort_of, narrow, counted_number, flat_of, flats_of, agg_of, aggs_of, is_fast, fast_sort, timed, query_or, query_in, unless_refused, checked, search_in, delete_in, resolved}
 use Rattle.search_api.specs.declared.reply.Refusal.{Refusal}
 use Rattle.search_api.specs.declared.reply.Refusal.TheVariants as refusals
 use Rattle.search_api.specs.declared.reply.Said.TheVariants as said
 use Rattle.search_api.specs.declared.request.AskedAgg.{AskedAgg}
+use Rattle.search_api.specs.declared.request.AskedFlat.{AskedFlat}
 use Rattle.search_api.specs.declared.request.Request.{Request}
 use Rattle.search_api.specs.declared.request.Request.TheVariants as requests
 use Rattle.search_api.specs.declared.request.SearchRequest.{SearchRequest}
@@ -79,9 +81,20 @@ sort_of_text : (fields : List Field) (sort : Option SortBy) → OfText (sort_of 
 sort_of_text fields None = tt
 sort_of_text fields (Some sort) = bind_of (known sort.path (number_of fields sort.path)) _ (known_of sort.path (number_of fields sort.path)) (λ n. tt)
 
+counted_of : (fields : List Field) (path : List ℕ) → OfText (counted_number fields path)
+counted_of fields path = known_of path (option_and_then narrow (number_of fields path))
+
+flat_of_text : (fields : List Field) (asked : AskedFlat) → OfText (flat_of fields asked)
+flat_of_text fields asked = bind_of (counted_number fields asked.path) _ (counted_of fields asked.path) (λ n. tt)
+
+flats_of_text : (fields : List Field) (asked : List AskedFlat) → OfText (flats_of fields asked)
+flats_of_text fields [] = tt
+flats_of_text fields (asked ∷ rest) =
+    bind_of (flat_of fields asked) _ (flat_of_text fields asked) (λ flat. bind_of (flats_of fields rest) _ (flats_of_text fields rest) (λ more. tt))
+
 agg_of_text : (fields : List Field) (asked : AskedAgg) → OfText (agg_of fields asked)
 agg_of_text fields asked =
-    let n = option_and_then narrow (number_of fields asked.path) in bind_of (known asked.path n) _ (known_of asked.path n) (λ m. tt)
+    bind_of (counted_number fields asked.path) _ (counted_of fields asked.path) (λ n. bind_of (flats_of fields asked.nested) _ (flats_of_text fields asked.nested) (λ nested. tt))
 
 aggs_of_text : (fields : List Field) (asked : List AskedAgg) → OfText (aggs_of fields asked)
 aggs_of_text fields [] = tt
@@ -117,7 +130,7 @@ query_or_of (Err (query_errors.TooDeep place)) = tt
 query_or_of (Err (query_errors.NotIndexed place)) = tt
 query_or_of (Err (query_errors.Memory e)) = tt
 
-refused_of : (aggs : List NamedAgg) (error : Option AggError) → OfText (unless_refused aggs error)
+refused_of : (aggs : List NestedAgg) (error : Option AggError) → OfText (unless_refused aggs error)
 refused_of aggs None = tt
 refused_of aggs (Some (agg_errors.NotFast field)) = tt
 refused_of aggs (Some (agg_errors.BadInterval name)) = tt
@@ -168,13 +181,12 @@ asked_of_text config text =
 
 -- ---- an answer
 
-buckets_may : (b : Bool) (many count : ℕ) (lines : List (List ℕ)) (s : Schema) (search : Search) (found : List Placed) →
-    SaidMayTell (if b then said.Refused (refusals.TooManyBuckets count) else said.Found many lines (answers_of search.aggs (docs_of found)))
-buckets_may true many count lines s search found = tt
-buckets_may false many count lines s search found = tt
+buckets_may : (b : Bool) (many count : ℕ) (lines : List (List ℕ)) (results : List NestedAnswer) → SaidMayTell (if b then said.Refused (refusals.TooManyBuckets count) else said.Found many lines results)
+buckets_may true many count lines results = tt
+buckets_may false many count lines results = tt
 
 pub answer_may : (s : Schema) (search : Search) (documents : List Placed) → SaidMayTell (answer s search documents)
 answer_may s search documents =
     let found = matching s search documents in
-    let count = buckets_of search.aggs (docs_of found) in
-    buckets_may (nat_lt most_buckets count) (length found) count (printed s (shown search found)) s search found
+    let count = all_buckets search.aggs (docs_of found) in
+    buckets_may (nat_lt most_buckets count) (length found) (told count) (printed s (shown search found)) (map (nested_answer (docs_of found)) search.aggs)

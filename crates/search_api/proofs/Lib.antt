@@ -10,3 +10,6 @@ pub mod Numbered
 pub mod Within
 pub mod Askable
 pub mod Answered
+pub mod Alone
+pub mod Among
+pub mod InOrder

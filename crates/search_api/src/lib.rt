@@ -2,12 +2,15 @@
 #![tactic(auto)]
 
 mod aggregations;
+mod bucket_pairs;
 mod buckets;
 mod intervals;
 mod keys;
 mod kinds;
+mod laws;
 mod pairs;
 mod printing;
+mod ranges;
 mod reading;
 mod refusals;
 pub mod reply;
@@ -18,11 +21,13 @@ mod resolving;
 pub mod unanswered;
 mod unknown;
 
+pub use laws::keys_stand_in_order;
 pub use printing::print_reply;
 pub use reading::read_request;
 pub use reply::{Hits, Refusal, Reply, Said};
 pub use request::{
-    AggShape, AskedAgg, AskedAggs, Paths, Request, SearchRequest, Selection, SortBy,
+    AggShape, AskedAgg, AskedAggs, AskedFlat, AskedFlats, Paths, Ranges, Request, SearchRequest,
+    Selection, SortBy,
 };
 pub use request_error::RequestError;
 pub use resolved::{Deletion, Resolved, SearchAsk, SortField};

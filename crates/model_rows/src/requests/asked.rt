@@ -2,7 +2,8 @@
 
 use super::refusals::{over_logs, refused};
 use super::schemas::logs;
-use agg_model::{Agg, NamedAgg};
+use agg_model::Agg;
+use agg_nested::{FlatAgg, MetricKind, NestedAgg, WholeRange};
 use doc_value::Text;
 use query_ast::Query;
 use query_reader::print_query;
@@ -69,10 +70,27 @@ fn searched(alloc: Global, paths: &Paths) -> Result<String, AllocError> {
     Ok(shown)
 }
 
+/// An aggregation, and those that are nested in it in brackets.
 fn agg_asked(alloc: Global, asked: &AskedAgg) -> Result<String, AllocError> {
-    let over = asked.path.as_str();
-    match asked.shape {
-        AggShape::Terms { size } => first_terms(alloc, &asked.name, over, size),
+    let mut shown = String::from_str(alloc, "; ")?;
+    let own = shape_asked(alloc, &asked.name, &asked.path, &asked.shape)?;
+    shown.push_str(own.as_str())?;
+    for flat in asked.nested.as_slice() {
+        let inner = shape_asked(alloc, &flat.name, &flat.path, &flat.shape)?;
+        shown.push_str(format!(in alloc; " ({})", inner.as_str())?.as_str())?;
+    }
+    Ok(shown)
+}
+
+fn shape_asked(
+    alloc: Global,
+    name: &Text,
+    path: &Text,
+    shape: &AggShape,
+) -> Result<String, AllocError> {
+    let over = path.as_str();
+    match shape {
+        AggShape::Terms { size } => first_terms(alloc, name, over, *size),
         AggShape::Histogram {
             interval,
             offset,
@@ -80,14 +98,19 @@ fn agg_asked(alloc: Global, asked: &AskedAgg) -> Result<String, AllocError> {
             dated,
         } => {
             let scale = (interval.whole(), offset.whole());
-            in_steps(alloc, &asked.name, over, scale, min_doc_count, dated)
+            in_steps(alloc, name, over, scale, *min_doc_count, *dated)
         }
+        AggShape::Min => metric(alloc, name, over, MetricKind::Min),
+        AggShape::Max => metric(alloc, name, over, MetricKind::Max),
+        AggShape::Sum => metric(alloc, name, over, MetricKind::Sum),
+        AggShape::ValueCount => metric(alloc, name, over, MetricKind::ValueCount),
+        AggShape::Range { ranges } => in_ranges(alloc, name, over, ranges.as_slice()),
     }
 }
 
 fn first_terms(alloc: Global, name: &Text, over: &str, size: u32) -> Result<String, AllocError> {
     let name = name.as_str();
-    format!(in alloc; "; {name} over {over}, the first {size}")
+    format!(in alloc; "{name} over {over}, the first {size}")
 }
 
 fn in_steps(
@@ -102,8 +125,40 @@ fn in_steps(
     let (interval, offset) = scale;
     let dated = if dated { ", dated" } else { "" };
     format!(in alloc;
-        "; {name} over {over} in steps of {interval} from {offset} by at least {least}{dated}"
+        "{name} over {over} in steps of {interval} from {offset} by at least {least}{dated}"
     )
+}
+
+fn metric(alloc: Global, name: &Text, over: &str, kind: MetricKind) -> Result<String, AllocError> {
+    let name = name.as_str();
+    let number = match kind {
+        MetricKind::Min => "least",
+        MetricKind::Max => "greatest",
+        MetricKind::Sum => "sum",
+        MetricKind::ValueCount => "count",
+    };
+    format!(in alloc; "{name} over {over}, the {number}")
+}
+
+fn in_ranges(
+    alloc: Global,
+    name: &Text,
+    over: &str,
+    ranges: &[WholeRange],
+) -> Result<String, AllocError> {
+    let mut shown = format!(in alloc; "{} over {over} in", name.as_str())?;
+    for range in ranges {
+        shown.push_str(edge(alloc, " from", range.from)?.as_str())?;
+        shown.push_str(edge(alloc, " to", range.to)?.as_str())?;
+    }
+    Ok(shown)
+}
+
+fn edge(alloc: Global, word: &str, edge: Option<i128>) -> Result<String, AllocError> {
+    match edge {
+        Some(edge) => format!(in alloc; "{word} {edge}"),
+        None => Ok(String::new(alloc)),
+    }
 }
 
 /// What a request is over the schema.
@@ -135,11 +190,35 @@ fn query_shown(alloc: Global, query: &Query) -> Result<String, AllocError> {
     String::from_str(alloc, printed.as_str())
 }
 
-fn agg_shown(alloc: Global, named: &NamedAgg) -> Result<String, AllocError> {
-    match named.agg {
+fn agg_shown(alloc: Global, asked: &NestedAgg) -> Result<String, AllocError> {
+    let mut shown = String::from_str(alloc, "; ")?;
+    shown.push_str(flat_shown(alloc, &asked.name, &asked.agg)?.as_str())?;
+    for flat in asked.nested.as_slice() {
+        let inner = flat_shown(alloc, &flat.name, &flat.agg)?;
+        shown.push_str(format!(in alloc; " ({})", inner.as_str())?.as_str())?;
+    }
+    Ok(shown)
+}
+
+fn flat_shown(alloc: Global, name: &Text, agg: &FlatAgg) -> Result<String, AllocError> {
+    match agg {
+        FlatAgg::Counted(agg) => counted_shown(alloc, name, agg),
+        FlatAgg::Metric { kind, field } => {
+            let over = format!(in alloc; "field {field}")?;
+            metric(alloc, name, over.as_str(), *kind)
+        }
+        FlatAgg::Ranges { field, ranges } => {
+            let over = format!(in alloc; "field {field}")?;
+            in_ranges(alloc, name, over.as_str(), ranges.as_slice())
+        }
+    }
+}
+
+fn counted_shown(alloc: Global, name: &Text, agg: &Agg) -> Result<String, AllocError> {
+    match agg {
         Agg::Terms { field, size } => {
             let over = format!(in alloc; "field {field}")?;
-            first_terms(alloc, &named.name, over.as_str(), size)
+            first_terms(alloc, name, over.as_str(), *size)
         }
         Agg::Histogram {
             field,
@@ -150,14 +229,7 @@ fn agg_shown(alloc: Global, named: &NamedAgg) -> Result<String, AllocError> {
         } => {
             let over = format!(in alloc; "field {field}")?;
             let scale = (interval.whole(), offset.whole());
-            in_steps(
-                alloc,
-                &named.name,
-                over.as_str(),
-                scale,
-                min_doc_count,
-                dated,
-            )
+            in_steps(alloc, name, over.as_str(), scale, *min_doc_count, *dated)
         }
     }
 }

@@ -1,5 +1,10 @@
 //! Requests that are refused, by reading or over the schema.
 
+ghost use Rattle.std.specs.Prelude.{◌≡◌, None, IfOk};
+ghost use Rattle.doc_value.specs.declared.schema.Schema.{Schema};
+ghost use Rattle.search_api.specs.Answerable.{CanAnswer};
+ghost use Rattle.search_api.specs.Resolved.{view};
+
 use super::replies::line_of;
 use super::schemas::logs;
 use doc_value::{Bytes, Schema};
@@ -7,12 +12,17 @@ use search_api::{Resolved, Said, Unanswered, read_request, resolve};
 use std::alloc::{AllocError, Global};
 
 /// A request over the schema, whose first field is its default field.
-pub fn over_logs(alloc: Global, text: &[u8]) -> Result<Resolved, Unanswered> {
+pub fn over_logs(alloc: Global, text: &[u8]) -> Result<Resolved, Unanswered>
+    ensures { IfOk result (λ asked. (schema : Schema) × CanAnswer schema (view asked)) }
+{
     let schema = logs(alloc)?;
     over(alloc, &schema, text)
 }
 
-fn over(alloc: Global, schema: &Schema, text: &[u8]) -> Result<Resolved, Unanswered> {
+fn over(alloc: Global, schema: &Schema, text: &[u8]) -> Result<Resolved, Unanswered>
+    requires { schema.now.dynamic ≡ None }
+    ensures { IfOk result (λ asked. CanAnswer schema.now (view asked)) }
+{
     let request = read_request(alloc, text)?;
     resolve(alloc, schema, &[0], &request)
 }

@@ -1,8 +1,9 @@
 //! Replies and their lines.
 
-use agg_model::{AggAnswer, AggResult, Bucket, Buckets, Key as BucketKey, NamedResult};
+use agg_model::{AggAnswer, Bucket, Buckets, Key as BucketKey};
+use agg_nested::{FlatAnswer, NestedAnswer, NestedResult};
 use byte_fields::Client;
-use doc_value::{Bytes, Text, Value};
+use doc_value::{Bytes, List, Text, Value};
 use object_store::Key;
 use search_api::{Hits, Refusal, Reply, Said, print_reply};
 use std::alloc::{AllocError, Global};
@@ -33,7 +34,7 @@ pub fn printed(alloc: Global, name: &str) -> Result<String, AllocError> {
         "empty" => Said::Found {
             count: 0,
             hits: Hits::vacant(alloc),
-            aggregations: AggResult::vacant(alloc),
+            aggregations: NestedResult::vacant(alloc),
         },
         "deleted" => Said::Deleted { opstamp: 1 },
         _ => Said::Refused(refusal(name)),
@@ -82,28 +83,29 @@ fn hits(alloc: Global) -> Result<Hits, AllocError> {
     Ok(hits)
 }
 
-fn aggregations(alloc: Global) -> Result<AggResult, AllocError> {
-    let mut results = AggResult::vacant(alloc);
+fn aggregations(alloc: Global) -> Result<NestedResult, AllocError> {
+    let mut results = NestedResult::vacant(alloc);
     results.push(histogram(alloc)?)?;
     results.push(first_texts(alloc)?)?;
     Ok(results)
 }
 
-fn histogram(alloc: Global) -> Result<NamedResult, AllocError> {
-    let name = Text::from_str(alloc, "h\"")?;
+fn histogram(alloc: Global) -> Result<NestedAnswer, AllocError> {
     let buckets = steps(alloc, &[(-10, 1), (0, 0), (10, 0), (20, 1)])?;
-    Ok(NamedResult {
-        name,
-        result: AggAnswer::Histogram { buckets },
-    })
+    plain(alloc, "h\"", AggAnswer::Histogram { buckets })
 }
 
-fn first_texts(alloc: Global) -> Result<NamedResult, AllocError> {
-    let name = Text::from_str(alloc, "t")?;
+fn first_texts(alloc: Global) -> Result<NestedAnswer, AllocError> {
     let buckets = terms(alloc, &[("a", 2), ("c", 2)])?;
-    Ok(NamedResult {
-        name,
-        result: AggAnswer::Terms { buckets, others: 2 },
+    plain(alloc, "t", AggAnswer::Terms { buckets, others: 2 })
+}
+
+/// An answer in which nothing is nested.
+fn plain(alloc: Global, name: &str, answer: AggAnswer) -> Result<NestedAnswer, AllocError> {
+    Ok(NestedAnswer {
+        name: Text::from_str(alloc, name)?,
+        answer: FlatAnswer::Counted(answer),
+        nested: List::vacant(alloc),
     })
 }
 

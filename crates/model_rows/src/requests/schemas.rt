@@ -1,3 +1,5 @@
+ghost use Rattle.std.specs.Prelude.{◌≡◌, None, IfOk};
+
 use doc_value::{Field, Fields, Kind, Schema, Text, Tokenizer};
 use std::alloc::{AllocError, Global};
 
@@ -28,7 +30,9 @@ const ROWS: [(&str, Kind, bool, Tokenizer); 4] = [
 ];
 
 /// The fields above, by their places.
-pub fn logs(alloc: Global) -> Result<Schema, AllocError> {
+pub fn logs(alloc: Global) -> Result<Schema, AllocError>
+    ensures { IfOk result (λ schema. schema.dynamic ≡ None) }
+{
     let mut fields = Fields::vacant(alloc);
     for (path, kind, fast, tokenizer) in ROWS {
         fields.push(field(alloc, path, kind, fast, tokenizer)?)?;

@@ -2,7 +2,6 @@ use Rattle.std.proofs.Common.{◌≡◌, Ok, Err, refl}
 use Rattle.std.specs.Result.{IsOk}
 use Rattle.meta_store.specs.Answers.{Answer, handed}
 use Rattle.meta_store.specs.Said.{Said}
-use Rattle.meta_store.specs.declared.refusal.Refusal.{Refusal}
 use Rattle.model_rows.proofs.histories.questions.take.Goals as goal
 
 -- what is handed back is what was handed in, and the entry may come
