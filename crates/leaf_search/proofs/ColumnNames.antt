@@ -1,11 +1,13 @@
 -- The columns that a request asks for, named one by one.
-use Rattle.std.proofs.Common.{◌≡◌, ℕ, zero, suc, ◌+◌, ◌<◌, ◌⊎◌, inl, inr, true, false, List, [], ◌∷◌, length, drop, get_or, Option, Some, None, refl, ap, sym, ◌∙◌, subst, arith}
+use Rattle.std.proofs.Common.{◌≡◌, ℕ, zero, suc, ◌+◌, ◌<◌, ◌⊎◌, inl, inr, true, false, List, [], ◌∷◌, ◌++◌, length, drop, get_or, Option, Some, None, refl, ap, sym, ◌∙◌, subst, arith}
 use Rattle.std.proofs.lemmas.List.{drop_more}
+use Rattle.std.proofs.lemmas.List.Elements.{Contains-append_cases, Contains-append_left, Contains-append_right}
 use Rattle.doc_value.specs.declared.facts.TimeRange.{TimeRange}
 use Rattle.doc_value.specs.declared.schema.Schema.{Schema}
 use Rattle.query_ast.specs.Meaning.{is_unlimited}
-use Rattle.agg_model.specs.Checking.{field_of}
-use Rattle.agg_model.specs.declared.request.NamedAgg.{NamedAgg}
+use Rattle.agg_nested.specs.Checking.{field_of}
+use Rattle.agg_nested.specs.declared.request.NamedFlat.{NamedFlat}
+use Rattle.agg_nested.specs.declared.request.NestedAgg.{NestedAgg}
 use Rattle.split_bundle.specs.declared.footer.Footer.{Footer}
 use Rattle.split_bundle.specs.declared.part_view.PartView.{PartView}
 use Rattle.split_bundle.specs.declared.pieces.FilePiece.{FilePiece}
@@ -14,13 +16,13 @@ use Rattle.split_bundle.specs.Files.{Parts, file_bytes}
 use Rattle.split_bundle.specs.Lending.{IsPartOf, start_of_column}
 use Rattle.split_bundle.specs.Pieces.{ArePieces}
 use Rattle.split_bundle.specs.Views.{IsFooterOf}
-use Rattle.doc_tallies.specs.AggColumns.{AsksFields}
+use Rattle.doc_tallies.specs.AggColumns.{AsksFields, fields_asked}
 use Rattle.doc_tallies.specs.Causes.{AsksColumn, columns_start}
 use Rattle.doc_tallies.specs.Orders.{sort_field}
 use Rattle.doc_tallies.specs.declared.hit_order.HitOrder.{HitOrder}
 use Rattle.leaf_search.specs.Answers.{AsksTimes}
 use Rattle.leaf_search.specs.FileRanges.{AddsParts}
-use Rattle.leaf_search.specs.Needs.{NeedsColumns, NeedsOrder}
+use Rattle.leaf_search.specs.Needs.{AsksAmong, NeedsColumns, NeedsOrder, fields_nested}
 use Rattle.leaf_search.specs.declared.file_ranges.FileRange.{FileRange}
 use Rattle.leaf_search.specs.declared.request.LeafRequest.{LeafRequest}
 use Rattle.leaf_search.proofs.RangeLists.{both_added, none_added, parts_alike}
@@ -45,26 +47,66 @@ module _ (v : PartView) (p : Parts) where
 
   -- ---- those of aggregations
 
-  pub next_field : (aggs : List NamedAgg) (i : ℕ) (x : NamedAgg) (number : ℕ) (old middle new : List FileRange) → i < length aggs → x ≡ get_or aggs i x → number ≡ field_of x.agg → AddsParts (AsksColumn v p number) old middle
-      → AddsParts (AsksFields v p (drop (i + 1) aggs)) middle new → AddsParts (AsksFields v p (drop i aggs)) old new
-  next_field aggs i x number old middle new lt e same first behind =
-      let xs : List NamedAgg = drop (i + 1) aggs in
-      let rest : drop i aggs ≡ x ∷ xs = drop_more aggs i x lt ∙ ap (λ y. y ∷ xs) (sym e) in
-      subst (λ (l : List NamedAgg). AddsParts (AsksFields v p l) old new) (sym rest)
-      (parts_alike (λ at len. AsksColumn v p (field_of x.agg) at len ⊎ AsksFields v p xs at len) (AsksFields v p (x ∷ xs)) old new
-      (λ a n h. elim h [
-        | inl here ↦ record { named = x; among = (zero, omega arith, refl); column = here }
-        | inr later ↦ record { named = later.named; among = (suc later.among.0, omega (arith, later.among.1), later.among.2); column = later.column }
+  next_among : (n : ℕ) (ns : List ℕ) (old middle new : List FileRange) → AddsParts (AsksColumn v p n) old middle → AddsParts (AsksAmong v p ns) middle new → AddsParts (AsksAmong v p (n ∷ ns)) old new
+  next_among n ns old middle new first behind =
+      parts_alike (λ at len. AsksColumn v p n at len ⊎ AsksAmong v p ns at len) (AsksAmong v p (n ∷ ns)) old new
+      (λ a l h. elim h [
+        | inl here ↦ record { number = n; among = (zero, omega arith, refl); column = here }
+        | inr later ↦ record { number = later.number; among = (suc later.among.0, omega (arith, later.among.1), later.among.2); column = later.column }
       ])
-      (λ a n h. go xs h.named h.among.0 h.among.1 h.among.2 a n h.column)
-      (both_added (AsksColumn v p (field_of x.agg)) (AsksFields v p xs) old middle new (subst (λ k. AddsParts (AsksColumn v p k) old middle) same first) behind))
+      (λ a l h. go h.number h.among.0 h.among.1 h.among.2 a l h.column)
+      (both_added (AsksColumn v p n) (AsksAmong v p ns) old middle new first behind)
     where
-      go : (xs : List NamedAgg) (named : NamedAgg) (k : ℕ) → k < suc (length xs) → get_or (x ∷ xs) k named ≡ named → (a n : ℕ) → AsksColumn v p (field_of named.agg) a n → AsksColumn v p (field_of x.agg) a n ⊎ AsksFields v p xs a n
-      go xs named zero small is a n column = inl (subst (λ (y : NamedAgg). AsksColumn v p (field_of y.agg) a n) (sym is) column)
-      go xs named (suc k) small is a n column = inr (record { named = named; among = (k, omega (arith, small), is); column = column })
+      go : (number k : ℕ) → k < suc (length ns) → get_or (n ∷ ns) k number ≡ number → (a l : ℕ) → AsksColumn v p number a l → AsksColumn v p n a l ⊎ AsksAmong v p ns a l
+      go number zero small is a l column = inl (subst (λ m. AsksColumn v p m a l) (sym is) column)
+      go number (suc k) small is a l column = inr (record { number = number; among = (k, omega (arith, small), is); column = column })
 
-  pub no_fields : (aggs : List NamedAgg) (rs : List FileRange) → aggs ≡ [] → AddsParts (AsksFields v p aggs) rs rs
-  no_fields aggs rs none = none_added (AsksFields v p aggs) rs (λ a n h. let few : length aggs ≡ 0 = ap length none in omega (arith, few, h.among.1))
+  both_among : (ns ms : List ℕ) (old middle new : List FileRange) → AddsParts (AsksAmong v p ns) old middle → AddsParts (AsksAmong v p ms) middle new → AddsParts (AsksAmong v p (ns ++ ms)) old new
+  both_among ns ms old middle new first behind =
+      parts_alike (λ at len. AsksAmong v p ns at len ⊎ AsksAmong v p ms at len) (AsksAmong v p (ns ++ ms)) old new
+      (λ a l h. elim h [
+        | inl one ↦ record { number = one.number; among = Contains-append_left ns ms one.number one.among; column = one.column }
+        | inr other ↦ record { number = other.number; among = Contains-append_right ns ms other.number other.among; column = other.column }
+      ])
+      (λ a l h. elim (Contains-append_cases ns ms h.number h.among) [
+        | inl one ↦ inl (record { number = h.number; among = one; column = h.column })
+        | inr other ↦ inr (record { number = h.number; among = other; column = h.column })
+      ])
+      (both_added (AsksAmong v p ns) (AsksAmong v p ms) old middle new first behind)
+
+  -- those of the fields of a request
+  pub among_fields : (aggs : List NestedAgg) (old new : List FileRange) → AddsParts (AsksAmong v p (fields_asked aggs)) old new → AddsParts (AsksFields v p aggs) old new
+  among_fields aggs old new adds =
+      parts_alike (AsksAmong v p (fields_asked aggs)) (AsksFields v p aggs) old new
+      (λ a l h. record { number = h.number; among = h.among; column = h.column }) (λ a l h. record { number = h.number; among = h.among; column = h.column }) adds
+
+  fields_among : (aggs : List NestedAgg) (old new : List FileRange) → AddsParts (AsksFields v p aggs) old new → AddsParts (AsksAmong v p (fields_asked aggs)) old new
+  fields_among aggs old new adds =
+      parts_alike (AsksFields v p aggs) (AsksAmong v p (fields_asked aggs)) old new
+      (λ a l h. record { number = h.number; among = h.among; column = h.column }) (λ a l h. record { number = h.number; among = h.among; column = h.column }) adds
+
+  pub next_nested : (nested : List NamedFlat) (i : ℕ) (x : NamedFlat) (number : ℕ) (old middle new : List FileRange) → i < length nested → x ≡ get_or nested i x → number ≡ field_of x.agg → AddsParts (AsksColumn v p number) old middle
+      → AddsParts (AsksAmong v p (fields_nested (drop (i + 1) nested))) middle new → AddsParts (AsksAmong v p (fields_nested (drop i nested))) old new
+  next_nested nested i x number old middle new lt e same first behind =
+      let xs : List NamedFlat = drop (i + 1) nested in
+      let rest : drop i nested ≡ x ∷ xs = drop_more nested i x lt ∙ ap (λ y. y ∷ xs) (sym e) in
+      subst (λ (l : List NamedFlat). AddsParts (AsksAmong v p (fields_nested l)) old new) (sym rest)
+      (next_among (field_of x.agg) (fields_nested xs) old middle new (subst (λ k. AddsParts (AsksColumn v p k) old middle) same first) behind)
+
+  pub no_nested : (nested : List NamedFlat) (rs : List FileRange) → nested ≡ [] → AddsParts (AsksAmong v p (fields_nested nested)) rs rs
+  no_nested nested rs none = subst (λ (l : List NamedFlat). AddsParts (AsksAmong v p (fields_nested l)) rs rs) (sym none) (none_added (AsksAmong v p []) rs (λ a n h. omega (arith, h.among.1)))
+
+  pub next_field : (aggs : List NestedAgg) (i : ℕ) (x : NestedAgg) (number : ℕ) (old own middle new : List FileRange) → i < length aggs → x ≡ get_or aggs i x → number ≡ field_of x.agg → AddsParts (AsksColumn v p number) old own
+      → AddsParts (AsksAmong v p (fields_nested x.nested)) own middle → AddsParts (AsksFields v p (drop (i + 1) aggs)) middle new → AddsParts (AsksFields v p (drop i aggs)) old new
+  next_field aggs i x number old own middle new lt e same first nested behind =
+      let xs : List NestedAgg = drop (i + 1) aggs in
+      let rest : drop i aggs ≡ x ∷ xs = drop_more aggs i x lt ∙ ap (λ y. y ∷ xs) (sym e) in
+      let here = next_among (field_of x.agg) (fields_nested x.nested) old own middle (subst (λ k. AddsParts (AsksColumn v p k) old own) same first) nested in
+      subst (λ (l : List NestedAgg). AddsParts (AsksFields v p l) old new) (sym rest)
+      (among_fields (x ∷ xs) old new (both_among (field_of x.agg ∷ fields_nested x.nested) (fields_asked xs) old middle new here (fields_among xs middle new behind)))
+
+  pub no_fields : (aggs : List NestedAgg) (rs : List FileRange) → aggs ≡ [] → AddsParts (AsksFields v p aggs) rs rs
+  no_fields aggs rs none = subst (λ (l : List NestedAgg). AddsParts (AsksFields v p l) rs rs) (sym none) (among_fields [] rs rs (none_added (AsksAmong v p []) rs (λ a n h. omega (arith, h.among.1))))
 
   -- ---- the order's
 
@@ -87,7 +129,7 @@ column_alike v w p same number at len h = record { at_is = h.at_is ∙ ap (λ (f
 
 columns_alike : (v w : PartView) (s : Schema) (p : Parts) (r : LeafRequest) → v.footer ≡ w.footer → (at len : ℕ) → NeedsColumns v s p r at len → NeedsColumns w s p r at len
 columns_alike v w s p r same at len (inl h) = inl (record { limited = h.limited; asks = record { number = h.asks.number; is_field = h.asks.is_field; column = column_alike v w p same h.asks.number at len h.asks.column } })
-columns_alike v w s p r same at len (inr (inl h)) = inr (inl (record { named = h.named; among = h.among; column = column_alike v w p same (field_of h.named.agg) at len h.column }))
+columns_alike v w s p r same at len (inr (inl h)) = inr (inl (record { number = h.number; among = h.among; column = column_alike v w p same h.number at len h.column }))
 columns_alike v w s p r same at len (inr (inr h)) = inr (inr (h.0, record { number = h.1.number; is_field = h.1.is_field; column = column_alike v w p same h.1.number at len h.1.column }))
 
 pub columns_named : (v w : PartView) (s : Schema) (p : Parts) (r : LeafRequest) (old new : List FileRange) → v.footer ≡ w.footer → AddsParts (NeedsColumns v s p r) old new → AddsParts (NeedsColumns w s p r) old new

@@ -16,7 +16,7 @@ use Rattle.doc_sets.specs.Asking.{AsksLookups}
 use Rattle.doc_sets.specs.declared.dictionary_lookup.Lookup.{Lookup}
 use Rattle.doc_sets.specs.Faults.{HasCause, IsMemory, fault_of}
 use Rattle.doc_tallies.specs.Causes as tallies
-use Rattle.agg_model.specs.Partials.{StandsFor}
+use Rattle.agg_nested.specs.Buckets.{NestedStands}
 use Rattle.doc_tallies.specs.Orders.{firsts}
 use Rattle.doc_tallies.specs.Picked.{docs_of, picked}
 use Rattle.leaf_search.specs.declared.request.LeafAnswer.{LeafAnswer}
@@ -90,11 +90,11 @@ handed good P (Err y) e h cause = subst P (sym h) cause
 
 -- the parts of an answer over the documents of some numbers, which are given in two lists
 pub is_answer : (s : Schema) (r : LeafRequest) (ds : List Placed) (a : LeafAnswer) (ns counted hit : List ℕ) → ns ≡ numbers_of (passes s r) ds → counted ≡ ns → hit ≡ ns → a.count ≡ length ns
-    → a.hits ≡ firsts r.wanted r.order (picked hit ds) → StandsFor r.aggs a.partial (docs_of (picked counted ds)) → IsAnswerOf s r ds a
+    → a.hits ≡ firsts r.wanted r.order (picked hit ds) → NestedStands r.aggs a.partial (docs_of (picked counted ds)) → IsAnswerOf s r ds a
 is_answer s r ds a ns counted hit same same_counted same_hit count hits partial =
     let them : picked ns ds ≡ found s r ds = ap (λ l. picked l ds) same ∙ picked_of (passes s r) ds in
     record {
       count = count ∙ (ap length same ∙ many (passes s r) ds);
       hits = hits ∙ ap (firsts r.wanted r.order) (ap (λ l. picked l ds) same_hit ∙ them);
-      partial = subst (λ l. StandsFor r.aggs a.partial (docs_of l)) (ap (λ l. picked l ds) same_counted ∙ them) partial;
+      partial = subst (λ l. NestedStands r.aggs a.partial (docs_of l)) (ap (λ l. picked l ds) same_counted ∙ them) partial;
     }

@@ -21,8 +21,8 @@ use Rattle.doc_sets.specs.Walks.{AsksTerms, begun_in}
 use Rattle.doc_sets.specs.declared.dictionary_lookup.Lookup.{Lookup}
 use Rattle.doc_sets.specs.declared.dictionary_lookup.Lookup.TheVariants.{Count, Documents, Places, Walk}
 use Rattle.doc_sets.specs.declared.wanted.Wanted.{Wanted}
-use Rattle.agg_model.specs.Checking.{field_of}
-use Rattle.agg_model.specs.declared.request.NamedAgg.{NamedAgg}
+use Rattle.agg_nested.specs.declared.request.NestedAgg.{NestedAgg}
+use Rattle.doc_tallies.specs.AggColumns.{fields_asked}
 use Rattle.term_dict.specs.declared.term.Term.{Term}
 use Rattle.doc_tallies.specs.Causes.{AsksColumn, columns_start}
 use Rattle.doc_tallies.specs.Cells.{IsFast}
@@ -73,7 +73,7 @@ module _ (v : PartView) (s : Schema) (ds : List Placed) (p : Parts) (r : LeafReq
   no_lists : (key : List ℕ) → OnlyCounts s r key → counted_key s r ≡ Some key → (at len : ℕ) → NeedsLists v s ds p r at len → ⊥
   no_lists key c is at len (inl h) = elim (subst (λ (ls : List Lookup). AsksLists v s ds p ls at len) (counted_lookups v s ds p r key is) h) [ inl never ↦ never | inr never ↦ never ]
   no_lists key c is at len (inr (inl (inl h))) = let bad : true ≡ false = sym c.unlimited ∙ h.limited in cc
-  no_lists key c is at len (inr (inl (inr (inl h)))) = let few : length r.aggs ≡ 0 = ap length c.aggs in omega (arith, few, h.among.1)
+  no_lists key c is at len (inr (inl (inr (inl h)))) = let few : length (fields_asked r.aggs) ≡ 0 = ap (λ (aggs : List NestedAgg). length (fields_asked aggs)) c.aggs in omega (arith, few, h.among.1)
   no_lists key c is at len (inr (inl (inr (inr h)))) = omega (arith, c.wanted, h.0)
   no_lists key c is at len (inr (inr h)) = omega (arith, c.wanted, h.0)
 
@@ -175,8 +175,8 @@ module _ (v : PartView) (s : Schema) (ds : List Placed) (p : Parts) (part : IsPa
   lists_between r none ask at len (inl h) = (lists_behind (request_lookups s r) at len h, lookups_within v s ds p part (request_lookups s r) at len (inr h))
   lists_between r none ask at len (inr (inl (inl h))) = column_between h.asks.number at len (timestamp_fast s h.asks.number part.is_split.are_documents.schema h.asks.is_field) h.asks.column
   lists_between r none ask at len (inr (inl (inr (inl h)))) =
-      let fast : IsFast s (field_of h.named.agg) = subst (λ (n : NamedAgg). IsFast s (field_of n.agg)) h.among.2 (over_fast s r.aggs ask.aggs h.among.0 h.named h.among.1) in
-      column_between (field_of h.named.agg) at len fast h.column
+      let fast : IsFast s h.number = subst (λ (n : ℕ). IsFast s n) h.among.2 (over_fast s r.aggs ask.aggs h.among.0 h.number h.among.1) in
+      column_between h.number at len fast h.column
   lists_between r none ask at len (inr (inl (inr (inr h)))) = absurd (omega (arith, none, h.0))
   lists_between r none ask at len (inr (inr h)) = absurd (omega (arith, none, h.0))
 

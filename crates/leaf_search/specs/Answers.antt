@@ -7,7 +7,7 @@ use Rattle.doc_value.specs.declared.facts.TimeRange.{TimeRange}
 use Rattle.query_ast.specs.Meaning.{meaning, within_times, is_unlimited}
 use Rattle.query_ast.specs.Sought.{view}
 use Rattle.leaf_search.specs.Askable.{CanAsk, AreCounted}
-use Rattle.agg_model.specs.Partials.{StandsFor}
+use Rattle.agg_nested.specs.Buckets.{NestedStands}
 use Rattle.split_bundle.specs.declared.placed.Placed.{Placed}
 use Rattle.split_bundle.specs.declared.part_view.PartView.{PartView}
 use Rattle.split_bundle.specs.Files.{Parts}
@@ -34,7 +34,7 @@ found s r documents = filter (λ d. passes s r d.doc) documents
 pub record IsAnswerOf (s : Schema) (r : LeafRequest) (documents : List Placed) (a : LeafAnswer) : Type 0 where
   pub count : a.count ≡ length (found s r documents)
   pub hits : a.hits ≡ firsts r.wanted r.order (found s r documents)
-  pub partial : StandsFor r.aggs a.partial (docs_of (found s r documents))
+  pub partial : NestedStands r.aggs a.partial (docs_of (found s r documents))
 
 -- a request that a split of the schema can answer: its query can be asked, hits are sorted by a fast field, and no aggregation
 -- is refused

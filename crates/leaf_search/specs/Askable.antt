@@ -1,14 +1,13 @@
 -- Which requests a split of a schema can answer.
-use Rattle.std.specs.Prelude.{◌≡◌, ℕ, ◌<◌, true, List, length, None}
-use Rattle.std.specs.List.{All}
+use Rattle.std.specs.Prelude.{◌≡◌, ℕ, true, List, length, None}
 use Rattle.doc_value.specs.declared.schema.Field.{Field}
 use Rattle.doc_value.specs.declared.schema.Schema.{Schema}
 use Rattle.query_ast.specs.Meaning.{is_text}
 use Rattle.query_ast.specs.Queries.{HasField, has_order}
 use Rattle.query_ast.specs.Sought.{Sought, Soughts, no_more, more}
 use Rattle.query_ast.specs.Sought as sought
-use Rattle.agg_model.specs.Checking.{field_of, first_refusal}
-use Rattle.agg_model.specs.declared.request.NamedAgg.{NamedAgg}
+use Rattle.agg_nested.specs.Checking.{HaveFields, first_refusal}
+use Rattle.agg_nested.specs.declared.request.NestedAgg.{NestedAgg}
 use Rattle.doc_sets.specs.Texts.{CanPlace, CanPlaceEach}
 
 -- the field that is asked is one of the schema's and indexed, and this holds of it
@@ -35,7 +34,7 @@ abbrev mutual
   CanAskEach s no_more = Unit {0}
   CanAskEach s (more q qs) = CanAsk s q × CanAskEach s qs
 
--- each aggregation is over one of the schema's fields, and none is refused
-pub record AreCounted (s : Schema) (aggs : List NamedAgg) : Type 0 where
-  pub over : All (λ named. field_of named.agg < length s.fields) aggs
+-- each aggregation is over one of the schema's fields, a nested one too, and none is refused
+pub record AreCounted (s : Schema) (aggs : List NestedAgg) : Type 0 where
+  pub over : HaveFields (length s.fields) aggs
   pub none : first_refusal s.fields aggs ≡ None

@@ -1,25 +1,27 @@
 // The columns that are asked for.
 
 ghost use Rattle.std.specs.Prelude.{◌≡◌, ◌+◌, ◌<◌, ◌≤◌, [], ℕ, List, Some, false, length, slice_get, OnOk};
+ghost use Rattle.std.specs.List.{All};
 ghost use Rattle.doc_value.specs.declared.schema.Field.{Field};
 ghost use Rattle.split_bundle.specs.declared.placed.Placed.{Placed};
 ghost use Rattle.split_bundle.specs.declared.split_error.SplitError.TheVariants.{Truncated};
 ghost use Rattle.split_bundle.specs.Files.{Parts};
 ghost use Rattle.split_bundle.specs.Lending.{IsPartOf, length_of_column, start_of_column};
-ghost use Rattle.agg_model.specs.Checking as checking;
+ghost use Rattle.agg_nested.specs.Checking as checking;
 ghost use Rattle.doc_tallies.specs.AggColumns.{AreOverFast, AsksFields};
 ghost use Rattle.doc_tallies.specs.Causes.{AsksColumn, columns_start};
 ghost use Rattle.doc_tallies.specs.Cells.{IsFast};
 ghost use Rattle.doc_tallies.specs.Orders.{IsSortable};
 ghost use Rattle.leaf_search.specs.Answers.{AsksTimes, IsAsked};
 ghost use Rattle.leaf_search.specs.FileRanges.{AddsParts};
-ghost use Rattle.leaf_search.specs.Needs.{NeedsColumns, NeedsOrder};
+ghost use Rattle.leaf_search.specs.Needs.{AsksAmong, NeedsColumns, NeedsOrder, fields_nested};
 
 use crate::file_ranges::Ranges;
 use crate::joining::name_part;
 use crate::request::LeafRequest;
 use crate::timed::is_unlimited;
-use agg_model::{Agg, NamedAgg};
+use agg_model::Agg;
+use agg_nested::{FlatAgg, NamedFlat, NestedAgg};
 use doc_value::{Schema, TimeRange};
 use split_bundle::{PartView, Pieces, SplitError};
 use std::alloc::{AllocError, Global};
@@ -130,20 +132,40 @@ fn name_times(
     }
 }
 
-fn field_of(agg: &Agg) -> u32
+fn field_of(agg: &FlatAgg) -> u32
     ensures { result ≡ checking.field_of agg.now }
 {
     match agg {
-        Agg::Terms { field, .. } => *field,
-        Agg::Histogram { field, .. } => *field,
+        FlatAgg::Counted(Agg::Terms { field, .. })
+        | FlatAgg::Counted(Agg::Histogram { field, .. })
+        | FlatAgg::Metric { field, .. }
+        | FlatAgg::Ranges { field, .. } => *field,
     }
 }
 
-// Names the columns of the fields of aggregations.
+// Names the columns of the fields of nested aggregations.
+fn name_nested(
+    bare: &PartView,
+    schema: &Schema,
+    nested: &[NamedFlat],
+    ranges: &mut Ranges,
+) -> Result<(), AllocError>
+    requires bare { bare.now.pieces ≡ [] }
+    requires few { length schema.now.fields ≤ 256 }
+    ensures { (documents : List Placed) (p : Parts) → IsPartOf bare.now schema.now documents p → All (IsFast schema.now) (fields_nested nested.now)
+        → OnOk result (AddsParts (AsksAmong bare.now p (fields_nested nested.now)) ranges.old ranges.new) }
+{
+    for named in nested {
+        name_column(bare, schema, ranges, field_of(&named.agg) as usize)?;
+    }
+    Ok(())
+}
+
+// Names the columns of the fields of aggregations, and of the nested ones.
 fn name_fields(
     bare: &PartView,
     schema: &Schema,
-    aggs: &[NamedAgg],
+    aggs: &[NestedAgg],
     ranges: &mut Ranges,
 ) -> Result<(), AllocError>
     requires bare { bare.now.pieces ≡ [] }
@@ -151,8 +173,9 @@ fn name_fields(
     ensures { (documents : List Placed) (p : Parts) → IsPartOf bare.now schema.now documents p → AreOverFast schema.now aggs.now
         → OnOk result (AddsParts (AsksFields bare.now p aggs.now) ranges.old ranges.new) }
 {
-    for named in aggs {
-        name_column(bare, schema, ranges, field_of(&named.agg) as usize)?;
+    for asked in aggs {
+        name_column(bare, schema, ranges, field_of(&asked.agg) as usize)?;
+        name_nested(bare, schema, asked.nested.as_slice(), ranges)?;
     }
     Ok(())
 }

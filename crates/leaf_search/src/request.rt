@@ -1,6 +1,6 @@
 //! What is asked of a split, and what it answers.
 
-use agg_model::{AggRequest, Partial};
+use agg_nested::{NestedPartial, NestedRequest};
 use doc_tallies::HitOrder;
 use doc_value::TimeRange;
 use query_ast::Query;
@@ -15,7 +15,7 @@ pub struct LeafRequest {
     pub order: Option<HitOrder>,
     /// How many hits are wanted at most: 0 where none is shown.
     pub wanted: usize,
-    pub aggs: AggRequest,
+    pub aggs: NestedRequest,
 }
 
 /// What a split answers: how many documents match, the first of them in the request's order, and what they count.
@@ -23,5 +23,5 @@ pub struct LeafRequest {
 pub struct LeafAnswer {
     pub count: u64,
     pub hits: PlacedList,
-    pub partial: Partial,
+    pub partial: NestedPartial,
 }

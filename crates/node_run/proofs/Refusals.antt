@@ -9,12 +9,13 @@ use Rattle.query_ast.specs.Sought.{Sought}
 use Rattle.query_reader.specs.Resolve.{query_of}
 use Rattle.query_reader.specs.declared.refusal.QueryError.{QueryError}
 use Rattle.query_reader.specs.declared.refusal.QueryError.TheVariants as query_errors
-use Rattle.agg_form.specs.Finished.{answers_of, buckets_of}
+use Rattle.agg_nested.specs.Answers.{all_buckets, nested_answer, told}
+use Rattle.agg_nested.specs.declared.answer.NestedAnswer.{NestedAnswer}
+use Rattle.agg_nested.specs.declared.request.NestedAgg.{NestedAgg}
 use Rattle.agg_model.specs.Answers.{most_buckets}
-use Rattle.agg_model.specs.Checking.{first_refusal}
+use Rattle.agg_nested.specs.Checking.{first_refusal}
 use Rattle.agg_model.specs.declared.agg_error.AggError.{AggError}
 use Rattle.agg_model.specs.declared.agg_error.AggError.TheVariants as agg_errors
-use Rattle.agg_model.specs.declared.request.NamedAgg.{NamedAgg}
 use Rattle.split_bundle.specs.declared.placed.Placed.{Placed}
 use Rattle.doc_tallies.specs.Picked.{docs_of}
 use Rattle.search_api.specs.Kinds.{◌>>=◌}
@@ -117,7 +118,7 @@ query_or_of (Err (query_errors.TooDeep place)) = tt
 query_or_of (Err (query_errors.NotIndexed place)) = tt
 query_or_of (Err (query_errors.Memory e)) = tt
 
-refused_of : (aggs : List NamedAgg) (error : Option AggError) → OfText (unless_refused aggs error)
+refused_of : (aggs : List NestedAgg) (error : Option AggError) → OfText (unless_refused aggs error)
 refused_of aggs None = tt
 refused_of aggs (Some (agg_errors.NotFast field)) = tt
 refused_of aggs (Some (agg_errors.BadInterval name)) = tt
@@ -168,13 +169,12 @@ asked_of_text config text =
 
 -- ---- an answer
 
-buckets_may : (b : Bool) (many count : ℕ) (lines : List (List ℕ)) (s : Schema) (search : Search) (found : List Placed) →
-    SaidMayTell (if b then said.Refused (refusals.TooManyBuckets count) else said.Found many lines (answers_of search.aggs (docs_of found)))
-buckets_may true many count lines s search found = tt
-buckets_may false many count lines s search found = tt
+buckets_may : (b : Bool) (many count : ℕ) (lines : List (List ℕ)) (results : List NestedAnswer) → SaidMayTell (if b then said.Refused (refusals.TooManyBuckets count) else said.Found many lines results)
+buckets_may true many count lines results = tt
+buckets_may false many count lines results = tt
 
 pub answer_may : (s : Schema) (search : Search) (documents : List Placed) → SaidMayTell (answer s search documents)
 answer_may s search documents =
     let found = matching s search documents in
-    let count = buckets_of search.aggs (docs_of found) in
-    buckets_may (nat_lt most_buckets count) (length found) count (printed s (shown search found)) s search found
+    let count = all_buckets search.aggs (docs_of found) in
+    buckets_may (nat_lt most_buckets count) (length found) (told count) (printed s (shown search found)) (map (nested_answer (docs_of found)) search.aggs)

@@ -22,7 +22,8 @@ use Rattle.indexing_run.specs.Outcomes.{IndexerOutcome}
 use Rattle.indexing_run.specs.Places.{Batch, Held, Place, idle, reading, staged, uploaded, Indexer}
 use Rattle.indexing_run.specs.Steps.{Stepped, log_may_fail, log_called, checkpoints_by, take_checkpoints, idle_by, read_by, read_given, step_read, stage_by, step_stage, batch_facts, upload_by, step_upload, publish_by, publish_refused, step_publish, step_batch, step_place, step_indexer}
 use Rattle.indexing_run.specs.Steps as indexing
-use Rattle.agg_form.specs.Finished.{answers_of, buckets_of}
+use Rattle.agg_nested.specs.Answers.{all_buckets, nested_answer, told}
+use Rattle.agg_nested.specs.declared.answer.NestedAnswer.{NestedAnswer}
 use Rattle.agg_model.specs.Answers.{most_buckets}
 use Rattle.doc_tallies.specs.Picked.{docs_of}
 use Rattle.doc_value.specs.declared.schema.Schema.{Schema}
@@ -550,16 +551,15 @@ plan_said low (Err trouble) (Err (reasons.Refused refusal)) client core g h =
 plan_said low (Err trouble) (Err (reasons.Memory e)) client core g h = record { says = g.on; on = g.on; bound = g.bound }
 
 -- nor does an answer
-buckets_none : (b : Bool) (many count : ℕ) (lines : List (List ℕ)) (search : Search) (found : List Placed) →
-    said_told (if b then given.Refused (refusals.TooManyBuckets count) else given.Found many lines (answers_of search.aggs (docs_of found))) ≡ []
-buckets_none true many count lines search found = refl
-buckets_none false many count lines search found = refl
+buckets_none : (b : Bool) (many count : ℕ) (lines : List (List ℕ)) (results : List NestedAnswer) → said_told (if b then given.Refused (refusals.TooManyBuckets count) else given.Found many lines results) ≡ []
+buckets_none true many count lines results = refl
+buckets_none false many count lines results = refl
 
 answer_none : (s : Schema) (search : Search) (documents : List Placed) → said_told (answer s search documents) ≡ []
 answer_none s search documents =
     let found = matching s search documents in
-    let count = buckets_of search.aggs (docs_of found) in
-    buckets_none (nat_lt most_buckets count) (length found) count (printed s (shown search found)) search found
+    let count = all_buckets search.aggs (docs_of found) in
+    buckets_none (nat_lt most_buckets count) (length found) (told count) (printed s (shown search found)) (map (nested_answer (docs_of found)) search.aggs)
 
 fetch_said : (low : ℕ) (r : Result ⊤ Trouble) (plan : Plan) (number : ℕ) (more : List ℕ) (client : Client) (core : Core) → Good trouble_told low (gives r core) →
     Searching low (fetch_by r plan number more client core)

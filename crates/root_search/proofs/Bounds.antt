@@ -11,8 +11,7 @@ use Rattle.term_dict.specs.Bounds.{IsBlockOf, block_terms}
 use Rattle.term_dict.specs.Terms.{area}
 use Rattle.term_dict.specs.declared.index.BlockStart.{BlockStart}
 use Rattle.term_dict.specs.declared.term.Term.{Term}
-use Rattle.agg_model.specs.Checking.{field_of}
-use Rattle.agg_model.specs.declared.request.NamedAgg.{NamedAgg}
+use Rattle.agg_nested.specs.declared.request.NestedAgg.{NestedAgg}
 use Rattle.split_bundle.specs.Files.{Parts, file_bytes, footer_bytes}
 use Rattle.split_bundle.specs.Lending.{IsPartOf, block_place}
 use Rattle.split_bundle.specs.Lists.{terms_of}
@@ -143,8 +142,8 @@ module _ (v : PartView) (s : Schema) (ds : List Placed) (p : Parts) (part : IsPa
   rest_there r none ask at len (inl h) = lists_there (request_lookups s r) at len h
   rest_there r none ask at len (inr (inl (inl h))) = column_there h.asks.number at len (timestamp_fast s h.asks.number part.is_split.are_documents.schema h.asks.is_field) h.asks.column
   rest_there r none ask at len (inr (inl (inr (inl h)))) =
-      let fast : IsFast s (field_of h.named.agg) = subst (λ (n : NamedAgg). IsFast s (field_of n.agg)) h.among.2 (over_fast s r.aggs ask.aggs h.among.0 h.named h.among.1) in
-      column_there (field_of h.named.agg) at len fast h.column
+      let fast : IsFast s h.number = subst (λ (n : ℕ). IsFast s n) h.among.2 (over_fast s r.aggs ask.aggs h.among.0 h.number h.among.1) in
+      column_there h.number at len fast h.column
   rest_there r none ask at len (inr (inl (inr (inr h)))) = absurd (omega (arith, none, h.0))
   rest_there r none ask at len (inr (inr h)) = absurd (omega (arith, none, h.0))
 
@@ -180,7 +179,7 @@ only_of search ask a = by (search.max_hits == 0) refl
 pub key_of : (s : Schema) (search : Search) (ask : LeafAsk) → Asks search ask → request_key s ask.request ≡ counted_key s search
 key_of s search ask a =
     ap₂ (λ (b : Bool) (k : Option (List ℕ)). cond b k None)
-    (ap₂ (λ (x y : Bool). x && y) (only_of search ask a) (ap₂ (λ (x y : Bool). x && y) (ap (λ (t : TimeRange). is_unlimited t.start t.end) a.times) (ap (λ (aggs : List NamedAgg). length aggs == 0) a.aggs)))
+    (ap₂ (λ (x y : Bool). x && y) (only_of search ask a) (ap₂ (λ (x y : Bool). x && y) (ap (λ (t : TimeRange). is_unlimited t.start t.end) a.times) (ap (λ (aggs : List NestedAgg). length aggs == 0) a.aggs)))
     (ap (one_key s) a.query)
 
 wanted_none : (search : Search) (ask : LeafAsk) → Asks search ask → search.max_hits ≡ 0 → ask.request.wanted ≡ 0

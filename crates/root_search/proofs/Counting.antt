@@ -1,25 +1,18 @@
 -- The answer over the same documents in another order.
-use Rattle.std.proofs.Common.{◌≡◌, inl, inr, Bool, true, false, List, [], ◌∷◌, take, Contains, Option, Some, None, IsPermutation, refl, ap, ap₂, sym, ◌∙◌, Ordering}
+use Rattle.std.proofs.Common.{◌≡◌, inl, inr, Bool, true, false, List, take, Contains, Option, Some, None, IsPermutation, refl, ap, ap₂, sym, ◌∙◌, Ordering}
 use Rattle.std.specs.Cmp.{IsTotalOrder, bool_cmp_total}
-use Rattle.std.specs.List.{AllZip}
 use Rattle.std.specs.Ordering.{nat_cmp, is_lt, ordering_then, ordering_reverse, on, then_cmp}
 use Rattle.std.specs.Cmp.Lexicographic.{slice_cmp}
 use Rattle.std.specs.declared.cmp.Ordering.TheVariants.{Less, Equal, Greater}
 use Rattle.std.proofs.lemmas.Cmp.{on_total, then_total, nat_cmp_total, int_cmp_total, nat_list_cmp_total}
 use Rattle.std.proofs.lemmas.List.Elements.{All-filter, All-contains_itself}
-use Rattle.std.proofs.lemmas.List.Sorted.{IsPermutation-map, length_permutation, sum_by-IsPermutation}
+use Rattle.std.proofs.lemmas.List.Sorted.{IsPermutation-map, length_permutation}
 use Rattle.meta_store.proofs.Lists.{IsPermutation-filter}
 use Rattle.doc_value.specs.Terms.{value_cmp}
 use Rattle.doc_value.specs.declared.doc.DocField.{DocField}
 use Rattle.doc_value.specs.declared.doc.Value.{Value}
 use Rattle.doc_value.specs.declared.doc.Value.TheVariants as values
 use Rattle.doc_value.specs.declared.schema.Schema.{Schema}
-use Rattle.agg_model.specs.Partials.{CountsFor, StandsFor}
-use Rattle.agg_model.specs.declared.counts.Counts.{Counts}
-use Rattle.agg_model.specs.declared.partial.Partial.{Partial}
-use Rattle.agg_model.specs.declared.request.Agg.{Agg}
-use Rattle.agg_model.specs.declared.request.Agg.TheVariants.{Terms, Histogram}
-use Rattle.agg_model.specs.declared.request.NamedAgg.{NamedAgg}
 use Rattle.split_bundle.specs.declared.placed.Placed.{Placed}
 use Rattle.doc_tallies.specs.Orders.{first_cmp, first_value, sort_cmp, place_cmp, comes_before}
 use Rattle.doc_tallies.specs.declared.hit_order.HitOrder.{HitOrder}
@@ -29,6 +22,7 @@ use Rattle.leaf_search.specs.declared.request.LeafAnswer.{LeafAnswer}
 use Rattle.leaf_search.specs.declared.request.LeafRequest.{LeafRequest}
 use Rattle.root_search.specs.Places.{OneAtEach}
 use Rattle.root_search.proofs.Moved.{IsTold, sorted_moved}
+use Rattle.root_search.proofs.Orderless.{nested_moved}
 
 -- ---- the order the other way round
 
@@ -72,26 +66,6 @@ told_hits order a b one = go (sort_cmp order a.doc b.doc) refl (place_cmp a b) r
         inr (inr (ap₂ (λ (r t : Ordering). is_lt (ordering_then r t)) (sorts_turned order b.doc a.doc ∙ ap ordering_reverse e) (places_turned b a ∙ ap ordering_reverse f)))
     go Greater e v f = inr (inr (ap (λ (r : Ordering). is_lt (ordering_then r (place_cmp b a))) (sorts_turned order b.doc a.doc ∙ ap ordering_reverse e)))
 
--- ---- what is counted
-
-counts_moved : (agg : Agg) (counts : Counts) (ds es : List (List DocField)) → IsPermutation ds es → CountsFor agg counts ds → CountsFor agg counts es
-counts_moved (Terms field size) counts ds es same h = λ value. h value ∙ sym (sum_by-IsPermutation _ ds es same)
-counts_moved (Histogram field interval offset least dated) counts ds es same h = λ step. h step ∙ sym (sum_by-IsPermutation _ ds es same)
-
-parts_moved : (request : List NamedAgg) (parts : List Counts) (ds es : List (List DocField)) → IsPermutation ds es → AllZip (λ named counts. CountsFor named.agg counts ds) request parts
-    → AllZip (λ named counts. CountsFor named.agg counts es) request parts
-parts_moved [] [] ds es same h = h
-parts_moved [] (part ∷ parts) ds es same h = h
-parts_moved (named ∷ rest) [] ds es same h = h
-parts_moved (named ∷ rest) (part ∷ parts) ds es same h = (counts_moved named.agg part ds es same h.0, parts_moved rest parts ds es same h.1)
-
-stands_moved : (request : List NamedAgg) (partial : Partial) (ds es : List (List DocField)) → IsPermutation ds es → StandsFor request partial ds → StandsFor request partial es
-stands_moved request partial ds es same h =
-    record {
-      many = h.many ∙ sym (length_permutation ds es same);
-      parts = parts_moved request partial.parts.items ds es same h.parts;
-    }
-
 -- ---- the answer
 
 pub answer_moved : (s : Schema) (r : LeafRequest) (documents others : List Placed) (a : LeafAnswer) → IsPermutation documents others → OneAtEach documents → IsAnswerOf s r documents a → IsAnswerOf s r others a
@@ -102,5 +76,5 @@ answer_moved s r documents others a same own h =
     record {
       count = h.count ∙ sym (length_permutation (found s r documents) (found s r others) kept);
       hits = h.hits ∙ ap (take r.wanted) (sym sorted);
-      partial = stands_moved r.aggs a.partial _ _ (IsPermutation-map (λ (d : Placed). d.doc) (found s r documents) (found s r others) kept) h.partial;
+      partial = nested_moved r.aggs a.partial _ _ (IsPermutation-map (λ (d : Placed). d.doc) (found s r documents) (found s r others) kept) h.partial;
     }

@@ -8,7 +8,7 @@ use Rattle.std.proofs.lemmas.List.Sorted.{IsPermutation-append_comm, IsPermutati
 use Rattle.std.proofs.lemmas.List.Sums.{count_by-le-length, length-filter, sum_by-cons}
 use Rattle.doc_value.specs.declared.doc.DocField.{DocField}
 use Rattle.doc_value.specs.declared.schema.Schema.{Schema}
-use Rattle.agg_model.specs.Partials.{IsPartialOf, StandsFor, documents_in}
+use Rattle.agg_nested.specs.Buckets.{NestedStands}
 use Rattle.split_bundle.specs.declared.part_view.PartView.{PartView}
 use Rattle.split_bundle.specs.declared.placed.Placed.{Placed}
 use Rattle.doc_tallies.specs.Orders.{firsts}
@@ -39,7 +39,7 @@ none_left (x ∷ xs) h = absurd (omega (arith, ap length h))
 -- ---- two answers, joined
 
 pub two_joined : (s : Schema) (r : LeafRequest) (xs ys : List Placed) (one other joined : LeafAnswer) → IsAnswerOf s r xs one → IsAnswerOf s r ys other → joined.count ≡ one.count + other.count → joined.hits ≡ firsts r.wanted r.order (found s r xs ++ found s r ys)
-    → StandsFor r.aggs joined.partial (docs_of (found s r xs) ++ docs_of (found s r ys)) → IsAnswerOf s r (xs ++ ys) joined
+    → NestedStands r.aggs joined.partial (docs_of (found s r xs) ++ docs_of (found s r ys)) → IsAnswerOf s r (xs ++ ys) joined
 two_joined s r xs ys one other joined a b count hits partial =
     let both : found s r (xs ++ ys) ≡ found s r xs ++ found s r ys = filter-append (λ d. passes s r d.doc) xs ys in
     let long : length (found s r (xs ++ ys)) ≡ length (found s r xs) + length (found s r ys) = ap (λ (l : List Placed). length l) both ∙ length-append (found s r xs) (found s r ys) in
@@ -47,7 +47,7 @@ two_joined s r xs ys one other joined a b count hits partial =
     record {
       count = omega (arith, count, a.count, b.count, long);
       hits = hits ∙ ap (firsts r.wanted r.order) (sym both);
-      partial = subst (λ (ds : List (List DocField)). StandsFor r.aggs joined.partial ds) docs partial;
+      partial = subst (λ (ds : List (List DocField)). NestedStands r.aggs joined.partial ds) docs partial;
     }
 
 -- ---- any answers, joined
@@ -59,7 +59,7 @@ none_joined s r all a none = record { count = a.count; drawn = ([], subst (λ (h
     hits [] h = a.hits
     hits (own ∷ lists) h = absurd h
 
-    partial : (lists : List (List Placed)) → AllZip (λ (x : LeafAnswer) (own : List Placed). StandsFor r.aggs x.partial (docs_of own)) [] lists → StandsFor r.aggs all.partial (docs_of (all_of lists))
+    partial : (lists : List (List Placed)) → AllZip (λ (x : LeafAnswer) (own : List Placed). NestedStands r.aggs x.partial (docs_of own)) [] lists → NestedStands r.aggs all.partial (docs_of (all_of lists))
     partial [] h = a.partial
     partial (own ∷ lists) h = absurd h
 
@@ -69,7 +69,7 @@ vacant_joined r all only none = none_joined (record { fields = []; timestamp = N
 
 pub pair_joined : (r : LeafRequest) (one other joined : LeafAnswer) → joined.count ≡ one.count + other.count → AreSomeOf joined.hits (one.hits ++ other.hits)
     → ((xs ys : List Placed) → one.hits ≡ firsts r.wanted r.order xs → other.hits ≡ firsts r.wanted r.order ys → joined.hits ≡ firsts r.wanted r.order (xs ++ ys))
-    → ((mine yours : List (List DocField)) → StandsFor r.aggs one.partial mine → StandsFor r.aggs other.partial yours → StandsFor r.aggs joined.partial (mine ++ yours)) → AreJoined r (one ∷ other ∷ []) joined
+    → ((mine yours : List (List DocField)) → NestedStands r.aggs one.partial mine → NestedStands r.aggs other.partial yours → NestedStands r.aggs joined.partial (mine ++ yours)) → AreJoined r (one ∷ other ∷ []) joined
 pair_joined r one other joined count drawn hits_of partial_of =
     record { count = counts; drawn = (drawn.0, subst (λ (l : List Placed). IsPermutation (joined.hits ++ drawn.0) (one.hits ++ l)) (sym (append-nil other.hits)) drawn.1); hits = hits; partial = partial }
   where
@@ -82,12 +82,12 @@ pair_joined r one other joined count drawn hits_of partial_of =
     hits (xs ∷ ys ∷ []) h = hits_of xs ys h.0 h.1.0 ∙ ap (λ (l : List Placed). firsts r.wanted r.order (xs ++ l)) (sym (append-nil ys))
     hits (xs ∷ ys ∷ zs ∷ lists) h = absurd h.1.1
 
-    partial : (lists : List (List Placed)) → AllZip (λ (x : LeafAnswer) (own : List Placed). StandsFor r.aggs x.partial (docs_of own)) (one ∷ other ∷ []) lists → StandsFor r.aggs joined.partial (docs_of (all_of lists))
+    partial : (lists : List (List Placed)) → AllZip (λ (x : LeafAnswer) (own : List Placed). NestedStands r.aggs x.partial (docs_of own)) (one ∷ other ∷ []) lists → NestedStands r.aggs joined.partial (docs_of (all_of lists))
     partial [] h = absurd h
     partial (xs ∷ []) h = absurd h.1
     partial (xs ∷ ys ∷ []) h =
         let docs : docs_of xs ++ docs_of ys ≡ docs_of (xs ++ (ys ++ [])) = sym (map-append (λ (d : Placed). d.doc) xs ys) ∙ ap (λ (l : List Placed). docs_of (xs ++ l)) (sym (append-nil ys)) in
-        subst (λ (ds : List (List DocField)). StandsFor r.aggs joined.partial ds) docs (partial_of (docs_of xs) (docs_of ys) h.0 h.1.0)
+        subst (λ (ds : List (List DocField)). NestedStands r.aggs joined.partial ds) docs (partial_of (docs_of xs) (docs_of ys) h.0 h.1.0)
     partial (xs ∷ ys ∷ zs ∷ lists) h = absurd h.1.1
 
 all_of_more : (lists : List (List Placed)) (last : List Placed) → all_of (lists ++ last ∷ []) ≡ all_of lists ++ all_of (last ∷ [])
@@ -144,10 +144,10 @@ more_joined r answers all next all' j two =
         let e = ends_zip (λ (x : LeafAnswer) (own : List Placed). x.hits ≡ firsts r.wanted r.order own) answers next lists h in
         two.hits (all_of e.first ∷ e.last ∷ []) (j.hits e.first e.zipped, (e.here, tt)) ∙ ap (firsts r.wanted r.order) (sym (ap all_of e.lists_are ∙ all_of_more e.first e.last))
 
-    partial : (lists : List (List Placed)) → AllZip (λ (x : LeafAnswer) (own : List Placed). StandsFor r.aggs x.partial (docs_of own)) (answers ++ next ∷ []) lists → StandsFor r.aggs all'.partial (docs_of (all_of lists))
+    partial : (lists : List (List Placed)) → AllZip (λ (x : LeafAnswer) (own : List Placed). NestedStands r.aggs x.partial (docs_of own)) (answers ++ next ∷ []) lists → NestedStands r.aggs all'.partial (docs_of (all_of lists))
     partial lists h =
-        let e = ends_zip (λ (x : LeafAnswer) (own : List Placed). StandsFor r.aggs x.partial (docs_of own)) answers next lists h in
-        subst (λ (l : List Placed). StandsFor r.aggs all'.partial (docs_of l)) (sym (ap all_of e.lists_are ∙ all_of_more e.first e.last)) (two.partial (all_of e.first ∷ e.last ∷ []) (j.partial e.first e.zipped, (e.here, tt)))
+        let e = ends_zip (λ (x : LeafAnswer) (own : List Placed). NestedStands r.aggs x.partial (docs_of own)) answers next lists h in
+        subst (λ (l : List Placed). NestedStands r.aggs all'.partial (docs_of l)) (sym (ap all_of e.lists_are ∙ all_of_more e.first e.last)) (two.partial (all_of e.first ∷ e.last ∷ []) (j.partial e.first e.zipped, (e.here, tt)))
 
 -- ---- the answers of the first so many splits are joined
 
@@ -322,9 +322,22 @@ are_counted s r views answers leaves = All-from_recursion (λ answer. IfOk answe
     go (v ∷ views) [] leaves = absurd leaves
     go (v ∷ views) (a ∷ answers) leaves = (leaves.0.counted, go views answers leaves.1)
 
-pub leaf_counted : (r : LeafRequest) (answer : Result LeafAnswer LeafError) → IfOk answer (λ a. IsPartialOf r.aggs a.partial) → IfOk answer (λ a. documents_in a.partial ≡ a.count) → IfOk answer (IsCounted r)
-leaf_counted r (Ok a) h k = record { partial = h; many = k }
-leaf_counted r (Err fault) h k = tt
+pub leaf_counted : (r : LeafRequest) (answer : Result LeafAnswer LeafError) → IfOk answer (λ a. (documents : List (List DocField)) × NestedStands r.aggs a.partial documents × (length documents ≡ a.count)) → IfOk answer (λ a. a.count < 2 ^ 62)
+    → IfOk answer (IsCounted r)
+leaf_counted r (Ok a) h few = record { documents = h.0; stands = h.1; many = h.2; few = few }
+leaf_counted r (Err fault) h few = tt
+
+-- two answers, whose partials were joined
+pub both_counted : (r : LeafRequest) (one other joined : LeafAnswer) → IsCounted r one → IsCounted r other → one.count + other.count < 2 ^ 62 → joined.count ≡ one.count + other.count
+    → ((mine yours : List (List DocField)) → NestedStands r.aggs one.partial mine → NestedStands r.aggs other.partial yours → NestedStands r.aggs joined.partial (mine ++ yours)) → IsCounted r joined
+both_counted r one other joined a b room count partial_of =
+    let long = length-append a.documents b.documents in
+    record {
+      documents = a.documents ++ b.documents;
+      stands = partial_of a.documents b.documents a.stands b.stands;
+      many = omega (arith, long, a.many, b.many, count);
+      few = omega (arith, room, count);
+    }
 
 found_few : (s : Schema) (r : LeafRequest) (documents : List Placed) → length (found s r documents) ≤ length documents
 found_few s r documents = omega (arith, length-filter (λ (d : Placed). passes s r d.doc) documents, count_by-le-length (λ (d : Placed). passes s r d.doc) documents)

@@ -1,6 +1,7 @@
 pub mod Moved
 pub mod Merging
 pub mod LeafRequests
+pub mod Orderless
 pub mod Counting
 pub mod Showing
 pub mod Joining

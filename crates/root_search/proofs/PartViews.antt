@@ -3,8 +3,6 @@ use Rattle.std.proofs.Common.{◌≡◌, ◌≢◌, ℕ, ◌+◌, ◌-◌, ◌�
 use Rattle.std.specs.List.{AllZip}
 use Rattle.std.proofs.lemmas.List.{take-append-drop}
 use Rattle.doc_value.specs.declared.schema.Schema.{Schema}
-use Rattle.agg_model.specs.Checking.{field_of}
-use Rattle.agg_model.specs.declared.request.NamedAgg.{NamedAgg}
 use Rattle.split_bundle.specs.Files.{Parts, file_bytes}
 use Rattle.split_bundle.specs.Lending.{IsPartOf}
 use Rattle.split_bundle.specs.Pieces.{ArePieces, IsPieceOf, held_in, part_in}
@@ -89,8 +87,8 @@ module _ (v : PartView) (s : Schema) (ds : List Placed) (p : Parts) (part : IsPa
   asked_within at len (inr (inr (inl h))) =
       (column_between v s ds p part h.asks.number at len (timestamp_fast s h.asks.number part.is_split.are_documents.schema h.asks.is_field) h.asks.column).1
   asked_within at len (inr (inr (inr (inl h)))) =
-      let fast : IsFast s (field_of h.named.agg) = subst (λ (n : NamedAgg). IsFast s (field_of n.agg)) h.among.2 (over_fast s r.aggs ask.aggs h.among.0 h.named h.among.1) in
-      (column_between v s ds p part (field_of h.named.agg) at len fast h.column).1
+      let fast : IsFast s h.number = subst (λ (n : ℕ). IsFast s n) h.among.2 (over_fast s r.aggs ask.aggs h.among.0 h.number h.among.1) in
+      (column_between v s ds p part h.number at len fast h.column).1
   asked_within at len (inr (inr (inr (inr h)))) = hits_within at len h.asks
 
 -- ---- views

@@ -77,7 +77,7 @@ module _ (v w : PartView) (s : Schema) (ds : List Placed) (p : Parts) (same : v.
   needs_lists r at len (inl h) = inl (lists_for (request_lookups s r) at len h)
   needs_lists r at len (inr (inl (inl h))) =
       inr (inl (inl (record { limited = h.limited; asks = record { number = h.asks.number; is_field = h.asks.is_field; column = column_for h.asks.number at len h.asks.column } })))
-  needs_lists r at len (inr (inl (inr (inl h)))) = inr (inl (inr (inl (record { named = h.named; among = h.among; column = column_for _ at len h.column }))))
+  needs_lists r at len (inr (inl (inr (inl h)))) = inr (inl (inr (inl (record { number = h.number; among = h.among; column = column_for h.number at len h.column }))))
   needs_lists r at len (inr (inl (inr (inr h)))) =
       inr (inl (inr (inr (h.0, record { number = h.1.number; is_field = h.1.is_field; column = column_for h.1.number at len h.1.column }))))
   needs_lists r at len (inr (inr h)) = inr (inr (h.0, h.1, subst (λ (f : Footer). len ≡ f.layout.sections.documents) same h.2))

@@ -2,7 +2,7 @@
 use Rattle.std.proofs.Common.{◌≡◌, ℕ, ◌<◌, ◌≤◌, Bool, true, false, T, List, [], ◌∷◌, length, Option, Some, None, ◌&&◌, refl, sym, ap₂, subst, arith, slice_get}
 use Rattle.std.proofs.Props.{props}
 use Rattle.std.proofs.Math.Logic.{∥∥₁_elim}
-use Rattle.std.specs.List.{list_all}
+use Rattle.std.specs.List.{All, list_all}
 use Rattle.std.specs.Option.{IfSome, MatchOption}
 use Rattle.std.proofs.lemmas.Bool.{and_parts}
 use Rattle.std.proofs.lemmas.List.Elements.{All-nil, All-cons, All-head, All-tail}
@@ -19,13 +19,18 @@ use Rattle.doc_value.specs.declared.schema.Schema.{Schema}
 use Rattle.doc_value.specs.declared.schema.Tokenizer.{Tokenizer}
 use Rattle.doc_value.specs.declared.schema.Tokenizer.TheVariants as tokenizers
 use Rattle.query_ast.specs.Queries.{HasField}
-use Rattle.agg_model.specs.Checking.{has_interval, HasInterval, HaveIntervals}
+use Rattle.agg_model.specs.Checking.{has_interval, HasInterval}
 use Rattle.agg_model.specs.declared.request.Agg.{Agg}
 use Rattle.agg_model.specs.declared.request.Agg.TheVariants.{Terms, Histogram}
-use Rattle.agg_model.specs.declared.request.NamedAgg.{NamedAgg}
+use Rattle.agg_nested.specs.Checking.{HasStep, HaveSteps}
+use Rattle.agg_nested.specs.declared.request.FlatAgg.{FlatAgg}
+use Rattle.agg_nested.specs.declared.request.FlatAgg.TheVariants.{Counted, Metric, Ranges}
+use Rattle.agg_nested.specs.declared.request.NamedFlat.{NamedFlat}
+use Rattle.agg_nested.specs.declared.request.NestedAgg.{NestedAgg}
 use Rattle.search_api.specs.Answerable.{IsAnswerable}
 use Rattle.search_api.specs.Resolved.{Search}
 use Rattle.search_api.specs.declared.resolved.SortField.{SortField}
+use Rattle.root_search.specs.Intervals.{has_step, have_steps}
 
 few_prop : (a b : ℕ) → IsProp (a ≤ b)
 few_prop a b = hlevel props
@@ -87,13 +92,42 @@ interval_there : (agg : Agg) → has_interval agg ≡ true → HasInterval agg
 interval_there (Terms field size) e = tt
 interval_there (Histogram field interval offset least dated) e = le_z_yes (subst T (sym e) tt)
 
-pub intervals_kept : (request : List NamedAgg) → HaveIntervals request → list_all (λ named. has_interval named.agg) request ≡ true
-intervals_kept [] all = refl
-intervals_kept (named ∷ request) all =
-    ap₂ (λ (a b : Bool). a && b) (interval_kept named.agg (All-head (λ (n : NamedAgg). HasInterval n.agg) named request all)) (intervals_kept request (All-tail (λ (n : NamedAgg). HasInterval n.agg) named request all))
+step_kept : (agg : FlatAgg) → HasStep agg → has_step agg ≡ true
+step_kept (Counted agg) h = interval_kept agg h
+step_kept (Metric kind field) h = refl
+step_kept (Ranges field ranges) h = refl
 
-pub intervals_there : (request : List NamedAgg) → list_all (λ named. has_interval named.agg) request ≡ true → HaveIntervals request
-intervals_there [] e = All-nil (λ (n : NamedAgg). HasInterval n.agg)
-intervals_there (named ∷ request) e =
-    let both = and_parts (has_interval named.agg) (list_all (λ n. has_interval n.agg) request) e in
-    All-cons (λ (n : NamedAgg). HasInterval n.agg) named request (interval_there named.agg both.0) (intervals_there request both.1)
+step_there : (agg : FlatAgg) → has_step agg ≡ true → HasStep agg
+step_there (Counted agg) e = interval_there agg e
+step_there (Metric kind field) e = tt
+step_there (Ranges field ranges) e = tt
+
+inner_kept : (nested : List NamedFlat) → All (λ named. HasStep named.agg) nested → list_all (λ named. has_step named.agg) nested ≡ true
+inner_kept [] all = refl
+inner_kept (named ∷ nested) all =
+    ap₂ (λ (a b : Bool). a && b) (step_kept named.agg (All-head (λ (n : NamedFlat). HasStep n.agg) named nested all)) (inner_kept nested (All-tail (λ (n : NamedFlat). HasStep n.agg) named nested all))
+
+inner_there : (nested : List NamedFlat) → list_all (λ named. has_step named.agg) nested ≡ true → All (λ named. HasStep named.agg) nested
+inner_there [] e = All-nil (λ (n : NamedFlat). HasStep n.agg)
+inner_there (named ∷ nested) e =
+    let both = and_parts (has_step named.agg) (list_all (λ n. has_step n.agg) nested) e in
+    All-cons (λ (n : NamedFlat). HasStep n.agg) named nested (step_there named.agg both.0) (inner_there nested both.1)
+
+abbrev Steps : NestedAgg → Type 0
+Steps asked = HasStep asked.agg × All (λ named. HasStep named.agg) asked.nested
+
+abbrev steps : NestedAgg → Bool
+steps asked = has_step asked.agg && list_all (λ named. has_step named.agg) asked.nested
+
+pub intervals_kept : (request : List NestedAgg) → HaveSteps request → have_steps request ≡ true
+intervals_kept [] all = refl
+intervals_kept (asked ∷ request) all =
+    let own = All-head Steps asked request all in
+    ap₂ (λ (a b : Bool). a && b) (ap₂ (λ (a b : Bool). a && b) (step_kept asked.agg own.0) (inner_kept asked.nested own.1)) (intervals_kept request (All-tail Steps asked request all))
+
+pub intervals_there : (request : List NestedAgg) → have_steps request ≡ true → HaveSteps request
+intervals_there [] e = All-nil Steps
+intervals_there (asked ∷ request) e =
+    let both = and_parts (steps asked) (have_steps request) e in
+    let own = and_parts (has_step asked.agg) (list_all (λ n. has_step n.agg) asked.nested) both.0 in
+    All-cons Steps asked request (step_there asked.agg own.0, inner_there asked.nested own.1) (intervals_there request both.1)

@@ -4,10 +4,10 @@ use Rattle.std.specs.Prelude.{◌≡◌, ℕ, ◌&&◌, List, length, map, filte
 use Rattle.doc_value.specs.Printed.{printed_doc}
 use Rattle.doc_value.specs.declared.schema.Schema.{Schema}
 use Rattle.query_ast.specs.Meaning.{meaning, within_times}
-use Rattle.agg_form.specs.Finished.{answers_of, buckets_of}
-use Rattle.agg_model.specs.Answers.{IsFinished, most_buckets}
+use Rattle.agg_model.specs.Answers.{most_buckets}
 use Rattle.agg_model.specs.declared.agg_error.AggError.TheVariants as errors
-use Rattle.agg_model.specs.declared.answer.NamedResult.{NamedResult}
+use Rattle.agg_nested.specs.Answers.{all_buckets, nested, nested_answer, told}
+use Rattle.agg_nested.specs.declared.answer.NestedAnswer.{NestedAnswer}
 use Rattle.split_bundle.specs.declared.placed.Placed.{Placed}
 use Rattle.doc_tallies.specs.Firsts.{sorted_by}
 use Rattle.doc_tallies.specs.Orders.{comes_before}
@@ -38,14 +38,14 @@ abbrev pub printed : Schema → List Placed → List (List ℕ)
 printed s documents = map (λ d. printed_doc s d.doc) documents
 
 -- how many match, those that are shown, and what was counted
-pub record IsFound (s : Schema) (search : Search) (documents : List Placed) (many : ℕ) (lines : List (List ℕ)) (results : List NamedResult) : Type 0 where
+pub record IsFound (s : Schema) (search : Search) (documents : List Placed) (many : ℕ) (lines : List (List ℕ)) (results : List NestedAnswer) : Type 0 where
   pub count : many ≡ length (matching s search documents)
   pub hits : lines ≡ printed s (shown search (matching s search documents))
-  pub aggregations : IsFinished search.aggs (docs_of (matching s search documents)) (Ok results)
+  pub aggregations : nested search.aggs (docs_of (matching s search documents)) ≡ Ok results
 
--- the one refusal that documents give: so many buckets
+-- the one refusal that documents give: so many buckets, the nested ones among them
 abbrev pub IsRefused : Schema → Search → List Placed → Refusal → Type 0
-IsRefused s search documents (TooManyBuckets count) = IsFinished search.aggs (docs_of (matching s search documents)) (Err (errors.TooManyBuckets count))
+IsRefused s search documents (TooManyBuckets count) = nested search.aggs (docs_of (matching s search documents)) ≡ Err (errors.TooManyBuckets count)
 IsRefused s search documents _ = ⊥
 
 -- the answer to a search over documents
@@ -59,8 +59,8 @@ IsAnswer s search documents (Deleted opstamp) = ⊥
 -- over the documents that match
 abbrev pub answer_over : Schema → Search → List Placed → Said
 answer_over s search found =
-    if nat_lt most_buckets (buckets_of search.aggs (docs_of found)) then Refused (TooManyBuckets (buckets_of search.aggs (docs_of found)))
-    else Found (length found) (printed s (shown search found)) (answers_of search.aggs (docs_of found))
+    if nat_lt most_buckets (all_buckets search.aggs (docs_of found)) then Refused (TooManyBuckets (told (all_buckets search.aggs (docs_of found))))
+    else Found (length found) (printed s (shown search found)) (map (nested_answer (docs_of found)) search.aggs)
 
 -- how many match, those that are shown, and what is counted of them, or that these are too many buckets
 abbrev pub answer : Schema → Search → List Placed → Said

@@ -1,8 +1,9 @@
 -- The answers of many splits.
-use Rattle.std.specs.Prelude.{◌≡◌, ◌≢◌, ℕ, ◌^◌, ◌≤◌, true, List, ◌∷◌, ◌++◌, flat_map, length, map, sum_by, slice_get, Some, None, Result, Ok, Err, IfOk, IsPermutation, MatchResult}
+use Rattle.std.specs.Prelude.{◌≡◌, ◌≢◌, ℕ, ◌^◌, ◌<◌, ◌≤◌, true, List, ◌∷◌, ◌++◌, flat_map, length, map, sum_by, slice_get, Some, None, Result, Ok, Err, IfOk, IsPermutation, MatchResult}
 use Rattle.std.specs.List.{AllZip}
+use Rattle.doc_value.specs.declared.doc.DocField.{DocField}
 use Rattle.doc_value.specs.declared.schema.Schema.{Schema}
-use Rattle.agg_model.specs.Partials.{IsPartialOf, StandsFor, documents_in}
+use Rattle.agg_nested.specs.Buckets.{NestedStands}
 use Rattle.split_bundle.specs.Files.{Parts, file_bytes}
 use Rattle.split_bundle.specs.Lending.{IsPartOf}
 use Rattle.split_bundle.specs.Wholes.{HaveAll}
@@ -26,10 +27,12 @@ use Rattle.root_search.specs.declared.splits_error.SplitsError.TheVariants.{Corr
 abbrev pub all_of : List (List Placed) → List Placed
 all_of lists = flat_map (λ documents. documents) lists
 
--- an answer whose partial is one of the request and counts as many documents
+-- an answer whose partial stands for as many documents as it counts
 pub record IsCounted (r : LeafRequest) (a : LeafAnswer) : Type 0 where
-  pub partial : IsPartialOf r.aggs a.partial
-  pub many : documents_in a.partial ≡ a.count
+  pub documents : List (List DocField)
+  pub stands : NestedStands r.aggs a.partial documents
+  pub many : length documents ≡ a.count
+  pub few : a.count < 2 ^ 62
 
 -- the view is one of a split of these documents
 pub record IsViewOf (s : Schema) (v : PartView) (documents : List Placed) : Type 0 where
@@ -135,7 +138,7 @@ pub record AreJoined (r : LeafRequest) (answers : List LeafAnswer) (all : LeafAn
   pub count : all.count ≡ sum_by (λ a. a.count) answers
   pub drawn : AreSomeOf all.hits (all_hits answers)
   pub hits : (lists : List (List Placed)) → AllZip (λ a own. a.hits ≡ firsts r.wanted r.order own) answers lists → all.hits ≡ firsts r.wanted r.order (all_of lists)
-  pub partial : (lists : List (List Placed)) → AllZip (λ a own. StandsFor r.aggs a.partial (docs_of own)) answers lists → StandsFor r.aggs all.partial (docs_of (all_of lists))
+  pub partial : (lists : List (List Placed)) → AllZip (λ a own. NestedStands r.aggs a.partial (docs_of own)) answers lists → NestedStands r.aggs all.partial (docs_of (all_of lists))
 
 -- each answer is one, and these are joined
 abbrev pub AllJoined : LeafRequest → List (Result LeafAnswer LeafError) → LeafAnswer → Type 0

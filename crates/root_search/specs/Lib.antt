@@ -4,6 +4,7 @@ pub mod Answer
 pub mod Examples
 pub mod Places
 pub mod LeafAsks
+pub mod Intervals
 pub mod Leaves
 pub mod SplitParts
 pub mod PartAnswers

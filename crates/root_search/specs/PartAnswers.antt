@@ -3,12 +3,12 @@ use Rattle.std.specs.Prelude.{◌≡◌, ◌⊎◌, ℕ, List, ◌∷◌, ◌++�
 use Rattle.std.specs.List.{AllZip}
 use Rattle.doc_value.specs.declared.doc.DocField.{DocField}
 use Rattle.doc_value.specs.declared.schema.Schema.{Schema}
-use Rattle.agg_model.specs.Answers.{IsFinished}
-use Rattle.agg_model.specs.Partials.{StandsFor}
 use Rattle.agg_model.specs.declared.agg_error.AggError.{AggError}
-use Rattle.agg_model.specs.declared.answer.NamedResult.{NamedResult}
-use Rattle.agg_model.specs.declared.partial.Partial.{Partial}
-use Rattle.agg_model.specs.declared.request.NamedAgg.{NamedAgg}
+use Rattle.agg_nested.specs.Answers.{nested}
+use Rattle.agg_nested.specs.Buckets.{NestedStands}
+use Rattle.agg_nested.specs.declared.answer.NestedAnswer.{NestedAnswer}
+use Rattle.agg_nested.specs.declared.nested_partial.NestedPartial.{NestedPartial}
+use Rattle.agg_nested.specs.declared.request.NestedAgg.{NestedAgg}
 use Rattle.split_bundle.specs.declared.part_view.PartView.{PartView}
 use Rattle.split_bundle.specs.declared.placed.Placed.{Placed}
 use Rattle.doc_sets.specs.Faults.{IsMemory}
@@ -107,8 +107,8 @@ IsSaidOf (Corrupt number) said = said ≡ Refused (refusals.Corrupt (split_key n
 -- ---- what is said
 
 -- this is answered of a partial, of whatever documents it is
-abbrev pub Finishes : List NamedAgg → Partial → Result (List NamedResult) AggError → Type 0
-Finishes aggs partial result = (documents : List (List DocField)) → StandsFor aggs partial documents → IsFinished aggs documents result
+abbrev pub Finishes : List NestedAgg → NestedPartial → Result (List NestedAnswer) AggError → Type 0
+Finishes aggs partial result = (documents : List (List DocField)) → NestedStands aggs partial documents → nested aggs documents ≡ result
 
 -- What is said of an answer: how many match, those of its hits that stand on the page, as they are printed, and what its partial counts, or why it is
 -- refused.

@@ -1,17 +1,17 @@
 //! What a search is answered.
 
 ghost use Rattle.std.specs.Prelude.{◌≡◌, List, take, drop, IfOk};
-ghost use Rattle.agg_model.specs.Checking.{HaveIntervals};
-ghost use Rattle.agg_model.specs.Partials.{IsPartialOf};
+ghost use Rattle.agg_nested.specs.Checking.{HaveSteps};
 ghost use Rattle.split_bundle.specs.declared.placed.Placed.{Placed};
 ghost use Rattle.leaf_search.specs.Answers.{IsAnswerOf};
 ghost use Rattle.search_api.specs.Resolved.{Search};
 ghost use Rattle.root_search.specs.Answer.{IsAnswer, printed};
 ghost use Rattle.root_search.specs.LeafAsks.{Asks};
+ghost use Rattle.root_search.specs.Leaves.{IsCounted};
 ghost use Rattle.root_search.specs.PartAnswers.{IsShownOf};
 
 use crate::leaf_asks::{LeafAsk, Page};
-use agg_model::finish;
+use agg_nested::finish_nested;
 use doc_value::{Schema, print_doc};
 use leaf_search::LeafAnswer;
 use search_api::{Hits, Said, Unanswered};
@@ -44,14 +44,14 @@ pub(crate) fn shown(
     ask: &LeafAsk,
     answer: &LeafAnswer,
 ) -> Result<Said, AllocError>
-    requires intervals { HaveIntervals ask.now.request.aggs }
-    requires partial { IsPartialOf ask.now.request.aggs answer.now.partial }
+    requires intervals { HaveSteps ask.now.request.aggs }
+    requires counted { IsCounted ask.now.request answer.now }
     ensures only { (search : Search) (documents : List Placed) → Asks search ask.now → IsAnswerOf schema.now ask.now.request documents answer.now
         → IfOk result (IsAnswer schema.now search documents) }
     // Of any answer.
     ensures said { IfOk result (IsShownOf schema.now ask.now answer.now) }
 {
-    match finish(alloc, &ask.request.aggs, &answer.partial) {
+    match finish_nested(alloc, &ask.request.aggs, &answer.partial) {
         Ok(aggregations) => Ok(Said::Found {
             count: answer.count,
             hits: printed_page(alloc, schema, ask.page, answer.hits.as_slice())?,

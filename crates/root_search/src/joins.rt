@@ -10,7 +10,7 @@ ghost use Rattle.doc_tallies.specs.Orders.{firsts};
 ghost use Rattle.leaf_search.specs.Answers.{IsAnswerOf};
 ghost use Rattle.root_search.specs.Leaves.{AreJoined, AreSomeOf, IsCounted};
 
-use agg_model::merge_partials;
+use agg_nested::merge_nested;
 use doc_tallies::{HitOrder, comes_before};
 use leaf_search::{LeafAnswer, LeafRequest};
 use split_bundle::{Placed, PlacedList};
@@ -89,7 +89,7 @@ pub(crate) fn merged(
         hits,
         mut partial,
     } = one;
-    merge_partials(alloc, &request.aggs, &mut partial, &other.partial)?;
+    merge_nested(alloc, &request.aggs, &mut partial, &other.partial)?;
     Ok(LeafAnswer {
         count: count + other.count,
         hits: merged_hits(alloc, request.order, request.wanted, hits, other.hits)?,

@@ -3,7 +3,7 @@
 ghost use Rattle.std.specs.Prelude.{◌≡◌, ◌^◌, ◌<◌, ◌+◌, ◌==◌, if◌then◌else◌};
 ghost use Rattle.std.specs.Option.{ForSome};
 ghost use Rattle.doc_value.specs.declared.schema.Schema.{Schema};
-ghost use Rattle.agg_model.specs.Checking.{HaveIntervals};
+ghost use Rattle.agg_nested.specs.Checking.{HaveSteps};
 ghost use Rattle.leaf_search.specs.Answers.{IsAsked};
 ghost use Rattle.search_api.specs.Answerable.{IsAnswerable};
 ghost use Rattle.search_api.specs.Resolved.{search_view};
@@ -59,7 +59,7 @@ pub(crate) fn leaf_ask(ask: SearchAsk) -> LeafAsk
     ensures asks { Asks (search_view ask) result }
     // What the index of a schema can answer, a split of the schema can.
     ensures can { (s : Schema) → IsAnswerable s (search_view ask) → IsAsked s result.request }
-    ensures intervals { (s : Schema) → IsAnswerable s (search_view ask) → HaveIntervals result.request.aggs }
+    ensures intervals { (s : Schema) → IsAnswerable s (search_view ask) → HaveSteps result.request.aggs }
 {
     let SearchAsk {
         query,

@@ -3,14 +3,14 @@
 ghost use Rattle.std.specs.Prelude.{◌≡◌, ◌+◌, ◌^◌, ◌<◌, ◌≤◌, ◌++◌, ◌∷◌, [], List, length, Some, Err, IfErr, IfOk, MatchResult};
 ghost use Rattle.std.specs.List.{All, AllZip};
 ghost use Rattle.doc_value.specs.declared.schema.Schema.{Schema};
-ghost use Rattle.agg_model.specs.Checking.{HaveIntervals};
+ghost use Rattle.agg_nested.specs.Checking.{HaveSteps};
 ghost use Rattle.split_bundle.specs.declared.placed.Placed.{Placed};
 ghost use Rattle.leaf_search.specs.Answers.{IsAnswerOf, IsAsked};
 ghost use Rattle.root_search.specs.Leaves.{AllJoined, AreJoined, HasAsked, HasCauseIn, IsCounted, IsFaultIn, IsFull, IsJoinOf, IsLeafAnswer, IsRefusedIn, IsViewOf, IsWholeViewOf, WantsMemory, all_of, placed_fault};
 
 use crate::joins::merged;
 use crate::splits_error::SplitsError;
-use agg_model::vacant_partial;
+use agg_nested::vacant_nested;
 use doc_value::Schema;
 use leaf_search::{LeafAnswer, LeafError, LeafRequest, leaf};
 use rayon::prelude::*;
@@ -41,7 +41,7 @@ fn vacant_answer(alloc: Global, request: &LeafRequest) -> Result<LeafAnswer, All
     Ok(LeafAnswer {
         count: 0,
         hits: PlacedList::vacant(alloc),
-        partial: vacant_partial(alloc, &request.aggs)?,
+        partial: vacant_nested(alloc, &request.aggs)?,
     })
 }
 
@@ -112,7 +112,7 @@ fn leaf_of(
     view: &PartView<'_>,
 ) -> Result<LeafAnswer, LeafError>
     requires fields { length schema.now.fields ≤ 256 }
-    requires intervals { HaveIntervals request.now.aggs }
+    requires intervals { HaveSteps request.now.aggs }
     ensures { IsLeafAnswer schema.now request.now view.now result }
 {
     leaf(alloc, schema, request, view)
@@ -126,7 +126,7 @@ fn answers_in_turn(
     views: &[PartView<'_>],
 ) -> Result<LeafAnswers, AllocError>
     requires fields { length schema.now.fields ≤ 256 }
-    requires intervals { HaveIntervals request.now.aggs }
+    requires intervals { HaveSteps request.now.aggs }
     ensures { IfOk result (λ answers. AllZip (IsLeafAnswer schema.now request.now) views.now answers.items) }
 {
     let mut answers = Vec::new(alloc);
@@ -145,7 +145,7 @@ fn answers_in_threads<Rt: Threads + Sync>(
     views: &[PartView<'_>],
 ) -> Result<LeafAnswers, AllocError>
     requires fields { length schema.now.fields ≤ 256 }
-    requires intervals { HaveIntervals request.now.aggs }
+    requires intervals { HaveSteps request.now.aggs }
     ensures { IfOk result (λ answers. AllZip (IsLeafAnswer schema.now request.now) views.now answers.items) }
 {
     let asked = views.par_iter().with_min_len(1);
@@ -153,7 +153,7 @@ fn answers_in_threads<Rt: Threads + Sync>(
         .map(
             |view: &PartView<'_>| -> Result<LeafAnswer, LeafError>
                 requires fields { length schema.now.fields ≤ 256 }
-                requires intervals { HaveIntervals request.now.aggs }
+                requires intervals { HaveSteps request.now.aggs }
                 ensures { IsLeafAnswer schema.entry.now request.entry.now view.now result }
             { leaf_of(alloc, schema, request, view) },
         )
@@ -170,7 +170,7 @@ fn answers_of<Rt: Threads + Sync>(
     views: &[PartView<'_>],
 ) -> Result<LeafAnswers, AllocError>
     requires fields { length schema.now.fields ≤ 256 }
-    requires intervals { HaveIntervals request.now.aggs }
+    requires intervals { HaveSteps request.now.aggs }
     ensures { IfOk result (λ answers. AllZip (IsLeafAnswer schema.now request.now) views.now answers.items) }
 {
     match manner {
@@ -190,7 +190,7 @@ pub(crate) fn search_all<Rt: Threads + Sync>(
     views: &[PartView<'_>],
 ) -> Result<LeafAnswer, SplitsError>
     requires fields { length schema.now.fields ≤ 256 }
-    requires intervals { HaveIntervals request.now.aggs }
+    requires intervals { HaveSteps request.now.aggs }
     // Of splits of documents, of which there are fewer than 2^62 together.
     ensures only { (lists : List (List Placed)) → AllZip (IsViewOf schema.now) views.now lists → length (all_of lists) < 2 ^ 62 → IsAsked schema.now request.now
         → MatchResult result (IsAnswerOf schema.now request.now (all_of lists)) (HasCauseIn schema.now request.now views.now lists) }

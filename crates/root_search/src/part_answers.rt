@@ -2,7 +2,7 @@
 
 ghost use Rattle.std.specs.Prelude.{◌≡◌, ◌<◌, ◌≤◌, ◌^◌, List, length, IfErr, IfOk, MatchResult};
 ghost use Rattle.std.specs.List.{AllZip};
-ghost use Rattle.agg_model.specs.Checking.{HaveIntervals};
+ghost use Rattle.agg_nested.specs.Checking.{HaveSteps};
 ghost use Rattle.split_bundle.specs.declared.placed.Placed.{Placed};
 ghost use Rattle.leaf_search.specs.Answers.{IsAnswerOf, IsAsked};
 ghost use Rattle.search_api.specs.Resolved.{Search};
@@ -103,7 +103,7 @@ fn leaf_answer<Rt: Threads + Sync>(
     parts: SplitParts,
 ) -> Result<LeafAnswer, PartError>
     requires fields { length schema.now.fields ≤ 256 }
-    requires intervals { HaveIntervals ask.now.request.aggs }
+    requires intervals { HaveSteps ask.now.request.aggs }
     ensures only { (lists : List (List Placed)) → AllZip (HasNeeded schema.now ask.now.request) parts lists → length (all_of lists) < 2 ^ 62 → IsAsked schema.now ask.now.request
         → MatchResult result (IsAnswerOf schema.now ask.now.request (all_of lists)) WantsRoom }
     ensures counted { IfOk result (IsCounted ask.now.request) }
@@ -144,7 +144,7 @@ pub(crate) fn answer_over<Rt: Threads + Sync>(
     parts: SplitParts,
 ) -> Result<Said, AllocError>
     requires fields { length schema.now.fields ≤ 256 }
-    requires intervals { HaveIntervals ask.now.request.aggs }
+    requires intervals { HaveSteps ask.now.request.aggs }
     ensures only { (search : Search) (lists : List (List Placed)) (documents : List Placed) → Asks search ask.now → IsAsked schema.now ask.now.request
         → AllZip (HasNeeded schema.now ask.now.request) parts lists → length (all_of lists) < 2 ^ 62 → AreFound schema.now ask.now.request lists documents
         → IfOk result (λ said. said ≡ answer schema.now search documents) }

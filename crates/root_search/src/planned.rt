@@ -1,8 +1,7 @@
 //! A planned search.
 
 ghost use Rattle.std.specs.Prelude.{◌≡◌, true};
-ghost use Rattle.std.specs.List.{list_all};
-ghost use Rattle.agg_model.specs.Checking.{has_interval};
+ghost use Rattle.root_search.specs.Intervals.{have_steps};
 
 use crate::leaf_asks::LeafAsk;
 use crate::split_parts::SplitParts;
@@ -17,5 +16,5 @@ pub(crate) struct Planned {
     pub next: u32,
     pub parts: SplitParts,
     // No interval of its aggregations is 0.
-    ghost intervals: { list_all (λ named. has_interval named.agg) ask.request.aggs ≡ true },
+    ghost intervals: { have_steps ask.request.aggs ≡ true },
 }

@@ -1,12 +1,13 @@
 //! Requests, and what a split answers to them.
 
-ghost use Rattle.std.specs.Prelude.{◌≤◌, IfOk, IfSome, length};
-ghost use Rattle.agg_model.specs.Checking.{HaveIntervals};
-ghost use Rattle.agg_model.specs.Partials.{IsPartialOf};
+ghost use Rattle.std.specs.Prelude.{◌≡◌, ◌<◌, ◌≤◌, ◌^◌, IfOk, IfSome, List, length};
+ghost use Rattle.agg_nested.specs.Buckets.{NestedStands};
+ghost use Rattle.agg_nested.specs.Checking.{HaveSteps};
+ghost use Rattle.doc_value.specs.declared.doc.DocField.{DocField};
 ghost use Rattle.doc_value.specs.Documents.{IsSchema};
 
 use super::views::view_of;
-use agg_model::finish;
+use agg_nested::finish_nested;
 use byte_fields::Client;
 use doc_tallies::HitOrder;
 use doc_value::{Bytes, Schema};
@@ -32,8 +33,8 @@ fn order_of(sort: Option<SortField>) -> Option<HitOrder> {
 
 // What a search asks of a split.
 fn leaf_request(search: SearchAsk) -> LeafRequest
-    requires { HaveIntervals search.aggs }
-    ensures { HaveIntervals result.aggs }
+    requires { HaveSteps search.aggs }
+    ensures { HaveSteps result.aggs }
 {
     let wanted = search.start_offset.saturating_add(search.max_hits);
     LeafRequest {
@@ -52,7 +53,7 @@ fn search_of(
     text: &str,
 ) -> Result<Option<SearchAsk>, Unanswered>
     requires { IsSchema config.now.schema }
-    ensures { IfOk result (λ o. IfSome o (λ search. HaveIntervals search.aggs)) }
+    ensures { IfOk result (λ o. IfSome o (λ search. HaveSteps search.aggs)) }
 {
     let request = read_request(alloc, text.as_bytes())?;
     let defaults = config.default_fields.as_slice();
@@ -101,10 +102,11 @@ fn refused(alloc: Global, reason: Unanswered) -> Result<String, AllocError> {
 
 // The line of what a split answers.
 fn found(alloc: Global, request: &LeafRequest, answer: &LeafAnswer) -> Result<String, AllocError>
-    requires intervals { HaveIntervals request.now.aggs }
-    requires partial { IsPartialOf request.now.aggs answer.now.partial }
+    requires intervals { HaveSteps request.now.aggs }
+    requires known { (documents : List (List DocField)) × NestedStands request.now.aggs answer.now.partial documents × (length documents ≡ answer.now.count) }
+    requires few { answer.now.count < 2 ^ 62 }
 {
-    match finish(alloc, &request.aggs, &answer.partial) {
+    match finish_nested(alloc, &request.aggs, &answer.partial) {
         Ok(aggregations) => {
             let said = Said::Found {
                 count: answer.count,
@@ -126,8 +128,9 @@ fn leaf_answer(
     request: &LeafRequest,
 ) -> Result<LeafAnswer, LeafError>
     requires fields { length schema.now.fields ≤ 256 }
-    requires intervals { HaveIntervals request.now.aggs }
-    ensures { IfOk result (λ answer. IsPartialOf request.now.aggs answer.partial) }
+    requires intervals { HaveSteps request.now.aggs }
+    ensures known { IfOk result (λ answer. (documents : List (List DocField)) × NestedStands request.now.aggs answer.partial documents × (length documents ≡ answer.count)) }
+    ensures few { IfOk result (λ answer. answer.count < 2 ^ 62) }
 {
     let view = view_of(alloc, file, light)?;
     leaf(alloc, schema, request, &view)
@@ -141,7 +144,7 @@ fn searched(
     search: SearchAsk,
 ) -> Result<String, AllocError>
     requires fields { length schema.now.fields ≤ 256 }
-    requires intervals { HaveIntervals search.aggs }
+    requires intervals { HaveSteps search.aggs }
 {
     let request = leaf_request(search);
     match leaf_answer(alloc, schema, file, light, &request) {

@@ -1,23 +1,26 @@
 //! What all documents of a file count.
 
 ghost use Rattle.std.specs.Prelude.{◌<◌, IfOk, length};
-ghost use Rattle.std.specs.List.{All};
-ghost use Rattle.agg_model.specs.Checking.{HaveIntervals, field_of};
+ghost use Rattle.agg_nested.specs.Checking.{HaveFields, HaveSteps};
 
 use super::answers::all_numbers;
-use agg_model::{Agg, AggAnswer, AggRequest, AggResult, Bucket, Key, NamedAgg, check_aggs, finish};
+use agg_model::{Agg, AggAnswer, Bucket, Key};
+use agg_nested::{
+    FlatAgg, FlatAnswer, NestedAgg, NestedRequest, NestedResult, check_nested, finish_nested,
+};
 use doc_tallies::partial_of;
-use doc_value::{Schema, Text, Value};
+use doc_value::{List, Schema, Text, Value};
 use split_bundle::{PartView, SplitError};
 use std::alloc::{AllocError, Global};
 
-fn request(alloc: Global, schema: &Schema, field: u32) -> Result<AggRequest, AllocError>
+fn request(alloc: Global, schema: &Schema, field: u32) -> Result<NestedRequest, AllocError>
     requires { field < length schema.now.fields }
-    ensures { IfOk result (λ asked. All (λ named. field_of named.agg < length schema.now.fields) asked) }
+    ensures { IfOk result (HaveFields (length schema.now.fields)) }
 {
     let name = Text::from_str(alloc, "a")?;
-    let agg = Agg::Terms { field, size: 10 };
-    AggRequest::one(alloc, NamedAgg { name, agg })
+    let agg = FlatAgg::Counted(Agg::Terms { field, size: 10 });
+    let nested = List::vacant(alloc);
+    NestedRequest::one(alloc, NestedAgg { name, agg, nested })
 }
 
 // How many documents have each value.
@@ -25,22 +28,22 @@ fn counted(
     alloc: Global,
     schema: &Schema,
     view: &PartView<'_>,
-    asked: &AggRequest,
+    asked: &NestedRequest,
 ) -> Result<String, SplitError>
-    requires { HaveIntervals asked.now }
+    requires { HaveSteps asked.now }
 {
     let numbers = all_numbers(alloc, view)?;
     let partial = partial_of(alloc, schema, view, asked, numbers.as_slice())?;
-    match finish(alloc, asked, &partial) {
+    match finish_nested(alloc, asked, &partial) {
         Ok(results) => Ok(results_shown(alloc, &results)?),
         Err(_) => Ok(String::new(alloc)),
     }
 }
 
-fn results_shown(alloc: Global, results: &AggResult) -> Result<String, AllocError> {
+fn results_shown(alloc: Global, results: &NestedResult) -> Result<String, AllocError> {
     let mut text = String::new(alloc);
     for one in results.as_slice() {
-        text.push_str(printed(alloc, &one.result)?.as_str())?;
+        text.push_str(printed(alloc, &one.answer)?.as_str())?;
     }
     Ok(text)
 }
@@ -54,9 +57,9 @@ fn bucket(alloc: Global, bucket: &Bucket) -> Result<String, AllocError> {
     }
 }
 
-fn printed(alloc: Global, answer: &AggAnswer) -> Result<String, AllocError> {
+fn printed(alloc: Global, answer: &FlatAnswer) -> Result<String, AllocError> {
     let mut text = String::new(alloc);
-    if let AggAnswer::Terms { buckets, others } = answer {
+    if let FlatAnswer::Counted(AggAnswer::Terms { buckets, others }) = answer {
         for one in buckets.as_slice() {
             text.push_str(bucket(alloc, one)?.as_str())?;
         }
@@ -77,7 +80,7 @@ pub fn terms(
     }
     let view = PartView::whole(alloc, file)?;
     let asked = request(alloc, schema, field)?;
-    match check_aggs(alloc, schema, &asked) {
+    match check_nested(alloc, schema, &asked) {
         Ok(()) => counted(alloc, schema, &view, &asked),
         Err(_) => Ok(String::from_str(alloc, "refused")?),
     }

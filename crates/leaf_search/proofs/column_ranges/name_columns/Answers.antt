@@ -1,5 +1,5 @@
 use Rattle.std.proofs.Common.{◌≡◌, ◌∙◌, ◌⊎◌, List, [], sym, subst}
-use Rattle.agg_model.specs.declared.request.NamedAgg.{NamedAgg}
+use Rattle.agg_nested.specs.declared.request.NestedAgg.{NestedAgg}
 use Rattle.doc_tallies.specs.AggColumns.{AreOverFast, AsksFields}
 use Rattle.leaf_search.specs.Answers.{AsksTimes}
 use Rattle.leaf_search.specs.FileRanges.{AddsParts}
@@ -27,7 +27,7 @@ returns c = λ documents p part ask.
     let new = c.name_order.new.ranges in
     let times = c.in_ok-name_times.ensures documents p bare in
     let fields : AddsParts (AsksFields v p r.aggs) one two =
-    subst (λ (l : List NamedAgg). AddsParts (AsksFields v p l) one two) aggs (c.in_ok-name_fields.ensures documents p bare (subst (λ (l : List NamedAgg). AreOverFast s l) (sym aggs) fast)) in
+    subst (λ (l : List NestedAgg). AddsParts (AsksFields v p l) one two) aggs (c.in_ok-name_fields.ensures documents p bare (subst (λ (l : List NestedAgg). AreOverFast s l) (sym aggs) fast)) in
     on_ok (AddsParts (NeedsOrder v p r) two new) (AddsParts (NeedsColumns w s p r) old new) c.name_order.result
     (λ order. columns_named v w s p r old new same
     (both_added (AsksTimes v p s r.times) (λ at len. AsksFields v p r.aggs at len ⊎ NeedsOrder v p r at len) old one new times (both_added (AsksFields v p r.aggs) (NeedsOrder v p r) one two new fields order)))

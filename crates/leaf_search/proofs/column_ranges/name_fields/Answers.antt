@@ -1,23 +1,29 @@
-use Rattle.std.proofs.Common.{drop, sym, subst}
-use Rattle.agg_model.specs.Checking.{field_of}
-use Rattle.agg_model.specs.declared.request.NamedAgg.{NamedAgg}
+use Rattle.std.proofs.Common.{List, drop, sym, subst}
+use Rattle.std.specs.List.{All}
+use Rattle.agg_nested.specs.declared.request.NamedFlat.{NamedFlat}
 use Rattle.doc_tallies.specs.Cells.{IsFast}
 use Rattle.doc_sets.proofs.Steps.{none_behind}
+use Rattle.leaf_search.specs.FileRanges.{AddsParts}
+use Rattle.leaf_search.specs.Needs.{AsksAmong, fields_nested}
 use Rattle.leaf_search.proofs.ColumnNames.{next_field, no_fields}
+use Rattle.leaf_search.proofs.Counted.{fast_at}
 use Rattle.leaf_search.proofs.column_ranges.name_fields.Goals as goal
 
-pub loop-named-preserved : goal.loop-named-preserved
-loop-named-preserved c = λ documents p new part fast adds.
+pub loop-asked-preserved : goal.loop-asked-preserved
+loop-asked-preserved c = λ documents p new part fast adds.
     let s = c.args.schema.now in
+    let v = c.args.bare.now in
     let aggs = c.args.aggs.now in
-    let i = c.loop-named.named-index in
-    let x = c.named-item.result in
-    let here : IsFast s (field_of x.agg) = subst (λ (n : NamedAgg). IsFast s (field_of n.agg)) (sym c.named-item.is) (fast i x c.loop-named-test.true) in
-    c.loop-named.invariant documents p new part fast
-    (next_field c.args.bare.now p aggs i x c.field_of.result c.loop-named.ranges c.name_column.new.ranges new c.loop-named-test.true c.named-item.is c.field_of.ensures
-    (c.in_ok-name_column.ensures documents p part (subst (IsFast s) (sym c.field_of.ensures) here)) adds)
+    let i = c.loop-asked.asked-index in
+    let x = c.asked-item.result in
+    let here = fast_at s aggs i x c.loop-asked-test.true c.asked-item.is fast in
+    let own = c.in_ok-name_column.ensures documents p part (subst (IsFast s) (sym c.field_of.ensures) here.0) in
+    let inner = c.in_ok-name_nested.ensures documents p part (subst (λ (ns : List NamedFlat). All (IsFast s) (fields_nested ns)) (sym c.as_slice.ensures) here.1) in
+    let nested = subst (λ (ns : List NamedFlat). AddsParts (AsksAmong v p (fields_nested ns)) c.name_column.new.ranges c.name_nested.new.ranges) c.as_slice.ensures inner in
+    c.loop-asked.invariant documents p new part fast
+    (next_field v p aggs i x c.field_of.result c.loop-asked.ranges c.name_column.new.ranges c.name_nested.new.ranges new c.loop-asked-test.true c.asked-item.is c.field_of.ensures own nested adds)
 
 pub returns : goal.returns
 returns c = λ documents p part fast.
-    c.loop-named.invariant documents p c.loop-named.ranges part fast
-    (no_fields c.args.bare.now p (drop c.loop-named.named-index c.args.aggs.now) c.loop-named.ranges (none_behind c.args.aggs.now c.loop-named.named-index c.loop-named-test.false))
+    c.loop-asked.invariant documents p c.loop-asked.ranges part fast
+    (no_fields c.args.bare.now p (drop c.loop-asked.asked-index c.args.aggs.now) c.loop-asked.ranges (none_behind c.args.aggs.now c.loop-asked.asked-index c.loop-asked-test.false))

@@ -7,6 +7,6 @@ use Rattle.leaf_search.specs.FileRanges.{AddsParts}
 use Rattle.leaf_search.specs.declared.file_ranges.FileRange.{FileRange}
 use Rattle.leaf_search.proofs.column_ranges.name_fields.Given as goal
 
-abbrev pub invariant-loop-named : goal.invariant-loop-named
-invariant-loop-named l = (documents : List Placed) (p : Parts) (new : List FileRange) → IsPartOf l.bare l.schema documents p → AreOverFast l.schema l.aggs
-    → AddsParts (AsksFields l.bare p (drop l.named-index l.aggs)) l.ranges new → AddsParts (AsksFields l.bare p l.aggs) l.fn.ranges new
+abbrev pub invariant-loop-asked : goal.invariant-loop-asked
+invariant-loop-asked l = (documents : List Placed) (p : Parts) (new : List FileRange) → IsPartOf l.bare l.schema documents p → AreOverFast l.schema l.aggs
+    → AddsParts (AsksFields l.bare p (drop l.asked-index l.aggs)) l.ranges new → AddsParts (AsksFields l.bare p l.aggs) l.fn.ranges new
