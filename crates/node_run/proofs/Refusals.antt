@@ -9,7 +9,7 @@ use Rattle.query_ast.specs.Sought.{Sought}
 use Rattle.query_reader.specs.Resolve.{query_of}
 use Rattle.query_reader.specs.declared.refusal.QueryError.{QueryError}
 use Rattle.query_reader.specs.declared.refusal.QueryError.TheVariants as query_errors
-use Rattle.agg_form.specs.Finished.{answers_of, buckets_of}
+use Rattle.agg_nested.specs.CountedAnswers.{answers_of, buckets_of}
 use Rattle.agg_model.specs.Answers.{most_buckets}
 use Rattle.agg_model.specs.Checking.{first_refusal}
 use Rattle.agg_model.specs.declared.agg_error.AggError.{AggError}

@@ -22,7 +22,7 @@ use Rattle.indexing_run.specs.Outcomes.{IndexerOutcome}
 use Rattle.indexing_run.specs.Places.{Batch, Held, Place, idle, reading, staged, uploaded, Indexer}
 use Rattle.indexing_run.specs.Steps.{Stepped, log_may_fail, log_called, checkpoints_by, take_checkpoints, idle_by, read_by, read_given, step_read, stage_by, step_stage, batch_facts, upload_by, step_upload, publish_by, publish_refused, step_publish, step_batch, step_place, step_indexer}
 use Rattle.indexing_run.specs.Steps as indexing
-use Rattle.agg_form.specs.Finished.{answers_of, buckets_of}
+use Rattle.agg_nested.specs.CountedAnswers.{answers_of, buckets_of}
 use Rattle.agg_model.specs.Answers.{most_buckets}
 use Rattle.doc_tallies.specs.Picked.{docs_of}
 use Rattle.doc_value.specs.declared.schema.Schema.{Schema}

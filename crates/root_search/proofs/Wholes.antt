@@ -3,8 +3,8 @@ use Rattle.std.proofs.Common.{◌≡◌, ℕ, Bool, true, false, List, length, n
 use Rattle.std.specs.Result.{IfOk}
 use Rattle.std.specs.declared.alloc.AllocError.{AllocError}
 use Rattle.doc_value.specs.declared.schema.Schema.{Schema}
-use Rattle.agg_form.specs.Finished.{answers_of, buckets_of, finished}
-use Rattle.agg_form.proofs.Finished.{finished_one}
+use Rattle.agg_nested.specs.CountedAnswers.{answers_of, buckets_of, finished}
+use Rattle.agg_nested.proofs.CountedAnswers.{finished_one}
 use Rattle.agg_model.specs.Answers.{most_buckets}
 use Rattle.agg_model.specs.Partials.{StandsFor}
 use Rattle.agg_model.specs.declared.agg_error.AggError.{AggError}

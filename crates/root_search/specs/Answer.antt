@@ -4,7 +4,7 @@ use Rattle.std.specs.Prelude.{◌≡◌, ℕ, ◌&&◌, List, length, map, filte
 use Rattle.doc_value.specs.Printed.{printed_doc}
 use Rattle.doc_value.specs.declared.schema.Schema.{Schema}
 use Rattle.query_ast.specs.Meaning.{meaning, within_times}
-use Rattle.agg_form.specs.Finished.{answers_of, buckets_of}
+use Rattle.agg_nested.specs.CountedAnswers.{answers_of, buckets_of}
 use Rattle.agg_model.specs.Answers.{IsFinished, most_buckets}
 use Rattle.agg_model.specs.declared.agg_error.AggError.TheVariants as errors
 use Rattle.agg_model.specs.declared.answer.NamedResult.{NamedResult}
