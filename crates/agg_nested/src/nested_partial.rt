@@ -6,7 +6,9 @@ ghost use Rattle.doc_value.specs.declared.doc.DocField.{DocField};
 ghost use Rattle.agg_nested.specs.Buckets.{PartStands, NestedStands, group_at};
 ghost use Rattle.agg_nested.specs.Checking.{HasStep, HaveSteps};
 ghost use Rattle.agg_nested.specs.Groups.{IsRaisedAt, AreJoined, CanRaise, CanJoin};
+ghost use Rattle.agg_nested.specs.Partials.{FlatStands};
 ghost use Rattle.agg_nested.specs.Spots.{Spot, has_spot};
+ghost use Rattle.agg_nested.specs.declared.request.NestedAgg.{NestedAgg};
 
 use crate::flat_part::{FlatPart, collect_flat, merge_flat, vacant_flat};
 use crate::groups::{Groups, merge_groups, vacant_groups};
@@ -29,7 +31,8 @@ pub struct NestedPartial {
     pub(crate) parts: Vec<NestedPart>,
 }
 
-fn vacant_part(alloc: Global, asked: &NestedAgg) -> Result<NestedPart, AllocError>
+/// The part of one aggregation over no documents.
+pub fn vacant_part(alloc: Global, asked: &NestedAgg) -> Result<NestedPart, AllocError>
     ensures { IfOk result (λ part. PartStands asked.now part []) }
 {
     let flat = vacant_flat(alloc, &asked.agg)?;
@@ -37,6 +40,24 @@ fn vacant_part(alloc: Global, asked: &NestedAgg) -> Result<NestedPart, AllocErro
         flat,
         groups: vacant_groups(alloc),
     })
+}
+
+/// The part of an aggregation in which nothing is nested, of what is counted for the aggregation itself.
+pub fn part_alone(alloc: Global, flat: FlatPart) -> NestedPart
+    ensures { (asked : NestedAgg) (documents : List (List DocField)) → asked.nested ≡ [] → FlatStands asked.agg flat documents → PartStands asked result documents }
+{
+    NestedPart {
+        flat,
+        groups: vacant_groups(alloc),
+    }
+}
+
+/// The partial of so many documents, of the parts of the aggregations of a request in its order.
+pub fn parts_together(documents: u64, parts: Vec<NestedPart>) -> NestedPartial
+    ensures { (request : List NestedAgg) (docs : List (List DocField)) → length docs ≡ documents → AllZip (λ asked part. PartStands asked part docs) request parts.items
+        → NestedStands request result docs }
+{
+    NestedPartial { documents, parts }
 }
 
 /// The partial of no documents.
@@ -80,7 +101,8 @@ fn collect_groups(
     )
 }
 
-fn collect_part(
+/// Counts one more document, behind so many. After want of memory the part is spent.
+pub fn collect_part(
     alloc: Global,
     asked: &NestedAgg,
     part: &mut NestedPart,
