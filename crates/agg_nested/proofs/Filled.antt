@@ -20,11 +20,11 @@ use Rattle.agg_model.specs.declared.partial.Partial.{Partial}
 use Rattle.agg_model.specs.declared.request.Agg.{Agg}
 use Rattle.agg_model.specs.declared.request.Agg.TheVariants.{Terms, Histogram}
 use Rattle.agg_model.specs.declared.request.NamedAgg.{NamedAgg}
-use Rattle.agg_form.specs.Steps.{steps_of}
-use Rattle.agg_form.proofs.Finished.{answer_one}
-use Rattle.agg_form.proofs.Members.{count_more}
-use Rattle.agg_form.proofs.Ordered.{none_in, here, later, first_or}
-use Rattle.agg_form.proofs.Steps.{shown_one, steps_shown_are}
+use Rattle.agg_nested.specs.Steps.{steps_of}
+use Rattle.agg_nested.proofs.CountedAnswers.{answer_one}
+use Rattle.agg_nested.proofs.Members.{count_more}
+use Rattle.agg_nested.proofs.Ordered.{none_in, here, later, first_or}
+use Rattle.agg_nested.proofs.Steps.{shown_one, steps_shown_are}
 use Rattle.agg_nested.specs.Answers.{flat_answer, flat_buckets, inner_buckets, nested_buckets, told}
 use Rattle.agg_nested.specs.Checking.{HasStep}
 use Rattle.agg_nested.specs.Finished.{without_empty, filled}

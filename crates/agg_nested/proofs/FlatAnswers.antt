@@ -10,8 +10,8 @@ use Rattle.agg_model.specs.declared.agg_error.AggError.TheVariants as refusals
 use Rattle.agg_model.specs.declared.answer.NamedResult.{NamedResult}
 use Rattle.agg_model.specs.declared.request.Agg.{Agg}
 use Rattle.agg_model.specs.declared.request.NamedAgg.{NamedAgg}
-use Rattle.agg_form.specs.Finished.{answer_of, answers_of, buckets_in, buckets_of, finished}
-use Rattle.agg_form.proofs.Finished.{finished_one}
+use Rattle.agg_nested.specs.CountedAnswers.{answer_of, answers_of, buckets_in, buckets_of, finished}
+use Rattle.agg_nested.proofs.CountedAnswers.{finished_one}
 use Rattle.agg_nested.specs.Answers.{flat_buckets, range_bucket}
 use Rattle.agg_nested.specs.Finished.{IsFlatFinished}
 use Rattle.agg_nested.specs.Partials.{alone, ranges_counted}

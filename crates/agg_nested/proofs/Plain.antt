@@ -10,7 +10,7 @@ use Rattle.agg_model.specs.declared.answer.NamedResult.{NamedResult}
 use Rattle.agg_model.specs.declared.request.Agg.{Agg}
 use Rattle.agg_model.specs.declared.request.Agg.TheVariants.{Terms, Histogram}
 use Rattle.agg_model.specs.declared.request.NamedAgg.{NamedAgg}
-use Rattle.agg_form.specs.Finished.{answer_of, answers_of, buckets_in, buckets_of, limited, finished}
+use Rattle.agg_nested.specs.CountedAnswers.{answer_of, answers_of, buckets_in, buckets_of, limited, finished}
 use Rattle.agg_nested.specs.Answers.{nested, answered, all_buckets, nested_buckets, nested_answer}
 use Rattle.agg_nested.specs.Plain.{plain, plain_answer, plainly}
 use Rattle.agg_nested.specs.Spots.{spots_counted}

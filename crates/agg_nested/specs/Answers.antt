@@ -8,7 +8,7 @@ use Rattle.agg_model.specs.Answers.{most_buckets}
 use Rattle.agg_model.specs.Counting.{values_in, first_whole}
 use Rattle.agg_model.specs.declared.agg_error.AggError.{AggError}
 use Rattle.agg_model.specs.declared.agg_error.AggError.TheVariants as refusals
-use Rattle.agg_form.specs.Finished.{answer_of}
+use Rattle.agg_nested.specs.CountedAnswers.{answer_of}
 use Rattle.agg_nested.specs.Spots.{lies_within, spots_in, documents_at}
 use Rattle.agg_nested.specs.declared.answer.FlatAnswer.{FlatAnswer}
 use Rattle.agg_nested.specs.declared.answer.FlatAnswer.TheVariants as answers

@@ -1,5 +1,5 @@
 -- The groups of the buckets of an aggregation, and which documents they stand for.
-use Rattle.std.specs.Prelude.{◌≡◌, ◌≤◌, List, length, Option, None, nat_eq}
+use Rattle.std.specs.Prelude.{◌≡◌, ◌≢◌, ◌≤◌, List, [], length, Option, None, nat_eq}
 use Rattle.std.specs.HashMap.{get, get_by_text}
 use Rattle.std.specs.List.{AllZip}
 use Rattle.std.specs.Option.{option_map_or}
@@ -40,10 +40,10 @@ pub record GroupsStand (agg : FlatAgg) (nested : List NamedFlat) (groups : Group
   pub each : (spot : Spot) → GroupStands nested (group_at groups spot) (documents_at agg documents spot)
   pub last : (spot : Spot) → last_of (group_at groups spot) ≤ length documents
 
--- the part of an aggregation stands for documents, and what it has of each bucket for the documents of this bucket
+-- the part of an aggregation stands for documents, and where anything is nested, what it has of each bucket for the documents of this bucket
 pub record PartStands (asked : NestedAgg) (part : NestedPart) (documents : List (List DocField)) : Type 0 where
   pub flat : FlatStands asked.agg part.flat documents
-  pub groups : GroupsStand asked.agg asked.nested part.groups documents
+  pub groups : asked.nested ≢ [] → GroupsStand asked.agg asked.nested part.groups documents
 
 -- the partial of a request stands for documents
 pub record NestedStands (request : List NestedAgg) (partial : NestedPartial) (documents : List (List DocField)) : Type 0 where

@@ -7,8 +7,8 @@ use Rattle.agg_model.specs.declared.answer.AggAnswer.TheVariants as counted
 use Rattle.agg_model.specs.declared.answer.Bucket.{Bucket}
 use Rattle.agg_model.specs.declared.answer.Key.TheVariants as keys
 use Rattle.agg_model.specs.declared.request.Agg.TheVariants.{Terms, Histogram}
-use Rattle.agg_form.specs.Terms.{terms_of}
-use Rattle.agg_form.specs.Steps.{steps_of}
+use Rattle.agg_nested.specs.Terms.{terms_of}
+use Rattle.agg_nested.specs.Steps.{steps_of}
 use Rattle.agg_nested.specs.Answers.{nested, answered}
 use Rattle.agg_nested.specs.declared.answer.FlatAnswer.TheVariants as answers
 use Rattle.agg_nested.specs.declared.answer.NamedAnswer.{NamedAnswer}

@@ -1,10 +1,15 @@
 pub mod Answers
 pub mod Buckets
 pub mod Checking
+pub mod CountedAnswers
+pub mod CountedExamples
 pub mod Examples
 pub mod Finished
 pub mod Groups
+pub mod Ordered
 pub mod Partials
 pub mod Plain
 pub mod Spots
+pub mod Steps
+pub mod Terms
 pub mod Zipped

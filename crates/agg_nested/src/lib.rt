@@ -22,7 +22,10 @@ pub use checking::check_nested;
 pub use finishing::finish_flat;
 pub use flat_part::{FlatPart, collect_flat, merge_flat, vacant_flat};
 pub use flat_parts::{collect_flats, merge_flats, vacant_flats};
-pub use laws::plain_answers_stay;
+pub use laws::{answers_are_permuted, finished_is_finished, finished_is_one, plain_answers_stay};
 pub use nested_finishing::finish_nested;
-pub use nested_partial::{NestedPartial, collect_nested, merge_nested, vacant_nested};
+pub use nested_partial::{
+    NestedPart, NestedPartial, collect_nested, collect_part, merge_nested, part_alone,
+    parts_together, vacant_nested, vacant_part,
+};
 pub use request::{FlatAgg, MetricKind, NamedFlat, NestedAgg, NestedRequest, WholeRange};

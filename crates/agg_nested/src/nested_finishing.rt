@@ -1,6 +1,6 @@
 //! What a partial answers.
 
-ghost use Rattle.std.specs.Prelude.{◌≡◌, ◌^◌, ◌<◌, ◌≤◌, [], List, length, map, IfOk};
+ghost use Rattle.std.specs.Prelude.{◌≡◌, ◌^◌, ◌<◌, ◌≤◌, [], List, length, map, replicate, IfOk};
 ghost use Rattle.std.specs.List.{All, AllZip, sum_by};
 ghost use Rattle.doc_value.specs.declared.doc.DocField.{DocField};
 ghost use Rattle.agg_model.specs.Answers.{most_buckets};
@@ -86,6 +86,37 @@ fn inner_answers(
     Ok(inner)
 }
 
+// No answers for each of so many buckets.
+fn no_answers(alloc: Global, many: usize) -> Result<List<List<NamedAnswer>>, AllocError>
+    ensures { IfOk result (λ inner. inner ≡ replicate many []) }
+{
+    let mut inner = List::vacant(alloc);
+    for _bucket in 0..many {
+        inner.push(List::vacant(alloc))?;
+    }
+    Ok(inner)
+}
+
+// The nested answers of each bucket of an answer, if anything is nested.
+fn each_inner(
+    alloc: Global,
+    asked: &NestedAgg,
+    part: &NestedPart,
+    answer: &FlatAnswer,
+) -> Result<List<List<NamedAnswer>>, AllocError>
+    requires steps { All (λ named. HasStep named.agg) asked.now.nested }
+    requires few { (documents : List (List DocField)) × PartStands asked.now part.now documents × (length documents < 2 ^ 62)
+        × (sum_by (λ spot. inner_buckets asked.now.nested (documents_at asked.now.agg documents spot)) (spots_in answer.now) ≤ most_buckets) }
+    ensures { IfOk result (λ inner. (documents : List (List DocField)) → PartStands asked.now part.now documents
+        → inner ≡ map (λ spot. flat_answers asked.now.nested (documents_at asked.now.agg documents spot)) (spots_in answer.now)) }
+{
+    if asked.nested.is_empty() {
+        return no_answers(alloc, buckets_in(answer));
+    }
+    let vacant = vacant_flats(alloc, asked.nested.as_slice())?;
+    inner_answers(alloc, asked, vacant.as_slice(), part, answer)
+}
+
 // The answer of an aggregation and of its nested ones, which have few buckets together.
 fn part_answer(
     alloc: Global,
@@ -98,9 +129,8 @@ fn part_answer(
         × (nested_buckets documents asked.now ≤ most_buckets) }
     ensures { IfOk result (λ answer. (documents : List (List DocField)) → PartStands asked.now part.now documents → answer ≡ nested_answer documents asked.now) }
 {
-    let vacant = vacant_flats(alloc, asked.nested.as_slice())?;
     let answer = few_answer(alloc, &asked.agg, &part.flat)?;
-    let nested = inner_answers(alloc, asked, vacant.as_slice(), part, &answer)?;
+    let nested = each_inner(alloc, asked, part, &answer)?;
     Ok(NestedAnswer {
         name: asked.name.copy(alloc)?,
         answer,

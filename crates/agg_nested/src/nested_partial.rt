@@ -1,10 +1,14 @@
 //! What some documents count for each aggregation of a request, and for each of its buckets.
 
-ghost use Rattle.std.specs.Prelude.{◌≡◌, ◌+◌, ◌^◌, ◌<◌, ◌∷◌, [], ◌++◌, List, length, IfOk, OnOk};
+ghost use Rattle.std.specs.Prelude.{◌≡◌, ◌≢◌, ◌+◌, ◌^◌, ◌<◌, ◌∷◌, [], ◌++◌, List, length, IfOk, OnOk};
 ghost use Rattle.std.specs.List.{All, AllZip};
 ghost use Rattle.doc_value.specs.declared.doc.DocField.{DocField};
-ghost use Rattle.agg_nested.specs.Buckets.{PartStands, NestedStands};
+ghost use Rattle.agg_nested.specs.Buckets.{PartStands, NestedStands, group_at};
 ghost use Rattle.agg_nested.specs.Checking.{HasStep, HaveSteps};
+ghost use Rattle.agg_nested.specs.Groups.{IsRaisedAt, AreJoined, CanRaise, CanJoin};
+ghost use Rattle.agg_nested.specs.Partials.{FlatStands};
+ghost use Rattle.agg_nested.specs.Spots.{Spot, has_spot};
+ghost use Rattle.agg_nested.specs.declared.request.NestedAgg.{NestedAgg};
 
 use crate::flat_part::{FlatPart, collect_flat, merge_flat, vacant_flat};
 use crate::groups::{Groups, merge_groups, vacant_groups};
@@ -13,7 +17,7 @@ use crate::spotting::raise_spots;
 use agg_model::DocValues;
 use std::alloc::{AllocError, Global};
 
-/// What some documents count for one aggregation, and for its nested ones in each of its buckets.
+/// What some documents count for one aggregation, and for its nested ones in each of its buckets. Where nothing is nested, no groups are kept.
 #[derive(Drop)]
 pub struct NestedPart {
     pub(crate) flat: FlatPart,
@@ -27,7 +31,8 @@ pub struct NestedPartial {
     pub(crate) parts: Vec<NestedPart>,
 }
 
-fn vacant_part(alloc: Global, asked: &NestedAgg) -> Result<NestedPart, AllocError>
+/// The part of one aggregation over no documents.
+pub fn vacant_part(alloc: Global, asked: &NestedAgg) -> Result<NestedPart, AllocError>
     ensures { IfOk result (λ part. PartStands asked.now part []) }
 {
     let flat = vacant_flat(alloc, &asked.agg)?;
@@ -35,6 +40,24 @@ fn vacant_part(alloc: Global, asked: &NestedAgg) -> Result<NestedPart, AllocErro
         flat,
         groups: vacant_groups(alloc),
     })
+}
+
+/// The part of an aggregation in which nothing is nested, of what is counted for the aggregation itself.
+pub fn part_alone(alloc: Global, flat: FlatPart) -> NestedPart
+    ensures { (asked : NestedAgg) (documents : List (List DocField)) → asked.nested ≡ [] → FlatStands asked.agg flat documents → PartStands asked result documents }
+{
+    NestedPart {
+        flat,
+        groups: vacant_groups(alloc),
+    }
+}
+
+/// The partial of so many documents, of the parts of the aggregations of a request in its order.
+pub fn parts_together(documents: u64, parts: Vec<NestedPart>) -> NestedPartial
+    ensures { (request : List NestedAgg) (docs : List (List DocField)) → length docs ≡ documents → AllZip (λ asked part. PartStands asked part docs) request parts.items
+        → NestedStands request result docs }
+{
+    NestedPartial { documents, parts }
 }
 
 /// The partial of no documents.
@@ -51,7 +74,35 @@ pub fn vacant_nested(alloc: Global, request: &NestedRequest) -> Result<NestedPar
     })
 }
 
-fn collect_part(
+// Counts the document of this number in the group of each bucket in which it counts, where anything is nested.
+fn collect_groups(
+    alloc: Global,
+    asked: &NestedAgg,
+    groups: &mut Groups,
+    doc: &DocValues,
+    number: u64,
+) -> Result<(), AllocError>
+    requires step { HasStep asked.now.agg }
+    requires steps { All (λ named. HasStep named.agg) asked.now.nested }
+    requires some { 0 < number }
+    requires known { asked.now.nested ≢ [] → (spot : Spot) → CanRaise asked.now.nested number (group_at groups.old spot) }
+    ensures { OnOk result (asked.now.nested ≢ [] → IsRaisedAt (λ spot. has_spot asked.now.agg spot doc.now) asked.now.nested doc.now number (group_at groups.old) (group_at groups.new)) }
+{
+    if asked.nested.is_empty() {
+        return Ok(());
+    }
+    raise_spots(
+        alloc,
+        &asked.agg,
+        asked.nested.as_slice(),
+        groups,
+        doc,
+        number,
+    )
+}
+
+/// Counts one more document, behind so many. After want of memory the part is spent.
+pub fn collect_part(
     alloc: Global,
     asked: &NestedAgg,
     part: &mut NestedPart,
@@ -65,14 +116,7 @@ fn collect_part(
     ensures { OnOk result ((docs : List (List DocField)) → length docs ≡ documents → PartStands asked.now part.old docs → PartStands asked.now part.new (docs ++ doc.now ∷ [])) }
 {
     collect_flat(alloc, &asked.agg, &mut part.flat, doc)?;
-    raise_spots(
-        alloc,
-        &asked.agg,
-        asked.nested.as_slice(),
-        &mut part.groups,
-        doc,
-        documents + 1,
-    )
+    collect_groups(alloc, asked, &mut part.groups, doc, documents + 1)
 }
 
 fn collect_parts(
@@ -116,6 +160,22 @@ pub fn collect_nested(
     Ok(())
 }
 
+// Adds what the groups of other documents count, where anything is nested.
+fn join_groups(
+    alloc: Global,
+    asked: &NestedAgg,
+    groups: &mut Groups,
+    others: &Groups,
+) -> Result<(), AllocError>
+    requires { asked.now.nested ≢ [] → (spot : Spot) → CanJoin asked.now.nested (group_at groups.old spot) (group_at others.now spot) }
+    ensures { OnOk result (asked.now.nested ≢ [] → AreJoined asked.now.nested (group_at groups.old) (group_at others.now) (group_at groups.new)) }
+{
+    if asked.nested.is_empty() {
+        return Ok(());
+    }
+    merge_groups(alloc, asked.nested.as_slice(), groups, others)
+}
+
 fn merge_part(
     alloc: Global,
     asked: &NestedAgg,
@@ -128,12 +188,7 @@ fn merge_part(
         → PartStands asked.now into.new (mine ++ yours)) }
 {
     merge_flat(alloc, &asked.agg, &mut into.flat, &other.flat)?;
-    merge_groups(
-        alloc,
-        asked.nested.as_slice(),
-        &mut into.groups,
-        &other.groups,
-    )
+    join_groups(alloc, asked, &mut into.groups, &other.groups)
 }
 
 fn merge_parts(

@@ -120,6 +120,9 @@ fn count_part(alloc: Global, asked: &NestedAgg, part: &NestedPart) -> Result<u12
     ensures { IfOk result (λ many. (documents : List (List DocField)) → PartStands asked.now part.now documents → many ≡ told (nested_buckets documents asked.now)) }
 {
     let own = count_flat(alloc, &asked.agg, &part.flat)?;
+    if asked.nested.is_empty() {
+        return Ok(own);
+    }
     let vacant = vacant_flats(alloc, asked.nested.as_slice())?;
     let filled = filled_buckets(alloc, &asked.agg, &part.flat)?;
     let inner = count_inner(alloc, asked, vacant.as_slice(), part, &filled)?;

@@ -9,9 +9,13 @@ use Rattle.query_ast.specs.Sought.{Sought}
 use Rattle.query_reader.specs.Resolve.{query_of}
 use Rattle.query_reader.specs.declared.refusal.QueryError.{QueryError}
 use Rattle.query_reader.specs.declared.refusal.QueryError.TheVariants as query_errors
+<<<<<<< HEAD
 use Rattle.agg_nested.specs.Answers.{all_buckets, nested_answer, told}
 use Rattle.agg_nested.specs.declared.answer.NestedAnswer.{NestedAnswer}
 use Rattle.agg_nested.specs.declared.request.NestedAgg.{NestedAgg}
+=======
+use Rattle.agg_nested.specs.CountedAnswers.{answers_of, buckets_of}
+>>>>>>> a525b292b46b668c104aff8d58b4646816091c6c
 use Rattle.agg_model.specs.Answers.{most_buckets}
 use Rattle.agg_nested.specs.Checking.{first_refusal}
 use Rattle.agg_model.specs.declared.agg_error.AggError.{AggError}

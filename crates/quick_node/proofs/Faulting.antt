@@ -22,8 +22,12 @@ use Rattle.indexing_run.specs.Outcomes.{IndexerOutcome}
 use Rattle.indexing_run.specs.Places.{Batch, Held, Place, idle, reading, staged, uploaded, Indexer}
 use Rattle.indexing_run.specs.Steps.{Stepped, log_may_fail, log_called, checkpoints_by, take_checkpoints, idle_by, read_by, read_given, step_read, stage_by, step_stage, batch_facts, upload_by, step_upload, publish_by, publish_refused, step_publish, step_batch, step_place, step_indexer}
 use Rattle.indexing_run.specs.Steps as indexing
+<<<<<<< HEAD
 use Rattle.agg_nested.specs.Answers.{all_buckets, nested_answer, told}
 use Rattle.agg_nested.specs.declared.answer.NestedAnswer.{NestedAnswer}
+=======
+use Rattle.agg_nested.specs.CountedAnswers.{answers_of, buckets_of}
+>>>>>>> a525b292b46b668c104aff8d58b4646816091c6c
 use Rattle.agg_model.specs.Answers.{most_buckets}
 use Rattle.doc_tallies.specs.Picked.{docs_of}
 use Rattle.doc_value.specs.declared.schema.Schema.{Schema}

@@ -5,7 +5,7 @@ use Rattle.std.specs.Ordering.{is_lt}
 use Rattle.doc_value.specs.declared.doc.Value.{Value}
 use Rattle.doc_value.specs.declared.doc.DocField.{DocField}
 use Rattle.agg_model.specs.Answers.{rank, value_bucket}
-use Rattle.agg_form.specs.Ordered.{ordered}
+use Rattle.agg_nested.specs.Ordered.{ordered}
 use Rattle.agg_model.specs.Counting.{values_in, value_count}
 use Rattle.agg_model.specs.declared.answer.AggAnswer.{AggAnswer}
 use Rattle.agg_model.specs.declared.answer.AggAnswer.TheVariants as answers

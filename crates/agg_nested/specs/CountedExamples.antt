@@ -10,9 +10,9 @@ use Rattle.agg_model.specs.declared.answer.Key.TheVariants as keys
 use Rattle.agg_model.specs.declared.request.Agg.{Agg}
 use Rattle.agg_model.specs.declared.request.Agg.TheVariants.{Terms, Histogram}
 use Rattle.agg_model.specs.declared.request.NamedAgg.{NamedAgg}
-use Rattle.agg_form.specs.Terms.{terms_of}
-use Rattle.agg_form.specs.Steps.{steps_of}
-use Rattle.agg_form.specs.Finished.{answer_of, finished, limited}
+use Rattle.agg_nested.specs.Terms.{terms_of}
+use Rattle.agg_nested.specs.Steps.{steps_of}
+use Rattle.agg_nested.specs.CountedAnswers.{answer_of, finished, limited}
 
 -- a document with these values of its only field
 abbrev doc : List Value → List DocField

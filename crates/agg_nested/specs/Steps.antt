@@ -8,7 +8,7 @@ use Rattle.agg_model.specs.Counting.{first_whole, step_of, step_count}
 use Rattle.agg_model.specs.Spans.{steps_shown}
 use Rattle.agg_model.specs.declared.answer.AggAnswer.{AggAnswer}
 use Rattle.agg_model.specs.declared.answer.AggAnswer.TheVariants as answers
-use Rattle.agg_form.specs.Ordered.{ordered}
+use Rattle.agg_nested.specs.Ordered.{ordered}
 
 -- the step of a document, if it has one
 abbrev pub step_in : ℕ → ℤ → ℤ → List DocField → List ℤ

@@ -10,8 +10,8 @@ use Rattle.agg_model.specs.declared.answer.NamedResult.{NamedResult}
 use Rattle.agg_model.specs.declared.request.Agg.{Agg}
 use Rattle.agg_model.specs.declared.request.Agg.TheVariants.{Terms, Histogram}
 use Rattle.agg_model.specs.declared.request.NamedAgg.{NamedAgg}
-use Rattle.agg_form.specs.Terms.{terms_of, terms_answer}
-use Rattle.agg_form.specs.Steps.{steps_of, histogram_answer}
+use Rattle.agg_nested.specs.Terms.{terms_of, terms_answer}
+use Rattle.agg_nested.specs.Steps.{steps_of, histogram_answer}
 
 -- the answer of an aggregation
 abbrev pub answer_of : Agg → List (List DocField) → AggAnswer

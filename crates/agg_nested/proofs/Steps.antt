@@ -15,9 +15,9 @@ use Rattle.doc_value.specs.declared.doc.DocField.{DocField}
 use Rattle.agg_model.specs.Answers.{AreShown, IsRising}
 use Rattle.agg_model.specs.Counting.{first_whole, lies_in, step_count, step_of}
 use Rattle.agg_model.proofs.Rising.{steps_are_shown}
-use Rattle.agg_form.specs.Steps.{step_in, steps_in, steps_of, with_counts}
-use Rattle.agg_form.proofs.Members.{Documents, in_flat, flat_in, some_passes, passes_some}
-use Rattle.agg_form.proofs.Ordered.{IsOrder, Rises, none_in, here, later, first_or, all_in, all_weaker, in_ordered, ordered_in, ordered_rises}
+use Rattle.agg_nested.specs.Steps.{step_in, steps_in, steps_of, with_counts}
+use Rattle.agg_nested.proofs.Members.{Documents, in_flat, flat_in, some_passes, passes_some}
+use Rattle.agg_nested.proofs.Ordered.{IsOrder, Rises, none_in, here, later, first_or, all_in, all_weaker, in_ordered, ordered_in, ordered_rises}
 
 -- ---- two rising lists with the same members are one
 

@@ -15,12 +15,12 @@ use Rattle.agg_model.specs.declared.ranking.ValueCount.{ValueCount}
 use Rattle.agg_model.specs.declared.request.Agg.{Agg}
 use Rattle.agg_model.specs.declared.request.Agg.TheVariants.{Terms, Histogram}
 use Rattle.agg_model.specs.declared.request.NamedAgg.{NamedAgg}
-use Rattle.agg_form.specs.Terms.{terms_answer, terms_of}
-use Rattle.agg_form.specs.Steps.{histogram_answer, steps_of}
-use Rattle.agg_form.specs.Finished.{HadMemory, answer_of, answers_of, buckets_in, buckets_of, finished, limited}
-use Rattle.agg_form.proofs.Members.{Documents}
-use Rattle.agg_form.proofs.Terms.{terms_counted, terms_length, terms_moved, terms_one, terms_sorted}
-use Rattle.agg_form.proofs.Steps.{counts_moved, shown_one, steps_moved, steps_shown_are}
+use Rattle.agg_nested.specs.Terms.{terms_answer, terms_of}
+use Rattle.agg_nested.specs.Steps.{histogram_answer, steps_of}
+use Rattle.agg_nested.specs.CountedAnswers.{HadMemory, answer_of, answers_of, buckets_in, buckets_of, finished, limited}
+use Rattle.agg_nested.proofs.Members.{Documents}
+use Rattle.agg_nested.proofs.Terms.{terms_counted, terms_length, terms_moved, terms_one, terms_sorted}
+use Rattle.agg_nested.proofs.Steps.{counts_moved, shown_one, steps_moved, steps_shown_are}
 
 -- ---- one aggregation
 

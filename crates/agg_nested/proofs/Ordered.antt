@@ -3,7 +3,7 @@ use Rattle.std.proofs.Common.{◌≡◌, zero, suc, Bool, true, false, cond, Lis
 use Rattle.std.specs.Prelude.{◌⊎◌, Contains}
 use Rattle.std.specs.List.{AllByRecursion}
 use Rattle.std.proofs.lemmas.Bool.{false≢true}
-use Rattle.agg_form.specs.Ordered.{with_item, ordered}
+use Rattle.agg_nested.specs.Ordered.{with_item, ordered}
 
 -- ---- members
 

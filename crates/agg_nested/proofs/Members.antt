@@ -6,7 +6,7 @@ use Rattle.std.proofs.lemmas.Bool.{false_from_ne_true}
 use Rattle.std.proofs.lemmas.List.Elements.{Contains-append_cases, Contains-append_left, Contains-append_right, Contains-get_or}
 use Rattle.std.proofs.lemmas.List.Sums.{sum_by-cons}
 use Rattle.doc_value.specs.declared.doc.DocField.{DocField}
-use Rattle.agg_form.proofs.Ordered.{IsOrder, Rises, none_in, here, later, first_or, all_in, itself}
+use Rattle.agg_nested.proofs.Ordered.{IsOrder, Rises, none_in, here, later, first_or, all_in, itself}
 
 abbrev pub Documents : Type 0
 Documents = List (List DocField)

@@ -13,10 +13,10 @@ use Rattle.agg_model.specs.Answers.{AreCounted, rank}
 use Rattle.agg_model.specs.Counting.{has_value, is_same, value_count, values_in}
 use Rattle.agg_model.specs.declared.ranking.ValueCount.{ValueCount}
 use Rattle.agg_model.proofs.Order.{rank_order}
-use Rattle.agg_form.specs.Terms.{counted, ranks_before, terms_of, values_of}
-use Rattle.agg_form.proofs.Members.{Documents, all_from, each_from, in_map, map_in, in_flat, flat_in, count_more, none_passes, some_passes, passes_some, one_passes}
-use Rattle.agg_form.proofs.Ordered.{IsOrder, Rises, none_in, here, later, first_or, in_ordered, ordered_in, ordered_rises}
-use Rattle.agg_form.proofs.Ranks.{same_is, is_itself, with_count, ranks_order}
+use Rattle.agg_nested.specs.Terms.{counted, ranks_before, terms_of, values_of}
+use Rattle.agg_nested.proofs.Members.{Documents, all_from, each_from, in_map, map_in, in_flat, flat_in, count_more, none_passes, some_passes, passes_some, one_passes}
+use Rattle.agg_nested.proofs.Ordered.{IsOrder, Rises, none_in, here, later, first_or, in_ordered, ordered_in, ordered_rises}
+use Rattle.agg_nested.proofs.Ranks.{same_is, is_itself, with_count, ranks_order}
 
 -- ---- the values that some document has
 

@@ -14,8 +14,8 @@ use Rattle.agg_model.specs.Answers.{rank}
 use Rattle.agg_model.specs.Counting.{is_same}
 use Rattle.agg_model.specs.declared.ranking.ValueCount.{ValueCount}
 use Rattle.agg_model.proofs.Order.{rank_order}
-use Rattle.agg_form.specs.Terms.{ranks_before}
-use Rattle.agg_form.proofs.Ordered.{IsOrder}
+use Rattle.agg_nested.specs.Terms.{ranks_before}
+use Rattle.agg_nested.proofs.Ordered.{IsOrder}
 
 -- ---- values that are the same are equal
 

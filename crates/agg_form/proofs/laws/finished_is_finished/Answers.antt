@@ -1,5 +1,0 @@
-use Rattle.agg_form.proofs.Finished.{is_finished}
-use Rattle.agg_form.proofs.laws.finished_is_finished.Goals as goal
-
-pub returns : goal.returns
-returns c = λ request documents. is_finished request documents

@@ -1,0 +1,12 @@
+use Rattle.agg_nested.proofs.Joining.{ok_then}
+use Rattle.agg_nested.proofs.NothingNested.{some_nested}
+use Rattle.agg_nested.proofs.nested_partial.join_groups.Goals as goal
+
+pub merge_groups-requires : goal.merge_groups-requires
+merge_groups-requires c = rw c.as_slice.ensures (c.requires (some_nested c.is_empty.result c.args.asked.now.nested c.is_empty.ensures.1 c.if-is_empty.false))
+
+pub returns-then-is_empty : goal.returns-then-is_empty
+returns-then-is_empty c = λ some. absurd (some (c.is_empty.ensures.0 c.if-is_empty.true))
+
+pub returns : goal.returns
+returns c = ok_then c.merge_groups.result (λ joined some. joined) (rw c.as_slice.ensures at c.merge_groups.ensures)
