@@ -9,10 +9,10 @@ use Rattle.query_ast.specs.Queries.{HasField}
 use Rattle.query_ast.specs.Sought.{Sought}
 use Rattle.query_reader.specs.Resolve.{query_of}
 use Rattle.query_reader.specs.declared.refusal.QueryError.{QueryError}
-use Rattle.agg_model.specs.Checking.{first_refusal}
 use Rattle.agg_model.specs.declared.agg_error.AggError.{AggError}
-use Rattle.agg_model.specs.declared.request.NamedAgg.{NamedAgg}
-use Rattle.agg_model.proofs.Intervals.{have_intervals}
+use Rattle.agg_nested.specs.Checking.{first_refusal}
+use Rattle.agg_nested.specs.declared.request.NestedAgg.{NestedAgg}
+use Rattle.agg_nested.proofs.Refusals.{have_steps}
 use Rattle.search_api.specs.Answerable.{AreTimed, AreCounted, CanAsk, IsAnswerable}
 use Rattle.search_api.specs.Kinds.{◌>>=◌}
 use Rattle.search_api.specs.Resolved.{Search, searched, sort_of, aggs_of, fast_sort, timed, query_in, query_or, checked, unless_refused, is_fast, search_in, delete_in, searched_paths}
@@ -82,15 +82,15 @@ query_in_can s numbers text q dynamic e = go (query_of s numbers text) refl e
     go (Ok p) h k = query_can s numbers text q dynamic (let y : ◌≡◌ {A = Result Sought Unanswered} (Ok p) (Ok q) = k in let z : p ≡ q = cc in subst (λ (x : Sought). query_of s numbers text ≡ Ok x) z h)
     go (Err error) h k = absurd (let y : ◌≡◌ {A = Result Sought Unanswered} (Err (of_query error)) (Ok q) = k in cc)
 
-counted_can : (s : Schema) (asked : List AskedAgg) (aggs given : List NamedAgg) → aggs_of s.fields asked ≡ Ok aggs → checked s aggs ≡ Ok given → AreCounted s given
+counted_can : (s : Schema) (asked : List AskedAgg) (aggs given : List NestedAgg) → aggs_of s.fields asked ≡ Ok aggs → checked s aggs ≡ Ok given → AreCounted s given
 counted_can s asked aggs given h e = go (first_refusal s.fields aggs) refl e
   where
     go : (o : Option AggError) → first_refusal s.fields aggs ≡ o → unless_refused aggs o ≡ Ok given → AreCounted s given
     go None n k =
         let within = aggs_within s.fields asked aggs h in
-        subst (λ (xs : List NamedAgg). AreCounted s xs) (same_ok aggs given k)
-        (record { over = within; none = n; intervals = have_intervals s.fields aggs within n })
-    go (Some error) n k = absurd (let y : ◌≡◌ {A = Result (List NamedAgg) Unanswered} (Err (of_aggs error)) (Ok given) = k in cc)
+        subst (λ (xs : List NestedAgg). AreCounted s xs) (same_ok aggs given k)
+        (record { over = within; none = n; steps = have_steps s.fields aggs within n })
+    go (Some error) n k = absurd (let y : ◌≡◌ {A = Result (List NestedAgg) Unanswered} (Err (of_aggs error)) (Ok given) = k in cc)
 
 -- ---- requests
 -- what a search asks over a schema

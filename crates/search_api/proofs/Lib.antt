@@ -10,3 +10,5 @@ pub mod Numbered
 pub mod Within
 pub mod Askable
 pub mod Answered
+pub mod Alone
+pub mod Among

@@ -1,6 +1,5 @@
 -- Which searches the index of a schema can answer.
 use Rattle.std.specs.Prelude.{◌≡◌, ℕ, ◌<◌, true, List, [], ◌∷◌, length, IsSome, None}
-use Rattle.std.specs.List.{All}
 use Rattle.std.specs.Option.{IfSome}
 use Rattle.doc_value.specs.declared.facts.TimeRange.{TimeRange}
 use Rattle.doc_value.specs.declared.schema.Field.{Field}
@@ -11,8 +10,8 @@ use Rattle.query_ast.specs.Queries.{HasField, has_order}
 use Rattle.query_ast.specs.Sought.{Sought, Soughts, no_more, more}
 use Rattle.query_ast.specs.Sought as sought
 use Rattle.query_ast.specs.declared.query.Item.{Item}
-use Rattle.agg_model.specs.Checking.{field_of, first_refusal, HaveIntervals}
-use Rattle.agg_model.specs.declared.request.NamedAgg.{NamedAgg}
+use Rattle.agg_nested.specs.Checking.{first_refusal, HaveFields, HaveSteps}
+use Rattle.agg_nested.specs.declared.request.NestedAgg.{NestedAgg}
 use Rattle.search_api.specs.Resolved.{Search, Asked, IsSearch, IsDelete}
 
 -- a text of several tokens is looked for by their places, which a field of texts has to keep
@@ -53,10 +52,10 @@ pub record AreTimed (schema : Schema) (times : TimeRange) : Type 0 where
   pub end : IsSome times.end → IsSome schema.timestamp
 
 -- each aggregation is over one of the schema's fields, and none is refused
-pub record AreCounted (schema : Schema) (aggs : List NamedAgg) : Type 0 where
-  pub over : All (λ named. field_of named.agg < length schema.fields) aggs
+pub record AreCounted (schema : Schema) (aggs : List NestedAgg) : Type 0 where
+  pub over : HaveFields (length schema.fields) aggs
   pub none : first_refusal schema.fields aggs ≡ None
-  pub intervals : HaveIntervals aggs
+  pub steps : HaveSteps aggs
 
 -- what a search asks of a schema can be answered from what is kept of documents
 pub record IsAnswerable (schema : Schema) (search : Search) : Type 0 where

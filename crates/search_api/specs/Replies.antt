@@ -1,13 +1,21 @@
 -- The line of a reply: compact JSON, the keys of each object in byte order.
-use Rattle.std.specs.Prelude.{ℕ, Bool, true, false, List, [], ◌∷◌, ◌++◌, map, codes}
+use Rattle.std.specs.Prelude.{ℕ, ℤ, Bool, true, false, List, [], ◌∷◌, ◌++◌, map, Option, Some, None, codes, if◌then◌else◌}
+use Rattle.std.specs.Cmp.Lexicographic.{slice_cmp}
 use Rattle.std.specs.Fmt.{decimal, signed_decimal}
+use Rattle.std.specs.Ordering.{nat_cmp, is_lt}
 use Rattle.doc_value.specs.Printed.{quoted, comma, value_text}
 use Rattle.agg_model.specs.declared.answer.Key.{Key}
 use Rattle.agg_model.specs.declared.answer.Key.TheVariants as bucket_keys
 use Rattle.agg_model.specs.declared.answer.Bucket.{Bucket}
 use Rattle.agg_model.specs.declared.answer.AggAnswer.{AggAnswer}
-use Rattle.agg_model.specs.declared.answer.AggAnswer.TheVariants as answers
-use Rattle.agg_model.specs.declared.answer.NamedResult.{NamedResult}
+use Rattle.agg_model.specs.declared.answer.AggAnswer.TheVariants as counted
+use Rattle.agg_nested.specs.declared.answer.FlatAnswer.{FlatAnswer}
+use Rattle.agg_nested.specs.declared.answer.FlatAnswer.TheVariants as answers
+use Rattle.agg_nested.specs.declared.answer.NamedAnswer.{NamedAnswer}
+use Rattle.agg_nested.specs.declared.answer.NestedAnswer.{NestedAnswer}
+use Rattle.agg_nested.specs.declared.answer.RangeBucket.{RangeBucket}
+use Rattle.agg_nested.specs.declared.request.WholeRange.{WholeRange}
+use Rattle.search_api.specs.declared.bucket_pairs.Pair.{Pair}
 use Rattle.search_api.specs.declared.reply.Refusal.{Refusal}
 use Rattle.search_api.specs.declared.reply.Refusal.TheVariants as refusals
 use Rattle.search_api.specs.declared.reply.Said.{Said}
@@ -39,26 +47,114 @@ abbrev pub key_text : Key → List ℕ
 key_text (bucket_keys.Value v) = value_text v
 key_text (bucket_keys.Step z) = signed_decimal z
 
-unfoldable pub bucket_text : Bucket → List ℕ
-bucket_text b = object_text (pair_text (codes "doc_count") (decimal b.count) ∷ pair_text (codes "key") (key_text b.key) ∷ [])
+abbrev pub pair : List ℕ → List ℕ → Pair
+pair key text = record { key = key; text = text }
+
+abbrev pub line_of : Pair → List ℕ
+line_of p = pair_text p.key p.text
+
+abbrev pub is_below : List ℕ → List ℕ → Bool
+is_below key other = is_lt (slice_cmp nat_cmp key other)
+
+-- the pairs at the front whose keys lie below a key, and those behind them
+abbrev pub before : List ℕ → List Pair → List Pair
+before key [] = []
+before key (p ∷ ps) = if is_below p.key key then p ∷ before key ps else []
+
+abbrev pub behind : List ℕ → List Pair → List Pair
+behind key [] = []
+behind key (p ∷ ps) = if is_below p.key key then behind key ps else p ∷ ps
+
+-- a bucket's own pairs, each behind those of its nested answers whose keys lie below its own
+abbrev pub own_among : List Pair → List Pair → List Pair
+own_among [] nested = []
+own_among (own ∷ more) nested = before own.key nested ++ (own ∷ own_among more (behind own.key nested))
+
+-- those of its nested answers that lie behind all its own
+abbrev pub behind_all : List Pair → List Pair → List Pair
+behind_all [] nested = nested
+behind_all (own ∷ more) nested = behind_all more (behind own.key nested)
+
+-- both together, in byte order of their keys where each of the two is
+abbrev pub among : List Pair → List Pair → List Pair
+among own nested = own_among own nested ++ behind_all own nested
+
+unfoldable pub bucket_text : List Pair → List Pair → List ℕ
+bucket_text own nested = object_text (map line_of (among own nested))
+
+abbrev pub value_pairs : Bucket → List Pair
+value_pairs b = pair (codes "doc_count") (decimal b.count) ∷ pair (codes "key") (key_text b.key) ∷ []
+
+-- an edge that is absent is left out, and a star in the key
+abbrev pub edge_pairs : List ℕ → Option ℤ → List Pair
+edge_pairs key None = []
+edge_pairs key (Some edge) = pair key (signed_decimal edge) ∷ []
+
+abbrev pub edge_text : Option ℤ → List ℕ
+edge_text None = codes "*"
+edge_text (Some edge) = signed_decimal edge
+
+abbrev pub range_key : WholeRange → List ℕ
+range_key r = edge_text r.from ++ (45 ∷ edge_text r.to)
+
+abbrev pub range_pairs : RangeBucket → List Pair
+range_pairs b =
+    pair (codes "doc_count") (decimal b.count)
+    ∷ (edge_pairs (codes "from") b.range.from ++ (pair (codes "key") (quoted (range_key b.range)) ∷ edge_pairs (codes "to") b.range.to))
+
+-- of each bucket in turn the pairs of its nested answers, none where there are no more
+abbrev pub first_pairs : List (List Pair) → List Pair
+first_pairs [] = []
+first_pairs (pairs ∷ rest) = pairs
+
+abbrev pub other_pairs : List (List Pair) → List (List Pair)
+other_pairs [] = []
+other_pairs (pairs ∷ rest) = rest
+
+abbrev pub bucket_texts : List (List Pair) → List (List Pair) → List (List ℕ)
+bucket_texts [] nested = []
+bucket_texts (own ∷ more) nested = bucket_text own (first_pairs nested) ∷ bucket_texts more (other_pairs nested)
+
+abbrev pub buckets_pair : List (List Pair) → List (List Pair) → List ℕ
+buckets_pair owns nested = pair_text (codes "buckets") (list_text (bucket_texts owns nested))
 
 -- the counts are exact, so the error bound is 0
-unfoldable pub terms_text : List Bucket → ℕ → List ℕ
-terms_text buckets others =
-    object_text (pair_text (codes "buckets") (list_text (map bucket_text buckets)) ∷ pair_text (codes "doc_count_error_upper_bound") (decimal 0)
+unfoldable pub terms_text : List (List Pair) → List Bucket → ℕ → List ℕ
+terms_text nested buckets others =
+    object_text (buckets_pair (map value_pairs buckets) nested ∷ pair_text (codes "doc_count_error_upper_bound") (decimal 0)
     ∷ pair_text (codes "sum_other_doc_count") (decimal others) ∷ [])
 
-unfoldable pub histogram_text : List Bucket → List ℕ
-histogram_text buckets = object_text (pair_text (codes "buckets") (list_text (map bucket_text buckets)) ∷ [])
+unfoldable pub histogram_text : List (List Pair) → List Bucket → List ℕ
+histogram_text nested buckets = object_text (buckets_pair (map value_pairs buckets) nested ∷ [])
 
-abbrev pub answer_text : AggAnswer → List ℕ
-answer_text (answers.Terms buckets others) = terms_text buckets others
-answer_text (answers.Histogram buckets) = histogram_text buckets
+unfoldable pub ranges_text : List (List Pair) → List RangeBucket → List ℕ
+ranges_text nested buckets = object_text (buckets_pair (map range_pairs buckets) nested ∷ [])
 
-unfoldable pub named_text : NamedResult → List ℕ
-named_text r = pair_text r.name (answer_text r.result)
+abbrev pub number_text : Option ℤ → List ℕ
+number_text None = codes "null"
+number_text (Some number) = signed_decimal number
 
-unfoldable pub aggs_text : List NamedResult → List ℕ
+unfoldable pub metric_text : Option ℤ → List ℕ
+metric_text number = object_text (pair_text (codes "value") (number_text number) ∷ [])
+
+abbrev pub counted_text : List (List Pair) → AggAnswer → List ℕ
+counted_text nested (counted.Terms buckets others) = terms_text nested buckets others
+counted_text nested (counted.Histogram buckets) = histogram_text nested buckets
+
+-- an answer, with the pairs of the nested answers of each of its buckets
+abbrev pub answer_text : List (List Pair) → FlatAnswer → List ℕ
+answer_text nested (answers.Counted answer) = counted_text nested answer
+answer_text nested (answers.Metric number) = metric_text number
+answer_text nested (answers.Ranges buckets) = ranges_text nested buckets
+
+-- a nested answer under its name
+abbrev pub pair_of : NamedAnswer → Pair
+pair_of r = pair r.name (answer_text [] r.answer)
+
+unfoldable pub named_text : NestedAnswer → List ℕ
+named_text r = pair_text r.name (answer_text (map (map pair_of) r.nested) r.answer)
+
+unfoldable pub aggs_text : List NestedAnswer → List ℕ
 aggs_text results = object_text (map named_text results)
 
 -- ---- refusals
@@ -123,7 +219,7 @@ refusal_pairs refusals.Full = alone (codes "Full")
 
 -- ---- replies
 
-unfoldable pub found_text : List ℕ → ℕ → ℕ → List (List ℕ) → List NamedResult → List ℕ
+unfoldable pub found_text : List ℕ → ℕ → ℕ → List (List ℕ) → List NestedAnswer → List ℕ
 found_text client revision count hits aggs =
     object_text (pair_text (codes "aggregations") (aggs_text aggs) ∷ pair_text (codes "client") (quoted client)
     ∷ pair_text (codes "hits") (list_text hits) ∷ pair_text (codes "num_hits") (decimal count) ∷ pair_text (codes "revision") (decimal revision) ∷ [])

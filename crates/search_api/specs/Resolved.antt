@@ -11,13 +11,17 @@ use Rattle.query_ast.specs.Sought as sought
 use Rattle.query_reader.specs.declared.refusal.QueryError.{QueryError}
 use Rattle.query_reader.specs.Resolve.{query_of}
 use Rattle.agg_model.specs.declared.agg_error.AggError.{AggError}
-use Rattle.agg_model.specs.declared.request.Agg.{Agg}
-use Rattle.agg_model.specs.declared.request.Agg.TheVariants as aggs
-use Rattle.agg_model.specs.declared.request.NamedAgg.{NamedAgg}
-use Rattle.agg_model.specs.Checking.{first_refusal}
+use Rattle.agg_model.specs.declared.request.Agg.TheVariants as counted
+use Rattle.agg_nested.specs.Checking.{first_refusal}
+use Rattle.agg_nested.specs.declared.request.FlatAgg.{FlatAgg}
+use Rattle.agg_nested.specs.declared.request.FlatAgg.TheVariants as flats
+use Rattle.agg_nested.specs.declared.request.MetricKind.TheVariants as metrics
+use Rattle.agg_nested.specs.declared.request.NamedFlat.{NamedFlat}
+use Rattle.agg_nested.specs.declared.request.NestedAgg.{NestedAgg}
 use Rattle.search_api.specs.declared.request.AggShape.{AggShape}
 use Rattle.search_api.specs.declared.request.AggShape.TheVariants as shapes
 use Rattle.search_api.specs.declared.request.AskedAgg.{AskedAgg}
+use Rattle.search_api.specs.declared.request.AskedFlat.{AskedFlat}
 use Rattle.search_api.specs.declared.request.Request.{Request}
 use Rattle.search_api.specs.declared.request.Request.TheVariants as requests
 use Rattle.search_api.specs.declared.request.SearchRequest.{SearchRequest}
@@ -41,7 +45,7 @@ pub record Search : Type 0 where
   pub start_offset : ℕ
   pub max_hits : ℕ
   pub sort : Option SortField
-  pub aggs : List NamedAgg
+  pub aggs : List NestedAgg
 
 pub data Asked : Type 0 where
   IsSearch : Search → Asked
@@ -88,15 +92,33 @@ sort_of fields (Some sort) = known sort.path (number_of fields sort.path) >>= λ
 abbrev pub narrow : ℕ → Option ℕ
 narrow n = if nat_lt n (2 ^ 32) then Some n else None
 
-abbrev pub agg_over : ℕ → AggShape → Agg
-agg_over n (shapes.Terms size) = aggs.Terms n size
-agg_over n (shapes.Histogram interval offset least dated) = aggs.Histogram n interval offset least dated
+abbrev pub flat_over : ℕ → AggShape → FlatAgg
+flat_over n (shapes.Terms size) = flats.Counted (counted.Terms n size)
+flat_over n (shapes.Histogram interval offset least dated) = flats.Counted (counted.Histogram n interval offset least dated)
+flat_over n shapes.Min = flats.Metric metrics.Min n
+flat_over n shapes.Max = flats.Metric metrics.Max n
+flat_over n shapes.Sum = flats.Metric metrics.Sum n
+flat_over n shapes.ValueCount = flats.Metric metrics.ValueCount n
+flat_over n (shapes.Range ranges) = flats.Ranges n ranges
 
-abbrev pub agg_of : List Field → AskedAgg → Result NamedAgg Unanswered
+abbrev pub counted_number : List Field → List ℕ → Result ℕ Unanswered
+counted_number fields path = known path (option_and_then narrow (number_of fields path))
+
+abbrev pub flat_of : List Field → AskedFlat → Result NamedFlat Unanswered
+flat_of fields asked = counted_number fields asked.path >>= λ n. Ok (record { name = asked.name; agg = flat_over n asked.shape })
+
+abbrev pub flats_of : List Field → List AskedFlat → Result (List NamedFlat) Unanswered
+flats_of fields [] = Ok []
+flats_of fields (asked ∷ rest) = flat_of fields asked >>= λ flat. flats_of fields rest >>= λ more. Ok (flat ∷ more)
+
+-- an aggregation's field, then those of its nested ones
+abbrev pub agg_of : List Field → AskedAgg → Result NestedAgg Unanswered
 agg_of fields asked =
-    known asked.path (option_and_then narrow (number_of fields asked.path)) >>= λ n. Ok (record { name = asked.name; agg = agg_over n asked.shape })
+    counted_number fields asked.path >>= λ n.
+    flats_of fields asked.nested >>= λ nested.
+    Ok (record { name = asked.name; agg = flat_over n asked.shape; nested = nested })
 
-abbrev pub aggs_of : List Field → List AskedAgg → Result (List NamedAgg) Unanswered
+abbrev pub aggs_of : List Field → List AskedAgg → Result (List NestedAgg) Unanswered
 aggs_of fields [] = Ok []
 aggs_of fields (asked ∷ rest) = agg_of fields asked >>= λ agg. aggs_of fields rest >>= λ more. Ok (agg ∷ more)
 
@@ -120,11 +142,11 @@ query_or (Err error) = Err (of_query error)
 abbrev pub query_in : Schema → List ℕ → List ℕ → Result Sought Unanswered
 query_in schema numbers text = query_or (query_of schema numbers text)
 
-abbrev pub unless_refused : List NamedAgg → Option AggError → Result (List NamedAgg) Unanswered
+abbrev pub unless_refused : List NestedAgg → Option AggError → Result (List NestedAgg) Unanswered
 unless_refused aggs None = Ok aggs
 unless_refused aggs (Some error) = Err (of_aggs error)
 
-abbrev pub checked : Schema → List NamedAgg → Result (List NamedAgg) Unanswered
+abbrev pub checked : Schema → List NestedAgg → Result (List NestedAgg) Unanswered
 checked schema aggs = unless_refused aggs (first_refusal schema.fields aggs)
 
 -- ---- requests

@@ -1,13 +1,17 @@
 //! The aggregations of a search.
 
-ghost use Rattle.std.specs.Prelude.{◌≡◌, Some, None, pos};
+ghost use Rattle.std.specs.Prelude.{◌≡◌, Some, None, filter, codes, pos};
+ghost use Rattle.serde_json.specs.Find.{get};
 ghost use Rattle.serde_json.specs.View.{view, members_view};
 ghost use Rattle.search_api.specs.Answers.{Gives};
 ghost use Rattle.search_api.specs.Aggregations as spec;
+ghost use Rattle.search_api.specs.Keys as keys;
 
 use crate::intervals::{seconds_of, signed_seconds};
+use crate::keys::{ALL_KINDS, AggKind, key_of};
 use crate::kinds::{count_at, needed_text, needed_whole, text_at, whole_at, wrong_kind};
-use crate::request::{AggShape, AskedAgg, AskedAggs};
+use crate::ranges::range_shape;
+use crate::request::{AggShape, AskedAgg, AskedAggs, AskedFlat, AskedFlats};
 use crate::request_error::RequestError;
 use agg_model::Distance;
 use doc_value::Text;
@@ -89,21 +93,18 @@ fn date_histogram_shape(alloc: Global, object: &Value) -> Result<AggShape, Reque
     Ok(dated_shape(&interval, offset, least.unwrap_or(0)))
 }
 
-/// Which kind an aggregation has.
-#[derive(Clone, Copy)]
-enum AggKind {
-    Terms,
-    Histogram,
-    DateHistogram,
-}
-
 fn shape_of(alloc: Global, kind: AggKind, object: &Value) -> Result<AggShape, RequestError>
     ensures { Gives (spec.shape_of kind (view object.now)) result }
 {
     match kind {
-        AggKind::Terms => terms_shape(alloc, object),
-        AggKind::Histogram => histogram_shape(alloc, object),
         AggKind::DateHistogram => date_histogram_shape(alloc, object),
+        AggKind::Histogram => histogram_shape(alloc, object),
+        AggKind::Max => Ok(AggShape::Max),
+        AggKind::Min => Ok(AggShape::Min),
+        AggKind::Range => range_shape(alloc, object),
+        AggKind::Sum => Ok(AggShape::Sum),
+        AggKind::Terms => terms_shape(alloc, object),
+        AggKind::ValueCount => Ok(AggShape::ValueCount),
     }
 }
 
@@ -113,7 +114,7 @@ fn kind_of(
     name: &str,
     kind: AggKind,
     value: &Value,
-) -> Result<AskedAgg, RequestError>
+) -> Result<AskedFlat, RequestError>
     ensures { Gives (spec.kind_of name.now kind (view value.now)) result }
 {
     if !value.is_object() {
@@ -121,32 +122,112 @@ fn kind_of(
     }
     let path = needed_text(alloc, value, "field")?;
     let shape = shape_of(alloc, kind, value)?;
-    Ok(AskedAgg {
+    Ok(AskedFlat {
         name: Text::from_str(alloc, name)?,
         path,
         shape,
     })
 }
 
-/// An aggregation has one kind.
+fn has(kind: AggKind, value: &Value) -> bool
+    ensures { result ≡ keys.has (keys.key_of kind) (view value.now) }
+{
+    value.get(key_of(kind)).is_some()
+}
+
+/// The only one of these kinds that stands there; none where several do.
+#[tactic(auto, using(crate::proofs::Alone::alone_none, crate::proofs::Alone::alone_more))]
+fn only_kind(kinds: &[AggKind], value: &Value) -> Option<AggKind>
+    ensures { result ≡ spec.alone (filter (λ kind. keys.has (keys.key_of kind) (view value.now)) kinds.now) }
+{
+    let mut only = None;
+    for kind in kinds {
+        if has(*kind, value) {
+            if only.is_some() {
+                return None;
+            }
+            only = Some(*kind);
+        }
+    }
+    only
+}
+
+/// An aggregation without its nested ones has one kind.
+#[tactic(auto, unfolding(crate::specs::Aggregations::flat_of))]
+fn flat_of(alloc: Global, name: &str, value: &Value) -> Result<AskedFlat, RequestError>
+    ensures { Gives (spec.flat_of name.now (view value.now)) result }
+{
+    let Some(kind) = only_kind(&ALL_KINDS, value) else {
+        return Err(wrong_kind(alloc, name));
+    };
+    match value.get(key_of(kind)) {
+        Some(inner) => kind_of(alloc, name, kind, inner),
+        None => Err(wrong_kind(alloc, name)),
+    }
+}
+
+fn is_own_key(name: &str) -> bool
+    ensures { result ≡ spec.is_own_key name.now }
+{
+    name == "doc_count" || name == "from" || name == "key" || name == "to"
+}
+
+/// A nested aggregation under a name that no key of a bucket has.
+fn nested_of(alloc: Global, name: &str, value: &Value) -> Result<AskedFlat, RequestError>
+    ensures { Gives (spec.nested_of name.now (view value.now)) result }
+{
+    if is_own_key(name) {
+        return Err(wrong_kind(alloc, name));
+    }
+    flat_of(alloc, name, value)
+}
+
+#[tactic(auto, using(crate::proofs::Aggs::each_none, crate::proofs::Aggs::each_step, crate::proofs::Aggs::each_fail))]
+fn each_nested(alloc: Global, members: &Map<String, Value>) -> Result<AskedFlats, RequestError>
+    ensures { Gives (spec.each_of spec.nested_of (members_view members.now.entries)) result }
+{
+    let mut flats = AskedFlats::vacant(alloc);
+    for (name, value) in members {
+        flats.push(nested_of(alloc, name.as_str(), value)?)?;
+    }
+    Ok(flats)
+}
+
+/// The nested aggregations by their names; none where it has no such key.
+#[tactic(auto, using(crate::proofs::Members::count_is_length))]
+fn nested_at(alloc: Global, object: &Value) -> Result<AskedFlats, RequestError>
+    ensures { Gives (spec.aggs_in spec.nested_of (get (codes "aggs") (view object.now))) result }
+{
+    let Some(value) = object.get("aggs") else {
+        return Ok(AskedFlats::vacant(alloc));
+    };
+    let Some(members) = value.as_object() else {
+        return Err(wrong_kind(alloc, "aggs"));
+    };
+    if members.len() > MAX_AGGS {
+        return Err(wrong_kind(alloc, "aggs"));
+    }
+    each_nested(alloc, members)
+}
+
+/// An aggregation, then those that are nested in it.
 #[tactic(auto, unfolding(crate::specs::Aggregations::agg_of))]
 fn agg_of(alloc: Global, name: &str, value: &Value) -> Result<AskedAgg, RequestError>
     ensures { Gives (spec.agg_of name.now (view value.now)) result }
 {
-    let terms = value.get("terms");
-    let histogram = value.get("histogram");
-    let date_histogram = value.get("date_histogram");
-    match (terms, histogram, date_histogram) {
-        (Some(inner), None, None) => kind_of(alloc, name, AggKind::Terms, inner),
-        (None, Some(inner), None) => kind_of(alloc, name, AggKind::Histogram, inner),
-        (None, None, Some(inner)) => kind_of(alloc, name, AggKind::DateHistogram, inner),
-        _ => Err(wrong_kind(alloc, name)),
-    }
+    let flat = flat_of(alloc, name, value)?;
+    let nested = nested_at(alloc, value)?;
+    Ok(AskedAgg {
+        name: flat.name,
+        path: flat.path,
+        shape: flat.shape,
+        nested,
+    })
 }
 
-#[tactic(auto, using(crate::proofs::Aggs::aggs_none, crate::proofs::Aggs::aggs_step, crate::proofs::Aggs::aggs_fail))]
+#[tactic(auto, using(crate::proofs::Aggs::each_none, crate::proofs::Aggs::each_step, crate::proofs::Aggs::each_fail))]
 fn aggs_of(alloc: Global, members: &Map<String, Value>) -> Result<AskedAggs, RequestError>
-    ensures { Gives (spec.aggs_of (members_view members.now.entries)) result }
+    ensures { Gives (spec.each_of spec.agg_of (members_view members.now.entries)) result }
 {
     let mut aggs = AskedAggs::vacant(alloc);
     for (name, value) in members {

@@ -4,6 +4,47 @@ ghost use Rattle.std.specs.Prelude.{◌≡◌};
 ghost use Rattle.std.specs.Str.{bytes_eq};
 ghost use Rattle.search_api.specs.Keys as spec;
 
+/// Which kind an aggregation has.
+#[derive(Clone, Copy)]
+pub enum AggKind {
+    DateHistogram,
+    Histogram,
+    Max,
+    Min,
+    Range,
+    Sum,
+    Terms,
+    ValueCount,
+}
+
+/// The kinds of aggregations, in byte order of their keys.
+pub const ALL_KINDS: [AggKind; 8] = [
+    AggKind::DateHistogram,
+    AggKind::Histogram,
+    AggKind::Max,
+    AggKind::Min,
+    AggKind::Range,
+    AggKind::Sum,
+    AggKind::Terms,
+    AggKind::ValueCount,
+];
+
+/// The key under which a kind stands.
+pub fn key_of(kind: AggKind) -> &'static str
+    ensures { result.now ≡ spec.key_of kind }
+{
+    match kind {
+        AggKind::DateHistogram => "date_histogram",
+        AggKind::Histogram => "histogram",
+        AggKind::Max => "max",
+        AggKind::Min => "min",
+        AggKind::Range => "range",
+        AggKind::Sum => "sum",
+        AggKind::Terms => "terms",
+        AggKind::ValueCount => "value_count",
+    }
+}
+
 /// The objects of a request.
 #[derive(Clone, Copy)]
 pub enum Place {
@@ -13,10 +54,13 @@ pub enum Place {
     AroundDelete,
     Search,
     Delete,
+    /// An aggregation that has no nested ones.
     Aggregation,
-    Terms,
-    Histogram,
-    DateHistogram,
+    /// An aggregation with buckets, which may have nested ones.
+    Nesting,
+    Kind(AggKind),
+    /// One of the ranges.
+    Edges,
 }
 
 fn is_same(key: &[u8], word: &[u8]) -> bool
@@ -44,10 +88,28 @@ fn is_search_key(key: &[u8]) -> bool
         || is_same(key, b"aggs")
 }
 
+fn is_bucket_key(key: &[u8]) -> bool
+    ensures { result ≡ spec.is_bucket_key key.now }
+{
+    is_same(key, b"terms")
+        || is_same(key, b"histogram")
+        || is_same(key, b"date_histogram")
+        || is_same(key, b"range")
+}
+
+fn is_metric_key(key: &[u8]) -> bool
+    ensures { result ≡ spec.is_metric_key key.now }
+{
+    is_same(key, b"min")
+        || is_same(key, b"max")
+        || is_same(key, b"sum")
+        || is_same(key, b"value_count")
+}
+
 fn is_kind_key(key: &[u8]) -> bool
     ensures { result ≡ spec.is_kind_key key.now }
 {
-    is_same(key, b"terms") || is_same(key, b"histogram") || is_same(key, b"date_histogram")
+    is_bucket_key(key) || is_metric_key(key)
 }
 
 fn is_terms_key(key: &[u8]) -> bool
@@ -74,6 +136,24 @@ fn is_date_histogram_key(key: &[u8]) -> bool
         || is_same(key, b"min_doc_count")
 }
 
+fn is_range_key(key: &[u8]) -> bool
+    ensures { result ≡ spec.is_range_key key.now }
+{
+    is_same(key, b"field") || is_same(key, b"ranges")
+}
+
+fn is_key_in(kind: AggKind, key: &[u8]) -> bool
+    ensures { result ≡ spec.is_key_in kind key.now }
+{
+    match kind {
+        AggKind::DateHistogram => is_date_histogram_key(key),
+        AggKind::Histogram => is_histogram_key(key),
+        AggKind::Range => is_range_key(key),
+        AggKind::Terms => is_terms_key(key),
+        AggKind::Max | AggKind::Min | AggKind::Sum | AggKind::ValueCount => is_same(key, b"field"),
+    }
+}
+
 /// Whether a key stands at this place.
 pub fn is_known(place: Place, key: &[u8]) -> bool
     ensures { result ≡ spec.is_known place key.now }
@@ -84,8 +164,8 @@ pub fn is_known(place: Place, key: &[u8]) -> bool
         Place::Search => is_search_key(key),
         Place::Delete => is_selection_key(key),
         Place::Aggregation => is_kind_key(key),
-        Place::Terms => is_terms_key(key),
-        Place::Histogram => is_histogram_key(key),
-        Place::DateHistogram => is_date_histogram_key(key),
+        Place::Nesting => is_kind_key(key) || is_same(key, b"aggs"),
+        Place::Kind(kind) => is_key_in(kind, key),
+        Place::Edges => is_same(key, b"from") || is_same(key, b"to"),
     }
 }

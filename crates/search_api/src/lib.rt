@@ -2,12 +2,14 @@
 #![tactic(auto)]
 
 mod aggregations;
+mod bucket_pairs;
 mod buckets;
 mod intervals;
 mod keys;
 mod kinds;
 mod pairs;
 mod printing;
+mod ranges;
 mod reading;
 mod refusals;
 pub mod reply;
@@ -22,7 +24,8 @@ pub use printing::print_reply;
 pub use reading::read_request;
 pub use reply::{Hits, Refusal, Reply, Said};
 pub use request::{
-    AggShape, AskedAgg, AskedAggs, Paths, Request, SearchRequest, Selection, SortBy,
+    AggShape, AskedAgg, AskedAggs, AskedFlat, AskedFlats, Paths, Ranges, Request, SearchRequest,
+    Selection, SortBy,
 };
 pub use request_error::RequestError;
 pub use resolved::{Deletion, Resolved, SearchAsk, SortField};

@@ -8,7 +8,7 @@ use crate::buckets::push_aggs;
 use crate::pairs::{push_comma, push_key, push_number, push_text};
 use crate::refusals::push_refusal;
 use crate::reply::{Refusal, Reply, Said};
-use agg_model::NamedResult;
+use agg_nested::NestedAnswer;
 use byte_fields::Bytes as Line;
 use doc_value::Bytes;
 use std::alloc::{AllocError, Global};
@@ -39,7 +39,7 @@ fn push_hit_list(out: &mut Bytes, hits: &[Bytes]) -> Result<(), AllocError>
 fn push_aggregations(
     alloc: Global,
     out: &mut Bytes,
-    results: &[NamedResult],
+    results: &[NestedAnswer],
 ) -> Result<(), AllocError>
     ensures { OnOk result (out.new ≡ out.old ++ (comma true ++ spec.pair_text (codes "aggregations") (spec.aggs_text results.now))) }
 {
@@ -62,7 +62,7 @@ fn print_found(
     revision: u64,
     count: u64,
     hits: &[Bytes],
-    aggregations: &[NamedResult],
+    aggregations: &[NestedAnswer],
 ) -> Result<Bytes, AllocError>
     ensures { IfOk result (λ line. line ≡ spec.found_text client.now revision count hits.now aggregations.now) }
 {

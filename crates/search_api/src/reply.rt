@@ -1,6 +1,6 @@
 //! What a client is answered.
 
-use agg_model::AggResult;
+use agg_nested::NestedResult;
 use byte_fields::Client;
 use doc_value::{Bytes, List, Text};
 use object_store::Key;
@@ -26,7 +26,8 @@ pub enum Refusal {
     BadValue { at: usize },
     NoDefaultField { at: usize },
     NoPositions { at: usize },
-    /// The interval of the aggregation of this name is below 1, or not spelled as one.
+    /// The interval of the aggregation of this name is below 1, or not spelled as one, or a range doesn't begin below its
+    /// end.
     BadInterval { name: Text },
     /// The plan's files may be gone: the moments of the plan and of the refusal.
     Expired { planned_at: u64, now: u64 },
@@ -56,7 +57,7 @@ pub enum Said {
     Found {
         count: u64,
         hits: Hits,
-        aggregations: AggResult,
+        aggregations: NestedResult,
     },
     /// The delete is a task with this number.
     Deleted {

@@ -1,4 +1,5 @@
 use agg_model::Distance;
+use agg_nested::WholeRange;
 use doc_value::{List, Text, TimeRange};
 
 /// Paths of fields, in the order in which they were given.
@@ -37,14 +38,40 @@ pub enum AggShape {
         min_doc_count: u32,
         dated: bool,
     },
+    /// The least, the greatest and the sum of the first values of the documents.
+    Min,
+    Max,
+    Sum,
+    /// How many values the documents have.
+    ValueCount,
+    /// How many documents have their first value in each range, in whole seconds in a datetime field.
+    Range {
+        ranges: Ranges,
+    },
 }
 
-/// An aggregation under its name, over the field with this path.
+/// Ranges in the order in which they were given.
+pub type Ranges = List<WholeRange>;
+
+/// An aggregation without nested ones under its name, over the field with this path.
+#[derive(Drop)]
+pub struct AskedFlat {
+    pub name: Text,
+    pub path: Text,
+    pub shape: AggShape,
+}
+
+/// Those in byte order of their names.
+pub type AskedFlats = List<AskedFlat>;
+
+/// An aggregation under its name, over the field with this path, and what is counted of the documents of each of its
+/// buckets.
 #[derive(Drop)]
 pub struct AskedAgg {
     pub name: Text,
     pub path: Text,
     pub shape: AggShape,
+    pub nested: AskedFlats,
 }
 
 /// Aggregations in byte order of their names.

@@ -1,7 +1,7 @@
 //! What a request asks of an index's schema.
 
 use crate::request::Paths;
-use agg_model::AggRequest;
+use agg_nested::NestedRequest;
 use doc_value::{Text, TimeRange};
 use query_ast::Query;
 
@@ -20,7 +20,7 @@ pub struct SearchAsk {
     pub start_offset: u32,
     pub max_hits: u32,
     pub sort: Option<SortField>,
-    pub aggs: AggRequest,
+    pub aggs: NestedRequest,
 }
 
 /// A delete over a schema: its query's text, which reads over it, and the paths of the text fields that a clause without

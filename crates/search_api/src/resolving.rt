@@ -1,8 +1,8 @@
 //! A request over a schema.
 
-ghost use Rattle.std.specs.Prelude.{◌≡◌, ◌<◌, ◌++◌, ◌∷◌, [], IfOk, OnOk, length, map, option_and_then};
-ghost use Rattle.std.specs.List.{All};
-ghost use Rattle.agg_model.specs.Checking.{field_of};
+ghost use Rattle.std.specs.Prelude.{◌≡◌, ◌++◌, ◌∷◌, [], IfOk, OnOk, length, map, option_and_then};
+ghost use Rattle.agg_nested.specs.Checking.{HaveFields};
+ghost use Rattle.agg_nested.specs.declared.request.FlatAgg.TheVariants as flats;
 ghost use Rattle.query_ast.specs.Meaning.{is_text};
 ghost use Rattle.search_api.specs.declared.reply.Refusal.TheVariants as refusals;
 ghost use Rattle.search_api.specs.declared.unanswered.Unanswered.TheVariants as reasons;
@@ -15,11 +15,14 @@ ghost use Rattle.std.specs.Option.{IfSome};
 ghost use Rattle.doc_value.specs.Documents.{IsDynamic, number_of};
 
 use crate::reply::Refusal;
-use crate::request::{AggShape, AskedAgg, Paths, Request, SearchRequest, Selection, SortBy};
+use crate::request::{
+    AggShape, AskedAgg, AskedFlat, Paths, Request, SearchRequest, Selection, SortBy,
+};
 use crate::resolved::{Deletion, Resolved, SearchAsk, SortField};
 use crate::unanswered::Unanswered;
-use agg_model::{Agg, AggRequest, NamedAgg, check_aggs};
-use doc_value::{Field, Kind, Replica, Schema, Text, TimeRange};
+use agg_model::Agg;
+use agg_nested::{FlatAgg, MetricKind, NamedFlat, NestedAgg, NestedRequest, check_nested};
+use doc_value::{Field, Kind, List, Replica, Schema, Text, TimeRange};
 use query_ast::Query;
 use query_reader::{FieldNumbers, read_query};
 use std::alloc::{AllocError, Global};
@@ -163,43 +166,92 @@ fn narrow(number: Option<usize>) -> Option<u32>
     }
 }
 
-fn agg_over(field: u32, shape: &AggShape) -> Agg
-    ensures { result ≡ spec.agg_over field shape.now }
+fn counted_number(alloc: Global, fields: &[Field], path: &Text) -> Result<u32, Unanswered>
+    ensures { Shows same (spec.counted_number fields.now path.now) result }
+{
+    match narrow(number_of(fields, path)) {
+        Some(field) => Ok(field),
+        None => Err(unknown_field(alloc, path)),
+    }
+}
+
+fn metric_over(kind: MetricKind, field: u32) -> FlatAgg
+    ensures { result ≡ flats.Metric kind field }
+{
+    FlatAgg::Metric { kind, field }
+}
+
+fn flat_over(alloc: Global, field: u32, shape: &AggShape) -> Result<FlatAgg, AllocError>
+    ensures { IfOk result (λ flat. flat ≡ spec.flat_over field shape.now) }
 {
     match shape {
-        AggShape::Terms { size } => Agg::Terms { field, size: *size },
+        AggShape::Terms { size } => Ok(FlatAgg::Counted(Agg::Terms { field, size: *size })),
         AggShape::Histogram {
             interval,
             offset,
             min_doc_count,
             dated,
-        } => Agg::Histogram {
+        } => Ok(FlatAgg::Counted(Agg::Histogram {
             field,
             interval: *interval,
             offset: *offset,
             min_doc_count: *min_doc_count,
             dated: *dated,
-        },
+        })),
+        AggShape::Min => Ok(metric_over(MetricKind::Min, field)),
+        AggShape::Max => Ok(metric_over(MetricKind::Max, field)),
+        AggShape::Sum => Ok(metric_over(MetricKind::Sum, field)),
+        AggShape::ValueCount => Ok(metric_over(MetricKind::ValueCount, field)),
+        AggShape::Range { ranges } => Ok(FlatAgg::Ranges {
+            field,
+            ranges: ranges.copy(alloc)?,
+        }),
     }
 }
 
-fn agg_of(alloc: Global, fields: &[Field], asked: &AskedAgg) -> Result<NamedAgg, Unanswered>
+fn flat_of(alloc: Global, fields: &[Field], asked: &AskedFlat) -> Result<NamedFlat, Unanswered>
+    ensures { Shows same (spec.flat_of fields.now asked.now) result }
+{
+    let field = counted_number(alloc, fields, &asked.path)?;
+    Ok(NamedFlat {
+        name: asked.name.copy(alloc)?,
+        agg: flat_over(alloc, field, &asked.shape)?,
+    })
+}
+
+#[tactic(auto, using(crate::proofs::Numbered::flats_none, crate::proofs::Numbered::flats_step, crate::proofs::Numbered::flats_fail))]
+fn flats_of(
+    alloc: Global,
+    fields: &[Field],
+    asked: &[AskedFlat],
+) -> Result<List<NamedFlat>, Unanswered>
+    ensures { Shows same (spec.flats_of fields.now asked.now) result }
+{
+    let mut flats = List::vacant(alloc);
+    for one in asked {
+        flats.push(flat_of(alloc, fields, one)?)?;
+    }
+    Ok(flats)
+}
+
+/// An aggregation's field, then those of its nested ones.
+fn agg_of(alloc: Global, fields: &[Field], asked: &AskedAgg) -> Result<NestedAgg, Unanswered>
     ensures { Shows same (spec.agg_of fields.now asked.now) result }
 {
-    match narrow(number_of(fields, &asked.path)) {
-        Some(field) => Ok(NamedAgg {
-            name: asked.name.copy(alloc)?,
-            agg: agg_over(field, &asked.shape),
-        }),
-        None => Err(unknown_field(alloc, &asked.path)),
-    }
+    let field = counted_number(alloc, fields, &asked.path)?;
+    let nested = flats_of(alloc, fields, asked.nested.as_slice())?;
+    Ok(NestedAgg {
+        name: asked.name.copy(alloc)?,
+        agg: flat_over(alloc, field, &asked.shape)?,
+        nested,
+    })
 }
 
 #[tactic(auto, using(crate::proofs::Numbered::aggs_none, crate::proofs::Numbered::aggs_step, crate::proofs::Numbered::aggs_fail))]
-fn aggs_of(alloc: Global, fields: &[Field], asked: &[AskedAgg]) -> Result<AggRequest, Unanswered>
+fn aggs_of(alloc: Global, fields: &[Field], asked: &[AskedAgg]) -> Result<NestedRequest, Unanswered>
     ensures { Shows same (spec.aggs_of fields.now asked.now) result }
 {
-    let mut aggs = AggRequest::vacant(alloc);
+    let mut aggs = NestedRequest::vacant(alloc);
     for one in asked {
         aggs.push(agg_of(alloc, fields, one)?)?;
     }
@@ -250,11 +302,11 @@ fn query_in(
 }
 
 /// The aggregations, where none is refused.
-fn checked(alloc: Global, schema: &Schema, aggs: AggRequest) -> Result<AggRequest, Unanswered>
-    requires { All (λ named. field_of named.agg < length schema.now.fields) aggs }
+fn checked(alloc: Global, schema: &Schema, aggs: NestedRequest) -> Result<NestedRequest, Unanswered>
+    requires { HaveFields (length schema.now.fields) aggs }
     ensures { Shows same (spec.checked schema.now aggs) result }
 {
-    match check_aggs(alloc, schema, &aggs) {
+    match check_nested(alloc, schema, &aggs) {
         Ok(()) => Ok(aggs),
         Err(error) => Err(Unanswered::from(error)),
     }

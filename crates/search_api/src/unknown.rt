@@ -1,10 +1,11 @@
 //! The first key of a request that doesn't stand at its place.
 
 ghost use Rattle.std.specs.Prelude.{◌≡◌, option_map};
-ghost use Rattle.serde_json.specs.View.{view, members_view};
+ghost use Rattle.serde_json.specs.Find.{get};
+ghost use Rattle.serde_json.specs.View.{view, items_view, members_view};
 ghost use Rattle.search_api.specs.Keys as spec;
 
-use crate::keys::{Place, is_known};
+use crate::keys::{ALL_KINDS, AggKind, Place, is_known, key_of};
 use serde_json::{Map, Value};
 
 fn first_unknown<'a>(place: Place, members: &'a Map<String, Value>) -> Option<&'a str>
@@ -28,31 +29,136 @@ fn unknown_in(place: Place, value: &Value) -> Option<&str>
     }
 }
 
-/// In the object at a key.
-fn unknown_at<'a>(place: Place, value: &'a Value, key: &str) -> Option<&'a str>
-    ensures { option_map (λ key. key.now) result ≡ spec.unknown_at place key.now (view value.now) }
+fn unknown_in_items(items: &[Value]) -> Option<&str>
+    ensures { option_map (λ key. key.now) result ≡ spec.unknown_in_items (items_view items.now) }
 {
-    match value.get(key) {
-        Some(inner) => unknown_in(place, inner),
+    for item in items {
+        if let Some(key) = unknown_in(Place::Edges, item) {
+            return Some(key);
+        }
+    }
+    None
+}
+
+/// In the members of a list; no other value has ranges.
+fn unknown_in_ranges(value: &Value) -> Option<&str>
+    ensures { option_map (λ key. key.now) result ≡ spec.unknown_in_ranges (view value.now) }
+{
+    match value.as_array() {
+        Some(items) => unknown_in_items(items.as_slice()),
         None => None,
     }
 }
 
+/// A kind's own keys, then those of each of its ranges.
+#[tactic(auto, unfolding(crate::specs::Keys::unknown_of))]
+fn unknown_of(kind: AggKind, value: &Value) -> Option<&str>
+    ensures { option_map (λ key. key.now) result ≡ spec.unknown_of kind (view value.now) }
+{
+    if let Some(key) = unknown_in(Place::Kind(kind), value) {
+        return Some(key);
+    }
+    match value.get("ranges") {
+        Some(ranges) => unknown_in_ranges(ranges),
+        None => None,
+    }
+}
+
+/// What stands at a kind's key.
+fn at_kind(kind: AggKind, value: &Value) -> Option<&Value>
+    ensures { option_map (λ inner. view inner.now) result ≡ get (spec.key_of kind) (view value.now) }
+{
+    value.get(key_of(kind))
+}
+
+fn unknown_in_kinds<'a>(kinds: &[AggKind], value: &'a Value) -> Option<&'a str>
+    ensures { option_map (λ key. key.now) result ≡ spec.unknown_in_kinds kinds.now (view value.now) }
+{
+    for kind in kinds {
+        if let Some(inner) = at_kind(*kind, value)
+            && let Some(key) = unknown_of(*kind, inner)
+        {
+            return Some(key);
+        }
+    }
+    None
+}
+
 /// An aggregation's own keys, then those of its kinds in byte order of the kinds.
+#[tactic(auto, unfolding(crate::specs::Keys::unknown_in_flat))]
+fn unknown_in_flat(place: Place, value: &Value) -> Option<&str>
+    ensures { option_map (λ key. key.now) result ≡ spec.unknown_in_flat place (view value.now) }
+{
+    if let Some(key) = unknown_in(place, value) {
+        return Some(key);
+    }
+    unknown_in_kinds(&ALL_KINDS, value)
+}
+
+fn has(key: &str, value: &Value) -> bool
+    ensures { result ≡ spec.has key.now (view value.now) }
+{
+    value.get(key).is_some()
+}
+
+/// Whether a kind of buckets stands there and no metric, so that others may be nested.
+#[tactic(auto, unfolding(crate::specs::Keys::is_nesting))]
+fn is_nesting(value: &Value) -> bool
+    ensures { result ≡ spec.is_nesting (view value.now) }
+{
+    let buckets = has("terms", value)
+        || has("histogram", value)
+        || has("date_histogram", value)
+        || has("range", value);
+    let metric = has("min", value)
+        || has("max", value)
+        || has("sum", value)
+        || has("value_count", value);
+    buckets && !metric
+}
+
+fn place_of(value: &Value) -> Place
+    ensures { result ≡ spec.place_of (view value.now) }
+{
+    if is_nesting(value) {
+        Place::Nesting
+    } else {
+        Place::Aggregation
+    }
+}
+
+fn unknown_in_nested(members: &Map<String, Value>) -> Option<&str>
+    ensures { option_map (λ key. key.now) result ≡ spec.unknown_in_nested (members_view members.now.entries) }
+{
+    for (_, value) in members {
+        if let Some(key) = unknown_in_flat(Place::Aggregation, value) {
+            return Some(key);
+        }
+    }
+    None
+}
+
+fn unknown_in_inner(value: &Value) -> Option<&str>
+    ensures { option_map (λ key. key.now) result ≡ spec.unknown_in_inner (view value.now) }
+{
+    match value.as_object() {
+        Some(members) => unknown_in_nested(members),
+        None => None,
+    }
+}
+
+/// An aggregation's own keys and those of its kinds, then those of its nested ones by their names.
 #[tactic(auto, unfolding(crate::specs::Keys::unknown_in_agg))]
 fn unknown_in_agg(value: &Value) -> Option<&str>
     ensures { option_map (λ key. key.now) result ≡ spec.unknown_in_agg (view value.now) }
 {
-    if let Some(key) = unknown_in(Place::Aggregation, value) {
+    if let Some(key) = unknown_in_flat(place_of(value), value) {
         return Some(key);
     }
-    if let Some(key) = unknown_at(Place::DateHistogram, value, "date_histogram") {
-        return Some(key);
+    match value.get("aggs") {
+        Some(aggs) => unknown_in_inner(aggs),
+        None => None,
     }
-    if let Some(key) = unknown_at(Place::Histogram, value, "histogram") {
-        return Some(key);
-    }
-    unknown_at(Place::Terms, value, "terms")
 }
 
 fn unknown_in_each(members: &Map<String, Value>) -> Option<&str>

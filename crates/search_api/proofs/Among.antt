@@ -1,0 +1,110 @@
+-- The pairs of a bucket as they are written, one after the other.
+use Rattle.std.proofs.Common.{◌≡◌, ℕ, suc, ◌<◌, ◌≤◌, ◌&&◌, ◌==◌, Bool, true, false, List, [], ◌∷◌, ◌++◌, length, map, Option, Some, None, append_assoc, append_nil, refl, ap, sym, ◌∙◌, subst, arith, if◌then◌else◌}
+use Rattle.std.proofs.lemmas.Bool.Decides.{nat_tests}
+use Rattle.doc_value.specs.Printed.{comma}
+use Rattle.search_api.specs.Replies.{with_commas, begun_pair, pair_text, object_text, pair, line_of, is_below, before, behind, own_among, behind_all, among, bucket_text, edge_pairs}
+use Rattle.search_api.specs.declared.bucket_pairs.Pair.{Pair}
+
+-- texts behind one are written behind it
+pub commas_more : (b : Bool) (xs : List (List ℕ)) (x : List ℕ) (ys : List (List ℕ)) → with_commas b (xs ++ (x ∷ ys)) ≡ with_commas b (xs ++ (x ∷ [])) ++ with_commas false ys
+commas_more b [] x ys = simp (append_assoc, append_nil)
+commas_more b (y ∷ zs) x ys = rw (commas_more false zs x ys) (simp append_assoc)
+
+pub commas_both : (xs ys : List (List ℕ)) → with_commas false (xs ++ ys) ≡ with_commas false xs ++ with_commas false ys
+commas_both [] ys = refl
+commas_both (x ∷ xs) ys = rw (commas_both xs ys) (simp append_assoc)
+
+map_both : (xs ys : List Pair) → map line_of (xs ++ ys) ≡ map line_of xs ++ map line_of ys
+map_both [] ys = refl
+map_both (x ∷ xs) ys = ap (λ ts. line_of x ∷ ts) (map_both xs ys)
+
+-- ---- a pair of the bucket's own
+behind_fewer : (key : List ℕ) (ps : List Pair) → length (behind key ps) ≤ length ps
+behind_fewer key [] = omega arith
+behind_fewer key (p ∷ ps) = by (is_below p.key key) refl
+  where
+    by : (b : Bool) → is_below p.key key ≡ b → length (behind key (p ∷ ps)) ≤ suc (length ps)
+    by true e = let more = behind_fewer key ps in rw e (omega (arith, more))
+    by false e = rw e (omega arith)
+
+same_count : (n : ℕ) → (n == n) ≡ true
+same_count n = grind (arith, nat_tests)
+
+other_count : (m n : ℕ) → m ≤ n → (m == suc n) ≡ false
+other_count m n l = grind (arith, nat_tests)
+
+and_true : (b : Bool) → (b && true) ≡ b
+and_true true = refl
+and_true false = refl
+
+and_false : (b : Bool) → (b && false) ≡ false
+and_false true = refl
+and_false false = refl
+
+-- whether a comma stands before it
+first_fits : (b : Bool) (key t : List ℕ) (ps : List Pair) → with_commas b (map line_of (before key ps) ++ (t ∷ []))
+    ≡ with_commas b (map line_of (before key ps)) ++ (comma (b && (length (behind key ps) == length ps)) ++ t)
+first_fits b key t [] = rw and_true b (simp append_nil)
+first_fits b key t (p ∷ ps) = by (is_below p.key key) refl
+  where
+    by : (s : Bool) → is_below p.key key ≡ s → with_commas b (map line_of (before key (p ∷ ps)) ++ (t ∷ []))
+        ≡ with_commas b (map line_of (before key (p ∷ ps))) ++ (comma (b && (length (behind key (p ∷ ps)) == length (p ∷ ps))) ++ t)
+    by true e =
+        let fewer = behind_fewer key ps in
+        rw (e, other_count (length (behind key ps)) (length ps) fewer, and_false b, commas_both (map line_of (before key ps)) (t ∷ [])) (simp (append_assoc, append_nil))
+    by false e = rw (e, same_count (suc (length ps)), and_true b) (simp append_nil)
+
+pub own_pair : (b : Bool) (out key value : List ℕ) (ps : List Pair)
+    → ((out ++ with_commas b (map line_of (before key ps))) ++ begun_pair (b && (length (behind key ps) == length ps)) key) ++ value
+    ≡ out ++ with_commas b (map line_of (own_among (pair key value ∷ []) ps))
+unfolding pair_text begun_pair
+own_pair b out key value ps =
+    rw (map_both (before key ps) (pair key value ∷ []), first_fits b key (line_of (pair key value)) ps) (simp append_assoc)
+
+-- ---- a bucket
+
+-- its own pairs as they are written
+abbrev pub own_text : Bool → List Pair → List Pair → List ℕ
+own_text begins own nested = with_commas begins (map line_of (own_among own nested))
+
+left_text : List Pair → List ℕ
+left_text nested = with_commas false (map line_of nested)
+
+-- pairs of its own behind others
+own_both : (xs ys nested : List Pair) → own_among (xs ++ ys) nested ≡ own_among xs nested ++ own_among ys (behind_all xs nested)
+own_both [] ys nested = refl
+own_both (x ∷ xs) ys nested =
+    rw (own_both xs ys (behind x.key nested))
+    (sym (append_assoc (before x.key nested) (x ∷ own_among xs (behind x.key nested)) (own_among ys (behind_all xs (behind x.key nested)))))
+
+behind_both : (xs ys nested : List Pair) → behind_all (xs ++ ys) nested ≡ behind_all ys (behind_all xs nested)
+behind_both [] ys nested = refl
+behind_both (x ∷ xs) ys nested = behind_both xs ys (behind x.key nested)
+
+own_text_both : (xs ys nested : List Pair) → own_text false (xs ++ ys) nested ≡ own_text false xs nested ++ own_text false ys (behind_all xs nested)
+own_text_both xs ys nested =
+    rw (own_both xs ys nested, map_both (own_among xs nested) (own_among ys (behind_all xs nested)))
+    (commas_both (map line_of (own_among xs nested)) (map line_of (own_among ys (behind_all xs nested))))
+
+-- the first of its own, the others, and what is left
+all_text : (p : Pair) (own nested : List Pair) → with_commas true (map line_of (among (p ∷ own) nested))
+    ≡ own_text true (p ∷ []) nested ++ (own_text false own (behind p.key nested) ++ with_commas false (map line_of (behind_all own (behind p.key nested))))
+all_text p own nested =
+    let a = before p.key nested in
+    let b = own_among own (behind p.key nested) in
+    let c = behind_all own (behind p.key nested) in
+    rw (
+      map_both (a ++ (p ∷ b)) c,
+      map_both a (p ∷ b),
+      map_both a (p ∷ []),
+      append_assoc (map line_of a) (line_of p ∷ map line_of b) (map line_of c),
+      commas_more true (map line_of a) (line_of p) (map line_of b ++ map line_of c),
+      commas_both (map line_of b) (map line_of c),
+    )
+    refl
+
+pub value_written : (out : List ℕ) (p q : Pair) (nested : List Pair)
+    → ((((out ++ 123 ∷ []) ++ with_commas true (map line_of (own_among (p ∷ []) nested))) ++ with_commas false (map line_of (own_among (q ∷ []) (behind p.key nested))))
+    ++ with_commas false (map line_of (behind q.key (behind p.key nested)))) ++ 125 ∷ [] ≡ out ++ bucket_text (p ∷ q ∷ []) nested
+unfolding bucket_text object_text
+value_written out p q nested = rw (all_text p (q ∷ []) nested) (simp append_assoc)
