@@ -1,5 +1,5 @@
 -- The groups of the buckets of an aggregation, and which documents they stand for.
-use Rattle.std.specs.Prelude.{◌≡◌, ◌≢◌, ◌≤◌, List, [], length, Option, None, nat_eq}
+use Rattle.std.specs.Prelude.{◌≡◌, ◌≢◌, ℕ, ◌<◌, ◌≤◌, ◌^◌, List, [], length, Option, None, nat_eq}
 use Rattle.std.specs.HashMap.{get, get_by_text}
 use Rattle.std.specs.List.{AllZip}
 use Rattle.std.specs.Option.{option_map_or}
@@ -49,3 +49,21 @@ pub record PartStands (asked : NestedAgg) (part : NestedPart) (documents : List 
 pub record NestedStands (request : List NestedAgg) (partial : NestedPartial) (documents : List (List DocField)) : Type 0 where
   pub many : partial.documents ≡ length documents
   pub parts : AllZip (λ asked part. PartStands asked part documents) request partial.parts.items
+
+-- how many documents a partial counts
+abbrev pub documents_counted : NestedPartial → ℕ
+documents_counted partial = partial.documents
+
+-- the part of an aggregation stands for some documents, so many
+pub record IsPartFor (asked : NestedAgg) (number : ℕ) (part : NestedPart) : Type 0 where
+  pub documents : List (List DocField)
+  pub stands : PartStands asked part documents
+  pub many : length documents ≡ number
+
+abbrev pub ArePartsFor : List NestedAgg → ℕ → List NestedPart → Type 0
+ArePartsFor request number parts = AllZip (λ asked part. IsPartFor asked number part) request parts
+
+-- a partial of the request: each part stands for as many documents as are counted, whichever they are
+pub record IsNestedPartial (request : List NestedAgg) (partial : NestedPartial) : Type 0 where
+  pub few : partial.documents < 2 ^ 62
+  pub parts : ArePartsFor request partial.documents partial.parts.items

@@ -1,11 +1,11 @@
 //! What a partial answers.
 
-ghost use Rattle.std.specs.Prelude.{◌≡◌, ◌^◌, ◌<◌, ◌≤◌, [], List, length, map, replicate, IfOk};
+ghost use Rattle.std.specs.Prelude.{◌≡◌, ℕ, ◌^◌, ◌<◌, ◌≤◌, [], List, length, map, replicate, IfOk};
 ghost use Rattle.std.specs.List.{All, AllZip, sum_by};
 ghost use Rattle.doc_value.specs.declared.doc.DocField.{DocField};
 ghost use Rattle.agg_model.specs.Answers.{most_buckets};
 ghost use Rattle.agg_nested.specs.Answers.{flat_answer, flat_answers, flat_buckets, inner_buckets, nested_answer, nested_buckets, all_buckets, nested};
-ghost use Rattle.agg_nested.specs.Buckets.{GroupsStand, PartStands, NestedStands};
+ghost use Rattle.agg_nested.specs.Buckets.{GroupsStand, PartStands, NestedStands, ArePartsFor, IsNestedPartial};
 ghost use Rattle.agg_nested.specs.Checking.{HasStep, HaveSteps};
 ghost use Rattle.agg_nested.specs.Finished.{HadMemory};
 ghost use Rattle.agg_nested.specs.Partials.{FlatStands, AreStanding};
@@ -27,8 +27,9 @@ use std::alloc::{AllocError, Global};
 // The answer of an aggregation with few buckets.
 fn few_answer(alloc: Global, agg: &FlatAgg, part: &FlatPart) -> Result<FlatAnswer, AllocError>
     requires step { HasStep agg.now }
-    requires few { (documents : List (List DocField)) × FlatStands agg.now part.now documents × (length documents < 2 ^ 62) × (flat_buckets documents agg.now ≤ most_buckets) }
-    ensures { IfOk result (λ answer. (documents : List (List DocField)) → FlatStands agg.now part.now documents → answer ≡ flat_answer documents agg.now) }
+    requires known { (documents : List (List DocField)) × FlatStands agg.now part.now documents × (length documents < 2 ^ 62) }
+    ensures { IfOk result (λ answer. (documents : List (List DocField)) → FlatStands agg.now part.now documents → flat_buckets documents agg.now ≤ most_buckets
+        → answer ≡ flat_answer documents agg.now) }
 {
     match finish_flat(alloc, agg, part) {
         Ok(answer) => Ok(answer),
@@ -48,9 +49,9 @@ fn named_answers(
     parts: &[FlatPart],
 ) -> Result<List<NamedAnswer>, AllocError>
     requires steps { All (λ named. HasStep named.agg) nested.now }
-    requires few { (documents : List (List DocField)) × AreStanding nested.now parts.now documents × (length documents < 2 ^ 62)
-        × (inner_buckets nested.now documents ≤ most_buckets) }
-    ensures { IfOk result (λ answers. (documents : List (List DocField)) → AreStanding nested.now parts.now documents → answers ≡ flat_answers nested.now documents) }
+    requires known { (documents : List (List DocField)) × AreStanding nested.now parts.now documents × (length documents < 2 ^ 62) }
+    ensures { IfOk result (λ answers. (documents : List (List DocField)) → AreStanding nested.now parts.now documents → inner_buckets nested.now documents ≤ most_buckets
+        → answers ≡ flat_answers nested.now documents) }
 {
     let mut answers = List::vacant(alloc);
     for (i, named) in nested.iter().enumerate() {
@@ -73,9 +74,9 @@ fn inner_answers(
 ) -> Result<List<List<NamedAnswer>>, AllocError>
     requires steps { All (λ named. HasStep named.agg) asked.now.nested }
     requires vacant { AreStanding asked.now.nested vacant.now [] }
-    requires few { (documents : List (List DocField)) × GroupsStand asked.now.agg asked.now.nested part.now.groups documents × (length documents < 2 ^ 62)
-        × (sum_by (λ spot. inner_buckets asked.now.nested (documents_at asked.now.agg documents spot)) (spots_in answer.now) ≤ most_buckets) }
+    requires known { (documents : List (List DocField)) × GroupsStand asked.now.agg asked.now.nested part.now.groups documents × (length documents < 2 ^ 62) }
     ensures { IfOk result (λ inner. (documents : List (List DocField)) → GroupsStand asked.now.agg asked.now.nested part.now.groups documents
+        → sum_by (λ spot. inner_buckets asked.now.nested (documents_at asked.now.agg documents spot)) (spots_in answer.now) ≤ most_buckets
         → inner ≡ map (λ spot. flat_answers asked.now.nested (documents_at asked.now.agg documents spot)) (spots_in answer.now)) }
 {
     let mut inner = List::vacant(alloc);
@@ -105,9 +106,9 @@ fn each_inner(
     answer: &FlatAnswer,
 ) -> Result<List<List<NamedAnswer>>, AllocError>
     requires steps { All (λ named. HasStep named.agg) asked.now.nested }
-    requires few { (documents : List (List DocField)) × PartStands asked.now part.now documents × (length documents < 2 ^ 62)
-        × (sum_by (λ spot. inner_buckets asked.now.nested (documents_at asked.now.agg documents spot)) (spots_in answer.now) ≤ most_buckets) }
+    requires known { (documents : List (List DocField)) × PartStands asked.now part.now documents × (length documents < 2 ^ 62) }
     ensures { IfOk result (λ inner. (documents : List (List DocField)) → PartStands asked.now part.now documents
+        → sum_by (λ spot. inner_buckets asked.now.nested (documents_at asked.now.agg documents spot)) (spots_in answer.now) ≤ most_buckets
         → inner ≡ map (λ spot. flat_answers asked.now.nested (documents_at asked.now.agg documents spot)) (spots_in answer.now)) }
 {
     if asked.nested.is_empty() {
@@ -125,9 +126,9 @@ fn part_answer(
 ) -> Result<NestedAnswer, AllocError>
     requires step { HasStep asked.now.agg }
     requires steps { All (λ named. HasStep named.agg) asked.now.nested }
-    requires few { (documents : List (List DocField)) × PartStands asked.now part.now documents × (length documents < 2 ^ 62)
-        × (nested_buckets documents asked.now ≤ most_buckets) }
-    ensures { IfOk result (λ answer. (documents : List (List DocField)) → PartStands asked.now part.now documents → answer ≡ nested_answer documents asked.now) }
+    requires known { (documents : List (List DocField)) × PartStands asked.now part.now documents × (length documents < 2 ^ 62) }
+    ensures { IfOk result (λ answer. (documents : List (List DocField)) → PartStands asked.now part.now documents → nested_buckets documents asked.now ≤ most_buckets
+        → answer ≡ nested_answer documents asked.now) }
 {
     let answer = few_answer(alloc, &asked.agg, &part.flat)?;
     let nested = each_inner(alloc, asked, part, &answer)?;
@@ -144,10 +145,9 @@ fn part_answers(
     parts: &Vec<NestedPart>,
 ) -> Result<NestedResult, AllocError>
     requires steps { HaveSteps request.now }
-    requires few { (documents : List (List DocField)) × AllZip (λ asked part. PartStands asked part documents) request.now parts.now.items × (length documents < 2 ^ 62)
-        × (all_buckets request.now documents ≤ most_buckets) }
+    requires known { (number : ℕ) × ArePartsFor request.now number parts.now.items × (number < 2 ^ 62) }
     ensures { IfOk result (λ answers. (documents : List (List DocField)) → AllZip (λ asked part. PartStands asked part documents) request.now parts.now.items
-        → answers ≡ map (nested_answer documents) request.now) }
+        → all_buckets request.now documents ≤ most_buckets → answers ≡ map (nested_answer documents) request.now) }
 {
     let mut answers = NestedResult::vacant(alloc);
     for (i, asked) in request.iter().enumerate() {
@@ -164,7 +164,7 @@ pub fn finish_nested(
     partial: &NestedPartial,
 ) -> Result<NestedResult, AggError>
     requires steps { HaveSteps request.now }
-    requires known { (documents : List (List DocField)) × NestedStands request.now partial.now documents × (length documents < 2 ^ 62) }
+    requires partial { IsNestedPartial request.now partial.now }
     ensures { (documents : List (List DocField)) → NestedStands request.now partial.now documents → HadMemory result → result ≡ nested request.now documents }
 {
     let count = match count_parts(alloc, request.as_slice(), &partial.parts) {

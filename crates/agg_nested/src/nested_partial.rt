@@ -1,9 +1,9 @@
 //! What some documents count for each aggregation of a request, and for each of its buckets.
 
-ghost use Rattle.std.specs.Prelude.{◌≡◌, ◌≢◌, ◌+◌, ◌^◌, ◌<◌, ◌∷◌, [], ◌++◌, List, length, IfOk, OnOk};
+ghost use Rattle.std.specs.Prelude.{◌≡◌, ◌≢◌, ℕ, ◌+◌, ◌^◌, ◌<◌, ◌∷◌, [], ◌++◌, List, length, IfOk, OnOk};
 ghost use Rattle.std.specs.List.{All, AllZip};
 ghost use Rattle.doc_value.specs.declared.doc.DocField.{DocField};
-ghost use Rattle.agg_nested.specs.Buckets.{PartStands, NestedStands, group_at};
+ghost use Rattle.agg_nested.specs.Buckets.{PartStands, NestedStands, IsPartFor, ArePartsFor, IsNestedPartial, documents_counted, group_at};
 ghost use Rattle.agg_nested.specs.Checking.{HasStep, HaveSteps};
 ghost use Rattle.agg_nested.specs.Groups.{IsRaisedAt, AreJoined, CanRaise, CanJoin};
 ghost use Rattle.agg_nested.specs.Partials.{FlatStands};
@@ -54,15 +54,19 @@ pub fn part_alone(alloc: Global, flat: FlatPart) -> NestedPart
 
 /// The partial of so many documents, of the parts of the aggregations of a request in its order.
 pub fn parts_together(documents: u64, parts: Vec<NestedPart>) -> NestedPartial
-    ensures { (request : List NestedAgg) (docs : List (List DocField)) → length docs ≡ documents → AllZip (λ asked part. PartStands asked part docs) request parts.items
+    ensures stands { (request : List NestedAgg) (docs : List (List DocField)) → length docs ≡ documents → AllZip (λ asked part. PartStands asked part docs) request parts.items
         → NestedStands request result docs }
+    ensures partial { (request : List NestedAgg) → documents < 2 ^ 62 → ArePartsFor request documents parts.items → IsNestedPartial request result }
+    ensures many { documents_counted result ≡ documents }
 {
     NestedPartial { documents, parts }
 }
 
 /// The partial of no documents.
 pub fn vacant_nested(alloc: Global, request: &NestedRequest) -> Result<NestedPartial, AllocError>
-    ensures { IfOk result (λ partial. NestedStands request.now partial []) }
+    ensures stands { IfOk result (λ partial. NestedStands request.now partial []) }
+    ensures partial { IfOk result (IsNestedPartial request.now) }
+    ensures many { IfOk result (λ partial. documents_counted partial ≡ 0) }
 {
     let mut parts = Vec::new(alloc);
     for asked in request.as_slice() {
@@ -112,7 +116,7 @@ pub fn collect_part(
     requires step { HasStep asked.now.agg }
     requires steps { All (λ named. HasStep named.agg) asked.now.nested }
     requires few { documents + 1 < 2 ^ 62 }
-    requires known { (docs : List (List DocField)) × PartStands asked.now part.old docs × (length docs ≡ documents) }
+    requires known { IsPartFor asked.now documents part.old }
     ensures { OnOk result ((docs : List (List DocField)) → length docs ≡ documents → PartStands asked.now part.old docs → PartStands asked.now part.new (docs ++ doc.now ∷ [])) }
 {
     collect_flat(alloc, &asked.agg, &mut part.flat, doc)?;
@@ -128,8 +132,9 @@ fn collect_parts(
 ) -> Result<(), AllocError>
     requires steps { HaveSteps request.now }
     requires few { documents + 1 < 2 ^ 62 }
-    requires known { (docs : List (List DocField)) × AllZip (λ asked part. PartStands asked part docs) request.now parts.old.items × (length docs ≡ documents) }
-    ensures { OnOk result ((docs : List (List DocField)) → length docs ≡ documents → AllZip (λ asked part. PartStands asked part docs) request.now parts.old.items
+    requires known { ArePartsFor request.now documents parts.old.items }
+    ensures known { OnOk result (ArePartsFor request.now (documents + 1) parts.new.items) }
+    ensures stands { OnOk result ((docs : List (List DocField)) → length docs ≡ documents → AllZip (λ asked part. PartStands asked part docs) request.now parts.old.items
         → AllZip (λ asked part. PartStands asked part (docs ++ doc.now ∷ [])) request.now parts.new.items) }
 {
     for (i, asked) in request.iter().enumerate() {
@@ -146,8 +151,11 @@ pub fn collect_nested(
     doc: &DocValues,
 ) -> Result<(), AllocError>
     requires steps { HaveSteps request.now }
-    requires known { (documents : List (List DocField)) × NestedStands request.now partial.old documents × (length documents + 1 < 2 ^ 62) }
-    ensures { OnOk result ((documents : List (List DocField)) → NestedStands request.now partial.old documents → NestedStands request.now partial.new (documents ++ doc.now ∷ [])) }
+    requires partial { IsNestedPartial request.now partial.old }
+    requires room { documents_counted partial.old + 1 < 2 ^ 62 }
+    ensures partial { OnOk result (IsNestedPartial request.now partial.new) }
+    ensures many { OnOk result (documents_counted partial.new ≡ documents_counted partial.old + 1) }
+    ensures stands { OnOk result ((documents : List (List DocField)) → NestedStands request.now partial.old documents → NestedStands request.now partial.new (documents ++ doc.now ∷ [])) }
 {
     collect_parts(
         alloc,
@@ -197,9 +205,10 @@ fn merge_parts(
     parts: &mut Vec<NestedPart>,
     others: &Vec<NestedPart>,
 ) -> Result<(), AllocError>
-    requires known { (mine : List (List DocField)) × (yours : List (List DocField)) × AllZip (λ asked part. PartStands asked part mine) request.now parts.old.items
-        × AllZip (λ asked part. PartStands asked part yours) request.now others.now.items × (length mine + length yours < 2 ^ 62) }
-    ensures { OnOk result ((mine : List (List DocField)) (yours : List (List DocField)) → AllZip (λ asked part. PartStands asked part mine) request.now parts.old.items
+    requires known { (mine : ℕ) × (yours : ℕ) × ArePartsFor request.now mine parts.old.items × ArePartsFor request.now yours others.now.items × (mine + yours < 2 ^ 62) }
+    ensures known { OnOk result ((mine : ℕ) (yours : ℕ) → ArePartsFor request.now mine parts.old.items → ArePartsFor request.now yours others.now.items
+        → ArePartsFor request.now (mine + yours) parts.new.items) }
+    ensures stands { OnOk result ((mine : List (List DocField)) (yours : List (List DocField)) → AllZip (λ asked part. PartStands asked part mine) request.now parts.old.items
         → AllZip (λ asked part. PartStands asked part yours) request.now others.now.items → AllZip (λ asked part. PartStands asked part (mine ++ yours)) request.now parts.new.items) }
 {
     for (i, asked) in request.iter().enumerate() {
@@ -215,9 +224,12 @@ pub fn merge_nested(
     into: &mut NestedPartial,
     other: &NestedPartial,
 ) -> Result<(), AllocError>
-    requires known { (mine : List (List DocField)) × (yours : List (List DocField)) × NestedStands request.now into.old mine × NestedStands request.now other.now yours
-        × (length mine + length yours < 2 ^ 62) }
-    ensures { OnOk result ((mine : List (List DocField)) (yours : List (List DocField)) → NestedStands request.now into.old mine → NestedStands request.now other.now yours
+    requires partial { IsNestedPartial request.now into.old }
+    requires other { IsNestedPartial request.now other.now }
+    requires room { documents_counted into.old + documents_counted other.now < 2 ^ 62 }
+    ensures partial { OnOk result (IsNestedPartial request.now into.new) }
+    ensures many { OnOk result (documents_counted into.new ≡ documents_counted into.old + documents_counted other.now) }
+    ensures stands { OnOk result ((mine : List (List DocField)) (yours : List (List DocField)) → NestedStands request.now into.old mine → NestedStands request.now other.now yours
         → NestedStands request.now into.new (mine ++ yours)) }
 {
     merge_parts(alloc, request.as_slice(), &mut into.parts, &other.parts)?;

@@ -1,10 +1,10 @@
 //! How many buckets the answers of a partial have, with those of their nested answers.
 
-ghost use Rattle.std.specs.Prelude.{◌≡◌, ◌+◌, ◌^◌, ◌<◌, [], List, length, IfOk};
+ghost use Rattle.std.specs.Prelude.{◌≡◌, ℕ, ◌+◌, ◌^◌, ◌<◌, [], List, length, IfOk};
 ghost use Rattle.std.specs.List.{All, AllZip, sum_by};
 ghost use Rattle.doc_value.specs.declared.doc.DocField.{DocField};
 ghost use Rattle.agg_nested.specs.Answers.{flat_answer, flat_buckets, nested_buckets, inner_buckets, all_buckets, told};
-ghost use Rattle.agg_nested.specs.Buckets.{GroupsStand, PartStands};
+ghost use Rattle.agg_nested.specs.Buckets.{GroupsStand, PartStands, ArePartsFor};
 ghost use Rattle.agg_nested.specs.Checking.{HasStep, HaveSteps};
 ghost use Rattle.agg_nested.specs.Finished.{without_empty, filled};
 ghost use Rattle.agg_nested.specs.Partials.{FlatStands, AreStanding};
@@ -141,7 +141,7 @@ pub fn count_parts(
     parts: &Vec<NestedPart>,
 ) -> Result<u128, AllocError>
     requires steps { HaveSteps request.now }
-    requires known { (documents : List (List DocField)) × AllZip (λ asked part. PartStands asked part documents) request.now parts.now.items × (length documents < 2 ^ 62) }
+    requires known { (number : ℕ) × ArePartsFor request.now number parts.now.items × (number < 2 ^ 62) }
     ensures { IfOk result (λ many. (documents : List (List DocField)) → AllZip (λ asked part. PartStands asked part documents) request.now parts.now.items
         → many ≡ told (all_buckets request.now documents)) }
 {

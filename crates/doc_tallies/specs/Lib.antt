@@ -9,5 +9,6 @@ pub mod AggColumns
 pub mod Ranks
 pub mod Marks
 pub mod Classes
+pub mod Counted
 pub mod Passed
 pub mod Tables

@@ -3,7 +3,11 @@
 
 mod classes;
 mod column_values;
+mod columns;
+mod counted;
+mod each;
 mod field_column;
+mod fields;
 mod first_values;
 mod hit_order;
 mod hits;

@@ -1,11 +1,14 @@
 //! Many documents with the same values.
 
-ghost use Rattle.std.specs.Prelude.{◌≡◌, ◌+◌, ◌^◌, ◌<◌, ◌++◌, [], List, IfOk, replicate};
+ghost use Rattle.std.specs.Prelude.{◌≡◌, ◌+◌, ◌^◌, ◌<◌, ◌++◌, [], List, IfOk, length, replicate};
 ghost use Rattle.doc_value.specs.declared.doc.DocField.{DocField};
 ghost use Rattle.agg_model.specs.Checking.{HaveIntervals};
 ghost use Rattle.agg_model.specs.Partials.{IsPartialOf, StandsFor, documents_in};
+ghost use Rattle.agg_nested.specs.Buckets.{NestedStands, IsNestedPartial, documents_counted};
+ghost use Rattle.agg_nested.specs.Checking.{HaveSteps};
 
 use agg_model::{AggRequest, DocValues, Partial, collect_one, merge_partials, vacant_partial};
+use agg_nested::{NestedPartial, NestedRequest, collect_nested, merge_nested, vacant_nested};
 use std::alloc::{AllocError, Global};
 
 // What some documents and as many others like them count.
@@ -47,18 +50,46 @@ pub(crate) fn copies(
     Ok(partial)
 }
 
-/// What so many documents without values count.
+// What some documents and as many others like them count.
+fn twice(
+    alloc: Global,
+    request: &NestedRequest,
+    half: &NestedPartial,
+) -> Result<NestedPartial, AllocError>
+    requires partial { IsNestedPartial request.now half.now }
+    requires few { documents_counted half.now + documents_counted half.now < 2 ^ 62 }
+    ensures partial { IfOk result (IsNestedPartial request.now) }
+    ensures many { IfOk result (λ partial. documents_counted partial ≡ documents_counted half.now + documents_counted half.now) }
+    ensures stands { (docs : List (List DocField)) → NestedStands request.now half.now docs → IfOk result (λ partial. NestedStands request.now partial (docs ++ docs)) }
+{
+    let mut partial = vacant_nested(alloc, request)?;
+    merge_nested(alloc, request, &mut partial, half)?;
+    merge_nested(alloc, request, &mut partial, half)?;
+    Ok(partial)
+}
+
+/// What so many documents without values count. Where nothing is asked of documents, these stand for any others.
 pub fn valueless_partial(
     alloc: Global,
-    aggs: &AggRequest,
+    request: &NestedRequest,
     count: u64,
-) -> Result<Partial, AllocError>
-    requires intervals { HaveIntervals aggs.now }
+) -> Result<NestedPartial, AllocError>
+    requires intervals { HaveSteps request.now }
     requires few { count < 2 ^ 62 }
-    ensures partial { IfOk result (IsPartialOf aggs.now) }
-    ensures many { IfOk result (λ partial. documents_in partial ≡ count) }
-    ensures stands { IfOk result (λ partial. StandsFor aggs.now partial (replicate count [])) }
+    ensures partial { IfOk result (IsNestedPartial request.now) }
+    ensures many { IfOk result (λ partial. documents_counted partial ≡ count) }
+    ensures stands { IfOk result (λ partial. NestedStands request.now partial (replicate count [])) }
+    ensures unasked { IfOk result (λ partial. (documents : List (List DocField)) → request.now ≡ [] → length documents ≡ count → NestedStands request.now partial documents) }
 {
+    if count == 0 {
+        return vacant_nested(alloc, request);
+    }
+    let half = valueless_partial(alloc, request, count / 2)?;
+    let mut partial = twice(alloc, request, &half)?;
+    if count % 2 == 0 {
+        return Ok(partial);
+    }
     let nothing = DocValues::vacant(alloc);
-    copies(alloc, aggs, &nothing, count)
+    collect_nested(alloc, request, &mut partial, &nothing)?;
+    Ok(partial)
 }
