@@ -16,13 +16,13 @@ use Rattle.split_bundle.specs.Files.{Parts, file_bytes}
 use Rattle.split_bundle.specs.Lending.{IsPartOf, start_of_column}
 use Rattle.split_bundle.specs.Pieces.{ArePieces}
 use Rattle.split_bundle.specs.Views.{IsFooterOf}
-use Rattle.doc_tallies.specs.AggColumns.{AsksFields, fields_asked}
+use Rattle.doc_tallies.specs.AggColumns.{AsksColumns, AsksFields, fields_asked, fields_of}
 use Rattle.doc_tallies.specs.Causes.{AsksColumn, columns_start}
 use Rattle.doc_tallies.specs.Orders.{sort_field}
 use Rattle.doc_tallies.specs.declared.hit_order.HitOrder.{HitOrder}
 use Rattle.leaf_search.specs.Answers.{AsksTimes}
 use Rattle.leaf_search.specs.FileRanges.{AddsParts}
-use Rattle.leaf_search.specs.Needs.{AsksAmong, NeedsColumns, NeedsOrder, fields_nested}
+use Rattle.leaf_search.specs.Needs.{NeedsColumns, NeedsOrder, fields_nested}
 use Rattle.leaf_search.specs.declared.file_ranges.FileRange.{FileRange}
 use Rattle.leaf_search.specs.declared.request.LeafRequest.{LeafRequest}
 use Rattle.leaf_search.proofs.RangeLists.{both_added, none_added, parts_alike}
@@ -47,23 +47,23 @@ module _ (v : PartView) (p : Parts) where
 
   -- ---- those of aggregations
 
-  next_among : (n : ℕ) (ns : List ℕ) (old middle new : List FileRange) → AddsParts (AsksColumn v p n) old middle → AddsParts (AsksAmong v p ns) middle new → AddsParts (AsksAmong v p (n ∷ ns)) old new
+  next_among : (n : ℕ) (ns : List ℕ) (old middle new : List FileRange) → AddsParts (AsksColumn v p n) old middle → AddsParts (AsksColumns v p ns) middle new → AddsParts (AsksColumns v p (n ∷ ns)) old new
   next_among n ns old middle new first behind =
-      parts_alike (λ at len. AsksColumn v p n at len ⊎ AsksAmong v p ns at len) (AsksAmong v p (n ∷ ns)) old new
+      parts_alike (λ at len. AsksColumn v p n at len ⊎ AsksColumns v p ns at len) (AsksColumns v p (n ∷ ns)) old new
       (λ a l h. elim h [
         | inl here ↦ record { number = n; among = (zero, omega arith, refl); column = here }
         | inr later ↦ record { number = later.number; among = (suc later.among.0, omega (arith, later.among.1), later.among.2); column = later.column }
       ])
       (λ a l h. go h.number h.among.0 h.among.1 h.among.2 a l h.column)
-      (both_added (AsksColumn v p n) (AsksAmong v p ns) old middle new first behind)
+      (both_added (AsksColumn v p n) (AsksColumns v p ns) old middle new first behind)
     where
-      go : (number k : ℕ) → k < suc (length ns) → get_or (n ∷ ns) k number ≡ number → (a l : ℕ) → AsksColumn v p number a l → AsksColumn v p n a l ⊎ AsksAmong v p ns a l
+      go : (number k : ℕ) → k < suc (length ns) → get_or (n ∷ ns) k number ≡ number → (a l : ℕ) → AsksColumn v p number a l → AsksColumn v p n a l ⊎ AsksColumns v p ns a l
       go number zero small is a l column = inl (subst (λ m. AsksColumn v p m a l) (sym is) column)
       go number (suc k) small is a l column = inr (record { number = number; among = (k, omega (arith, small), is); column = column })
 
-  both_among : (ns ms : List ℕ) (old middle new : List FileRange) → AddsParts (AsksAmong v p ns) old middle → AddsParts (AsksAmong v p ms) middle new → AddsParts (AsksAmong v p (ns ++ ms)) old new
+  both_among : (ns ms : List ℕ) (old middle new : List FileRange) → AddsParts (AsksColumns v p ns) old middle → AddsParts (AsksColumns v p ms) middle new → AddsParts (AsksColumns v p (ns ++ ms)) old new
   both_among ns ms old middle new first behind =
-      parts_alike (λ at len. AsksAmong v p ns at len ⊎ AsksAmong v p ms at len) (AsksAmong v p (ns ++ ms)) old new
+      parts_alike (λ at len. AsksColumns v p ns at len ⊎ AsksColumns v p ms at len) (AsksColumns v p (ns ++ ms)) old new
       (λ a l h. elim h [
         | inl one ↦ record { number = one.number; among = Contains-append_left ns ms one.number one.among; column = one.column }
         | inr other ↦ record { number = other.number; among = Contains-append_right ns ms other.number other.among; column = other.column }
@@ -72,41 +72,30 @@ module _ (v : PartView) (p : Parts) where
         | inl one ↦ inl (record { number = h.number; among = one; column = h.column })
         | inr other ↦ inr (record { number = h.number; among = other; column = h.column })
       ])
-      (both_added (AsksAmong v p ns) (AsksAmong v p ms) old middle new first behind)
-
-  -- those of the fields of a request
-  pub among_fields : (aggs : List NestedAgg) (old new : List FileRange) → AddsParts (AsksAmong v p (fields_asked aggs)) old new → AddsParts (AsksFields v p aggs) old new
-  among_fields aggs old new adds =
-      parts_alike (AsksAmong v p (fields_asked aggs)) (AsksFields v p aggs) old new
-      (λ a l h. record { number = h.number; among = h.among; column = h.column }) (λ a l h. record { number = h.number; among = h.among; column = h.column }) adds
-
-  fields_among : (aggs : List NestedAgg) (old new : List FileRange) → AddsParts (AsksFields v p aggs) old new → AddsParts (AsksAmong v p (fields_asked aggs)) old new
-  fields_among aggs old new adds =
-      parts_alike (AsksFields v p aggs) (AsksAmong v p (fields_asked aggs)) old new
-      (λ a l h. record { number = h.number; among = h.among; column = h.column }) (λ a l h. record { number = h.number; among = h.among; column = h.column }) adds
+      (both_added (AsksColumns v p ns) (AsksColumns v p ms) old middle new first behind)
 
   pub next_nested : (nested : List NamedFlat) (i : ℕ) (x : NamedFlat) (number : ℕ) (old middle new : List FileRange) → i < length nested → x ≡ get_or nested i x → number ≡ field_of x.agg → AddsParts (AsksColumn v p number) old middle
-      → AddsParts (AsksAmong v p (fields_nested (drop (i + 1) nested))) middle new → AddsParts (AsksAmong v p (fields_nested (drop i nested))) old new
+      → AddsParts (AsksColumns v p (fields_nested (drop (i + 1) nested))) middle new → AddsParts (AsksColumns v p (fields_nested (drop i nested))) old new
   next_nested nested i x number old middle new lt e same first behind =
       let xs : List NamedFlat = drop (i + 1) nested in
       let rest : drop i nested ≡ x ∷ xs = drop_more nested i x lt ∙ ap (λ y. y ∷ xs) (sym e) in
-      subst (λ (l : List NamedFlat). AddsParts (AsksAmong v p (fields_nested l)) old new) (sym rest)
+      subst (λ (l : List NamedFlat). AddsParts (AsksColumns v p (fields_nested l)) old new) (sym rest)
       (next_among (field_of x.agg) (fields_nested xs) old middle new (subst (λ k. AddsParts (AsksColumn v p k) old middle) same first) behind)
 
-  pub no_nested : (nested : List NamedFlat) (rs : List FileRange) → nested ≡ [] → AddsParts (AsksAmong v p (fields_nested nested)) rs rs
-  no_nested nested rs none = subst (λ (l : List NamedFlat). AddsParts (AsksAmong v p (fields_nested l)) rs rs) (sym none) (none_added (AsksAmong v p []) rs (λ a n h. omega (arith, h.among.1)))
+  pub no_nested : (nested : List NamedFlat) (rs : List FileRange) → nested ≡ [] → AddsParts (AsksColumns v p (fields_nested nested)) rs rs
+  no_nested nested rs none = subst (λ (l : List NamedFlat). AddsParts (AsksColumns v p (fields_nested l)) rs rs) (sym none) (none_added (AsksColumns v p []) rs (λ a n h. omega (arith, h.among.1)))
 
   pub next_field : (aggs : List NestedAgg) (i : ℕ) (x : NestedAgg) (number : ℕ) (old own middle new : List FileRange) → i < length aggs → x ≡ get_or aggs i x → number ≡ field_of x.agg → AddsParts (AsksColumn v p number) old own
-      → AddsParts (AsksAmong v p (fields_nested x.nested)) own middle → AddsParts (AsksFields v p (drop (i + 1) aggs)) middle new → AddsParts (AsksFields v p (drop i aggs)) old new
+      → AddsParts (AsksColumns v p (fields_nested x.nested)) own middle → AddsParts (AsksFields v p (drop (i + 1) aggs)) middle new → AddsParts (AsksFields v p (drop i aggs)) old new
   next_field aggs i x number old own middle new lt e same first nested behind =
       let xs : List NestedAgg = drop (i + 1) aggs in
       let rest : drop i aggs ≡ x ∷ xs = drop_more aggs i x lt ∙ ap (λ y. y ∷ xs) (sym e) in
       let here = next_among (field_of x.agg) (fields_nested x.nested) old own middle (subst (λ k. AddsParts (AsksColumn v p k) old own) same first) nested in
       subst (λ (l : List NestedAgg). AddsParts (AsksFields v p l) old new) (sym rest)
-      (among_fields (x ∷ xs) old new (both_among (field_of x.agg ∷ fields_nested x.nested) (fields_asked xs) old middle new here (fields_among xs middle new behind)))
+      (both_among (fields_of x) (fields_asked xs) old middle new here behind)
 
   pub no_fields : (aggs : List NestedAgg) (rs : List FileRange) → aggs ≡ [] → AddsParts (AsksFields v p aggs) rs rs
-  no_fields aggs rs none = subst (λ (l : List NestedAgg). AddsParts (AsksFields v p l) rs rs) (sym none) (among_fields [] rs rs (none_added (AsksAmong v p []) rs (λ a n h. omega (arith, h.among.1))))
+  no_fields aggs rs none = subst (λ (l : List NestedAgg). AddsParts (AsksFields v p l) rs rs) (sym none) (none_added (AsksColumns v p []) rs (λ a n h. omega (arith, h.among.1)))
 
   -- ---- the order's
 

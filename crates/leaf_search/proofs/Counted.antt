@@ -10,13 +10,13 @@ use Rattle.agg_model.specs.declared.agg_error.AggError.{AggError}
 use Rattle.agg_model.specs.declared.agg_error.AggError.TheVariants as refusals
 use Rattle.agg_model.specs.declared.request.Agg.{Agg}
 use Rattle.agg_model.specs.declared.request.Agg.TheVariants.{Terms, Histogram}
-use Rattle.agg_nested.specs.Checking.{HaveFields, field_of, first_nested, first_refusal, is_sound, refusal_of, refusal_over, refusal_within, takes}
+use Rattle.agg_nested.specs.Checking.{field_of, first_nested, first_refusal, is_sound, refusal_of, refusal_over, refusal_within, takes}
 use Rattle.agg_nested.specs.declared.request.FlatAgg.{FlatAgg}
 use Rattle.agg_nested.specs.declared.request.FlatAgg.TheVariants.{Counted, Metric, Ranges}
 use Rattle.agg_nested.specs.declared.request.MetricKind.TheVariants as kinds
 use Rattle.agg_nested.specs.declared.request.NamedFlat.{NamedFlat}
 use Rattle.agg_nested.specs.declared.request.NestedAgg.{NestedAgg}
-use Rattle.doc_tallies.specs.AggColumns.{AreOverFast, fields_asked}
+use Rattle.doc_tallies.specs.AggColumns.{AreOverFast, fields_asked, fields_of}
 use Rattle.doc_tallies.specs.Cells.{IsFast}
 use Rattle.leaf_search.specs.Askable.{AreCounted}
 use Rattle.leaf_search.specs.Needs.{fields_nested}
@@ -72,10 +72,6 @@ by_left P (x ∷ xs) ys h = (h.0, by_left P xs ys h.1)
 by_right : (P : ℕ → Type 0) (xs ys : List ℕ) → AllByRecursion P (xs ++ ys) → AllByRecursion P ys
 by_right P [] ys h = h
 by_right P (x ∷ xs) ys h = by_right P xs ys h.1
-
--- the field of an aggregation, and those of its nested ones
-abbrev pub fields_of : NestedAgg → List ℕ
-fields_of asked = field_of asked.agg ∷ fields_nested asked.nested
 
 module _ (s : Schema) where
   flat_fast : (name : List ℕ) (agg : FlatAgg) → field_of agg < length s.fields → refusal_of s.fields name agg ≡ None → IsFast s (field_of agg)

@@ -1,9 +1,8 @@
 -- A query of one token matches the documents that have its key, and the dictionary says how many these are.
-use Rattle.std.proofs.Common.{◌≡◌, ℕ, suc, ◌≤◌, ◌==◌, inl, Bool, true, false, not, ◌&&◌, ◌||◌, cond, List, [], ◌∷◌, length, filter, slice_get, Option, Some, None, Result, Ok, Err, IfOk, MatchResult, replicate, refl, ap, sym, ◌∙◌, subst, arith}
-use Rattle.std.specs.List.{AllByRecursion}
+use Rattle.std.proofs.Common.{◌≡◌, ℕ, suc, ◌≤◌, ◌==◌, inl, Bool, true, false, not, ◌&&◌, ◌||◌, cond, List, [], ◌∷◌, length, filter, slice_get, Option, Some, None, Result, Ok, Err, MatchResult, refl, ap, sym, ◌∙◌, subst, arith}
+use Rattle.std.specs.List.{AllByRecursion, AllZip}
 use Rattle.std.specs.Option.{option_and_then, option_map_or}
 use Rattle.std.proofs.lemmas.Bool.{eqb-true}
-use Rattle.std.proofs.lemmas.List.{length-replicate}
 use Rattle.std.proofs.lemmas.Option.{slice_get_within}
 use Rattle.doc_value.specs.declared.schema.Field.{Field}
 use Rattle.doc_value.specs.declared.schema.Schema.{Schema}
@@ -16,7 +15,9 @@ use Rattle.query_ast.specs.Meaning.{meaning, values_in, is_text, is_unlimited, h
 use Rattle.query_ast.specs.Sought.{Sought, view}
 use Rattle.query_ast.specs.Sought as sought
 use Rattle.query_ast.specs.Spelled.{spelled}
-use Rattle.agg_nested.specs.Buckets.{NestedStands}
+use Rattle.agg_nested.specs.Buckets.{IsNestedPartial, IsPartFor, NestedStands, PartStands, documents_counted}
+use Rattle.agg_nested.specs.declared.nested_partial.NestedPart.{NestedPart}
+use Rattle.agg_nested.specs.declared.nested_partial.NestedPartial.{NestedPartial}
 use Rattle.agg_nested.specs.declared.request.NestedAgg.{NestedAgg}
 use Rattle.term_postings.specs.declared.list.Posting.{Posting}
 use Rattle.split_bundle.specs.declared.placed.Placed.{Placed}
@@ -135,12 +136,6 @@ pub no_aggs : (aggs : List NestedAgg) → (length aggs == 0) ≡ true → aggs �
 no_aggs [] e = refl
 no_aggs (a ∷ aggs) e = absurd (let none : length (a ∷ aggs) ≡ 0 = eqb-true (length (a ∷ aggs)) 0 e in omega arith)
 
--- what is only counted has no aggregations
-pub counts_alone : (r : LeafRequest) → only_counts r ≡ true → r.aggs ≡ []
-counts_alone r is =
-    let first = and_both (r.wanted == 0) (is_unlimited r.times.start r.times.end && (length r.aggs == 0)) is in
-    no_aggs r.aggs (and_both (is_unlimited r.times.start r.times.end) (length r.aggs == 0) first.1).1
-
 pub counts : (s : Schema) (r : LeafRequest) (key : List ℕ) → counted_key s r ≡ some key → OnlyCounts s r key
 counts s r key e = go (only_counts r) refl e
   where
@@ -187,29 +182,30 @@ many_posted s key test n (d ∷ ds) all =
 
 -- ---- the answer
 
--- the partial of an answer stands for any documents that are as many as it counts
-abbrev pub StandsForAny : LeafRequest → LeafAnswer → Type 0
-StandsForAny r a = (documents : List (List DocField)) → length documents ≡ a.count → NestedStands r.aggs a.partial documents
+no_parts : (number : ℕ) (docs : List (List DocField)) (parts : List NestedPart) → AllZip (λ (asked : NestedAgg) (part : NestedPart). IsPartFor asked number part) [] parts → AllZip (λ (asked : NestedAgg) (part : NestedPart). PartStands asked part docs) [] parts
+no_parts number docs [] h = tt
+no_parts number docs (x ∷ xs) h = absurd h
 
--- so it does for some
-pub known_of : (r : LeafRequest) (result : Result LeafAnswer LeafError) → IfOk result (StandsForAny r)
-    → IfOk result (λ a. (documents : List (List DocField)) × NestedStands r.aggs a.partial documents × (length documents ≡ a.count))
-known_of r (Err e) h = tt
-known_of r (Ok a) h = (replicate a.count [], h (replicate a.count []) (length-replicate a.count []), length-replicate a.count [])
+pub stands_for : (aggs : List NestedAgg) (partial : NestedPartial) (docs : List (List DocField)) → aggs ≡ [] → IsNestedPartial aggs partial → documents_counted partial ≡ length docs → NestedStands aggs partial docs
+stands_for aggs partial docs none is many = record {
+  many = many;
+  parts = subst (λ (l : List NestedAgg). AllZip (λ (asked : NestedAgg) (part : NestedPart). PartStands asked part docs) l partial.parts.items) (sym none)
+      (no_parts partial.documents docs partial.parts.items (subst (λ (l : List NestedAgg). AllZip (λ (asked : NestedAgg) (part : NestedPart). IsPartFor asked partial.documents part) l partial.parts.items) none is.parts));
+}
 
 pub many_docs : (ds : List Placed) → length ds ≡ length (docs_of ds)
 many_docs [] = refl
 many_docs (d ∷ ds) = ap suc (many_docs ds)
 
 pub is_counted : (s : Schema) (r : LeafRequest) (ds : List Placed) (key : List ℕ) (a : LeafAnswer) → AreDocumentsOf s ds → length s.fields ≤ 256 → IsAsked s r → OnlyCounts s r key → a.count ≡ length (posting_list s ds key) → a.hits ≡ []
-    → StandsForAny r a → IsAnswerOf s r ds a
-is_counted s r ds key a docs few ask c count hits stands =
+    → documents_counted a.partial ≡ a.count → IsNestedPartial r.aggs a.partial → IsAnswerOf s r ds a
+is_counted s r ds key a docs few ask c count hits documents partial =
     let all = all_map (λ d. IsOfSchema s d.doc) (λ d. passes s r d.doc ≡ has_key key (keys_of s d.doc)) ds (λ d h. passes_key s r key d.doc few h c ask.query) docs.of_schema in
     let many : a.count ≡ length (found s r ds) = count ∙ many_posted s key (passes s r) 0 ds all in
     record {
       count = many;
       hits = hits ∙ sym (ap (λ n. firsts n r.order (found s r ds)) c.wanted);
-      partial = stands (docs_of (found s r ds)) (sym (many ∙ many_docs (found s r ds)));
+      partial = stands_for r.aggs a.partial (docs_of (found s r ds)) c.aggs partial (documents ∙ (many ∙ many_docs (found s r ds)));
     }
 
 -- ---- what is asked for

@@ -6,7 +6,6 @@ use Rattle.doc_value.specs.declared.schema.Field.{Field}
 use Rattle.doc_value.specs.declared.schema.Schema.{Schema}
 use Rattle.query_ast.specs.declared.query.Query.{Query}
 use Rattle.query_ast.specs.Sought.{Sought, view, view_all}
-use Rattle.query_ast.specs.Sought as sought
 use Rattle.split_bundle.specs.declared.part_view.PartView.{PartView}
 use Rattle.doc_sets.specs.Reads.{AreRead, Finds, MetBy, ReadsAll}
 use Rattle.doc_sets.specs.declared.dictionary_lookup.Lookup.{Lookup}

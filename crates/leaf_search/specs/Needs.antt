@@ -3,7 +3,7 @@ use Rattle.doc_sets.specs.declared.dictionary_lookup.Lookup.TheVariants.{Count, 
 use Rattle.doc_sets.specs.declared.dictionary_lookup.Lookup.{Lookup}
 use Rattle.term_dict.specs.declared.term.TermInfo.{TermInfo}
 use Rattle.doc_sets.specs.Reads.{Finds, ReadsWalk}
-use Rattle.std.specs.Prelude.{◌≡◌, ◌≢◌, ℕ, ◌<◌, ◌⊎◌, List, Contains, map, None, [], ◌∷◌, Option, Ok}
+use Rattle.std.specs.Prelude.{◌≡◌, ◌≢◌, ℕ, ◌<◌, ◌⊎◌, List, map, None, [], ◌∷◌, Option, Ok}
 use Rattle.std.specs.List.{AllByRecursion}
 use Rattle.doc_value.specs.declared.schema.Schema.{Schema}
 use Rattle.agg_nested.specs.Checking.{field_of}
@@ -15,7 +15,7 @@ use Rattle.split_bundle.specs.Files.{Parts}
 use Rattle.split_bundle.specs.Pieces.{held_in}
 use Rattle.doc_sets.specs.Asking.{AsksBlocks, AsksLists}
 use Rattle.doc_tallies.specs.AggColumns.{AsksFields}
-use Rattle.doc_tallies.specs.Causes.{AsksColumn, AsksField}
+use Rattle.doc_tallies.specs.Causes.{AsksField}
 use Rattle.doc_tallies.specs.Orders.{sort_field}
 use Rattle.leaf_search.specs.Answers.{AsksTimes}
 use Rattle.leaf_search.specs.Counts.{request_lookups}
@@ -37,12 +37,6 @@ NeedsDocuments v r at len = (0 < r.wanted) × (at ≡ 4) × (len ≡ v.footer.la
 -- the fields of nested aggregations
 abbrev pub fields_nested : List NamedFlat → List ℕ
 fields_nested nested = map (λ named. field_of named.agg) nested
-
--- the column of one of some fields
-pub record AsksAmong (v : PartView) (p : Parts) (fields : List ℕ) (at len : ℕ) : Type 0 where
-  pub number : ℕ
-  pub among : Contains fields number
-  pub column : AsksColumn v p number at len
 
 -- the columns of the timestamp, of the aggregations and of the order
 abbrev pub NeedsColumns : PartView → Schema → Parts → LeafRequest → ℕ → ℕ → Type 0

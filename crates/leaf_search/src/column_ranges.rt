@@ -8,13 +8,13 @@ ghost use Rattle.split_bundle.specs.declared.split_error.SplitError.TheVariants.
 ghost use Rattle.split_bundle.specs.Files.{Parts};
 ghost use Rattle.split_bundle.specs.Lending.{IsPartOf, length_of_column, start_of_column};
 ghost use Rattle.agg_nested.specs.Checking as checking;
-ghost use Rattle.doc_tallies.specs.AggColumns.{AreOverFast, AsksFields};
+ghost use Rattle.doc_tallies.specs.AggColumns.{AreOverFast, AsksColumns, AsksFields};
 ghost use Rattle.doc_tallies.specs.Causes.{AsksColumn, columns_start};
 ghost use Rattle.doc_tallies.specs.Cells.{IsFast};
 ghost use Rattle.doc_tallies.specs.Orders.{IsSortable};
 ghost use Rattle.leaf_search.specs.Answers.{AsksTimes, IsAsked};
 ghost use Rattle.leaf_search.specs.FileRanges.{AddsParts};
-ghost use Rattle.leaf_search.specs.Needs.{AsksAmong, NeedsColumns, NeedsOrder, fields_nested};
+ghost use Rattle.leaf_search.specs.Needs.{NeedsColumns, NeedsOrder, fields_nested};
 
 use crate::file_ranges::Ranges;
 use crate::joining::name_part;
@@ -153,7 +153,7 @@ fn name_nested(
     requires bare { bare.now.pieces ≡ [] }
     requires few { length schema.now.fields ≤ 256 }
     ensures { (documents : List Placed) (p : Parts) → IsPartOf bare.now schema.now documents p → All (IsFast schema.now) (fields_nested nested.now)
-        → OnOk result (AddsParts (AsksAmong bare.now p (fields_nested nested.now)) ranges.old ranges.new) }
+        → OnOk result (AddsParts (AsksColumns bare.now p (fields_nested nested.now)) ranges.old ranges.new) }
 {
     for named in nested {
         name_column(bare, schema, ranges, field_of(&named.agg) as usize)?;

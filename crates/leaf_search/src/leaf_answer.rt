@@ -1,8 +1,7 @@
 //! The answer of one split.
 
-ghost use Rattle.std.specs.Prelude.{◌≡◌, ◌<◌, ◌≤◌, ◌^◌, true, length, List, IfOk, MatchResult};
-ghost use Rattle.doc_value.specs.declared.doc.DocField.{DocField};
-ghost use Rattle.agg_nested.specs.Buckets.{NestedStands};
+ghost use Rattle.std.specs.Prelude.{◌≡◌, ◌≤◌, true, length, List, IfOk, MatchResult};
+ghost use Rattle.agg_nested.specs.Buckets.{IsNestedPartial, documents_counted};
 ghost use Rattle.agg_nested.specs.Checking.{HaveSteps};
 ghost use Rattle.split_bundle.specs.declared.placed.Placed.{Placed};
 ghost use Rattle.split_bundle.specs.Files.{Parts, file_bytes};
@@ -51,9 +50,9 @@ pub fn leaf(
     ensures needed { (documents : List Placed) (p : Parts) (blocks lists : List FileRange) → IsPartOf view.now schema.now documents p → IsAsked schema.now request.now
         → AreRangesOf (NeedsBlocks view.now schema.now documents p request.now) blocks → AreRangesOf (NeedsLists view.now schema.now documents p request.now) lists
         → AreHeld view.now.pieces blocks → AreHeld view.now.pieces lists → MatchResult result (IsAnswerOf schema.now request.now documents) IsMemory }
-    // Over any bytes: the partial stands for as many documents as are counted.
-    ensures known { IfOk result (λ a. (documents : List (List DocField)) × NestedStands request.now.aggs a.partial documents × (length documents ≡ a.count)) }
-    ensures few { IfOk result (λ a. a.count < 2 ^ 62) }
+    // Over any bytes.
+    ensures partial { IfOk result (λ a. IsNestedPartial request.now.aggs a.partial) }
+    ensures many { IfOk result (λ a. documents_counted a.partial ≡ a.count) }
     // What is looked up is read where there is an answer. Where documents are only counted, a fault is that of something which is looked up.
     ensures read { IfOk result (λ a. AreRead view.now (counts.read_lookups schema.now request.now)) }
     ensures faults { counts.only_counts request.now ≡ true → ReadsAll view.now (counts.read_lookups schema.now request.now) result }
@@ -78,8 +77,8 @@ fn evaluated(
         (HasCause (AsksWith view.now schema.now documents p request.now (lookups_of schema.now (query_view request.now.query))) view.now.pieces) }
     ensures there { (documents : List Placed) (p : Parts) → IsPartOf view.now schema.now documents p → HaveAll (file_bytes p) view.now.pieces → IsAsked schema.now request.now
         → MatchResult result (IsAnswerOf schema.now request.now documents) IsMemory }
-    ensures known { IfOk result (λ a. (documents : List (List DocField)) × NestedStands request.now.aggs a.partial documents × (length documents ≡ a.count)) }
-    ensures few { IfOk result (λ a. a.count < 2 ^ 62) }
+    ensures partial { IfOk result (λ a. IsNestedPartial request.now.aggs a.partial) }
+    ensures many { IfOk result (λ a. documents_counted a.partial ≡ a.count) }
     ensures read { IfOk result (λ a. AreRead view.now (counts.evaluated_lookups schema.now request.now)) }
     ensures faults { counts.only_counts request.now ≡ true → ReadsAll view.now (counts.evaluated_lookups schema.now request.now) result }
 {
@@ -106,8 +105,8 @@ fn query_counted(
         (HasCause (AsksWith view.now schema.now documents p request.now (lookups_of schema.now (query_view request.now.query))) view.now.pieces) }
     ensures there { (documents : List Placed) (p : Parts) → IsPartOf view.now schema.now documents p → HaveAll (file_bytes p) view.now.pieces → IsAsked schema.now request.now
         → MatchResult result (IsAnswerOf schema.now request.now documents) IsMemory }
-    ensures known { IfOk result (λ a. (documents : List (List DocField)) × NestedStands request.now.aggs a.partial documents × (length documents ≡ a.count)) }
-    ensures few { IfOk result (λ a. a.count < 2 ^ 62) }
+    ensures partial { IfOk result (λ a. IsNestedPartial request.now.aggs a.partial) }
+    ensures many { IfOk result (λ a. documents_counted a.partial ≡ a.count) }
     ensures reads { ReadsAll view.now (counts.count_lookups schema.now (query_view request.now.query)) result }
 {
     let count = matching_count(alloc, view, schema, &request.query)?;
@@ -129,8 +128,8 @@ fn listed(
         (HasCause (AsksWith view.now schema.now documents p request.now (lookups_of schema.now (query_view request.now.query))) view.now.pieces) }
     ensures there { (documents : List Placed) (p : Parts) → IsPartOf view.now schema.now documents p → HaveAll (file_bytes p) view.now.pieces → IsAsked schema.now request.now
         → IsSetOf (λ d. meaning schema.now d (query_view request.now.query)) documents bits.now → MatchResult result (IsAnswerOf schema.now request.now documents) IsMemory }
-    ensures known { IfOk result (λ a. (documents : List (List DocField)) × NestedStands request.now.aggs a.partial documents × (length documents ≡ a.count)) }
-    ensures few { IfOk result (λ a. a.count < 2 ^ 62) }
+    ensures partial { IfOk result (λ a. IsNestedPartial request.now.aggs a.partial) }
+    ensures many { IfOk result (λ a. documents_counted a.partial ≡ a.count) }
 {
     let matched = numbers_in(alloc, bits)?;
     let numbers = timed_numbers(alloc, schema, view, request.times, matched)?;

@@ -1,11 +1,11 @@
 // Requests that only count the documents of one token: the dictionary says how many these are.
 
-ghost use Rattle.std.specs.Prelude.{◌≡◌, ◌<◌, ◌≤◌, ◌^◌, ◌∷◌, [], length, slice_get, List, IfOk, MatchResult};
+ghost use Rattle.std.specs.Prelude.{◌≡◌, ◌≤◌, ◌∷◌, [], length, slice_get, List, IfOk, MatchResult};
 ghost use Rattle.std.specs.Option.{option_and_then};
 ghost use Rattle.doc_value.specs.declared.schema.Schema.{Schema};
 ghost use Rattle.query_ast.specs.Sought.{view as query_view};
-ghost use Rattle.doc_value.specs.declared.doc.DocField.{DocField};
-ghost use Rattle.agg_nested.specs.Buckets.{NestedStands};
+ghost use Rattle.agg_nested.specs.Buckets.{IsNestedPartial, documents_counted};
+ghost use Rattle.agg_nested.specs.Checking.{HaveSteps};
 ghost use Rattle.split_bundle.specs.declared.placed.Placed.{Placed};
 ghost use Rattle.split_bundle.specs.Files.{Parts};
 ghost use Rattle.split_bundle.specs.Lists.{posting_list};
@@ -96,11 +96,11 @@ pub(crate) fn answer_of_many(
     request: &LeafRequest,
     count: u32,
 ) -> Result<LeafAnswer, AllocError>
-    requires { request.now.aggs ≡ [] }
+    requires { HaveSteps request.now.aggs }
     ensures count { IfOk result (λ a. a.count ≡ count) }
     ensures hits { IfOk result (λ a. a.hits ≡ []) }
-    ensures stands { IfOk result (λ a. (documents : List (List DocField)) → length documents ≡ a.count → NestedStands request.now.aggs a.partial documents) }
-    ensures few { IfOk result (λ a. a.count < 2 ^ 62) }
+    ensures partial { IfOk result (λ a. IsNestedPartial request.now.aggs a.partial) }
+    ensures many { IfOk result (λ a. documents_counted a.partial ≡ a.count) }
 {
     let partial = valueless_partial(alloc, &request.aggs, u64::from(count))?;
     Ok(LeafAnswer {
@@ -129,12 +129,12 @@ pub(crate) fn counted(
     view: &PartView,
     key: &[u8],
 ) -> Result<LeafAnswer, LeafError>
-    requires { request.now.aggs ≡ [] }
+    requires { HaveSteps request.now.aggs }
     ensures only { (s : Schema) (documents : List Placed) (p : Parts) → IsSearched view.now s documents p
-        → MatchResult result (λ a. (a.count ≡ length (posting_list s documents key.now)) × (a.hits ≡ []))
+        → MatchResult result (λ a. (a.count ≡ length (posting_list s documents key.now)) × (a.hits ≡ []) × (documents_counted a.partial ≡ a.count))
         (HasCause (IsBlockFor view.now s documents p key.now) view.now.pieces) }
-    ensures stands { IfOk result (λ a. (documents : List (List DocField)) → length documents ≡ a.count → NestedStands request.now.aggs a.partial documents) }
-    ensures few { IfOk result (λ a. a.count < 2 ^ 62) }
+    ensures partial { IfOk result (λ a. IsNestedPartial request.now.aggs a.partial) }
+    ensures many { IfOk result (λ a. documents_counted a.partial ≡ a.count) }
     ensures reads { ReadsAll view.now (Count key.now ∷ []) result }
 {
     let count = key_count(view, key)?;

@@ -1,5 +1,5 @@
 -- What a text is refused for, or what it counts, is of the text.
-use Rattle.std.proofs.Common.{ℕ, ◌&&◌, ◌||◌, Bool, true, false, not, nat_lt, List, [], ◌∷◌, Option, Some, None, Result, Ok, Err, is_some, if◌then◌else◌, length, option_and_then}
+use Rattle.std.proofs.Common.{ℕ, ◌&&◌, ◌||◌, Bool, true, false, not, nat_lt, List, [], ◌∷◌, Option, Some, None, Result, Ok, Err, is_some, if◌then◌else◌, length, map, option_and_then}
 use Rattle.doc_value.specs.declared.schema.Field.{Field}
 use Rattle.doc_value.specs.declared.schema.Schema.{Schema}
 use Rattle.doc_value.specs.declared.facts.TimeRange.{TimeRange}
@@ -14,7 +14,6 @@ use Rattle.agg_nested.specs.Answers.{all_buckets, nested_answer, told}
 use Rattle.agg_nested.specs.declared.answer.NestedAnswer.{NestedAnswer}
 use Rattle.agg_nested.specs.declared.request.NestedAgg.{NestedAgg}
 =======
-use Rattle.agg_nested.specs.CountedAnswers.{answers_of, buckets_of}
 >>>>>>> a525b292b46b668c104aff8d58b4646816091c6c
 use Rattle.agg_model.specs.Answers.{most_buckets}
 use Rattle.agg_nested.specs.Checking.{first_refusal}
@@ -24,11 +23,12 @@ use Rattle.split_bundle.specs.declared.placed.Placed.{Placed}
 use Rattle.doc_tallies.specs.Picked.{docs_of}
 use Rattle.search_api.specs.Kinds.{◌>>=◌}
 use Rattle.search_api.specs.Requests.{request_of}
-use Rattle.search_api.specs.Resolved.{Search, Asked, IsSearch, IsDelete, known, has_text, text_number, text_numbers, searched, sort_of, narrow, agg_of, aggs_of, is_fast, fast_sort, timed, query_or, query_in, unless_refused, checked, search_in, delete_in, resolved}
+use Rattle.search_api.specs.Resolved.{Search, Asked, IsSearch, IsDelete, known, has_text, text_number, text_numbers, searched, sort_of, narrow, counted_number, flat_of, flats_of, agg_of, aggs_of, is_fast, fast_sort, timed, query_or, query_in, unless_refused, checked, search_in, delete_in, resolved}
 use Rattle.search_api.specs.declared.reply.Refusal.{Refusal}
 use Rattle.search_api.specs.declared.reply.Refusal.TheVariants as refusals
 use Rattle.search_api.specs.declared.reply.Said.TheVariants as said
 use Rattle.search_api.specs.declared.request.AskedAgg.{AskedAgg}
+use Rattle.search_api.specs.declared.request.AskedFlat.{AskedFlat}
 use Rattle.search_api.specs.declared.request.Request.{Request}
 use Rattle.search_api.specs.declared.request.Request.TheVariants as requests
 use Rattle.search_api.specs.declared.request.SearchRequest.{SearchRequest}
@@ -84,9 +84,20 @@ sort_of_text : (fields : List Field) (sort : Option SortBy) → OfText (sort_of 
 sort_of_text fields None = tt
 sort_of_text fields (Some sort) = bind_of (known sort.path (number_of fields sort.path)) _ (known_of sort.path (number_of fields sort.path)) (λ n. tt)
 
+counted_of : (fields : List Field) (path : List ℕ) → OfText (counted_number fields path)
+counted_of fields path = known_of path (option_and_then narrow (number_of fields path))
+
+flat_of_text : (fields : List Field) (asked : AskedFlat) → OfText (flat_of fields asked)
+flat_of_text fields asked = bind_of (counted_number fields asked.path) _ (counted_of fields asked.path) (λ n. tt)
+
+flats_of_text : (fields : List Field) (asked : List AskedFlat) → OfText (flats_of fields asked)
+flats_of_text fields [] = tt
+flats_of_text fields (asked ∷ rest) =
+    bind_of (flat_of fields asked) _ (flat_of_text fields asked) (λ flat. bind_of (flats_of fields rest) _ (flats_of_text fields rest) (λ more. tt))
+
 agg_of_text : (fields : List Field) (asked : AskedAgg) → OfText (agg_of fields asked)
 agg_of_text fields asked =
-    let n = option_and_then narrow (number_of fields asked.path) in bind_of (known asked.path n) _ (known_of asked.path n) (λ m. tt)
+    bind_of (counted_number fields asked.path) _ (counted_of fields asked.path) (λ n. bind_of (flats_of fields asked.nested) _ (flats_of_text fields asked.nested) (λ nested. tt))
 
 aggs_of_text : (fields : List Field) (asked : List AskedAgg) → OfText (aggs_of fields asked)
 aggs_of_text fields [] = tt

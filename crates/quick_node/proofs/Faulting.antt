@@ -1,5 +1,5 @@
 -- Each fault of the store that a line tells has the counts before the line and behind it, of which the second rose.
-use Rattle.std.proofs.Common.{◌≡◌, ℕ, ◌≤◌, ◌<◌, Bool, true, false, List, [], ◌∷◌, ◌++◌, flat_map, refl, sym, ap, subst, arith}
+use Rattle.std.proofs.Common.{◌≡◌, ℕ, ◌≤◌, ◌<◌, Bool, true, false, List, [], ◌∷◌, ◌++◌, flat_map, map, refl, sym, ap, subst, arith}
 use Rattle.std.specs.Prelude.{Option, Some, None, Result, Ok, Err, ⊤, if◌then◌else◌, ◌==◌, ◌||◌, is_some, min, nat_lt, length, nat_le}
 use Rattle.byte_fields.specs.Causes.{Rose}
 use Rattle.meta_journal.specs.Places.{split_key}
@@ -26,7 +26,6 @@ use Rattle.indexing_run.specs.Steps as indexing
 use Rattle.agg_nested.specs.Answers.{all_buckets, nested_answer, told}
 use Rattle.agg_nested.specs.declared.answer.NestedAnswer.{NestedAnswer}
 =======
-use Rattle.agg_nested.specs.CountedAnswers.{answers_of, buckets_of}
 >>>>>>> a525b292b46b668c104aff8d58b4646816091c6c
 use Rattle.agg_model.specs.Answers.{most_buckets}
 use Rattle.doc_tallies.specs.Picked.{docs_of}

@@ -8,7 +8,7 @@ use Rattle.std.proofs.lemmas.List.Sorted.{IsPermutation-append_comm, IsPermutati
 use Rattle.std.proofs.lemmas.List.Sums.{count_by-le-length, length-filter, sum_by-cons}
 use Rattle.doc_value.specs.declared.doc.DocField.{DocField}
 use Rattle.doc_value.specs.declared.schema.Schema.{Schema}
-use Rattle.agg_nested.specs.Buckets.{NestedStands}
+use Rattle.agg_nested.specs.Buckets.{IsNestedPartial, NestedStands, documents_counted}
 use Rattle.split_bundle.specs.declared.part_view.PartView.{PartView}
 use Rattle.split_bundle.specs.declared.placed.Placed.{Placed}
 use Rattle.doc_tallies.specs.Orders.{firsts}
@@ -322,22 +322,9 @@ are_counted s r views answers leaves = All-from_recursion (λ answer. IfOk answe
     go (v ∷ views) [] leaves = absurd leaves
     go (v ∷ views) (a ∷ answers) leaves = (leaves.0.counted, go views answers leaves.1)
 
-pub leaf_counted : (r : LeafRequest) (answer : Result LeafAnswer LeafError) → IfOk answer (λ a. (documents : List (List DocField)) × NestedStands r.aggs a.partial documents × (length documents ≡ a.count)) → IfOk answer (λ a. a.count < 2 ^ 62)
-    → IfOk answer (IsCounted r)
-leaf_counted r (Ok a) h few = record { documents = h.0; stands = h.1; many = h.2; few = few }
-leaf_counted r (Err fault) h few = tt
-
--- two answers, whose partials were joined
-pub both_counted : (r : LeafRequest) (one other joined : LeafAnswer) → IsCounted r one → IsCounted r other → one.count + other.count < 2 ^ 62 → joined.count ≡ one.count + other.count
-    → ((mine yours : List (List DocField)) → NestedStands r.aggs one.partial mine → NestedStands r.aggs other.partial yours → NestedStands r.aggs joined.partial (mine ++ yours)) → IsCounted r joined
-both_counted r one other joined a b room count partial_of =
-    let long = length-append a.documents b.documents in
-    record {
-      documents = a.documents ++ b.documents;
-      stands = partial_of a.documents b.documents a.stands b.stands;
-      many = omega (arith, long, a.many, b.many, count);
-      few = omega (arith, room, count);
-    }
+pub leaf_counted : (r : LeafRequest) (answer : Result LeafAnswer LeafError) → IfOk answer (λ a. IsNestedPartial r.aggs a.partial) → IfOk answer (λ a. documents_counted a.partial ≡ a.count) → IfOk answer (IsCounted r)
+leaf_counted r (Ok a) h k = record { partial = h; many = k }
+leaf_counted r (Err fault) h k = tt
 
 found_few : (s : Schema) (r : LeafRequest) (documents : List Placed) → length (found s r documents) ≤ length documents
 found_few s r documents = omega (arith, length-filter (λ (d : Placed). passes s r d.doc) documents, count_by-le-length (λ (d : Placed). passes s r d.doc) documents)

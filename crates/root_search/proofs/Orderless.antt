@@ -1,5 +1,5 @@
 -- What is counted of documents in another order.
-use Rattle.std.proofs.Common.{◌≡◌, ℕ, suc, ◌+◌, ◌*◌, ◌-◌, ◌<◌, ◌≤◌, ◌^◌, List, [], ◌∷◌, length, filter, sum_by, count_by, Option, Some, None, IsPermutation, refl, ap, ap₂, sym, subst, ◌∙◌, arith, ℤ, pos, negsuc, ◌+ℤ◌, ◌≤ℤ◌}
+use Rattle.std.proofs.Common.{◌≡◌, ℕ, ◌+◌, ◌*◌, ◌-◌, ◌<◌, ◌≤◌, ◌^◌, List, [], ◌∷◌, length, filter, sum_by, count_by, Option, Some, None, IsPermutation, refl, ap, ap₂, sym, subst, ◌∙◌, arith, ℤ, pos, negsuc, ◌+ℤ◌, ◌≤ℤ◌}
 use Rattle.std.specs.Int.{int_min, int_max}
 use Rattle.std.specs.Int.RustNames.{unsigned_abs}
 use Rattle.std.specs.List.{All, AllByRecursion, AllZip}
@@ -60,11 +60,11 @@ counted_moved request partial ds es same h =
 
 -- ---- sums
 
-gains : ℤ → ℕ
+abbrev gains : ℤ → ℕ
 gains (pos n) = n
 gains (negsuc n) = 0
 
-losses : ℤ → ℕ
+abbrev losses : ℤ → ℕ
 losses (pos n) = 0
 losses (negsuc n) = n + 1
 
@@ -72,13 +72,13 @@ total_split : (vs : List ℤ) → total vs +ℤ pos (sum_by losses vs) ≡ pos (
 total_split [] = omega (arith, ints)
 total_split (pos n ∷ vs) =
     let rest = total_split vs in
-    let won = sum_by-cons gains (pos n) vs in
-    let lost = sum_by-cons losses (pos n) vs in
+    let won : sum_by gains (pos n ∷ vs) ≡ n + sum_by gains vs = sum_by-cons gains (pos n) vs in
+    let lost : sum_by losses (pos n ∷ vs) ≡ 0 + sum_by losses vs = sum_by-cons losses (pos n) vs in
     omega (arith, ints)
 total_split (negsuc n ∷ vs) =
     let rest = total_split vs in
-    let won = sum_by-cons gains (negsuc n) vs in
-    let lost = sum_by-cons losses (negsuc n) vs in
+    let won : sum_by gains (negsuc n ∷ vs) ≡ 0 + sum_by gains vs = sum_by-cons gains (negsuc n) vs in
+    let lost : sum_by losses (negsuc n ∷ vs) ≡ (n + 1) + sum_by losses vs = sum_by-cons losses (negsuc n) vs in
     omega (arith, ints)
 
 total_moved : (vs ws : List ℤ) → IsPermutation vs ws → total vs ≡ total ws

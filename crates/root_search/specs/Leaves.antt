@@ -1,9 +1,8 @@
 -- The answers of many splits.
-use Rattle.std.specs.Prelude.{◌≡◌, ◌≢◌, ℕ, ◌^◌, ◌<◌, ◌≤◌, true, List, ◌∷◌, ◌++◌, flat_map, length, map, sum_by, slice_get, Some, None, Result, Ok, Err, IfOk, IsPermutation, MatchResult}
+use Rattle.std.specs.Prelude.{◌≡◌, ◌≢◌, ℕ, ◌^◌, ◌≤◌, true, List, ◌∷◌, ◌++◌, flat_map, length, map, sum_by, slice_get, Some, None, Result, Ok, Err, IfOk, IsPermutation, MatchResult}
 use Rattle.std.specs.List.{AllZip}
-use Rattle.doc_value.specs.declared.doc.DocField.{DocField}
 use Rattle.doc_value.specs.declared.schema.Schema.{Schema}
-use Rattle.agg_nested.specs.Buckets.{NestedStands}
+use Rattle.agg_nested.specs.Buckets.{IsNestedPartial, NestedStands, documents_counted}
 use Rattle.split_bundle.specs.Files.{Parts, file_bytes}
 use Rattle.split_bundle.specs.Lending.{IsPartOf}
 use Rattle.split_bundle.specs.Wholes.{HaveAll}
@@ -27,12 +26,10 @@ use Rattle.root_search.specs.declared.splits_error.SplitsError.TheVariants.{Corr
 abbrev pub all_of : List (List Placed) → List Placed
 all_of lists = flat_map (λ documents. documents) lists
 
--- an answer whose partial stands for as many documents as it counts
+-- an answer whose partial is one of the request and counts as many documents
 pub record IsCounted (r : LeafRequest) (a : LeafAnswer) : Type 0 where
-  pub documents : List (List DocField)
-  pub stands : NestedStands r.aggs a.partial documents
-  pub many : length documents ≡ a.count
-  pub few : a.count < 2 ^ 62
+  pub partial : IsNestedPartial r.aggs a.partial
+  pub many : documents_counted a.partial ≡ a.count
 
 -- the view is one of a split of these documents
 pub record IsViewOf (s : Schema) (v : PartView) (documents : List Placed) : Type 0 where

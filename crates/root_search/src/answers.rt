@@ -1,13 +1,13 @@
 //! What a search is answered.
 
 ghost use Rattle.std.specs.Prelude.{◌≡◌, List, take, drop, IfOk};
+ghost use Rattle.agg_nested.specs.Buckets.{IsNestedPartial};
 ghost use Rattle.agg_nested.specs.Checking.{HaveSteps};
 ghost use Rattle.split_bundle.specs.declared.placed.Placed.{Placed};
 ghost use Rattle.leaf_search.specs.Answers.{IsAnswerOf};
 ghost use Rattle.search_api.specs.Resolved.{Search};
 ghost use Rattle.root_search.specs.Answer.{IsAnswer, printed};
 ghost use Rattle.root_search.specs.LeafAsks.{Asks};
-ghost use Rattle.root_search.specs.Leaves.{IsCounted};
 ghost use Rattle.root_search.specs.PartAnswers.{IsShownOf};
 
 use crate::leaf_asks::{LeafAsk, Page};
@@ -45,7 +45,7 @@ pub(crate) fn shown(
     answer: &LeafAnswer,
 ) -> Result<Said, AllocError>
     requires intervals { HaveSteps ask.now.request.aggs }
-    requires counted { IsCounted ask.now.request answer.now }
+    requires partial { IsNestedPartial ask.now.request.aggs answer.now.partial }
     ensures only { (search : Search) (documents : List Placed) → Asks search ask.now → IsAnswerOf schema.now ask.now.request documents answer.now
         → IfOk result (IsAnswer schema.now search documents) }
     // Of any answer.

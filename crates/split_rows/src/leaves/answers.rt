@@ -1,9 +1,8 @@
 //! Requests, and what a split answers to them.
 
-ghost use Rattle.std.specs.Prelude.{◌≡◌, ◌<◌, ◌≤◌, ◌^◌, IfOk, IfSome, List, length};
-ghost use Rattle.agg_nested.specs.Buckets.{NestedStands};
+ghost use Rattle.std.specs.Prelude.{◌≤◌, IfOk, IfSome, length};
+ghost use Rattle.agg_nested.specs.Buckets.{IsNestedPartial};
 ghost use Rattle.agg_nested.specs.Checking.{HaveSteps};
-ghost use Rattle.doc_value.specs.declared.doc.DocField.{DocField};
 ghost use Rattle.doc_value.specs.Documents.{IsSchema};
 
 use super::views::view_of;
@@ -103,8 +102,7 @@ fn refused(alloc: Global, reason: Unanswered) -> Result<String, AllocError> {
 // The line of what a split answers.
 fn found(alloc: Global, request: &LeafRequest, answer: &LeafAnswer) -> Result<String, AllocError>
     requires intervals { HaveSteps request.now.aggs }
-    requires known { (documents : List (List DocField)) × NestedStands request.now.aggs answer.now.partial documents × (length documents ≡ answer.now.count) }
-    requires few { answer.now.count < 2 ^ 62 }
+    requires partial { IsNestedPartial request.now.aggs answer.now.partial }
 {
     match finish_nested(alloc, &request.aggs, &answer.partial) {
         Ok(aggregations) => {
@@ -129,8 +127,7 @@ fn leaf_answer(
 ) -> Result<LeafAnswer, LeafError>
     requires fields { length schema.now.fields ≤ 256 }
     requires intervals { HaveSteps request.now.aggs }
-    ensures known { IfOk result (λ answer. (documents : List (List DocField)) × NestedStands request.now.aggs answer.partial documents × (length documents ≡ answer.count)) }
-    ensures few { IfOk result (λ answer. answer.count < 2 ^ 62) }
+    ensures { IfOk result (λ answer. IsNestedPartial request.now.aggs answer.partial) }
 {
     let view = view_of(alloc, file, light)?;
     leaf(alloc, schema, request, &view)

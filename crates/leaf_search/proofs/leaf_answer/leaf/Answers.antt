@@ -1,12 +1,13 @@
 use Rattle.leaf_search.proofs.ReadQueries.{evaluated_read, if_evaluated, if_read, key_read}
 use Rattle.std.proofs.Common.{◌≡◌, ◌∙◌, [], Some, None, IfOk, length, ap, sym, subst}
+use Rattle.agg_nested.specs.Buckets.{IsNestedPartial, documents_counted}
 use Rattle.split_bundle.specs.Lists.{posting_list}
 use Rattle.doc_sets.specs.Faults.{HasCause, IsMemory}
 use Rattle.doc_sets.specs.Needed.{IsBlockFor}
 use Rattle.doc_sets.proofs.Searched.{searched}
 use Rattle.leaf_search.specs.Answers.{AsksLeaf, IsAnswerOf}
 use Rattle.leaf_search.specs.Counts.{counted_key, read_lookups}
-use Rattle.leaf_search.proofs.KeyCounts.{StandsForAny, block_memory, by_parts, counted_cause, counts, is_counted, known_of, uncounted}
+use Rattle.leaf_search.proofs.KeyCounts.{block_memory, by_parts, counted_cause, counts, is_counted, uncounted}
 use Rattle.leaf_search.proofs.Suffices.{needed_result}
 use Rattle.leaf_search.proofs.leaf_answer.leaf.Goals as goal
 
@@ -20,9 +21,9 @@ returns-in-Some-clause-only c = λ documents p part ask.
     let some = c.in-Some.is in
     let is : counted_key s r ≡ Some c.in-Some.key = cc in
     let it : counted_key s r ≡ Some key = is ∙ ap Some (sym c.as_slice.ensures) in
-    by_parts (λ a. (a.count ≡ length (posting_list s documents key)) × (a.hits ≡ [])) (IsAnswerOf s r documents) (HasCause (IsBlockFor v s documents p key) v.pieces) (HasCause (AsksLeaf v s documents p r) v.pieces)
+    by_parts (λ a. (a.count ≡ length (posting_list s documents key)) × (a.hits ≡ []) × (documents_counted a.partial ≡ a.count)) (IsAnswerOf s r documents) (HasCause (IsBlockFor v s documents p key) v.pieces) (HasCause (AsksLeaf v s documents p r) v.pieces)
     c.counted.result
-    (λ a e h. is_counted s r documents key a part.is_split.are_documents c.requires.fields ask (counts s r key it) h.0 h.1 (subst (λ x. IfOk x (StandsForAny r)) e c.counted.ensures.stands))
+    (λ a e h. is_counted s r documents key a part.is_split.are_documents c.requires.fields ask (counts s r key it) h.0 h.1 h.2 (subst (λ x. IfOk x (λ y. IsNestedPartial r.aggs y.partial)) e c.counted.ensures.partial))
     (λ e cause. counted_cause v s documents p r key e it cause)
     (c.counted.ensures.only s documents p (searched v s documents p part))
 
@@ -36,9 +37,9 @@ returns-in-Some-clause-there c = λ documents p part all ask.
     let some = c.in-Some.is in
     let is : counted_key s r ≡ Some c.in-Some.key = cc in
     let it : counted_key s r ≡ Some key = is ∙ ap Some (sym c.as_slice.ensures) in
-    by_parts (λ a. (a.count ≡ length (posting_list s documents key)) × (a.hits ≡ [])) (IsAnswerOf s r documents) (HasCause (IsBlockFor v s documents p key) v.pieces) IsMemory
+    by_parts (λ a. (a.count ≡ length (posting_list s documents key)) × (a.hits ≡ []) × (documents_counted a.partial ≡ a.count)) (IsAnswerOf s r documents) (HasCause (IsBlockFor v s documents p key) v.pieces) IsMemory
     c.counted.result
-    (λ a e h. is_counted s r documents key a part.is_split.are_documents c.requires.fields ask (counts s r key it) h.0 h.1 (subst (λ x. IfOk x (StandsForAny r)) e c.counted.ensures.stands))
+    (λ a e h. is_counted s r documents key a part.is_split.are_documents c.requires.fields ask (counts s r key it) h.0 h.1 h.2 (subst (λ x. IfOk x (λ y. IsNestedPartial r.aggs y.partial)) e c.counted.ensures.partial))
     (λ e cause. block_memory v s documents p r key e part all cause)
     (c.counted.ensures.only s documents p (searched v s documents p part))
 
@@ -98,6 +99,3 @@ returns-in-None-clause-faults c = λ only.
     let none = c.in-None.is in
     let is : counted_key s r ≡ None = cc in
     evaluated_read c.args.view.now s r c.evaluated.result is (c.evaluated.ensures.faults only)
-
-pub returns-in-Some-clause-known : goal.returns-in-Some-clause-known
-returns-in-Some-clause-known c = known_of c.args.request.now c.counted.result c.counted.ensures.stands

@@ -1,4 +1,3 @@
-use Rattle.std.proofs.Common.{Ok}
 use Rattle.leaf_search.specs.Counts.{count_lookups}
 use Rattle.doc_sets.proofs.ReadLookups.{met}
 use Rattle.query_ast.specs.Sought.{view}
@@ -10,7 +9,6 @@ use Rattle.doc_sets.proofs.WithinFile.{lookups_within, only_memory}
 use Rattle.doc_sets.specs.Asking.{AsksLookups}
 use Rattle.leaf_search.specs.Answers.{AsksWith, IsAnswerOf}
 use Rattle.leaf_search.specs.Asks.{lookups_of}
-use Rattle.leaf_search.proofs.KeyCounts.{known_of}
 use Rattle.leaf_search.proofs.SetCounts.{count_answer}
 use Rattle.leaf_search.proofs.LeafSteps.{handed, of_lookups}
 use Rattle.leaf_search.proofs.leaf_answer.query_counted.Goals as goal
@@ -36,12 +34,12 @@ returns-in_err-count-clause-there c = λ documents p part all ask.
 pub returns-clause-only : goal.returns-clause-only
 returns-clause-only c = λ documents p part ask.
     count_answer c.args.schema.now c.args.request.now documents c.in_ok-count.count c.in_ok-answer_of_many.field-0 c.requires.counts (c.in_ok-count.ensures.only documents p (searched c.args.view.now c.args.schema.now documents p part) ask.query)
-    c.in_ok-answer_of_many.ensures.count c.in_ok-answer_of_many.ensures.hits c.in_ok-answer_of_many.ensures.stands
+    c.in_ok-answer_of_many.ensures.count c.in_ok-answer_of_many.ensures.hits c.in_ok-answer_of_many.ensures.many c.in_ok-answer_of_many.ensures.partial
 
 pub returns-clause-there : goal.returns-clause-there
 returns-clause-there c = λ documents p part all ask.
     count_answer c.args.schema.now c.args.request.now documents c.in_ok-count.count c.in_ok-answer_of_many.field-0 c.requires.counts (c.in_ok-count.ensures.only documents p (searched c.args.view.now c.args.schema.now documents p part) ask.query)
-    c.in_ok-answer_of_many.ensures.count c.in_ok-answer_of_many.ensures.hits c.in_ok-answer_of_many.ensures.stands
+    c.in_ok-answer_of_many.ensures.count c.in_ok-answer_of_many.ensures.hits c.in_ok-answer_of_many.ensures.many c.in_ok-answer_of_many.ensures.partial
 
 pub returns-in_err-count-clause-reads : goal.returns-in_err-count-clause-reads
 returns-in_err-count-clause-reads c =
@@ -49,6 +47,3 @@ returns-in_err-count-clause-reads c =
 
 pub returns-clause-reads : goal.returns-clause-reads
 returns-clause-reads c = c.in_ok-count.ensures.reads
-
-pub returns-clause-known : goal.returns-clause-known
-returns-clause-known c = known_of c.args.request.now (Ok c.in_ok-answer_of_many.field-0) c.in_ok-answer_of_many.ensures.stands

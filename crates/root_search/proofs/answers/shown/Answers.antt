@@ -1,4 +1,4 @@
-use Rattle.std.proofs.Common.{ap, arith, drop, refl, sym, take, ◌∙◌}
+use Rattle.std.proofs.Common.{ap, drop, refl, sym, take, ◌∙◌}
 use Rattle.root_search.specs.Answer.{printed}
 use Rattle.root_search.proofs.Showing.{found_shown, had_memory, refused_shown}
 use Rattle.root_search.proofs.answers.shown.Goals as goal
@@ -21,6 +21,3 @@ returns-in_ok-printed_page-in-Ok-clause-said c = (
 
 pub returns-in-Refused-clause-said : goal.returns-in-Refused-clause-said
 returns-in-Refused-clause-said c = (c.in-Err.error, sym c.from.ensures ∙ c.in-Refused.is, λ documents stands. sym (c.in-Err.ensures documents stands (had_memory c.in-Err.error c.in-Refused.refusal (sym c.from.ensures ∙ c.in-Refused.is))))
-
-pub finish_nested-requires-clause-known : goal.finish_nested-requires-clause-known
-finish_nested-requires-clause-known c = (c.requires.counted.documents, c.requires.counted.stands, omega (arith, c.requires.counted.many, c.requires.counted.few))

@@ -5,7 +5,7 @@ pub returns : goal.returns
 returns c = record {
   only = c.leaf.ensures.only;
   there = c.leaf.ensures.there;
-  counted = leaf_counted c.args.request.now c.leaf.result c.leaf.ensures.known c.leaf.ensures.few;
+  counted = leaf_counted c.args.request.now c.leaf.result c.leaf.ensures.partial c.leaf.ensures.many;
   read = c.leaf.ensures.read;
   faults = c.leaf.ensures.faults;
 }
