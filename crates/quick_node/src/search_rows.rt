@@ -206,6 +206,173 @@ record p1 {"size":65000}
 < a fetched 1
 < {"client":"a","error":{"count":65001,"kind":"TooManyBuckets"},"revision":3}
 run 0
+row nested buckets are counted too
+vacant
+command create
+> version = "0.9"
+> index_id = "logs"
+> [doc_mapping]
+> mode = "strict"
+> [[doc_mapping.field_mappings]]
+> name = "body"
+> type = "text"
+> record = "position"
+> [[doc_mapping.field_mappings]]
+> name = "level"
+> type = "text"
+> tokenizer = "raw"
+> fast = true
+> [[doc_mapping.field_mappings]]
+> name = "size"
+> type = "i64"
+> fast = true
+> [indexing_settings.merge_policy]
+> type = "stable_log"
+> min_level_num_docs = 100
+> merge_factor = 2
+> max_merge_factor = 4
+> [search_settings]
+> default_search_fields = ["body"]
+> [upkeep]
+> staged_grace_secs = 200
+> deletion_grace_secs = 100
+< created
+run 0
+log
+record p0 {"level":"a","size":0}
+record p1 {"level":"b","size":64999}
+> at 1000
+> indexer 0
+> indexer 0
+> indexer 0
+> indexer 0
+> indexer 0
+> indexer 0
+> client a {"search":{"query":"*","max_hits":0,"aggs":{"h":{"histogram":{"field":"size","interval":1},"aggs":{"t":{"terms":{"field":"level"}}}}}}}
+> client a
+> client a
+> client a
+< at 1000
+< indexer 0 checkpoint
+< indexer 0 read 1
+< indexer 0 read 1
+< indexer 0 staged 1
+< indexer 0 uploaded 1
+< indexer 0 published 1
+< a opened
+< a planned 3 1
+< a fetched 1
+< {"client":"a","error":{"count":65002,"kind":"TooManyBuckets"},"revision":3}
+run 0
+row metrics, ranges, and what is nested in buckets
+vacant
+command create
+> version = "0.9"
+> index_id = "logs"
+> [doc_mapping]
+> mode = "strict"
+> [[doc_mapping.field_mappings]]
+> name = "body"
+> type = "text"
+> record = "position"
+> [[doc_mapping.field_mappings]]
+> name = "level"
+> type = "text"
+> tokenizer = "raw"
+> fast = true
+> [[doc_mapping.field_mappings]]
+> name = "size"
+> type = "i64"
+> fast = true
+> [indexing_settings.merge_policy]
+> type = "stable_log"
+> min_level_num_docs = 100
+> merge_factor = 2
+> max_merge_factor = 4
+> [search_settings]
+> default_search_fields = ["body"]
+> [upkeep]
+> staged_grace_secs = 200
+> deletion_grace_secs = 100
+< created
+run 0
+log
+record p0 {"level":"a","size":1}
+record p0 {"level":"a","size":5}
+record p0 {"level":"b","size":12}
+> at 1000
+> indexer 0
+> indexer 0
+> indexer 0
+> indexer 0
+> indexer 0
+> client a {"search":{"query":"*","max_hits":0,"aggs":{"l":{"terms":{"field":"level"},"aggs":{"s":{"sum":{"field":"size"}},"m":{"max":{"field":"size"}}}}}}}
+> client a
+> client a
+> client a
+> client a {"search":{"query":"*","max_hits":0,"aggs":{"r":{"range":{"field":"size","ranges":[{"to":5},{"from":5,"to":12},{"from":12}]}}}}}
+> client a
+> client a
+> client a
+> client a {"search":{"query":"level:z","max_hits":0,"aggs":{"c":{"value_count":{"field":"size"}},"m":{"min":{"field":"size"}}}}}
+> client a
+> client a
+> client a
+> client a {"search":{"query":"*","max_hits":0,"aggs":{"h":{"histogram":{"field":"size","interval":4},"aggs":{"m":{"max":{"field":"size"}},"t":{"terms":{"field":"level"}}}}}}}
+> client a
+> client a
+> client a
+> client a {"search":{"query":"*","max_hits":0,"aggs":{"r":{"range":{"field":"size","ranges":[{"from":5}]},"aggs":{"f":{"min":{"field":"size"}},"z":{"sum":{"field":"size"}}}}}}}
+> client a
+> client a
+> client a
+> client a {"search":{"query":"*","aggs":{"l":{"terms":{"field":"level"},"aggs":{"key":{"sum":{"field":"size"}}}}}}}
+> client a
+> client a {"search":{"query":"*","aggs":{"l":{"terms":{"field":"level"},"aggs":{"s":{"sum":{"field":"level"}}}}}}}
+> client a
+> client a {"search":{"query":"*","aggs":{"s":{"sum":{"field":"body"}}}}}
+> client a
+> client a {"search":{"query":"*","aggs":{"r":{"range":{"field":"size","ranges":[{"from":5,"to":5}]}}}}}
+> client a
+> client a {"search":{"query":"*","aggs":{"s":{"sum":{"field":"size"},"aggs":{}}}}}
+> client a
+< at 1000
+< indexer 0 checkpoint
+< indexer 0 read 3
+< indexer 0 staged 1
+< indexer 0 uploaded 1
+< indexer 0 published 1
+< a opened
+< a planned 3 1
+< a fetched 1
+< {"aggregations":{"l":{"buckets":[{"doc_count":2,"key":"a","m":{"value":5},"s":{"value":6}},{"doc_count":1,"key":"b","m":{"value":12},"s":{"value":12}}],"doc_count_error_upper_bound":0,"sum_other_doc_count":0}},"client":"a","hits":[],"num_hits":3,"revision":3}
+< a opened
+< a planned 3 1
+< a fetched 1
+< {"aggregations":{"r":{"buckets":[{"doc_count":1,"key":"*-5","to":5},{"doc_count":1,"from":5,"key":"5-12","to":12},{"doc_count":1,"from":12,"key":"12-*"}]}},"client":"a","hits":[],"num_hits":3,"revision":3}
+< a opened
+< a planned 3 1
+< a fetched 1
+< {"aggregations":{"c":{"value":0},"m":{"value":null}},"client":"a","hits":[],"num_hits":0,"revision":3}
+< a opened
+< a planned 3 1
+< a fetched 1
+< {"aggregations":{"h":{"buckets":[{"doc_count":1,"key":0,"m":{"value":1},"t":{"buckets":[{"doc_count":1,"key":"a"}],"doc_count_error_upper_bound":0,"sum_other_doc_count":0}},{"doc_count":1,"key":4,"m":{"value":5},"t":{"buckets":[{"doc_count":1,"key":"a"}],"doc_count_error_upper_bound":0,"sum_other_doc_count":0}},{"doc_count":0,"key":8,"m":{"value":null},"t":{"buckets":[],"doc_count_error_upper_bound":0,"sum_other_doc_count":0}},{"doc_count":1,"key":12,"m":{"value":12},"t":{"buckets":[{"doc_count":1,"key":"b"}],"doc_count_error_upper_bound":0,"sum_other_doc_count":0}}]}},"client":"a","hits":[],"num_hits":3,"revision":3}
+< a opened
+< a planned 3 1
+< a fetched 1
+< {"aggregations":{"r":{"buckets":[{"doc_count":2,"f":{"value":5},"from":5,"key":"5-*","z":{"value":17}}]}},"client":"a","hits":[],"num_hits":3,"revision":3}
+< a opened
+< {"client":"a","error":{"kind":"WrongKind","name":"key"},"revision":3}
+< a opened
+< {"client":"a","error":{"field":"level","kind":"NotFast"},"revision":3}
+< a opened
+< {"client":"a","error":{"field":"body","kind":"NotFast"},"revision":3}
+< a opened
+< {"client":"a","error":{"kind":"BadInterval","name":"r"},"revision":3}
+< a opened
+< {"client":"a","error":{"kind":"UnknownKey","name":"aggs"},"revision":3}
+run 0
 row a split whose greatest time is where the times begin is searched, and one whose least is where they end is not
 vacant
 command create

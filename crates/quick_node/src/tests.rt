@@ -539,7 +539,7 @@ fn rows_of_reports(rt: HostRuntime) -> Result<(), Fail> {
 
 #[test]
 fn rows_of_searches(rt: HostRuntime) -> Result<(), Fail> {
-    do_rows(&rt, rt.alloc(), SEARCH_ROWS, 20)
+    do_rows(&rt, rt.alloc(), SEARCH_ROWS, 24)
 }
 
 const SCHEDULE: &str =
