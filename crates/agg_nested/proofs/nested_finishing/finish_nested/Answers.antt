@@ -8,15 +8,9 @@ returns-then-count-gt-MOST_BUCKETS c = λ documents h m.
     let counted = rw c.as_slice.ensures at c.in-Ok.ensures in
     many_answered c.args.request.now documents c.in-Ok.count (counted documents h.parts) c.if-count-gt-MOST_BUCKETS.true
 
-pub part_answers-requires-clause-few : goal.part_answers-requires-clause-few
-part_answers-requires-clause-few c =
-    let counted = rw c.as_slice.ensures at c.in-Ok.ensures in
-    let is : c.in-Ok.count ≡ told (all_buckets c.args.request.now c.requires.known.0) = counted c.requires.known.0 c.requires.known.1.parts in
-    rw c.as_slice-2.ensures (c.requires.known.0, c.requires.known.1.parts, c.requires.known.2, omega (arith, is, c.if-count-gt-MOST_BUCKETS.false))
-
 pub returns-in-Ok-part_answers : goal.returns-in-Ok-part_answers
 returns-in-Ok-part_answers c = λ documents h m.
     let counted = rw c.as_slice.ensures at c.in-Ok.ensures in
     let is : c.in-Ok.count ≡ told (all_buckets c.args.request.now documents) = counted documents h.parts in
     let answered = rw c.as_slice-2.ensures at c.in-Ok-part_answers.ensures in
-    few_answered c.args.request.now documents c.in-Ok-part_answers.answers (omega (arith, is, c.if-count-gt-MOST_BUCKETS.false)) (answered documents h.parts)
+    few_answered c.args.request.now documents c.in-Ok-part_answers.answers (omega (arith, is, c.if-count-gt-MOST_BUCKETS.false)) (answered documents h.parts (omega (arith, is, c.if-count-gt-MOST_BUCKETS.false)))

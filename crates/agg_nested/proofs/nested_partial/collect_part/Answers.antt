@@ -6,8 +6,8 @@ use Rattle.agg_nested.proofs.nested_partial.collect_part.Goals as goal
 pub collect_groups-requires-clause-known : goal.collect_groups-requires-clause-known
 collect_groups-requires-clause-known c = λ some.
     let few = c.requires.few in
-    let many = c.requires.known.2 in
-    can_raise c.args.asked.now.agg c.args.asked.now.nested c.args.part.now.groups c.requires.known.0 (c.args.documents + 1) (omega arith) (c.requires.known.1.groups some)
+    let many = c.requires.known.many in
+    can_raise c.args.asked.now.agg c.args.asked.now.nested c.args.part.now.groups c.requires.known.documents (c.args.documents + 1) (omega arith) (c.requires.known.stands.groups some)
 
 pub returns : goal.returns
 returns c =

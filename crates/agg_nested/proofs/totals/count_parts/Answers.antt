@@ -3,7 +3,7 @@ use Rattle.std.proofs.lemmas.List.{take_all}
 use Rattle.std.specs.List.{All}
 use Rattle.agg_model.proofs.Parts.{all_zip_long}
 use Rattle.agg_nested.specs.Answers.{all_buckets, nested_buckets, told}
-use Rattle.agg_nested.specs.Buckets.{PartStands}
+use Rattle.agg_nested.specs.Buckets.{PartStands, IsPartFor}
 use Rattle.agg_nested.specs.Checking.{HasStep}
 use Rattle.agg_nested.specs.declared.nested_partial.NestedPart.{NestedPart}
 use Rattle.agg_nested.specs.declared.request.NamedFlat.{NamedFlat}
@@ -14,7 +14,7 @@ use Rattle.agg_nested.proofs.totals.count_parts.Goals as goal
 
 pub index-requires : goal.index-requires
 index-requires c =
-    let long : length c.args.parts.now.items ≡ length c.args.request.now = all_zip_long (λ (a : NestedAgg) (p : NestedPart). PartStands a p c.requires.known.0) _ _ c.requires.known.1 in
+    let long : length c.args.parts.now.items ≡ length c.args.request.now = all_zip_long (λ (a : NestedAgg) (p : NestedPart). IsPartFor a c.requires.known.0 p) _ _ c.requires.known.1 in
     omega (arith, c.args.parts.now.ok)
 
 pub count_part-requires-clause-step : goal.count_part-requires-clause-step
@@ -26,12 +26,11 @@ count_part-requires-clause-steps c =
     subst (λ (a : NestedAgg). All (λ (named : NamedFlat). HasStep named.agg) a.nested) (sym c.index-request-i.is) (c.requires.steps c.loop-i.i c.index-request-i.result (omega arith)).1
 
 pub count_part-requires-clause-known : goal.count_part-requires-clause-known
-count_part-requires-clause-known c = (
-  c.requires.known.0,
-  holds_at (λ (a : NestedAgg) (p : NestedPart). PartStands a p c.requires.known.0) c.args.request.now c.args.parts.now.items c.args.parts.now.items c.loop-i.i c.index-request-i.result c.index.result.now
-      (omega arith) c.index-request-i.is c.requires.known.1 refl c.index.ensures,
-  c.requires.known.2,
-)
+count_part-requires-clause-known c =
+    let at = holds_at (λ (a : NestedAgg) (p : NestedPart). IsPartFor a c.requires.known.0 p) c.args.request.now c.args.parts.now.items c.args.parts.now.items c.loop-i.i c.index-request-i.result c.index.result.now
+        (omega arith) c.index-request-i.is c.requires.known.1 refl c.index.ensures in
+    let many = at.many in
+    (at.documents, at.stands, omega (arith, many, c.requires.known.2))
 
 pub loop-i-preserved : goal.loop-i-preserved
 loop-i-preserved c = λ documents h.
