@@ -148,7 +148,7 @@ aggs_in agg (Some d) = few_aggs agg (as_object d)
 abbrev pub is_own_key : List ℕ → Bool
 is_own_key k = bytes_eq k (codes "doc_count") || bytes_eq k (codes "from") || bytes_eq k (codes "key") || bytes_eq k (codes "to")
 
-abbrev pub nested_of : List ℕ → Data → Result AskedFlat RequestError
+unfoldable pub nested_of : List ℕ → Data → Result AskedFlat RequestError
 nested_of name d = if is_own_key name then Err (WrongKind name) else flat_of name d
 
 abbrev pub nesting : AskedFlat → List AskedFlat → AskedAgg

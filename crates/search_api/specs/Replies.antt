@@ -1,5 +1,5 @@
 -- The line of a reply: compact JSON, the keys of each object in byte order.
-use Rattle.std.specs.Prelude.{ℕ, ℤ, Bool, true, false, List, [], ◌∷◌, ◌++◌, map, Option, Some, None, codes, if◌then◌else◌}
+use Rattle.std.specs.Prelude.{ℕ, ℤ, Bool, true, false, List, [], ◌∷◌, ◌++◌, ◌&&◌, ◌==◌, length, map, Option, Some, None, codes, if◌then◌else◌}
 use Rattle.std.specs.Cmp.Lexicographic.{slice_cmp}
 use Rattle.std.specs.Fmt.{decimal, signed_decimal}
 use Rattle.std.specs.Ordering.{nat_cmp, is_lt}
@@ -78,6 +78,17 @@ behind_all (own ∷ more) nested = behind_all more (behind own.key nested)
 -- both together, in byte order of their keys where each of the two is
 abbrev pub among : List Pair → List Pair → List Pair
 among own nested = own_among own nested ++ behind_all own nested
+
+-- own pairs as they are written, and one of them up to its value
+unfoldable pub own_text : Bool → List Pair → List Pair → List ℕ
+own_text begins own nested = with_commas begins (map line_of (own_among own nested))
+
+unfoldable pub own_key_text : Bool → List ℕ → List Pair → List ℕ
+own_key_text begins key nested =
+    with_commas begins (map line_of (before key nested)) ++ begun_pair (begins && (length (behind key nested) == length nested)) key
+
+unfoldable pub left_text : List Pair → List ℕ
+left_text nested = with_commas false (map line_of nested)
 
 unfoldable pub bucket_text : List Pair → List Pair → List ℕ
 bucket_text own nested = object_text (map line_of (among own nested))

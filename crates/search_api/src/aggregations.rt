@@ -173,6 +173,7 @@ fn is_own_key(name: &str) -> bool
 }
 
 /// A nested aggregation under a name that no key of a bucket has.
+#[tactic(auto, unfolding(crate::specs::Aggregations::nested_of))]
 fn nested_of(alloc: Global, name: &str, value: &Value) -> Result<AskedFlat, RequestError>
     ensures { Gives (spec.nested_of name.now (view value.now)) result }
 {

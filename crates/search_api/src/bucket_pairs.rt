@@ -1,6 +1,6 @@
 //! The pairs of a bucket: its own among those of its nested answers.
 
-ghost use Rattle.std.specs.Prelude.{◌≡◌, ◌++◌, ◌∷◌, [], ◌&&◌, ◌==◌, IfOk, OnOk, length, map, true, false, codes};
+ghost use Rattle.std.specs.Prelude.{◌≡◌, ◌++◌, ◌∷◌, [], IfOk, OnOk, map, true, false, codes};
 ghost use Rattle.std.specs.Fmt.{decimal, signed_decimal};
 ghost use Rattle.doc_value.specs.Printed.{comma, quoted, value_text};
 ghost use Rattle.search_api.specs.Replies as spec;
@@ -67,12 +67,7 @@ fn push_pair(out: &mut Bytes, first: bool, pair: &Pair) -> Result<(), AllocError
 }
 
 /// Writes the pairs at the front whose keys lie below a key.
-fn push_before(
-    out: &mut Bytes,
-    begins: bool,
-    pairs: &[Pair],
-    key: &[u8],
-) -> Result<(), AllocError>
+fn push_before(out: &mut Bytes, begins: bool, pairs: &[Pair], key: &[u8]) -> Result<(), AllocError>
     ensures { OnOk result (out.new ≡ out.old ++ spec.with_commas begins (map spec.line_of (spec.before key.now pairs.now))) }
 {
     let mut first = begins;
@@ -101,14 +96,9 @@ pub fn behind<'a>(pairs: &'a [Pair], key: &[u8]) -> &'a [Pair]
 }
 
 /// A key of the bucket's own, behind the pairs whose keys lie below it.
-fn push_own_key(
-    out: &mut Bytes,
-    begins: bool,
-    pairs: &[Pair],
-    key: &[u8],
-) -> Result<(), AllocError>
-    ensures { OnOk result (out.new ≡ (out.old ++ spec.with_commas begins (map spec.line_of (spec.before key.now pairs.now)))
-        ++ spec.begun_pair (begins && (length (spec.behind key.now pairs.now) == length pairs.now)) key.now) }
+#[tactic(auto, unfolding(crate::specs::Replies::own_key_text))]
+fn push_own_key(out: &mut Bytes, begins: bool, pairs: &[Pair], key: &[u8]) -> Result<(), AllocError>
+    ensures { OnOk result (out.new ≡ out.old ++ spec.own_key_text begins key.now pairs.now) }
 {
     push_before(out, begins, pairs, key)?;
     push_key(out, begins && behind(pairs, key).len() == pairs.len(), key)
@@ -122,7 +112,7 @@ pub fn push_own_count(
     pairs: &[Pair],
     count: u64,
 ) -> Result<(), AllocError>
-    ensures { OnOk result (out.new ≡ out.old ++ spec.with_commas true (map spec.line_of (spec.own_among (spec.pair (codes "doc_count") (decimal count) ∷ []) pairs.now))) }
+    ensures { OnOk result (out.new ≡ out.old ++ spec.own_text true (spec.pair (codes "doc_count") (decimal count) ∷ []) pairs.now) }
 {
     push_own_key(out, true, pairs, b"doc_count")?;
     push_digits(alloc, out, count as u128)
@@ -136,14 +126,23 @@ pub fn push_value_key(
     pairs: &[Pair],
     key: &Key,
 ) -> Result<(), AllocError>
-    ensures { OnOk result (out.new ≡ out.old ++ spec.with_commas false (map spec.line_of (spec.own_among (spec.pair (codes "key") (spec.key_text key.now) ∷ []) pairs.now))) }
+    ensures { OnOk result (out.new ≡ out.old ++ spec.own_text false (spec.pair (codes "key") (spec.key_text key.now) ∷ []) pairs.now) }
 {
     push_own_key(out, false, pairs, b"key")?;
     push_key_value(alloc, out, key)
 }
 
-/// An edge of its range, if it is there.
+/// A pair whose value is printed already, behind one of its own.
 #[tactic(auto, using(crate::proofs::Among::own_pair))]
+fn push_own_text(out: &mut Bytes, pairs: &[Pair], key: &[u8], text: &[u8]) -> Result<(), AllocError>
+    ensures { OnOk result (out.new ≡ out.old ++ spec.own_text false (spec.pair key.now text.now ∷ []) pairs.now) }
+{
+    push_own_key(out, false, pairs, key)?;
+    out.extend(text)
+}
+
+/// An edge of its range, if it is there.
+#[tactic(auto, using(crate::proofs::Among::own_none))]
 pub fn push_edge(
     alloc: Global,
     out: &mut Bytes,
@@ -151,13 +150,10 @@ pub fn push_edge(
     key: &[u8],
     edge: Option<i128>,
 ) -> Result<(), AllocError>
-    ensures { OnOk result (out.new ≡ out.old ++ spec.with_commas false (map spec.line_of (spec.own_among (spec.edge_pairs key.now edge) pairs.now))) }
+    ensures { OnOk result (out.new ≡ out.old ++ spec.own_text false (spec.edge_pairs key.now edge) pairs.now) }
 {
     match edge {
-        Some(edge) => {
-            push_own_key(out, false, pairs, key)?;
-            push_signed(alloc, out, edge)
-        }
+        Some(edge) => push_own_text(out, pairs, key, edge.to_string(alloc)?.as_bytes()),
         None => Ok(()),
     }
 }
@@ -192,23 +188,31 @@ fn range_key(alloc: Global, range: &WholeRange) -> Result<Bytes, AllocError>
     Ok(key)
 }
 
-#[tactic(auto, using(crate::proofs::Among::own_pair))]
+fn quoted_range_key(alloc: Global, range: &WholeRange) -> Result<Bytes, AllocError>
+    ensures { IfOk result (λ text. text ≡ quoted (spec.range_key range.now)) }
+{
+    let key = range_key(alloc, range)?;
+    let mut text = Bytes::vacant(alloc);
+    push_quoted(&mut text, key.as_slice())?;
+    Ok(text)
+}
+
 pub fn push_range_key(
     alloc: Global,
     out: &mut Bytes,
     pairs: &[Pair],
     range: &WholeRange,
 ) -> Result<(), AllocError>
-    ensures { OnOk result (out.new ≡ out.old ++ spec.with_commas false (map spec.line_of (spec.own_among (spec.pair (codes "key") (quoted (spec.range_key range.now)) ∷ []) pairs.now))) }
+    ensures { OnOk result (out.new ≡ out.old ++ spec.own_text false (spec.pair (codes "key") (quoted (spec.range_key range.now)) ∷ []) pairs.now) }
 {
-    let key = range_key(alloc, range)?;
-    push_own_key(out, false, pairs, b"key")?;
-    push_quoted(out, key.as_slice())
+    let text = quoted_range_key(alloc, range)?;
+    push_own_text(out, pairs, b"key", text.as_slice())
 }
 
 /// The pairs that are left.
+#[tactic(auto, unfolding(crate::specs::Replies::left_text))]
 pub fn push_pairs(out: &mut Bytes, pairs: &[Pair]) -> Result<(), AllocError>
-    ensures { OnOk result (out.new ≡ out.old ++ spec.with_commas false (map spec.line_of pairs.now)) }
+    ensures { OnOk result (out.new ≡ out.old ++ spec.left_text pairs.now) }
 {
     for pair in pairs {
         push_pair(out, false, pair)?;

@@ -199,13 +199,21 @@ fn push_number_or_null(
     }
 }
 
-#[tactic(auto, using(crate::proofs::Among::metric_written), unfolding(crate::specs::Replies::metric_text))]
+/// The number of a metric under its key.
+#[tactic(auto, using(crate::proofs::Objects::keyed))]
+fn push_value(alloc: Global, out: &mut Bytes, number: Option<i128>) -> Result<(), AllocError>
+    ensures { OnOk result (out.new ≡ out.old ++ (comma true ++ spec.pair_text (codes "value") (spec.number_text number))) }
+{
+    push_key(out, true, b"value")?;
+    push_number_or_null(alloc, out, number)
+}
+
+#[tactic(auto, using(crate::proofs::Objects::one_pair), unfolding(crate::specs::Replies::metric_text))]
 fn push_metric(alloc: Global, out: &mut Bytes, number: Option<i128>) -> Result<(), AllocError>
     ensures { OnOk result (out.new ≡ out.old ++ spec.metric_text number) }
 {
     out.push(b'{')?;
-    push_key(out, true, b"value")?;
-    push_number_or_null(alloc, out, number)?;
+    push_value(alloc, out, number)?;
     out.push(b'}')
 }
 
@@ -302,11 +310,7 @@ fn push_each_named(
 
 /// The answers under their names.
 #[tactic(auto, using(crate::proofs::Objects::bracketed), unfolding(crate::specs::Replies::aggs_text, crate::specs::Replies::object_text))]
-pub fn push_aggs(
-    alloc: Global,
-    out: &mut Bytes,
-    results: &[NestedAnswer],
-) -> Result<(), AllocError>
+pub fn push_aggs(alloc: Global, out: &mut Bytes, results: &[NestedAnswer]) -> Result<(), AllocError>
     ensures { OnOk result (out.new ≡ out.old ++ spec.aggs_text results.now) }
 {
     out.push(b'{')?;
