@@ -1,14 +1,12 @@
 -- Cores for which one world stands agree.
-use Rattle.std.proofs.Common.{◌≡◌, ◌⊎◌, inl, inr, ℕ, List, [], ◌∷◌, ◌++◌, refl, sym, ap, ◌∙◌, subst, arith, length}
+use Rattle.std.proofs.Common.{◌≡◌, inl, inr, ℕ, List, [], ◌∷◌, refl, sym, ap, ◌∙◌, subst, arith, length}
 use Rattle.std.specs.Prelude.{Option, Some, None}
-use Rattle.index_config.specs.declared.config.IndexConfig.{IndexConfig}
-use Rattle.meta_journal.specs.Places.{IsJournal}
 use Rattle.meta_journal.specs.declared.entry.Entry.{Entry}
 use Rattle.object_store.specs.Store.{State}
 use Rattle.source_log.specs.Log.{Log}
 use Rattle.index_world.specs.Alike.{AreAlike}
 use Rattle.index_world.specs.Configuration.{configuration}
-use Rattle.index_world.specs.Core.{Core, journal_of, with_unread, IsUnusedIn, IsUploadedIn, HasStagedIn}
+use Rattle.index_world.specs.Core.{Core, journal_of, with_unread, IsUploadedIn}
 use Rattle.index_world.specs.Index.{IsUnused, IsUploaded, IsGivenUp, HasStaged}
 use Rattle.index_world.specs.Standing.{StandsFor}
 use Rattle.index_world.specs.World.{Keeping, WorldStands}

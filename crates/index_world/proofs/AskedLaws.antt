@@ -4,7 +4,7 @@ use Rattle.std.specs.Prelude.{IsSome, IsErrOf, IfErr, IfSome, ⊤, Bool, true, f
 use Rattle.std.proofs.lemmas.Bool.Decides.{nat_tests}
 use Rattle.index_config.specs.declared.config.IndexConfig.{IndexConfig}
 use Rattle.std.specs.FinMap.{get}
-use Rattle.byte_fields.specs.Causes.{HasCause, Rose}
+use Rattle.byte_fields.specs.Causes.{HasCause}
 use Rattle.object_store.specs.Store.{State, WhereTold, AfterLanding, HasLanded, LandsThen, Gets, Finds, Creates, IsPieceOf}
 use Rattle.object_store.specs.declared.store.CreateError.{CreateError}
 use Rattle.object_store.specs.declared.store.CreateError.TheVariants as creates

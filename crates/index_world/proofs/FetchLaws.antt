@@ -1,12 +1,12 @@
 -- A fetch of a planned file meets it: it is a fetch of a file that stands.
-use Rattle.std.proofs.Common.{◌≡◌, ◌≤◌, ◌<◌, ℕ, List, refl, sym, ap, ◌∙◌, subst, Bool, true, false, arith}
+use Rattle.std.proofs.Common.{◌≡◌, ◌<◌, ℕ, List, refl, sym, ap, ◌∙◌, subst, Bool, true, false, arith}
 use Rattle.std.proofs.lemmas.Bool.Decides.{nat_tests}
 use Rattle.std.specs.Prelude.{Option, Some, None, is_some, nat_le, Result, Ok, Err, ⊤}
 use Rattle.meta_journal.specs.Places.{split_key}
 use Rattle.object_store.specs.Store.{IsPieceOf}
 use Rattle.object_store.specs.declared.store.Piece.{Piece}
 use Rattle.source_log.specs.Log.{Log}
-use Rattle.index_world.specs.Calls.{Call, Fate, Grace, Gives, gives, Trouble, no_memory, Unfetched, absent, hindered, may_fail, begun, asked_clock, store_failed, sought_by, file_sought, sought_unless, fetched_from, got_file, file_got, unless_over, fetched}
+use Rattle.index_world.specs.Calls.{Fate, Grace, Gives, gives, Trouble, Unfetched, absent, hindered, may_fail, begun, asked_clock, sought_by, file_sought, sought_unless, fetched_from, got_file, file_got, unless_over, fetched}
 use Rattle.index_world.specs.Core.{Core, file_at, IsPlannedIn, IsStoredIn}
 use Rattle.index_world.specs.Gate.{Acts, Says, IsTrouble, IsUnfetched, IsPieceGiven}
 use Rattle.index_world.specs.declared.world_error.WorldError.{WorldError}

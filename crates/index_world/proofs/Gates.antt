@@ -32,7 +32,7 @@ use Rattle.index_world.specs.declared.life.Life.{Life}
 use Rattle.index_world.specs.declared.own.Own.{Own}
 use Rattle.index_world.specs.declared.own.Own.TheVariants as owns
 use Rattle.index_world.specs.declared.world_error.WorldError.{WorldError}
-use Rattle.index_world.specs.Calls.{Call, Fate, Grace, calm_call, sought_by, file_sought, sought_unless, fetched_from, Unfetched, absent, hindered, is_expired, gives, Gives, Trouble, no_memory, appended, looked, asked, asked_and_looked, asked_clock, asked_moment, entry_of, upload_made, faulted, store_fault, store_failed}
+use Rattle.index_world.specs.Calls.{Call, Fate, Grace, calm_call, file_sought, sought_unless, fetched_from, Unfetched, absent, hindered, is_expired, gives, Gives, Trouble, no_memory, appended, looked, asked, asked_and_looked, asked_clock, asked_moment, entry_of, upload_made, faulted, store_fault, store_failed}
 use Rattle.index_world.specs.Config.{reads}
 use Rattle.index_world.specs.Core.{Core, last_count, file_at, journal_of, HasStagedIn, IsUnusedIn}
 use Rattle.index_world.specs.CallsMade.{Ask, made_of}

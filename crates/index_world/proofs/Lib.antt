@@ -5,6 +5,8 @@ pub mod Numbers
 pub mod StoreChanges
 pub mod InHand
 pub mod Asking
+pub mod Answering
+pub mod Following
 pub mod Configured
 pub mod Entering
 pub mod GivenUp

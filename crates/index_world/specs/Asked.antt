@@ -1,5 +1,5 @@
 -- What the calls of a world on one file do and answer over any store that tells, whether it is an index or not.
-use Rattle.std.specs.Prelude.{◌≡◌, ◌<◌, ◌≤◌, ◌+◌, ℕ, List, Option, Some, None, Result, Ok, Err, IsSome, ⊤}
+use Rattle.std.specs.Prelude.{◌≡◌, ◌<◌, ◌≤◌, ℕ, List, Some, None, Result, Ok, Err, IsSome, ⊤}
 use Rattle.std.specs.FinMap.{get}
 use Rattle.object_store.specs.Store.{State, HasLanded, LandsThen, Creates, IsPieceOf}
 use Rattle.object_store.specs.declared.store.CreateError.{CreateError}

@@ -1,6 +1,6 @@
 -- A world on which one actor after the other acts: nothing is recorded of its calls, each number is its caller's own, and its calls need
 -- nothing of it, since what each says has its own condition.
-use Rattle.std.proofs.Common.{◌≡◌, ℕ, List, [], sym, subst, append-nil}
+use Rattle.std.proofs.Common.{ℕ, List, [], sym, subst, append-nil}
 use Rattle.std.proofs.Math.Nat.{le_refl}
 use Rattle.source_log.specs.Log.{Log}
 use Rattle.index_config.specs.declared.config.IndexConfig.{IndexConfig}

@@ -15,6 +15,7 @@ pub mod Opened
 pub mod Taking
 pub mod Steps
 pub mod Asked
+pub mod Answering
 pub mod Unsure
 pub mod Life
 pub mod KeepingCode

@@ -1,6 +1,6 @@
 -- What one life of a world knows of its journal, and what its calls do, in the words of the core.
 use Rattle.std.specs.Prelude.{◌≡◌, ◌⊎◌, ◌+◌, ◌<◌, ◌≤◌, ◌^◌, ℕ, Bool, true, false, List, [], ◌∷◌, ◌++◌, length, max, IsOk, Option, Some, None, Result, Ok, Err, ⊤}
-use Rattle.meta_journal.specs.Places.{meta_key}
+use Rattle.meta_journal.specs.Places.{meta_key, HasEntry}
 use Rattle.meta_journal.specs.Spelling.{CanSpell, CanSpellAct}
 use Rattle.meta_journal.specs.declared.entry.Act.{Act}
 use Rattle.meta_journal.specs.declared.entry.Act.TheVariants as acts
@@ -20,6 +20,7 @@ use Rattle.index_world.specs.declared.life.Life.{Life}
 use Rattle.index_world.specs.declared.own.Own.{Own}
 use Rattle.index_world.specs.declared.world_error.WorldError.{WorldError}
 use Rattle.index_world.specs.declared.world_error.WorldError.TheVariants as errors
+use Rattle.index_world.specs.Answering.{AppendedOwn, AppendsNot}
 use Rattle.index_world.specs.Calls.{Trouble, Unmade, Unread, may_append, entry_of}
 use Rattle.index_world.specs.Config.{reads}
 use Rattle.index_world.specs.Core.{Core, last_count, journal_of, IsUnusedIn, HasStagedIn, clock_of}
@@ -29,7 +30,7 @@ use Rattle.index_world.specs.Loading.{LoadsAs, IsUnread}
 use Rattle.index_world.specs.Opened.{Finds, all_found, OpensNot}
 use Rattle.index_world.specs.Owning.{own_act}
 use Rattle.index_world.specs.Steps.{Counted, MadeLaw, AdoptedLaw, FailedLaw, ExistsLaw, Settled, Unsettled, Transacted}
-use Rattle.index_world.specs.Taking.{IsWant}
+use Rattle.index_world.specs.Taking.{IsNotTaken, IsWant}
 use Rattle.index_world.specs.Unsure.{is_unsure}
 use Rattle.index_world.specs.World.{IsWorld, IsTimely}
 
@@ -60,12 +61,13 @@ pub record TookIn (old : Life) (entry : Entry) (new : Life) : Type 0 where
   pub meta : new.meta.state ≡ after (reading_in old.meta.state entry.act) entry old.meta.state
   pub moment : entry.moment < 2 ^ 62 → new.moment ≡ max old.moment entry.moment
 
--- it was not, which an entry that may come next meets by want of memory alone
+-- It was not, which an entry that may come next meets by want of memory alone. Any other is refused with the key of its number.
 pub record TookNone (old : Life) (entry : Entry) (error : WorldError) (new : Life) : Type 0 where
   pub journal : new.journal ≡ old.journal
   pub meta : new.meta.state ≡ old.meta.state
   pub moment : new.moment ≡ old.moment
   pub want : IsOk (answer_to (reading_in old.meta.state entry.act) old.meta.state entry) → IsWant error
+  pub unfit : IsNotTaken (answer_to (reading_in old.meta.state entry.act) old.meta.state entry) old.journal.next error
 
 -- ---- settling
 
@@ -166,6 +168,14 @@ pub record Creating (old : State) (core : Core) (log : Log) (act : Act) (settled
   pub counted : Counted core count
   pub did : CreatesBy old new core log act settled before count life result
   pub still : life.journal.settled ≡ settled
+
+-- ---- over any store that tells
+
+-- one create of an entry of one's own: it is the last object, or another stands at its number, or why neither
+abbrev pub Makes : (meta.State → Act) → Result (Option Entry) WorldError → Life → State → Type 0
+Makes act (Ok None) life now = AppendedOwn act life.moment life.journal.next life.meta.state now
+Makes act (Ok (Some entry)) life now = HasEntry now life.journal.next entry
+Makes act (Err error) life now = AppendsNot error act life.moment life.journal.next life.meta.state now
 
 -- ---- a transaction
 

@@ -46,6 +46,20 @@ IsUnfit answer number errors.NoIndex = ⊥
 IsUnfit answer number errors.IndexExists = ⊥
 IsUnfit answer number (errors.BadConfig bad) = ⊥
 
+-- An entry of the journal with this number is not taken in: it is refused as its answer says, or memory wants.
+abbrev pub IsNotTaken : Answer → ℕ → WorldError → Type 0
+IsNotTaken answer number (errors.Memory e) = ⊤
+IsNotTaken answer number (errors.Corrupt key) = IsErr answer × (key ≡ meta_key number)
+IsNotTaken answer number (errors.Refused refusal) = ⊥
+IsNotTaken answer number (errors.StoreFault before after) = ⊥
+IsNotTaken answer number (errors.Missing key) = ⊥
+IsNotTaken answer number (errors.Foreign key) = ⊥
+IsNotTaken answer number errors.Full = ⊥
+IsNotTaken answer number (errors.Expired planned_at reached) = ⊥
+IsNotTaken answer number errors.NoIndex = ⊥
+IsNotTaken answer number errors.IndexExists = ⊥
+IsNotTaken answer number (errors.BadConfig bad) = ⊥
+
 -- the first refused entry has this number, or memory wants
 abbrev pub IsRefusedAt : Option ℕ → WorldError → Type 0
 IsRefusedAt first (errors.Memory e) = ⊤

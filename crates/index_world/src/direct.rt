@@ -41,6 +41,7 @@ impl<S: ObjectStore, C: SteadyClock> Direct<S, C> {
 
 impl<S: ObjectStore, C: SteadyClock> Gate for Direct<S, C> {
     ghost use Rattle.std.specs.Prelude.{refl};
+    ghost use Rattle.index_world.specs.Answering.{IsAnswer};
     ghost use Rattle.index_world.specs.DirectLaws.{NoLog, Anything, Anyhow, AnyNumber, config_kept, none_goes};
     ghost use Rattle.index_world.specs.Gate.{NoneBetween};
     ghost use Rattle.index_world.specs.World.{WorldStands};
@@ -62,6 +63,8 @@ impl<S: ObjectStore, C: SteadyClock> Gate for Direct<S, C> {
     ghost bytes_fetched = { λ direct. direct.fetched };
 
     ghost told = { λ direct. direct.world.told };
+
+    ghost Answers = { λ old answered new. IsAnswer answered old.world new.world };
 
     ghost is_sound = { λ direct core log w. record { kept = w.kept; world = w.world; timely = w.timely; opened = w.opened } };
 

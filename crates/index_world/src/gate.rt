@@ -7,6 +7,7 @@ ghost use Rattle.meta_journal.specs.Spelling.{CanSpellFacts};
 ghost use Rattle.source_log.specs.Log.{Log};
 ghost use Rattle.meta_journal.specs.Places.{split_key};
 ghost use Rattle.object_store.specs.Store.{State, WhereTold};
+ghost use Rattle.index_world.specs.Answering.{Answered, marks_answered, moment_answered, stage_answered, upload_answered, publish_answered, plan_answered, fetch_answered};
 ghost use Rattle.index_world.specs.Asked.{Behind, FetchesFile, IsFetch, IsUpload, UploadsFile};
 ghost use Rattle.index_world.specs.Calls.{asked, looked, asked_and_looked, fetched_from, upload_made};
 ghost use Rattle.index_world.specs.CallsMade.{CallMade, of_checkpoints, of_moment, of_stage, of_upload, of_publish, of_plan, of_fetch};
@@ -54,6 +55,9 @@ pub trait Gate {
     /// What the store behind it holds, where it tells.
     ghost told: { Self → Option State };
 
+    /// From the one state to the other this call was made, and answered so.
+    ghost Answers: { Self → Answered → Self → Type 0 };
+
     /// The configuration of the index, which stays. It is no event.
     fn config(&self) -> &IndexConfig
         ensures value { result.now ≡ configured self.now }
@@ -67,6 +71,7 @@ pub trait Gate {
     /// The checkpoints, the last opstamp and the revision.
     fn checkpoints(&mut self, alloc: Global) -> Result<Marks, WorldError>
         ensures later { since self.old self.new }
+        ensures answered { Answers self.old (marks_answered result) self.new }
         ensures same { bytes_fetched self.new ≡ bytes_fetched self.old }
         ensures step { (core : Core) (log : Log) → Stands self.old core log →
             Does Stands Between Owns Adds None of_checkpoints looked IsTrouble AreMarks result core log self.old self.new };
@@ -74,6 +79,7 @@ pub trait Gate {
     /// Asks the clock, and gives the greatest moment.
     fn moment(&mut self, alloc: Global) -> Result<u64, WorldError>
         ensures later { since self.old self.new }
+        ensures answered { Answers self.old (moment_answered result) self.new }
         ensures below { IfOk result (λ moment. moment < 2 ^ 62) }
         ensures same { bytes_fetched self.new ≡ bytes_fetched self.old }
         ensures step { (core : Core) (log : Log) → Stands self.old core log →
@@ -88,6 +94,7 @@ pub trait Gate {
     ) -> Result<Staged, WorldError>
         requires { CanSpellFacts facts.now }
         ensures later { since self.old self.new }
+        ensures answered { Answers self.old (stage_answered delta.now facts.now result) self.new }
         ensures owned { IfOk result (λ staged. Owns self.new staged.number) }
         ensures same { bytes_fetched self.new ≡ bytes_fetched self.old }
         ensures step { (core : Core) (log : Log) → Stands self.old core log →
@@ -103,6 +110,7 @@ pub trait Gate {
         requires owned { Owns self.old staged.number }
         requires begun { (log : Log) → Begins self.old log → (core : Core) × Stands self.old core log × IsUnusedIn core staged.number }
         ensures later { since self.old self.new }
+        ensures answered { Answers self.old (upload_answered staged.number content.now result) self.new }
         // Over all stores: which errors there are, and what is done to any store that tells.
         ensures kinds { IsUpload (split_key staged.number) staged.number result }
         ensures answers { WhereTold (told self.old) (told self.new) (Behind (UploadsFile (split_key staged.number) content.now result)) }
@@ -115,6 +123,7 @@ pub trait Gate {
     fn publish(&mut self, alloc: Global, uploaded: Uploaded) -> Result<u64, WorldError>
         requires begun { (log : Log) → Begins self.old log → (core : Core) × Stands self.old core log × IsPublishable log core uploaded.number }
         ensures later { since self.old self.new }
+        ensures answered { Answers self.old (publish_answered uploaded.number result) self.new }
         ensures same { bytes_fetched self.new ≡ bytes_fetched self.old }
         ensures step { (core : Core) (log : Log) → Stands self.old core log → IsPublishable log core uploaded.number →
             Does Stands Between Owns Adds None (of_publish uploaded.number) (publish_call uploaded.number) IsUnmade IsRevision result core log self.old self.new };
@@ -122,6 +131,7 @@ pub trait Gate {
     /// Plans rows over the newest state.
     fn plan(&mut self, alloc: Global, choice: &Choice) -> Result<Plan, WorldError>
         ensures later { since self.old self.new }
+        ensures answered { Answers self.old (plan_answered choice.now result) self.new }
         ensures same { bytes_fetched self.new ≡ bytes_fetched self.old }
         ensures step { (core : Core) (log : Log) → Stands self.old core log →
             Does Stands Between Owns Adds None (of_plan choice.now) asked_and_looked IsTrouble (IsPlan choice.now) result core log self.old self.new };
@@ -139,6 +149,7 @@ pub trait Gate {
     ) -> Result<Piece, WorldError>
         requires { place < length plan.now.rows }
         ensures later { since self.old self.new }
+        ensures answered { (row : PlanRow) → slice_get plan.now.rows place ≡ Some row → Answers self.old (fetch_answered row.number plan.now.moment from len result) self.new }
         // Over all stores: which errors there are, and what any store that tells had under the key.
         ensures kinds { (row : PlanRow) → slice_get plan.now.rows place ≡ Some row → IsFetch (split_key row.number) plan.now.moment result }
         ensures answers { (row : PlanRow) → slice_get plan.now.rows place ≡ Some row →

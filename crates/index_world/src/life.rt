@@ -1,6 +1,6 @@
 //! What one life of a world knows of its journal.
 
-ghost use Rattle.std.specs.Prelude.{◌≡◌, ◌<◌, ◌^◌, IsSome};
+ghost use Rattle.std.specs.Prelude.{◌≡◌, ◌≤◌, ◌<◌, ◌^◌, IsSome};
 ghost use Rattle.std.specs.Option.{ForSome};
 ghost use Rattle.doc_value.specs.Documents.{IsSchema};
 
@@ -30,18 +30,20 @@ pub struct Life {
 }
 
 impl Life {
-    ghost use Rattle.std.specs.Prelude.{◌≡◌, OnOk, IfOk, MatchResult, Option, Some};
+    ghost use Rattle.std.specs.Prelude.{◌≡◌, ◌≤◌, OnOk, IfOk, IfErr, IsOk, MatchResult, Option, Some};
     ghost use Rattle.meta_store.specs.Readings as read;
     ghost use Rattle.meta_store.specs.declared.config.Config.{Config};
     ghost use Rattle.index_world.specs.Config.{reads};
     ghost use Rattle.meta_journal.specs.declared.place.Place.TheVariants.{Sure, Given};
-    ghost use Rattle.object_store.specs.Store.{State};
+    ghost use Rattle.object_store.specs.Store.{State, WhereTold};
     ghost use Rattle.source_log.specs.Log.{Log};
+    ghost use Rattle.index_world.specs.Answering.{Appends, Follows, KeepsEntries, SettlesNot, answer_in};
     ghost use Rattle.index_world.specs.Configuration.{index_of};
     ghost use Rattle.index_world.specs.Core.{Core};
-    ghost use Rattle.index_world.specs.Life.{TookIn, TookNone, StandsBy, Settling, Creating, Appending};
-    ghost use Rattle.index_world.specs.Owning.{CanOwn, MayOwn, own_act};
+    ghost use Rattle.index_world.specs.Life.{TookIn, TookNone, StandsBy, Settling, Creating, Appending, Makes};
+    ghost use Rattle.index_world.specs.Owning.{CanOwn, MayOwn, act_in, own_act};
     ghost use Rattle.index_world.specs.PlaceMade.{IsPlaceMade};
+    ghost use Rattle.index_world.specs.Taking.{IsFaultBetween};
 
     /// The configuration of the index.
     pub fn config(&self) -> &IndexConfig
@@ -59,6 +61,7 @@ impl Life {
         requires { self.old.journal.place ≡ Given }
         ensures place { OnOk result (self.new.journal.place ≡ Sure) }
         ensures taken { MatchResult result (λ done. TookIn self.old entry self.new) (λ error. TookNone self.old entry error self.new) }
+        ensures allowed { OnOk result (IsOk (answer_in self.old.meta.state entry)) }
     {
         match reading_of(alloc, &entry) {
             Ok(reading) => self.take_read(entry, reading),
@@ -75,6 +78,7 @@ impl Life {
         requires read { (config : Option Config) → reading ≡ read.reading_of reads config entry.act }
         ensures place { OnOk result (self.new.journal.place ≡ Sure) }
         ensures taken { MatchResult result (λ done. TookIn self.old entry self.new) (λ error. TookNone self.old entry error self.new) }
+        ensures allowed { OnOk result (IsOk (answer_in self.old.meta.state entry)) }
     {
         let moment = moment_of(&entry);
         // Only a number below the limit is in doubt.
@@ -104,6 +108,11 @@ impl Life {
         ensures place { OnOk result (self.new.journal.place ≡ Sure) }
         ensures step { (old : State) (core : Core) (log : Log) → S.told store.old ≡ Some old → StandsBy old core log (S.fault_count store.old) self.old →
             before ≡ core.store_faults → Settling old core log result (S.told store.new) (S.fault_count store.new) self.new }
+        // Over all stores, whatever the state is.
+        ensures later { S.fault_count store.old ≤ S.fault_count store.new }
+        ensures faults { before ≤ S.fault_count store.old → IfErr result (IsFaultBetween before (S.fault_count store.new)) }
+        ensures answers { WhereTold (S.told store.old) (S.told store.new) (λ was now. IfErr result (λ error. SettlesNot error self.new.journal.next self.new.meta.state now)) }
+        ensures followed { WhereTold (S.told store.old) (S.told store.new) (λ was now. Follows self.old.journal.next self.old.meta.state self.new.journal.next self.new.meta.state now) }
     {
         let answer = self.journal.settle(alloc, store, self.moment);
         // The count of a store has its range.
@@ -128,6 +137,12 @@ impl Life {
         ensures place { IfOk result (λ given. IsPlaceMade given self.new.journal.place) }
         ensures step { (old : State) (core : Core) (log : Log) → S.told store.old ≡ Some old → StandsBy old core log (S.fault_count store.old) self.old →
             MayOwn own.entry log core → Creating old core log (own_act own.entry core) self.old.journal.settled before result (S.told store.new) (S.fault_count store.new) self.new }
+        // Over all stores, whatever the state is.
+        ensures later { S.fault_count store.old ≤ S.fault_count store.new }
+        ensures faults { before ≤ S.fault_count store.old → IfErr result (IsFaultBetween before (S.fault_count store.new)) }
+        ensures answers { WhereTold (S.told store.old) (S.told store.new) (λ was now. Makes (act_in own.entry) result self.new now) }
+        ensures followed { WhereTold (S.told store.old) (S.told store.new) (λ was now. Follows self.old.journal.next self.old.meta.state self.new.journal.next self.new.meta.state now) }
+        ensures keeps { WhereTold (S.told store.old) (S.told store.new) KeepsEntries }
     {
         let entry = Entry {
             moment: self.moment,
@@ -176,8 +191,13 @@ impl Life {
         before: u64,
     ) -> Result<(), WorldError>
         requires { CanOwn own }
-        ensures { (old : State) (core : Core) (log : Log) → S.told store.old ≡ Some old → StandsBy old core log (S.fault_count store.old) self.old →
+        ensures place { OnOk result (self.new.journal.place ≡ Sure) }
+        ensures step { (old : State) (core : Core) (log : Log) → S.told store.old ≡ Some old → StandsBy old core log (S.fault_count store.old) self.old →
             before ≡ core.store_faults → MayOwn own.entry log core → Appending old core log own.entry result (S.told store.new) (S.fault_count store.new) self.new }
+        // Over all stores, whatever the state is.
+        ensures faults { before ≤ S.fault_count store.old → IfErr result (IsFaultBetween before (S.fault_count store.new)) }
+        ensures answers { WhereTold (S.told store.old) (S.told store.new) (λ was now. Appends result (act_in own.entry) self.new.moment self.new.journal.next self.new.meta.state now) }
+        ensures followed { WhereTold (S.told store.old) (S.told store.new) (λ was now. Follows self.old.journal.next self.old.meta.state self.new.journal.next self.new.meta.state now) }
     {
         self.settle(alloc, store, before)?;
         let Some(entry) = self.create(alloc, store, own, before)? else {

@@ -9,6 +9,7 @@ ghost use Rattle.meta_journal.specs.Spelling.{CanSpellFacts};
 ghost use Rattle.object_store.specs.Store.{State, WhereTold};
 ghost use Rattle.source_log.specs.Log.{Log};
 ghost use Rattle.meta_journal.specs.Places.{split_key};
+ghost use Rattle.index_world.specs.Answering.{IsAnswer, marks_answered, moment_answered, stage_answered, publish_answered, plan_answered};
 ghost use Rattle.index_world.specs.Asked.{FetchesFile, IsFetch, IsInTime, IsUpload, UploadsFile};
 ghost use Rattle.index_world.specs.Calls.{asked, asked_moment, looked, asked_and_looked, fetched_from, upload_made};
 ghost use Rattle.index_world.specs.Configuration.{index_of};
@@ -220,6 +221,7 @@ impl<S: ObjectStore, C: SteadyClock> World<S, C> {
         ensures told { self.new.told ≡ self.old.told }
         ensures counted { self.new.store_faults ≡ self.old.store_faults }
         ensures meta { self.new.meta ≡ self.old.meta }
+        ensures next { self.new.next ≡ self.old.next }
     {
         if !self.frozen {
             self.life.moment = self.life.moment.max(self.clock.ask());
@@ -228,8 +230,10 @@ impl<S: ObjectStore, C: SteadyClock> World<S, C> {
 
     /// The checkpoints, the last opstamp and the revision.
     pub fn checkpoints(&mut self, alloc: Global) -> Result<Marks, WorldError>
-        ensures { (core : Core) (log : Log) → WorldStands self.old core log →
+        ensures step { (core : Core) (log : Log) → WorldStands self.old core log →
             Acts WorldStands None looked IsTrouble AreMarks result core log self.new }
+        // Over every store, sound or not.
+        ensures answers { IsAnswer (marks_answered result) self.old self.new }
     {
         let before = self.store.faults();
         self.life.settle(alloc, &mut self.store, before)?;
@@ -246,6 +250,8 @@ impl<S: ObjectStore, C: SteadyClock> World<S, C> {
         ensures below { IfOk result (λ moment. moment < 2 ^ 62) }
         ensures step { (core : Core) (log : Log) → WorldStands self.old core log →
             Acts WorldStands None asked IsTrouble IsMoment result core log self.new }
+        // Over every store and clock.
+        ensures answers { IsAnswer (moment_answered result) self.old self.new }
     {
         self.ask();
         Ok(self.life.moment)
@@ -259,8 +265,10 @@ impl<S: ObjectStore, C: SteadyClock> World<S, C> {
         facts: &RowFacts,
     ) -> Result<Staged, WorldError>
         requires { CanSpellFacts facts.now }
-        ensures { (core : Core) (log : Log) → WorldStands self.old core log →
+        ensures step { (core : Core) (log : Log) → WorldStands self.old core log →
             Acts WorldStands None (stage_call delta.now facts.now) IsUnmade (WasStaged core delta.now facts.now) result core log self.new }
+        // Over every store, sound or not.
+        ensures answers { IsAnswer (stage_answered delta.now facts.now result) self.old self.new }
     {
         let before = self.store.faults();
         self.ask();
@@ -302,8 +310,10 @@ impl<S: ObjectStore, C: SteadyClock> World<S, C> {
 
     /// Publishes an uploaded file: its checkpoints move with it. Gives the revision.
     pub fn publish(&mut self, alloc: Global, uploaded: Uploaded) -> Result<u64, WorldError>
-        ensures { (core : Core) (log : Log) → WorldStands self.old core log → IsPublishable log core uploaded.number →
+        ensures step { (core : Core) (log : Log) → WorldStands self.old core log → IsPublishable log core uploaded.number →
             Acts WorldStands None (publish_call uploaded.number) IsUnmade IsRevision result core log self.new }
+        // Over every store, sound or not.
+        ensures answers { IsAnswer (publish_answered uploaded.number result) self.old self.new }
     {
         let before = self.store.faults();
         self.ask();
@@ -318,8 +328,10 @@ impl<S: ObjectStore, C: SteadyClock> World<S, C> {
 
     /// Plans rows over the newest state.
     pub fn plan(&mut self, alloc: Global, choice: &Choice) -> Result<Plan, WorldError>
-        ensures { (core : Core) (log : Log) → WorldStands self.old core log →
+        ensures step { (core : Core) (log : Log) → WorldStands self.old core log →
             Acts WorldStands None asked_and_looked IsTrouble (IsPlan choice.now) result core log self.new }
+        // Over every store, sound or not.
+        ensures answers { IsAnswer (plan_answered choice.now result) self.old self.new }
     {
         let before = self.store.faults();
         self.ask();

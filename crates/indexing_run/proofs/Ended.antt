@@ -9,6 +9,7 @@ use Rattle.meta_store.specs.declared.refusal.Refusal.TheVariants.{MomentBack, No
 use Rattle.object_store.specs.Store.{State as Kept}
 use Rattle.source_checkpoint.specs.declared.delta.StaleDelta.TheVariants as deltas
 use Rattle.source_log.specs.Log.{Log}
+use Rattle.index_world.specs.Answering.{Answered}
 use Rattle.index_world.specs.declared.world_error.WorldError.{WorldError}
 use Rattle.index_world.specs.declared.world_error.WorldError.TheVariants as errors
 use Rattle.indexing_run.specs.declared.batch.Batch.{Batch as HeldBatch}
@@ -98,15 +99,15 @@ ends_where Says Others (Err refused) place f idle = idle
 
 -- ---- a batch
 
-pub ends_closed : (before now : ℕ) (batch : HeldBatch) (result : Result Said AllocError) (place : HeldPlace) → batch.closed ≡ true → Ends (EndsClosed batch) result place → Ends (EndsBatch before now batch) result place
-ends_closed before now batch result place closed h =
-    ends_where (EndsClosed batch) (EndsBatch before now batch) result place
-    (λ outcome says. subst (λ b. MatchBool b (EndsClosed batch outcome place) (EndsOpen before now batch outcome place)) (sym closed) says) h
+pub ends_closed : (Gave : Answered → Type 0) (before now : ℕ) (batch : HeldBatch) (result : Result Said AllocError) (place : HeldPlace) → batch.closed ≡ true → Ends (EndsClosed Gave batch) result place → Ends (EndsBatch Gave before now batch) result place
+ends_closed Gave before now batch result place closed h =
+    ends_where (EndsClosed Gave batch) (EndsBatch Gave before now batch) result place
+    (λ outcome says. subst (λ b. MatchBool b (EndsClosed Gave batch outcome place) (EndsOpen Gave before now batch outcome place)) (sym closed) says) h
 
-pub ends_open : (before now : ℕ) (batch : HeldBatch) (result : Result Said AllocError) (place : HeldPlace) → batch.closed ≡ false → Ends (EndsOpen before now batch) result place → Ends (EndsBatch before now batch) result place
-ends_open before now batch result place closed h =
-    ends_where (EndsOpen before now batch) (EndsBatch before now batch) result place
-    (λ outcome says. subst (λ b. MatchBool b (EndsClosed batch outcome place) (EndsOpen before now batch outcome place)) (sym closed) says) h
+pub ends_open : (Gave : Answered → Type 0) (before now : ℕ) (batch : HeldBatch) (result : Result Said AllocError) (place : HeldPlace) → batch.closed ≡ false → Ends (EndsOpen Gave before now batch) result place → Ends (EndsBatch Gave before now batch) result place
+ends_open Gave before now batch result place closed h =
+    ends_where (EndsOpen Gave before now batch) (EndsBatch Gave before now batch) result place
+    (λ outcome says. subst (λ b. MatchBool b (EndsClosed Gave batch outcome place) (EndsOpen Gave before now batch outcome place)) (sym closed) says) h
 
 -- ---- the log
 
@@ -135,12 +136,12 @@ if_none (Some x) P h = tt
 
 -- ---- a whole step
 
-pub ends_from : {L W : Type 0} (tells : L → Option Log) (count : L → ℕ) (told : W → Option Kept) (configured : W → IndexConfig) (before : Reader L) (result : Result Said AllocError) (reader : Reader L) (old new : W) (place : HeldPlace) →
+pub ends_from : {L W : Type 0} (tells : L → Option Log) (count : L → ℕ) (told : W → Option Kept) (configured : W → IndexConfig) (Answers : W → Answered → W → Type 0) (before : Reader L) (result : Result Said AllocError) (reader : Reader L) (old new : W) (place : HeldPlace) →
     before.place ≡ place → reader.assignment ≡ before.assignment →
-    Ends (EndsFrom place (count before.log) (count reader.log) (tells before.log) before.assignment (configured new) (told old) (told new)) result reader.place →
-    EndsStep tells count told configured before result reader old new
-ends_from tells count told configured before result reader old new place e same h =
+    Ends (EndsFrom place (λ call. Answers old call new) (count before.log) (count reader.log) (tells before.log) before.assignment (configured new) (told old) (told new)) result reader.place →
+    EndsStep tells count told configured Answers before result reader old new
+ends_from tells count told configured Answers before result reader old new place e same h =
     record {
       assignment = same;
-      ends = subst (λ (p : HeldPlace). Ends (EndsFrom p (count before.log) (count reader.log) (tells before.log) before.assignment (configured new) (told old) (told new)) result reader.place) (sym e) h;
+      ends = subst (λ (p : HeldPlace). Ends (EndsFrom p (λ call. Answers old call new) (count before.log) (count reader.log) (tells before.log) before.assignment (configured new) (told old) (told new)) result reader.place) (sym e) h;
     }

@@ -225,7 +225,7 @@ impl<L: SourceLog> Indexer<L> {
         ensures owns { HoldsOwn G.Owns gate.old self.old.place → HoldsOwn G.Owns gate.new self.new.place }
         ensures assignment { self.new.assignment ≡ self.old.assignment }
         // Whatever the log and the gate tell.
-        ensures ends { self.old.place ≡ Place.Idle → Ends (EndsIdle (L.fault_count self.old.log) (L.fault_count self.new.log) (L.told self.old.log) self.old.assignment (G.configured gate.new)) result self.new.place }
+        ensures ends { self.old.place ≡ Place.Idle → Ends (EndsIdle (λ call. G.Answers gate.old call gate.new) (L.fault_count self.old.log) (L.fault_count self.new.log) (L.told self.old.log) self.old.assignment (G.configured gate.new)) result self.new.place }
         ensures step { (indexer : Actor) (core : Core) (read : Log) →
             IndexerStands L.told L.fault_count self.old (record indexer { place = idle }) core read → G.Stands gate.old core read →
             StepsAs L.told L.fault_count G.Stands G.Between G.Owns G.Adds result (record indexer { place = idle }) core read self.new gate.old gate.new }
@@ -260,7 +260,7 @@ impl<L: SourceLog> Indexer<L> {
         ensures owns { HoldsOwn G.Owns gate.old self.old.place → HoldsOwn G.Owns gate.new self.new.place }
         ensures assignment { self.new.assignment ≡ self.old.assignment }
         // Whatever the log and the gate tell.
-        ensures ends { self.old.place ≡ Place.Idle → Ends (EndsOpen (L.fault_count self.old.log) (L.fault_count self.new.log) batch) result self.new.place }
+        ensures ends { self.old.place ≡ Place.Idle → Ends (EndsOpen (λ call. G.Answers gate.old call gate.new) (L.fault_count self.old.log) (L.fault_count self.new.log) batch) result self.new.place }
         ensures step { (indexer : Actor) (core : Core) (read : Log) (made : Made) →
             IndexerStands L.told L.fault_count self.old (record indexer { place = idle }) core read → G.Stands gate.old core read → BatchStands batch made → IsBatch read made → IsConfigured made.config core → made.closed ≡ false →
             StepsAs L.told L.fault_count G.Stands G.Between G.Owns G.Adds result (record indexer { place = reading made }) core read self.new gate.old gate.new }
@@ -307,7 +307,7 @@ impl<L: SourceLog> Indexer<L> {
         ensures owns { HoldsOwn G.Owns gate.old self.old.place → HoldsOwn G.Owns gate.new self.new.place }
         ensures assignment { self.new.assignment ≡ self.old.assignment }
         // Whatever the log and the gate tell.
-        ensures ends { self.old.place ≡ Place.Idle → (batch.count ≡ 0 → ⊥) → Ends (EndsClosed batch) result self.new.place }
+        ensures ends { self.old.place ≡ Place.Idle → (batch.count ≡ 0 → ⊥) → Ends (EndsClosed (λ call. G.Answers gate.old call gate.new) batch) result self.new.place }
         ensures step { (indexer : Actor) (core : Core) (read : Log) (made : Made) →
             IndexerStands L.told L.fault_count self.old (record indexer { place = idle }) core read → G.Stands gate.old core read → BatchStands batch made → IsBatch read made → IsConfigured made.config core → made.closed ≡ true → (made.count ≡ 0 → ⊥) →
             StepsAs L.told L.fault_count G.Stands G.Between G.Owns G.Adds result (record indexer { place = reading made }) core read self.new gate.old gate.new }
@@ -352,7 +352,7 @@ impl<L: SourceLog> Indexer<L> {
         ensures owns { HoldsOwn G.Owns gate.old self.old.place → HoldsOwn G.Owns gate.new self.new.place }
         ensures assignment { self.new.assignment ≡ self.old.assignment }
         // Whatever the log and the gate tell.
-        ensures ends { self.old.place ≡ Place.Idle → Ends (EndsUpload staged.number bytes.now (G.told gate.old) (G.told gate.new)) result self.new.place }
+        ensures ends { self.old.place ≡ Place.Idle → Ends (EndsUpload (λ call. G.Answers gate.old call gate.new) staged.number bytes.now (G.told gate.old) (G.told gate.new)) result self.new.place }
         ensures step { (indexer : Actor) (core : Core) (read : Log) (held : Held) →
             IndexerStands L.told L.fault_count self.old (record indexer { place = idle }) core read → G.Stands gate.old core read → staged.number ≡ held.number → bytes.now ≡ file_of held.config held.documents → IsStagedHeld read core held →
             StepsAs L.told L.fault_count G.Stands G.Between G.Owns G.Adds result (record indexer { place = staged_at held }) core read self.new gate.old gate.new }
@@ -379,7 +379,7 @@ impl<L: SourceLog> Indexer<L> {
         ensures owns { HoldsOwn G.Owns gate.old self.old.place → HoldsOwn G.Owns gate.new self.new.place }
         ensures assignment { self.new.assignment ≡ self.old.assignment }
         // Whatever the log and the gate tell.
-        ensures ends { self.old.place ≡ Place.Idle → Ends (EndsPublish uploaded.number) result self.new.place }
+        ensures ends { self.old.place ≡ Place.Idle → Ends (EndsPublish (λ call. G.Answers gate.old call gate.new) uploaded.number) result self.new.place }
         ensures step { (indexer : Actor) (core : Core) (read : Log) (held : Held) →
             IndexerStands L.told L.fault_count self.old (record indexer { place = idle }) core read → G.Stands gate.old core read → uploaded.number ≡ held.number → IsUploadedHeld read core held →
             StepsAs L.told L.fault_count G.Stands G.Between G.Owns G.Adds result (record indexer { place = uploaded_at held }) core read self.new gate.old gate.new }
@@ -402,7 +402,7 @@ impl<L: SourceLog> Indexer<L> {
         ensures owns { HoldsOwn G.Owns gate.old self.old.place → HoldsOwn G.Owns gate.new self.new.place }
         ensures assignment { self.new.assignment ≡ self.old.assignment }
         // Whatever the log and the gate tell.
-        ensures ends { self.old.place ≡ Place.Idle → Ends (EndsBatch (L.fault_count self.old.log) (L.fault_count self.new.log) batch) result self.new.place }
+        ensures ends { self.old.place ≡ Place.Idle → Ends (EndsBatch (λ call. G.Answers gate.old call gate.new) (L.fault_count self.old.log) (L.fault_count self.new.log) batch) result self.new.place }
         ensures step { (indexer : Actor) (core : Core) (read : Log) (made : Made) →
             IndexerStands L.told L.fault_count self.old (record indexer { place = idle }) core read → G.Stands gate.old core read → BatchStands batch made → IsBatch read made → IsConfigured made.config core →
             StepsAs L.told L.fault_count G.Stands G.Between G.Owns G.Adds result (record indexer { place = reading made }) core read self.new gate.old gate.new }
@@ -431,7 +431,7 @@ impl<L: SourceLog> Indexer<L> {
         ensures later_gate { G.since gate.old gate.new }
         ensures owns { HoldsOwn G.Owns gate.new self.new.place }
         // Whatever the log and the gate tell: what a call answered is told as itself.
-        ensures ends { EndsStep L.told L.fault_count G.told G.configured self.old result self.new gate.old gate.new }
+        ensures ends { EndsStep L.told L.fault_count G.told G.configured G.Answers self.old result self.new gate.old gate.new }
         ensures step { (indexer : Actor) (core : Core) (read : Log) →
             IndexerStands L.told L.fault_count self.old indexer core read → G.Stands gate.old core read →
             StepsAs L.told L.fault_count G.Stands G.Between G.Owns G.Adds result indexer core read self.new gate.old gate.new }

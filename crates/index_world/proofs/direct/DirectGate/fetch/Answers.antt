@@ -13,3 +13,9 @@ returns-in-Ok-clause-answers g c = λ row found. told_behind _ _ _ (c.in-Ok.ensu
 
 pub returns-in-Err-clause-answers : goal.returns-in-Err-clause-answers
 returns-in-Err-clause-answers g c = λ row found. told_behind _ _ _ (c.in-Err.ensures.answers row found)
+
+pub returns-in-Ok-clause-answered : goal.returns-in-Ok-clause-answered
+returns-in-Ok-clause-answered g c = λ row found. (c.in-Ok.ensures.kinds row found, c.in-Ok.ensures.time, (c.in-Ok.ensures.faults, c.in-Ok.ensures.answers row found))
+
+pub returns-in-Err-clause-answered : goal.returns-in-Err-clause-answered
+returns-in-Err-clause-answered g c = λ row found. (c.in-Err.ensures.kinds row found, c.in-Err.ensures.time, (c.in-Err.ensures.faults, c.in-Err.ensures.answers row found))

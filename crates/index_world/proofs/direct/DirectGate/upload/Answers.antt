@@ -7,3 +7,6 @@ returns-clause-step g c core log s u = does_alone _ _ _ _ _ _ _ _ core log _ _ _
 
 pub returns-clause-answers : goal.returns-clause-answers
 returns-clause-answers g c = told_behind _ _ _ c.upload.ensures.answers
+
+pub returns-clause-answered : goal.returns-clause-answered
+returns-clause-answered g c = (c.upload.ensures.kinds, (c.upload.ensures.faults, c.upload.ensures.answers))

@@ -1,4 +1,4 @@
-use Rattle.std.proofs.Common.{sym, ap, ◌∙◌, subst, arith, ◌≡◌, ◌+◌, ◌<◌, ℕ, Bool, inl, inr, true, false}
+use Rattle.std.proofs.Common.{sym, ap, ◌∙◌, subst, arith, ◌≡◌, ◌+◌, ◌<◌, ℕ, Bool, inl, inr}
 use Rattle.std.proofs.lemmas.Bool.Decides.{nat_tests}
 use Rattle.std.specs.Prelude.{Option, Some, Err, IfSome, nat_le}
 use Rattle.index_config.specs.declared.config.IndexConfig.{IndexConfig}

@@ -2,6 +2,7 @@ use Rattle.std.proofs.Common.{◌∙◌, sym, eq-eqb, refl, inl, Ok}
 use Rattle.indexing_run.proofs.Stepping.{ends_empty, not_true, not_false}
 use Rattle.indexing_run.specs.declared.outcome.IndexerOutcome.TheVariants as said
 use Rattle.indexing_run.proofs.Ended.{ends_closed, ends_open}
+use Rattle.index_world.specs.Answering.{Answered}
 use Rattle.indexing_run.proofs.indexer.Indexer.go_on.Goals as goal
 
 pub returns-then-not-batch-clause-step : goal.returns-then-not-batch-clause-step
@@ -46,15 +47,15 @@ returns-clause-owns g c = c.stage.ensures.owns
 
 pub returns-then-not-batch-clause-ends : goal.returns-then-not-batch-clause-ends
 returns-then-not-batch-clause-ends g c = λ idle.
-    ends_open (g.L.SourceLog.fault_count c.args.self.now.log) (g.L.SourceLog.fault_count c.read_on.new.self.log) c.args.batch c.read_on.result c.read_on.new.self.place (not_true c.args.batch.closed c.if-not-batch.true)
+    ends_open (λ (call : Answered). g.G.Gate.Answers c.args.gate.now call c.read_on.new.gate) (g.L.SourceLog.fault_count c.args.self.now.log) (g.L.SourceLog.fault_count c.read_on.new.self.log) c.args.batch c.read_on.result c.read_on.new.self.place (not_true c.args.batch.closed c.if-not-batch.true)
     (c.read_on.ensures.ends idle)
 
 pub returns-then-batch-eq0-clause-ends : goal.returns-then-batch-eq0-clause-ends
 returns-then-batch-eq0-clause-ends g c = λ idle.
     let count = g.L.SourceLog.fault_count c.args.self.now.log in
-    ends_closed count count c.args.batch (Ok said.CaughtUp) c.args.self.now.place (not_false c.args.batch.closed c.if-not-batch.false) (inl (c.if-batch-eq0.true, refl, idle))
+    ends_closed (λ (call : Answered). g.G.Gate.Answers c.args.gate.now call c.args.gate.now) count count c.args.batch (Ok said.CaughtUp) c.args.self.now.place (not_false c.args.batch.closed c.if-not-batch.false) (inl (c.if-batch-eq0.true, refl, idle))
 
 pub returns-clause-ends : goal.returns-clause-ends
 returns-clause-ends g c = λ idle.
-    ends_closed (g.L.SourceLog.fault_count c.args.self.now.log) (g.L.SourceLog.fault_count c.stage.new.self.log) c.args.batch c.stage.result c.stage.new.self.place (not_false c.args.batch.closed c.if-not-batch.false)
+    ends_closed (λ (call : Answered). g.G.Gate.Answers c.args.gate.now call c.stage.new.gate) (g.L.SourceLog.fault_count c.args.self.now.log) (g.L.SourceLog.fault_count c.stage.new.self.log) c.args.batch c.stage.result c.stage.new.self.place (not_false c.args.batch.closed c.if-not-batch.false)
     (c.stage.ensures.ends idle (λ e. c.if-batch-eq0.false e))

@@ -7,6 +7,7 @@ use Rattle.indexing_run.proofs.Holding.{own_later}
 use Rattle.indexing_run.specs.declared.outcome.IndexerOutcome.{IndexerOutcome as Said}
 use Rattle.indexing_run.specs.Ending.{EndsPublish}
 use Rattle.indexing_run.proofs.Ended.{ends_by}
+use Rattle.index_world.specs.Answering.{Answered}
 use Rattle.indexing_run.proofs.indexer.Indexer.publish.Goals as goal
 
 pub returns-in-Ok-clause-step : goal.returns-in-Ok-clause-step
@@ -30,8 +31,8 @@ pub returns-in-Err-clause-owns : goal.returns-in-Err-clause-owns
 returns-in-Err-clause-owns g c = λ h. own_later g.G.Gate.Owns g.G.Gate.since g.met.G.Gate.since_owns c.args.gate.now c.publish.new.self c.args.self.now.place c.publish.ensures.later h
 
 pub returns-in-Ok-clause-ends : goal.returns-in-Ok-clause-ends
-returns-in-Ok-clause-ends g c = λ idle. (Ok c.in-Ok.field-0, refl, idle)
+returns-in-Ok-clause-ends g c = λ idle. (Ok c.in-Ok.field-0, c.in-Ok.ensures.answered, refl, idle)
 
 pub returns-in-Err-clause-ends : goal.returns-in-Err-clause-ends
 returns-in-Err-clause-ends g c = λ idle.
-    ends_by (EndsPublish c.args.uploaded.number) c.unpublished.result c.args.self.now.place idle (λ (outcome : Said) e. (Err c.in-Err.error, sym c.unpublished.ensures.exact ∙ e, idle))
+    ends_by (EndsPublish (λ (call : Answered). g.G.Gate.Answers c.args.gate.now call c.publish.new.self) c.args.uploaded.number) c.unpublished.result c.args.self.now.place idle (λ (outcome : Said) e. (Err c.in-Err.error, c.in-Err.ensures.answered, sym c.unpublished.ensures.exact ∙ e, idle))

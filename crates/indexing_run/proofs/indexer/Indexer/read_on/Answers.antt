@@ -13,6 +13,7 @@ use Rattle.indexing_run.specs.declared.outcome.IndexerOutcome.{IndexerOutcome as
 use Rattle.indexing_run.specs.Ending.{EndsOpen}
 use Rattle.indexing_run.specs.Standing.{left_of}
 use Rattle.indexing_run.proofs.Ended.{ends_by, ends_short, none_given, source_fault}
+use Rattle.index_world.specs.Answering.{Answered}
 use Rattle.indexing_run.proofs.indexer.Indexer.read_on.Goals as goal
 
 pub returns-in-Err-clause-step : goal.returns-in-Err-clause-step
@@ -137,20 +138,20 @@ returns-in-Err-Failed-clause-later_gate g c = c.moment.ensures.later
 pub returns-in-Err-clause-ends : goal.returns-in-Err-clause-ends
 returns-in-Err-clause-ends g c = λ idle.
     let count = g.L.SourceLog.fault_count c.args.self.now.log in
-    ends_by (EndsOpen count count c.args.batch) c.faulted.result c.args.self.now.place idle (λ (outcome : Said) e. inl (c.in-Err.error, sym c.faulted.ensures.exact ∙ e, idle))
+    ends_by (EndsOpen (λ (call : Answered). g.G.Gate.Answers c.args.gate.now call c.moment.new.self) count count c.args.batch) c.faulted.result c.args.self.now.place idle (λ (outcome : Said) e. inl (c.in-Err.error, c.in-Err.ensures.answered, sym c.faulted.ensures.exact ∙ e, idle))
 
 pub returns-in_default-clause-ends : goal.returns-in_default-clause-ends
 returns-in_default-clause-ends g c = λ idle.
-    inr (inl (none_given c.next_read.result (left_of c.args.batch.queue ≡ []) c.next_read.ensures.none c.in_default.not-Some, refl, idle))
+    inr (c.in-Ok.now, c.in-Ok.ensures.answered, inl (none_given c.next_read.result (left_of c.args.batch.queue ≡ []) c.next_read.ensures.none c.in_default.not-Some, refl, idle))
 
 pub returns-in_err-batch-in-Ok-records-clause-ends : goal.returns-in_err-batch-in-Ok-records-clause-ends
 returns-in_err-batch-in-Ok-records-clause-ends g c = λ idle.
-    ends_short (EndsOpen (g.L.SourceLog.fault_count c.args.self.now.log) (g.L.SourceLog.fault_count c.read-records.new.self) c.args.batch) c.from_residual.result c.args.self.now.place c.from_residual.ensures.0 idle
+    ends_short (EndsOpen (λ (call : Answered). g.G.Gate.Answers c.args.gate.now call c.moment.new.self) (g.L.SourceLog.fault_count c.args.self.now.log) (g.L.SourceLog.fault_count c.read-records.new.self) c.args.batch) c.from_residual.result c.args.self.now.place c.from_residual.ensures.0 idle
 
 pub returns-in_ok-batch-in-Ok-records-clause-ends : goal.returns-in_ok-batch-in-Ok-records-clause-ends
 returns-in_ok-batch-in-Ok-records-clause-ends g c = λ idle.
     let taken = c.in_ok-batch-in-Ok-records in
-    inr (inr (inr (taken.count, taken.batch, refl, c.put.ensures, taken.ensures.count, taken.ensures.config)))
+    inr (c.in-Ok.now, c.in-Ok.ensures.answered, inr (inr (taken.count, taken.batch, refl, c.put.ensures, taken.ensures.count, taken.ensures.config)))
 
 pub returns-in-Err-Memory-clause-ends : goal.returns-in-Err-Memory-clause-ends
 returns-in-Err-Memory-clause-ends g c = λ idle. idle
@@ -158,8 +159,12 @@ returns-in-Err-Memory-clause-ends g c = λ idle. idle
 pub returns-in-Err-Failed-clause-ends : goal.returns-in-Err-Failed-clause-ends
 returns-in-Err-Failed-clause-ends g c = λ idle.
     let field : c.in-Err-Failed.field-0 ≡ Failed = rw c.in-Err-Failed.is at c.in-Err-Failed.field-0-is in
-    inr (inr (inl (
-      c.read-records.ensures.cause.failed (c.in-Err-Failed.is ∙ ap Err field),
-      source_fault c.faults-before.result (g.L.SourceLog.fault_count c.args.self.now.log) c.faults-after.result (g.L.SourceLog.fault_count c.read-records.new.self) c.faults-before.ensures.count c.faults-after.ensures.count,
-      c.put-in-Err-Failed.ensures,
-    )))
+    inr (
+      c.in-Ok.now,
+      c.in-Ok.ensures.answered,
+      inr (inl (
+        c.read-records.ensures.cause.failed (c.in-Err-Failed.is ∙ ap Err field),
+        source_fault c.faults-before.result (g.L.SourceLog.fault_count c.args.self.now.log) c.faults-after.result (g.L.SourceLog.fault_count c.read-records.new.self) c.faults-before.ensures.count c.faults-after.ensures.count,
+        c.put-in-Err-Failed.ensures,
+      )),
+    )

@@ -1,4 +1,4 @@
-use Rattle.std.proofs.Common.{◌∙◌, ap, refl, subst, sym, inr, Ok, Err}
+use Rattle.std.proofs.Common.{◌∙◌, ap, refl, subst, sym, inr, Ok, Err, List}
 use Rattle.index_config.specs.declared.config.IndexConfig.{IndexConfig}
 use Rattle.index_world.specs.SplitFile.{file_of, facts_of}
 use Rattle.index_world.proofs.InHand.{number_apart}
@@ -10,6 +10,8 @@ use Rattle.indexing_run.proofs.Holding.{own_later}
 use Rattle.indexing_run.specs.declared.outcome.IndexerOutcome.{IndexerOutcome as Said}
 use Rattle.indexing_run.specs.Ending.{EndsClosed}
 use Rattle.indexing_run.proofs.Ended.{ends_by, ends_short}
+use Rattle.source_checkpoint.specs.declared.delta.Part.{Part}
+use Rattle.index_world.specs.Answering.{Answered, stage_answered}
 use Rattle.indexing_run.proofs.indexer.Indexer.stage.Goals as goal
 
 pub returns-in_err-bytes-clause-step : goal.returns-in_err-bytes-clause-step
@@ -57,12 +59,12 @@ pub stage-staged-requires : goal.stage-staged-requires
 stage-staged-requires g c = c.with_rejected-facts.ensures.can
 
 pub returns-in_err-bytes-clause-ends : goal.returns-in_err-bytes-clause-ends
-returns-in_err-bytes-clause-ends g c = λ idle some. ends_short (EndsClosed c.args.batch) c.from_residual.result c.args.self.now.place c.from_residual.ensures.0 idle
+returns-in_err-bytes-clause-ends g c = λ idle some. ends_short (EndsClosed (λ (call : Answered). g.G.Gate.Answers c.args.gate.now call c.args.gate.now) c.args.batch) c.from_residual.result c.args.self.now.place c.from_residual.ensures.0 idle
 
 pub returns-in-Ok-clause-ends : goal.returns-in-Ok-clause-ends
 returns-in-Ok-clause-ends g c = λ idle some.
-    inr (some, (Ok c.in-Ok.staged, (refl, (c.in_ok-bytes.field-0.bytes, c.put.ensures, λ documents taken. c.in_ok-bytes.ensures.bytes documents taken))))
+    inr (some, (c.with_rejected-facts.result, Ok c.in-Ok.staged, subst (λ (parts : List Part). g.G.Gate.Answers c.args.gate.now (stage_answered parts c.with_rejected-facts.result (Ok c.in-Ok.staged)) c.stage-staged.new.self) c.from_vec-delta.ensures c.in-Ok.ensures.answered, (refl, (c.in_ok-bytes.field-0.bytes, c.put.ensures, λ documents taken. c.in_ok-bytes.ensures.bytes documents taken))))
 
 pub returns-clause-ends : goal.returns-clause-ends
 returns-clause-ends g c = λ idle some.
-    ends_by (EndsClosed c.args.batch) c.unstaged.result c.args.self.now.place idle (λ (outcome : Said) e. inr (some, (Err c.in-Err.error, (sym c.unstaged.ensures.exact ∙ e, idle))))
+    ends_by (EndsClosed (λ (call : Answered). g.G.Gate.Answers c.args.gate.now call c.stage-staged.new.self) c.args.batch) c.unstaged.result c.args.self.now.place idle (λ (outcome : Said) e. inr (some, (c.with_rejected-facts.result, Err c.in-Err.error, subst (λ (parts : List Part). g.G.Gate.Answers c.args.gate.now (stage_answered parts c.with_rejected-facts.result (Err c.in-Err.error)) c.stage-staged.new.self) c.from_vec-delta.ensures c.in-Err.ensures.answered, (sym c.unstaged.ensures.exact ∙ e, idle))))

@@ -66,20 +66,20 @@ publish-requires g c = λ read begins.
 
 pub returns-in-Idle-clause-ends : goal.returns-in-Idle-clause-ends
 returns-in-Idle-clause-ends g c =
-    ends_from g.L.SourceLog.told g.L.SourceLog.fault_count g.G.Gate.told g.G.Gate.configured c.args.self.now c.take_checkpoints.result c.take_checkpoints.new.self c.args.gate.now c.take_checkpoints.new.gate places.Idle (sym c.replace.ensures.value ∙ c.in-Idle.is)
+    ends_from g.L.SourceLog.told g.L.SourceLog.fault_count g.G.Gate.told g.G.Gate.configured g.G.Gate.Answers c.args.self.now c.take_checkpoints.result c.take_checkpoints.new.self c.args.gate.now c.take_checkpoints.new.gate places.Idle (sym c.replace.ensures.value ∙ c.in-Idle.is)
     c.take_checkpoints.ensures.assignment (c.take_checkpoints.ensures.ends c.replace.ensures.after)
 
 pub returns-in-Reading-clause-ends : goal.returns-in-Reading-clause-ends
 returns-in-Reading-clause-ends g c =
-    ends_from g.L.SourceLog.told g.L.SourceLog.fault_count g.G.Gate.told g.G.Gate.configured c.args.self.now c.go_on.result c.go_on.new.self c.args.gate.now c.go_on.new.gate (places.Reading c.in-Reading.batch) (sym c.replace.ensures.value ∙ c.in-Reading.is)
+    ends_from g.L.SourceLog.told g.L.SourceLog.fault_count g.G.Gate.told g.G.Gate.configured g.G.Gate.Answers c.args.self.now c.go_on.result c.go_on.new.self c.args.gate.now c.go_on.new.gate (places.Reading c.in-Reading.batch) (sym c.replace.ensures.value ∙ c.in-Reading.is)
     c.go_on.ensures.assignment (c.go_on.ensures.ends c.replace.ensures.after)
 
 pub returns-in-Staged-clause-ends : goal.returns-in-Staged-clause-ends
 returns-in-Staged-clause-ends g c =
-    ends_from g.L.SourceLog.told g.L.SourceLog.fault_count g.G.Gate.told g.G.Gate.configured c.args.self.now c.upload.result c.upload.new.self c.args.gate.now c.upload.new.gate (places.Staged c.in-Staged.staged c.in-Staged.bytes) (sym c.replace.ensures.value ∙ c.in-Staged.is)
+    ends_from g.L.SourceLog.told g.L.SourceLog.fault_count g.G.Gate.told g.G.Gate.configured g.G.Gate.Answers c.args.self.now c.upload.result c.upload.new.self c.args.gate.now c.upload.new.gate (places.Staged c.in-Staged.staged c.in-Staged.bytes) (sym c.replace.ensures.value ∙ c.in-Staged.is)
     c.upload.ensures.assignment (c.upload.ensures.ends c.replace.ensures.after)
 
 pub returns-in-Uploaded-clause-ends : goal.returns-in-Uploaded-clause-ends
 returns-in-Uploaded-clause-ends g c =
-    ends_from g.L.SourceLog.told g.L.SourceLog.fault_count g.G.Gate.told g.G.Gate.configured c.args.self.now c.publish.result c.publish.new.self c.args.gate.now c.publish.new.gate (places.Uploaded c.in-Uploaded.uploaded) (sym c.replace.ensures.value ∙ c.in-Uploaded.is)
+    ends_from g.L.SourceLog.told g.L.SourceLog.fault_count g.G.Gate.told g.G.Gate.configured g.G.Gate.Answers c.args.self.now c.publish.result c.publish.new.self c.args.gate.now c.publish.new.gate (places.Uploaded c.in-Uploaded.uploaded) (sym c.replace.ensures.value ∙ c.in-Uploaded.is)
     c.publish.ensures.assignment (c.publish.ensures.ends c.replace.ensures.after)

@@ -17,6 +17,7 @@ use Rattle.indexing_run.specs.Ending.{EndsIdle}
 use Rattle.indexing_run.specs.Standing.{BatchStands, NamesGiven}
 use Rattle.indexing_run.specs.Steps.{fresh_batch, marks_at}
 use Rattle.indexing_run.proofs.Ended.{ends_by, ends_short, names_are, source_fault}
+use Rattle.index_world.specs.Answering.{Answered}
 use Rattle.indexing_run.proofs.indexer.Indexer.take_checkpoints.Goals as goal
 
 pub returns-in-Err-Memory-clause-step : goal.returns-in-Err-Memory-clause-step
@@ -176,12 +177,12 @@ returns-in-Err-Failed-clause-ends g c = λ idle.
 
 pub returns-in_err-config-in-Ok-checkpoints-clause-ends : goal.returns-in_err-config-in-Ok-checkpoints-clause-ends
 returns-in_err-config-in-Ok-checkpoints-clause-ends g c = λ idle.
-    ends_short (EndsIdle (g.L.SourceLog.fault_count c.args.self.now.log) (g.L.SourceLog.fault_count c.names-names.new.self.log) (g.L.SourceLog.told c.args.self.now.log) c.args.self.now.assignment (g.G.Gate.configured c.checkpoints.new.self))
+    ends_short (EndsIdle (λ (call : Answered). g.G.Gate.Answers c.args.gate.now call c.checkpoints.new.self) (g.L.SourceLog.fault_count c.args.self.now.log) (g.L.SourceLog.fault_count c.names-names.new.self.log) (g.L.SourceLog.told c.args.self.now.log) c.args.self.now.assignment (g.G.Gate.configured c.checkpoints.new.self))
     c.from_residual.result c.names-names.new.self.place c.from_residual.ensures.0 (c.names-names.ensures.place ∙ idle)
 
 pub returns-in_err-batch-in-Ok-checkpoints-clause-ends : goal.returns-in_err-batch-in-Ok-checkpoints-clause-ends
 returns-in_err-batch-in-Ok-checkpoints-clause-ends g c = λ idle.
-    ends_short (EndsIdle (g.L.SourceLog.fault_count c.args.self.now.log) (g.L.SourceLog.fault_count c.names-names.new.self.log) (g.L.SourceLog.told c.args.self.now.log) c.args.self.now.assignment (g.G.Gate.configured c.checkpoints.new.self))
+    ends_short (EndsIdle (λ (call : Answered). g.G.Gate.Answers c.args.gate.now call c.checkpoints.new.self) (g.L.SourceLog.fault_count c.args.self.now.log) (g.L.SourceLog.fault_count c.names-names.new.self.log) (g.L.SourceLog.told c.args.self.now.log) c.args.self.now.assignment (g.G.Gate.configured c.checkpoints.new.self))
     c.from_residual-in_err-batch-in-Ok-checkpoints.result c.names-names.new.self.place c.from_residual-in_err-batch-in-Ok-checkpoints.ensures.0 (c.names-names.ensures.place ∙ idle)
 
 pub returns-in-Ok-checkpoints-clause-ends : goal.returns-in-Ok-checkpoints-clause-ends
@@ -196,6 +197,7 @@ returns-in-Ok-checkpoints-clause-ends g c = λ idle.
           (λ log e. subst (λ (r : Result (List (List ℕ)) ReadError). NamesGiven assignment r before now log) c.in-Ok.is (c.names-names.ensures.names log e)),
       (
         Ok c.in-Ok-checkpoints.marks,
+        c.in-Ok-checkpoints.ensures.answered,
         (
           refl,
           (
@@ -213,11 +215,11 @@ returns-clause-ends g c = λ idle.
     let assignment = c.args.self.now.assignment in
     let before = g.L.SourceLog.fault_count c.args.self.now.log in
     let now = g.L.SourceLog.fault_count c.names-names.new.self.log in
-    ends_by (EndsIdle before now (g.L.SourceLog.told c.args.self.now.log) assignment (g.G.Gate.configured c.checkpoints.new.self)) c.faulted.result c.names-names.new.self.place (c.names-names.ensures.place ∙ idle) (λ (outcome : Said) e.
+    ends_by (EndsIdle (λ (call : Answered). g.G.Gate.Answers c.args.gate.now call c.checkpoints.new.self) before now (g.L.SourceLog.told c.args.self.now.log) assignment (g.G.Gate.configured c.checkpoints.new.self)) c.faulted.result c.names-names.new.self.place (c.names-names.ensures.place ∙ idle) (λ (outcome : Said) e.
     inr (
       c.in-Ok.names,
       names_are assignment (g.L.SourceLog.told c.args.self.now.log) c.in-Ok.names before now
           (λ all e. subst (λ (r : Result (List (List ℕ)) ReadError). IfOk r (λ given. given ≡ all)) c.in-Ok.is (c.names-names.ensures.assigned all e))
           (λ log e. subst (λ (r : Result (List (List ℕ)) ReadError). NamesGiven assignment r before now log) c.in-Ok.is (c.names-names.ensures.names log e)),
-      (Err c.in-Err.error, (sym c.faulted.ensures.exact ∙ e, c.names-names.ensures.place ∙ idle)),
+      (Err c.in-Err.error, c.in-Err.ensures.answered, (sym c.faulted.ensures.exact ∙ e, c.names-names.ensures.place ∙ idle)),
     ))

@@ -11,6 +11,7 @@ use Rattle.indexing_run.specs.declared.outcome.IndexerOutcome.{IndexerOutcome as
 use Rattle.indexing_run.specs.declared.outcome.IndexerOutcome.TheVariants as said
 use Rattle.indexing_run.specs.Ending.{EndsUpload}
 use Rattle.indexing_run.proofs.Ended.{ends_by}
+use Rattle.index_world.specs.Answering.{Answered, upload_answered}
 use Rattle.indexing_run.proofs.indexer.Indexer.upload.Goals as goal
 
 pub returns-in-Ok-clause-step : goal.returns-in-Ok-clause-step
@@ -50,15 +51,17 @@ returns-in-Ok-clause-ends g c = λ idle.
       Ok c.in-Ok.uploaded,
       c.in-Ok.ensures.kinds,
       subst (λ (bytes : List ℕ). WhereTold (g.G.Gate.told c.args.gate.now) (g.G.Gate.told c.upload.new.self) (Behind (UploadsFile (split_key number) bytes (Ok c.in-Ok.uploaded)))) c.as_slice.ensures c.in-Ok.ensures.answers,
+      subst (λ (bytes : List ℕ). g.G.Gate.Answers c.args.gate.now (upload_answered number bytes (Ok c.in-Ok.uploaded)) c.upload.new.self) c.as_slice.ensures c.in-Ok.ensures.answered,
       (ap said.Uploaded (sym c.in-Ok.ensures.kinds), c.put.ensures),
     )
 
 pub returns-in-Err-clause-ends : goal.returns-in-Err-clause-ends
 returns-in-Err-clause-ends g c = λ idle.
     let number = c.args.staged.number in
-    ends_by (EndsUpload number c.args.bytes.now (g.G.Gate.told c.args.gate.now) (g.G.Gate.told c.upload.new.self)) c.faulted.result c.args.self.now.place idle (λ (outcome : Said) e. (
+    ends_by (EndsUpload (λ (call : Answered). g.G.Gate.Answers c.args.gate.now call c.upload.new.self) number c.args.bytes.now (g.G.Gate.told c.args.gate.now) (g.G.Gate.told c.upload.new.self)) c.faulted.result c.args.self.now.place idle (λ (outcome : Said) e. (
       Err c.in-Err.error,
       c.in-Err.ensures.kinds,
       subst (λ (bytes : List ℕ). WhereTold (g.G.Gate.told c.args.gate.now) (g.G.Gate.told c.upload.new.self) (Behind (UploadsFile (split_key number) bytes (Err c.in-Err.error)))) c.as_slice.ensures c.in-Err.ensures.answers,
+      subst (λ (bytes : List ℕ). g.G.Gate.Answers c.args.gate.now (upload_answered number bytes (Err c.in-Err.error)) c.upload.new.self) c.as_slice.ensures c.in-Err.ensures.answered,
       (sym c.faulted.ensures.exact ∙ e, idle),
     ))
