@@ -168,6 +168,22 @@ def questions(records):
         Question("a histogram over all", {"query": "*", "max_hits": 0, "aggs": {"sizes": {"histogram": {"field": "size", "interval": 1000, "min_doc_count": 1}}}},
                  "SELECT size / 1000 * 1000, count(*) FROM records GROUP BY 1", (),
                  lambda said: sorted((it["key"], it["doc_count"]) for it in said["aggregations"]["sizes"]["buckets"])),
+        Question("terms and a histogram in one request", {"query": "*", "max_hits": 0, "aggs": {
+                     "levels": {"terms": {"field": "level", "size": 1000}}, "sizes": {"histogram": {"field": "size", "interval": 1000, "min_doc_count": 1}}}},
+                 "SELECT 'levels', level, count(*) FROM records GROUP BY level UNION ALL SELECT 'sizes', size / 1000 * 1000, count(*) FROM records GROUP BY 2", (),
+                 lambda said: sorted((name, it["key"], it["doc_count"]) for name in ("levels", "sizes") for it in said["aggregations"][name]["buckets"])),
+        Question("terms with a nested sum and a greatest", {"query": "*", "max_hits": 0, "aggs": {"levels": {
+                     "terms": {"field": "level", "size": 1000}, "aggs": {"all": {"sum": {"field": "size"}}, "most": {"max": {"field": "size"}}}}}},
+                 "SELECT level, count(*), sum(size), max(size) FROM records GROUP BY level", (),
+                 lambda said: sorted((it["key"], it["doc_count"], it["all"]["value"], it["most"]["value"]) for it in said["aggregations"]["levels"]["buckets"])),
+        Question("least, greatest, sum and number of a field", {"query": "*", "max_hits": 0, "aggs": {
+                     "least": {"min": {"field": "size"}}, "most": {"max": {"field": "size"}}, "all": {"sum": {"field": "size"}}, "many": {"value_count": {"field": "size"}}}},
+                 "SELECT min(size), max(size), sum(size), count(size) FROM records", (),
+                 lambda said: [tuple(said["aggregations"][name]["value"] for name in ("least", "most", "all", "many"))]),
+        Question("three ranges of a number", {"query": "*", "max_hits": 0, "aggs": {
+                     "sizes": {"range": {"field": "size", "ranges": [{"to": low}, {"from": low, "to": high}, {"from": high}]}}}},
+                 "SELECT sum(size < ?), sum(size BETWEEN ? AND ? - 1), sum(size >= ?) FROM records", (low, low, high, high),
+                 lambda said: [tuple(it["doc_count"] for it in said["aggregations"]["sizes"]["buckets"])]),
     ]
 
 
