@@ -1,5 +1,5 @@
 -- The words in which outcomes, refusals and faults are said.
-use Rattle.std.specs.Prelude.{ℕ, List, [], ◌∷◌, ◌++◌, decimal, codes}
+use Rattle.std.specs.Prelude.{ℕ, nat_lt, List, [], ◌∷◌, ◌++◌, map, decimal, codes, if◌then◌else◌}
 use Rattle.std.specs.Fmt.{signed_decimal}
 use Rattle.index_config.specs.declared.config_error.ConfigError.{ConfigError}
 use Rattle.index_config.specs.declared.config_error.ConfigError.TheVariants as configs
@@ -66,18 +66,25 @@ fault_words (is_foreign key) = codes "foreign" ∷ key ∷ []
 fault_words is_full = codes "full" ∷ []
 fault_words (is_expired planned_at now) = codes "expired" ∷ decimal planned_at ∷ decimal now ∷ []
 
+-- a path on one line: each control character as a question mark
+abbrev pub plain_byte : ℕ → ℕ
+plain_byte byte = if nat_lt byte 32 then 63 else byte
+
+abbrev pub plain : List ℕ → List ℕ
+plain path = map plain_byte path
+
 -- what is wrong with a configuration: its kind, and the path of the key where there is one
 abbrev pub config_words : ConfigError → List (List ℕ)
 config_words configs.NotToml = codes "nottoml" ∷ []
-config_words (configs.UnknownKey path) = codes "unknownkey" ∷ path ∷ []
-config_words (configs.WrongKind path) = codes "wrongkind" ∷ path ∷ []
-config_words (configs.MissingKey path) = codes "missingkey" ∷ path ∷ []
-config_words (configs.BadNumber path) = codes "badnumber" ∷ path ∷ []
-config_words (configs.DuplicateField path) = codes "duplicatefield" ∷ path ∷ []
+config_words (configs.UnknownKey path) = codes "unknownkey" ∷ plain path ∷ []
+config_words (configs.WrongKind path) = codes "wrongkind" ∷ plain path ∷ []
+config_words (configs.MissingKey path) = codes "missingkey" ∷ plain path ∷ []
+config_words (configs.BadNumber path) = codes "badnumber" ∷ plain path ∷ []
+config_words (configs.DuplicateField path) = codes "duplicatefield" ∷ plain path ∷ []
 config_words configs.BadTimestampField = codes "badtimestampfield" ∷ []
 config_words (configs.TooManyFields count) = codes "toomanyfields" ∷ []
-config_words (configs.BadReference path) = codes "badreference" ∷ path ∷ []
-config_words (configs.RetentionNotBuilt path) = codes "retentionnotbuilt" ∷ path ∷ []
+config_words (configs.BadReference path) = codes "badreference" ∷ plain path ∷ []
+config_words (configs.RetentionNotBuilt path) = codes "retentionnotbuilt" ∷ plain path ∷ []
 config_words (configs.Memory e) = codes "memory" ∷ []
 
 -- each error of a call of the world

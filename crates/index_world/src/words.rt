@@ -1,8 +1,8 @@
 //! The words of outcomes: one behind the other, with one blank between.
 
-ghost use Rattle.std.specs.Prelude.{◌≡◌, ◌++◌, ◌∷◌, [], OnOk, decimal, codes};
+ghost use Rattle.std.specs.Prelude.{◌≡◌, ◌++◌, ◌∷◌, [], IfOk, OnOk, decimal, codes};
 ghost use Rattle.std.specs.Fmt.{signed_decimal};
-ghost use Rattle.index_world.specs.Saying.{with_word, with_words, stale_words, state_words, refusal_words, config_words, error_words};
+ghost use Rattle.index_world.specs.Saying.{with_word, with_words, stale_words, state_words, refusal_words, plain, plain_byte, config_words, error_words};
 
 use crate::world_error::WorldError;
 use byte_fields::Bytes;
@@ -149,22 +149,58 @@ pub fn put_refusal(alloc: Global, out: &mut Bytes, refusal: &Refusal) -> Result<
     }
 }
 
+// A byte of a path on one line: a control character as a question mark.
+fn plain_byte(byte: u8) -> u8
+    ensures { result ≡ plain_byte byte }
+{
+    if byte < 32 { b'?' } else { byte }
+}
+
+// A path on one line.
+fn plain(alloc: Global, path: &[u8]) -> Result<Bytes, AllocError>
+    ensures { IfOk result (λ text. text ≡ plain path.now) }
+{
+    let mut text = Bytes::vacant(alloc);
+    for byte in path {
+        text.push(plain_byte(*byte))?;
+    }
+    Ok(text)
+}
+
+// Appends a word and the path of a key, which may have any characters.
+fn put_path(alloc: Global, out: &mut Bytes, word: &[u8], path: &[u8]) -> Result<(), AllocError>
+    ensures { OnOk result (out.new ≡ with_words out.old (word.now ∷ plain path.now ∷ [])) }
+{
+    let text = plain(alloc, path)?;
+    put_named(out, word, text.as_slice())
+}
+
 // Appends what is wrong with a configuration: its kind, and the path of the key where there is one.
-fn put_config(out: &mut Bytes, error: &ConfigError) -> Result<(), AllocError>
+fn put_config(alloc: Global, out: &mut Bytes, error: &ConfigError) -> Result<(), AllocError>
     ensures { OnOk result (out.new ≡ with_words out.old (config_words error.now)) }
 {
     match error {
         ConfigError::NotToml => put_word(out, b"nottoml"),
-        ConfigError::UnknownKey { path } => put_named(out, b"unknownkey", path.as_slice()),
-        ConfigError::WrongKind { path } => put_named(out, b"wrongkind", path.as_slice()),
-        ConfigError::MissingKey { path } => put_named(out, b"missingkey", path.as_slice()),
-        ConfigError::BadNumber { path } => put_named(out, b"badnumber", path.as_slice()),
-        ConfigError::DuplicateField { path } => put_named(out, b"duplicatefield", path.as_slice()),
+        ConfigError::UnknownKey { path } => put_path(alloc, out, b"unknownkey", path.as_slice()),
+        ConfigError::WrongKind { path } => put_path(alloc, out, b"wrongkind", path.as_slice()),
+        ConfigError::MissingKey { path } => put_path(alloc, out, b"missingkey", path.as_slice()),
+        ConfigError::BadNumber { path } => put_path(alloc, out, b"badnumber", path.as_slice()),
+        ConfigError::DuplicateField { path } => put_path(
+            alloc,
+            out,
+            b"duplicatefield",
+            path.as_slice(),
+        ),
         ConfigError::BadTimestampField => put_word(out, b"badtimestampfield"),
         ConfigError::TooManyFields { .. } => put_word(out, b"toomanyfields"),
-        ConfigError::BadReference { path } => put_named(out, b"badreference", path.as_slice()),
+        ConfigError::BadReference { path } => put_path(
+            alloc,
+            out,
+            b"badreference",
+            path.as_slice(),
+        ),
         ConfigError::RetentionNotBuilt { path } => {
-            put_named(out, b"retentionnotbuilt", path.as_slice())
+            put_path(alloc, out, b"retentionnotbuilt", path.as_slice())
         }
         ConfigError::Memory(_) => put_word(out, b"memory"),
     }
@@ -189,6 +225,6 @@ pub fn put_fault(alloc: Global, out: &mut Bytes, error: &WorldError) -> Result<(
         WorldError::Full => put_word(out, b"full"),
         WorldError::NoIndex => put_word(out, b"noindex"),
         WorldError::IndexExists => put_word(out, b"indexexists"),
-        WorldError::BadConfig(error) => put_config(out, error),
+        WorldError::BadConfig(error) => put_config(alloc, out, error),
     }
 }

@@ -679,6 +679,12 @@ run 2
 > at 5
 < error 8 noindex
 run 8
+row a key with a line feed is told on one line
+vacant
+command create
+config "a\nb" = "red"
+< error 2 unknownkey a?b
+run 2
 row an input that is no configuration, and one that is too long
 vacant
 command create
