@@ -1,3 +1,4 @@
+pub mod RunLemmas
 pub mod SaidLemmas
 pub mod WalkLemmas
 pub mod DocumentLemmas
@@ -10,6 +11,7 @@ pub mod KeysLemmas
 pub mod WrittenLemmas
 pub mod OnWay
 pub mod GatheredLemmas
+pub mod SpotLemmas
 pub mod KeyGroupLemmas
 pub mod OrderLemmas
 pub mod GroupWriting

@@ -54,12 +54,11 @@ may_prop false ns = hlevel props
 pub post_prop : (kept : Bool) (ps : List Posting) → IsProp (CanPost kept ps)
 post_prop kept ps = all_prop (λ (p : Posting). AreRising p.positions × MayHave kept p.positions) (λ p. ×_prop (rising_prop p.positions) (may_prop kept p.positions)) ps
 
-pub group_prop : (kept : Bool) (n : ℕ) (g : KeyGroups) → IsProp (HasGroup kept n g)
-group_prop kept n g a b = λ i. record {
+pub group_prop : (n : ℕ) (g : KeyGroups) → IsProp (HasGroup n g)
+group_prop n g a b = λ i. record {
   within = lt_prop (n + 1) (length g.starts.items) a.within b.within i;
   order = le_prop (slice_index g.starts.items n) (slice_index g.starts.items (n + 1)) a.order b.order i;
-  end = le_prop (slice_index g.starts.items (n + 1)) (length g.documents.items) a.end b.end i;
-  places_end = λ on. le_prop (slice_index g.starts.items (n + 1)) (length g.places.items) (a.places_end on) (b.places_end on) i;
+  end = le_prop (slice_index g.starts.items (n + 1)) (length g.spots.items) a.end b.end i;
 }
 
 -- ---- columns

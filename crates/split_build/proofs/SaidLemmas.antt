@@ -14,7 +14,8 @@ use Rattle.doc_value.specs.declared.schema.Schema.{Schema}
 use Rattle.split_bundle.specs.Lists.{keeps_places}
 use Rattle.split_build.specs.declared.terms.Occurrences.{Occurrences}
 use Rattle.split_build.specs.declared.terms.TermLog.{TermLog}
-use Rattle.split_build.specs.Said.{Said, places_kept}
+use Rattle.split_build.specs.Runs.{documents_of, places_of, runs_in}
+use Rattle.split_build.specs.Said.{Said}
 use Rattle.split_build.specs.HeldKeys.{key_bytes}
 use Rattle.split_build.specs.HeldTerms.{said_with, IsNumberOf, HasOccurrences, HasSaid}
 use Rattle.split_build.specs.Members.{IsAmong}
@@ -98,11 +99,12 @@ pub on_three : {X E : Type 0} (r : Result X E) (A B C D : Type 0) → OnOk r A �
 on_three (Ok x) A B C D a b c to = to a b c
 on_three (Err e) A B C D a b c to = tt
 
--- ---- an occurrence more
+-- where something is so, and where it need not be
+pub on_places : {X E : Type 0} (r : Result X E) (b : Bool) (A : Type 0) → (b ≡ true → OnOk r A) → OnOk r (b ≡ true → A)
+on_places (Ok x) b A a = a
+on_places (Err e) b A a = tt
 
-pub places_push : (kept : Bool) (os : List Said) (o : Said) → places_kept kept (os ++ o ∷ []) ≡ (if kept then places_kept kept os ++ o.place ∷ [] else places_kept kept os)
-places_push true os o = map_push (λ (p : Said). p.place) os o
-places_push false os o = refl
+-- ---- an occurrence more
 
 zip_wide : (ks more : List (List ℕ)) (os : List Said) (ns : List ℕ) → AllZip (IsNumberOf ks) os ns → AllZip (IsNumberOf (ks ++ more)) os ns
 zip_wide ks more [] [] h = tt
@@ -128,14 +130,14 @@ wide ks more kept os l h = record { numbers = zip_wide ks more os l.numbers.item
 -- one came behind the others
 pub record IsPushed (kept : Bool) (number : ℕ) (o : Said) (l m : Occurrences) : Type 0 where
   pub numbers : m.numbers.items ≡ l.numbers.items ++ number ∷ []
-  pub documents : m.documents.items ≡ l.documents.items ++ o.document ∷ []
-  pub places : m.places.items ≡ (if kept then l.places.items ++ o.place ∷ [] else l.places.items)
+  pub documents : documents_of (runs_in m) ≡ documents_of (runs_in l) ++ o.document ∷ []
+  pub places : kept ≡ true → places_of (runs_in m) ≡ places_of (runs_in l) ++ o.place ∷ []
 
 pushed : (ks : List (List ℕ)) (kept : Bool) (number : ℕ) (o : Said) (os : List Said) (l m : Occurrences) → slice_get ks number ≡ Some o.key → IsPushed kept number o l m → HasOccurrences ks kept os l → HasOccurrences ks kept (os ++ o ∷ []) m
 pushed ks kept number o os l m at p h = record {
   numbers = subst (λ (ns : List ℕ). AllZip (IsNumberOf ks) (os ++ o ∷ []) ns) (sym p.numbers) (zip_push (IsNumberOf ks) os l.numbers.items o number h.numbers at);
   documents = p.documents ∙ ap (λ (ds : List ℕ). ds ++ o.document ∷ []) h.documents ∙ sym (map_push (λ (q : Said). q.document) os o);
-  places = p.places ∙ ap (λ (ps : List ℕ). if kept then ps ++ o.place ∷ [] else ps) h.places ∙ sym (places_push kept os o);
+  places = λ on. p.places on ∙ ap (λ (ps : List ℕ). ps ++ o.place ∷ []) (h.places on) ∙ sym (map_push (λ (q : Said). q.place) os o);
 }
 
 among_left : (ks more : List (List ℕ)) (key : List ℕ) → IsAmong ks key → IsAmong (ks ++ more) key

@@ -7,8 +7,9 @@ use Rattle.split_bundle.specs.Lists.{keeps_places}
 use Rattle.split_build.specs.declared.terms.Occurrences.{Occurrences}
 use Rattle.split_build.specs.declared.terms.TermLog.{TermLog}
 use Rattle.split_build.specs.HeldKeys.{key_bytes}
-use Rattle.split_build.specs.Said.{Said, places_kept}
+use Rattle.split_build.specs.Said.{Said}
 use Rattle.split_build.specs.Members.{IsAmong}
+use Rattle.split_build.specs.Runs.{documents_of, places_of, runs_in}
 
 -- the occurrences whose places are kept, or those whose places are not
 abbrev pub said_with : Bool → Schema → List Said → List Said
@@ -21,8 +22,8 @@ IsNumberOf keys o n = slice_get keys n ≡ Some o.key
 -- these occurrences, each by the number of its key, with their places where they are kept
 pub record HasOccurrences (keys : List (List ℕ)) (kept : Bool) (os : List Said) (l : Occurrences) : Type 0 where
   pub numbers : AllZip (IsNumberOf keys) os l.numbers.items
-  pub documents : l.documents.items ≡ map (λ o. o.document) os
-  pub places : l.places.items ≡ places_kept kept os
+  pub documents : documents_of (runs_in l) ≡ map (λ o. o.document) os
+  pub places : kept ≡ true → places_of (runs_in l) ≡ map (λ o. o.place) os
 
 -- what was said, and the keys that occur there
 pub record HasSaid (t : TermLog) (s : Schema) (log : List Said) : Type 0 where

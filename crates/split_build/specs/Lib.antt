@@ -3,6 +3,7 @@ pub mod Members
 pub mod HeldDocuments
 pub mod Said
 pub mod HeldKeys
+pub mod Runs
 pub mod HeldTerms
 pub mod Gathered
 pub mod KeyGroups

@@ -82,15 +82,15 @@ impl DocumentLog {
         Ok(sorted)
     }
 
-    /// Appends the section of documents.
-    pub fn put_section(
-        &self,
+    // Appends where the documents begin, and gives them one behind the other. What is held is let go.
+    fn put_starts(
+        self,
         alloc: Global,
         partitions: &[Partition],
         out: &mut Vec<u8>,
-    ) -> Result<(), AllocError>
-        requires { ∥ ((documents : List Placed) × HasDocuments self.now documents) ∥₁ }
-        ensures { (documents : List Placed) → HasDocuments self.now documents → OnOk result (out.new.items ≡ out.old.items ++ documents_section partitions.now documents) }
+    ) -> Result<Vec<u8>, AllocError>
+        requires { ∥ ((documents : List Placed) × HasDocuments self documents) ∥₁ }
+        ensures { (documents : List Placed) → HasDocuments self documents → IfOk result (λ area. out.new.items ++ area.items ≡ out.old.items ++ documents_section partitions.now documents) }
     {
         let places = places_of(alloc, &self.names, partitions)?;
         let mut area = Vec::new(alloc);
@@ -105,6 +105,20 @@ impl DocumentLog {
             rest = others;
         }
         put_eight(out, area.len() as u64)?;
+        Ok(area)
+    }
+
+    /// Appends the section of documents.
+    pub fn put_section(
+        self,
+        alloc: Global,
+        partitions: &[Partition],
+        out: &mut Vec<u8>,
+    ) -> Result<(), AllocError>
+        requires { ∥ ((documents : List Placed) × HasDocuments self documents) ∥₁ }
+        ensures { (documents : List Placed) → HasDocuments self documents → OnOk result (out.new.items ≡ out.old.items ++ documents_section partitions.now documents) }
+    {
+        let area = self.put_starts(alloc, partitions, out)?;
         out.extend_from_slice(&area)
     }
 }

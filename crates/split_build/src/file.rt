@@ -67,6 +67,13 @@ fn put_starts(out: &mut Vec<u8>, starts: &[ColumnStart]) -> Result<(), AllocErro
     Ok(())
 }
 
+// Appends bytes, which are let go.
+fn put_all(out: &mut Vec<u8>, bytes: Vec<u8>) -> Result<(), AllocError>
+    ensures { OnOk result (out.new.items ≡ out.old.items ++ bytes.items) }
+{
+    out.extend_from_slice(&bytes)
+}
+
 impl FileParts {
     ghost use Rattle.split_build.specs.Filed.{IsFileOf, IsFooterPut, LengthsFit, parts_of};
 
@@ -95,16 +102,21 @@ impl FileParts {
         Ok(())
     }
 
-    // The sections one behind the other.
-    fn put_sections(&self, out: &mut Vec<u8>) -> Result<(), AllocError>
-        ensures { (keys : List (List ℕ)) → OnOk result (out.new.items ≡ out.old.items ++ sections_bytes (parts_of self.now keys)) }
+    // The sections one behind the other. Each is let go as it stands there.
+    fn put_sections(self, out: &mut Vec<u8>) -> Result<(), AllocError>
+        ensures { (keys : List (List ℕ)) → OnOk result (out.new.items ≡ out.old.items ++ sections_bytes (parts_of self keys)) }
     {
-        out.extend_from_slice(&self.documents)?;
-        out.extend_from_slice(self.terms.dictionary.as_slice())?;
-        out.extend_from_slice(&self.terms.postings)?;
-        out.extend_from_slice(&self.terms.positions)?;
-        out.extend_from_slice(&self.columns.bytes)?;
-        Ok(())
+        let FileParts {
+            documents,
+            terms,
+            columns,
+            ..
+        } = self;
+        put_all(out, documents)?;
+        out.extend_from_slice(terms.dictionary.as_slice())?;
+        put_all(out, terms.postings)?;
+        put_all(out, terms.positions)?;
+        put_all(out, columns.bytes)
     }
 
     // How many bytes the sections have.
@@ -117,16 +129,14 @@ impl FileParts {
             .saturating_add(self.columns.bytes.len())
     }
 
-    /// The file of these parts, for which room is made once.
-    pub(crate) fn write_file(&self, alloc: Global) -> Result<Vec<u8>, AllocError>
-        ensures { (keys : List (List ℕ)) → self.now.terms.count ≡ length keys → IfOk result (λ file. IsFileOf (parts_of self.now keys) file.items) }
+    /// The file of these parts, for which room is made once. Each section is let go as it stands there.
+    pub(crate) fn write_file(self, alloc: Global) -> Result<Vec<u8>, AllocError>
+        ensures { (keys : List (List ℕ)) → self.terms.count ≡ length keys → IfOk result (λ file. IsFileOf (parts_of self keys) file.items) }
     {
         let mut footer = Vec::new(alloc);
         self.put_footer(&mut footer)?;
-        let mut out = Vec::with_capacity(
-            alloc,
-            self.size().saturating_add(footer.len()).saturating_add(16),
-        )?;
+        let size = self.size().saturating_add(footer.len());
+        let mut out = Vec::with_capacity(alloc, size.saturating_add(16))?;
         out.extend_from_slice(&[0x51, 0x57, 0x53, 2])?;
         self.put_sections(&mut out)?;
         out.extend_from_slice(&footer)?;

@@ -164,11 +164,13 @@ fn write_groups(
 {
     let order = in_order(alloc, keys)?;
     let mut writer = TermWriter::vacant(alloc);
+    let mut documents = Vec::new(alloc);
+    let mut places = Vec::new(alloc);
     for i in 0..order.len() {
         let (key, number) = order[i];
         let kept = keeps_places(schema, key);
-        let (documents, places) = groups_for(kept, placed, plain).of_key(kept, number);
-        writer.write(alloc, schema, key, documents, places)?;
+        groups_for(kept, placed, plain).put_group(kept, number, &mut documents, &mut places)?;
+        writer.write(alloc, schema, key, &documents, &places)?;
     }
     let TermWriter {
         dictionary,
@@ -196,7 +198,7 @@ pub fn write_terms(alloc: Global, schema: &Schema, log: TermLog) -> Result<TermP
         plain,
         ..
     } = log;
-    let plain = groups_of(alloc, keys.len(), false, plain)?;
-    let placed = groups_of(alloc, keys.len(), true, placed)?;
+    let plain = groups_of(alloc, keys.len(), plain)?;
+    let placed = groups_of(alloc, keys.len(), placed)?;
     write_groups(alloc, schema, keys.as_slice(), &placed, &plain)
 }

@@ -1,46 +1,82 @@
 //! The occurrences of keys in the documents taken so far.
 
-ghost use Rattle.std.specs.Prelude.{◌≡◌, ◌∷◌, ◌++◌, [], ℕ, List, Some, IfOk, OnOk, slice_get, true, if◌then◌else◌};
+ghost use Rattle.std.specs.Prelude.{◌≡◌, ◌<◌, ◌+◌, ◌^◌, ◌∷◌, ◌++◌, [], ℕ, List, Some, IfOk, OnOk, slice_get, true};
 ghost use Rattle.std.specs.List.{AllByRecursion};
 ghost use Rattle.doc_value.specs.declared.schema.Schema.{Schema};
 ghost use Rattle.split_bundle.specs.Lists.{keeps_places};
 ghost use Rattle.split_build.specs.HeldKeys.{key_bytes};
+ghost use Rattle.split_build.specs.Runs.{documents_of, place_behind, places_of};
 
 use indexmap::IndexSet;
 use std::alloc::{AllocError, Global};
 
-/// Occurrences in the order of documents: of each the number of its key and the document, and, where they are kept, the
-/// place in the document.
+/// So many occurrences that stand one behind the other in a document: where places are kept, the first has this place, and
+/// each other one the place behind that of the one before it.
+#[derive(Clone, Copy)]
+pub struct Run {
+    pub document: u32,
+    pub count: u32,
+    pub place: u64,
+}
+
+impl Run {
+    // Whether an occurrence is the next one of these.
+    fn goes_on(&self, kept: bool, document: u32, place: u64) -> bool
+        ensures document { result ≡ true → document ≡ self.now.document }
+        ensures count { result ≡ true → self.now.count + 1 < 2 ^ 32 }
+        ensures place { result ≡ true → kept ≡ true → place ≡ place_behind self.now.place self.now.count }
+    {
+        if document != self.document || self.count == u32::MAX {
+            return false;
+        }
+        !kept || place == self.place.wrapping_add(u64::from(self.count))
+    }
+}
+
+/// Occurrences in the order of documents: of each the number of its key, and run by run the documents and, where they are
+/// kept, the places. The last run is still added to.
 #[derive(Drop)]
 pub struct Occurrences {
     pub numbers: Vec<u32>,
-    pub documents: Vec<u32>,
-    pub places: Vec<u64>,
+    pub runs: Vec<Run>,
+    pub last: Run,
 }
 
 impl Occurrences {
+    ghost use Rattle.split_build.specs.Runs.{runs_in};
+
     fn vacant(alloc: Global) -> Occurrences
         ensures numbers { result.numbers.items ≡ [] }
-        ensures documents { result.documents.items ≡ [] }
-        ensures places { result.places.items ≡ [] }
+        ensures documents { documents_of (runs_in result) ≡ [] }
+        ensures places { places_of (runs_in result) ≡ [] }
     {
         Occurrences {
             numbers: Vec::new(alloc),
-            documents: Vec::new(alloc),
-            places: Vec::new(alloc),
+            runs: Vec::new(alloc),
+            last: Run {
+                document: 0,
+                count: 0,
+                place: 0,
+            },
         }
     }
 
     fn push(&mut self, kept: bool, number: u32, document: u32, place: u64) -> Result<(), AllocError>
         ensures numbers { OnOk result (self.new.numbers.items ≡ self.old.numbers.items ++ number ∷ []) }
-        ensures documents { OnOk result (self.new.documents.items ≡ self.old.documents.items ++ document ∷ []) }
-        ensures places { OnOk result (self.new.places.items ≡ (if kept then self.old.places.items ++ place ∷ [] else self.old.places.items)) }
+        ensures documents { OnOk result (documents_of (runs_in self.new) ≡ documents_of (runs_in self.old) ++ document ∷ []) }
+        ensures places { kept ≡ true → OnOk result (places_of (runs_in self.new) ≡ places_of (runs_in self.old) ++ place ∷ []) }
     {
         self.numbers.push(number)?;
-        self.documents.push(document)?;
-        if kept {
-            self.places.push(place)?;
+        if self.last.goes_on(kept, document, place) {
+            self.last.count += 1;
+            return Ok(());
         }
+        self.runs.push(self.last)?;
+        self.last = Run {
+            document,
+            count: 1,
+            place,
+        };
         Ok(())
     }
 }
@@ -100,7 +136,7 @@ pub struct TermLog {
 }
 
 // A number in 32 bits. There is no room for more keys.
-fn narrow(number: usize) -> Result<u32, AllocError>
+pub(crate) fn narrow(number: usize) -> Result<u32, AllocError>
     ensures { IfOk result (λ n. n ≡ number) }
 {
     match u32::try_from(number) {

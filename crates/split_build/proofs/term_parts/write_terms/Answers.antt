@@ -6,7 +6,7 @@ use Rattle.split_build.specs.HeldTerms.{said_with}
 use Rattle.split_build.specs.KeyGroups.{AreGroups}
 use Rattle.split_build.specs.Said.{said_from}
 use Rattle.split_build.specs.WrittenTerms.{AreGrouped}
-use Rattle.split_build.proofs.KeyGroupLemmas.{are_grouped, documents_size, numbers_small, places_size}
+use Rattle.split_build.proofs.KeyGroupLemmas.{are_grouped, documents_size, numbers_small}
 use Rattle.split_build.proofs.Mere.{all_prop, lt_prop, nat_set}
 use Rattle.split_build.proofs.term_parts.write_terms.Goals as goal
 
@@ -28,13 +28,9 @@ pub groups_of-requires-2-clause-documents : goal.groups_of-requires-2-clause-doc
 groups_of-requires-2-clause-documents c =
     ∥∥₁_elim c.requires (nat_set _ _) (λ r. documents_size (key_bytes c.args.log.keys.keys) true (said_with true c.args.schema.now (said_from c.args.schema.now 0 r.0)) c.args.log.placed r.1.said.placed)
 
-pub groups_of-requires-2-clause-places : goal.groups_of-requires-2-clause-places
-groups_of-requires-2-clause-places c on =
-    ∥∥₁_elim c.requires (nat_set _ _) (λ r. places_size (key_bytes c.args.log.keys.keys) true (said_with true c.args.schema.now (said_from c.args.schema.now 0 r.0)) c.args.log.placed r.1.said.placed on)
-
 pub write_groups-requires : goal.write_groups-requires
 write_groups-requires c =
-    let plain : AreGroups c.len-2.result false c.args.log.plain c.in_ok-plain.plain = subst (λ (n : ℕ). AreGroups n false c.args.log.plain c.in_ok-plain.plain) (c.len.ensures.len ∙ sym c.len-2.ensures.len) c.in_ok-plain.ensures in
+    let plain : AreGroups c.len-2.result c.args.log.plain c.in_ok-plain.plain = subst (λ (n : ℕ). AreGroups n c.args.log.plain c.in_ok-plain.plain) (c.len.ensures.len ∙ sym c.len-2.ensures.len) c.in_ok-plain.ensures in
     ∥∥₁_map c.requires (λ r. (
       r.0,
       subst (λ (ks : List (Vec ℕ Global)). AreGrouped c.args.schema.now r.0 (key_bytes ks) c.in_ok-placed.placed c.in_ok-plain.plain) (sym c.as_slice.ensures.keys)
@@ -43,7 +39,7 @@ write_groups-requires c =
 
 pub returns : goal.returns
 returns c = λ ds h.
-    let plain : AreGroups c.len-2.result false c.args.log.plain c.in_ok-plain.plain = subst (λ (n : ℕ). AreGroups n false c.args.log.plain c.in_ok-plain.plain) (c.len.ensures.len ∙ sym c.len-2.ensures.len) c.in_ok-plain.ensures in
+    let plain : AreGroups c.len-2.result c.args.log.plain c.in_ok-plain.plain = subst (λ (n : ℕ). AreGroups n c.args.log.plain c.in_ok-plain.plain) (c.len.ensures.len ∙ sym c.len-2.ensures.len) c.in_ok-plain.ensures in
     c.write_groups.ensures ds
     (subst (λ (ks : List (Vec ℕ Global)). AreGrouped c.args.schema.now ds (key_bytes ks) c.in_ok-placed.placed c.in_ok-plain.plain) (sym c.as_slice.ensures.keys)
     (are_grouped c.args.schema.now ds c.args.log c.len-2.result c.in_ok-placed.placed c.in_ok-plain.plain h c.len.ensures.unique c.len-2.ensures.len c.in_ok-placed.ensures plain))

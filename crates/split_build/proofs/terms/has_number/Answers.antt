@@ -1,4 +1,4 @@
-use Rattle.std.proofs.Common.{◌≡◌, ◌∙◌, ℕ, Some, Vec, Bor, sym, ap}
+use Rattle.std.proofs.Common.{◌∙◌, ℕ, Vec, Bor, sym, ap}
 use Rattle.std.specs.Option.{option_copied}
 use Rattle.std.specs.Prelude.{Option}
 use Rattle.std.specs.declared.alloc.Global.{Global}

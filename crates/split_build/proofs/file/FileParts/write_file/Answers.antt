@@ -11,8 +11,8 @@ returns c = λ keys count.
     let size : c.len-2.result ≡ length c.put_footer.new.out.items = omega (arith, c.len-2.ensures, c.put_footer.new.out.ok.0) in
     record {
       bytes =
-          file_put (parts_of c.args.self.now keys) c.put_footer.new.out.items c.extend_from_slice.new.self.items c.put_sections.new.out.items c.extend_from_slice-2.new.self.items c.put_eight.new.out.items c.extend_from_slice-3.new.self.items
-          (foot.bytes ∙ ap (λ (l : List ℕ). l ++ footer_bytes (parts_of c.args.self.now keys)) c.new-footer.ensures.items)
+          file_put (parts_of c.args.self keys) c.put_footer.new.out.items c.extend_from_slice.new.self.items c.put_sections.new.out.items c.extend_from_slice-2.new.self.items c.put_eight.new.out.items c.extend_from_slice-3.new.self.items
+          (foot.bytes ∙ ap (λ (l : List ℕ). l ++ footer_bytes (parts_of c.args.self keys)) c.new-footer.ensures.items)
           (c.in_ok-extend_from_slice.ensures.items ∙ ap (λ (l : List ℕ). l ++ head) c.in_ok-out.ensures.items)
           (c.in_ok-put_sections.ensures keys)
           (c.in_ok-extend_from_slice-2.ensures.items ∙ ap (λ (l : List ℕ). c.put_sections.new.out.items ++ l) c.deref.ensures.value)
