@@ -35,3 +35,5 @@ pub mod FullWords
 pub mod ReadLists
 pub mod ReadLookups
 pub mod ReadWalks
+pub mod Columned
+pub mod ReadColumns

@@ -134,7 +134,7 @@ unlike_u64 (values.Bool true) n e = refl
 unlike_u64 (values.Bool false) n e = refl
 unlike_u64 (values.Datetime y) n e = refl
 
-above : (k : Kind) (low : Edge) (v : Value) → has_order k ≡ true → IsOfKind k v → Has64 v → EdgeHas64 low → nat_le (from_of k low) (number_of v) ≡ is_above low v
+pub above : (k : Kind) (low : Edge) (v : Value) → has_order k ≡ true → IsOfKind k v → Has64 v → EdgeHas64 low → nat_le (from_of k low) (number_of v) ≡ is_above low v
 above k edges.Unbounded v ordered of_kind fits edge = all_above (number_of v)
 above kinds.I64 (edges.Included (values.I64 e)) (values.I64 z) ordered of_kind fits edge = turned_le e z edge fits ∙ int_or e z
 above kinds.I64 (edges.Included w) (values.I64 z) ordered of_kind fits edge = too_high (turned z) (turned_fits z fits) ∙ sym (unlike_i64 w z refl)
@@ -155,7 +155,7 @@ above kinds.Text low v ordered of_kind fits edge = absurd (let x : false ≡ tru
 above kinds.TextList low v ordered of_kind fits edge = absurd (let x : false ≡ true = ordered in cc)
 above kinds.Bool low v ordered of_kind fits edge = absurd (let x : false ≡ true = ordered in cc)
 
-below : (k : Kind) (high : Edge) (v : Value) → has_order k ≡ true → IsOfKind k v → Has64 v → EdgeHas64 high → nat_lt (number_of v) (until_of k high) ≡ is_below high v
+pub below : (k : Kind) (high : Edge) (v : Value) → has_order k ≡ true → IsOfKind k v → Has64 v → EdgeHas64 high → nat_lt (number_of v) (until_of k high) ≡ is_below high v
 below k edges.Unbounded v ordered of_kind fits edge = in_type (number_of v) (number_fits v fits)
 below kinds.I64 (edges.Included (values.I64 e)) (values.I64 z) ordered of_kind fits edge = lt_next (turned z) (turned e) ∙ (turned_le z e fits edge ∙ int_or z e)
 below kinds.I64 (edges.Included w) (values.I64 z) ordered of_kind fits edge = none_below (turned z)

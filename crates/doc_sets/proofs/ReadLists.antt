@@ -1,5 +1,5 @@
 -- What is read of a list, block by block.
-use Rattle.std.proofs.Common.{◌≡◌, ℕ, zero, suc, ◌+◌, Bool, true, false, ◌||◌, ◌==◌, List, [], ◌∷◌, ◌++◌, refl, ap, sym, ◌∙◌, Result, Ok, Err}
+use Rattle.std.proofs.Common.{◌≡◌, ℕ, zero, suc, Bool, true, false, ◌||◌, ◌==◌, List, [], ◌∷◌, ◌++◌, refl, ap, sym, ◌∙◌, Result, Ok, Err}
 use Rattle.byte_fields.specs.declared.corrupt.Corrupt.{Corrupt}
 use Rattle.term_postings.specs.Reading.{Walk, next_block_of}
 use Rattle.doc_sets.specs.Reads.{are_below, block_then, in_front_of, numbers_in, of_step, then_read, HasRead, PutsRead}

@@ -7,11 +7,13 @@ use Rattle.term_dict.specs.declared.term.Term.{Term}
 use Rattle.split_bundle.specs.declared.placed.Placed.{Placed}
 use Rattle.split_bundle.specs.declared.part_view.PartView.{PartView}
 use Rattle.split_bundle.specs.declared.pieces.FilePiece.{FilePiece}
-use Rattle.split_bundle.specs.declared.pieces.Section.TheVariants.{Dictionary, Postings, Positions}
+use Rattle.split_bundle.specs.declared.pieces.Section.TheVariants.{Columns, Dictionary, Postings, Positions}
 use Rattle.split_bundle.specs.Files.{Parts, file_bytes}
 use Rattle.split_bundle.specs.Lending.{IsPartOf, block_place}
 use Rattle.split_bundle.specs.Lists.{terms_of}
+use Rattle.split_bundle.specs.SplitReading.{IsLaidOut}
 use Rattle.split_bundle.specs.Wholes.{HaveAll}
+use Rattle.split_bundle.proofs.ColumnsLent.{column_stands}
 use Rattle.split_bundle.proofs.Infos.{info_found}
 use Rattle.split_bundle.proofs.SectionBytes.{section_within}
 use Rattle.doc_sets.specs.declared.leaf_error.LeafError.{LeafError}
@@ -19,9 +21,9 @@ use Rattle.doc_sets.specs.declared.leaf_error.LeafError.TheVariants as faults
 use Rattle.doc_sets.specs.declared.wanted.Wanted.{Wanted}
 use Rattle.doc_sets.specs.Faults.{HasCause, IsMemory}
 use Rattle.doc_sets.specs.declared.dictionary_lookup.Lookup.{Lookup}
-use Rattle.doc_sets.specs.declared.dictionary_lookup.Lookup.TheVariants.{Count, Documents, Places, Walk}
+use Rattle.doc_sets.specs.declared.dictionary_lookup.Lookup.TheVariants.{Count, Documents, Places, Values, Walk}
 use Rattle.doc_sets.specs.Asking.{AsksBlockOf, AsksListOf, AsksLookups}
-use Rattle.doc_sets.specs.Needed.{IsListFor, ArePlacesFor, postings_start, positions_start}
+use Rattle.doc_sets.specs.Needed.{IsColumnFor, IsListFor, ArePlacesFor, columns_start, postings_start, positions_start}
 use Rattle.doc_sets.specs.Walks.{AsksTerms, begun_in}
 
 take_area : (m : ℕ) (ts : List Term) → length (area (take m ts)) ≤ length (area ts)
@@ -62,11 +64,19 @@ module _ (v : PartView) (s : Schema) (ds : List Placed) (p : Parts) (part : IsPa
   terms_within w (t ∷ ts) at len (inl asked) = list_within t.key at len asked.1
   terms_within w (t ∷ ts) at len (inr asked) = terms_within w ts at len asked
 
+  column_within : (number at len : ℕ) → IsColumnFor v s p number at len → Within at len
+  column_within number at len c =
+      let laid : IsLaidOut p v.footer.layout v.footer.bytes v.pieces = record { layout_is = part.footer.layout; footer_is = part.footer.bytes; are_pieces = part.pieces } in
+      let stands = column_stands v.footer.layout v.footer.bytes v.pieces s ds p c.field number part.is_split laid c.here c.fast in
+      let start : columns_start v.footer.layout.sections ≡ 4 + length p.documents + length p.dictionary + length p.postings + length p.positions = ap columns_start part.footer.layout.sections in
+      omega (arith, c.at_is, c.len_is, start, stands.start_is, stands.length_is, stands.at.within, stands.at.end_is, section_within Columns p)
+
   of_block_within : (l : Lookup) (at len : ℕ) → AsksBlockOf v s ds p l at len → Within at len
   of_block_within (Count key) at len b = block_within b.number at len b.at_is b.len_is
   of_block_within (Documents key) at len b = block_within b.number at len b.at_is b.len_is
   of_block_within (Places key) at len b = block_within b.number at len b.at_is b.len_is
   of_block_within (Walk prefix w) at len asked = block_within asked.0 at len asked.2.at_is asked.2.len_is
+  of_block_within (Values number r) at len asked = absurd asked
 
   of_list_within : (l : Lookup) (at len : ℕ) → AsksListOf v s ds p l at len → Within at len
   of_list_within (Count key) at len asked = absurd asked
@@ -74,6 +84,7 @@ module _ (v : PartView) (s : Schema) (ds : List Placed) (p : Parts) (part : IsPa
   of_list_within (Places key) at len (inl asked) = list_within key at len asked
   of_list_within (Places key) at len (inr asked) = places_within key at len asked
   of_list_within (Walk prefix w) at len asked = terms_within w (begun_in prefix (terms_of s ds p.keys) asked.0) at len asked.2
+  of_list_within (Values number r) at len asked = column_within number at len asked
 
   pub lookups_within : (ls : List Lookup) (at len : ℕ) → AsksLookups v s ds p ls at len → Within at len
   lookups_within [] at len (inl asked) = absurd asked

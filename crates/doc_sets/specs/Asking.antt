@@ -1,4 +1,4 @@
--- Which parts of a split are asked for by what is looked up in its dictionary.
+-- Which parts of a split are asked for by what is looked up in it.
 use Rattle.std.specs.Prelude.{ℕ, ◌⊎◌, List, [], ◌∷◌}
 use Rattle.doc_value.specs.declared.schema.Schema.{Schema}
 use Rattle.split_bundle.specs.declared.placed.Placed.{Placed}
@@ -6,9 +6,9 @@ use Rattle.split_bundle.specs.declared.part_view.PartView.{PartView}
 use Rattle.split_bundle.specs.Files.{Parts}
 use Rattle.doc_sets.specs.declared.leaf_error.LeafError.{LeafError}
 use Rattle.doc_sets.specs.declared.dictionary_lookup.Lookup.{Lookup}
-use Rattle.doc_sets.specs.declared.dictionary_lookup.Lookup.TheVariants.{Count, Documents, Places, Walk}
+use Rattle.doc_sets.specs.declared.dictionary_lookup.Lookup.TheVariants.{Count, Documents, Places, Values, Walk}
 use Rattle.doc_sets.specs.Faults.{HasCause}
-use Rattle.doc_sets.specs.Needed.{IsBlockFor, IsListFor, ArePlacesFor}
+use Rattle.doc_sets.specs.Needed.{IsBlockFor, IsColumnFor, IsListFor, ArePlacesFor}
 use Rattle.doc_sets.specs.Walks.{AsksWalkBlock, AsksWalkList}
 
 -- the blocks of the dictionary
@@ -17,13 +17,15 @@ AsksBlockOf v s documents p (Count key) at len = IsBlockFor v s documents p key 
 AsksBlockOf v s documents p (Documents key) at len = IsBlockFor v s documents p key at len
 AsksBlockOf v s documents p (Places key) at len = IsBlockFor v s documents p key at len
 AsksBlockOf v s documents p (Walk prefix wanted) at len = AsksWalkBlock v s documents p prefix at len
+AsksBlockOf v s documents p (Values number range) at len = ⊥
 
--- the lists and the positions
+-- the lists, the positions and the columns
 abbrev pub AsksListOf : PartView → Schema → List Placed → Parts → Lookup → ℕ → ℕ → Type 0
 AsksListOf v s documents p (Count key) at len = ⊥
 AsksListOf v s documents p (Documents key) at len = IsListFor v s documents p key at len
 AsksListOf v s documents p (Places key) at len = IsListFor v s documents p key at len ⊎ ArePlacesFor v s documents p key at len
 AsksListOf v s documents p (Walk prefix wanted) at len = AsksWalkList v s documents p prefix wanted at len
+AsksListOf v s documents p (Values number range) at len = IsColumnFor v s p number at len
 
 -- the same of some look-ups
 abbrev pub AsksBlocks : PartView → Schema → List Placed → Parts → List Lookup → ℕ → ℕ → Type 0

@@ -8,5 +8,6 @@ pub mod Needed
 pub mod Texts
 pub mod Walks
 pub mod Asking
+pub mod Ranged
 pub mod Seeking
 pub mod Reads

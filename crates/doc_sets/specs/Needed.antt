@@ -12,7 +12,7 @@ use Rattle.split_bundle.specs.declared.part_view.PartView.{PartView}
 use Rattle.split_bundle.specs.declared.layout.Sections.{Sections}
 use Rattle.split_bundle.specs.Files.{Parts}
 use Rattle.split_bundle.specs.Lists.{keeps_places, terms_of}
-use Rattle.split_bundle.specs.Lending.{IsPartOf, block_place}
+use Rattle.split_bundle.specs.Lending.{IsPartOf, block_place, length_of_column, start_of_column}
 use Rattle.doc_sets.specs.Asked.{AllNear}
 use Rattle.doc_sets.specs.Values.{AllHave64}
 use Rattle.doc_sets.specs.Faults.{HasCause}
@@ -28,12 +28,15 @@ pub record IsSearched (v : PartView) (s : Schema) (documents : List Placed) (p :
   pub typed : (n : ℕ) → AllByRecursion (λ d. AllHave64 (values_in d.doc n)) documents
   pub few_blocks : length v.footer.index < 2 ^ 32
 
--- where the sections of postings and of positions start in the file
+-- where the sections of postings, of positions and of columns start in the file
 abbrev pub postings_start : Sections → ℕ
 postings_start s = 4 + s.documents + s.dictionary
 
 abbrev pub positions_start : Sections → ℕ
 positions_start s = 4 + s.documents + s.dictionary + s.postings
+
+abbrev pub columns_start : Sections → ℕ
+columns_start s = 4 + s.documents + s.dictionary + s.postings + s.positions
 
 -- the block in which a key stands, if it is in the dictionary
 pub record IsBlockFor (v : PartView) (s : Schema) (documents : List Placed) (p : Parts) (key : List ℕ) (at len : ℕ) : Type 0 where
@@ -56,6 +59,14 @@ pub record ArePlacesFor (v : PartView) (s : Schema) (documents : List Placed) (p
   pub is_term : lookup key (terms_of s documents p.keys) ≡ Some info
   pub at_is : at ≡ positions_start v.footer.layout.sections + info.positions
   pub len_is : len ≡ info.positions_len
+
+-- the column of a fast field
+pub record IsColumnFor (v : PartView) (s : Schema) (p : Parts) (number at len : ℕ) : Type 0 where
+  pub field : Field
+  pub here : slice_get s.fields number ≡ Some field
+  pub fast : field.fast ≡ true
+  pub at_is : at ≡ columns_start v.footer.layout.sections + start_of_column number p.column_starts
+  pub len_is : len ≡ length_of_column number (length p.columns) p.column_starts
 
 -- what is asked for of a key: the block in which it would stand, and the list of its term
 abbrev pub AsksKey : PartView → Schema → List Placed → Parts → List ℕ → ℕ → ℕ → Type 0

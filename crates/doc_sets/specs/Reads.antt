@@ -1,7 +1,12 @@
--- What is read over any bytes for a key that is looked up, and which fault is met.
+-- What is read over any bytes for what is looked up, and which fault is met.
 use Rattle.std.specs.Prelude.{◌≡◌, ℕ, zero, suc, ◌+◌, ◌-◌, ◌^◌, Bool, true, false, ◌&&◌, ◌||◌, List, [], ◌∷◌, ◌++◌, Option, Some, None, Result, Ok, Err, nat_eq, nat_lt, if◌then◌else◌, MatchResult, ◌⊎◌}
 use Rattle.std.specs.List.{starts_with}
 use Rattle.byte_fields.specs.declared.corrupt.Corrupt.{Corrupt}
+use Rattle.doc_value.specs.declared.schema.Kind.{Kind}
+use Rattle.fast_fields.specs.Readers.{parts}
+use Rattle.fast_fields.specs.Reading.{Parts as ColumnParts}
+use Rattle.fast_fields.specs.declared.column.Column.{Column}
+use Rattle.query_ast.specs.Queries.{has_order}
 use Rattle.term_dict.specs.Bounds.{AreBlocks, IsBlockOf}
 use Rattle.term_dict.specs.Keys.{is_below}
 use Rattle.term_dict.specs.Reading.{Walks, info_there, place_there, said_at}
@@ -10,16 +15,18 @@ use Rattle.term_dict.specs.declared.term.TermInfo.{TermInfo}
 use Rattle.term_postings.specs.Reading.{Walk as Cursored, next_block_of}
 use Rattle.split_bundle.specs.declared.part_view.PartView.{PartView}
 use Rattle.split_bundle.specs.declared.split_error.SplitError.{SplitError}
-use Rattle.split_bundle.specs.Lending.{block_in, documents_in}
+use Rattle.split_bundle.specs.Lending.{block_in, column_in, documents_in}
 use Rattle.doc_sets.specs.Bits.{has}
 use Rattle.doc_sets.specs.Faults.{fault_of}
+use Rattle.doc_sets.specs.Ranged.{documents_from}
 use Rattle.doc_sets.specs.Sets.{is_one_of}
 use Rattle.doc_sets.specs.Walks.{takes}
 use Rattle.doc_sets.specs.declared.bits.DocBits.{DocBits}
 use Rattle.doc_sets.specs.declared.dictionary_lookup.Lookup.{Lookup}
-use Rattle.doc_sets.specs.declared.dictionary_lookup.Lookup.TheVariants.{Count, Documents, Places, Walk}
+use Rattle.doc_sets.specs.declared.dictionary_lookup.Lookup.TheVariants.{Count, Documents, Places, Values, Walk}
 use Rattle.doc_sets.specs.declared.leaf_error.LeafError.{LeafError}
 use Rattle.doc_sets.specs.declared.leaf_error.LeafError.TheVariants as faults
+use Rattle.doc_sets.specs.declared.wanted.NumberRange.{NumberRange}
 use Rattle.doc_sets.specs.declared.wanted.Wanted.{Wanted}
 
 -- what is read in a section, whose faults are the section's
@@ -172,15 +179,37 @@ HasReadBy Reads (Err (faults.Memory a)) = Unit {0}
 HasReadBy Reads (Err (faults.Corrupt section)) = Reads (Err (faults.Corrupt section))
 HasReadBy Reads (Err (faults.Missing at)) = Reads (Err (faults.Missing at))
 
+-- ---- a column
+
+-- numbers of a column's documents were put into a set, or one of them is not below its size
+abbrev pub PutsValues : {A : Type 0} → DocBits → DocBits → List ℕ → Result A LeafError → Type 0
+PutsValues old new numbers (Ok u) = (are_below old.size numbers ≡ true) × ((k : ℕ) → has new k ≡ has old k || is_one_of k numbers)
+PutsValues old new numbers (Err e) = (are_below old.size numbers ≡ false) × (e ≡ faults.Corrupt 5)
+
+-- the documents of a column's values that are in a range, where each is below a size
+abbrev pub numbers_within : ℕ → NumberRange → Column → Result (List ℕ) LeafError
+numbers_within size r c = if are_below size (documents_from r c c.count 0) then Ok (documents_from r c c.count 0) else Err (faults.Corrupt 5)
+
+abbrev pub ReadsParts : ℕ → NumberRange → Result ColumnParts SplitError → Result (List ℕ) LeafError → Type 0
+ReadsParts size r (Err e) read = read ≡ Err (fault_of e)
+ReadsParts size r (Ok ps) read = (c : Column) × (parts c ≡ ps) × (read ≡ numbers_within size r c)
+
+-- the same of the column of a field of an ordered kind, as the file has it
+pub record ReadsColumn (v : PartView) (number : ℕ) (r : NumberRange) (read : Result (List ℕ) LeafError) : Type 0 where
+  pub kind : Kind
+  pub ordered : has_order kind ≡ true
+  pub reads : ReadsParts v.footer.layout.docs r (column_in kind v.footer.layout.sections v.pieces v.footer.bytes v.footer.layout.columns number) read
+
 -- ---- what is looked up
 
--- what is looked up is read: of a key that is counted its block, of one whose documents are wanted its list too, and of a walk its blocks and
--- the lists of the wanted keys. Of places nothing is said.
+-- what is looked up is read: of a key that is counted its block, of one whose documents are wanted its list too, of a walk its blocks and
+-- the lists of the wanted keys, and of values their column. Of places nothing is said.
 abbrev pub IsRead : PartView → Lookup → Type 0
 IsRead v (Count key) = (found : Option TermInfo) × Finds v key (Ok found)
 IsRead v (Documents key) = (counted : Bool) × (numbers : List ℕ) × ReadsKey v key counted (Ok numbers)
 IsRead v (Places key) = Unit {0}
 IsRead v (Walk prefix wanted) = (counted : Bool) × (numbers : List ℕ) × ReadsWalk v (numbers_if v counted wanted) prefix (Ok numbers)
+IsRead v (Values number range) = (numbers : List ℕ) × ReadsColumn v number range (Ok numbers)
 
 abbrev pub AreRead : PartView → List Lookup → Type 0
 AreRead v [] = Unit {0}
@@ -192,6 +221,7 @@ Meets v (Count key) e = Finds v key (Err e)
 Meets v (Documents key) e = (counted : Bool) × ReadsKey v key counted (Err e)
 Meets v (Places key) e = Unit {0}
 Meets v (Walk prefix wanted) e = (counted : Bool) × ReadsWalk v (numbers_if v counted wanted) prefix (Err e)
+Meets v (Values number range) e = ReadsColumn v number range (Err e)
 
 abbrev pub SomeMeets : PartView → List Lookup → LeafError → Type 0
 SomeMeets v [] e = ⊥

@@ -1,9 +1,9 @@
-//! What is looked up in a dictionary.
+//! What is looked up in a split.
 
-use crate::wanted::Wanted;
+use crate::wanted::{NumberRange, Wanted};
 use byte_fields::{Bytes, List};
 
-/// What is looked up in the dictionary of a split.
+/// What is looked up in a split: keys in its dictionary, or values in a column.
 #[derive(Drop)]
 pub enum Lookup {
     /// How many documents have a key. Its block says it.
@@ -14,6 +14,8 @@ pub enum Lookup {
     Places(Bytes),
     /// The documents of the wanted keys that begin so: the blocks that can have these, and their lists.
     Walk(Bytes, Wanted),
+    /// The documents that have a value in a range, by the field's number: the field's column.
+    Values(usize, NumberRange),
 }
 
 pub type Lookups = List<Lookup>;

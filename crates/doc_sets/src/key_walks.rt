@@ -192,7 +192,7 @@ pub fn prefix_documents(
 }
 
 // The value of an edge that is held has 64 bits.
-fn edge_has_64(edge: &Edge)
+pub(crate) fn edge_has_64(edge: &Edge)
     ensures { EdgeHas64 edge.now }
 {
     match edge {
@@ -202,8 +202,8 @@ fn edge_has_64(edge: &Edge)
     }
 }
 
-/// The documents that have a value between two edges.
-pub fn range_documents(
+/// The documents that have a value between two edges, by the keys of the field.
+pub(crate) fn walked_range(
     alloc: Global,
     index: &BlockIndex,
     part: &PartView,

@@ -62,4 +62,6 @@ pub(crate) const POSTINGS: u8 = 3;
 
 pub(crate) const POSITIONS: u8 = 4;
 
+pub(crate) const COLUMNS: u8 = 5;
+
 const FOOTER: u8 = 6;

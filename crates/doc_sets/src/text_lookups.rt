@@ -6,18 +6,20 @@ ghost use Rattle.query_ast.specs.Spelled.{spelled};
 ghost use Rattle.split_bundle.specs.Keys.{field_key, presence_key};
 ghost use Rattle.doc_sets.specs.Needed.{token_keys};
 ghost use Rattle.doc_sets.specs.Texts.{item_lookups, lookups_for, one_token, text_lookups, value_keys};
-ghost use Rattle.doc_sets.specs.Walks.{range_of};
+ghost use Rattle.doc_sets.specs.Ranged.{range_lookup};
 ghost use Rattle.doc_sets.specs.declared.dictionary_lookup.Lookup.TheVariants.{Documents, Places, Walk};
-ghost use Rattle.doc_sets.specs.declared.wanted.Wanted.TheVariants.{Each, Within};
+ghost use Rattle.doc_sets.specs.declared.wanted.Wanted.TheVariants.{Each};
 
 use crate::dictionary_lookup::{Lookup, Lookups};
 use crate::texts::is_text;
+use crate::value_columns::goes_by_column;
 use crate::values::{presence_bytes, value_bytes};
 use crate::wanted::{Wanted, between};
 use crate::words::key_bytes;
 use byte_fields::Bytes;
 use doc_value::{Field, Kind, Value};
 use query_ast::{Edge, Item, folded_prefix, tokens_of, value_of};
+use split_bundle::Footer;
 use std::alloc::{AllocError, Global};
 use text_tokens::Token;
 
@@ -132,20 +134,24 @@ pub fn prefix_lookup(
     Ok(Lookup::Walk(Bytes::from_vec(prefix), Wanted::Each))
 }
 
-/// What is looked up for the values between two edges.
+/// What is looked up for the values between two edges, by the field's column or by its keys.
 pub fn range_lookup(
     alloc: Global,
+    footer: &Footer,
     number: usize,
     field: &Field,
     low: &Edge,
     high: &Edge,
 ) -> Result<Lookup, AllocError>
     requires { number < 256 }
-    ensures { IfOk result (λ l. l ≡ Walk (field_key number []) (Within (range_of field.now.kind low.now high.now))) }
+    ensures { IfOk result (λ l. l ≡ range_lookup footer.now number field.now low.now high.now) }
 {
+    let range = between(field.kind, low, high);
+    if goes_by_column(footer, number, field) {
+        return Ok(Lookup::Values(number, range));
+    }
     let prefix = key_bytes(alloc, number, &[])?;
-    let wanted = Wanted::Within(between(field.kind, low, high));
-    Ok(Lookup::Walk(Bytes::from_vec(prefix), wanted))
+    Ok(Lookup::Walk(Bytes::from_vec(prefix), Wanted::Within(range)))
 }
 
 /// What is looked up for the documents that have a value of a field.

@@ -75,7 +75,17 @@ pub(crate) fn between(kind: Kind, low: &Edge, high: &Edge) -> NumberRange
 }
 
 impl NumberRange {
+    ghost use Rattle.doc_sets.specs.Ranged.{lies_in};
     ghost use Rattle.doc_sets.specs.Walks.{is_within};
+
+    // Whether a number is in the range.
+    #[inline]
+    pub(crate) fn contains(self, number: u64) -> bool
+        ensures { result ≡ lies_in self number }
+    {
+        let number = u128::from(number);
+        self.from <= number && number < self.until
+    }
 
     // Whether a number of the range stands in eight bytes.
     fn has(self, term: &[u8]) -> bool

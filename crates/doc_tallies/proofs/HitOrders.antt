@@ -11,6 +11,7 @@ use Rattle.doc_value.specs.declared.doc.Value.{Value}
 use Rattle.doc_value.specs.declared.doc.Value.TheVariants as values
 use Rattle.split_bundle.specs.declared.placed.Placed.{Placed}
 use Rattle.doc_tallies.specs.declared.hit_order.HitOrder.{HitOrder}
+use Rattle.doc_tallies.specs.Near.{is_ahead}
 use Rattle.doc_tallies.specs.Orders.{first_cmp, first_value, sort_cmp, place_cmp, comes_before}
 
 -- ---- values, by their kinds and then by what each kind has
@@ -51,6 +52,14 @@ same_values (values.U64 a) (values.U64 b) = then_equal (nat_cmp a b)
 same_values (values.Bool a) (values.Bool b) = then_equal (bool_cmp a b)
 same_values (values.Datetime a) (values.Datetime b) = refl
 same_values _ _ = refl
+
+pub values_order : IsStrictWeakOrder (λ (v w : Value). is_lt (value_cmp v w))
+values_order =
+    let parts = ranks_by by_parts_total (λ (v : Value). v) in
+    record {
+      one_way = λ v w h. sym (ap is_lt (same_values w v)) ∙ parts.one_way v w (ap is_lt (same_values v w) ∙ h);
+      chain = λ u v w h k. sym (ap is_lt (same_values u w)) ∙ parts.chain u v w (ap is_lt (same_values u v) ∙ h) (ap is_lt (same_values v w) ∙ k);
+    }
 
 -- ---- values that may be missing
 
@@ -109,4 +118,17 @@ hits_order order =
     record {
       one_way = λ x y h. sym (same_before order y x) ∙ parts.one_way x y (same_before order x y ∙ h);
       chain = λ x y z h k. sym (same_before order x z) ∙ parts.chain x y z (same_before order x y ∙ h) (same_before order y z ∙ k);
+    }
+
+-- by the order's value alone
+
+same_ahead : (order : HitOrder) (a b : Placed) → is_lt (first_parts order.descending (first_value order.field a.doc) (first_value order.field b.doc)) ≡ is_ahead order a b
+same_ahead order a b = ap is_lt (same_firsts order.descending (first_value order.field a.doc) (first_value order.field b.doc))
+
+pub ahead_order : (order : HitOrder) → IsStrictWeakOrder (is_ahead order)
+ahead_order order =
+    let parts = ranks_by (first_total order.descending) (λ (d : Placed). first_value order.field d.doc) in
+    record {
+      one_way = λ x y h. sym (same_ahead order y x) ∙ parts.one_way x y (same_ahead order x y ∙ h);
+      chain = λ x y z h k. sym (same_ahead order x z) ∙ parts.chain x y z (same_ahead order x y ∙ h) (same_ahead order y z ∙ k);
     }

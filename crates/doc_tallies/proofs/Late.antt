@@ -31,9 +31,9 @@ count_put {X = X} b p x (y ∷ ys) = go (b y x) (count_put b p x ys)
     go false same = refl
     go true same = two (p x) (p y) (filter p (put_by b x ys)) (filter p ys) same
 
-count_sorted : {X : Type 0} (b : X → X → Bool) (p : X → Bool) (xs : List X) → length (filter p (sorted_by b xs)) ≡ length (filter p xs)
-count_sorted b p [] = refl
-count_sorted {X = X} b p (x ∷ xs) = count_put b p x (sorted_by b xs) ∙ one (p x) (filter p (sorted_by b xs)) (filter p xs) (count_sorted b p xs)
+pub length_passed : {X : Type 0} (b : X → X → Bool) (p : X → Bool) (xs : List X) → length (filter p (sorted_by b xs)) ≡ length (filter p xs)
+length_passed b p [] = refl
+length_passed {X = X} b p (x ∷ xs) = count_put b p x (sorted_by b xs) ∙ one (p x) (filter p (sorted_by b xs)) (filter p xs) (length_passed b p xs)
   where
     one : (t : Bool) (some others : List X) → length some ≡ length others → length (cond t (x ∷ some) some) ≡ length (cond t (x ∷ others) others)
     one true some others is = ap (λ n. suc n) is
@@ -77,7 +77,7 @@ late_put b o x (y ∷ ys) (suc n) up enough = go (b x y) refl enough (late_put b
 pub drop_late : {X : Type 0} (b : X → X → Bool) → IsStrictWeakOrder b → (n : ℕ) (items : List X) (x z : X) → n ≤ length (upto b z items) → b x z ≡ false → firsts_by n b (items ++ x ∷ []) ≡ firsts_by n b items
 drop_late b o n items x z enough late =
     let wider = count_wider b o x z items late in
-    let counted = count_sorted b (λ y. not (b x y)) items in
+    let counted = length_passed b (λ y. not (b x y)) items in
     let many : n ≤ length (upto b x (sorted_by b items)) = omega arith in
     ap (take n) (sorted_more b o items x) ∙ late_put b o x (sorted_by b items) n (sorted_in_order b o items) many
 

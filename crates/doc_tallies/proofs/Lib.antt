@@ -15,6 +15,11 @@ pub mod Metrics
 pub mod HitOrders
 pub mod Parting
 pub mod RankOrders
+pub mod Leasts
+pub mod Keys
+pub mod Nears
+pub mod KeyOrders
+pub mod Rising
 pub mod MarkValues
 pub mod Classing
 pub mod Copied

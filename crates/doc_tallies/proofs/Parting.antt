@@ -1,11 +1,10 @@
 -- Documents of which some stand before all others.
-use Rattle.std.proofs.Common.{◌≡◌, ℕ, suc, ◌<◌, ◌≤◌, Bool, true, false, not, cond, List, [], ◌∷◌, ◌++◌, take, length, slice_get, Option, Some, None, if◌then◌else◌, refl, ap, sym, ◌∙◌, arith}
+use Rattle.std.proofs.Common.{◌≡◌, ℕ, suc, ◌<◌, Bool, true, false, not, cond, List, [], ◌∷◌, ◌++◌, length, slice_get, Option, Some, None, if◌then◌else◌, refl, ap, ◌∙◌}
 use Rattle.std.specs.Cmp.{IsStrictWeakOrder}
 use Rattle.std.specs.List.{AllByRecursion, filter}
 use Rattle.std.specs.Option.{option_to_list}
-use Rattle.std.proofs.lemmas.List.{take-append-le}
 use Rattle.split_bundle.specs.declared.placed.Placed.{Placed}
-use Rattle.doc_tallies.specs.Firsts.{put_by, sorted_by, firsts_by}
+use Rattle.doc_tallies.specs.Firsts.{put_by, sorted_by}
 use Rattle.doc_tallies.specs.Picked.{picked}
 use Rattle.doc_tallies.proofs.TimeValues.{stands}
 
@@ -19,7 +18,7 @@ put_all P b x (y ∷ ys) here all = go (b y x) (put_all P b x ys here all.1)
     go true rest = (all.0, rest)
     go false rest = (here, all)
 
-sorted_all : {X : Type 0} (P : X → Type 0) (b : X → X → Bool) (xs : List X) → AllByRecursion P xs → AllByRecursion P (sorted_by b xs)
+pub sorted_all : {X : Type 0} (P : X → Type 0) (b : X → X → Bool) (xs : List X) → AllByRecursion P xs → AllByRecursion P (sorted_by b xs)
 sorted_all P b [] all = tt
 sorted_all P b (x ∷ xs) all = put_all P b x (sorted_by b xs) all.0 (sorted_all P b xs all.1)
 
@@ -31,7 +30,7 @@ length_put b x (y ∷ ys) = go (b y x) (length_put b x ys)
     go true e = ap (λ n. suc n) e
     go false e = refl
 
-length_sorted : {X : Type 0} (b : X → X → Bool) (xs : List X) → length (sorted_by b xs) ≡ length xs
+pub length_sorted : {X : Type 0} (b : X → X → Bool) (xs : List X) → length (sorted_by b xs) ≡ length xs
 length_sorted b [] = refl
 length_sorted b (x ∷ xs) = length_put b x (sorted_by b xs) ∙ ap (λ n. suc n) (length_sorted b xs)
 
@@ -56,7 +55,7 @@ put_right b x (a ∷ rest) ws before = rw (before.0) (ap (λ zs. a ∷ zs) (put_
 pub record AreApart (b : Placed → Placed → Bool) (q : ℕ → Bool) (documents : List Placed) : Type 0 where
   pub apart : (n m : ℕ) (x y : Placed) → slice_get documents n ≡ Some x → slice_get documents m ≡ Some y → q n ≡ true → q m ≡ false → b x y ≡ true
 
-all_picked : (P : Placed → Type 0) (r : ℕ → Bool) (documents : List Placed) (ns : List ℕ) → ((n : ℕ) (d : Placed) → r n ≡ true → slice_get documents n ≡ Some d → P d) → AllByRecursion P (picked (filter r ns) documents)
+pub all_picked : (P : Placed → Type 0) (r : ℕ → Bool) (documents : List Placed) (ns : List ℕ) → ((n : ℕ) (d : Placed) → r n ≡ true → slice_get documents n ≡ Some d → P d) → AllByRecursion P (picked (filter r ns) documents)
 all_picked P r documents [] each = tt
 all_picked P r documents (n ∷ ns) each = go (r n) refl (all_picked P r documents ns each)
   where
@@ -68,12 +67,12 @@ all_picked P r documents (n ∷ ns) each = go (r n) refl (all_picked P r documen
     go true h rest = one (slice_get documents n) refl h rest
     go false h rest = rest
 
-not_true : (t : Bool) → not t ≡ true → t ≡ false
+pub not_true : (t : Bool) → not t ≡ true → t ≡ false
 not_true true h = absurd (cc)
 not_true false h = refl
 
 -- those that pass, in order, and then those that do not
-parted : (b : Placed → Placed → Bool) (o : IsStrictWeakOrder b) (q : ℕ → Bool) (documents : List Placed) (ns : List ℕ) → AreApart b q documents → AllByRecursion (λ n. n < length documents) ns
+pub parted : (b : Placed → Placed → Bool) (o : IsStrictWeakOrder b) (q : ℕ → Bool) (documents : List Placed) (ns : List ℕ) → AreApart b q documents → AllByRecursion (λ n. n < length documents) ns
     → sorted_by b (picked ns documents) ≡ sorted_by b (picked (filter q ns) documents) ++ sorted_by b (picked (filter (λ n. not (q n)) ns) documents)
 parted b o q documents [] apart below = refl
 parted b o q documents (n ∷ ns) apart below = go (q n) refl (parted b o q documents ns apart below.1)
@@ -94,19 +93,10 @@ parted b o q documents (n ∷ ns) apart below = go (q n) refl (parted b o q docu
         (all_picked (λ (z : Placed). b z d ≡ true) q documents ns (λ m z passed here. apart.apart m n z d here at.here passed h)) in
         rw (at.here) (ap (put_by b d) rest ∙ put_right b d (sorted_by b (picked (filter q ns) documents)) (sorted_by b (picked (filter (λ k. not (q k)) ns) documents)) before)
 
-length_picked : (documents : List Placed) (q : ℕ → Bool) (ns : List ℕ) → AllByRecursion (λ n. n < length documents) ns → length (picked (filter q ns) documents) ≡ length (filter q ns)
+pub length_picked : (documents : List Placed) (q : ℕ → Bool) (ns : List ℕ) → AllByRecursion (λ n. n < length documents) ns → length (picked (filter q ns) documents) ≡ length (filter q ns)
 length_picked documents q [] below = refl
 length_picked documents q (n ∷ ns) below = go (q n) (length_picked documents q ns below.1)
   where
     go : (t : Bool) → length (picked (filter q ns) documents) ≡ length (filter q ns) → length (picked (cond t (n ∷ filter q ns) (filter q ns)) documents) ≡ length (cond t (n ∷ filter q ns) (filter q ns))
     go true e = let at = stands documents n below.0 in rw (at.here) (ap (λ k. suc k) e)
     go false e = e
-
--- where enough pass, the first so many are among them
-pub firsts_parted : (b : Placed → Placed → Bool) (o : IsStrictWeakOrder b) (q : ℕ → Bool) (documents : List Placed) (ns : List ℕ) (wanted : ℕ) → AreApart b q documents → AllByRecursion (λ n. n < length documents) ns
-    → wanted ≤ length (filter q ns) → firsts_by wanted b (picked (filter q ns) documents) ≡ firsts_by wanted b (picked ns documents)
-firsts_parted b o q documents ns wanted apart below enough =
-    let front = sorted_by b (picked (filter q ns) documents) in
-    let back = sorted_by b (picked (filter (λ n. not (q n)) ns) documents) in
-    let long : length front ≡ length (filter q ns) = length_sorted b (picked (filter q ns) documents) ∙ length_picked documents q ns below in
-    sym (ap (take wanted) (parted b o q documents ns apart below) ∙ take-append-le wanted front back (omega arith))

@@ -1,7 +1,9 @@
 -- The numbers of a column stand in the order of the values.
-use Rattle.std.proofs.Common.{◌≡◌, ℕ, ℤ, pos, negsuc, zero, suc, ◌<◌, ◌^◌, Bool, true, false, List, [], ◌∷◌, slice_get, Option, Some, None, nat_le, int_lt, refl, ap, sym, subst, arith, Ordering}
+use Rattle.std.proofs.Common.{◌≡◌, ℕ, ℤ, pos, negsuc, zero, suc, ◌<◌, ◌^◌, Bool, true, false, List, [], ◌∷◌, slice_get, Option, Some, None, nat_lt, int_lt, ◌-◌, ◌==◌, if◌then◌else◌, refl, ap, sym, ◌∙◌, subst, arith, Ordering}
 use Rattle.std.specs.Cmp.Lexicographic.{slice_cmp}
-use Rattle.std.specs.Ordering.{nat_cmp, int_cmp, is_lt, ordering_then}
+use Rattle.std.specs.List.{AllByRecursion}
+use Rattle.std.specs.Option.{option_map}
+use Rattle.std.specs.Ordering.{nat_cmp, int_cmp, is_lt}
 use Rattle.std.specs.declared.cmp.Ordering.TheVariants.{Less, Equal, Greater}
 use Rattle.std.proofs.lemmas.Bool.{lt-ltb}
 use Rattle.std.proofs.lemmas.Bool.Decides.{nat_tests}
@@ -23,11 +25,14 @@ use Rattle.split_bundle.specs.Held.{IsHeld, IsHeldValue}
 use Rattle.split_bundle.specs.Splits.{AreDocumentsOf}
 use Rattle.split_bundle.specs.declared.placed.Placed.{Placed}
 use Rattle.doc_tallies.specs.declared.hit_order.HitOrder.{HitOrder}
-use Rattle.doc_tallies.specs.Orders.{comes_before, first_cmp, first_value, place_cmp}
-use Rattle.doc_tallies.specs.Ranks.{is_near}
+use Rattle.doc_tallies.specs.Near.{is_ahead}
+use Rattle.doc_tallies.specs.Orders.{first_cmp, first_value}
+use Rattle.doc_tallies.specs.Ranks.{key_at, key_of}
 use Rattle.doc_tallies.proofs.FieldValues.{AreValues, are_values, each_at}
 use Rattle.doc_tallies.proofs.Owned.{first_of, owned}
-use Rattle.doc_tallies.proofs.Parting.{AreApart}
+use Rattle.doc_tallies.proofs.HitOrders.{values_order}
+use Rattle.doc_tallies.proofs.Keys.{key_before}
+use Rattle.doc_tallies.proofs.Stable.{not_before_itself}
 
 -- ---- two numbers
 
@@ -83,6 +88,21 @@ number_less kinds.Datetime texts (values.Datetime a) (values.Datetime b) i j ris
 number_less kinds.Datetime texts (values.Datetime a) _ i j rise kv kw hv hw iv iw lt = absurd kw
 number_less kinds.Datetime texts _ w i j rise kv kw hv hw iv iw lt = absurd kv
 
+same_text : (t u : List ℕ) → Some t ≡ Some u → t ≡ u
+same_text t u h = cc
+
+same_turned : (a b : ℤ) → zigzag a < 2 ^ 64 → zigzag b < 2 ^ 64 → turned a ≡ turned b → a ≡ b
+same_turned (pos a) (pos b) fa fb h = let same : a ≡ b = omega (arith, h) in ap (λ (n : ℕ). pos n) same
+same_turned (negsuc a) (negsuc b) fa fb h = let same : a ≡ b = omega (arith, h, fa, fb) in ap (λ (n : ℕ). negsuc n) same
+same_turned (pos a) (negsuc b) fa fb h = absurd (omega (arith, h, fb))
+same_turned (negsuc a) (pos b) fa fb h = absurd (omega (arith, h, fa))
+
+same_flag : (texts : List (List ℕ)) (a b : Bool) (i : ℕ) → IsNumber texts (values.Bool a) i → IsNumber texts (values.Bool b) i → values.Bool a ≡ values.Bool b
+same_flag texts true true i iv iw = refl
+same_flag texts false false i iv iw = refl
+same_flag texts true false i iv iw = absurd (omega (arith, iv, iw))
+same_flag texts false true i iv iw = absurd (omega (arith, iv, iw))
+
 -- ---- first values
 
 -- a number stands for a first value, if there is one
@@ -98,25 +118,73 @@ is_rank kind texts k [] (e ∷ es) are h = absurd are
 is_rank kind texts k (v ∷ vs) [] are h = absurd are
 is_rank kind texts k (v ∷ vs) (e ∷ es) are h = (h.of_kind.0, h.held.0, are.1)
 
-near_le : (i bar j : ℕ) → nat_le i bar ≡ true → nat_le j bar ≡ false → i < j
-near_le i bar j h k = grind (arith, nat_tests)
+same_number : (kind : Kind) (texts : List (List ℕ)) (v w : Value) (i : ℕ) → IsOfKind kind v → IsOfKind kind w → IsHeldValue v → IsHeldValue w → IsNumber texts v i → IsNumber texts w i → v ≡ w
+same_number kinds.Text texts (values.Text t) (values.Text u) i kv kw hv hw iv iw = ap (λ (t : List ℕ). values.Text t) (same_text t u (sym iv ∙ iw))
+same_number kinds.Text texts (values.Text t) _ i kv kw hv hw iv iw = absurd kw
+same_number kinds.Text texts _ w i kv kw hv hw iv iw = absurd kv
+same_number kinds.TextList texts (values.Text t) (values.Text u) i kv kw hv hw iv iw = ap (λ (t : List ℕ). values.Text t) (same_text t u (sym iv ∙ iw))
+same_number kinds.TextList texts (values.Text t) _ i kv kw hv hw iv iw = absurd kw
+same_number kinds.TextList texts _ w i kv kw hv hw iv iw = absurd kv
+same_number kinds.I64 texts (values.I64 a) (values.I64 b) i kv kw hv hw iv iw = ap (λ (z : ℤ). values.I64 z) (same_turned a b hv hw (sym iv ∙ iw))
+same_number kinds.I64 texts (values.I64 a) _ i kv kw hv hw iv iw = absurd kw
+same_number kinds.I64 texts _ w i kv kw hv hw iv iw = absurd kv
+same_number kinds.U64 texts (values.U64 a) (values.U64 b) i kv kw hv hw iv iw = ap (λ (n : ℕ). values.U64 n) (sym iv ∙ iw)
+same_number kinds.U64 texts (values.U64 a) _ i kv kw hv hw iv iw = absurd kw
+same_number kinds.U64 texts _ w i kv kw hv hw iv iw = absurd kv
+same_number kinds.Bool texts (values.Bool a) (values.Bool b) i kv kw hv hw iv iw = same_flag texts a b i iv iw
+same_number kinds.Bool texts (values.Bool a) _ i kv kw hv hw iv iw = absurd kw
+same_number kinds.Bool texts _ w i kv kw hv hw iv iw = absurd kv
+same_number kinds.Datetime texts (values.Datetime a) (values.Datetime b) i kv kw hv hw iv iw = ap (λ (z : ℤ). values.Datetime z) (same_turned a b hv hw (sym iv ∙ iw))
+same_number kinds.Datetime texts (values.Datetime a) _ i kv kw hv hw iv iw = absurd kw
+same_number kinds.Datetime texts _ w i kv kw hv hw iv iw = absurd kv
 
-near_ge : (i bar j : ℕ) → nat_le bar i ≡ true → nat_le bar j ≡ false → j < i
-near_ge i bar j h k = grind (arith, nat_tests)
+-- values stand in the order of their numbers
+value_lt : (kind : Kind) (texts : List (List ℕ)) (v w : Value) (i j : ℕ) → TextsRise texts → IsOfKind kind v → IsOfKind kind w → IsHeldValue v → IsHeldValue w → IsNumber texts v i → IsNumber texts w j
+    → is_lt (value_cmp v w) ≡ nat_lt i j
+value_lt kind texts v w i j rise kv kw hv hw iv iw = go (nat_lt i j) refl (nat_lt j i) refl
+  where
+    go : (s : Bool) → nat_lt i j ≡ s → (t : Bool) → nat_lt j i ≡ t → is_lt (value_cmp v w) ≡ nat_lt i j
+    go true e t f = ap is_lt (number_less kind texts v w i j rise kv kw hv hw iv iw (grind (arith, nat_tests))) ∙ sym e
+    go false e true f = values_order.one_way w v (ap is_lt (number_less kind texts w v j i rise kw kv hw hv iw iv (grind (arith, nat_tests)))) ∙ sym e
+    go false e false f =
+        let same : i ≡ j = grind (arith, nat_tests) in
+        let one : v ≡ w = same_number kind texts v w i kv kw hv hw iv (subst (λ (n : ℕ). IsNumber texts w n) (sym same) iw) in
+        ap (λ (x : Value). is_lt (value_cmp v x)) (sym one) ∙ (not_before_itself (λ (x y : Value). is_lt (value_cmp x y)) values_order v ∙ sym e)
 
-first_less : (kind : Kind) (texts : List (List ℕ)) (descending : Bool) (bar : ℕ) (a b : Option Value) (ra rb : Option ℕ) → TextsRise texts → IsRank kind texts a ra → IsRank kind texts b rb
-    → is_near descending bar ra ≡ true → is_near descending bar rb ≡ false → first_cmp descending a b ≡ Less
-first_less kind texts descending bar None b None rb rise ia ib near far = absurd (cc)
-first_less kind texts descending bar None b (Some i) rb rise ia ib near far = absurd ia
-first_less kind texts descending bar (Some v) b None rb rise ia ib near far = absurd ia
-first_less kind texts false bar (Some v) None (Some i) rb rise ia ib near far = refl
-first_less kind texts true bar (Some v) None (Some i) rb rise ia ib near far = refl
-first_less kind texts descending bar (Some v) (Some w) (Some i) None rise ia ib near far = absurd ib
-first_less kind texts false bar (Some v) (Some w) (Some i) (Some j) rise ia ib near far = number_less kind texts v w i j rise ia.0 ib.0 ia.1 ib.1 ia.2 ib.2 (near_le i bar j near far)
-first_less kind texts true bar (Some v) (Some w) (Some i) (Some j) rise ia ib near far = number_less kind texts w v j i rise ib.0 ia.0 ib.1 ia.1 ib.2 ia.2 (near_ge i bar j near far)
+-- a number of 64 bits, if there is one
+abbrev pub IsSmall : Option ℕ → Type 0
+IsSmall None = Unit {0}
+IsSmall (Some n) = n < 2 ^ 64
 
-less_before : (o : HitOrder) (x y : Placed) → first_cmp o.descending (first_value o.field x.doc) (first_value o.field y.doc) ≡ Less → comes_before (Some o) x y ≡ true
-less_before o x y e = ap (λ (r : Ordering). is_lt (ordering_then r (place_cmp x y))) e
+turned_back : (i j : ℕ) → i < 2 ^ 64 → j < 2 ^ 64 → nat_lt j i ≡ nat_lt (18446744073709551615 - i) (18446744073709551615 - j)
+turned_back i j small other = go (nat_lt j i) refl (nat_lt (18446744073709551615 - i) (18446744073709551615 - j)) refl
+  where
+    go : (s : Bool) → nat_lt j i ≡ s → (t : Bool) → nat_lt (18446744073709551615 - i) (18446744073709551615 - j) ≡ t → nat_lt j i ≡ nat_lt (18446744073709551615 - i) (18446744073709551615 - j)
+    go true e true f = e ∙ sym f
+    go false e false f = e ∙ sym f
+    go true e false f = absurd (grind (arith, nat_tests))
+    go false e true f = absurd (grind (arith, nat_tests))
+
+first_key : (kind : Kind) (texts : List (List ℕ)) (descending : Bool) (a b : Option Value) (ra rb : Option ℕ) → TextsRise texts → IsRank kind texts a ra → IsRank kind texts b rb → IsSmall ra → IsSmall rb
+    → is_lt (first_cmp descending a b) ≡ key_before (option_map (key_of descending) ra) (option_map (key_of descending) rb)
+first_key kind texts descending None None None None rise ia ib sa sb = refl
+first_key kind texts descending None None None (Some j) rise ia ib sa sb = absurd ib
+first_key kind texts descending None (Some w) None rb rise ia ib sa sb = refl
+first_key kind texts descending None b (Some i) rb rise ia ib sa sb = absurd ia
+first_key kind texts descending (Some v) b None rb rise ia ib sa sb = absurd ia
+first_key kind texts descending (Some v) None (Some i) None rise ia ib sa sb = refl
+first_key kind texts descending (Some v) None (Some i) (Some j) rise ia ib sa sb = absurd ib
+first_key kind texts descending (Some v) (Some w) (Some i) None rise ia ib sa sb = absurd ib
+first_key kind texts false (Some v) (Some w) (Some i) (Some j) rise ia ib sa sb = value_lt kind texts v w i j rise ia.0 ib.0 ia.1 ib.1 ia.2 ib.2
+first_key kind texts true (Some v) (Some w) (Some i) (Some j) rise ia ib sa sb = value_lt kind texts w v j i rise ib.0 ia.0 ib.1 ia.1 ib.2 ia.2 ∙ turned_back i j sa sb
+
+small_first : (n : ℕ) (es : List Entry) → AllByRecursion (λ e. e.number < 2 ^ 64) es → IsSmall (first_number n es)
+small_first n [] all = tt
+small_first n (e ∷ es) all = go (e.document == n) (small_first n es all.1)
+  where
+    go : (t : Bool) → IsSmall (first_number n es) → IsSmall (if t then Some e.number else first_number n es)
+    go true rest = all.0
+    go false rest = rest
 
 -- ---- documents
 
@@ -127,15 +195,10 @@ rank_at s documents f number n x texts es of here got are =
     let vs = are_values s number f x.doc here (each_at (λ (d : Placed). IsOfSchema s d.doc) documents n x of.of_schema got) (each_at IsHeld documents n x of.held got).doc in
     subst (λ (r : Option ℕ). IsRank f.kind texts (first_value number x.doc) r) (sym own.first) (is_rank f.kind texts n (values_in x.doc number) own.own own.are vs)
 
--- those whose numbers do not stand behind a bar stand before the others
-pub apart : (s : Schema) (documents : List Placed) (by : HitOrder) (f : Field) (descending : Bool) (number bar : ℕ) (texts : List (List ℕ)) (es : List Entry) → AreDocumentsOf s documents → slice_get s.fields by.field ≡ Some f
-    → descending ≡ by.descending → number ≡ by.field → TextsRise texts → AreEntries texts (cells (column_rows number documents)) es
-    → AreApart (comes_before (Some by)) (λ n. is_near descending bar (first_number n es)) documents
-apart s documents by f descending number bar texts es of here way same rise are =
-    let own = subst (λ (k : ℕ). AreEntries texts (cells (column_rows k documents)) es) same are in
-    record {
-      apart = λ n m x y at there near far.
-          less_before by x y (subst (λ (d : Bool). first_cmp d (first_value by.field x.doc) (first_value by.field y.doc) ≡ Less) way
-          (first_less f.kind texts descending bar (first_value by.field x.doc) (first_value by.field y.doc) (first_number n es) (first_number m es) rise
-          (rank_at s documents f by.field n x texts es of here at own) (rank_at s documents f by.field m y texts es of here there own) near far));
-    }
+-- a document is ahead of another where its key stands before that one's
+pub ahead_key : (s : Schema) (documents : List Placed) (by : HitOrder) (f : Field) (texts : List (List ℕ)) (es : List Entry) (n m : ℕ) (x y : Placed) → AreDocumentsOf s documents → slice_get s.fields by.field ≡ Some f
+    → TextsRise texts → AllByRecursion (λ e. e.number < 2 ^ 64) es → AreEntries texts (cells (column_rows by.field documents)) es → slice_get documents n ≡ Some x → slice_get documents m ≡ Some y
+    → is_ahead by x y ≡ key_before (key_at by.descending es n) (key_at by.descending es m)
+ahead_key s documents by f texts es n m x y of here rise small are at there =
+    first_key f.kind texts by.descending (first_value by.field x.doc) (first_value by.field y.doc) (first_number n es) (first_number m es) rise
+    (rank_at s documents f by.field n x texts es of here at are) (rank_at s documents f by.field m y texts es of here there are) (small_first n es small) (small_first m es small)

@@ -8,9 +8,12 @@ use Rattle.split_bundle.specs.declared.split_error.SplitError.TheVariants.{Memor
 use Rattle.split_bundle.specs.DocLending.{starts_place, doc_place}
 use Rattle.split_bundle.specs.Documents.{placed_bytes}
 use Rattle.split_bundle.specs.Files.{Parts}
-use Rattle.split_bundle.specs.Lending.{start_of_column, length_of_column}
+use Rattle.split_bundle.specs.Lending.{IsMissing, start_of_column, length_of_column}
 use Rattle.split_bundle.specs.Pieces.{held_in}
 use Rattle.split_bundle.specs.declared.layout.Sections.{Sections}
+use Rattle.doc_tallies.specs.declared.hit_order.HitOrder.{HitOrder}
+use Rattle.doc_tallies.specs.Near.{shown}
+use Rattle.doc_tallies.specs.Orders.{sort_field}
 
 -- want of memory, or a part that is asked for, by its start and its length, and that no piece has
 abbrev pub HasCause : (ℕ → ℕ → Type 0) → List FilePiece → SplitError → Type 0
@@ -47,6 +50,11 @@ pub record AsksDocuments (p : Parts) (documents : List Placed) (numbers : List �
   pub among : Contains numbers number
   pub document : AsksDocument p documents number at len
 
--- the column by which hits are sorted, if they are sorted by one, or a document of one of the numbers is asked for
-abbrev pub AsksHits : PartView → Parts → List Placed → Option ℕ → List ℕ → ℕ → ℕ → Type 0
-AsksHits v p documents field numbers at len = AsksField v p field at len ⊎ AsksDocuments p documents numbers at len
+-- the column by which hits are sorted, if they are sorted by one, or a document that may be shown of those of the numbers is asked for
+abbrev pub AsksHits : PartView → Parts → List Placed → Option HitOrder → (wanted : ℕ) → (numbers : List ℕ) → ℕ → ℕ → Type 0
+AsksHits v p documents order wanted numbers at len = AsksField v p (sort_field order) at len ⊎ AsksDocuments p documents (shown order wanted documents numbers) at len
+
+-- no piece has where a document starts and the next one does, or its bytes
+abbrev pub LacksDocument : List FilePiece → Parts → List Placed → ℕ → Placed → SplitError → Type 0
+LacksDocument pieces p documents number d e =
+    IsMissing pieces (starts_place number) 16 e ⊎ IsMissing pieces (doc_place p documents number) (length (placed_bytes p.partitions d)) e

@@ -4,8 +4,10 @@ pub mod Cells
 pub mod Times
 pub mod Firsts
 pub mod Orders
+pub mod Near
 pub mod Bars
 pub mod AggColumns
+pub mod Least
 pub mod Ranks
 pub mod Marks
 pub mod Classes

@@ -1,26 +1,31 @@
 //! Which documents may be among the first, by the column by which they are sorted.
 
-ghost use Rattle.std.specs.Prelude.{◌≡◌, ◌++◌, List, ℕ, Contains, length, IfOk, IsOk, IfSome, MatchResult};
+ghost use Rattle.std.specs.Prelude.{◌≡◌, ◌≤◌, ◌++◌, [], List, ℕ, Option, Contains, length, IfOk, IsOk, IsOkAnd, OnOk, MatchResult};
+ghost use Rattle.std.specs.BinaryHeap.{heap_items};
 ghost use Rattle.std.specs.List.{filter};
+ghost use Rattle.std.specs.Option.{option_map, option_to_list};
 ghost use Rattle.doc_value.specs.declared.schema.Schema.{Schema};
-ghost use Rattle.fast_fields.specs.Readers.{Holds, first_number};
+ghost use Rattle.fast_fields.specs.Readers.{Holds};
 ghost use Rattle.fast_fields.specs.declared.entries.Entry.{Entry};
 ghost use Rattle.split_bundle.specs.declared.placed.Placed.{Placed};
 ghost use Rattle.split_bundle.specs.Files.{Parts, file_bytes};
 ghost use Rattle.split_bundle.specs.Lending.{IsPartOf};
 ghost use Rattle.split_bundle.specs.Splits.{AreDocumentsOf};
-ghost use Rattle.split_bundle.specs.Wholes.{HaveAll};
+ghost use Rattle.split_bundle.specs.Wholes.{HaveAll, IsThere};
 ghost use Rattle.doc_tallies.specs.declared.hit_order.HitOrder.{HitOrder};
-ghost use Rattle.std.specs.Prelude.{Option};
 ghost use Rattle.doc_tallies.specs.Causes.{AsksField, HasCause};
-ghost use Rattle.doc_tallies.specs.Orders.{IsSortable, firsts, sort_field};
-ghost use Rattle.doc_tallies.specs.Picked.{AllBelow, picked};
+ghost use Rattle.doc_tallies.specs.Least as least;
+ghost use Rattle.doc_tallies.specs.Least.{AreLeast, IsBar};
+ghost use Rattle.doc_tallies.specs.Near.{shown};
+ghost use Rattle.doc_tallies.specs.Orders.{IsSortable, sort_field};
+ghost use Rattle.doc_tallies.specs.Picked.{AllBelow};
 ghost use Rattle.doc_tallies.specs.Ranks as ranks;
-ghost use Rattle.doc_tallies.specs.Ranks.{IsSortFor, IsSortOf};
+ghost use Rattle.doc_tallies.specs.Ranks.{IsSortFor, IsSortOf, key_at, keys_of, near_keys};
 
 use crate::HitOrder;
 use crate::field_column::{FieldColumn, open_column};
 use crate::first_values::FirstValues;
+use crate::least::{keep_least, last_of};
 use crate::times::push_if;
 use doc_value::Schema;
 use fast_fields::Column;
@@ -58,52 +63,60 @@ pub(crate) fn open_sort<'a>(
     }
 }
 
-// Whether a document's number does not stand behind a bar.
-fn is_near(descending: bool, bar: u64, rank: Option<u64>) -> bool
-    ensures { result ≡ ranks.is_near descending bar rank }
+// A number of the column as a key that rises along the order.
+fn key_of(descending: bool, number: u64) -> u64
+    ensures { result ≡ ranks.key_of descending number }
 {
-    match rank {
+    if descending {
+        u64::MAX - number
+    } else {
+        number
+    }
+}
+
+// Whether a document's key does not stand behind a bar.
+fn is_near(descending: bool, bar: u64, number: Option<u64>) -> bool
+    ensures { result ≡ least.is_near bar (option_map (ranks.key_of descending) number) }
+{
+    match number {
         None => false,
-        Some(rank) => { if descending { bar <= rank } else { rank <= bar } }
+        Some(number) => key_of(descending, number) <= bar,
     }
 }
 
-// Keeps a number where it is one of the least so many.
-fn keep_least(best: &mut BinaryHeap<u64>, wanted: usize, rank: u64) -> Result<(), AllocError> {
-    if best.len() < wanted {
-        best.push(rank)?;
-        return Ok(());
+// Keeps a document's key where it is one of the least so many.
+fn keep_key(
+    best: &mut BinaryHeap<u64>,
+    wanted: usize,
+    descending: bool,
+    number: Option<u64>,
+) -> Result<(), AllocError>
+    ensures { (seen : List ℕ) → AreLeast wanted seen (heap_items best.old)
+        → OnOk result (AreLeast wanted (seen ++ option_to_list (option_map (ranks.key_of descending) number)) (heap_items best.new)) }
+{
+    match number {
+        None => Ok(()),
+        Some(number) => keep_least(best, wanted, key_of(descending, number)),
     }
-    match best.peek() {
-        Some(greatest) if rank < *greatest => {}
-        _ => return Ok(()),
-    }
-    best.push(rank)?;
-    let _ = best.pop();
-    Ok(())
 }
 
-// A number that so many documents reach, if so many have one: the last of the first so many numbers.
+// The key of the last of the first so many, if so many have one.
 fn bar_of(
     alloc: Global,
     sort: &SortColumn<'_>,
     wanted: usize,
     numbers: &[u32],
-) -> Result<Option<u64>, AllocError> {
+) -> Result<Option<u64>, AllocError>
+    requires { 1 ≤ wanted }
+    ensures { (texts : List (List ℕ)) (entries : List Entry) → Holds sort.now.field.column texts entries
+        → IfOk result (IsBar wanted (keys_of sort.now.descending entries numbers.now)) }
+{
     let mut best: BinaryHeap<u64> = BinaryHeap::new(alloc);
     for number in numbers {
-        if let Some(rank) = sort.field.column.value_at(*number) {
-            let rank = if sort.descending { !rank } else { rank };
-            keep_least(&mut best, wanted, rank)?;
-        }
+        let value = sort.field.column.value_at(*number);
+        keep_key(&mut best, wanted, sort.descending, value)?;
     }
-    if best.len() < wanted {
-        return Ok(None);
-    }
-    match best.peek() {
-        Some(last) => Ok(Some(if sort.descending { !*last } else { *last })),
-        None => Ok(None),
-    }
+    Ok(last_of(&best, wanted))
 }
 
 // One in so many documents is looked at for a first bar. It is a prime, so that of documents that come by turns all are met.
@@ -118,7 +131,7 @@ fn some_of(alloc: Global, numbers: &[u32]) -> Result<Vec<u32>, AllocError> {
     Ok(some)
 }
 
-// Those of some documents whose numbers in a column do not stand behind a bar.
+// Those of some documents whose keys do not stand behind a bar.
 fn near_in(
     alloc: Global,
     column: &Column<'_>,
@@ -127,7 +140,7 @@ fn near_in(
     numbers: &[u32],
 ) -> Result<Vec<u32>, AllocError>
     ensures only { (texts : List (List ℕ)) (entries : List Entry) → Holds column.now texts entries
-        → IfOk result (λ near. near.items ≡ filter (λ n. ranks.is_near descending bar (first_number n entries)) numbers.now) }
+        → IfOk result (λ near. near.items ≡ filter (λ n. least.is_near bar (key_at descending entries n)) numbers.now) }
     ensures among { IfOk result (λ near. (n : ℕ) → Contains near.items n → Contains numbers.now n) }
 {
     let mut near = Vec::new(alloc);
@@ -139,76 +152,106 @@ fn near_in(
     Ok(near)
 }
 
-// So many documents at least, of some, that have all of the first so many among them, by a bar that is found in others.
+// Those of some documents before which fewer than so many stand, by the last bar; all of them where fewer than so many have a value.
 fn near_by(
     alloc: Global,
     sort: &SortColumn<'_>,
     wanted: usize,
-    seen: &[u32],
     numbers: &[u32],
-) -> Result<Option<Vec<u32>>, AllocError>
-    ensures only { (s : Schema) (documents : List Placed) (order : Option HitOrder) → AreDocumentsOf s documents → IsSortFor s documents order sort.now → AllBelow (length documents) numbers.now
-        → IfOk result (λ o. IfSome o (λ near. firsts wanted order (picked near.items documents) ≡ firsts wanted order (picked numbers.now documents))) }
-    ensures among { IfOk result (λ o. IfSome o (λ near. (n : ℕ) → Contains near.items n → Contains numbers.now n)) }
-{
-    let Some(bar) = bar_of(alloc, sort, wanted, seen)? else {
-        return Ok(None);
-    };
-    let near = near_in(alloc, &sort.field.column, sort.descending, bar, numbers)?;
-    if near.len() < wanted {
-        return Ok(None);
-    }
-    Ok(Some(near))
-}
-
-// The same by the last bar of their own, where there are so many.
-fn nearer(
-    alloc: Global,
-    sort: &SortColumn<'_>,
-    wanted: usize,
-    numbers: Vec<u32>,
 ) -> Result<Vec<u32>, AllocError>
-    ensures only { (s : Schema) (documents : List Placed) (order : Option HitOrder) → AreDocumentsOf s documents → IsSortFor s documents order sort.now → AllBelow (length documents) numbers.items
-        → IfOk result (λ near. firsts wanted order (picked near.items documents) ≡ firsts wanted order (picked numbers.items documents)) }
-    ensures among { IfOk result (λ near. (n : ℕ) → Contains near.items n → Contains numbers.items n) }
+    requires { 1 ≤ wanted }
+    ensures only { (texts : List (List ℕ)) (entries : List Entry) → Holds sort.now.field.column texts entries
+        → IfOk result (λ near. near.items ≡ near_keys sort.now.descending entries wanted numbers.now) }
+    ensures among { IfOk result (λ near. (n : ℕ) → Contains near.items n → Contains numbers.now n) }
 {
-    match near_by(alloc, sort, wanted, numbers.as_slice(), numbers.as_slice())? {
-        Some(near) => Ok(near),
-        None => Ok(numbers),
+    match bar_of(alloc, sort, wanted, numbers)? {
+        Some(bar) => near_in(alloc, &sort.field.column, sort.descending, bar, numbers),
+        None => Vec::from_slice(alloc, numbers),
     }
 }
 
-// The same by two bars: one of some documents, and one of those that do not stand behind it.
+// The same by two bars: one of some documents, behind which most of them stand, and the last one.
 fn near_twice(
     alloc: Global,
     sort: &SortColumn<'_>,
     wanted: usize,
     numbers: &[u32],
-) -> Result<Option<Vec<u32>>, AllocError>
-    ensures only { (s : Schema) (documents : List Placed) (order : Option HitOrder) → AreDocumentsOf s documents → IsSortFor s documents order sort.now → AllBelow (length documents) numbers.now
-        → IfOk result (λ o. IfSome o (λ near. firsts wanted order (picked near.items documents) ≡ firsts wanted order (picked numbers.now documents))) }
-    ensures among { IfOk result (λ o. IfSome o (λ near. (n : ℕ) → Contains near.items n → Contains numbers.now n)) }
+) -> Result<Vec<u32>, AllocError>
+    requires { 1 ≤ wanted }
+    ensures only { (texts : List (List ℕ)) (entries : List Entry) → Holds sort.now.field.column texts entries
+        → IfOk result (λ near. near.items ≡ near_keys sort.now.descending entries wanted numbers.now) }
+    ensures among { IfOk result (λ near. (n : ℕ) → Contains near.items n → Contains numbers.now n) }
 {
     let some = some_of(alloc, numbers)?;
-    match near_by(alloc, sort, wanted, some.as_slice(), numbers)? {
-        Some(near) => Ok(Some(nearer(alloc, sort, wanted, near)?)),
-        None => near_by(alloc, sort, wanted, numbers, numbers),
+    if let Some(bar) = bar_of(alloc, sort, wanted, some.as_slice())? {
+        let near = near_in(alloc, &sort.field.column, sort.descending, bar, numbers)?;
+        if near.len() >= wanted {
+            return near_by(alloc, sort, wanted, near.as_slice());
+        }
     }
+    near_by(alloc, sort, wanted, numbers)
 }
 
-// So many documents at least, of some, that have all of the first so many among them, if the column tells them.
+/// The near ones of some numbers, by the column of the order.
 pub(crate) fn near_numbers(
+    alloc: Global,
+    sort: &SortColumn<'_>,
+    wanted: usize,
+    numbers: &[u32],
+) -> Result<Vec<u32>, AllocError>
+    requires { 1 ≤ wanted }
+    ensures only { (s : Schema) (documents : List Placed) (order : Option HitOrder) → AreDocumentsOf s documents → IsSortFor s documents order sort.now → AllBelow (length documents) numbers.now
+        → IfOk result (λ near. near.items ≡ shown order wanted documents numbers.now) }
+    ensures among { IfOk result (λ near. (n : ℕ) → Contains near.items n → Contains numbers.now n) }
+{
+    near_twice(alloc, sort, wanted, numbers)
+}
+
+// The same where there may be no order.
+fn shown_numbers(
     alloc: Global,
     sort: &Option<SortColumn<'_>>,
     wanted: usize,
     numbers: &[u32],
-) -> Result<Option<Vec<u32>>, AllocError>
+) -> Result<Vec<u32>, AllocError>
+    requires { 1 ≤ wanted }
     ensures only { (s : Schema) (documents : List Placed) (order : Option HitOrder) → AreDocumentsOf s documents → IsSortOf s documents order sort.now → AllBelow (length documents) numbers.now
-        → IfOk result (λ o. IfSome o (λ near. firsts wanted order (picked near.items documents) ≡ firsts wanted order (picked numbers.now documents))) }
-    ensures among { IfOk result (λ o. IfSome o (λ near. (n : ℕ) → Contains near.items n → Contains numbers.now n)) }
+        → IfOk result (λ near. near.items ≡ shown order wanted documents numbers.now) }
+    ensures among { IfOk result (λ near. (n : ℕ) → Contains near.items n → Contains numbers.now n) }
 {
     match sort {
-        None => Ok(None),
-        Some(sort) => near_twice(alloc, sort, wanted, numbers),
+        None => Vec::from_slice(alloc, numbers),
+        Some(sort) => near_numbers(alloc, sort, wanted, numbers),
+    }
+}
+
+/// Those of some numbers whose documents may be among the first so many, and those that tie with the last of these, in their order,
+/// by the column by which they are sorted: all of them where there is no order. No document is read, and where none are wanted nothing.
+/// It answers Truncated where no piece has the column.
+pub fn near_of(
+    alloc: Global,
+    schema: &Schema,
+    view: &PartView<'_>,
+    order: Option<HitOrder>,
+    wanted: usize,
+    numbers: &[u32],
+) -> Result<Vec<u32>, SplitError>
+    requires { AllBelow view.now.footer.layout.docs numbers.now }
+    // Of a split of documents.
+    ensures only { (documents : List Placed) (p : Parts) → IsPartOf view.now schema.now documents p → IsSortable schema.now order
+        → MatchResult result (λ near. near.items ≡ shown order wanted documents numbers.now) (HasCause (AsksField view.now p (sort_field order)) view.now.pieces) }
+    // Where the pieces have every part.
+    ensures there { (documents : List Placed) (p : Parts) → IsPartOf view.now schema.now documents p → HaveAll (file_bytes p) view.now.pieces → IsThere result }
+    // Of any bytes.
+    ensures among { IfOk result (λ near. (n : ℕ) → Contains near.items n → Contains numbers.now n) }
+    // Where none are wanted.
+    ensures none { wanted ≡ 0 → IsOkAnd result (λ near. near.items ≡ []) }
+{
+    if wanted == 0 {
+        return Ok(Vec::new(alloc));
+    }
+    match open_sort(schema, view, order) {
+        Ok(sort) => Ok(shown_numbers(alloc, &sort, wanted, numbers)?),
+        Err(fault) => Err(fault),
     }
 }

@@ -1,13 +1,14 @@
 //! The order of hits.
 
-ghost use Rattle.std.specs.Prelude.{◌≡◌};
+ghost use Rattle.std.specs.Prelude.{◌≡◌, None};
 ghost use Rattle.std.specs.Ordering.{is_lt};
 ghost use Rattle.query_ast.specs.Meaning.{values_in};
+ghost use Rattle.split_bundle.specs.declared.placed.Placed.{Placed};
 ghost use Rattle.doc_tallies.specs.Orders as orders;
 
 use crate::HitOrder;
 use doc_value::{Doc, Value};
-use split_bundle::Placed;
+use split_bundle::{Address, Placed};
 use std::cmp::Ordering;
 
 // The document's values of a field.
@@ -51,6 +52,17 @@ fn order_of_places(a: &Placed, b: &Placed) -> Ordering
         Ordering::Less => Ordering::Less,
         Ordering::Equal => a.offset.cmp(&b.offset),
         Ordering::Greater => Ordering::Greater,
+    }
+}
+
+/// Whether a document with an address comes before another by partition and offset.
+pub(crate) fn stands_before(a: &Address, b: &Placed) -> bool
+    ensures { (d : Placed) → a.now.partition ≡ d.partition → a.now.offset ≡ d.offset → result ≡ orders.comes_before None d b.now }
+{
+    match a.partition.compare(&b.partition) {
+        Ordering::Less => true,
+        Ordering::Equal => a.offset < b.offset,
+        Ordering::Greater => false,
     }
 }
 

@@ -12,6 +12,7 @@ use Rattle.fast_fields.specs.declared.column.Column.{Column}
 use Rattle.split_bundle.specs.declared.layout.ColumnStart.{ColumnStart}
 use Rattle.split_bundle.specs.declared.layout.Sections.{Sections}
 use Rattle.split_bundle.specs.declared.layout.Table.{Table}
+use Rattle.split_bundle.specs.declared.footer.Footer.{Footer}
 use Rattle.split_bundle.specs.declared.part_view.PartView.{PartView}
 use Rattle.split_bundle.specs.declared.placed.Placed.{Placed}
 use Rattle.split_bundle.specs.Files.{Parts, file_bytes}
@@ -19,11 +20,12 @@ use Rattle.split_bundle.specs.SplitReading.{IsLaidOut}
 use Rattle.split_bundle.specs.Splits.{IsSplitOf}
 use Rattle.split_bundle.proofs.ColumnsLent.{column_stands}
 use Rattle.split_bundle.proofs.SectionBytes.{section_within}
+use Rattle.doc_sets.specs.Needed.{IsColumnFor}
 use Rattle.doc_tallies.specs.Causes.{AsksColumn, columns_start}
 use Rattle.doc_tallies.specs.Cells.{IsFast}
 use Rattle.leaf_search.specs.FileRanges.{AddsParts}
 use Rattle.leaf_search.specs.declared.file_ranges.FileRange.{FileRange}
-use Rattle.leaf_search.proofs.RangeLists.{At, parts_alike}
+use Rattle.leaf_search.proofs.RangeLists.{At, none_added, parts_alike}
 use Rattle.split_bundle.specs.declared.pieces.FilePiece.{FilePiece}
 use Rattle.split_bundle.specs.declared.split_error.SplitError.{SplitError}
 use Rattle.split_bundle.specs.Columns.{AreColumns, FastField, fast_from}
@@ -285,3 +287,21 @@ timestamp_fast s number is e = go (slice_get s.fields number) (subst (λ o. IfSo
 
 pub fast_within : (s : Schema) (number : ℕ) → IsFast s number → number < length s.fields
 fast_within s number fast = let has = has_fast s number fast in slice_get_within s.fields number has.field has.here
+
+-- what is asked of a column for its values is the column of a fast field
+pub values_fast : (v : PartView) (s : Schema) (p : Parts) (number at len : ℕ) → IsColumnFor v s p number at len → IsFast s number
+values_fast v s p number at len h = rw (h.here) h.fast
+
+pub values_column : (v : PartView) (s : Schema) (p : Parts) (number at len : ℕ) → IsColumnFor v s p number at len → AsksColumn v p number at len
+values_column v s p number at len h = record { at_is = h.at_is; len_is = h.len_is }
+
+pub values_named : (v w : PartView) (s : Schema) (p : Parts) (number : ℕ) (f : Field) (old new : List FileRange) → v.footer ≡ w.footer → slice_get s.fields number ≡ Some f → f.fast ≡ true → AddsParts (AsksColumn v p number) old new
+    → AddsParts (IsColumnFor w s p number) old new
+values_named v w s p number f old new same here fast adds =
+    parts_alike (AsksColumn v p number) (IsColumnFor w s p number) old new
+    (λ at len h. record { field = f; here = here; fast = fast; at_is = subst (λ (x : Footer). at ≡ columns_start x.layout.sections + start_of_column number p.column_starts) same h.at_is; len_is = h.len_is })
+    (λ at len h. record { at_is = subst (λ (x : Footer). at ≡ columns_start x.layout.sections + start_of_column number p.column_starts) (sym same) h.at_is; len_is = h.len_is }) adds
+
+-- no column is asked for where the field is not fast
+pub no_values : (v : PartView) (s : Schema) (p : Parts) (number : ℕ) (rs : List FileRange) → ((f : Field) → slice_get s.fields number ≡ Some f → f.fast ≡ false) → AddsParts (IsColumnFor v s p number) rs rs
+no_values v s p number rs slow = none_added (IsColumnFor v s p number) rs (λ at len h. let none = slow h.field h.here in let is = h.fast in absurd (cc))

@@ -14,3 +14,6 @@ pub mod SetCounts
 pub mod QueryCounts
 pub mod ReadQueries
 pub mod FoundWalks
+pub mod ShownParts
+pub mod Covers
+pub mod ShownSuffices

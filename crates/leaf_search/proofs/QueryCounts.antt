@@ -79,19 +79,19 @@ field_lookups : (n : ℕ) (text key : List ℕ) (o : Option Field) → option_an
 field_lookups n text key None h = absurd (cc)
 field_lookups n text key (Some f) h = token_lookups f n text key h
 
-key_lookups : (s : Schema) (q : Sought) (key : List ℕ) → one_key s q ≡ some key → lookups_of s q ≡ Documents key ∷ []
-key_lookups s (sought.Word n text) key e = field_lookups n text key (slice_get s.fields n) e
-key_lookups s (sought.Quoted n text) key e = field_lookups n text key (slice_get s.fields n) e
-key_lookups s sought.All key e = absurd (cc)
-key_lookups s sought.Nothing key e = absurd (cc)
-key_lookups s (sought.Prefix n text) key e = absurd (cc)
-key_lookups s (sought.Exists n) key e = absurd (cc)
-key_lookups s (sought.Range n low high) key e = absurd (cc)
-key_lookups s (sought.AnyOf n items) key e = absurd (cc)
-key_lookups s (sought.Not q) key e = absurd (cc)
-key_lookups s (sought.And qs) key e = absurd (cc)
-key_lookups s (sought.Or qs) key e = absurd (cc)
+key_lookups : (v : PartView) (s : Schema) (q : Sought) (key : List ℕ) → one_key s q ≡ some key → lookups_of v.footer s q ≡ Documents key ∷ []
+key_lookups v s (sought.Word n text) key e = field_lookups n text key (slice_get s.fields n) e
+key_lookups v s (sought.Quoted n text) key e = field_lookups n text key (slice_get s.fields n) e
+key_lookups v s sought.All key e = absurd (cc)
+key_lookups v s sought.Nothing key e = absurd (cc)
+key_lookups v s (sought.Prefix n text) key e = absurd (cc)
+key_lookups v s (sought.Exists n) key e = absurd (cc)
+key_lookups v s (sought.Range n low high) key e = absurd (cc)
+key_lookups v s (sought.AnyOf n items) key e = absurd (cc)
+key_lookups v s (sought.Not q) key e = absurd (cc)
+key_lookups v s (sought.And qs) key e = absurd (cc)
+key_lookups v s (sought.Or qs) key e = absurd (cc)
 
 -- the block of the token's key is asked for
-pub block_asked : (v : PartView) (s : Schema) (ds : List Placed) (p : Parts) (q : Sought) (key : List ℕ) (at len : ℕ) → one_key s q ≡ some key → IsBlockFor v s ds p key at len → AsksLookups v s ds p (lookups_of s q) at len
-block_asked v s ds p q key at len e block = subst (λ (ls : List Lookup). AsksLookups v s ds p ls at len) (sym (key_lookups s q key e)) (inl (inl block))
+pub block_asked : (v : PartView) (s : Schema) (ds : List Placed) (p : Parts) (q : Sought) (key : List ℕ) (at len : ℕ) → one_key s q ≡ some key → IsBlockFor v s ds p key at len → AsksLookups v s ds p (lookups_of v.footer s q) at len
+block_asked v s ds p q key at len e block = subst (λ (ls : List Lookup). AsksLookups v s ds p ls at len) (sym (key_lookups v s q key e)) (inl (inl block))

@@ -51,11 +51,11 @@ can_at s x (q ∷ qs) zero lt e can = subst (λ y. CanAsk s (view y)) (sym e) ca
 can_at s x (q ∷ qs) (suc i) lt e can = can_at s x qs i (omega arith) e can.1
 
 pub asked_at : (v : PartView) (s : Schema) (ds : List Placed) (p : Parts) (x : Query) (qs : List Query) (i : ℕ) → i < length qs → x ≡ get_or qs i x
-    → (at len : ℕ) → AsksLookups v s ds p (lookups_of s (view x)) at len → AsksLookups v s ds p (lookups_of_each s (view_all qs)) at len
+    → (at len : ℕ) → AsksLookups v s ds p (lookups_of v.footer s (view x)) at len → AsksLookups v s ds p (lookups_of_each v.footer s (view_all qs)) at len
 asked_at v s ds p x [] i lt e at len asked = absurd (omega arith)
 asked_at v s ds p x (q ∷ qs) zero lt e at len asked =
-    lookups_front v s ds p (lookups_of s (view q)) (lookups_of_each s (view_all qs)) at len (subst (λ (y : Query). AsksLookups v s ds p (lookups_of s (view y)) at len) e asked)
-asked_at v s ds p x (q ∷ qs) (suc i) lt e at len asked = lookups_end v s ds p (lookups_of s (view q)) (lookups_of_each s (view_all qs)) at len (asked_at v s ds p x qs i (omega arith) e at len asked)
+    lookups_front v s ds p (lookups_of v.footer s (view q)) (lookups_of_each v.footer s (view_all qs)) at len (subst (λ (y : Query). AsksLookups v s ds p (lookups_of v.footer s (view y)) at len) e asked)
+asked_at v s ds p x (q ∷ qs) (suc i) lt e at len asked = lookups_end v s ds p (lookups_of v.footer s (view q)) (lookups_of_each v.footer s (view_all qs)) at len (asked_at v s ds p x qs i (omega arith) e at len asked)
 
 -- what is known of the field that is asked
 pub field_fact : (s : Schema) (n : ℕ) (f : Field) (P : Field → Type 0) → slice_get s.fields n ≡ Some f → HasField s n P → P f
@@ -77,5 +77,5 @@ at_any_field v s ds p n f r test looked got h = subst (λ o. MatchResult r (IsSe
 
 -- an answer to a query is one to the query that it is
 pub of_query : (v : PartView) (s : Schema) (ds : List Placed) (p : Parts) (r : Result DocBits LeafError) (q w : Sought) → q ≡ w
-    → MatchResult r (IsSetOf (λ d. meaning s d w) ds) (LacksLookups v s ds p (lookups_of s w)) → MatchResult r (IsSetOf (λ d. meaning s d q) ds) (LacksLookups v s ds p (lookups_of s q))
-of_query v s ds p r q w e h = subst (λ y. MatchResult r (IsSetOf (λ d. meaning s d y) ds) (LacksLookups v s ds p (lookups_of s y))) (sym e) h
+    → MatchResult r (IsSetOf (λ d. meaning s d w) ds) (LacksLookups v s ds p (lookups_of v.footer s w)) → MatchResult r (IsSetOf (λ d. meaning s d q) ds) (LacksLookups v s ds p (lookups_of v.footer s q))
+of_query v s ds p r q w e h = subst (λ y. MatchResult r (IsSetOf (λ d. meaning s d y) ds) (LacksLookups v s ds p (lookups_of v.footer s y))) (sym e) h

@@ -1,5 +1,5 @@
 -- How many bytes the ranges of a request have.
-use Rattle.std.proofs.Common.{◌≡◌, ℕ, ◌+◌, ◌-◌, ◌*◌, ◌<◌, ◌≤◌, ◌⊎◌, inl, inr, true, false, List, [], ◌∷◌, length, Option, Some, None, ap, sym, ◌∙◌, subst, arith}
+use Rattle.std.proofs.Common.{◌≡◌, ℕ, ◌+◌, ◌-◌, ◌*◌, ◌<◌, ◌≤◌, ◌⊎◌, inl, inr, true, false, List, [], ◌∷◌, length, Option, Some, None, refl, ap, sym, ◌∙◌, subst, arith}
 use Rattle.std.specs.List.{AllByRecursion}
 use Rattle.std.specs.Option.{option_map_or}
 use Rattle.std.proofs.lemmas.Bool.{cases_lt}
@@ -15,11 +15,11 @@ use Rattle.split_bundle.specs.Lending.{IsPartOf, block_place}
 use Rattle.split_bundle.specs.Lists.{terms_of}
 use Rattle.split_bundle.proofs.SectionBytes.{section_within}
 use Rattle.doc_sets.specs.Asking.{AsksBlockOf, AsksBlocks, AsksListOf, AsksLists}
-use Rattle.doc_sets.specs.Needed.{IsBlockFor, IsListFor, positions_start, postings_start}
+use Rattle.doc_sets.specs.Needed.{IsBlockFor, IsColumnFor, IsListFor, positions_start, postings_start}
 use Rattle.doc_sets.proofs.WithinFile.{area_within, lookups_within}
 use Rattle.doc_sets.specs.Walks.{AsksTerms, begun_in}
 use Rattle.doc_sets.specs.declared.dictionary_lookup.Lookup.{Lookup}
-use Rattle.doc_sets.specs.declared.dictionary_lookup.Lookup.TheVariants.{Count, Documents, Places, Walk}
+use Rattle.doc_sets.specs.declared.dictionary_lookup.Lookup.TheVariants.{Count, Documents, Places, Values, Walk}
 use Rattle.doc_sets.specs.declared.wanted.Wanted.{Wanted}
 use Rattle.agg_nested.specs.declared.request.NestedAgg.{NestedAgg}
 use Rattle.doc_tallies.specs.AggColumns.{fields_asked}
@@ -36,6 +36,14 @@ use Rattle.leaf_search.proofs.BlockParts.{same_number}
 use Rattle.leaf_search.proofs.ColumnParts.{column_inside, columns_start_is, has_fast, timestamp_fast}
 use Rattle.leaf_search.proofs.Counted.{over_fast}
 use Rattle.leaf_search.proofs.KeyCounts.{OnlyCounts, counted_lookups, counts}
+use Rattle.std.specs.Prelude.{sum_by, slice_get, Contains}
+use Rattle.split_bundle.specs.DocLending.{starts_place, doc_place}
+use Rattle.split_bundle.specs.Documents.{placed_bytes}
+use Rattle.doc_tallies.specs.declared.hit_order.HitOrder.{HitOrder}
+use Rattle.doc_tallies.specs.Orders.{IsSortable, sort_field}
+use Rattle.leaf_search.specs.Shown.{NeedsListed, NeedsShown, NeedsStarts, are_few, shown_cost, shown_of}
+use Rattle.leaf_search.proofs.Covers.{total_covered}
+use Rattle.leaf_search.proofs.ShownParts.{none_shown}
 
 -- ---- ranges that are apart
 
@@ -132,6 +140,7 @@ module _ (v : PartView) (s : Schema) (ds : List Placed) (p : Parts) (part : IsPa
   of_block_inside (Documents key) at len h = block_inside h.number at len h.at_is h.len_is
   of_block_inside (Places key) at len h = block_inside h.number at len h.at_is h.len_is
   of_block_inside (Walk prefix w) at len h = block_inside h.0 at len h.2.at_is h.2.len_is
+  of_block_inside (Values number r) at len h = absurd h
 
   blocks_inside : (ls : List Lookup) (at len : ℕ) → AsksBlocks v s ds p ls at len → (first ≤ at) × (at + len ≤ behind)
   blocks_inside [] at len h = absurd h
@@ -152,12 +161,18 @@ module _ (v : PartView) (s : Schema) (ds : List Placed) (p : Parts) (part : IsPa
   terms_behind w (t ∷ ts) at len (inl h) = list_behind t.key at len h.1
   terms_behind w (t ∷ ts) at len (inr h) = terms_behind w ts at len h
 
+  column_behind : (number at len : ℕ) → IsColumnFor v s p number at len → behind ≤ at
+  column_behind number at len h =
+      let start : columns_start v.footer.layout.sections ≡ behind + length p.postings + length p.positions = ap columns_start part.footer.layout.sections in
+      omega (arith, h.at_is, start)
+
   of_list_behind : (l : Lookup) (at len : ℕ) → AsksListOf v s ds p l at len → behind ≤ at
   of_list_behind (Count key) at len h = absurd h
   of_list_behind (Documents key) at len h = list_behind key at len h
   of_list_behind (Places key) at len (inl h) = list_behind key at len h
   of_list_behind (Places key) at len (inr h) = omega (arith, h.at_is, positions_at)
   of_list_behind (Walk prefix w) at len h = terms_behind w (begun_in prefix terms h.0) at len h.2
+  of_list_behind (Values number r) at len h = column_behind number at len h
 
   lists_behind : (ls : List Lookup) (at len : ℕ) → AsksLists v s ds p ls at len → behind ≤ at
   lists_behind [] at len h = absurd h
@@ -172,7 +187,7 @@ module _ (v : PartView) (s : Schema) (ds : List Placed) (p : Parts) (part : IsPa
       (omega (arith, h.at_is, start), omega (arith, h.at_is, h.len_is, inside, whole))
 
   lists_between : (r : LeafRequest) → r.wanted ≡ 0 → IsAsked s r → (at len : ℕ) → NeedsLists v s ds p r at len → (behind ≤ at) × (at + len ≤ length (file_bytes p))
-  lists_between r none ask at len (inl h) = (lists_behind (request_lookups s r) at len h, lookups_within v s ds p part (request_lookups s r) at len (inr h))
+  lists_between r none ask at len (inl h) = (lists_behind (request_lookups v.footer s r) at len h, lookups_within v s ds p part (request_lookups v.footer s r) at len (inr h))
   lists_between r none ask at len (inr (inl (inl h))) = column_between h.asks.number at len (timestamp_fast s h.asks.number part.is_split.are_documents.schema h.asks.is_field) h.asks.column
   lists_between r none ask at len (inr (inl (inr (inl h)))) =
       let fast : IsFast s h.number = subst (λ (n : ℕ). IsFast s n) h.among.2 (over_fast s r.aggs ask.aggs h.among.0 h.number h.among.1) in
@@ -188,7 +203,7 @@ module _ (v : PartView) (s : Schema) (ds : List Placed) (p : Parts) (part : IsPa
   no_document r blocks lists none ask b l =
       let in_blocks : LieBetween first behind blocks = λ place h.
       let o = b.only place h in
-      let i = blocks_inside (request_lookups s r) o.0 o.1 o.2 in
+      let i = blocks_inside (request_lookups v.footer s r) o.0 o.1 o.2 in
       (omega (arith, i.0, o.3), omega (arith, i.1, o.4)) in
       let in_lists : LieBetween behind (length (file_bytes p)) lists = λ place h.
       let o = l.only place h in
@@ -201,3 +216,98 @@ module _ (v : PartView) (s : Schema) (ds : List Placed) (p : Parts) (part : IsPa
         behind_them = λ place h. elim h [ inl x ↦ (in_blocks place x).0 | inr y ↦ let k = in_lists place y in omega (arith, k.0) ];
         bound = omega (arith, some, more, dictionary);
       }
+
+  -- ---- a page
+
+  sort_fast : (o : Option HitOrder) (n : ℕ) → IsSortable s o → sort_field o ≡ Some n → IsFast s n
+  sort_fast None n sortable is = absurd cc
+  sort_fast (Some order) n sortable is = let same : order.field ≡ n = cc in subst (λ (k : ℕ). IsFast s k) same sortable
+
+  listed_between : (r : LeafRequest) → IsAsked s r → (at len : ℕ) → NeedsListed v s ds p r at len → (behind ≤ at) × (at + len ≤ length (file_bytes p))
+  listed_between r ask at len (inl h) = (lists_behind (request_lookups v.footer s r) at len h, lookups_within v s ds p part (request_lookups v.footer s r) at len (inr h))
+  listed_between r ask at len (inr (inl h)) = column_between h.asks.number at len (timestamp_fast s h.asks.number part.is_split.are_documents.schema h.asks.is_field) h.asks.column
+  listed_between r ask at len (inr (inr (inl h))) =
+      let fast : IsFast s h.number = subst (λ (n : ℕ). IsFast s n) h.among.2 (over_fast s r.aggs ask.aggs h.among.0 h.number h.among.1) in
+      column_between h.number at len fast h.column
+  listed_between r ask at len (inr (inr (inr h))) = column_between h.1.number at len (sort_fast r.order h.1.number ask.order h.1.is_field) h.1.column
+
+  abbrev bytes_long : ℕ → ℕ
+  bytes_long k = option_map_or (λ d. length (placed_bytes p.partitions d)) (slice_get ds k) 0
+
+  sum_both : (f : ℕ → ℕ) (ks : List ℕ) → sum_by (λ k. 16 + f k) ks ≡ sum_by (λ (k : ℕ). 16) ks + sum_by f ks
+  sum_both f [] = refl
+  sum_both f (k ∷ ks) =
+      let h = sum_both f ks in
+      let a : sum_by (λ n. 16 + f n) (k ∷ ks) ≡ 16 + f k + sum_by (λ n. 16 + f n) ks = sum_by-cons (λ n. 16 + f n) k ks in
+      let b : sum_by (λ (n : ℕ). 16) (k ∷ ks) ≡ 16 + sum_by (λ (n : ℕ). 16) ks = sum_by-cons (λ (n : ℕ). 16) k ks in
+      let c : sum_by f (k ∷ ks) ≡ f k + sum_by f ks = sum_by-cons f k ks in
+      omega (arith, h, a, b, c)
+
+  starts_covered : (r : LeafRequest) (place at len : ℕ) → are_few s r ds ≡ true → NeedsStarts v s ds r at len → at ≤ place → place < at + len
+      → (k : ℕ) × Contains (shown_of s r ds) k × (starts_place k ≤ place) × (place < starts_place k + 16)
+  starts_covered r place at len few (inl h) from until = (h.1.number, h.1.among, omega (arith, h.1.is_part.0, from), omega (arith, h.1.is_part.0, h.1.is_part.1, until))
+  starts_covered r place at len few (inr h) from until = let bad : true ≡ false = sym few ∙ h.0 in absurd cc
+
+  bytes_covered : (r : LeafRequest) (place at len : ℕ) → NeedsShown s ds p r at len → at ≤ place → place < at + len → (k : ℕ) × Contains (shown_of s r ds) k × (doc_place p ds k ≤ place) × (place < doc_place p ds k + bytes_long k)
+  bytes_covered r place at len h from until =
+      let it = h.1.is_part in
+      let long : bytes_long h.1.number ≡ length (placed_bytes p.partitions it.0) = ap (λ (o : Option Placed). option_map_or (λ d. length (placed_bytes p.partitions d)) o 0) it.1 in
+      (h.1.number, h.1.among, omega (arith, it.2, from), omega (arith, it.2, it.3, long, until))
+
+  -- the ranges of the documents that may be shown have no more bytes than these
+  pub documents_bound : (r : LeafRequest) (starts shown : List FileRange) → are_few s r ds ≡ true → AreRangesOf (NeedsStarts v s ds r) starts → AreRangesOf (NeedsShown s ds p r) shown → total starts + total shown ≤ shown_cost s r ds p
+  documents_bound r starts shown few st sh =
+      let entries : total starts ≤ sum_by (λ (k : ℕ). 16) (shown_of s r ds) = total_covered starts_place (λ (k : ℕ). 16) starts (shown_of s r ds) st.apart (λ place h. let o = st.only place h in starts_covered r place o.0 o.1 few o.2 o.3 o.4) in
+      let bytes : total shown ≤ sum_by bytes_long (shown_of s r ds) = total_covered (doc_place p ds) bytes_long shown (shown_of s r ds) sh.apart (λ place h. let o = sh.only place h in bytes_covered r place o.0 o.1 o.2 o.3 o.4) in
+      let both : shown_cost s r ds p ≡ sum_by (λ (k : ℕ). 16) (shown_of s r ds) + sum_by bytes_long (shown_of s r ds) = sum_both bytes_long (shown_of s r ds) in
+      omega (arith, entries, bytes, both)
+
+  pub page_bound : (r : LeafRequest) (blocks listed starts shown : List FileRange) → IsAsked s r → are_few s r ds ≡ true → AreRangesOf (NeedsBlocks v s ds p r) blocks → AreRangesOf (NeedsListed v s ds p r) listed
+      → AreRangesOf (NeedsStarts v s ds r) starts → AreRangesOf (NeedsShown s ds p r) shown
+      → total blocks + total listed + (total starts + total shown) ≤ length (file_bytes p) - length p.documents + shown_cost s r ds p
+  page_bound r blocks listed starts shown ask few b l st sh =
+      let in_blocks : LieBetween first behind blocks = λ place h.
+      let o = b.only place h in
+      let i = blocks_inside (request_lookups v.footer s r) o.0 o.1 o.2 in
+      (omega (arith, i.0, o.3), omega (arith, i.1, o.4)) in
+      let in_listed : LieBetween behind (length (file_bytes p)) listed = λ place h.
+      let o = l.only place h in
+      let i = listed_between r ask o.0 o.1 o.2 in
+      (omega (arith, i.0, o.3), omega (arith, i.1, o.4)) in
+      let dictionary = section_within Dictionary p in
+      let some = total_within blocks first behind (omega arith) b.apart in_blocks in
+      let more = total_within listed behind (length (file_bytes p)) (omega (arith, dictionary)) l.apart in_listed in
+      let documents = documents_bound r starts shown few st sh in
+      omega (arith, some, more, dictionary, documents)
+
+-- ---- rounds of a request that wants no hits
+
+module _ (v : PartView) (s : Schema) (ds : List Placed) (p : Parts) (r : LeafRequest) (none : r.wanted ≡ 0) where
+  nothing_shown : (n : ℕ) → Contains (shown_of s r ds) n → ⊥
+  nothing_shown n h = let few : length (shown_of s r ds) ≡ 0 = ap length (none_shown s r ds none) in omega (arith, few, h.1)
+
+  no_starts : (at len : ℕ) → NeedsStarts v s ds r at len → ⊥
+  no_starts at len (inl h) = nothing_shown h.1.number h.1.among
+  no_starts at len (inr h) = omega (arith, none, h.1.0)
+
+  pub none_paged : (starts shown : List FileRange) → AreRangesOf (NeedsStarts v s ds r) starts → AreRangesOf (NeedsShown s ds p r) shown → total starts + total shown ≡ 0
+  none_paged starts shown st sh =
+      let a = total_none starts st.apart (λ place h. let o = st.only place h in no_starts o.0 o.1 o.2) in
+      let b = total_none shown sh.apart (λ place h. let o = sh.only place h in nothing_shown o.2.1.number o.2.1.among) in
+      omega (arith, a, b)
+
+  to_lists : (at len : ℕ) → NeedsListed v s ds p r at len → NeedsLists v s ds p r at len
+  to_lists at len (inl h) = inl h
+  to_lists at len (inr h) = inr (inl h)
+
+  of_lists : (at len : ℕ) → NeedsLists v s ds p r at len → NeedsListed v s ds p r at len
+  of_lists at len (inl h) = inl h
+  of_lists at len (inr (inl h)) = inr h
+  of_lists at len (inr (inr h)) = absurd (omega (arith, none, h.0))
+
+  pub listed_lists : (listed : List FileRange) → AreRangesOf (NeedsListed v s ds p r) listed → AreRangesOf (NeedsLists v s ds p r) listed
+  listed_lists listed l = record {
+    apart = l.apart;
+    cover = λ at len h. l.cover at len (of_lists at len h);
+    only = λ place h. let o = l.only place h in (o.0, o.1, to_lists o.0 o.1 o.2, o.3, o.4);
+  }

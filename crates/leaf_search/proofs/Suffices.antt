@@ -4,7 +4,6 @@ use Rattle.std.specs.List.{flat_map}
 use Rattle.byte_fields.specs.Spelling.{eight}
 use Rattle.std.proofs.lemmas.Bool.{ltb-false, le-ltb}
 use Rattle.doc_value.specs.declared.schema.Schema.{Schema}
-use Rattle.doc_value.specs.declared.doc.DocField.{DocField}
 use Rattle.split_bundle.specs.declared.layout.Sections.{Sections}
 use Rattle.split_bundle.specs.declared.part_view.PartView.{PartView}
 use Rattle.split_bundle.specs.declared.pieces.FilePiece.{FilePiece}
@@ -18,13 +17,13 @@ use Rattle.doc_sets.specs.declared.leaf_error.LeafError.{LeafError}
 use Rattle.doc_sets.specs.declared.leaf_error.LeafError.TheVariants as faults
 use Rattle.doc_sets.specs.Faults.{HasCause, IsMemory}
 use Rattle.doc_tallies.specs.Causes.{AsksDocument, AsksHits}
-use Rattle.doc_tallies.specs.Orders.{sort_field}
 use Rattle.leaf_search.specs.Answers.{AsksLeaf, passes}
 use Rattle.leaf_search.specs.FileRanges.{AreRangesOf, HasPart, SomeRange}
 use Rattle.leaf_search.specs.Needs.{AreHeld, NeedsBlocks, NeedsLists}
-use Rattle.leaf_search.specs.Numbers.{numbers_from, numbers_of}
+use Rattle.leaf_search.specs.Numbers.{numbers_of}
 use Rattle.leaf_search.specs.declared.file_ranges.FileRange.{FileRange}
 use Rattle.leaf_search.specs.declared.request.LeafRequest.{LeafRequest}
+use Rattle.leaf_search.proofs.ShownParts.{shown_below}
 
 -- ---- a piece that holds a range holds its parts
 
@@ -95,16 +94,6 @@ wider_part (r ∷ rs) start len at n from until (inr h) = inr (wider_part rs sta
 
 -- ---- the parts of documents lie in their section
 
-pub numbers_below : (test : List DocField → Bool) (n : ℕ) (ds : List Placed) (i k : ℕ) → i < length (numbers_from test n ds) → get_or (numbers_from test n ds) i k ≡ k → k < n + length ds
-numbers_below test n [] i k lt e = absurd (omega arith)
-numbers_below test n (d ∷ ds) i k lt e = go (test d.doc) i lt e (λ j less same. numbers_below test (suc n) ds j k less same)
-  where
-    go : (b : Bool) (j : ℕ) → j < length (cond b (n ∷ numbers_from test (suc n) ds) (numbers_from test (suc n) ds)) → get_or (cond b (n ∷ numbers_from test (suc n) ds) (numbers_from test (suc n) ds)) j k ≡ k
-        → ((m : ℕ) → m < length (numbers_from test (suc n) ds) → get_or (numbers_from test (suc n) ds) m k ≡ k → k < suc n + length ds) → k < n + suc (length ds)
-    go true zero less same later = omega (arith, same)
-    go true (suc j) less same later = let h = later j (omega arith) same in omega (arith, h)
-    go false j less same later = let h = later j less same in omega (arith, h)
-
 joined_within : (xs : List (List ℕ)) (i : ℕ) (x : List ℕ) → slice_get xs i ≡ Some x → length (joined (take i xs)) + length x ≤ length (joined xs)
 joined_within [] i x got = absurd (cc)
 joined_within (y ∷ ys) zero x got = let same : y ≡ x = cc in omega (arith, ap length same, length-append y (joined ys))
@@ -134,11 +123,10 @@ module _ (v : PartView) (s : Schema) (ds : List Placed) (p : Parts) (part : IsPa
   part_needed r blocks lists b l at len (inr (inr (inr (inl h)))) = inr (l.cover at len (inr (inl (inr (inl h)))))
   part_needed r blocks lists b l at len (inr (inr (inr (inr h)))) = hits h.wanted h.asks
     where
-      hits : 0 < r.wanted → AsksHits v p ds (sort_field r.order) (numbers_of (passes s r) ds) at len → SomeRange (HasPart at len) blocks ⊎ SomeRange (HasPart at len) lists
+      hits : 0 < r.wanted → AsksHits v p ds r.order r.wanted (numbers_of (passes s r) ds) at len → SomeRange (HasPart at len) blocks ⊎ SomeRange (HasPart at len) lists
       hits wanted (inl f) = inr (l.cover at len (inr (inl (inr (inr (wanted, f))))))
       hits wanted (inr d) =
-          let number = numbers_below (passes s r) 0 ds d.among.0 d.number d.among.1 d.among.2 in
-          let within = document_within d.number at len (omega (arith, number)) d.document in
+          let within = document_within d.number at len (shown_below s r ds d.number d.among) d.document in
           inr (wider_part lists 4 v.footer.layout.sections.documents at len within.0 within.1 (l.cover 4 v.footer.layout.sections.documents (inr (inr (wanted, refl, refl)))))
 
   pub needed_memory : (r : LeafRequest) (blocks lists : List FileRange) (e : LeafError) → AreRangesOf (NeedsBlocks v s ds p r) blocks → AreRangesOf (NeedsLists v s ds p r) lists → AreHeld v.pieces blocks → AreHeld v.pieces lists

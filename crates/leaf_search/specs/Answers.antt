@@ -13,7 +13,7 @@ use Rattle.split_bundle.specs.declared.part_view.PartView.{PartView}
 use Rattle.split_bundle.specs.Files.{Parts}
 use Rattle.doc_tallies.specs.AggColumns.{AsksFields}
 use Rattle.doc_tallies.specs.Causes.{AsksField, AsksHits}
-use Rattle.doc_tallies.specs.Orders.{firsts, sort_field, IsSortable}
+use Rattle.doc_tallies.specs.Orders.{firsts, IsSortable}
 use Rattle.doc_tallies.specs.Picked.{docs_of}
 use Rattle.doc_sets.specs.Asking.{AsksBlocks, AsksLists}
 use Rattle.doc_sets.specs.declared.dictionary_lookup.Lookup.{Lookup}
@@ -51,10 +51,10 @@ pub record AsksTimes (v : PartView) (p : Parts) (s : Schema) (times : TimeRange)
 -- hits are read only where some are wanted
 pub record AsksWanted (v : PartView) (s : Schema) (documents : List Placed) (p : Parts) (r : LeafRequest) (at len : ℕ) : Type 0 where
   pub wanted : 0 < r.wanted
-  pub asks : AsksHits v p documents (sort_field r.order) (numbers_of (passes s r) documents) at len
+  pub asks : AsksHits v p documents r.order r.wanted (numbers_of (passes s r) documents) at len
 
--- what is asked for beside the blocks of the dictionary where these are looked up: their lists, the columns of the timestamp and
--- of the aggregations, and what tells and shows the first hits
+-- what is asked for beside the blocks of the dictionary where these are looked up: their lists and columns, the columns of the
+-- timestamp and of the aggregations, and what tells and shows the first hits
 abbrev pub AsksBeside : PartView → Schema → List Placed → Parts → LeafRequest → List Lookup → ℕ → ℕ → Type 0
 AsksBeside v s documents p r ls at len =
     AsksLists v s documents p ls at len ⊎ (AsksTimes v p s r.times at len ⊎ (AsksFields v p r.aggs at len ⊎ AsksWanted v s documents p r at len))
@@ -65,4 +65,4 @@ AsksWith v s documents p r ls at len = AsksBlocks v s documents p ls at len ⊎ 
 
 -- what a request asks for
 abbrev pub AsksLeaf : PartView → Schema → List Placed → Parts → LeafRequest → ℕ → ℕ → Type 0
-AsksLeaf v s documents p r at len = AsksWith v s documents p r (request_lookups s r) at len
+AsksLeaf v s documents p r at len = AsksWith v s documents p r (request_lookups v.footer s r) at len

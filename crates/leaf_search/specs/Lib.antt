@@ -5,3 +5,4 @@ pub mod Numbers
 pub mod Answers
 pub mod FileRanges
 pub mod Needs
+pub mod Shown

@@ -1,5 +1,5 @@
 -- Which ranges of a split file a request needs.
-use Rattle.doc_sets.specs.declared.dictionary_lookup.Lookup.TheVariants.{Count, Documents, Places, Walk}
+use Rattle.doc_sets.specs.declared.dictionary_lookup.Lookup.TheVariants.{Count, Documents, Places, Values, Walk}
 use Rattle.doc_sets.specs.declared.dictionary_lookup.Lookup.{Lookup}
 use Rattle.term_dict.specs.declared.term.TermInfo.{TermInfo}
 use Rattle.doc_sets.specs.Reads.{Finds, ReadsWalk}
@@ -24,7 +24,7 @@ use Rattle.leaf_search.specs.declared.request.LeafRequest.{LeafRequest}
 
 -- the blocks of the dictionary
 abbrev pub NeedsBlocks : PartView → Schema → List Placed → Parts → LeafRequest → ℕ → ℕ → Type 0
-NeedsBlocks v s documents p r at len = AsksBlocks v s documents p (request_lookups s r) at len
+NeedsBlocks v s documents p r at len = AsksBlocks v s documents p (request_lookups v.footer s r) at len
 
 -- the column by which hits are sorted, where some are wanted
 abbrev pub NeedsOrder : PartView → Parts → LeafRequest → ℕ → ℕ → Type 0
@@ -42,10 +42,10 @@ fields_nested nested = map (λ named. field_of named.agg) nested
 abbrev pub NeedsColumns : PartView → Schema → Parts → LeafRequest → ℕ → ℕ → Type 0
 NeedsColumns v s p r at len = AsksTimes v p s r.times at len ⊎ (AsksFields v p r.aggs at len ⊎ NeedsOrder v p r at len)
 
--- the lists, the columns, and the documents where hits are wanted
+-- the lists and columns of what is looked up, the other columns, and the documents where hits are wanted
 abbrev pub NeedsLists : PartView → Schema → List Placed → Parts → LeafRequest → ℕ → ℕ → Type 0
 NeedsLists v s documents p r at len =
-    AsksLists v s documents p (request_lookups s r) at len ⊎ (NeedsColumns v s p r at len ⊎ NeedsDocuments v r at len)
+    AsksLists v s documents p (request_lookups v.footer s r) at len ⊎ (NeedsColumns v s p r at len ⊎ NeedsDocuments v r at len)
 
 -- each range has a piece that holds it
 abbrev pub AreHeld : List FilePiece → List FileRange → Type 0
@@ -61,6 +61,7 @@ IsFound v (Count key) = Unit {0}
 IsFound v (Documents key) = (found : Option TermInfo) × Finds v key (Ok found)
 IsFound v (Places key) = (found : Option TermInfo) × Finds v key (Ok found)
 IsFound v (Walk prefix wanted) = IsWalkFound v prefix
+IsFound v (Values number range) = Unit {0}
 
 abbrev pub AreFound : PartView → List Lookup → Type 0
 AreFound v [] = Unit {0}

@@ -70,6 +70,7 @@ fn name_lookup_blocks(
         Lookup::Documents(key) => name_key_block(footer, ranges, key.as_slice()),
         Lookup::Places(key) => name_key_block(footer, ranges, key.as_slice()),
         Lookup::Walk(prefix, _wanted) => name_walk_blocks(footer, ranges, prefix.as_slice()),
+        Lookup::Values(_number, _range) => Ok(()),
     }
 }
 

@@ -35,8 +35,8 @@ pub(crate) fn matching(
     requires few { length schema.now.fields ≤ 256 }
     ensures size { IfOk result (λ b. b.size ≡ part.now.footer.layout.docs) }
     ensures only { (documents : List Placed) (p : Parts) → IsSearched part.now schema.now documents p → CanAsk schema.now (view query.now)
-        → MatchResult result (IsSetOf (λ d. meaning schema.now d (view query.now)) documents) (LacksLookups part.now schema.now documents p (lookups_of schema.now (view query.now))) }
-    ensures reads { ReadsAll part.now (lookups_of schema.now (view query.now)) result }
+        → MatchResult result (IsSetOf (λ d. meaning schema.now d (view query.now)) documents) (LacksLookups part.now schema.now documents p (lookups_of part.now.footer schema.now (view query.now))) }
+    ensures reads { ReadsAll part.now (lookups_of part.now.footer schema.now (view query.now)) result }
 {
     match query {
         Query::All => Ok(all_documents(alloc, part)?),
@@ -80,8 +80,8 @@ fn all_matching(
     requires few { length schema.now.fields ≤ 256 }
     ensures size { IfOk result (λ b. b.size ≡ part.now.footer.layout.docs) }
     ensures only { (documents : List Placed) (p : Parts) → IsSearched part.now schema.now documents p → CanAskEach schema.now (view_all parts.now)
-        → MatchResult result (IsSetOf (λ d. all_hold schema.now d (view_all parts.now)) documents) (LacksLookups part.now schema.now documents p (lookups_of_each schema.now (view_all parts.now))) }
-    ensures reads { ReadsAll part.now (lookups_of_each schema.now (view_all parts.now)) result }
+        → MatchResult result (IsSetOf (λ d. all_hold schema.now d (view_all parts.now)) documents) (LacksLookups part.now schema.now documents p (lookups_of_each part.now.footer schema.now (view_all parts.now))) }
+    ensures reads { ReadsAll part.now (lookups_of_each part.now.footer schema.now (view_all parts.now)) result }
 {
     let mut bits = all_documents(alloc, part)?;
     for each in parts {
@@ -104,8 +104,8 @@ fn some_matching(
     requires few { length schema.now.fields ≤ 256 }
     ensures size { IfOk result (λ b. b.size ≡ part.now.footer.layout.docs) }
     ensures only { (documents : List Placed) (p : Parts) → IsSearched part.now schema.now documents p → CanAskEach schema.now (view_all parts.now)
-        → MatchResult result (IsSetOf (λ d. some_hold schema.now d (view_all parts.now)) documents) (LacksLookups part.now schema.now documents p (lookups_of_each schema.now (view_all parts.now))) }
-    ensures reads { ReadsAll part.now (lookups_of_each schema.now (view_all parts.now)) result }
+        → MatchResult result (IsSetOf (λ d. some_hold schema.now d (view_all parts.now)) documents) (LacksLookups part.now schema.now documents p (lookups_of_each part.now.footer schema.now (view_all parts.now))) }
+    ensures reads { ReadsAll part.now (lookups_of_each part.now.footer schema.now (view_all parts.now)) result }
 {
     let mut bits = no_documents(alloc, part)?;
     for each in parts {

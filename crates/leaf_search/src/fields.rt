@@ -47,8 +47,8 @@ pub(crate) fn with_word(
     requires few { length schema.now.fields ≤ 256 }
     ensures size { IfOk result (λ b. b.size ≡ part.now.footer.layout.docs) }
     ensures only { (documents : List Placed) (p : Parts) → IsSearched part.now schema.now documents p → CanAsk schema.now (sought.Word number text.now)
-        → MatchResult result (IsSetOf (λ d. meaning schema.now d (sought.Word number text.now)) documents) (LacksLookups part.now schema.now documents p (lookups_of schema.now (sought.Word number text.now))) }
-    ensures reads { ReadsAll part.now (lookups_of schema.now (sought.Word number text.now)) result }
+        → MatchResult result (IsSetOf (λ d. meaning schema.now d (sought.Word number text.now)) documents) (LacksLookups part.now schema.now documents p (lookups_of part.now.footer schema.now (sought.Word number text.now))) }
+    ensures reads { ReadsAll part.now (lookups_of part.now.footer schema.now (sought.Word number text.now)) result }
 {
     match field_at(schema, number) {
         Some(field) => word_documents(alloc, index, part, number, field, text),
@@ -69,8 +69,8 @@ pub(crate) fn with_quoted(
     requires few { length schema.now.fields ≤ 256 }
     ensures size { IfOk result (λ b. b.size ≡ part.now.footer.layout.docs) }
     ensures only { (documents : List Placed) (p : Parts) → IsSearched part.now schema.now documents p → CanAsk schema.now (sought.Quoted number text.now)
-        → MatchResult result (IsSetOf (λ d. meaning schema.now d (sought.Quoted number text.now)) documents) (LacksLookups part.now schema.now documents p (lookups_of schema.now (sought.Quoted number text.now))) }
-    ensures reads { ReadsAll part.now (lookups_of schema.now (sought.Quoted number text.now)) result }
+        → MatchResult result (IsSetOf (λ d. meaning schema.now d (sought.Quoted number text.now)) documents) (LacksLookups part.now schema.now documents p (lookups_of part.now.footer schema.now (sought.Quoted number text.now))) }
+    ensures reads { ReadsAll part.now (lookups_of part.now.footer schema.now (sought.Quoted number text.now)) result }
 {
     match field_at(schema, number) {
         Some(field) => quoted_documents(alloc, index, part, number, field, text),
@@ -91,8 +91,8 @@ pub(crate) fn with_prefix(
     requires few { length schema.now.fields ≤ 256 }
     ensures size { IfOk result (λ b. b.size ≡ part.now.footer.layout.docs) }
     ensures only { (documents : List Placed) (p : Parts) → IsSearched part.now schema.now documents p → CanAsk schema.now (sought.Prefix number text.now)
-        → MatchResult result (IsSetOf (λ d. meaning schema.now d (sought.Prefix number text.now)) documents) (LacksLookups part.now schema.now documents p (lookups_of schema.now (sought.Prefix number text.now))) }
-    ensures reads { ReadsAll part.now (lookups_of schema.now (sought.Prefix number text.now)) result }
+        → MatchResult result (IsSetOf (λ d. meaning schema.now d (sought.Prefix number text.now)) documents) (LacksLookups part.now schema.now documents p (lookups_of part.now.footer schema.now (sought.Prefix number text.now))) }
+    ensures reads { ReadsAll part.now (lookups_of part.now.footer schema.now (sought.Prefix number text.now)) result }
 {
     match field_at(schema, number) {
         Some(field) => prefix_documents(alloc, index, part, number, field, text),
@@ -112,8 +112,8 @@ pub(crate) fn with_value(
     requires few { length schema.now.fields ≤ 256 }
     ensures size { IfOk result (λ b. b.size ≡ part.now.footer.layout.docs) }
     ensures only { (documents : List Placed) (p : Parts) → IsSearched part.now schema.now documents p → CanAsk schema.now (sought.Exists number)
-        → MatchResult result (IsSetOf (λ d. meaning schema.now d (sought.Exists number)) documents) (LacksLookups part.now schema.now documents p (lookups_of schema.now (sought.Exists number))) }
-    ensures reads { ReadsAll part.now (lookups_of schema.now (sought.Exists number)) result }
+        → MatchResult result (IsSetOf (λ d. meaning schema.now d (sought.Exists number)) documents) (LacksLookups part.now schema.now documents p (lookups_of part.now.footer schema.now (sought.Exists number))) }
+    ensures reads { ReadsAll part.now (lookups_of part.now.footer schema.now (sought.Exists number)) result }
 {
     match field_at(schema, number) {
         Some(_field) => present_documents(alloc, index, part, number),
@@ -135,11 +135,11 @@ pub(crate) fn within_range(
     requires few { length schema.now.fields ≤ 256 }
     ensures size { IfOk result (λ b. b.size ≡ part.now.footer.layout.docs) }
     ensures only { (documents : List Placed) (p : Parts) → IsSearched part.now schema.now documents p → CanAsk schema.now (sought.Range number low.now high.now)
-        → MatchResult result (IsSetOf (λ d. meaning schema.now d (sought.Range number low.now high.now)) documents) (LacksLookups part.now schema.now documents p (lookups_of schema.now (sought.Range number low.now high.now))) }
-    ensures reads { ReadsAll part.now (lookups_of schema.now (sought.Range number low.now high.now)) result }
+        → MatchResult result (IsSetOf (λ d. meaning schema.now d (sought.Range number low.now high.now)) documents) (LacksLookups part.now schema.now documents p (lookups_of part.now.footer schema.now (sought.Range number low.now high.now))) }
+    ensures reads { ReadsAll part.now (lookups_of part.now.footer schema.now (sought.Range number low.now high.now)) result }
 {
     match field_at(schema, number) {
-        Some(field) => range_documents(alloc, index, part, number, field, low, high),
+        Some(field) => range_documents(alloc, schema, index, part, number, field, low, high),
         None => Ok(no_documents(alloc, part)?),
     }
 }
@@ -157,8 +157,8 @@ pub(crate) fn with_some(
     requires few { length schema.now.fields ≤ 256 }
     ensures size { IfOk result (λ b. b.size ≡ part.now.footer.layout.docs) }
     ensures only { (documents : List Placed) (p : Parts) → IsSearched part.now schema.now documents p → CanAsk schema.now (sought.AnyOf number items.now)
-        → MatchResult result (IsSetOf (λ d. meaning schema.now d (sought.AnyOf number items.now)) documents) (LacksLookups part.now schema.now documents p (lookups_of schema.now (sought.AnyOf number items.now))) }
-    ensures reads { ReadsAll part.now (lookups_of schema.now (sought.AnyOf number items.now)) result }
+        → MatchResult result (IsSetOf (λ d. meaning schema.now d (sought.AnyOf number items.now)) documents) (LacksLookups part.now schema.now documents p (lookups_of part.now.footer schema.now (sought.AnyOf number items.now))) }
+    ensures reads { ReadsAll part.now (lookups_of part.now.footer schema.now (sought.AnyOf number items.now)) result }
 {
     match field_at(schema, number) {
         Some(field) => some_documents(alloc, index, part, number, field, items),

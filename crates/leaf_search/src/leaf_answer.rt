@@ -17,6 +17,7 @@ ghost use Rattle.leaf_search.specs.Asks.{lookups_of};
 ghost use Rattle.leaf_search.specs.Counts as counts;
 ghost use Rattle.leaf_search.specs.FileRanges.{AreRangesOf};
 ghost use Rattle.leaf_search.specs.Needs.{AreHeld, NeedsBlocks, NeedsLists};
+ghost use Rattle.leaf_search.specs.Shown.{NeedsListed, NeedsShown, NeedsStarts};
 ghost use Rattle.leaf_search.specs.declared.file_ranges.FileRange.{FileRange};
 
 use crate::evaluate::matching;
@@ -50,12 +51,18 @@ pub fn leaf(
     ensures needed { (documents : List Placed) (p : Parts) (blocks lists : List FileRange) → IsPartOf view.now schema.now documents p → IsAsked schema.now request.now
         → AreRangesOf (NeedsBlocks view.now schema.now documents p request.now) blocks → AreRangesOf (NeedsLists view.now schema.now documents p request.now) lists
         → AreHeld view.now.pieces blocks → AreHeld view.now.pieces lists → MatchResult result (IsAnswerOf schema.now request.now documents) IsMemory }
+    // The same where the documents that may be shown are there without their section.
+    ensures pages { (documents : List Placed) (p : Parts) (blocks listed starts shown : List FileRange) → IsPartOf view.now schema.now documents p → IsAsked schema.now request.now
+        → AreRangesOf (NeedsBlocks view.now schema.now documents p request.now) blocks → AreRangesOf (NeedsListed view.now schema.now documents p request.now) listed
+        → AreRangesOf (NeedsStarts view.now schema.now documents request.now) starts → AreRangesOf (NeedsShown schema.now documents p request.now) shown
+        → AreHeld view.now.pieces blocks → AreHeld view.now.pieces listed → AreHeld view.now.pieces starts → AreHeld view.now.pieces shown
+        → MatchResult result (IsAnswerOf schema.now request.now documents) IsMemory }
     // Over any bytes.
     ensures partial { IfOk result (λ a. IsNestedPartial request.now.aggs a.partial) }
     ensures many { IfOk result (λ a. documents_counted a.partial ≡ a.count) }
     // What is looked up is read where there is an answer. Where documents are only counted, a fault is that of something which is looked up.
-    ensures read { IfOk result (λ a. AreRead view.now (counts.read_lookups schema.now request.now)) }
-    ensures faults { counts.only_counts request.now ≡ true → ReadsAll view.now (counts.read_lookups schema.now request.now) result }
+    ensures read { IfOk result (λ a. AreRead view.now (counts.read_lookups view.now.footer schema.now request.now)) }
+    ensures faults { counts.only_counts request.now ≡ true → ReadsAll view.now (counts.read_lookups view.now.footer schema.now request.now) result }
 {
     match counted_key(alloc, schema, request)? {
         Some(key) => counted(alloc, request, view, key.as_slice()),
@@ -74,13 +81,13 @@ fn evaluated(
     requires intervals { HaveSteps request.now.aggs }
     ensures only { (documents : List Placed) (p : Parts) → IsPartOf view.now schema.now documents p → IsAsked schema.now request.now
         → MatchResult result (IsAnswerOf schema.now request.now documents)
-        (HasCause (AsksWith view.now schema.now documents p request.now (lookups_of schema.now (query_view request.now.query))) view.now.pieces) }
+        (HasCause (AsksWith view.now schema.now documents p request.now (lookups_of view.now.footer schema.now (query_view request.now.query))) view.now.pieces) }
     ensures there { (documents : List Placed) (p : Parts) → IsPartOf view.now schema.now documents p → HaveAll (file_bytes p) view.now.pieces → IsAsked schema.now request.now
         → MatchResult result (IsAnswerOf schema.now request.now documents) IsMemory }
     ensures partial { IfOk result (λ a. IsNestedPartial request.now.aggs a.partial) }
     ensures many { IfOk result (λ a. documents_counted a.partial ≡ a.count) }
-    ensures read { IfOk result (λ a. AreRead view.now (counts.evaluated_lookups schema.now request.now)) }
-    ensures faults { counts.only_counts request.now ≡ true → ReadsAll view.now (counts.evaluated_lookups schema.now request.now) result }
+    ensures read { IfOk result (λ a. AreRead view.now (counts.evaluated_lookups view.now.footer schema.now request.now)) }
+    ensures faults { counts.only_counts request.now ≡ true → ReadsAll view.now (counts.evaluated_lookups view.now.footer schema.now request.now) result }
 {
     if only_counts(request) {
         return query_counted(alloc, schema, request, view);
@@ -102,12 +109,12 @@ fn query_counted(
     requires counts { counts.only_counts request.now ≡ true }
     ensures only { (documents : List Placed) (p : Parts) → IsPartOf view.now schema.now documents p → IsAsked schema.now request.now
         → MatchResult result (IsAnswerOf schema.now request.now documents)
-        (HasCause (AsksWith view.now schema.now documents p request.now (lookups_of schema.now (query_view request.now.query))) view.now.pieces) }
+        (HasCause (AsksWith view.now schema.now documents p request.now (lookups_of view.now.footer schema.now (query_view request.now.query))) view.now.pieces) }
     ensures there { (documents : List Placed) (p : Parts) → IsPartOf view.now schema.now documents p → HaveAll (file_bytes p) view.now.pieces → IsAsked schema.now request.now
         → MatchResult result (IsAnswerOf schema.now request.now documents) IsMemory }
     ensures partial { IfOk result (λ a. IsNestedPartial request.now.aggs a.partial) }
     ensures many { IfOk result (λ a. documents_counted a.partial ≡ a.count) }
-    ensures reads { ReadsAll view.now (counts.count_lookups schema.now (query_view request.now.query)) result }
+    ensures reads { ReadsAll view.now (counts.count_lookups view.now.footer schema.now (query_view request.now.query)) result }
 {
     let count = matching_count(alloc, view, schema, &request.query)?;
     Ok(answer_of_many(alloc, request, count)?)
@@ -125,7 +132,7 @@ fn listed(
     requires size { bits.now.size ≡ view.now.footer.layout.docs }
     ensures only { (documents : List Placed) (p : Parts) → IsPartOf view.now schema.now documents p → IsAsked schema.now request.now
         → IsSetOf (λ d. meaning schema.now d (query_view request.now.query)) documents bits.now → MatchResult result (IsAnswerOf schema.now request.now documents)
-        (HasCause (AsksWith view.now schema.now documents p request.now (lookups_of schema.now (query_view request.now.query))) view.now.pieces) }
+        (HasCause (AsksWith view.now schema.now documents p request.now (lookups_of view.now.footer schema.now (query_view request.now.query))) view.now.pieces) }
     ensures there { (documents : List Placed) (p : Parts) → IsPartOf view.now schema.now documents p → HaveAll (file_bytes p) view.now.pieces → IsAsked schema.now request.now
         → IsSetOf (λ d. meaning schema.now d (query_view request.now.query)) documents bits.now → MatchResult result (IsAnswerOf schema.now request.now documents) IsMemory }
     ensures partial { IfOk result (λ a. IsNestedPartial request.now.aggs a.partial) }

@@ -1,4 +1,4 @@
-// The lists and positions of the terms that are asked for.
+// The lists and positions of the terms that are asked for, and the columns of ranges.
 
 ghost use Rattle.std.specs.Prelude.{◌≡◌, ◌<◌, ◌≤◌, ◌⊎◌, ℕ, List, [], Ok, Some, true, length, IfOk, OnOk, MatchResult};
 ghost use Rattle.std.specs.List.{AllByRecursion};
@@ -8,22 +8,25 @@ ghost use Rattle.term_dict.specs.Terms.{lookup};
 ghost use Rattle.term_dict.specs.declared.term.Term.{Term};
 ghost use Rattle.split_bundle.specs.declared.placed.Placed.{Placed};
 ghost use Rattle.split_bundle.specs.Files.{Parts};
+ghost use Rattle.split_bundle.specs.Lending.{IsPartOf};
 ghost use Rattle.split_bundle.specs.Lists.{keeps_places, terms_of};
 ghost use Rattle.doc_sets.specs.Asking.{AsksBlockOf, AsksBlocks, AsksListOf, AsksLists};
 ghost use Rattle.doc_sets.specs.Faults.{HasCause, IsMemory};
-ghost use Rattle.doc_sets.specs.Needed.{ArePlacesFor, IsBlockFor, IsListFor, IsSearched};
+ghost use Rattle.doc_sets.specs.Needed.{ArePlacesFor, IsBlockFor, IsColumnFor, IsListFor, IsSearched};
 ghost use Rattle.doc_sets.specs.Reads.{ReadsBlock, terms_read};
 ghost use Rattle.doc_sets.specs.Walks.{AsksIf, AsksTerms, AsksWalkBlock, AsksWalkList, IsBlock, begun_in};
 ghost use Rattle.doc_sets.specs.declared.dictionary_lookup.Lookup.TheVariants.{Documents, Places};
 ghost use Rattle.leaf_search.specs.FileRanges.{AddsParts};
 ghost use Rattle.leaf_search.specs.Needs.{AreFound, IsFound, IsWalkFound};
 
+use crate::column_ranges::name_column;
+use crate::fields::field_at;
 use crate::file_ranges::Ranges;
 use crate::joining::name_part;
 use doc_sets::{LeafError, Lookup, Wanted, term_at};
 use doc_value::Schema;
-use split_bundle::PartView;
-use std::alloc::AllocError;
+use split_bundle::{PartView, Pieces};
+use std::alloc::{AllocError, Global};
 use term_dict::{TermInfo, TermRange};
 
 const DICTIONARY: u8 = 2;
@@ -211,13 +214,39 @@ fn name_walk_lists(
     Ok(())
 }
 
-// Names the lists of what is looked up.
+// Names the column of a field if it is a fast one.
+fn name_values(
+    alloc: Global,
+    part: &PartView,
+    schema: &Schema,
+    ranges: &mut Ranges,
+    number: usize,
+) -> Result<(), AllocError>
+    requires { length schema.now.fields ≤ 256 }
+    ensures { (documents : List Placed) (p : Parts) → IsPartOf part.now schema.now documents p
+        → OnOk result (AddsParts (IsColumnFor part.now schema.now p number) ranges.old ranges.new) }
+{
+    match field_at(schema, number) {
+        Some(field) => {
+            if !field.fast {
+                return Ok(());
+            }
+            let bare = PartView::gather(part.footer().copy(alloc)?, Pieces::vacant(alloc));
+            name_column(&bare, schema, ranges, number)
+        }
+        None => Ok(()),
+    }
+}
+
+// Names the lists and the columns of what is looked up.
 fn name_lookup_lists(
+    alloc: Global,
     part: &PartView,
     schema: &Schema,
     ranges: &mut Ranges,
     lookup: &Lookup,
 ) -> Result<(), LeafError>
+    requires { length schema.now.fields ≤ 256 }
     ensures only { (documents : List Placed) (p : Parts) → IsSearched part.now schema.now documents p
         → MatchResult result (λ u. AddsParts (AsksListOf part.now schema.now documents p lookup.now) ranges.old ranges.new) (HasCause (AsksBlockOf part.now schema.now documents p lookup.now) part.now.pieces) }
     ensures read { IfOk result (λ u. IsFound part.now lookup.now) }
@@ -227,22 +256,28 @@ fn name_lookup_lists(
         Lookup::Documents(key) => name_key_list(part, ranges, key.as_slice()),
         Lookup::Places(key) => name_key_places(part, schema, ranges, key.as_slice()),
         Lookup::Walk(prefix, wanted) => name_walk_lists(part, ranges, prefix.as_slice(), *wanted),
+        Lookup::Values(number, _range) => {
+            name_values(alloc, part, schema, ranges, *number)?;
+            Ok(())
+        }
     }
 }
 
-// Names the lists of all that is looked up.
+// Names the lists and the columns of all that is looked up.
 pub(crate) fn name_lists(
+    alloc: Global,
     part: &PartView,
     schema: &Schema,
     ranges: &mut Ranges,
     lookups: &[Lookup],
 ) -> Result<(), LeafError>
+    requires { length schema.now.fields ≤ 256 }
     ensures only { (documents : List Placed) (p : Parts) → IsSearched part.now schema.now documents p
         → MatchResult result (λ u. AddsParts (AsksLists part.now schema.now documents p lookups.now) ranges.old ranges.new) (HasCause (AsksBlocks part.now schema.now documents p lookups.now) part.now.pieces) }
     ensures read { IfOk result (λ u. AreFound part.now lookups.now) }
 {
     for lookup in lookups {
-        name_lookup_lists(part, schema, ranges, lookup)?;
+        name_lookup_lists(alloc, part, schema, ranges, lookup)?;
     }
     Ok(())
 }

@@ -10,6 +10,7 @@ ghost use Rattle.leaf_search.specs.Answers.{IsAsked};
 ghost use Rattle.leaf_search.specs.FileRanges.{AddsParts, AreApart, AreRangesOf};
 ghost use Rattle.leaf_search.specs.Needs.{AreFound, NeedsBlocks, NeedsDocuments, NeedsLists};
 ghost use Rattle.leaf_search.specs.Counts as counts;
+ghost use Rattle.leaf_search.specs.Shown.{NeedsListed};
 
 use crate::block_ranges::name_blocks;
 use crate::column_ranges::name_columns;
@@ -37,14 +38,14 @@ pub fn blocks_needed(
     // Over any footer.
     ensures apart { IfOk result AreApart }
 {
-    let lookups = request_lookups(alloc, schema, request)?;
+    let lookups = request_lookups(alloc, footer, schema, request)?;
     let mut ranges = Ranges::vacant(alloc);
     name_blocks(footer, &mut ranges, lookups.as_slice())?;
     joined(alloc, ranges)
 }
 
 // Names the section of documents where hits are wanted.
-fn name_documents(
+pub(crate) fn name_documents(
     part: &PartView,
     request: &LeafRequest,
     ranges: &mut Ranges,
@@ -55,6 +56,30 @@ fn name_documents(
         return Ok(());
     }
     name_part(ranges, 4, part.footer().sections().documents)
+}
+
+/// The lists, positions and columns that a request asks for, as ranges that rise and do not touch. The view needs the ranges of
+/// `blocks_needed`.
+pub fn lists_and_columns(
+    alloc: Global,
+    schema: &Schema,
+    request: &LeafRequest,
+    view: &PartView,
+) -> Result<Ranges, LeafError>
+    requires { length schema.now.fields ≤ 256 }
+    // Of a split of documents: the ranges of exactly these parts, or want of memory, or that no piece has a block that is asked for.
+    ensures only { (documents : List Placed) (p : Parts) → IsPartOf view.now schema.now documents p → IsAsked schema.now request.now
+        → MatchResult result (AreRangesOf (NeedsListed view.now schema.now documents p request.now)) (HasCause (NeedsBlocks view.now schema.now documents p request.now) view.now.pieces) }
+    // Over any bytes.
+    ensures apart { IfOk result AreApart }
+    // The dictionary is read at each key whose list is named.
+    ensures read { IfOk result (λ r. AreFound view.now (counts.request_lookups view.now.footer schema.now request.now)) }
+{
+    let lookups = request_lookups(alloc, view.footer(), schema, request)?;
+    let mut ranges = Ranges::vacant(alloc);
+    name_lists(alloc, view, schema, &mut ranges, lookups.as_slice())?;
+    name_columns(alloc, view, schema, request, &mut ranges)?;
+    Ok(joined(alloc, ranges)?)
 }
 
 /// The lists, positions and columns that a request asks for, and the section of documents where hits are wanted, as ranges that
@@ -72,11 +97,11 @@ pub fn lists_needed(
     // Over any bytes.
     ensures apart { IfOk result AreApart }
     // The dictionary is read at each key whose list is named.
-    ensures read { IfOk result (λ r. AreFound view.now (counts.request_lookups schema.now request.now)) }
+    ensures read { IfOk result (λ r. AreFound view.now (counts.request_lookups view.now.footer schema.now request.now)) }
 {
-    let lookups = request_lookups(alloc, schema, request)?;
+    let lookups = request_lookups(alloc, view.footer(), schema, request)?;
     let mut ranges = Ranges::vacant(alloc);
-    name_lists(view, schema, &mut ranges, lookups.as_slice())?;
+    name_lists(alloc, view, schema, &mut ranges, lookups.as_slice())?;
     name_columns(alloc, view, schema, request, &mut ranges)?;
     name_documents(view, request, &mut ranges)?;
     Ok(joined(alloc, ranges)?)

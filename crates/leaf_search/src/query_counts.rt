@@ -29,8 +29,8 @@ fn set_count(
 ) -> Result<u32, LeafError>
     requires { length schema.now.fields ≤ 256 }
     ensures only { (documents : List Placed) (p : Parts) → IsSearched part.now schema.now documents p → CanAsk schema.now (view query.now)
-        → MatchResult result (λ n. n ≡ length (filter (λ d. meaning schema.now d.doc (view query.now)) documents)) (LacksLookups part.now schema.now documents p (lookups_of schema.now (view query.now))) }
-    ensures reads { ReadsAll part.now (lookups_of schema.now (view query.now)) result }
+        → MatchResult result (λ n. n ≡ length (filter (λ d. meaning schema.now d.doc (view query.now)) documents)) (LacksLookups part.now schema.now documents p (lookups_of part.now.footer schema.now (view query.now))) }
+    ensures reads { ReadsAll part.now (lookups_of part.now.footer schema.now (view query.now)) result }
 {
     let bits = matching(alloc, part.footer().index(), part, schema, query)?;
     Ok(bits.count())
@@ -45,8 +45,8 @@ fn plain_count(
 ) -> Result<u32, LeafError>
     requires { length schema.now.fields ≤ 256 }
     ensures only { (documents : List Placed) (p : Parts) → IsSearched part.now schema.now documents p → CanAsk schema.now (view query.now)
-        → MatchResult result (λ n. n ≡ length (filter (λ d. meaning schema.now d.doc (view query.now)) documents)) (LacksLookups part.now schema.now documents p (lookups_of schema.now (view query.now))) }
-    ensures reads { ReadsAll part.now (plain_lookups schema.now (view query.now)) result }
+        → MatchResult result (λ n. n ≡ length (filter (λ d. meaning schema.now d.doc (view query.now)) documents)) (LacksLookups part.now schema.now documents p (lookups_of part.now.footer schema.now (view query.now))) }
+    ensures reads { ReadsAll part.now (plain_lookups part.now.footer schema.now (view query.now)) result }
 {
     match one_key(alloc, schema, query)? {
         Some(key) => key_count(part, key.as_slice()),
@@ -63,8 +63,8 @@ pub(crate) fn matching_count(
 ) -> Result<u32, LeafError>
     requires { length schema.now.fields ≤ 256 }
     ensures only { (documents : List Placed) (p : Parts) → IsSearched part.now schema.now documents p → CanAsk schema.now (view query.now)
-        → MatchResult result (λ n. n ≡ length (filter (λ d. meaning schema.now d.doc (view query.now)) documents)) (LacksLookups part.now schema.now documents p (lookups_of schema.now (view query.now))) }
-    ensures reads { ReadsAll part.now (count_lookups schema.now (view query.now)) result }
+        → MatchResult result (λ n. n ≡ length (filter (λ d. meaning schema.now d.doc (view query.now)) documents)) (LacksLookups part.now schema.now documents p (lookups_of part.now.footer schema.now (view query.now))) }
+    ensures reads { ReadsAll part.now (count_lookups part.now.footer schema.now (view query.now)) result }
 {
     match query {
         Query::Not(inner) => {

@@ -57,6 +57,8 @@ impl ObjectStore for CountedStore {
 
     ghost fault_count = { λ s. s.store.plan.faults };
 
+    ghost given = { λ s. s.store.given };
+
     fn create(&mut self, alloc: Global, key: &Key, content: &[u8]) -> Result<(), CreateError> {
         self.store.create(alloc, key, content)
     }
@@ -597,8 +599,8 @@ fn each_call_fails_alone(rt: HostRuntime) -> Result<(), Fail> {
         }
     }
     // In each way: a list and a get at opening, three creates of the indexer, and the search's gets of what stands behind the
-    // footer, the footer, a block of the dictionary, the documents and a list.
-    assert_eq!(rt; failed, 40);
+    // footer, the footer, a block of the dictionary, a list, where the documents start, and the documents.
+    assert_eq!(rt; failed, 44);
     Ok(())
 }
 
@@ -656,5 +658,65 @@ fn a_count_on_serve_fetches_little(rt: HostRuntime) -> Result<(), Fail> {
     assert_eq!(rt; [none, first, second], [0, 1, 2]);
     assert!(rt; is_more(before, once, 79));
     assert!(rt; is_more(once, twice, 45));
+    Ok(())
+}
+
+// A log of forty records, each of some five hundred bytes and of a level of its own.
+fn add_levels(alloc: Global, logs: &mut Vec<MemoryLog>) -> Result<(), Fail> {
+    add_log(alloc, logs)?;
+    for level in 10..50u32 {
+        let level = format!(in alloc; "p0 {{\"level\":\"{level}\",\"body\":\"")?;
+        let mut record = Vec::new(alloc);
+        add_text(&mut record, level.as_str())?;
+        add_long(&mut record, "500")?;
+        add_text(&mut record, "\"}")?;
+        add_record(alloc, logs, str::from_utf8(record.as_slice()).unwrap_or(""))?;
+    }
+    Ok(())
+}
+
+const PAGE: &str =
+    "client a {\"search\":{\"query\":\"*\",\"sort_by\":\"level\",\"max_hits\":2}}\nclient a\nclient a\nclient a\n";
+
+// What `serve` does of so many searches for a page of two of these records: how many replies find all forty, and how many bytes the
+// store gave of split files.
+fn pages_served<Rt: Threads + Wait + Sync>(
+    rt: &Rt,
+    alloc: Global,
+    searches: u32,
+) -> Result<(u32, u64), Fail> {
+    let mut row = Row::begin(alloc, "a page")?;
+    let replies = pages_in(rt, alloc, &mut row, searches);
+    let given = row.store.given;
+    mem::drop(row);
+    Ok((replies?, given))
+}
+
+fn pages_in<Rt: Threads + Wait + Sync>(
+    rt: &Rt,
+    alloc: Global,
+    row: &mut Row,
+    searches: u32,
+) -> Result<u32, Fail> {
+    add_counts(&mut row.schedule, 0)?;
+    for _ in 0..searches {
+        add_text(&mut row.schedule, PAGE)?;
+    }
+    add_levels(alloc, &mut row.logs)?;
+    let ended = row.does(rt, alloc)?;
+    let replies = lines_with(ended.written(), "\"num_hits\":40,");
+    mem::drop(ended);
+    Ok(replies)
+}
+
+// The split has more than 20,000 bytes of documents. For a page of two in the order of a column so few are fetched: the two
+// documents and where they stand, the footer and the column.
+#[test]
+fn a_page_on_serve_fetches_its_documents(rt: HostRuntime) -> Result<(), Fail> {
+    let alloc = rt.alloc();
+    let (none, before) = pages_served(&rt, alloc, 0)?;
+    let (first, once) = pages_served(&rt, alloc, 1)?;
+    assert_eq!(rt; [none, first], [0, 1]);
+    assert!(rt; is_more(before, once, 3000));
     Ok(())
 }

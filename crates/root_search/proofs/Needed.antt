@@ -1,5 +1,5 @@
 -- What is fetched of a split is what is needed.
-use Rattle.std.proofs.Common.{◌≡◌, ◌≤◌, ◌==◌, ◌&&◌, ℕ, zero, suc, ◌+◌, max, Bool, true, false, List, [], ◌++◌, length, refl, ap, sym, ◌∙◌, subst, arith, Option, Some, None, Ok, length-append}
+use Rattle.std.proofs.Common.{◌≡◌, ◌≤◌, ◌==◌, ◌&&◌, ℕ, zero, suc, ◌+◌, max, Bool, true, false, List, [], ◌++◌, length, refl, ap, sym, ◌∙◌, subst, arith, Option, Some, None, Result, Ok, Err, IsErrAnd, MatchOption, MatchResult, append_assoc, length-append}
 use Rattle.std.specs.Prelude.{is_some}
 use Rattle.std.proofs.lemmas.Bool.{eqb-true}
 use Rattle.std.proofs.lemmas.List.{length-map, map-append}
@@ -11,7 +11,9 @@ use Rattle.index_world.specs.declared.tokens.Plan.{Plan}
 use Rattle.source_log.specs.Log.{Log}
 use Rattle.index_world.specs.Configuration.{configuration}
 use Rattle.leaf_search.specs.FileRanges.{AreRangesOf, total}
-use Rattle.leaf_search.specs.Needs.{NeedsBlocks, NeedsLists}
+use Rattle.leaf_search.specs.Answers.{IsAsked}
+use Rattle.leaf_search.specs.Needs.{NeedsBlocks}
+use Rattle.leaf_search.specs.Shown.{AreFew, NeedsShown, NeedsStarts, are_few}
 use Rattle.leaf_search.specs.declared.file_ranges.FileRange.{FileRange}
 use Rattle.leaf_search.specs.declared.request.LeafRequest.{LeafRequest}
 use Rattle.split_bundle.specs.Files.{Parts, file_bytes}
@@ -22,11 +24,14 @@ use Rattle.split_bundle.specs.declared.footer.Footer.{Footer}
 use Rattle.split_bundle.specs.declared.part_view.PartView.{PartView}
 use Rattle.split_bundle.specs.declared.placed.Placed.{Placed}
 use Rattle.doc_value.specs.declared.schema.Schema.{Schema}
-use Rattle.root_search.specs.Fetching.{AreBlocksFetched, AreListsFetched, FetchesAs, IsFileAt, IsFooterFetched, IsLooked, IsPartFetched, footer_calls, footer_drawn, needed_calls, part_calls}
-use Rattle.root_search.specs.SplitParts.{HoldsBlocks, IsFooterIn, over, piece_at, pieces_at}
+use Rattle.root_search.specs.Fetching.{AreBlocksFetched, AreListsFetched, AreShownFetched, AreStartsNamed, FetchesAs, IsFileAt, IsFooterFetched, IsLooked, IsPartFetched, WantsRoom, footer_calls, footer_drawn, needed_calls, part_calls}
+use Rattle.root_search.specs.SplitParts.{HoldsBlocks, HoldsListed, HoldsStarts, IsFooterIn, over, piece_at, pieces_at}
+use Rattle.root_search.specs.declared.fetching.FetchError.{FetchError}
+use Rattle.root_search.specs.declared.fetching.ShownStarts.{ShownStarts}
 use Rattle.root_search.specs.declared.split_parts.KeptPiece.{KeptPiece}
 use Rattle.root_search.specs.declared.split_parts.SplitPart.{SplitPart}
-use Rattle.root_search.proofs.Fetches.{AddsMore, all_done, file_stands, made_of, then_given}
+use Rattle.root_search.proofs.Fetches.{AddsMore, all_done, file_stands, made_of, then_failed, then_given}
+use Rattle.root_search.proofs.SameFooters.{starts_alike}
 use Rattle.root_search.proofs.Stands.{configured_after}
 
 -- a core has one configuration
@@ -53,37 +58,84 @@ pub many_kept : (pieces : List KeptPiece) (file : List ℕ) (ranges : List FileR
 many_kept pieces file ranges same = ap (λ (l : List KeptPiece). length l) same ∙ length-map ranges (piece_at file)
 
 -- and further ones behind them
-all_kept : (pieces kept : List KeptPiece) (file : List ℕ) (blocks lists : List FileRange) → kept ≡ pieces_at file blocks → pieces ≡ kept ++ pieces_at file lists → pieces ≡ pieces_at file (blocks ++ lists)
+pub all_kept : (pieces kept : List KeptPiece) (file : List ℕ) (blocks lists : List FileRange) → kept ≡ pieces_at file blocks → pieces ≡ kept ++ pieces_at file lists → pieces ≡ pieces_at file (blocks ++ lists)
 all_kept pieces kept file blocks lists k m = m ∙ (ap (λ (l : List KeptPiece). l ++ pieces_at file lists) k ∙ sym (map-append (piece_at file) blocks lists))
 
-count_kept : (calls : ℕ) (pieces kept : List KeptPiece) (file : List ℕ) (lists : List FileRange) → pieces ≡ kept ++ pieces_at file lists → calls + length kept + length lists ≡ calls + length pieces
-count_kept calls pieces kept file lists m =
-    omega (arith, ap (λ (l : List KeptPiece). length l) m, length-append kept (pieces_at file lists), length-map lists (piece_at file))
+-- and those behind these
+pub further_kept : (old mid new : List KeptPiece) (file : List ℕ) (one two : List FileRange) → mid ≡ old ++ pieces_at file one → new ≡ mid ++ pieces_at file two → new ≡ old ++ pieces_at file (one ++ two)
+further_kept old mid new file one two a b =
+    b ∙ (ap (λ (l : List KeptPiece). l ++ pieces_at file two) a ∙ (append_assoc old (pieces_at file one) (pieces_at file two) ∙ ap (λ (l : List KeptPiece). old ++ l) (sym (map-append (piece_at file) one two))))
 
-drawn_together : (footer blocks lists : ℕ) → footer + blocks + lists ≤ footer + (blocks + lists)
-drawn_together footer blocks lists = omega arith
+-- the blocks and the lists behind them are held
+pub lists_held : (s : Schema) (r : LeafRequest) (documents : List Placed) (p : Parts) (footer : Footer) (kept listed : List KeptPiece) (many drawn : ℕ) → HoldsBlocks s r documents p footer kept → AreListsFetched s r documents p footer kept listed many drawn → HoldsListed s r documents p footer listed
+lists_held s r documents p footer kept listed many drawn b l =
+    record { blocks = b.blocks; listed = l.lists; are_blocks = b.are_blocks; are_listed = l.are_lists; pieces = all_kept listed kept (file_bytes p) b.blocks l.lists b.pieces l.pieces_are }
 
--- a footer, the blocks and then the lists are what a request needs
-part_fetched : (s : Schema) (r : LeafRequest) (known : Option Footer) (documents : List Placed) (p : Parts) (number : ℕ) (footer : Footer) (kept pieces : List KeptPiece) → IsSplitOf s documents p → IsFooterOf p footer → IsFooterIn (file_bytes p) footer
-    → (held : HoldsBlocks s r documents p footer kept) → (lists : List FileRange) → AreRangesOf (NeedsLists (over footer) s documents p r) lists → pieces ≡ kept ++ pieces_at (file_bytes p) lists
-    → IsPartFetched s r known documents p (needed_calls known) (record { number = number; footer = footer; pieces = pieces }) (footer_calls known + length kept + length lists) (footer_drawn known p + total held.blocks + total lists)
-part_fetched s r known documents p number footer kept pieces is foot file held lists are pieces_are =
+count_kept : (calls : ℕ) (pieces listed kept : List KeptPiece) (file : List ℕ) (lists starts shown : List FileRange) → listed ≡ kept ++ pieces_at file lists → pieces ≡ listed ++ pieces_at file (starts ++ shown)
+    → calls + length kept + length lists + (length starts + length shown) ≡ calls + length pieces
+count_kept calls pieces listed kept file lists starts shown l m =
+    omega (
+      arith,
+      ap (λ (ks : List KeptPiece). length ks) l,
+      ap (λ (ks : List KeptPiece). length ks) m,
+      length-append kept (pieces_at file lists),
+      length-append listed (pieces_at file (starts ++ shown)),
+      length-map lists (piece_at file),
+      length-map (starts ++ shown) (piece_at file),
+      length-append starts shown,
+    )
+
+drawn_together : (footer blocks lists shown : ℕ) → footer + blocks + lists + shown ≤ footer + (blocks + lists + shown)
+drawn_together footer blocks lists shown = omega arith
+
+-- a footer, the blocks, then the lists, and then what is shown are what a request needs
+part_fetched : (s : Schema) (r : LeafRequest) (known : Option Footer) (documents : List Placed) (p : Parts) (number : ℕ) (footer : Footer) (kept listed pieces : List KeptPiece) (n d m e : ℕ) → IsSplitOf s documents p → IsFooterOf p footer → IsFooterIn (file_bytes p) footer
+    → (held : HoldsBlocks s r documents p footer kept) → (l : AreListsFetched s r documents p footer kept listed n d) → (w : AreShownFetched s r documents p footer listed pieces m e)
+    → IsPartFetched s r known documents p (needed_calls known) (record { number = number; footer = footer; pieces = pieces }) (footer_calls known + length kept + length l.lists + (length w.starts + length w.shown))
+    (footer_drawn known p + total held.blocks + total l.lists + (total w.starts + total w.shown))
+part_fetched s r known documents p number footer kept listed pieces n d m e is foot file held l w =
+    let before = all_kept listed kept (file_bytes p) held.blocks l.lists held.pieces l.pieces_are in
     record {
-      needed = record { parts = p; is_split = is; footer = foot; blocks = held.blocks; lists = lists; are_blocks = held.are_blocks; are_lists = are; pieces = all_kept pieces kept (file_bytes p) held.blocks lists held.pieces pieces_are };
+      needed = record {
+        parts = p;
+        is_split = is;
+        footer = foot;
+        blocks = held.blocks;
+        listed = l.lists;
+        starts = w.starts;
+        shown = w.shown;
+        are_blocks = held.are_blocks;
+        are_listed = l.are_lists;
+        are_starts = w.are_starts;
+        are_shown = w.are_shown;
+        pieces = all_kept pieces listed (file_bytes p) (held.blocks ++ l.lists) (w.starts ++ w.shown) before w.pieces_are;
+      };
       footer = file;
-      calls_are = count_kept (footer_calls known) pieces kept (file_bytes p) lists pieces_are;
-      draws = record { blocks = held.blocks; lists = lists; are_blocks = held.are_blocks; are_lists = are; few = drawn_together (footer_drawn known p) (total held.blocks) (total lists) };
+      calls_are = count_kept (footer_calls known) pieces listed kept (file_bytes p) l.lists w.starts w.shown l.pieces_are w.pieces_are;
+      draws = record {
+        blocks = held.blocks;
+        listed = l.lists;
+        starts = w.starts;
+        shown = w.shown;
+        are_blocks = held.are_blocks;
+        are_listed = l.are_lists;
+        are_starts = w.are_starts;
+        are_shown = w.are_shown;
+        few = drawn_together (footer_drawn known p) (total held.blocks) (total l.lists) (total w.starts + total w.shown);
+      };
     }
 
--- a footer is fetched, the blocks behind it, and the lists behind these
+-- a footer is fetched, the blocks behind it, the lists behind these, and then what is shown
 pub whole_part : {W : Type 0} (Stands : W → Core → Log → Type 0) (Between : Core → Core → Type 0) (Adds : W → List CallMade → W → Type 0) (bytes_fetched : W → ℕ) → AddsMore Adds → (config : IndexConfig) (plan : Plan) (place : ℕ) (known : Option Footer) (documents : List Placed) (p : Parts) (r : LeafRequest) (core : Core) (log : Log)
-    (number : ℕ) (footer : Footer) (kept pieces : List KeptPiece) (old mid further new : W) → IsConfigured config core → (file : IsFileAt core (grace_of config plan).until plan place (file_bytes p)) → IsSplitOf config.schema documents p
+    (number : ℕ) (footer : Footer) (kept listed pieces : List KeptPiece) (old mid further behind new : W) → IsConfigured config core → (file : IsFileAt core (grace_of config plan).until plan place (file_bytes p)) → IsSplitOf config.schema documents p
     → FetchesAs (grace_of config plan) file.row.number Stands Between Adds bytes_fetched (IsFooterFetched known p) (Ok footer) core log old mid
     → (IsFooterOf p footer → (after : Core) → Stands mid after log → IsConfigured config after → (there : IsFileAt after (grace_of config plan).until plan place (file_bytes p)) → FetchesAs (grace_of config plan) there.row.number Stands Between Adds bytes_fetched (AreBlocksFetched config.schema r documents p footer) (Ok kept) after log mid further)
     → (IsFooterOf p footer → (after : Core) → Stands further after log → IsConfigured config after → (there : IsFileAt after (grace_of config plan).until plan place (file_bytes p)) → HoldsBlocks config.schema r documents p footer kept
-    → FetchesAs (grace_of config plan) there.row.number Stands Between Adds bytes_fetched (AreListsFetched config.schema r documents p footer kept) (Ok pieces) after log further new)
+    → FetchesAs (grace_of config plan) there.row.number Stands Between Adds bytes_fetched (AreListsFetched config.schema r documents p footer kept) (Ok listed) after log further behind)
+    → (IsFooterOf p footer → (after : Core) → Stands behind after log → IsConfigured config after → (there : IsFileAt after (grace_of config plan).until plan place (file_bytes p)) → HoldsListed config.schema r documents p footer listed
+    → FetchesAs (grace_of config plan) there.row.number Stands Between Adds bytes_fetched (AreShownFetched config.schema r documents p footer listed) (Ok pieces) after log behind new)
     → FetchesAs (grace_of config plan) file.row.number Stands Between Adds bytes_fetched (IsPartFetched config.schema r known documents p (needed_calls known)) (Ok (record { number = number; footer = footer; pieces = pieces })) core log old new
-whole_part Stands Between Adds bytes_fetched adds config plan place known documents p r core log number footer kept pieces old mid further new configured file is k blocks_by lists_by =
+whole_part Stands Between Adds bytes_fetched adds config plan place known documents p r core log number footer kept listed pieces old mid further behind new configured file is k blocks_by lists_by shown_by =
     let grace = grace_of config plan in
     let row = file.row.number in
     let foot = k.says.1.is_footer config.schema documents p is refl in
@@ -91,9 +143,82 @@ whole_part Stands Between Adds bytes_fetched adds config plan place known docume
     let b = blocks_by foot one.after one.stands (configured_after core one.after config configured one.goes_on.always) (file_stands core one.after grace.until plan place (file_bytes p) one.goes_on.always file) in
     let two = then_given grace row Stands Between Adds bytes_fetched core log old adds (AreBlocksFetched config.schema r documents p footer) kept (footer_calls known) (footer_drawn known p) (length kept) (total b.says.1.held.blocks) mid further one b b.says.1.each b.says.1.few in
     let l = lists_by foot two.after two.stands (configured_after core two.after config configured two.goes_on.always) (file_stands core two.after grace.until plan place (file_bytes p) two.goes_on.always file) b.says.1.held in
-    let three = then_given grace row Stands Between Adds bytes_fetched core log old adds (AreListsFetched config.schema r documents p footer kept) pieces (footer_calls known + length kept) (footer_drawn known p + total b.says.1.held.blocks) (length l.says.1.lists) (total l.says.1.lists) further new two l l.says.1.each l.says.1.few in
-    all_done grace row Stands Between Adds bytes_fetched core log old (IsPartFetched config.schema r known documents p (needed_calls known)) (record { number = number; footer = footer; pieces = pieces }) (footer_calls known + length kept + length l.says.1.lists) (footer_drawn known p + total b.says.1.held.blocks + total l.says.1.lists) new three
-    (part_fetched config.schema r known documents p number footer kept pieces is foot k.says.1.is_footer b.says.1.held l.says.1.lists l.says.1.are_lists l.says.1.pieces_are)
+    let three = then_given grace row Stands Between Adds bytes_fetched core log old adds (AreListsFetched config.schema r documents p footer kept) listed (footer_calls known + length kept) (footer_drawn known p + total b.says.1.held.blocks) (length l.says.1.lists) (total l.says.1.lists) further behind two l l.says.1.each l.says.1.few in
+    let w = shown_by foot three.after three.stands (configured_after core three.after config configured three.goes_on.always) (file_stands core three.after grace.until plan place (file_bytes p) three.goes_on.always file)
+    (lists_held config.schema r documents p footer kept listed (length l.passages) l.drawn b.says.1.held l.says.1) in
+    let four = then_given grace row Stands Between Adds bytes_fetched core log old adds (AreShownFetched config.schema r documents p footer listed) pieces (footer_calls known + length kept + length l.says.1.lists) (footer_drawn known p + total b.says.1.held.blocks + total l.says.1.lists)
+    (length w.says.1.starts + length w.says.1.shown) (total w.says.1.starts + total w.says.1.shown) behind new three w w.says.1.each w.says.1.few in
+    all_done grace row Stands Between Adds bytes_fetched core log old (IsPartFetched config.schema r known documents p (needed_calls known)) (record { number = number; footer = footer; pieces = pieces })
+    (footer_calls known + length kept + length l.says.1.lists + (length w.says.1.starts + length w.says.1.shown)) (footer_drawn known p + total b.says.1.held.blocks + total l.says.1.lists + (total w.says.1.starts + total w.says.1.shown)) new four
+    (part_fetched config.schema r known documents p number footer kept listed pieces (length l.passages) l.drawn (length w.passages) w.drawn is foot k.says.1.is_footer b.says.1.held l.says.1 w.says.1)
+
+-- the same, where the last fetches fail
+pub lost_last : {W : Type 0} (Stands : W → Core → Log → Type 0) (Between : Core → Core → Type 0) (Adds : W → List CallMade → W → Type 0) (bytes_fetched : W → ℕ) → AddsMore Adds → (config : IndexConfig) (plan : Plan) (place : ℕ) (known : Option Footer) (documents : List Placed) (p : Parts) (r : LeafRequest) (core : Core) (log : Log)
+    (result : Result SplitPart FetchError) (e : FetchError) (footer : Footer) (kept listed : List KeptPiece) (old mid further behind new : W) → IsConfigured config core → (file : IsFileAt core (grace_of config plan).until plan place (file_bytes p)) → IsSplitOf config.schema documents p
+    → FetchesAs (grace_of config plan) file.row.number Stands Between Adds bytes_fetched (IsFooterFetched known p) (Ok footer) core log old mid
+    → (IsFooterOf p footer → (after : Core) → Stands mid after log → IsConfigured config after → (there : IsFileAt after (grace_of config plan).until plan place (file_bytes p)) → FetchesAs (grace_of config plan) there.row.number Stands Between Adds bytes_fetched (AreBlocksFetched config.schema r documents p footer) (Ok kept) after log mid further)
+    → (IsFooterOf p footer → (after : Core) → Stands further after log → IsConfigured config after → (there : IsFileAt after (grace_of config plan).until plan place (file_bytes p)) → HoldsBlocks config.schema r documents p footer kept
+    → FetchesAs (grace_of config plan) there.row.number Stands Between Adds bytes_fetched (AreListsFetched config.schema r documents p footer kept) (Ok listed) after log further behind)
+    → (IsFooterOf p footer → (after : Core) → Stands behind after log → IsConfigured config after → (there : IsFileAt after (grace_of config plan).until plan place (file_bytes p)) → HoldsListed config.schema r documents p footer listed
+    → FetchesAs (grace_of config plan) there.row.number Stands Between Adds bytes_fetched (AreShownFetched config.schema r documents p footer listed) (Err e) after log behind new)
+    → IsErrAnd result (λ y. y ≡ e)
+    → FetchesAs (grace_of config plan) file.row.number Stands Between Adds bytes_fetched (IsPartFetched config.schema r known documents p (needed_calls known)) result core log old new
+lost_last Stands Between Adds bytes_fetched adds config plan place known documents p r core log result e footer kept listed old mid further behind new configured file is k blocks_by lists_by shown_by h =
+    let grace = grace_of config plan in
+    let row = file.row.number in
+    let foot = k.says.1.is_footer config.schema documents p is refl in
+    let one = made_of grace row Stands Between Adds bytes_fetched core log old (IsFooterFetched known p) footer (footer_calls known) (footer_drawn known p) mid k k.says.1.calls k.says.1.few in
+    let b = blocks_by foot one.after one.stands (configured_after core one.after config configured one.goes_on.always) (file_stands core one.after grace.until plan place (file_bytes p) one.goes_on.always file) in
+    let two = then_given grace row Stands Between Adds bytes_fetched core log old adds (AreBlocksFetched config.schema r documents p footer) kept (footer_calls known) (footer_drawn known p) (length kept) (total b.says.1.held.blocks) mid further one b b.says.1.each b.says.1.few in
+    let l = lists_by foot two.after two.stands (configured_after core two.after config configured two.goes_on.always) (file_stands core two.after grace.until plan place (file_bytes p) two.goes_on.always file) b.says.1.held in
+    let three = then_given grace row Stands Between Adds bytes_fetched core log old adds (AreListsFetched config.schema r documents p footer kept) listed (footer_calls known + length kept) (footer_drawn known p + total b.says.1.held.blocks) (length l.says.1.lists) (total l.says.1.lists) further behind two l l.says.1.each l.says.1.few in
+    let w = shown_by foot three.after three.stands (configured_after core three.after config configured three.goes_on.always) (file_stands core three.after grace.until plan place (file_bytes p) three.goes_on.always file)
+    (lists_held config.schema r documents p footer kept listed (length l.passages) l.drawn b.says.1.held l.says.1) in
+    then_failed grace row Stands Between Adds bytes_fetched core log old adds (AreShownFetched config.schema r documents p footer listed) (IsPartFetched config.schema r known documents p (needed_calls known)) e result (footer_calls known + length kept + length l.says.1.lists)
+    (footer_drawn known p + total b.says.1.held.blocks + total l.says.1.lists) behind new three h w
+
+-- what is named goes by the footer
+pub starts_alike_named : (v w : PartView) (s : Schema) (r : LeafRequest) (documents : List Placed) (named : Result ShownStarts FetchError) → v.footer ≡ w.footer → MatchResult named (AreStartsNamed v s r documents) WantsRoom
+    → MatchResult named (AreStartsNamed w s r documents) WantsRoom
+starts_alike_named v w s r documents (Ok named) same h = record { few = h.few; starts = starts_alike v w s documents r named.starts same h.starts }
+starts_alike_named v w s r documents (Err e) same h = h
+
+-- the starts were fetched behind the lists and the columns
+pub record AreStartsKept (s : Schema) (r : LeafRequest) (documents : List Placed) (p : Parts) (footer : Footer) (named : ShownStarts) (listed pieces kept : List KeptPiece) : Type 0 where
+  pub few : MatchOption named.few (are_few s r documents ≡ false) (λ ns. AreFew s r documents ns.items)
+  pub are : AreRangesOf (NeedsStarts (over footer) s documents r) named.starts
+  pub pieces_are : pieces ≡ listed ++ pieces_at (file_bytes p) named.starts
+  pub holds : HoldsStarts s r documents p footer kept
+
+pub starts_kept : (one config : IndexConfig) (r : LeafRequest) (documents : List Placed) (p : Parts) (footer : Footer) (named : ShownStarts) (listed at pieces kept : List KeptPiece) (slice : List FileRange) → one ≡ config → IsSplitOf config.schema documents p → IsFooterOf p footer → IsAsked config.schema r
+    → HoldsListed config.schema r documents p footer listed → at ≡ listed
+    → ((ds : List Placed) (q : Parts) → IsSplitOf one.schema ds q → IsFooterOf q footer → IsAsked one.schema r → HoldsListed one.schema r ds q footer at → AreStartsNamed (over footer) one.schema r ds named)
+    → slice ≡ named.starts → kept ≡ pieces → pieces ≡ listed ++ pieces_at (file_bytes p) slice → AreStartsKept config.schema r documents p footer named listed pieces kept
+starts_kept one config r documents p footer named listed at pieces kept slice same is foot asked holds at_is step slice_is kept_is behind =
+    let there = subst (λ (ks : List KeptPiece). HoldsListed config.schema r documents p footer ks) (sym at_is) holds in
+    let n = subst (λ (x : IndexConfig). AreStartsNamed (over footer) x.schema r documents named) same
+    (step documents p (subst (λ (x : IndexConfig). IsSplitOf x.schema documents p) (sym same) is) foot (subst (λ (x : IndexConfig). IsAsked x.schema r) (sym same) asked) (subst (λ (x : IndexConfig). HoldsListed x.schema r documents p footer at) (sym same) there)) in
+    let all : pieces ≡ listed ++ pieces_at (file_bytes p) named.starts = behind ∙ ap (λ (l : List FileRange). listed ++ pieces_at (file_bytes p) l) slice_is in
+    record {
+      few = n.few;
+      are = n.starts;
+      pieces_are = all;
+      holds = record { before = holds.blocks ++ holds.listed; starts = named.starts; are_starts = n.starts; pieces = kept_is ∙ all_kept pieces listed (file_bytes p) (holds.blocks ++ holds.listed) named.starts holds.pieces all };
+    }
+
+-- and the documents behind them
+pub shown_kept : (s : Schema) (r : LeafRequest) (documents : List Placed) (p : Parts) (footer : Footer) (named : ShownStarts) (shown : List FileRange) (listed pieces kept new : List KeptPiece) (slice : List FileRange) → AreStartsKept s r documents p footer named listed pieces kept
+    → AreRangesOf (NeedsShown s documents p r) shown → slice ≡ shown → new ≡ pieces ++ pieces_at (file_bytes p) slice → AreShownFetched s r documents p footer listed new (length named.starts + length shown) (total named.starts + total shown)
+shown_kept s r documents p footer named shown listed pieces kept new slice k are slice_is behind =
+    record {
+      starts = named.starts;
+      shown = shown;
+      are_starts = k.are;
+      are_shown = are;
+      pieces_are = further_kept listed pieces new (file_bytes p) named.starts shown k.pieces_are (behind ∙ ap (λ (l : List FileRange). pieces ++ pieces_at (file_bytes p) l) slice_is);
+      each = refl;
+      few = omega arith;
+    }
 
 -- ---- how many fetches
 
@@ -132,9 +257,13 @@ looked_part s r known documents p part given many n drawn d k h count =
       calls_are = ap (λ (m : ℕ). needed_calls known part + m) h.once ∙ count;
       draws = record {
         blocks = k.draws.blocks;
-        lists = k.draws.lists;
+        listed = k.draws.listed;
+        starts = k.draws.starts;
+        shown = k.draws.shown;
         are_blocks = k.draws.are_blocks;
-        are_lists = k.draws.are_lists;
+        are_listed = k.draws.are_listed;
+        are_starts = k.draws.are_starts;
+        are_shown = k.draws.are_shown;
         few = (let few = k.draws.few in let none = h.none in omega (arith, few, none));
       };
     })

@@ -1,5 +1,5 @@
 -- Fetches of a planned split through a gate, one after another.
-use Rattle.std.specs.Prelude.{◌≡◌, ℕ, ◌+◌, ◌≤◌, List, ◌++◌, length, max, min, take, drop, Option, Some, None, Result, Ok, Err, ⊤, slice_get}
+use Rattle.std.specs.Prelude.{◌≡◌, ℕ, ◌+◌, ◌≤◌, List, ◌++◌, length, max, min, take, drop, Option, Some, None, Result, Ok, Err, ⊤, slice_get, false, MatchOption}
 use Rattle.doc_value.specs.declared.schema.Schema.{Schema}
 use Rattle.index_world.specs.Calls.{Grace, Trouble, gives}
 use Rattle.index_world.specs.CallsMade.{CallMade}
@@ -9,11 +9,13 @@ use Rattle.index_world.specs.declared.tokens.Plan.{Plan}
 use Rattle.meta_store.specs.declared.planning.PlanRow.{PlanRow}
 use Rattle.source_log.specs.Log.{Log}
 use Rattle.leaf_search.specs.FileRanges.{AreRangesOf, total}
-use Rattle.leaf_search.specs.Needs.{NeedsBlocks, NeedsLists}
+use Rattle.leaf_search.specs.Needs.{NeedsBlocks}
+use Rattle.leaf_search.specs.Shown.{AreFew, NeedsListed, NeedsShown, NeedsStarts, are_few}
 use Rattle.leaf_search.specs.declared.file_ranges.FileRange.{FileRange}
 use Rattle.leaf_search.specs.declared.request.LeafRequest.{LeafRequest}
 use Rattle.split_bundle.specs.Files.{Parts, file_bytes, footer_bytes}
 use Rattle.split_bundle.specs.declared.footer.Footer.{Footer}
+use Rattle.split_bundle.specs.declared.part_view.PartView.{PartView}
 use Rattle.split_bundle.specs.declared.placed.Placed.{Placed}
 use Rattle.split_bundle.specs.declared.split_error.SplitError.{SplitError}
 use Rattle.split_bundle.specs.declared.split_error.SplitError.TheVariants as splits
@@ -23,6 +25,7 @@ use Rattle.root_search.specs.SplitParts.{HasNeeded, HoldsBlocks, IsFooterIn, ove
 use Rattle.root_search.specs.Steps.{Passage, fetched_at, ArePassed}
 use Rattle.root_search.specs.declared.fetching.FetchError.{FetchError}
 use Rattle.root_search.specs.declared.fetching.FetchError.TheVariants.{Memory, World, Corrupt}
+use Rattle.root_search.specs.declared.fetching.ShownStarts.{ShownStarts}
 use Rattle.root_search.specs.declared.split_parts.KeptPiece.{KeptPiece}
 use Rattle.root_search.specs.declared.split_parts.SplitPart.{SplitPart}
 
@@ -99,21 +102,41 @@ pub record AreBlocksFetched (s : Schema) (r : LeafRequest) (documents : List Pla
   pub each : many ≡ length pieces
   pub few : drawn ≤ total held.blocks
 
--- behind them the lists, the columns and the documents, each in one fetch
+-- behind them the lists and the columns, each in one fetch
 pub record AreListsFetched (s : Schema) (r : LeafRequest) (documents : List Placed) (p : Parts) (footer : Footer) (blocks pieces : List KeptPiece) (many drawn : ℕ) : Type 0 where
   pub lists : List FileRange
-  pub are_lists : AreRangesOf (NeedsLists (over footer) s documents p r) lists
+  pub are_lists : AreRangesOf (NeedsListed (over footer) s documents p r) lists
   pub pieces_are : pieces ≡ blocks ++ pieces_at (file_bytes p) lists
   pub each : many ≡ length lists
   pub few : drawn ≤ total lists
 
+-- what is named of the documents that may be shown: their numbers, where they are few, and the ranges of their starts, or else of the
+-- section of documents
+pub record AreStartsNamed (v : PartView) (s : Schema) (r : LeafRequest) (documents : List Placed) (named : ShownStarts) : Type 0 where
+  pub few : MatchOption named.few (are_few s r documents ≡ false) (λ ns. AreFew s r documents ns.items)
+  pub starts : AreRangesOf (NeedsStarts v s documents r) named.starts
+
+-- behind the lists and the columns these, and then the bytes of the few documents that may be shown, each in one fetch
+pub record AreShownFetched (s : Schema) (r : LeafRequest) (documents : List Placed) (p : Parts) (footer : Footer) (listed pieces : List KeptPiece) (many drawn : ℕ) : Type 0 where
+  pub starts : List FileRange
+  pub shown : List FileRange
+  pub are_starts : AreRangesOf (NeedsStarts (over footer) s documents r) starts
+  pub are_shown : AreRangesOf (NeedsShown s documents p r) shown
+  pub pieces_are : pieces ≡ listed ++ pieces_at (file_bytes p) (starts ++ shown)
+  pub each : many ≡ length starts + length shown
+  pub few : drawn ≤ total starts + total shown
+
 -- so few bytes are those of the footer, if it wasn't known, and of the ranges that a request needs
 pub record DrawsNeeded (s : Schema) (r : LeafRequest) (known : Option Footer) (documents : List Placed) (p : Parts) (footer : Footer) (drawn : ℕ) : Type 0 where
   pub blocks : List FileRange
-  pub lists : List FileRange
+  pub listed : List FileRange
+  pub starts : List FileRange
+  pub shown : List FileRange
   pub are_blocks : AreRangesOf (NeedsBlocks (over footer) s documents p r) blocks
-  pub are_lists : AreRangesOf (NeedsLists (over footer) s documents p r) lists
-  pub few : drawn ≤ footer_drawn known p + (total blocks + total lists)
+  pub are_listed : AreRangesOf (NeedsListed (over footer) s documents p r) listed
+  pub are_starts : AreRangesOf (NeedsStarts (over footer) s documents r) starts
+  pub are_shown : AreRangesOf (NeedsShown s documents p r) shown
+  pub few : drawn ≤ footer_drawn known p + (total blocks + total listed + (total starts + total shown))
 
 -- what a request needs of a split was fetched, and no more
 pub record IsPartFetched (s : Schema) (r : LeafRequest) (known : Option Footer) (documents : List Placed) (p : Parts) (calls : SplitPart → ℕ) (part : SplitPart) (many drawn : ℕ) : Type 0 where

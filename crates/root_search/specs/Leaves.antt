@@ -54,8 +54,8 @@ pub record IsLeafAnswer (s : Schema) (r : LeafRequest) (v : PartView) (answer : 
       → MatchResult answer (IsAnswerOf s r documents) (HasCause (AsksLeaf v s documents p r) v.pieces)
   pub there : (documents : List Placed) (p : Parts) → IsPartOf v s documents p → HaveAll (file_bytes p) v.pieces → IsAsked s r → MatchResult answer (IsAnswerOf s r documents) IsMemory
   pub counted : IfOk answer (IsCounted r)
-  pub read : IfOk answer (λ a. AreRead v (read_lookups s r))
-  pub faults : only_counts r ≡ true → ReadsAll v (read_lookups s r) answer
+  pub read : IfOk answer (λ a. AreRead v (read_lookups v.footer s r))
+  pub faults : only_counts r ≡ true → ReadsAll v (read_lookups v.footer s r) answer
 
 -- how many documents an answer counts
 abbrev pub count_in : Result LeafAnswer LeafError → ℕ

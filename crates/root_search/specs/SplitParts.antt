@@ -3,7 +3,8 @@ use Rattle.std.specs.Prelude.{◌≡◌, ℕ, ◌-◌, List, [], ◌++◌, lengt
 use Rattle.std.specs.Option.{IfSome}
 use Rattle.doc_value.specs.declared.schema.Schema.{Schema}
 use Rattle.leaf_search.specs.FileRanges.{AreRangesOf}
-use Rattle.leaf_search.specs.Needs.{NeedsBlocks, NeedsLists}
+use Rattle.leaf_search.specs.Needs.{NeedsBlocks}
+use Rattle.leaf_search.specs.Shown.{NeedsListed, NeedsShown, NeedsStarts}
 use Rattle.leaf_search.specs.declared.file_ranges.FileRange.{FileRange}
 use Rattle.leaf_search.specs.declared.request.LeafRequest.{LeafRequest}
 use Rattle.split_bundle.specs.Files.{Parts, file_bytes, footer_bytes}
@@ -34,16 +35,35 @@ pub record HasNeeded (s : Schema) (r : LeafRequest) (part : SplitPart) (document
   pub is_split : IsSplitOf s documents parts
   pub footer : IsFooterOf parts part.footer
   pub blocks : List FileRange
-  pub lists : List FileRange
+  pub listed : List FileRange
+  pub starts : List FileRange
+  pub shown : List FileRange
   pub are_blocks : AreRangesOf (NeedsBlocks (over part.footer) s documents parts r) blocks
-  pub are_lists : AreRangesOf (NeedsLists (over part.footer) s documents parts r) lists
-  pub pieces : part.pieces ≡ pieces_at (file_bytes parts) (blocks ++ lists)
+  pub are_listed : AreRangesOf (NeedsListed (over part.footer) s documents parts r) listed
+  pub are_starts : AreRangesOf (NeedsStarts (over part.footer) s documents r) starts
+  pub are_shown : AreRangesOf (NeedsShown s documents parts r) shown
+  pub pieces : part.pieces ≡ pieces_at (file_bytes parts) ((blocks ++ listed) ++ (starts ++ shown))
 
 -- the blocks that the request needs are kept
 pub record HoldsBlocks (s : Schema) (r : LeafRequest) (documents : List Placed) (p : Parts) (footer : Footer) (kept : List KeptPiece) : Type 0 where
   pub blocks : List FileRange
   pub are_blocks : AreRangesOf (NeedsBlocks (over footer) s documents p r) blocks
   pub pieces : kept ≡ pieces_at (file_bytes p) blocks
+
+-- the lists and the columns too
+pub record HoldsListed (s : Schema) (r : LeafRequest) (documents : List Placed) (p : Parts) (footer : Footer) (kept : List KeptPiece) : Type 0 where
+  pub blocks : List FileRange
+  pub listed : List FileRange
+  pub are_blocks : AreRangesOf (NeedsBlocks (over footer) s documents p r) blocks
+  pub are_listed : AreRangesOf (NeedsListed (over footer) s documents p r) listed
+  pub pieces : kept ≡ pieces_at (file_bytes p) (blocks ++ listed)
+
+-- among what is kept are the starts of the documents that may be shown, where these are few
+pub record HoldsStarts (s : Schema) (r : LeafRequest) (documents : List Placed) (p : Parts) (footer : Footer) (kept : List KeptPiece) : Type 0 where
+  pub before : List FileRange
+  pub starts : List FileRange
+  pub are_starts : AreRangesOf (NeedsStarts (over footer) s documents r) starts
+  pub pieces : kept ≡ pieces_at (file_bytes p) (before ++ starts)
 
 -- a view lends what is kept
 pub record IsLentOf (kept : KeptPiece) (piece : FilePiece) : Type 0 where

@@ -1,6 +1,6 @@
 // What is fetched of a planned split: its footer, and the ranges of its file that a request needs.
 
-ghost use Rattle.std.specs.Prelude.{◌≡◌, ◌==◌, ◌&&◌, ◌+◌, ◌-◌, ◌<◌, ◌≤◌, ◌++◌, ℕ, List, [], drop, length, slice_get, None, Some, Result, Ok, Err, IfErr, IsErr, MatchResult, ⊤};
+ghost use Rattle.std.specs.Prelude.{◌≡◌, ◌==◌, ◌&&◌, ◌+◌, ◌-◌, ◌<◌, ◌≤◌, ◌++◌, ℕ, List, [], drop, length, slice_get, None, Some, Result, Ok, Err, IfErr, IsErr, MatchOption, MatchResult, ⊤, ◌≢◌, false};
 ghost use Rattle.doc_value.specs.declared.schema.Schema.{Schema};
 ghost use Rattle.index_config.specs.declared.config.IndexConfig as configs;
 ghost use Rattle.index_world.specs.Core.{Core, IsConfigured};
@@ -8,23 +8,29 @@ ghost use Rattle.index_world.specs.Gate.{grace_of};
 ghost use Rattle.doc_sets.specs.Faults.{IsMemory};
 ghost use Rattle.leaf_search.specs.Answers.{IsAsked};
 ghost use Rattle.leaf_search.specs.FileRanges.{AreRangesOf};
-ghost use Rattle.leaf_search.specs.Needs.{NeedsLists};
+ghost use Rattle.leaf_search.specs.Shown.{AreFew, NeedsListed, NeedsShown, TellsShown, are_few};
+ghost use Rattle.leaf_search.specs.declared.request.LeafRequest.{LeafRequest as Asked};
 ghost use Rattle.meta_store.specs.declared.planning.PlanRow.{PlanRow};
 ghost use Rattle.source_log.specs.Log.{Log};
 ghost use Rattle.split_bundle.specs.declared.placed.Placed.{Placed};
 ghost use Rattle.split_bundle.specs.Files.{Parts, file_bytes};
+ghost use Rattle.split_bundle.specs.Lending.{IsPartOf};
+ghost use Rattle.split_bundle.specs.Pieces.{held_in};
 ghost use Rattle.split_bundle.specs.Reading.{Held, MayGive, footer_of};
 ghost use Rattle.split_bundle.specs.Splits.{IsSplitOf};
 ghost use Rattle.split_bundle.specs.Views.{IsFooterOf, ReadsCut, held};
 ghost use Rattle.root_search.specs.FetchCalls.{AreKeptBehind, IsFaultWhere, IsFooterGiven, IsNoFooter, IsNoPart, IsPartLooked, IsPartRead, IsPieceRead, NeverRefused, ReadsAs, start_of};
-ghost use Rattle.root_search.specs.Fetching.{AreBlocksFetched, AreListsFetched, AreRangesFetched, FetchesAs, IsFileAt, IsFooterFetched, IsLooked, IsPartFetched, IsPieceFetched, IsWant, WantsRoom, needed_calls, part_calls};
-ghost use Rattle.root_search.specs.SplitParts.{HoldsBlocks, IsFile, IsFooterIn, IsKnown, StartsFooter, over};
+ghost use Rattle.root_search.specs.Fetching.{AreBlocksFetched, AreListsFetched, AreRangesFetched, AreShownFetched, AreStartsNamed, FetchesAs, IsFileAt, IsFooterFetched, IsLooked, IsPartFetched, IsPieceFetched, IsWant, WantsRoom, needed_calls, part_calls};
+ghost use Rattle.root_search.specs.SplitParts.{HoldsBlocks, HoldsListed, HoldsStarts, IsFile, IsFooterIn, IsKnown, StartsFooter, over};
 
 use crate::split_parts::{KeptPiece, KeptPieces, SplitPart, lent_pieces};
 use doc_sets::LeafError;
 use doc_value::Schema;
 use index_world::{Gate, Plan, WorldError};
-use leaf_search::{FileRange, LeafRequest, Ranges, blocks_needed, lists_needed};
+use leaf_search::{
+    FileRange, LeafRequest, Ranges, blocks_needed, documents_needed, lists_and_columns,
+    shown_documents, starts_needed,
+};
 use split_bundle::{Footer, PartView, SplitError};
 use std::alloc::{AllocError, Global};
 use std::mem;
@@ -209,7 +215,7 @@ fn leaf_fault(fault: LeafError) -> FetchError
     }
 }
 
-// The ranges of the lists, the columns and the documents that a request needs, of a split whose blocks were fetched.
+// The ranges of the lists and the columns that a request needs, of a split whose blocks were fetched.
 fn lists_of(
     alloc: Global,
     schema: &Schema,
@@ -220,12 +226,12 @@ fn lists_of(
     requires { length schema.now.fields ≤ 256 }
     ensures step { (documents : List Placed) (p : Parts) → IsSplitOf schema.now documents p → IsFooterOf p footer.now → IsAsked schema.now request.now →
         HoldsBlocks schema.now request.now documents p footer.now blocks.now →
-        MatchResult result (AreRangesOf (NeedsLists (over footer.now) schema.now documents p request.now)) WantsRoom }
+        MatchResult result (AreRangesOf (NeedsListed (over footer.now) schema.now documents p request.now)) WantsRoom }
     ensures fault { IfErr result (IsFaultWhere ⊤) }
 {
     let pieces = lent_pieces(alloc, blocks)?;
     let view = PartView::gather(footer.copy(alloc)?, pieces);
-    let lists = lists_needed(alloc, schema, request, &view);
+    let lists = lists_and_columns(alloc, schema, request, &view);
     mem::drop(view);
     match lists {
         Ok(lists) => Ok(lists),
@@ -254,7 +260,7 @@ fn fetch_blocks<G: Gate>(
     Ok(pieces)
 }
 
-// Fetches the lists, the columns and the documents that a request needs, behind the blocks.
+// Fetches the lists and the columns that a request needs, behind the blocks.
 fn fetch_lists<G: Gate>(
     alloc: Global,
     gate: &mut G,
@@ -278,7 +284,114 @@ fn fetch_lists<G: Gate>(
     Ok(pieces)
 }
 
-// What a request needs of a split: its footer, if it isn't known yet, the blocks of its dictionary, and then its lists.
+// Which documents of a split may be shown, where they are few, and the ranges of their starts, or else of the section of documents.
+#[derive(Drop)]
+struct ShownStarts {
+    few: Option<Vec<u32>>,
+    starts: Ranges,
+}
+
+// The starts that are named of a split, by its view.
+fn starts_in(
+    alloc: Global,
+    schema: &Schema,
+    request: &LeafRequest,
+    view: &PartView,
+) -> Result<ShownStarts, FetchError>
+    requires { length schema.now.fields ≤ 256 }
+    ensures step { (documents : List Placed) (p : Parts) → IsPartOf view.now schema.now documents p → IsAsked schema.now request.now →
+        ((at len : ℕ) → TellsShown view.now schema.now documents p request.now at len → held_in view.now.pieces at len ≢ None) →
+        MatchResult result (AreStartsNamed view.now schema.now request.now documents) WantsRoom }
+    ensures fault { IfErr result (IsFaultWhere ⊤) }
+{
+    match shown_documents(alloc, schema, request, view) {
+        Ok(few) => {
+            let starts = starts_needed(alloc, request, view, &few)?;
+            Ok(ShownStarts { few, starts })
+        }
+        Err(fault) => Err(leaf_fault(fault)),
+    }
+}
+
+// The same, of a split whose lists and columns were fetched.
+fn starts_of(
+    alloc: Global,
+    schema: &Schema,
+    request: &LeafRequest,
+    footer: &Footer,
+    listed: &[KeptPiece],
+) -> Result<ShownStarts, FetchError>
+    requires { length schema.now.fields ≤ 256 }
+    ensures step { (documents : List Placed) (p : Parts) → IsSplitOf schema.now documents p → IsFooterOf p footer.now → IsAsked schema.now request.now →
+        HoldsListed schema.now request.now documents p footer.now listed.now →
+        MatchResult result (AreStartsNamed (over footer.now) schema.now request.now documents) WantsRoom }
+    ensures fault { IfErr result (IsFaultWhere ⊤) }
+{
+    let pieces = lent_pieces(alloc, listed)?;
+    let view = PartView::gather(footer.copy(alloc)?, pieces);
+    let named = starts_in(alloc, schema, request, &view);
+    mem::drop(view);
+    named
+}
+
+// The ranges of the few documents that may be shown, of a split of which their starts were fetched.
+fn documents_of(
+    alloc: Global,
+    footer: &Footer,
+    kept: &[KeptPiece],
+    few: &Option<Vec<u32>>,
+) -> Result<Ranges, FetchError>
+    ensures step { (s : Schema) (r : Asked) (documents : List Placed) (p : Parts) → IsSplitOf s documents p → IsFooterOf p footer.now → HoldsStarts s r documents p footer.now kept.now →
+        MatchOption few.now (are_few s r documents ≡ false) (λ ns. AreFew s r documents ns.items) →
+        MatchResult result (AreRangesOf (NeedsShown s documents p r)) WantsRoom }
+    ensures fault { IfErr result (IsFaultWhere ⊤) }
+{
+    let pieces = lent_pieces(alloc, kept)?;
+    let view = PartView::gather(footer.copy(alloc)?, pieces);
+    let shown = documents_needed(alloc, &view, few);
+    mem::drop(view);
+    match shown {
+        Ok(shown) => Ok(shown),
+        Err(fault) => Err(leaf_fault(fault)),
+    }
+}
+
+// Fetches what is needed only to show hits, behind the lists and the columns: where the documents that may be shown are few their starts
+// and then their bytes, and else the section of documents.
+fn fetch_shown<G: Gate>(
+    alloc: Global,
+    gate: &mut G,
+    plan: &Plan,
+    place: u32,
+    request: &LeafRequest,
+    footer: &Footer,
+    listed: KeptPieces,
+) -> Result<KeptPieces, FetchError>
+    requires { place < length plan.now.rows }
+    ensures step { (config : configs.IndexConfig) (documents : List Placed) (p : Parts) (core : Core) (log : Log) → G.Stands gate.old core log → IsConfigured config core →
+        (file : IsFileAt core (grace_of config plan.now).until plan.now place (file_bytes p)) → IsSplitOf config.schema documents p → IsFooterOf p footer.now → IsAsked config.schema request.now →
+        HoldsListed config.schema request.now documents p footer.now listed →
+        FetchesAs (grace_of config plan.now) file.row.number G.Stands G.Between G.Adds G.bytes_fetched (AreShownFetched config.schema request.now documents p footer.now listed) result core log gate.old gate.new }
+    ensures reads { ReadsAs G.Stands G.Between G.Owns G.Adds G.bytes_fetched G.told G.Answers plan.now place (AreKeptBehind listed) (λ calls. ⊤) result gate.old gate.new }
+{
+    let schema = &gate.config().schema;
+    let named = starts_of(alloc, schema, request, footer, listed.as_slice())?;
+    let mut pieces = listed;
+    fetch_ranges(
+        alloc,
+        gate,
+        plan,
+        place,
+        named.starts.as_slice(),
+        &mut pieces,
+    )?;
+    let shown = documents_of(alloc, footer, pieces.as_slice(), &named.few)?;
+    fetch_ranges(alloc, gate, plan, place, shown.as_slice(), &mut pieces)?;
+    Ok(pieces)
+}
+
+// What a request needs of a split: its footer, if it isn't known yet, the blocks of its dictionary, the lists and columns, and then what
+// is shown.
 fn fetch_needed<G: Gate>(
     alloc: Global,
     gate: &mut G,
@@ -297,7 +410,8 @@ fn fetch_needed<G: Gate>(
     let number = plan.rows.at(place as usize).number;
     let footer = footer_of(alloc, gate, plan, place, known)?;
     let blocks = fetch_blocks(alloc, gate, plan, place, request, &footer)?;
-    let pieces = fetch_lists(alloc, gate, plan, place, request, &footer, blocks)?;
+    let listed = fetch_lists(alloc, gate, plan, place, request, &footer, blocks)?;
+    let pieces = fetch_shown(alloc, gate, plan, place, request, &footer, listed)?;
     Ok(SplitPart {
         number,
         footer,

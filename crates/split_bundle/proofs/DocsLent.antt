@@ -15,6 +15,7 @@ use Rattle.split_bundle.specs.declared.layout.Sections.{Sections}
 use Rattle.split_bundle.specs.declared.pieces.FilePiece.{FilePiece}
 use Rattle.split_bundle.specs.declared.pieces.Section.{Section}
 use Rattle.split_bundle.specs.declared.pieces.Section.TheVariants.{Documents}
+use Rattle.split_bundle.specs.declared.placed.Address.{Address}
 use Rattle.split_bundle.specs.declared.placed.Placed.{Placed}
 use Rattle.split_bundle.specs.declared.split_error.SplitError.{SplitError}
 use Rattle.split_bundle.specs.declared.split_error.SplitError.TheVariants.{Memory, BadMagic, BadSection, BadVersion, Truncated}
@@ -22,12 +23,12 @@ use Rattle.split_bundle.specs.Documents.{placed_bytes, doc_bytes, weight, place_
 use Rattle.split_bundle.specs.Files.{Parts, file_bytes, footer_bytes}
 use Rattle.split_bundle.specs.Splits.{IsSplitOf, max_weight}
 use Rattle.split_bundle.specs.Views.{IsLayoutOf}
-use Rattle.split_bundle.specs.Reading.{MayGive, and_then, of_section}
+use Rattle.split_bundle.specs.Reading.{Gives, MayGive, and_then, of_section}
 use Rattle.split_bundle.specs.Pieces.{section_part, size_of, ArePieces, LendsPart}
 use Rattle.split_bundle.specs.Lending.{IsMissing}
-use Rattle.split_bundle.specs.DocReading.{bounds_in, stored_in, partition_in, doc_part, weight_in, placed_in}
+use Rattle.split_bundle.specs.DocReading.{bounds_in, stored_in, partition_in, doc_part, doc_range, range_within, weight_in, stand_in, address_in, placed_in}
 use Rattle.split_bundle.specs.Held.{IsHeld}
-use Rattle.split_bundle.specs.DocLending.{LendsDoc, LendsPlaced, starts_place, doc_place}
+use Rattle.split_bundle.specs.DocLending.{LendsDoc, LendsAddress, LendsPlaced, LendsRange, starts_place, doc_place}
 use Rattle.split_bundle.proofs.Lent.{lent_of}
 use Rattle.split_bundle.proofs.SectionBytes.{section_within}
 use Rattle.split_bundle.proofs.Footers.{length-file}
@@ -92,6 +93,16 @@ lends_both pieces starts at start bytes (Err e) part fits lends second =
     let long : length (eight start ++ eight (start + length bytes)) ≡ 16 = length-append (eight start) (eight (start + length bytes)) in
     inl (subst (λ (n : ℕ). IsMissing pieces starts n e) long lends)
 
+-- from where on a document has so many bytes
+lends_range : (pieces : List FilePiece) (starts at size area start : ℕ) (bytes : List ℕ) (first : Result (List ℕ) SplitError) → start + length bytes < 2 ^ 64 → start + length bytes ≤ size - area → at ≡ 4 + area + start
+    → LendsPart pieces starts (eight start ++ eight (start + length bytes)) first
+    → LendsRange pieces starts at (length bytes) (and_then first (λ found. and_then (of_section 1 (bounds_in found)) (range_within size area)))
+lends_range pieces starts at size area start bytes (Ok found) fits within same lends =
+    rw (lends, bounds_again start (length bytes) fits, le-ltb (size - area) (start + length bytes) within) (omega (arith, same), omega arith)
+lends_range pieces starts at size area start bytes (Err e) fits within same lends =
+    let long : length (eight start ++ eight (start + length bytes)) ≡ 16 = length-append (eight start) (eight (start + length bytes)) in
+    subst (λ (n : ℕ). IsMissing pieces starts n e) long lends
+
 abbrev got_placed : Placed → Result Placed SplitError
 got_placed d = Ok d
 
@@ -123,6 +134,24 @@ placed_by : (pieces : List FilePiece) (starts at : ℕ) (bytes : List ℕ) (d : 
     → (r : Result Placed SplitError) → MayGive {X = Placed} (λ x. x) r (and_then part read) → LendsPlaced pieces starts at (length bytes) d r
 placed_by pieces starts at bytes d read (Ok found) lends all r gives = gives_ok pieces starts at (length bytes) d r (read found) (ap read lends ∙ all) gives
 placed_by pieces starts at bytes d read (Err e) lends all r gives = gives_missing pieces starts at (length bytes) d e r lends gives
+
+abbrev got_address : Address → Result Address SplitError
+got_address a = Ok a
+
+same_address : (a b : Address) → ◌≡◌ {A = Result Address SplitError} (Ok a) (Ok b) → a ≡ b
+same_address a b h = cc
+
+same_error : (e f : SplitError) → ◌≡◌ {A = Result Address SplitError} (Err e) (Err f) → e ≡ f
+same_error e f h = cc
+
+address_by : (pieces : List FilePiece) (starts at : ℕ) (bytes : List ℕ) (d : Placed) (read : List ℕ → Result Address SplitError) (part : Result (List ℕ) SplitError) → LendsDoc pieces starts at bytes part
+    → read bytes ≡ got_address (record { partition = d.partition; offset = d.offset }) → (r : Result Address SplitError) → Gives {X = Address} (λ x. x) r (and_then part read) → LendsAddress pieces starts at (length bytes) d r
+address_by pieces starts at bytes d read (Ok found) lends all (Ok a) gives =
+    let same : a ≡ record { partition = d.partition; offset = d.offset } = same_address a (record { partition = d.partition; offset = d.offset }) (sym gives ∙ (ap read lends ∙ all)) in
+    (ap (λ (x : Address). x.partition) same, ap (λ (x : Address). x.offset) same)
+address_by pieces starts at bytes d read (Ok found) lends all (Err e) gives = absurd (let both = sym gives ∙ (ap read lends ∙ all) in cc)
+address_by pieces starts at bytes d read (Err e) lends all (Ok a) gives = absurd (cc)
+address_by pieces starts at bytes d read (Err e) lends all (Err f) gives = subst (λ (x : SplitError). Missing pieces starts at (length bytes) x) (same_error e f gives) lends
 
 pub all_at : {X : Type 0} (P : X → Type 0) (xs : List X) (number : ℕ) (x : X) → AllByRecursion P xs → slice_get xs number ≡ Some x → P x
 all_at P [] number x all here = absurd cc
@@ -170,6 +199,17 @@ module _ (s : Schema) (documents : List Placed) (p : Parts) (is : IsSplitOf s do
       lends_both pieces (starts_place number) (doc_place p documents number) start bytes (section_part Documents layout.sections pieces (8 * number) 16)
       (λ bounds. section_part Documents layout.sections pieces (8 * (layout.docs + 1) + bounds.0) (bounds.1 - bounds.0)) fits first bytes_lent
 
+  pub range_lent : LendsRange pieces (starts_place number) (doc_place p documents number) (length bytes) (doc_range layout pieces number)
+  unfolding doc_range
+  range_lent =
+      let first : LendsPart pieces (4 + 8 * number) (eight start ++ eight (start + length bytes)) (section_part Documents layout.sections pieces (8 * number) 16) =
+      lent_of p layout.sections pieces are laid.sections Documents (8 * number) 16 (eight start ++ eight (start + length bytes)) stands.starts_within stands.starts_are in
+      let each = length-each p.partitions documents in
+      let docs : layout.docs ≡ length documents = laid.docs ∙ is.docs in
+      let long : layout.sections.documents ≡ length p.documents = ap (λ (l : Sections). l.documents) laid.sections in
+      lends_range pieces (starts_place number) (doc_place p documents number) layout.sections.documents (8 * (layout.docs + 1)) start bytes (section_part Documents layout.sections pieces (8 * number) 16)
+      fits (omega (arith, stands.within, each, docs, long)) (omega (arith, each, docs)) first
+
   -- the starts and the bytes are within the file
   pub doc_within : (starts_place number + 16 ≤ length (file_bytes p)) × (doc_place p documents number + length bytes ≤ length (file_bytes p))
   doc_within = (
@@ -212,3 +252,24 @@ module _ (s : Schema) (documents : List Placed) (p : Parts) (is : IsSplitOf s do
   unfolding placed_in
   placed_lent footer same r gives =
       placed_by pieces (starts_place number) (doc_place p documents number) bytes d (read footer) (doc_part layout pieces number) doc_lent (ap (λ (l : List ℕ). read l bytes) same ∙ doc_read) r gives
+
+  -- where its record stands
+  abbrev read_address : List ℕ → List ℕ → Result Address SplitError
+  read_address footer found = and_then (of_section 1 (stand_in found)) (λ head. and_then (partition_in footer layout.partitions head.0) (λ name. Ok (record { partition = name; offset = head.1 })))
+
+  address_read : read_address (footer_bytes p) bytes ≡ got_address (record { partition = d.partition; offset = d.offset })
+  unfolding stand_in
+  address_read =
+      let among = partition_stands documents p.partitions number d is.partitions here in
+      let held = all_at IsHeld documents number d is.are_documents.held here in
+      let a = number_again bytes 0 (place_among p.partitions d.partition) (varint d.offset ++ doc_bytes d.doc) place_short refl in
+      let b = number_again bytes a.next d.offset (doc_bytes d.doc) held.offset a.stands.behind in
+      let short : length (footer_bytes p) < 2 ^ 64 = omega (arith, length-file p, is.size) in
+      let name = partition_again (footer_bytes p) short layout.partitions p.partitions (place_among p.partitions d.partition) d.partition laid.partitions is.partitions.names among in
+      rw (a.is, b.is, name) refl
+
+  pub address_lent : (footer : List ℕ) → footer ≡ footer_bytes p → (r : Result Address SplitError) → Gives {X = Address} (λ x. x) r (address_in layout footer pieces number)
+      → LendsAddress pieces (starts_place number) (doc_place p documents number) (length bytes) d r
+  unfolding address_in
+  address_lent footer same r gives =
+      address_by pieces (starts_place number) (doc_place p documents number) bytes d (read_address footer) (doc_part layout pieces number) doc_lent (ap (λ (l : List ℕ). read_address l bytes) same ∙ address_read) r gives

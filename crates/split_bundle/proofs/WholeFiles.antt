@@ -19,6 +19,7 @@ use Rattle.split_bundle.specs.declared.layout.Sections.{Sections}
 use Rattle.split_bundle.specs.declared.part_view.PartView.{PartView}
 use Rattle.split_bundle.specs.declared.pieces.FilePiece.{FilePiece}
 use Rattle.split_bundle.specs.declared.pieces.Section.TheVariants.{Dictionary, Postings, Positions, Columns}
+use Rattle.split_bundle.specs.declared.placed.Address.{Address}
 use Rattle.split_bundle.specs.declared.placed.Placed.{Placed}
 use Rattle.split_bundle.specs.declared.split_error.SplitError.{SplitError}
 use Rattle.split_bundle.specs.declared.split_error.SplitError.TheVariants.{Memory, BadMagic, BadSection, BadVersion, Truncated}
@@ -28,7 +29,7 @@ use Rattle.split_bundle.specs.Views.{held, sections_of, IsEndOf}
 use Rattle.split_bundle.specs.Reading.{MayGive, footer_of}
 use Rattle.split_bundle.specs.Pieces.{part_in, start_of, ArePieces}
 use Rattle.split_bundle.specs.Lending.{IsMissing, IsListAt, IsColumnAt, LendsBlock, LendsCursor, LendsDocuments}
-use Rattle.split_bundle.specs.DocLending.{LendsPlaced}
+use Rattle.split_bundle.specs.DocLending.{LendsAddress, LendsPlaced}
 use Rattle.split_bundle.specs.Heads.{head_in}
 use Rattle.split_bundle.specs.Wholes.{whole_of, HaveAll, IsWholePiece, HasWhole, ReadsWhole, IsThere}
 use Rattle.split_bundle.proofs.Footers.{FooterStands, footer_stands, whole_is, length-file}
@@ -145,6 +146,14 @@ placed_there file pieces starts at len d (Err (Truncated n)) starts_within withi
 ]
 placed_there file pieces starts at len d (Err (BadSection n)) starts_within within all lends = absurd lends
 placed_there file pieces starts at len d (Err (BadVersion n)) starts_within within all lends = absurd lends
+
+pub address_there : (file : List ℕ) (pieces : List FilePiece) (starts at len : ℕ) (d : Placed) (r : Result Address SplitError) → starts + 16 ≤ length file → at + len ≤ length file → HaveAll file pieces
+    → LendsAddress pieces starts at len d r → IsOk r
+address_there file pieces starts at len d (Ok a) starts_within within all lends = refl
+address_there file pieces starts at len d (Err e) starts_within within all lends = absurd (elim lends [
+  | inl missing ↦ never_missing file pieces starts 16 e all starts_within missing
+  | inr missing ↦ never_missing file pieces at len e all within missing
+])
 
 pub column_not_missing : (p : Parts) (sections : Sections) (pieces : List FilePiece) (rows : List ColumnRow) (kind : Kind) (start end : ℕ) (e : SplitError) → sections ≡ sections_of p → IsColumnAt p kind rows start end → HaveAll (file_bytes p) pieces
     → IsMissing pieces (start_of Columns sections + start) (end - start) e → ⊥

@@ -19,6 +19,7 @@ use Rattle.split_bundle.specs.declared.layout.Layout.{Layout}
 use Rattle.split_bundle.specs.declared.layout.Table.{Table}
 use Rattle.split_bundle.specs.declared.pieces.FilePiece.{FilePiece}
 use Rattle.split_bundle.specs.declared.pieces.Section.TheVariants.{Documents}
+use Rattle.split_bundle.specs.declared.placed.Address.{Address}
 use Rattle.split_bundle.specs.declared.placed.Placed.{Placed}
 use Rattle.split_bundle.specs.declared.split_error.SplitError.{SplitError}
 use Rattle.split_bundle.specs.declared.split_error.SplitError.TheVariants.{BadSection}
@@ -130,6 +131,15 @@ doc_part layout pieces number =
     and_then (section_part Documents layout.sections pieces (8 * number) 16) (λ starts. and_then (of_section 1 (bounds_in starts))
     (λ bounds. section_part Documents layout.sections pieces (8 * (layout.docs + 1) + bounds.0) (bounds.1 - bounds.0)))
 
+-- where a document's bytes stand in the file, and how many they are, by their bounds in the area, which lies in a section of so many bytes
+abbrev pub range_within : ℕ → ℕ → ℕ × ℕ → Result (ℕ × ℕ) SplitError
+range_within size area bounds = if nat_lt (size - area) bounds.1 then Err (BadSection 1) else Ok (4 + area + bounds.0, bounds.1 - bounds.0)
+
+-- the same of the document with a number, by its start and the next one
+unfoldable pub doc_range : Layout → List FilePiece → ℕ → Result (ℕ × ℕ) SplitError
+doc_range layout pieces number =
+    and_then (section_part Documents layout.sections pieces (8 * number) 16) (λ starts. and_then (of_section 1 (bounds_in starts)) (range_within layout.sections.documents (8 * (layout.docs + 1))))
+
 -- what a document of these bytes weighs: what stands behind the place of its partition, and 257, as far as 64 bits count
 unfoldable pub weight_in : List ℕ → Result ℕ Corrupt
 weight_in bytes = number_at bytes 0 >>= λ place. Ok (min (length bytes - place.1 + 257) (2 ^ 64 - 1))
@@ -137,6 +147,19 @@ weight_in bytes = number_at bytes 0 >>= λ place. Ok (min (length bytes - place.
 -- what the document with a number weighs
 unfoldable pub weight_of : Layout → List FilePiece → ℕ → Result ℕ SplitError
 weight_of layout pieces number = and_then (doc_part layout pieces number) (λ bytes. of_section 1 (weight_in bytes))
+
+-- the place of the partition of a document of these bytes, and its offset
+unfoldable pub stand_in : List ℕ → Result (ℕ × ℕ) Corrupt
+stand_in bytes = do
+  place ← number_at bytes 0
+  offset ← number_at bytes place.1
+  Ok (place.0, offset.0)
+
+-- where the record of the document with a number stands
+unfoldable pub address_in : Layout → List ℕ → List FilePiece → ℕ → Result Address SplitError
+address_in layout footer pieces number =
+    and_then (doc_part layout pieces number) (λ bytes. and_then (of_section 1 (stand_in bytes))
+    (λ head. and_then (partition_in footer layout.partitions head.0) (λ name. Ok (record { partition = name; offset = head.1 }))))
 
 -- the document with a number
 unfoldable pub placed_in : List Field → Layout → List ℕ → List FilePiece → ℕ → Result Placed SplitError

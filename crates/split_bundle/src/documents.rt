@@ -3,12 +3,12 @@
 ghost use Rattle.std.specs.Prelude.{◌≡◌, ◌≤◌, ◌<◌, ◌+◌, ◌*◌, ◌^◌, length, IfOk};
 ghost use Rattle.byte_fields.specs.Steps.{Gives as Reads};
 ghost use Rattle.split_bundle.specs.Reading.{Gives, MayGive, IsWithin, of_section, total};
-ghost use Rattle.split_bundle.specs.DocReading.{MayRead, text_value_at, value_at, values_at, may_have, kind_at, doc_field_at, doc_fields_at, stored_in, bounds_in, name_at, partition_in, doc_part, weight_in, weight_of, placed_in};
+ghost use Rattle.split_bundle.specs.DocReading.{MayRead, text_value_at, value_at, values_at, may_have, kind_at, doc_field_at, doc_fields_at, stored_in, bounds_in, name_at, partition_in, doc_part, doc_range, range_within, weight_in, weight_of, stand_in, address_in, placed_in};
 
 use crate::footer::FOOTER;
 use crate::layout::{Entry, Layout, Table, entries_behind};
 use crate::pieces::{FilePiece, Section, section_part};
-use crate::{Placed, SplitError};
+use crate::{Address, Placed, SplitError};
 use byte_fields::{
     Corrupt, FieldError, take_eight, take_flag, take_signed, take_text, take_varint,
 };
@@ -292,7 +292,8 @@ fn bounds_in(starts: &[u8]) -> Result<(u64, u64), Corrupt>
 
 // How many bytes the starts of so many documents have, with the end of the last one.
 fn starts_size(docs: u32) -> u64
-    ensures { result ≡ 8 * (docs + 1) }
+    ensures exact { result ≡ 8 * (docs + 1) }
+    ensures small { result < 2 ^ 40 }
 {
     8 * (u64::from(docs) + 1)
 }
@@ -315,6 +316,45 @@ pub(crate) fn doc_part<'a>(
             let area = starts_size(layout.docs);
             let from = area.saturating_add(start);
             section_part(pieces, sections, Section::Documents, from, end - start)
+        }
+        Err(_fault) => Err(SplitError::BadSection {
+            number: Section::Documents.number(),
+        }),
+    }
+}
+
+// Where a document's bytes stand in the file, and how many they are, by their bounds in the area behind the starts.
+fn range_within(size: u64, area: u64, start: u64, end: u64) -> Result<(u64, u64), SplitError>
+    requires rise { start ≤ end }
+    requires size { 4 + size < 2 ^ 64 }
+    requires area { area < 2 ^ 40 }
+    ensures { result ≡ range_within size area (start, end) }
+{
+    if size.saturating_sub(area) < end {
+        return Err(SplitError::BadSection {
+            number: Section::Documents.number(),
+        });
+    }
+    Ok((4 + area + start, end - start))
+}
+
+// Where the bytes of a document stand in the file, and how many they are.
+#[tactic(auto, unfolding(crate::specs::DocReading::doc_range))]
+pub(crate) fn doc_range(
+    pieces: &[FilePiece<'_>],
+    layout: &Layout,
+    number: u32,
+) -> Result<(u64, u64), SplitError>
+    requires { 4 + total layout.now.sections < 2 ^ 64 }
+    ensures { result ≡ doc_range layout.now pieces.now number }
+{
+    let sections = &layout.sections;
+    let entry = 8 * u64::from(number);
+    let starts = section_part(pieces, sections, Section::Documents, entry, 16)?;
+    match bounds_in(starts) {
+        Ok((start, end)) => {
+            let area = starts_size(layout.docs);
+            range_within(sections.documents, area, start, end)
         }
         Err(_fault) => Err(SplitError::BadSection {
             number: Section::Documents.number(),
@@ -345,6 +385,40 @@ pub(crate) fn weight_of(
     let bytes = doc_part(pieces, layout, number)?;
     match weight_in(bytes) {
         Ok(weight) => Ok(weight),
+        Err(_fault) => Err(SplitError::BadSection {
+            number: Section::Documents.number(),
+        }),
+    }
+}
+
+// The place of the partition of a document of these bytes, and its offset.
+#[tactic(auto, unfolding(crate::specs::DocReading::stand_in))]
+fn stand_in(bytes: &[u8]) -> Result<(u64, u64), Corrupt>
+    ensures { result ≡ stand_in bytes.now }
+{
+    let (place, behind) = take_varint(bytes, 0)?;
+    let (offset, _next) = take_varint(bytes, behind)?;
+    Ok((place, offset))
+}
+
+/// Where the record of the document with a number stands. Nothing behind it is read.
+#[tactic(auto, unfolding(crate::specs::DocReading::address_in))]
+pub(crate) fn address_in(
+    pieces: &[FilePiece<'_>],
+    layout: &Layout,
+    footer: &[u8],
+    number: u32,
+) -> Result<Address, SplitError>
+    requires room { 4 + total layout.now.sections < 2 ^ 64 }
+    requires within { IsWithin footer.now layout.now }
+    ensures { Gives (λ a. a) result (address_in layout.now footer.now pieces.now number) }
+{
+    let bytes = doc_part(pieces, layout, number)?;
+    match stand_in(bytes) {
+        Ok((place, offset)) => {
+            let partition = partition_in(footer, layout.partitions, place)?;
+            Ok(Address { partition, offset })
+        }
         Err(_fault) => Err(SplitError::BadSection {
             number: Section::Documents.number(),
         }),

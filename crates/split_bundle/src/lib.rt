@@ -17,7 +17,7 @@ pub use footer::Footer;
 pub use layout::{ColumnStart, Sections};
 pub use part_view::PartView;
 pub use pieces::{FilePiece, Pieces, Section};
-pub use placed::{Placed, PlacedList};
+pub use placed::{Address, Placed, PlacedList};
 pub use split_error::SplitError;
 pub use split_view::SplitView;
 pub use whole::read_split;

@@ -15,11 +15,11 @@ ghost use Rattle.split_bundle.specs.Views.{held};
 ghost use Rattle.split_bundle.specs.Reading.{Gives, MayGive};
 ghost use Rattle.split_bundle.specs.declared.pieces.Section.TheVariants as sections;
 
-use crate::documents::placed_in;
+use crate::documents::{address_in, doc_range, placed_in};
 use crate::footer::{Footer, check_head};
 use crate::parts::{block_between, cursor_over, documents_over, fast_column};
 use crate::pieces::{FilePiece, Pieces, Section};
-use crate::{Placed, SplitError};
+use crate::{Address, Placed, SplitError};
 use doc_value::Schema;
 use fast_fields::Column;
 use std::alloc::Global;
@@ -36,8 +36,8 @@ pub struct PartView<'a> {
 impl<'a> PartView<'a> {
     ghost use Rattle.split_bundle.specs.Lending.{IsPartOf, LendsBlock, LendsCursor, LendsDocuments, LendsFast, block_in, block_place, cursor_in, documents_in, column_read, parts_of, start_of_column, length_of_column};
     ghost use Rattle.split_bundle.specs.Documents.{placed_bytes};
-    ghost use Rattle.split_bundle.specs.DocReading.{placed_in};
-    ghost use Rattle.split_bundle.specs.DocLending.{LendsPlaced, starts_place, doc_place};
+    ghost use Rattle.split_bundle.specs.DocReading.{doc_range, address_in, placed_in};
+    ghost use Rattle.split_bundle.specs.DocLending.{LendsAddress, LendsPlaced, LendsRange, starts_place, doc_place};
     ghost use Rattle.split_bundle.specs.Wholes.{whole_of, HasWhole, HaveAll, ReadsWhole, IsThere};
 
     /// The view of a file with this footer, of which these pieces are there.
@@ -170,6 +170,34 @@ impl<'a> PartView<'a> {
         let pieces = self.pieces.as_slice();
         let footer = self.footer.bytes();
         fast_column(pieces, &self.footer.layout, footer, schema, number)
+    }
+
+    /// Where the record of the document with a number stands, of which nothing more is read. It takes no memory.
+    pub fn address(&self, doc: u32) -> Result<Address, SplitError>
+        requires { doc < self.now.footer.layout.docs }
+        // Of a split of documents: the partition and the offset of this document, unless no piece has where it starts and ends, or its bytes.
+        ensures only { (s : Schema) (documents : List Placed) (p : Parts) (d : Placed) → IsPartOf self.now s documents p → slice_get documents doc ≡ Some d
+            → LendsAddress self.now.pieces (starts_place doc) (doc_place p documents doc) (length (placed_bytes p.partitions d)) d result }
+        // Where the pieces have every part.
+        ensures there { (s : Schema) (documents : List Placed) (p : Parts) (d : Placed) → IsPartOf self.now s documents p → HaveAll (file_bytes p) self.now.pieces
+            → slice_get documents doc ≡ Some d → IsOk result }
+        // Over any bytes.
+        ensures exact { Gives (λ a. a) result (address_in self.now.footer.layout self.now.footer.bytes self.now.pieces doc) }
+    {
+        let pieces = self.pieces.as_slice();
+        let footer = self.footer.bytes();
+        address_in(pieces, &self.footer.layout, footer, doc)
+    }
+
+    /// Where the bytes of the document with a number stand in the file, and how many they are, by where it and the next one start.
+    pub fn doc_range(&self, doc: u32) -> Result<(u64, u64), SplitError>
+        // Of a split of documents: these, unless no piece has where it starts and ends.
+        ensures only { (s : Schema) (documents : List Placed) (p : Parts) (d : Placed) → IsPartOf self.now s documents p → slice_get documents doc ≡ Some d
+            → LendsRange self.now.pieces (starts_place doc) (doc_place p documents doc) (length (placed_bytes p.partitions d)) result }
+        // Over any bytes.
+        ensures exact { result ≡ doc_range self.now.footer.layout self.now.pieces doc }
+    {
+        doc_range(self.pieces.as_slice(), &self.footer.layout, doc)
     }
 
     /// The document with a number, read back from its bytes.

@@ -12,3 +12,10 @@ pub struct Placed {
 
 /// Placed documents in their order.
 pub type PlacedList = List<Placed>;
+
+/// Where a document's record stands: the partition, and the offset in it.
+#[derive(Clone, Copy)]
+pub struct Address {
+    pub partition: Partition,
+    pub offset: u64,
+}

@@ -5,14 +5,14 @@ ghost use Rattle.doc_tallies.specs.Picked.{AllBelow};
 
 use super::counted::terms;
 use super::fields::schema;
-use doc_tallies::{HitOrder, first_hits, within_times};
+use doc_tallies::{HitOrder, first_hits, near_of, within_times};
 use doc_value::{Schema, TimeRange};
 use split_bundle::{PartView, PlacedList, SplitError};
 use std::alloc::{AllocError, Global};
 
 /// The answer to a line: `times A B`, the documents from second A on and before B, where - is no edge; `terms N`, how many documents
 /// have each text or number of field N; `hits N K`, the first K in the order of field N, from the greatest on where a - stands before
-/// it, or of no field where N is -.
+/// it, or of no field where N is -; `near N K`, the numbers of those that may be among the first K of that order.
 pub fn answer(alloc: Global, file: &[u8], line: &str) -> Result<String, AllocError> {
     let schema = schema(alloc)?;
     match asked(alloc, &schema, file, line) {
@@ -28,6 +28,13 @@ fn asked(alloc: Global, schema: &Schema, file: &[u8], line: &str) -> Result<Stri
     match asked {
         "times" => times(alloc, schema, file, first, second),
         "terms" => terms(alloc, schema, file, first.parse::<u32>().unwrap_or(0)),
+        "near" => near(
+            alloc,
+            schema,
+            file,
+            order_of(first),
+            second.parse::<usize>().unwrap_or(0),
+        ),
         _ => hits(
             alloc,
             schema,
@@ -103,6 +110,19 @@ fn hits(
     let numbers = all_numbers(alloc, &view)?;
     let hits = first_hits(alloc, schema, &view, order, wanted, numbers.as_slice())?;
     Ok(placed(alloc, &hits)?)
+}
+
+fn near(
+    alloc: Global,
+    schema: &Schema,
+    file: &[u8],
+    order: Option<HitOrder>,
+    wanted: usize,
+) -> Result<String, SplitError> {
+    let view = PartView::whole(alloc, file)?;
+    let numbers = all_numbers(alloc, &view)?;
+    let near = near_of(alloc, schema, &view, order, wanted, numbers.as_slice())?;
+    Ok(listed(alloc, near.as_slice())?)
 }
 
 // Partitions and offsets.

@@ -30,14 +30,14 @@ all_matching-loop-each-preserved t c = record {
       let s = c.args.schema.now in
       let v = c.args.part.now in
       let x = c.each-item.result in
-      let more = lookups_of_each s (view_all (drop (c.loop-each.each-index + 1) c.args.parts.now)) in
-      c.loop-each.invariant.read (subst (AreRead v) (sym (queries_from s c.loop-each.each-index x c.args.parts.now c.loop-each-test.true c.each-item.is)) (read_both v (lookups_of s (view x)) more c.in_ok-other.ensures.reads h));
+      let more = lookups_of_each v.footer s (view_all (drop (c.loop-each.each-index + 1) c.args.parts.now)) in
+      c.loop-each.invariant.read (subst (AreRead v) (sym (queries_from v s c.loop-each.each-index x c.args.parts.now c.loop-each-test.true c.each-item.is)) (read_both v (lookups_of v.footer s (view x)) more c.in_ok-other.ensures.reads h));
   meets = λ e h.
       let s = c.args.schema.now in
       let v = c.args.part.now in
       let x = c.each-item.result in
-      let more = lookups_of_each s (view_all (drop (c.loop-each.each-index + 1) c.args.parts.now)) in
-      c.loop-each.invariant.meets e (subst (λ ls. SomeMeets v ls e) (sym (queries_from s c.loop-each.each-index x c.args.parts.now c.loop-each-test.true c.each-item.is)) (meets_others v (lookups_of s (view x)) more e h));
+      let more = lookups_of_each v.footer s (view_all (drop (c.loop-each.each-index + 1) c.args.parts.now)) in
+      c.loop-each.invariant.meets e (subst (λ ls. SomeMeets v ls e) (sym (queries_from v s c.loop-each.each-index x c.args.parts.now c.loop-each-test.true c.each-item.is)) (meets_others v (lookups_of v.footer s (view x)) more e h));
 }
 
 pub some_matching-loop-each-preserved : goal.some_matching-loop-each-preserved
@@ -55,14 +55,14 @@ some_matching-loop-each-preserved t c = record {
       let s = c.args.schema.now in
       let v = c.args.part.now in
       let x = c.each-item.result in
-      let more = lookups_of_each s (view_all (drop (c.loop-each.each-index + 1) c.args.parts.now)) in
-      c.loop-each.invariant.read (subst (AreRead v) (sym (queries_from s c.loop-each.each-index x c.args.parts.now c.loop-each-test.true c.each-item.is)) (read_both v (lookups_of s (view x)) more c.in_ok-other.ensures.reads h));
+      let more = lookups_of_each v.footer s (view_all (drop (c.loop-each.each-index + 1) c.args.parts.now)) in
+      c.loop-each.invariant.read (subst (AreRead v) (sym (queries_from v s c.loop-each.each-index x c.args.parts.now c.loop-each-test.true c.each-item.is)) (read_both v (lookups_of v.footer s (view x)) more c.in_ok-other.ensures.reads h));
   meets = λ e h.
       let s = c.args.schema.now in
       let v = c.args.part.now in
       let x = c.each-item.result in
-      let more = lookups_of_each s (view_all (drop (c.loop-each.each-index + 1) c.args.parts.now)) in
-      c.loop-each.invariant.meets e (subst (λ ls. SomeMeets v ls e) (sym (queries_from s c.loop-each.each-index x c.args.parts.now c.loop-each-test.true c.each-item.is)) (meets_others v (lookups_of s (view x)) more e h));
+      let more = lookups_of_each v.footer s (view_all (drop (c.loop-each.each-index + 1) c.args.parts.now)) in
+      c.loop-each.invariant.meets e (subst (λ ls. SomeMeets v ls e) (sym (queries_from v s c.loop-each.each-index x c.args.parts.now c.loop-each-test.true c.each-item.is)) (meets_others v (lookups_of v.footer s (view x)) more e h));
 }
 
 pub all_matching-returns-in_err-other-clause-only : goal.all_matching-returns-in_err-other-clause-only
@@ -74,8 +74,8 @@ all_matching-returns-in_err-other-clause-only t c = λ documents p is can.
     let e = c.in_err-other.field-0.0 in
     let lt = c.loop-each-test.true in
     let cause = c.in_err-other.ensures.only documents p is (can_at s x qs c.loop-each.each-index lt c.each-item.is can) in
-    handed_on (IsSetOf (λ d. all_hold s d (view_all qs)) documents) (LacksLookups v s documents p (lookups_of_each s (view_all qs))) c.from_residual-in_err-other.result e c.from_residual-in_err-other.ensures.1
-    (cause_wider (AsksLookups v s documents p (lookups_of s (view x))) (AsksLookups v s documents p (lookups_of_each s (view_all qs))) v.pieces e (asked_at v s documents p x qs c.loop-each.each-index lt c.each-item.is) cause)
+    handed_on (IsSetOf (λ d. all_hold s d (view_all qs)) documents) (LacksLookups v s documents p (lookups_of_each v.footer s (view_all qs))) c.from_residual-in_err-other.result e c.from_residual-in_err-other.ensures.1
+    (cause_wider (AsksLookups v s documents p (lookups_of v.footer s (view x))) (AsksLookups v s documents p (lookups_of_each v.footer s (view_all qs))) v.pieces e (asked_at v s documents p x qs c.loop-each.each-index lt c.each-item.is) cause)
 
 pub some_matching-returns-in_err-other-clause-only : goal.some_matching-returns-in_err-other-clause-only
 some_matching-returns-in_err-other-clause-only t c = λ documents p is can.
@@ -86,8 +86,8 @@ some_matching-returns-in_err-other-clause-only t c = λ documents p is can.
     let e = c.in_err-other.field-0.0 in
     let lt = c.loop-each-test.true in
     let cause = c.in_err-other.ensures.only documents p is (can_at s x qs c.loop-each.each-index lt c.each-item.is can) in
-    handed_on (IsSetOf (λ d. some_hold s d (view_all qs)) documents) (LacksLookups v s documents p (lookups_of_each s (view_all qs))) c.from_residual-in_err-other.result e c.from_residual-in_err-other.ensures.1
-    (cause_wider (AsksLookups v s documents p (lookups_of s (view x))) (AsksLookups v s documents p (lookups_of_each s (view_all qs))) v.pieces e (asked_at v s documents p x qs c.loop-each.each-index lt c.each-item.is) cause)
+    handed_on (IsSetOf (λ d. some_hold s d (view_all qs)) documents) (LacksLookups v s documents p (lookups_of_each v.footer s (view_all qs))) c.from_residual-in_err-other.result e c.from_residual-in_err-other.ensures.1
+    (cause_wider (AsksLookups v s documents p (lookups_of v.footer s (view x))) (AsksLookups v s documents p (lookups_of_each v.footer s (view_all qs))) v.pieces e (asked_at v s documents p x qs c.loop-each.each-index lt c.each-item.is) cause)
 
 pub all_matching-returns-clause-only : goal.all_matching-returns-clause-only
 all_matching-returns-clause-only t c = λ documents p is can.
@@ -157,13 +157,13 @@ all_matching-returns-in_err-other-clause-reads t c =
     let i = c.loop-each.each-index in
     let qs = c.args.parts.now in
     let e = c.in_err-other.field-0.0 in
-    met v (lookups_of_each s (view_all qs)) c.from_residual-in_err-other.result e c.from_residual-in_err-other.ensures.1
-    (met_wider v (lookups_of s (view x)) (lookups_of_each s (view_all qs)) e
-    (λ g h. c.loop-each.invariant.meets g (subst (λ ls. SomeMeets v ls g) (sym (queries_from s i x qs c.loop-each-test.true c.each-item.is)) (meets_first v (lookups_of s (view x)) (lookups_of_each s (view_all (drop (i + 1) qs))) g h))) c.in_err-other.ensures.reads)
+    met v (lookups_of_each v.footer s (view_all qs)) c.from_residual-in_err-other.result e c.from_residual-in_err-other.ensures.1
+    (met_wider v (lookups_of v.footer s (view x)) (lookups_of_each v.footer s (view_all qs)) e
+    (λ g h. c.loop-each.invariant.meets g (subst (λ ls. SomeMeets v ls g) (sym (queries_from v s i x qs c.loop-each-test.true c.each-item.is)) (meets_first v (lookups_of v.footer s (view x)) (lookups_of_each v.footer s (view_all (drop (i + 1) qs))) g h))) c.in_err-other.ensures.reads)
 
 pub all_matching-returns-clause-reads : goal.all_matching-returns-clause-reads
 all_matching-returns-clause-reads t c =
-    c.loop-each.invariant.read (subst (λ qs. AreRead c.args.part.now (lookups_of_each c.args.schema.now (view_all qs))) (sym (none_behind c.args.parts.now c.loop-each.each-index c.loop-each-test.false)) tt)
+    c.loop-each.invariant.read (subst (λ qs. AreRead c.args.part.now (lookups_of_each c.args.part.now.footer c.args.schema.now (view_all qs))) (sym (none_behind c.args.parts.now c.loop-each.each-index c.loop-each-test.false)) tt)
 
 pub some_matching-loop-each-init : goal.some_matching-loop-each-init
 some_matching-loop-each-init t c = record {
@@ -181,13 +181,13 @@ some_matching-returns-in_err-other-clause-reads t c =
     let i = c.loop-each.each-index in
     let qs = c.args.parts.now in
     let e = c.in_err-other.field-0.0 in
-    met v (lookups_of_each s (view_all qs)) c.from_residual-in_err-other.result e c.from_residual-in_err-other.ensures.1
-    (met_wider v (lookups_of s (view x)) (lookups_of_each s (view_all qs)) e
-    (λ g h. c.loop-each.invariant.meets g (subst (λ ls. SomeMeets v ls g) (sym (queries_from s i x qs c.loop-each-test.true c.each-item.is)) (meets_first v (lookups_of s (view x)) (lookups_of_each s (view_all (drop (i + 1) qs))) g h))) c.in_err-other.ensures.reads)
+    met v (lookups_of_each v.footer s (view_all qs)) c.from_residual-in_err-other.result e c.from_residual-in_err-other.ensures.1
+    (met_wider v (lookups_of v.footer s (view x)) (lookups_of_each v.footer s (view_all qs)) e
+    (λ g h. c.loop-each.invariant.meets g (subst (λ ls. SomeMeets v ls g) (sym (queries_from v s i x qs c.loop-each-test.true c.each-item.is)) (meets_first v (lookups_of v.footer s (view x)) (lookups_of_each v.footer s (view_all (drop (i + 1) qs))) g h))) c.in_err-other.ensures.reads)
 
 pub some_matching-returns-clause-reads : goal.some_matching-returns-clause-reads
 some_matching-returns-clause-reads t c =
-    c.loop-each.invariant.read (subst (λ qs. AreRead c.args.part.now (lookups_of_each c.args.schema.now (view_all qs))) (sym (none_behind c.args.parts.now c.loop-each.each-index c.loop-each-test.false)) tt)
+    c.loop-each.invariant.read (subst (λ qs. AreRead c.args.part.now (lookups_of_each c.args.part.now.footer c.args.schema.now (view_all qs))) (sym (none_behind c.args.parts.now c.loop-each.each-index c.loop-each-test.false)) tt)
 
 pub matching-returns-in-And-clause-reads : goal.matching-returns-in-And-clause-reads
 matching-returns-in-And-clause-reads t c =

@@ -17,8 +17,8 @@ invariant-all_matching-loop-each l = record {
   size : l.bits.size ≡ l.part.footer.layout.docs;
   only : (documents : List Placed) (p : Parts) → IsSearched l.part l.schema documents p → CanAskEach l.schema (view_all l.parts)
       → (test : List DocField → Bool) × IsSetOf test documents l.bits × ((d : List DocField) → test d && all_hold l.schema d (view_all (drop l.each-index l.parts)) ≡ all_hold l.schema d (view_all l.parts));
-  read : AreRead l.part (lookups_of_each l.schema (view_all (drop l.each-index l.parts))) → AreRead l.part (lookups_of_each l.schema (view_all l.parts));
-  meets : (e : LeafError) → SomeMeets l.part (lookups_of_each l.schema (view_all (drop l.each-index l.parts))) e → SomeMeets l.part (lookups_of_each l.schema (view_all l.parts)) e;
+  read : AreRead l.part (lookups_of_each l.part.footer l.schema (view_all (drop l.each-index l.parts))) → AreRead l.part (lookups_of_each l.part.footer l.schema (view_all l.parts));
+  meets : (e : LeafError) → SomeMeets l.part (lookups_of_each l.part.footer l.schema (view_all (drop l.each-index l.parts))) e → SomeMeets l.part (lookups_of_each l.part.footer l.schema (view_all l.parts)) e;
 }
 
 abbrev pub invariant-some_matching-loop-each : goal.invariant-some_matching-loop-each
@@ -26,6 +26,6 @@ invariant-some_matching-loop-each l = record {
   size : l.bits.size ≡ l.part.footer.layout.docs;
   only : (documents : List Placed) (p : Parts) → IsSearched l.part l.schema documents p → CanAskEach l.schema (view_all l.parts)
       → (test : List DocField → Bool) × IsSetOf test documents l.bits × ((d : List DocField) → test d || some_hold l.schema d (view_all (drop l.each-index l.parts)) ≡ some_hold l.schema d (view_all l.parts));
-  read : AreRead l.part (lookups_of_each l.schema (view_all (drop l.each-index l.parts))) → AreRead l.part (lookups_of_each l.schema (view_all l.parts));
-  meets : (e : LeafError) → SomeMeets l.part (lookups_of_each l.schema (view_all (drop l.each-index l.parts))) e → SomeMeets l.part (lookups_of_each l.schema (view_all l.parts)) e;
+  read : AreRead l.part (lookups_of_each l.part.footer l.schema (view_all (drop l.each-index l.parts))) → AreRead l.part (lookups_of_each l.part.footer l.schema (view_all l.parts));
+  meets : (e : LeafError) → SomeMeets l.part (lookups_of_each l.part.footer l.schema (view_all (drop l.each-index l.parts))) e → SomeMeets l.part (lookups_of_each l.part.footer l.schema (view_all l.parts)) e;
 }

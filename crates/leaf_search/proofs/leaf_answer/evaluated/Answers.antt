@@ -16,8 +16,8 @@ returns-in_err-bits-clause-only c = λ documents p part ask.
     let r = c.args.request.now in
     let v = c.args.view.now in
     let e = c.in_err-bits.field-0.0 in
-    handed (IsAnswerOf s r documents) (HasCause (AsksWith v s documents p r (lookups_of s (view r.query))) v.pieces) c.from_residual.result e c.from_residual.ensures.1
-    (cause_wider (AsksLookups v s documents p (lookups_of s (view r.query))) (AsksWith v s documents p r (lookups_of s (view r.query))) v.pieces e (of_lookups v s documents p r (lookups_of s (view r.query))) (c.in_err-bits.ensures.only documents p (searched v s documents p part) ask.query))
+    handed (IsAnswerOf s r documents) (HasCause (AsksWith v s documents p r (lookups_of v.footer s (view r.query))) v.pieces) c.from_residual.result e c.from_residual.ensures.1
+    (cause_wider (AsksLookups v s documents p (lookups_of v.footer s (view r.query))) (AsksWith v s documents p r (lookups_of v.footer s (view r.query))) v.pieces e (of_lookups v s documents p r (lookups_of v.footer s (view r.query))) (c.in_err-bits.ensures.only documents p (searched v s documents p part) ask.query))
 
 pub returns-in_err-bits-clause-there : goal.returns-in_err-bits-clause-there
 returns-in_err-bits-clause-there c = λ documents p part all ask.
@@ -26,7 +26,7 @@ returns-in_err-bits-clause-there c = λ documents p part all ask.
     let v = c.args.view.now in
     let e = c.in_err-bits.field-0.0 in
     handed (IsAnswerOf s r documents) IsMemory c.from_residual.result e c.from_residual.ensures.1
-    (only_memory (AsksLookups v s documents p (lookups_of s (view r.query))) (file_bytes p) v.pieces e (lookups_within v s documents p part (lookups_of s (view r.query))) all (c.in_err-bits.ensures.only documents p (searched v s documents p part) ask.query))
+    (only_memory (AsksLookups v s documents p (lookups_of v.footer s (view r.query))) (file_bytes p) v.pieces e (lookups_within v s documents p part (lookups_of v.footer s (view r.query))) all (c.in_err-bits.ensures.only documents p (searched v s documents p part) ask.query))
 
 pub returns-clause-only : goal.returns-clause-only
 returns-clause-only c = λ documents p part ask. c.listed.ensures.only documents p part ask (c.in_ok-bits.ensures.only documents p (searched c.args.view.now c.args.schema.now documents p part) ask.query)

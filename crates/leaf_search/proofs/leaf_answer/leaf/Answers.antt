@@ -8,6 +8,7 @@ use Rattle.doc_sets.proofs.Searched.{searched}
 use Rattle.leaf_search.specs.Answers.{AsksLeaf, IsAnswerOf}
 use Rattle.leaf_search.specs.Counts.{counted_key, read_lookups}
 use Rattle.leaf_search.proofs.KeyCounts.{block_memory, by_parts, counted_cause, counts, is_counted, uncounted}
+use Rattle.leaf_search.proofs.ShownSuffices.{paged_result}
 use Rattle.leaf_search.proofs.Suffices.{needed_result}
 use Rattle.leaf_search.proofs.leaf_answer.leaf.Goals as goal
 
@@ -62,6 +63,16 @@ returns-in-None-clause-needed c = λ documents p blocks lists part ask b l held_
     needed_result c.args.view.now c.args.schema.now documents p part (IsAnswerOf c.args.schema.now c.args.request.now documents) c.evaluated.result c.args.request.now blocks lists b l held_blocks held_lists
     (returns-in-None-clause-only c documents p part ask)
 
+pub returns-in-Some-clause-pages : goal.returns-in-Some-clause-pages
+returns-in-Some-clause-pages c = λ documents p blocks listed starts shown part ask b l st sh in_blocks in_listed in_starts in_shown.
+    paged_result c.args.view.now c.args.schema.now documents p part c.args.request.now blocks listed starts shown b l st sh (IsAnswerOf c.args.schema.now c.args.request.now documents) c.counted.result in_blocks in_listed in_starts in_shown
+    (returns-in-Some-clause-only c documents p part ask)
+
+pub returns-in-None-clause-pages : goal.returns-in-None-clause-pages
+returns-in-None-clause-pages c = λ documents p blocks listed starts shown part ask b l st sh in_blocks in_listed in_starts in_shown.
+    paged_result c.args.view.now c.args.schema.now documents p part c.args.request.now blocks listed starts shown b l st sh (IsAnswerOf c.args.schema.now c.args.request.now documents) c.evaluated.result in_blocks in_listed in_starts in_shown
+    (returns-in-None-clause-only c documents p part ask)
+
 pub returns-in-Some-clause-read : goal.returns-in-Some-clause-read
 returns-in-Some-clause-read c =
     let s = c.args.schema.now in
@@ -70,7 +81,7 @@ returns-in-Some-clause-read c =
     let same = c.in_ok-key.ensures in
     let some = c.in-Some.is in
     let is : counted_key s r ≡ Some c.in-Some.key = cc in
-    if_read v (read_lookups s r) c.counted.result (key_read v s r c.as_slice.result.now c.counted.result (is ∙ ap Some (sym c.as_slice.ensures)) c.counted.ensures.reads)
+    if_read v (read_lookups v.footer s r) c.counted.result (key_read v s r c.as_slice.result.now c.counted.result (is ∙ ap Some (sym c.as_slice.ensures)) c.counted.ensures.reads)
 
 pub returns-in-Some-clause-faults : goal.returns-in-Some-clause-faults
 returns-in-Some-clause-faults c = λ only.

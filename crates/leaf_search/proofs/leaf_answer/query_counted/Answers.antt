@@ -19,8 +19,8 @@ returns-in_err-count-clause-only c = λ documents p part ask.
     let r = c.args.request.now in
     let v = c.args.view.now in
     let e = c.in_err-count.field-0.0 in
-    handed (IsAnswerOf s r documents) (HasCause (AsksWith v s documents p r (lookups_of s (view r.query))) v.pieces) c.from_residual.result e c.from_residual.ensures.1
-    (cause_wider (AsksLookups v s documents p (lookups_of s (view r.query))) (AsksWith v s documents p r (lookups_of s (view r.query))) v.pieces e (of_lookups v s documents p r (lookups_of s (view r.query))) (c.in_err-count.ensures.only documents p (searched v s documents p part) ask.query))
+    handed (IsAnswerOf s r documents) (HasCause (AsksWith v s documents p r (lookups_of v.footer s (view r.query))) v.pieces) c.from_residual.result e c.from_residual.ensures.1
+    (cause_wider (AsksLookups v s documents p (lookups_of v.footer s (view r.query))) (AsksWith v s documents p r (lookups_of v.footer s (view r.query))) v.pieces e (of_lookups v s documents p r (lookups_of v.footer s (view r.query))) (c.in_err-count.ensures.only documents p (searched v s documents p part) ask.query))
 
 pub returns-in_err-count-clause-there : goal.returns-in_err-count-clause-there
 returns-in_err-count-clause-there c = λ documents p part all ask.
@@ -29,7 +29,7 @@ returns-in_err-count-clause-there c = λ documents p part all ask.
     let v = c.args.view.now in
     let e = c.in_err-count.field-0.0 in
     handed (IsAnswerOf s r documents) IsMemory c.from_residual.result e c.from_residual.ensures.1
-    (only_memory (AsksLookups v s documents p (lookups_of s (view r.query))) (file_bytes p) v.pieces e (lookups_within v s documents p part (lookups_of s (view r.query))) all (c.in_err-count.ensures.only documents p (searched v s documents p part) ask.query))
+    (only_memory (AsksLookups v s documents p (lookups_of v.footer s (view r.query))) (file_bytes p) v.pieces e (lookups_within v s documents p part (lookups_of v.footer s (view r.query))) all (c.in_err-count.ensures.only documents p (searched v s documents p part) ask.query))
 
 pub returns-clause-only : goal.returns-clause-only
 returns-clause-only c = λ documents p part ask.
@@ -43,7 +43,7 @@ returns-clause-there c = λ documents p part all ask.
 
 pub returns-in_err-count-clause-reads : goal.returns-in_err-count-clause-reads
 returns-in_err-count-clause-reads c =
-    met c.args.view.now (count_lookups c.args.schema.now (view c.args.request.now.query)) c.from_residual.result c.in_err-count.field-0.0 c.from_residual.ensures.1 c.in_err-count.ensures.reads
+    met c.args.view.now (count_lookups c.args.view.now.footer c.args.schema.now (view c.args.request.now.query)) c.from_residual.result c.in_err-count.field-0.0 c.from_residual.ensures.1 c.in_err-count.ensures.reads
 
 pub returns-clause-reads : goal.returns-clause-reads
 returns-clause-reads c = c.in_ok-count.ensures.reads

@@ -17,9 +17,9 @@ returns-in_err-others-in-Not-clause-only c = λ documents p is can.
     let v = c.args.part.now in
     let q = c.in-Not.inner.value in
     let ask : CanAsk s (view q) = subst (λ w. CanAsk s (view w)) c.in-Not.is can in
-    let cause = subst (λ w. LacksLookups v s documents p (lookups_of s (view w)) c.in_err-others-in-Not.field-0.0) c.deref.ensures (c.in_err-others-in-Not.ensures.only documents p is (subst (λ w. CanAsk s (view w)) (sym c.deref.ensures) ask)) in
-    handed (λ (n : ℕ). n ≡ length (filter (λ d. meaning s d.doc (view c.args.query.now)) documents)) (LacksLookups v s documents p (lookups_of s (view c.args.query.now)))
-    c.from_residual.result c.in_err-others-in-Not.field-0.0 c.from_residual.ensures.1 (subst (λ w. LacksLookups v s documents p (lookups_of s (view w)) c.in_err-others-in-Not.field-0.0) (sym c.in-Not.is) cause)
+    let cause = subst (λ w. LacksLookups v s documents p (lookups_of v.footer s (view w)) c.in_err-others-in-Not.field-0.0) c.deref.ensures (c.in_err-others-in-Not.ensures.only documents p is (subst (λ w. CanAsk s (view w)) (sym c.deref.ensures) ask)) in
+    handed (λ (n : ℕ). n ≡ length (filter (λ d. meaning s d.doc (view c.args.query.now)) documents)) (LacksLookups v s documents p (lookups_of v.footer s (view c.args.query.now)))
+    c.from_residual.result c.in_err-others-in-Not.field-0.0 c.from_residual.ensures.1 (subst (λ w. LacksLookups v s documents p (lookups_of v.footer s (view w)) c.in_err-others-in-Not.field-0.0) (sym c.in-Not.is) cause)
 
 pub returns-in_ok-others-in-Not-clause-only : goal.returns-in_ok-others-in-Not-clause-only
 returns-in_ok-others-in-Not-clause-only c = λ documents p is can.
@@ -35,11 +35,11 @@ returns-in_err-others-in-Not-clause-reads c =
     let s = c.args.schema.now in
     let v = c.args.part.now in
     let e = c.in_err-others-in-Not.field-0.0 in
-    met v (count_lookups s (view c.args.query.now)) c.from_residual.result e c.from_residual.ensures.1
-    (subst (λ w. MetBy v (count_lookups s (view w)) e) (sym c.in-Not.is) (subst (λ w. MetBy v (plain_lookups s (view w)) e) c.deref.ensures c.in_err-others-in-Not.ensures.reads))
+    met v (count_lookups v.footer s (view c.args.query.now)) c.from_residual.result e c.from_residual.ensures.1
+    (subst (λ w. MetBy v (count_lookups v.footer s (view w)) e) (sym c.in-Not.is) (subst (λ w. MetBy v (plain_lookups v.footer s (view w)) e) c.deref.ensures c.in_err-others-in-Not.ensures.reads))
 
 pub returns-in_ok-others-in-Not-clause-reads : goal.returns-in_ok-others-in-Not-clause-reads
 returns-in_ok-others-in-Not-clause-reads c =
     let s = c.args.schema.now in
     let v = c.args.part.now in
-    subst (λ w. AreRead v (count_lookups s (view w))) (sym c.in-Not.is) (subst (λ w. AreRead v (plain_lookups s (view w))) c.deref.ensures c.in_ok-others-in-Not.ensures.reads)
+    subst (λ w. AreRead v (count_lookups v.footer s (view w))) (sym c.in-Not.is) (subst (λ w. AreRead v (plain_lookups v.footer s (view w))) c.deref.ensures c.in_ok-others-in-Not.ensures.reads)

@@ -23,10 +23,10 @@ returns-in-Some-clause-only c = λ documents p is can.
     let some = c.in-Some.is in
     let at : one_key s q ≡ Some c.in-Some.key = cc in
     let it : one_key s q ≡ Some key = at ∙ ap Some (sym c.as_slice.ensures) in
-    by_parts (λ (n : ℕ). n ≡ length (posting_list s documents key)) (λ (n : ℕ). n ≡ length (filter (λ d. meaning s d.doc q) documents)) (HasCause (IsBlockFor v s documents p key) v.pieces) (LacksLookups v s documents p (lookups_of s q))
+    by_parts (λ (n : ℕ). n ≡ length (posting_list s documents key)) (λ (n : ℕ). n ≡ length (filter (λ d. meaning s d.doc q) documents)) (HasCause (IsBlockFor v s documents p key) v.pieces) (LacksLookups v s documents p (lookups_of v.footer s q))
     c.key_count.result
     (λ n e h. h ∙ key_counted s q key documents c.requires is.part.is_split.are_documents it can)
-    (λ e cause. cause_wider (IsBlockFor v s documents p key) (AsksLookups v s documents p (lookups_of s q)) v.pieces e (λ at len b. block_asked v s documents p q key at len it b) cause)
+    (λ e cause. cause_wider (IsBlockFor v s documents p key) (AsksLookups v s documents p (lookups_of v.footer s q)) v.pieces e (λ at len b. block_asked v s documents p q key at len it b) cause)
     (c.key_count.ensures.only s documents p is)
 
 pub returns-in-Some-clause-reads : goal.returns-in-Some-clause-reads

@@ -13,7 +13,7 @@ returns-clause-only c = λ documents p is can. c.count.ensures ∙ set_counted c
 
 pub returns-in_err-bits-clause-only : goal.returns-in_err-bits-clause-only
 returns-in_err-bits-clause-only c = λ documents p is can.
-    handed (λ (n : ℕ). n ≡ length (filter (λ d. meaning c.args.schema.now d.doc (view c.args.query.now)) documents)) (LacksLookups c.args.part.now c.args.schema.now documents p (lookups_of c.args.schema.now (view c.args.query.now)))
+    handed (λ (n : ℕ). n ≡ length (filter (λ d. meaning c.args.schema.now d.doc (view c.args.query.now)) documents)) (LacksLookups c.args.part.now c.args.schema.now documents p (lookups_of c.args.part.now.footer c.args.schema.now (view c.args.query.now)))
     c.from_residual.result c.in_err-bits.field-0.0 c.from_residual.ensures.1 (c.in_err-bits.ensures.only documents p is can)
 
 pub returns-clause-reads : goal.returns-clause-reads
@@ -21,4 +21,4 @@ returns-clause-reads c = c.in_ok-bits.ensures.reads
 
 pub returns-in_err-bits-clause-reads : goal.returns-in_err-bits-clause-reads
 returns-in_err-bits-clause-reads c =
-    met c.args.part.now (lookups_of c.args.schema.now (view c.args.query.now)) c.from_residual.result c.in_err-bits.field-0.0 c.from_residual.ensures.1 c.in_err-bits.ensures.reads
+    met c.args.part.now (lookups_of c.args.part.now.footer c.args.schema.now (view c.args.query.now)) c.from_residual.result c.in_err-bits.field-0.0 c.from_residual.ensures.1 c.in_err-bits.ensures.reads

@@ -3,7 +3,7 @@ use Rattle.index_config.specs.declared.config.IndexConfig.{IndexConfig}
 use Rattle.index_world.specs.Gate.{grace_of}
 use Rattle.leaf_search.specs.Answers.{IsAsked}
 use Rattle.leaf_search.specs.FileRanges.{AreRangesOf, total}
-use Rattle.leaf_search.specs.Needs.{NeedsLists}
+use Rattle.leaf_search.specs.Shown.{NeedsListed}
 use Rattle.leaf_search.specs.declared.file_ranges.FileRange.{FileRange}
 use Rattle.split_bundle.specs.Files.{file_bytes}
 use Rattle.split_bundle.specs.Splits.{IsSplitOf}
@@ -52,7 +52,7 @@ returns-clause-step g c = λ config documents p core log stands configured file 
     (made_of (grace_of config c.args.plan.now) file.row.number g.G.Gate.Stands g.G.Gate.Between g.G.Gate.Adds g.G.Gate.bytes_fetched core log c.args.gate.now (λ done. AreRangesFetched (file_bytes p) c.as_slice-2.result.now c.args.blocks pieces) tt (length lists) (total lists) _ f many (omega (arith, few, all)))
     (record {
       lists = lists;
-      are_lists = subst (λ (x : IndexConfig). AreRangesOf (NeedsLists (over c.args.footer.now) x.schema documents p c.args.request.now) lists) same named;
+      are_lists = subst (λ (x : IndexConfig). AreRangesOf (NeedsListed (over c.args.footer.now) x.schema documents p c.args.request.now) lists) same named;
       pieces_are = f.says.1.pieces ∙ ap (λ (l : List FileRange). c.args.blocks ++ pieces_at (file_bytes p) l) c.as_slice-2.ensures;
       each = refl;
       few = omega arith;

@@ -10,7 +10,7 @@ use Rattle.doc_sets.proofs.ReadLookups.{no_memory}
 use Rattle.doc_sets.proofs.ReadWalks.{walked_reads}
 use Rattle.doc_sets.proofs.TermWalks.{begun_keeps}
 use Rattle.doc_sets.proofs.WalkLaws.{range_walk}
-use Rattle.doc_sets.proofs.key_walks.range_documents.Goals as goal
+use Rattle.doc_sets.proofs.key_walks.walked_range.Goals as goal
 
 pub returns-clause-only : goal.returns-clause-only
 returns-clause-only c = λ s documents p is got on ordered.
