@@ -12,10 +12,10 @@ use Rattle.std.proofs.lemmas.List.Sorted.{searchable_from_sorted}
 use Rattle.split_states.specs.Answers.{Repeats}
 use Rattle.split_states.specs.Rows.{Row, row_at, change, without, without_each, rising, rising_from, row_numbers, RowsRise, IsAbove, IsPlace, IsAbsent}
 
-abbrev Order : ℕ → List ℕ → Type 0
+abbrev pub Order : ℕ → List ℕ → Type 0
 Order least numbers = rising_from least numbers ≡ true
 
-order_rest : (least n : ℕ) (numbers : List ℕ) → Order least (n ∷ numbers) → (least ≤ n) × Order (n + 1) numbers
+pub order_rest : (least n : ℕ) (numbers : List ℕ) → Order least (n ∷ numbers) → (least ≤ n) × Order (n + 1) numbers
 order_rest least n numbers h = let parts = and_parts _ (rising_from (n + 1) numbers) h in (leb-true least n parts.0, parts.1)
 
 order_cons : (least n : ℕ) (numbers : List ℕ) → least ≤ n → Order (n + 1) numbers → Order least (n ∷ numbers)
@@ -25,7 +25,7 @@ lower : (low high : ℕ) (numbers : List ℕ) → low ≤ high → Order high nu
 lower low high [] le h = refl
 lower low high (n ∷ numbers) le h = let p = order_rest high n numbers h in order_cons low n numbers (omega arith) p.1
 
-at_least : (least : ℕ) (numbers : List ℕ) (k d : ℕ) → Order least numbers → k < length numbers → least + k ≤ get_or numbers k d
+pub at_least : (least : ℕ) (numbers : List ℕ) (k d : ℕ) → Order least numbers → k < length numbers → least + k ≤ get_or numbers k d
 at_least least [] k d h lt = absurd (omega arith)
 at_least least (n ∷ numbers) zero d h lt = let p = order_rest least n numbers h in omega arith
 at_least least (n ∷ numbers) (suc k) d h lt =
@@ -33,16 +33,16 @@ at_least least (n ∷ numbers) (suc k) d h lt =
     let rest = at_least (n + 1) numbers k d p.1 (omega arith) in
     omega arith
 
-not_less : (a b : ℕ) → b ≤ a → is_lt (nat_cmp a b) ≡ false
+pub not_less : (a b : ℕ) → b ≤ a → is_lt (nat_cmp a b) ≡ false
 not_less a b le = grind (arith, nat_tests)
 
-equal_is : (a b : ℕ) → nat_cmp a b ≡ Equal → a ≡ b
+pub equal_is : (a b : ℕ) → nat_cmp a b ≡ Equal → a ≡ b
 equal_is a b e = grind (arith, nat_tests)
 
-less_is : (a b : ℕ) → nat_cmp a b ≡ Less → a < b
+pub less_is : (a b : ℕ) → nat_cmp a b ≡ Less → a < b
 less_is a b e = grind (arith, nat_tests)
 
-greater_is : (a b : ℕ) → nat_cmp a b ≡ Greater → b < a
+pub greater_is : (a b : ℕ) → nat_cmp a b ≡ Greater → b < a
 greater_is a b e = grind (arith, nat_tests)
 
 -- ---- numbers

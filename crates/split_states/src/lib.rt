@@ -3,9 +3,11 @@
 
 pub mod answers;
 pub mod facts;
+pub mod laws;
 pub mod numbers;
 pub mod refusal;
 pub mod rows;
+mod stamps;
 
 pub use answers::{may_mark, may_publish, may_raise, may_remove, may_replace, may_retire};
 pub use facts::{RowFacts, Times};

@@ -1,11 +1,15 @@
 //! The rows and how each stands.
 
-ghost use Rattle.std.specs.Prelude.{◌≡◌, ◌+◌, ◌<◌, ◌≤◌, ◌^◌, ◌++◌, ◌∷◌, [], length, max, fold, map, option_copied, slice_get, Some, OnOk, OnErr, IfOk, IfNone, IfSome, vec_len, vec_capacity};
+ghost use Rattle.std.specs.Prelude.{◌≡◌, ◌+◌, ◌<◌, ◌≤◌, ◌^◌, ◌++◌, ◌∷◌, [], List, length, max, fold, map, option_copied, option_map, slice_get, Some, OnOk, OnErr, IfOk, IfNone, IfSome, vec_len, vec_capacity};
 ghost use Rattle.source_checkpoint.specs.Deltas.{raised};
 ghost use Rattle.split_states.specs.Rows.{row_at, row_spans, row_ranges, change, change_each, without_each, joined_spans, published, marked, raised_row, replacing, ops_of, merged_ops, Row, RowsRise, IsAbove, IsPlace, IsAbsent};
+ghost use Rattle.split_states.specs.Due.{stamp_of, stale_rows, next_marked, next_due};
 
 use crate::facts::RowFacts;
 use crate::numbers::{Numbers, is_among, rise};
+use crate::stamps::{
+    Stamp, first_due, first_marked, push_stamp, restamp, stale_numbers, stamps_from,
+};
 use source_checkpoint::{Span, Spans};
 use std::alloc::{AllocError, Global};
 use std::marker::Model;
@@ -35,17 +39,19 @@ pub struct Row {
 #[derive(Drop)]
 pub struct Rows {
     list: Vec<Row>,
+    stamps: Vec<Stamp>,
 }
 
 impl Model for Rows {
-    ghost use Rattle.std.specs.Prelude.{◌-◌, vec_len, vec_capacity};
+    ghost use Rattle.std.specs.Prelude.{◌≡◌, ◌-◌, map, min, vec_len, vec_capacity};
+    ghost use Rattle.split_states.specs.Due.{stamp_of};
     ghost use Rattle.split_states.specs.Rows.{RowList, RowsRise};
 
     ghost Value = { RowList };
 
-    ghost view = { λ r. record { list = r.list.items; spare = vec_capacity r.list - vec_len r.list } };
+    ghost view = { λ r. record { list = r.list.items; spare = min (vec_capacity r.list - vec_len r.list) (vec_capacity r.stamps - vec_len r.stamps) } };
 
-    ghost invariant = { λ r. RowsRise r.list.items };
+    ghost invariant = { λ r. RowsRise r.list.items × (r.stamps.items ≡ map stamp_of r.list.items) };
 }
 
 /// The place of a number's row.
@@ -71,58 +77,72 @@ fn find_row(rows: &[Row], number: u64) -> Option<&Row>
     }
 }
 
-fn publish_row(rows: &mut [Row], number: u64)
-    requires { RowsRise rows.old }
+fn publish_row(rows: &mut [Row], stamps: &mut [Stamp], number: u64)
+    requires order { RowsRise rows.old }
+    requires stamps { stamps.old ≡ map stamp_of rows.old }
     ensures rows { rows.new ≡ change number published rows.old }
     ensures order { RowsRise rows.new }
+    ensures stamps { stamps.new ≡ map stamp_of rows.new }
 {
     if let Some(i) = place_of(rows, number) {
-        rows[i].state = RowState::Published;
+        let row = &mut rows[i];
+        row.state = RowState::Published;
+        restamp(stamps, i, row);
     }
 }
 
-fn mark_row(rows: &mut [Row], number: u64, moment: u64)
-    requires { RowsRise rows.old }
+fn mark_row(rows: &mut [Row], stamps: &mut [Stamp], number: u64, moment: u64)
+    requires order { RowsRise rows.old }
+    requires stamps { stamps.old ≡ map stamp_of rows.old }
     ensures rows { rows.new ≡ change number (marked moment) rows.old }
     ensures order { RowsRise rows.new }
+    ensures stamps { stamps.new ≡ map stamp_of rows.new }
 {
     if let Some(i) = place_of(rows, number) {
         let row = &mut rows[i];
         row.state = RowState::Marked;
         row.marked_at = moment;
+        restamp(stamps, i, row);
     }
 }
 
-fn mark_rows(rows: &mut [Row], numbers: &[u64], moment: u64)
-    requires { RowsRise rows.old }
+fn mark_rows(rows: &mut [Row], stamps: &mut [Stamp], numbers: &[u64], moment: u64)
+    requires order { RowsRise rows.old }
+    requires stamps { stamps.old ≡ map stamp_of rows.old }
     ensures rows { rows.new ≡ change_each numbers.now (marked moment) rows.old }
     ensures order { RowsRise rows.new }
+    ensures stamps { stamps.new ≡ map stamp_of rows.new }
 {
     for number in numbers {
-        mark_row(rows, *number, moment);
+        mark_row(rows, stamps, *number, moment);
     }
 }
 
+/// It changes no stamp.
 fn raise_row(rows: &mut [Row], number: u64, upto: u64)
     requires { RowsRise rows.old }
     ensures rows { rows.new ≡ change number (raised_row upto) rows.old }
     ensures order { RowsRise rows.new }
+    ensures stamps { map stamp_of rows.new ≡ map stamp_of rows.old }
 {
     if let Some(i) = place_of(rows, number) {
         rows[i].spans.raise(upto);
     }
 }
 
-fn replace_row(rows: &mut [Row], number: u64, spans: Spans, merge_ops: u64)
-    requires { RowsRise rows.old }
+fn replace_row(rows: &mut [Row], stamps: &mut [Stamp], number: u64, spans: Spans, merge_ops: u64)
+    requires order { RowsRise rows.old }
+    requires stamps { stamps.old ≡ map stamp_of rows.old }
     ensures rows { rows.new ≡ change number (replacing spans merge_ops) rows.old }
     ensures order { RowsRise rows.new }
+    ensures stamps { stamps.new ≡ map stamp_of rows.new }
 {
     if let Some(i) = place_of(rows, number) {
         let row = &mut rows[i];
         row.state = RowState::Published;
         row.spans = spans;
         row.merge_ops = merge_ops;
+        restamp(stamps, i, row);
     }
 }
 
@@ -168,6 +188,14 @@ fn drop_rows(rows: &mut Vec<Row>, numbers: &[u64])
     rows.retain(|row| !is_among(numbers, in_order, row.number));
 }
 
+/// In one pass over the stamps.
+fn drop_stamps(stamps: &mut Vec<Stamp>, numbers: &[u64])
+    ensures { (rows : List Row) → stamps.old.items ≡ map stamp_of rows → stamps.new.items ≡ map stamp_of (without_each numbers.now rows) }
+{
+    let in_order = rise(numbers);
+    stamps.retain(|stamp| !is_among(numbers, in_order, stamp.number));
+}
+
 /// Copies of these spans at the end.
 fn copy_spans(into: &mut Vec<Span>, spans: &[Span]) -> Result<(), AllocError>
     ensures { OnOk result (into.new.items ≡ into.old.items ++ spans.now) }
@@ -197,6 +225,7 @@ impl Rows {
     {
         Rows {
             list: Vec::new(alloc),
+            stamps: Vec::new(alloc),
         }
     }
 
@@ -228,11 +257,34 @@ impl Rows {
         find_row(self.list.as_slice(), number)
     }
 
+    /// The numbers of the stale rows, in the order of the rows: those that are staged, where `grace` has passed since
+    /// their Stage.
+    pub fn stale(&self, alloc: Global, now: u64, grace: u64) -> Result<Numbers, AllocError>
+        ensures { IfOk result (λ numbers. numbers ≡ stale_rows now grace self.now.list) }
+    {
+        stale_numbers(alloc, self.stamps.as_slice(), now, grace)
+    }
+
+    /// The least number from `from` on of a row that is due: it is marked, and `grace` has passed since it was.
+    pub fn next_due(&self, from: u64, now: u64, grace: u64) -> Option<u64>
+        ensures { result ≡ option_map (λ row. row.number) (next_due from now grace self.now.list) }
+    {
+        first_due(stamps_from(self.stamps.as_slice(), from), now, grace)
+    }
+
+    /// The least number from `from` on of a marked row.
+    pub fn next_marked(&self, from: u64) -> Option<u64>
+        ensures { result ≡ option_map (λ row. row.number) (next_marked from self.now.list) }
+    {
+        first_marked(stamps_from(self.stamps.as_slice(), from))
+    }
+
     /// Makes the room for one more row.
     pub fn reserve(&mut self) -> Result<(), AllocError>
         ensures same { self.new.list ≡ self.old.list }
         ensures room { OnOk result (0 < self.new.spare) }
     {
+        self.stamps.reserve(1)?;
         self.list.reserve(1)
     }
 
@@ -242,6 +294,7 @@ impl Rows {
         requires above { IsAbove self.old.list row.number }
         ensures { self.new.list ≡ self.old.list ++ row ∷ [] }
     {
+        push_stamp(&mut self.stamps, &row);
         self.list.push_reserved(row);
     }
 
@@ -249,14 +302,19 @@ impl Rows {
     pub fn publish(&mut self, number: u64)
         ensures { self.new.list ≡ change number published self.old.list }
     {
-        publish_row(self.list.as_mut_slice(), number);
+        publish_row(self.list.as_mut_slice(), self.stamps.as_mut_slice(), number);
     }
 
     /// Each of these rows is Marked at this moment.
     pub fn mark(&mut self, numbers: &Numbers, moment: u64)
         ensures { self.new.list ≡ change_each numbers.now (marked moment) self.old.list }
     {
-        mark_rows(self.list.as_mut_slice(), numbers.as_slice(), moment);
+        mark_rows(
+            self.list.as_mut_slice(),
+            self.stamps.as_mut_slice(),
+            numbers.as_slice(),
+            moment,
+        );
     }
 
     /// The spans of this row are applied up to the task at least.
@@ -270,7 +328,13 @@ impl Rows {
     pub fn replace(&mut self, number: u64, spans: Spans, merge_ops: u64)
         ensures { self.new.list ≡ change number (replacing spans merge_ops) self.old.list }
     {
-        replace_row(self.list.as_mut_slice(), number, spans, merge_ops);
+        replace_row(
+            self.list.as_mut_slice(),
+            self.stamps.as_mut_slice(),
+            number,
+            spans,
+            merge_ops,
+        );
     }
 
     /// Each of these rows is gone.
@@ -278,6 +342,7 @@ impl Rows {
         ensures { self.new.list ≡ without_each numbers.now self.old.list }
     {
         drop_rows(&mut self.list, numbers.as_slice());
+        drop_stamps(&mut self.stamps, numbers.as_slice());
     }
 
     /// Copies of the spans of the rows of these numbers, joined in their order.
