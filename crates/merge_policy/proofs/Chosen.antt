@@ -27,7 +27,7 @@ by_number one other = nat_cmp one.number other.number
 less_so : (a b : ℕ) → a < b → nat_cmp a b ≡ Less
 less_so a b h = grind (arith, nat_tests)
 
-above : (least : ℕ) (rows : List Row) → rising_from least (row_numbers rows) ≡ true → AllByRecursion (λ r. least ≤ r.number) rows
+pub above : (least : ℕ) (rows : List Row) → rising_from least (row_numbers rows) ≡ true → AllByRecursion (λ r. least ≤ r.number) rows
 above least [] h = tt
 above least (r ∷ rows) h =
     let parts = and_parts _ (rising_from (r.number + 1) (row_numbers rows)) h in

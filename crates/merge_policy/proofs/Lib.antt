@@ -5,3 +5,4 @@ pub mod Orders
 pub mod Levelled
 pub mod Chosen
 pub mod Only
+pub mod Picked

@@ -7,7 +7,7 @@ IsPermutation-same : {X : Type 0} (xs ys : List X) → xs ≡ ys → IsPermutati
 IsPermutation-same xs ys e = subst (IsPermutation xs) e (IsPermutation-refl xs)
 
 -- two pieces in front change places
-IsPermutation-exchange : {X : Type 0} (xs ys zs : List X) → IsPermutation (xs ++ (ys ++ zs)) (ys ++ (xs ++ zs))
+pub IsPermutation-exchange : {X : Type 0} (xs ys zs : List X) → IsPermutation (xs ++ (ys ++ zs)) (ys ++ (xs ++ zs))
 IsPermutation-exchange xs ys zs =
     let first : IsPermutation (xs ++ (ys ++ zs)) ((xs ++ ys) ++ zs) = IsPermutation-same _ _ (sym (append_assoc xs ys zs)) in
     let second = IsPermutation-append_left zs (xs ++ ys) (ys ++ xs) (IsPermutation-append_comm xs ys) in

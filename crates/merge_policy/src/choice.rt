@@ -3,6 +3,7 @@
 ghost use Rattle.std.specs.Prelude.{◌≡◌, map, IfOk};
 ghost use Rattle.index_config.specs.Accepted.{HasPolicyRanges, IsBetween};
 ghost use Rattle.merge_policy.specs.Choice.{IsChosen};
+ghost use Rattle.merge_policy.specs.Chosen.{chosen};
 ghost use Rattle.merge_policy.specs.Walk.{rows_of};
 
 use crate::candidate::{Candidate, candidates};
@@ -34,7 +35,8 @@ pub fn choose(
 ) -> Result<Option<Numbers>, AllocError>
     requires policy { HasPolicyRanges policy.now }
     requires target { IsBetween 1 16777216 docs_target }
-    ensures { IfOk result (IsChosen policy.now docs_target now rows.now.list) }
+    ensures choice { IfOk result (IsChosen policy.now docs_target now rows.now.list) }
+    ensures exact { IfOk result (λ numbers. numbers ≡ chosen policy.now docs_target now rows.now.list) }
 {
     let list = candidates(alloc, policy, docs_target, now, rows.as_slice())?;
     match first_merged(policy, &list) {

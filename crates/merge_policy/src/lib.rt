@@ -8,4 +8,4 @@ mod level;
 mod walk;
 
 pub use choice::choose;
-pub use laws::choice_laws;
+pub use laws::{choice_is_chosen, choice_laws};
