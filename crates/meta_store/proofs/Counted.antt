@@ -1,12 +1,16 @@
 -- The state's counters are those of the ledger, and each number is given once.
-use Rattle.std.proofs.Common.{◌≡◌, ◌+◌, ◌≤◌, Bool, true, false, List, [], ◌∷◌, length, flat_map, fold, nat_lt, sym, ◌∙◌, arith}
+use Rattle.std.proofs.Common.{◌≡◌, ℕ, ◌+◌, ◌≤◌, Bool, true, false, List, [], ◌∷◌, length, flat_map, fold, nat_lt, refl, sym, ap, ◌∙◌, arith}
+use Rattle.std.proofs.lemmas.List.{length_push}
 use Rattle.std.specs.List.{AllByRecursion}
 use Rattle.std.proofs.lemmas.List.Sorted.{sum_by-IsPermutation}
+use Rattle.meta_journal.specs.declared.entry.Act.{Act}
+use Rattle.meta_journal.specs.declared.entry.Act.TheVariants.{Fence, Create, Stage, Publish, Replace, Raise, Task, MarkStaged, Remove, Retire}
 use Rattle.meta_journal.specs.declared.entry.Entry.{Entry}
 use Rattle.meta_store.specs.History.{History, history, revision_of, moment_of, delta_of, published_numbers}
 use Rattle.meta_store.specs.History.History.{Start, ◌▸◌}
 use Rattle.meta_store.specs.Ledgers.{ledger}
-use Rattle.meta_store.specs.Readings.{Reads}
+use Rattle.meta_store.specs.Readings.{Reads, reading_of, config_of}
+use Rattle.meta_store.specs.Tasks.{tasks_of, tasks_after, asks_of, asks_after}
 use Rattle.meta_store.specs.State.{Legal}
 use Rattle.meta_store.specs.Laws.{IsCounted, IsNumbered, holds_place, all_ranges}
 use Rattle.meta_store.proofs.Kept.{kept}
@@ -27,6 +31,23 @@ moments : (h : History) (es : List Entry) → AllByRecursion (λ e. e.moment ≤
 moments h [] = tt
 moments h (e ∷ es) = (let rest = moment_grows (h ▸ e) es in omega (arith, rest), moments (h ▸ e) es)
 
+-- one is kept of each task as it was asked for
+asks_agree : (reads : Reads) (h : History) → length (asks_of h) ≡ length (tasks_of reads h)
+asks_agree reads Start = refl
+asks_agree reads (h ▸ e) = by e.act (asks_agree reads h)
+  where
+    by : (act : Act) → length (asks_of h) ≡ length (tasks_of reads h) → length (asks_after act (asks_of h)) ≡ length (tasks_after (reading_of reads (config_of reads h) act) act (tasks_of reads h))
+    by Fence same = same
+    by (Create config) same = same
+    by (Stage number delta facts) same = same
+    by (Publish number) same = same
+    by (Replace new old upto) same = same
+    by (Raise number upto) same = same
+    by (Task opstamp text fields times) same = length_push (asks_of h) _ ∙ ap (λ (n : ℕ). n + 1) same ∙ sym (length_push (tasks_of reads h) _)
+    by (MarkStaged numbers) same = same
+    by (Remove numbers) same = same
+    by (Retire numbers) same = same
+
 pub counted : (reads : Reads) (es : List Entry) → Legal reads (history es) → IsCounted reads es
 counted reads es l = by_parts (sound reads (history es) l) (tallied reads (history es) l)
   where
@@ -35,6 +56,7 @@ counted reads es l = by_parts (sound reads (history es) l) (tallied reads (histo
       revision = revisions Start es ∙ omega arith;
       moment = moments Start es;
       tasks = sym (tasks_agree reads (history es));
+      asks = asks_agree reads (history es) ∙ ap length (sym (tasks_agree reads (history es)));
       last_opstamp = rw (tasks_agree reads (history es)) (opstamps_agree reads (history es) ∙ t.last);
       spans = t.spans;
       checkpoints = s.agree;

@@ -19,3 +19,9 @@ pub mod Formed
 pub mod Kept
 pub mod TakenOut
 pub mod ByWords
+pub mod Numbers
+pub mod Raised
+pub mod GivenUp
+pub mod Staged
+pub mod Within
+pub mod Apart

@@ -146,3 +146,20 @@ published_after (Retire numbers) so_far = so_far
 abbrev pub published_numbers : History → List ℕ
 published_numbers Start = []
 published_numbers (h ▸ e) = published_after e.act (published_numbers h)
+
+-- the numbers that were ever shown, in the order of their entries: by a Publish, or as the new row of a Replace
+abbrev pub shown_after : Act → List ℕ → List ℕ
+shown_after Fence so_far = so_far
+shown_after (Create config) so_far = so_far
+shown_after (Stage number delta facts) so_far = so_far
+shown_after (Publish number) so_far = so_far ++ number ∷ []
+shown_after (Replace new old upto) so_far = so_far ++ new ∷ []
+shown_after (Raise number upto) so_far = so_far
+shown_after (AddTask opstamp text fields times) so_far = so_far
+shown_after (MarkStaged numbers) so_far = so_far
+shown_after (Remove numbers) so_far = so_far
+shown_after (Retire numbers) so_far = so_far
+
+abbrev pub shown_numbers : History → List ℕ
+shown_numbers Start = []
+shown_numbers (h ▸ e) = shown_after e.act (shown_numbers h)

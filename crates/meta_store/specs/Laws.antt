@@ -61,6 +61,7 @@ pub record IsCounted (reads : Reads) (entries : List Entry) : Type 0 where
   pub revision : (state_of reads (history entries)).revision ≡ length entries
   pub moment : AllByRecursion (λ e. e.moment ≤ (state_of reads (history entries)).moment) entries
   pub tasks : (state_of reads (history entries)).tasks ≡ (ledger reads (history entries)).tasks
+  pub asks : length (state_of reads (history entries)).asks ≡ length (ledger reads (history entries)).tasks
   pub last_opstamp : last_of (ledger reads (history entries)).tasks ≡ length (ledger reads (history entries)).tasks
   pub spans : (state_of reads (history entries)).span_count ≡ length (ledger reads (history entries)).spans
   pub checkpoints : (p : Partition) → checkpoint_at (state_of reads (history entries)).checkpoints p ≡ (ledger reads (history entries)).checkpoints p

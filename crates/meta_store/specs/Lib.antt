@@ -9,7 +9,9 @@ pub mod Lying
 pub mod State
 pub mod Room
 pub mod Answers
+pub mod Numbers
 pub mod Laws
 pub mod Words
 pub mod Contents
+pub mod Left
 pub mod Planning

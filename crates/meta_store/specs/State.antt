@@ -15,9 +15,10 @@ use Rattle.split_states.specs.Answers.{MayPublish, MayReplace, MayRaise, MayMark
 use Rattle.delete_tasks.specs.Removes.{DeleteTask}
 use Rattle.meta_store.specs.declared.config.Settings.{Settings}
 use Rattle.meta_store.specs.declared.config.Config.{Config}
+use Rattle.meta_store.specs.declared.config.TaskAsk.{TaskAsk}
 use Rattle.meta_store.specs.Said.{Said}
 use Rattle.meta_store.specs.Readings.{Reads, reading_of, config_after, config_of}
-use Rattle.meta_store.specs.Tasks.{tasks_after, tasks_of}
+use Rattle.meta_store.specs.Tasks.{tasks_after, tasks_of, asks_after, asks_of}
 use Rattle.meta_store.specs.History.{History, revision_of, moment_of, opstamp_after, last_opstamp, number_after, last_number}
 use Rattle.meta_store.specs.History.History.{Start, ◌▸◌}
 use Rattle.meta_store.specs.Retired.{with_ranges}
@@ -32,6 +33,8 @@ pub record State : Type 0 where
   -- the opstamp of the last task, 0 for none
   pub last_opstamp : ℕ
   pub tasks : List DeleteTask
+  -- the same as they were asked for
+  pub asks : List TaskAsk
   pub span_count : ℕ
   pub checkpoints : List Checkpoint
   pub rows : List Row
@@ -82,6 +85,7 @@ after reading e s = record {
   last_number = number_after e.act s.last_number;
   last_opstamp = opstamp_after e.act s.last_opstamp;
   tasks = tasks_after reading e.act s.tasks;
+  asks = asks_after e.act s.asks;
   span_count = span_count_after e.act s.rows s.span_count;
   checkpoints = checkpoints_after e.act s.rows s.checkpoints;
   rows = rows_after s.last_opstamp e.moment e.act s.rows;
@@ -109,6 +113,7 @@ state_of reads h = record {
   last_number = last_number h;
   last_opstamp = last_opstamp h;
   tasks = tasks_of reads h;
+  asks = asks_of h;
   span_count = span_count_of h;
   checkpoints = checkpoints_of h;
   rows = rows h;

@@ -1,4 +1,4 @@
--- The tasks of a history, with the queries that were read.
+-- The tasks of a history, with the queries that were read, and as they were asked for.
 use Rattle.std.specs.Prelude.{ℕ, List, [], ◌∷◌, ◌++◌, Result, Ok, Err}
 use Rattle.doc_value.specs.declared.facts.TimeRange.{TimeRange}
 use Rattle.meta_journal.specs.declared.entry.Act.{Act}
@@ -9,6 +9,7 @@ use Rattle.query_ast.specs.Sought.{Sought}
 use Rattle.query_ast.specs.Sought.Sought.{Nothing}
 use Rattle.query_reader.specs.declared.refusal.QueryError.{QueryError}
 use Rattle.delete_tasks.specs.Removes.{DeleteTask}
+use Rattle.meta_store.specs.declared.config.TaskAsk.{TaskAsk}
 use Rattle.meta_store.specs.Said.{Said}
 use Rattle.meta_store.specs.Readings.{Reads, reading_of, config_of}
 use Rattle.meta_store.specs.History.{History}
@@ -38,3 +39,20 @@ tasks_after said (Retire numbers) so_far = so_far
 abbrev pub tasks_of : Reads → History → List DeleteTask
 tasks_of reads Start = []
 tasks_of reads (h ▸ e) = tasks_after (reading_of reads (config_of reads h) e.act) e.act (tasks_of reads h)
+
+-- the same as they were asked for
+abbrev pub asks_after : Act → List TaskAsk → List TaskAsk
+asks_after Fence so_far = so_far
+asks_after (Create config) so_far = so_far
+asks_after (Stage number delta facts) so_far = so_far
+asks_after (Publish number) so_far = so_far
+asks_after (Replace new old upto) so_far = so_far
+asks_after (Raise number upto) so_far = so_far
+asks_after (AddTask opstamp text fields times) so_far = so_far ++ record { text = text; fields = fields } ∷ []
+asks_after (MarkStaged numbers) so_far = so_far
+asks_after (Remove numbers) so_far = so_far
+asks_after (Retire numbers) so_far = so_far
+
+abbrev pub asks_of : History → List TaskAsk
+asks_of Start = []
+asks_of (h ▸ e) = asks_after e.act (asks_of h)

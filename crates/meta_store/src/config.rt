@@ -1,6 +1,6 @@
 //! What is kept of the configuration, and what the readers of texts say of an entry.
 
-use byte_fields::Bytes;
+use byte_fields::{Bytes, Text, Texts};
 use index_config::{ConfigError, IndexConfig};
 use query_ast::Query;
 use query_reader::QueryError;
@@ -19,6 +19,13 @@ pub struct Settings {
 pub struct Config {
     pub text: Bytes,
     pub settings: Settings,
+}
+
+/// A task as it was asked for: the text of its query, and the paths of its default fields.
+#[derive(Drop)]
+pub struct TaskAsk {
+    pub text: Text,
+    pub fields: Texts,
 }
 
 /// What the readers of texts say of one entry: of a Create what its configuration says, or what is wrong with its

@@ -1,11 +1,11 @@
 //! What holds of every legal history. Each law is the contract of a function that does nothing.
 
-ghost use Rattle.std.specs.Prelude.{ℕ, List, None, Some, IsOk, ◌↔◌, take, IsPermutation, ◌≡◌, ◌++◌, ◌∷◌, []};
+ghost use Rattle.std.specs.Prelude.{ℕ, Bool, true, List, None, Some, IsOk, ◌↔◌, take, map, IsPermutation, ◌≡◌, ◌≤◌, ◌++◌, ◌∷◌, []};
 ghost use Rattle.std.specs.List.{AllByRecursion};
 ghost use Rattle.meta_journal.specs.declared.entry.Entry.{Entry};
 ghost use Rattle.delete_tasks.specs.Removes.{DeleteTask};
 ghost use Rattle.delete_tasks.specs.Ledger.{MayAdd};
-ghost use Rattle.meta_store.specs.History.{history};
+ghost use Rattle.meta_store.specs.History.{history, last_opstamp};
 ghost use Rattle.meta_store.specs.Ledgers.{ledger};
 ghost use Rattle.meta_store.specs.Rows.{rows};
 ghost use Rattle.meta_store.specs.State.{State, Legal, MayFollow, Follows, state_of};
@@ -18,6 +18,16 @@ ghost use Rattle.meta_journal.specs.declared.entry.Act.{Act};
 ghost use Rattle.meta_journal.specs.declared.entry.Act.TheVariants.{Retire};
 ghost use Rattle.meta_store.specs.Laws.{Once, IsCounted, IsNumbered, IsFormed};
 ghost use Rattle.meta_store.specs.Contents.{Meaning, Placed, visible, contents, published_contents, taken_out, IsTakenFrom};
+ghost use Rattle.meta_store.specs.Left.{left_over, LieApart, HasMarks};
+ghost use Rattle.meta_store.specs.Numbers.{is_shown, IsAllowed, IsGivenUp, HasStaged, IsPlaced};
+ghost use Rattle.delete_tasks.specs.Removed.{covered_by};
+ghost use Rattle.source_checkpoint.specs.Deltas.{raised};
+ghost use Rattle.source_checkpoint.specs.declared.delta.Part.{Part};
+ghost use Rattle.split_states.specs.Answers.{IsIn, AreApart};
+ghost use Rattle.split_states.specs.Rows.{raised_row, replacing, joined_spans};
+ghost use Rattle.split_states.specs.declared.facts.RowFacts.{RowFacts};
+ghost use Rattle.split_states.specs.declared.rows.Row.{Row};
+ghost use Rattle.split_states.specs.declared.rows.RowState.TheVariants.{Published};
 
 /// Every legal history keeps each record once, at each of its revisions.
 pub fn once()
@@ -87,4 +97,39 @@ pub fn only_old_records_are_retired()
         Follows reading settings (state_of reads h) moment (Retire numbers) →
         (period : ℕ) × (settings.period ≡ Some period) × ((meaning : Meaning Placed) (records : List Placed) →
         AllByRecursion (IsTakenFrom meaning reads h moment period numbers) (taken_out meaning reads h numbers records)) }
+{}
+
+/// What a Raise and a Replace leave of contents: the same list without what tasks up to the raise cover.
+pub fn raises_leave()
+    ensures raise { (meaning : Meaning Placed) (tasks : List DeleteTask) (records : List Placed) (upto : ℕ) (row : Row) →
+        contents meaning tasks records (raised_row upto row) ≡ left_over meaning tasks records upto row.spans }
+    ensures replace { (meaning : Meaning Placed) (tasks : List DeleteTask) (records : List Placed) (upto ops : ℕ) (rows : List Row) (old : List ℕ) (row : Row) →
+        contents meaning tasks records (replacing (map (raised upto) (joined_spans rows old)) ops row) ≡ left_over meaning tasks records upto (joined_spans rows old) }
+{}
+
+/// Each row of a legal history is staged and was not shown, or is published and was, and the spans of one that was shown
+/// end within the checkpoints, also once it is marked.
+pub fn rows_are_placed()
+    ensures { (reads : Reads) (entries : List Entry) → Legal reads (history entries) → AllByRecursion (IsPlaced reads (history entries)) (rows (history entries)) }
+{}
+
+/// What entries say of a number stays behind each entry that may come: that it was shown, that its row was marked or is
+/// gone, and what it was staged with.
+pub fn numbers_stay()
+    ensures shown { (entries : List Entry) (entry : Entry) (number : ℕ) → is_shown (history entries) number ≡ true → is_shown (history (entries ++ entry ∷ [])) number ≡ true }
+    ensures given_up { (reads : Reads) (entries : List Entry) (entry : Entry) (number : ℕ) → Legal reads (history entries) → IsAllowed reads entries entry →
+        IsGivenUp entries number → IsGivenUp (entries ++ entry ∷ []) number }
+    ensures staged { (reads : Reads) (entries : List Entry) (entry : Entry) (number : ℕ) (delta : List Part) (facts : RowFacts) → Legal reads (history entries) → IsAllowed reads entries entry →
+        HasStaged entries number delta facts → HasStaged (entries ++ entry ∷ []) number delta facts }
+{}
+
+/// What a plan knows stays until its Replace: of a row that is published the ranges of its spans and behind which tasks
+/// they were taken in, and what tasks up to its last one cover. The spans of rows that are replaced lie apart.
+pub fn plans_stay()
+    ensures apart { (reads : Reads) (entries : List Entry) (old : List ℕ) → Legal reads (history entries) → AreApart old → AllByRecursion (IsIn Published (rows (history entries))) old →
+        LieApart (joined_spans (rows (history entries)) old) }
+    ensures marks { (reads : Reads) (entries : List Entry) (entry : Entry) (number : ℕ) (marks : List (Part × ℕ)) → Legal reads (history entries) → IsAllowed reads entries entry →
+        HasMarks entries number marks → HasMarks (entries ++ entry ∷ []) number marks }
+    ensures covered { (reads : Reads) (entries : List Entry) (entry : Entry) (matches : DeleteTask → Bool) (k upto : ℕ) → IsAllowed reads entries entry → upto ≤ last_opstamp (history entries) →
+        covered_by matches (ledger reads (history (entries ++ entry ∷ []))).tasks k upto ≡ covered_by matches (ledger reads (history entries)).tasks k upto }
 {}

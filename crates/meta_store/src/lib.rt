@@ -9,7 +9,7 @@ mod planning;
 pub mod refusal;
 mod spans;
 
-pub use config::{Config, Reading, Settings};
+pub use config::{Config, Reading, Settings, TaskAsk};
 pub use meta::Meta;
-pub use planning::{Choice, PlanRow, PlanRows};
+pub use planning::{Choice, PlanRow, PlanRows, RowWork};
 pub use refusal::Refusal;

@@ -20,7 +20,7 @@ use crate::checks::{
     check_task_count, check_upto, hand_back, may_mark_each, may_remove_each, may_retire_each,
     of_delta, of_state, refuse,
 };
-use crate::config::{Config, Reading, Settings};
+use crate::config::{Config, Reading, Settings, TaskAsk};
 use crate::refusal::Refusal;
 use crate::spans::{admit_row, count_left, fill_spans, join_retired, reserve_retired, span_count};
 use byte_fields::Bytes;
@@ -46,6 +46,7 @@ pub struct Meta {
     config: Option<Config>,
     last_number: u64,
     tasks: Tasks,
+    asks: Vec<TaskAsk>,
     span_count: usize,
     checkpoints: Ledger,
     rows: Rows,
@@ -55,7 +56,7 @@ pub struct Meta {
 
 impl Model for Meta {
     ghost use Rattle.std.specs.Coded.{codes, Coded};
-    ghost use Rattle.std.specs.Prelude.{◌-◌, ◌+◌, ◌≤◌, ◌<◌, ◌^◌, List, vec_len, vec_capacity};
+    ghost use Rattle.std.specs.Prelude.{◌-◌, ◌+◌, ◌≤◌, ◌<◌, ◌^◌, List, length, min, vec_len, vec_capacity};
     ghost use Rattle.delete_tasks.specs.Ledger.{last_of};
     ghost use Rattle.delete_tasks.specs.Stored.{sought_code, Mark};
     ghost use Rattle.split_states.specs.Rows.{IsAbove};
@@ -73,6 +74,7 @@ impl Model for Meta {
         last_number = m.last_number;
         last_opstamp = last_of m.tasks.list;
         tasks = m.tasks.list;
+        asks = m.asks.items;
         span_count = m.span_count;
         checkpoints = m.checkpoints.list;
         rows = m.rows.list;
@@ -80,14 +82,14 @@ impl Model for Meta {
       };
       checkpoint_room = m.checkpoints.spare;
       row_room = m.rows.spare;
-      task_room = m.tasks.spare;
+      task_room = min m.tasks.spare (vec_capacity m.asks - vec_len m.asks);
       retired_room = vec_capacity m.retired - vec_len m.retired;
       spare = m.spare.items;
       spare_room = vec_capacity m.spare;
     } };
 
     ghost invariant = { λ m.
-        (m.revision + 1 < 2 ^ 64) × (m.last_number ≤ m.revision) × (last_of m.tasks.list ≤ m.revision)
+        (m.revision + 1 < 2 ^ 64) × (m.last_number ≤ m.revision) × ((last_of m.tasks.list ≤ length m.tasks.list) × (length m.tasks.list ≤ 10000))
         × (m.span_count ≤ 1000000) × MergedUpTo m.revision m.rows.list × IsAbove m.rows.list (m.last_number + 1) };
 }
 
@@ -144,6 +146,7 @@ impl Meta {
             config: None,
             last_number: 0,
             tasks: Tasks::vacant(alloc),
+            asks: Vec::new(alloc),
             span_count: 0,
             checkpoints: Ledger::vacant(alloc),
             rows: Rows::vacant(alloc),
@@ -210,6 +213,13 @@ impl Meta {
         ensures { result.now.list ≡ self.now.state.tasks }
     {
         &self.tasks
+    }
+
+    /// Each task as it was asked for, in the order of the tasks.
+    pub fn asks(&self) -> &[TaskAsk]
+        ensures { result.now ≡ self.now.state.asks }
+    {
+        self.asks.as_slice()
     }
 
     /// Whether an entry may come next, by what the readers say of it: the readings, to be taken in with it, or its first
@@ -364,7 +374,7 @@ impl Meta {
             Act::Stage { delta, .. } => self.reserve_stage(delta),
             Act::Publish { number } => self.reserve_publish(*number),
             Act::Replace { old, .. } => self.reserve_replace(old),
-            Act::Task { .. } => self.tasks.reserve(),
+            Act::Task { .. } => self.reserve_task(),
             Act::Retire { numbers } => {
                 reserve_retired(&mut self.retired, &self.rows, numbers.as_slice())
             }
@@ -394,6 +404,14 @@ impl Meta {
         self.checkpoints.reserve_parts(count)
     }
 
+    fn reserve_task(&mut self) -> Result<(), AllocError>
+        ensures same { self.new.state ≡ self.old.state }
+        ensures room { OnOk result (0 < self.new.task_room) }
+    {
+        self.asks.reserve(1)?;
+        self.tasks.reserve()
+    }
+
     fn reserve_replace(&mut self, old: &Numbers) -> Result<(), AllocError>
         ensures same { self.new.state ≡ self.old.state }
         ensures room { OnOk result (self.new.spare ≡ joined_spans self.old.state.rows old.now) }
@@ -419,10 +437,10 @@ impl Meta {
             Act::Create { config } => self.take_create(moment, config, reading),
             Act::Task {
                 opstamp,
-                text: _text,
-                fields: _fields,
+                text,
+                fields,
                 times,
-            } => self.take_task(moment, opstamp, times, reading),
+            } => self.take_task(moment, opstamp, TaskAsk { text, fields }, times, reading),
             other => {
                 mem::drop(reading);
                 self.take_unread(moment, other)
@@ -530,13 +548,22 @@ impl Meta {
         self.revision += 1;
     }
 
-    fn take_task(&mut self, moment: u64, opstamp: u64, times: TimeRange, reading: Reading)
+    fn take_task(
+        &mut self,
+        moment: u64,
+        opstamp: u64,
+        ask: TaskAsk,
+        times: TimeRange,
+        reading: Reading,
+    )
         requires next { opstamp ≡ self.old.state.last_opstamp + 1 }
+        requires within { length self.old.state.tasks < 10000 }
         requires room { 0 < self.old.task_room }
         requires few { self.old.state.revision + 2 < 2 ^ 64 }
-        ensures { (text : List ℕ) (fields : List (List ℕ)) → self.new.state ≡ after reading (at moment (Act.Task opstamp text fields times)) self.old.state }
+        ensures { self.new.state ≡ after reading (at moment (Act.Task opstamp ask.text ask.fields times)) self.old.state }
     {
         self.tasks.add_reserved(task_read(opstamp, reading, times));
+        self.asks.push_reserved(ask);
         self.moment = self.moment.max(moment);
         self.revision += 1;
     }

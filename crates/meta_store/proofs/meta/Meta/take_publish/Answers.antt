@@ -12,7 +12,7 @@ invariant_of-self c =
     let now : c.self.inside.revision ≡ c.args.self.now.state.revision = ap (λ (k : Kept). k.state.revision) c.self.view_is in (
       omega (arith, now, c.requires.few),
       omega (arith, c.self.invariant.1),
-      omega (arith, c.self.invariant.2),
+      c.self.invariant.2,
       (let count : c.span_count.result ≡ length (row_ranges c.args.self.now.state.rows c.args.number) =
           c.span_count.ensures ∙ ap (λ (o : Option Row). length (map range_of (row_spans o))) (c.get.ensures ∙ ap (λ (k : Kept). row_at k.state.rows c.args.number) c.self.view_is) in
           let spans : c.self.inside.span_count ≡ c.args.self.now.state.span_count = ap (λ (k : Kept). k.state.span_count) c.self.view_is in

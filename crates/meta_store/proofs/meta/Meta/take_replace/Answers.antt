@@ -13,7 +13,7 @@ invariant_of-self c =
     let now : c.self.inside.revision ≡ c.args.self.now.state.revision = ap (λ (k : Kept). k.state.revision) c.self.view_is in (
       omega (arith, now, c.requires.few),
       omega (arith, c.self.invariant.1),
-      omega (arith, c.self.invariant.2),
+      c.self.invariant.2,
       c.self.invariant.3,
       (let low = merged_low c.self.inside.revision c.args.old.now c.self.inside.rows.list c.self.invariant.4 in
           let ops : c.merged-merge_ops.result ≤ c.self.inside.revision + 1 = omega (arith, low, c.merged-merge_ops.ensures) in

@@ -10,7 +10,7 @@ invariant_of-self c =
     let now : c.self.inside.revision ≡ c.args.self.now.state.revision = ap (λ (k : Kept). k.state.revision) c.self.view_is in (
       omega (arith, now, c.requires.few),
       omega (arith, c.self.invariant.1),
-      omega (arith, c.self.invariant.2),
+      c.self.invariant.2,
       omega (arith, c.count_left-self-inside.ensures, c.self.invariant.3),
       subst (MergedUpTo (c.self.inside.revision + 1)) (sym c.mark.ensures) (merged_each c.self.inside.revision c.args.numbers.now (marked c.args.moment) c.self.inside.rows.list (λ row. refl) c.self.invariant.4),
       subst (λ (l : List Row). IsAbove l (c.self.inside.last_number + 1)) (sym (c.mark.ensures)) (above_each (c.self.inside.last_number + 1) c.args.numbers.now (marked c.args.moment) c.self.inside.rows.list (λ row. refl) c.self.invariant.5),

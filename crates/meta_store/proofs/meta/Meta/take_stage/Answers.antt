@@ -17,7 +17,7 @@ invariant_of-self c =
     let last : c.self.inside.last_number ≡ c.args.self.now.state.last_number = ap (λ (k : Kept). k.state.last_number) c.self.view_is in (
       omega (arith, now, c.requires.few),
       omega (arith, last, c.requires.next, c.max-self-inside.ensures, c.self.invariant.1),
-      omega (arith, c.self.invariant.2),
+      c.self.invariant.2,
       c.self.invariant.3,
       subst (MergedUpTo (c.self.inside.revision + 1)) (sym c.stage.ensures) (merged_push c.self.inside.revision c.self.inside.rows.list _ refl c.self.invariant.4),
       subst (λ (l : List Row). IsAbove l (c.max-self-inside.result + 1)) (sym c.stage.ensures)
