@@ -1,5 +1,6 @@
 -- What the readers of texts say of the entries of a history.
 use Rattle.std.specs.Prelude.{List, ℕ, Option, Some, None, Result, Ok, Err}
+use Rattle.index_config.specs.declared.config.IndexConfig.{IndexConfig}
 use Rattle.index_config.specs.declared.config_error.ConfigError.{ConfigError}
 use Rattle.index_config.specs.declared.config_error.ConfigError.TheVariants.{NotToml}
 use Rattle.meta_journal.specs.declared.entry.Act.{Act}
@@ -15,11 +16,11 @@ use Rattle.meta_store.specs.declared.config.Config.{Config}
 use Rattle.meta_store.specs.History.{History}
 use Rattle.meta_store.specs.History.History.{Start, ◌▸◌}
 
--- What the readers say of texts: what a configuration says, or what is wrong with it; and, under the text of a
--- configuration, the query of a task's text with these fields as its default fields, or why there is none.
+-- What the readers say of texts: what a configuration says, or what is wrong with it; and, under a configuration that was
+-- read, the query of a task's text with these fields as its default fields, or why there is none.
 pub record Reads : Type 0 where
   pub config : List ℕ → Result Settings ConfigError
-  pub query : (config text : List ℕ) → (fields : List (List ℕ)) → Result Sought QueryError
+  pub query : IndexConfig → (text : List ℕ) → (fields : List (List ℕ)) → Result Sought QueryError
 
 -- what they say of one act, under the configuration so far; of an act without a text nothing is read, and what stands
 -- here is looked at by nobody
@@ -43,7 +44,7 @@ query_said reads (Some so_far) (Stage number delta facts) = Err (Syntax 0)
 query_said reads (Some so_far) (Publish number) = Err (Syntax 0)
 query_said reads (Some so_far) (Replace new old upto) = Err (Syntax 0)
 query_said reads (Some so_far) (Raise number upto) = Err (Syntax 0)
-query_said reads (Some so_far) (AddTask opstamp text fields times) = reads.query so_far.text text fields
+query_said reads (Some so_far) (AddTask opstamp text fields times) = reads.query so_far.settings.index text fields
 query_said reads (Some so_far) (MarkStaged numbers) = Err (Syntax 0)
 query_said reads (Some so_far) (Remove numbers) = Err (Syntax 0)
 query_said reads (Some so_far) (Retire numbers) = Err (Syntax 0)
