@@ -19,6 +19,9 @@ ghost use Rattle.meta_journal.specs.declared.entry.Act.TheVariants.{Retire};
 ghost use Rattle.meta_store.specs.Laws.{Once, IsCounted, IsNumbered, IsFormed};
 ghost use Rattle.meta_store.specs.Contents.{Meaning, Placed, visible, contents, published_contents, taken_out, IsTakenFrom};
 ghost use Rattle.meta_store.specs.Left.{left_over, LieApart, HasMarks};
+ghost use Rattle.meta_store.specs.Planning.{config_fits};
+ghost use Rattle.index_config.specs.Accepted.{HasRanges};
+ghost use Rattle.index_config.specs.declared.config.IndexConfig.{IndexConfig};
 ghost use Rattle.meta_store.specs.Numbers.{is_shown, IsAllowed, IsGivenUp, HasStaged, IsPlaced};
 ghost use Rattle.delete_tasks.specs.Removed.{covered_by};
 ghost use Rattle.source_checkpoint.specs.Deltas.{raised};
@@ -132,4 +135,10 @@ pub fn plans_stay()
         HasMarks entries number marks → HasMarks (entries ++ entry ∷ []) number marks }
     ensures covered { (reads : Reads) (entries : List Entry) (entry : Entry) (matches : DeleteTask → Bool) (k upto : ℕ) → IsAllowed reads entries entry → upto ≤ last_opstamp (history entries) →
         covered_by matches (ledger reads (history (entries ++ entry ∷ []))).tasks k upto ≡ covered_by matches (ledger reads (history entries)).tasks k upto }
+{}
+
+/// A configuration whose numbers lie in their ranges, as those of each accepted one do, is one under which merges are
+/// planned.
+pub fn ranges_fit()
+    ensures { (config : IndexConfig) → HasRanges config → config_fits config ≡ true }
 {}
