@@ -1,12 +1,12 @@
 -- The function gives the choice.
-use Rattle.std.proofs.Common.{◌≡◌, ℕ, zero, suc, ◌+◌, ◌*◌, ◌^◌, ◌<◌, ◌≤◌, ◌==◌, Bool, true, false, cond, List, [], ◌∷◌, ◌++◌, map, length, take, min, filter, Option, Some, None, refl, sym, ap, subst, ◌∙◌, add-one, inl, inr, arith, Ordering, Less, Equal, Greater, is_lt, true≢false, IsPermutation}
+use Rattle.std.proofs.Common.{◌≡◌, ℕ, zero, suc, ◌+◌, ◌*◌, ◌^◌, ◌<◌, ◌≤◌, ◌==◌, Bool, true, false, cond, List, [], ◌∷◌, length, take, min, filter, Option, Some, None, refl, sym, ap, subst, ◌∙◌, inl, inr, arith, Ordering, Less, Equal, Greater, is_lt, true≢false, IsPermutation}
 use Rattle.std.specs.Prelude.{sum_by, nat_le, nat_lt, ◌&&◌}
-use Rattle.std.specs.Option.{option_or, option_map}
+use Rattle.std.specs.Option.{option_map}
 use Rattle.std.specs.List.{AllByRecursion}
 use Rattle.std.specs.List.Sorted.{IsStrictlySortedBy}
 use Rattle.std.specs.Ordering.{ordering_then, ordering_reverse, nat_cmp}
 use Rattle.std.proofs.Math.Nat.{pow-zero}
-use Rattle.std.proofs.lemmas.Bool.{and_parts, and_from, leb-true, le-leb, cases_Bool, cases_lt}
+use Rattle.std.proofs.lemmas.Bool.{and_parts, and_from, leb-true, le-leb, cases_lt}
 use Rattle.std.proofs.lemmas.Bool.Decides.{nat_tests}
 use Rattle.std.proofs.lemmas.List.{length-take, length-take-le}
 use Rattle.std.proofs.lemmas.List.Sums.{sum_by-cons}
@@ -17,7 +17,7 @@ use Rattle.index_config.specs.declared.config.Policy.TheVariants.{StableLog, Lim
 use Rattle.split_states.specs.declared.rows.Row.{Row}
 use Rattle.split_states.specs.Rows.{rising_from, row_numbers, RowsRise}
 use Rattle.split_states.proofs.Rising.{rise_filter}
-use Rattle.merge_policy.specs.Choice.{is_of_level, is_log_level, is_candidate, level_rows, times_order, row_order, merge_factor, max_merge_factor, FitsSplit, IsMerge, Gives, IsLeast, IsChosen}
+use Rattle.merge_policy.specs.Choice.{is_of_level, is_candidate, level_rows, times_order, row_order, merge_factor, max_merge_factor, FitsSplit, IsMerge, Gives, IsChosen}
 use Rattle.merge_policy.specs.Chosen.{with_row, in_order, fits_split, fitting, merge_of, given, least_given, level_count, chosen}
 use Rattle.merge_policy.proofs.Chosen.{above}
 use Rattle.merge_policy.proofs.Levels.{grows, stepped}

@@ -1,5 +1,5 @@
 -- The rows that are stale or due, and the conditions of the entries that name them.
-use Rattle.std.proofs.Common.{◌≡◌, ℕ, ◌==◌, ◌+◌, ◌≤◌, ◌&&◌, ◌||◌, Bool, true, false, cond, List, [], ◌∷◌, map, Option, Some, None, IsSomeAnd, refl, ap, sym, ◌∙◌, subst, inl, inr, eq-eqb, eqb-true, ne_eqb, arith}
+use Rattle.std.proofs.Common.{◌≡◌, ℕ, ◌==◌, ◌+◌, ◌≤◌, ◌||◌, Bool, true, false, List, [], ◌∷◌, Option, Some, None, IsSomeAnd, refl, ap, sym, subst, inl, inr, eq-eqb, eqb-true, ne_eqb, arith}
 use Rattle.std.specs.Prelude.{filter, find, nat_le}
 use Rattle.std.specs.List.{AllByRecursion}
 use Rattle.std.proofs.lemmas.Bool.{and_parts, and_from, leb-true, le-leb, cases_Bool}

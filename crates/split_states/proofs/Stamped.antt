@@ -1,17 +1,17 @@
 -- Rows and their stamps: what a pass over the stamps finds is what stands in the rows.
-use Rattle.std.proofs.Common.{◌≡◌, ℕ, zero, suc, ◌==◌, ◌+◌, ◌≤◌, ◌<◌, Bool, true, false, cond, not, List, [], ◌∷◌, ◌++◌, length, map, get_or, drop, Option, Result, Ok, Err, IfOk, MatchResult, refl, ap, sym, ◌∙◌, inl, inr, arith}
+use Rattle.std.proofs.Common.{◌≡◌, ℕ, zero, suc, ◌==◌, ◌+◌, ◌≤◌, ◌<◌, Bool, true, false, cond, not, List, [], ◌∷◌, length, map, get_or, drop, Result, Ok, Err, IfOk, MatchResult, refl, ap, sym, ◌∙◌, inl, inr, arith}
 use Rattle.std.specs.Prelude.{slice_set, slice_index_or, filter, find, option_map, nat_le}
 use Rattle.std.specs.Ordering.{nat_cmp, is_lt}
 use Rattle.std.specs.Cmp.{nat_cmp_total}
 use Rattle.std.specs.List.Sorted.{IsSearchInRange, IsBinarySearchResult, IsSortedBy}
 use Rattle.std.proofs.lemmas.Bool.{le-leb, lt-leb, cases_Bool, cases_lt}
-use Rattle.std.proofs.lemmas.List.{map-set, map-append, get_or-map, length-map}
+use Rattle.std.proofs.lemmas.List.{map-set, get_or-map, length-map}
 use Rattle.std.proofs.lemmas.List.Sorted.{searchable_from_sorted}
 use Rattle.split_states.specs.Answers.{Repeats}
 use Rattle.split_states.specs.Rows.{Row, change, rising, row_numbers, without_each}
 use Rattle.split_states.specs.Due.{stamp_of, stamp_number}
 use Rattle.split_states.specs.declared.stamps.Stamp.{Stamp}
-use Rattle.split_states.proofs.Rising.{Order, order_rest, at_least, not_less, equal_is, less_is, greater_is, is_left, left}
+use Rattle.split_states.proofs.Rising.{Order, order_rest, at_least, not_less, equal_is, less_is, greater_is, left}
 
 -- ---- a change of one row
 

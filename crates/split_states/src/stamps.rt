@@ -1,7 +1,7 @@
 //! How each row stands and since when, side by side: a pass over these reads 32 bytes a row.
 
 ghost use Rattle.std.specs.Prelude.{◌≡◌, ◌+◌, ◌<◌, ◌++◌, ◌∷◌, [], true, map, filter, find, nat_le, option_map, slice_set, vec_len, vec_capacity, IfOk};
-ghost use Rattle.split_states.specs.Rows.{rising, RowsRise};
+ghost use Rattle.split_states.specs.Rows.{rising};
 ghost use Rattle.split_states.specs.Due.{stamp_of, stamp_number, stamped_stale, stamped_due, stamped_marked};
 
 use crate::numbers::Numbers;

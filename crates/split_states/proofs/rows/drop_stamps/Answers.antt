@@ -1,4 +1,4 @@
-use Rattle.std.proofs.Common.{List, map, not, ◌∙◌, ap, rules}
+use Rattle.std.proofs.Common.{List, not, ◌∙◌, ap, rules}
 use Rattle.std.specs.Prelude.{filter}
 use Rattle.std.proofs.lemmas.Fn.{filter_same}
 use Rattle.split_states.specs.Answers.{Repeats}

@@ -1,7 +1,7 @@
 use Rattle.std.proofs.Common.{◌≡◌, List, map, ◌∙◌, ap}
 use Rattle.std.specs.Prelude.{filter}
 use Rattle.split_states.specs.Due.{stamp_number, stamped_stale, stale_rows}
-use Rattle.split_states.specs.Rows.{Row, RowList}
+use Rattle.split_states.specs.Rows.{RowList}
 use Rattle.split_states.specs.declared.stamps.Stamp.{Stamp}
 use Rattle.split_states.proofs.Stamped.{if_ok, passing}
 use Rattle.split_states.proofs.rows.Rows.stale.Goals as goal
