@@ -25,7 +25,7 @@ use Rattle.query_ast.specs.Sought as sought
 use Rattle.query_ast.specs.declared.query.Item.{Item}
 use Rattle.query_ast.specs.Meaning.{values_in, same_value, equals_some, has_token, tokens_in, is_text, some_has_token, phrase_holds, each_holds, quoted_holds, word_holds, item_holds, some_item_holds, meaning, all_hold, some_hold}
 use Rattle.query_ast.specs.Spelled.{spelled, signed_of, unsigned_of, truth_of, datetime_of}
-use Rattle.query_ast.specs.Pruning.{allowed, term_of, is_raw, is_looked_up, HasTerm, can_equal, some_can_equal, can_match, all_can, some_can, AreFactsOf}
+use Rattle.query_ast.specs.Pruning.{allowed, term_of, is_raw, is_looked_up, has_list, HasTerm, can_equal, some_can_equal, can_match, all_can, some_can, AreFactsOf}
 use Rattle.doc_value.specs.Terms.{term_bytes}
 
 and_left : (a b : Bool) → (a && b) ≡ true → a ≡ true
@@ -225,13 +225,13 @@ module _ (s : Schema) (facts : List FieldTags) (doc : List DocField) (hold : Are
       (one_item n f i i.quoted refl e) (some_item n f is e) h
 
   asked_set : (n : ℕ) (items : List Item) (o : Option Field) → slice_get s.fields n ≡ o → option_map_or (λ f. some_item_holds f (values_in doc n) items) o false ≡ true
-      → option_map_or (λ f. if is_looked_up f then some_can_equal s facts n items else true) o true ≡ true
+      → option_map_or (λ f. if is_looked_up f && has_list facts n then some_can_equal s facts n items else true) o true ≡ true
   asked_set n items None e h = refl
-  asked_set n items (Some f) e h = of (is_looked_up f) refl
+  asked_set n items (Some f) e h = of (is_looked_up f && has_list facts n)
     where
-      of : (b : Bool) → is_looked_up f ≡ b → (if b then some_can_equal s facts n items else true) ≡ true
-      of true t = some_item n f items e h
-      of false t = refl
+      of : (b : Bool) → (if b then some_can_equal s facts n items else true) ≡ true
+      of true = some_item n f items e h
+      of false = refl
 
   mutual
     can : (q : Sought) → meaning s doc q ≡ true → can_match s facts q ≡ true

@@ -43,6 +43,15 @@ abbrev pub allowed : List FieldTags → ℕ → Option (List ℕ) → Bool
 allowed [] number term = true
 allowed (f ∷ fs) number term = if f.number == number then allows f.tags term else allowed fs number term
 
+-- whether what is known lists the values of a field
+abbrev pub lists : Tags → Bool
+lists Many = false
+lists (Listed terms) = true
+
+abbrev pub has_list : List FieldTags → ℕ → Bool
+has_list [] number = false
+has_list (f ∷ fs) number = if f.number == number then lists f.tags else has_list fs number
+
 -- the terms of numbers and truth values
 abbrev pub signed_term : ℤ → List ℕ
 signed_term z = term_bytes (values.I64 z)
@@ -72,9 +81,9 @@ abbrev pub some_can_equal : Schema → List FieldTags → ℕ → List Item → 
 some_can_equal s facts number [] = false
 some_can_equal s facts number (i ∷ is) = can_equal s facts number i.text || some_can_equal s facts number is
 
--- a set on a field that is looked up
+-- a set on a field that is looked up: one without items is ruled out where the values are listed, and not where they are many
 abbrev pub can_be_among : Schema → List FieldTags → ℕ → List Item → Bool
-can_be_among s facts number items = option_map_or (λ f. if is_looked_up f then some_can_equal s facts number items else true) (slice_get s.fields number) true
+can_be_among s facts number items = option_map_or (λ f. if is_looked_up f && has_list facts number then some_can_equal s facts number items else true) (slice_get s.fields number) true
 
 abbrev mutual
   pub can_match : Schema → List FieldTags → Sought → Bool

@@ -3,7 +3,7 @@
 ghost use Rattle.std.specs.Prelude.{◌≡◌, List, false, option_map};
 ghost use Rattle.query_ast.specs.Meaning.{meaning};
 ghost use Rattle.query_ast.specs.Sought.{view};
-ghost use Rattle.query_ast.specs.Pruning.{is_listed, has_listed, signed_term, unsigned_term, truth_term, term_of, allows, allowed, is_looked_up, can_equal, some_can_equal, can_be_among, can_match, all_can_in, some_can_in, AreFactsOf};
+ghost use Rattle.query_ast.specs.Pruning.{is_listed, has_listed, signed_term, unsigned_term, truth_term, term_of, allows, allowed, is_looked_up, has_list, can_equal, some_can_equal, can_be_among, can_match, all_can_in, some_can_in, AreFactsOf};
 ghost use Rattle.doc_value.specs.declared.doc.DocField.{DocField};
 
 use crate::fields::field_at;
@@ -117,12 +117,23 @@ fn some_may_equal(schema: &Schema, facts: &[FieldTags], number: usize, items: &[
     false
 }
 
+fn lists_values(facts: &[FieldTags], number: usize) -> bool
+    ensures { result ≡ has_list facts.now number }
+{
+    for field in facts {
+        if field.number == number {
+            return matches!(field.tags, Tags::Listed(_));
+        }
+    }
+    false
+}
+
 fn may_be_among(schema: &Schema, facts: &[FieldTags], number: usize, items: &[Item]) -> bool
     ensures { result ≡ can_be_among schema.now facts.now number items.now }
 {
     match field_at(schema, number) {
         Some(field) => {
-            if is_looked_up(field) {
+            if is_looked_up(field) && lists_values(facts, number) {
                 some_may_equal(schema, facts, number, items)
             } else {
                 true
