@@ -7,7 +7,7 @@ use Rattle.meta_journal.specs.declared.entry.Act.TheVariants.{Stage, Publish}
 use Rattle.meta_journal.specs.declared.entry.Entry.{Entry}
 use Rattle.meta_store.specs.Answers.{Answer, answer_to}
 use Rattle.meta_store.specs.History.{at}
-use Rattle.meta_store.specs.Planning.{rows_for, planned_row}
+use Rattle.meta_store.specs.Planning.{rows_for, planned_as}
 use Rattle.meta_store.specs.Readings.{reading_of}
 use Rattle.meta_store.specs.State.{after}
 use Rattle.meta_store.specs.State as meta
@@ -142,7 +142,7 @@ pub record IsPlanOf (choice : Choice) (plan : Plan) (world : Keeping) : Type 0 w
   pub revision : plan.revision ≡ world.meta.revision
   pub moment : plan.moment ≡ world.moment
   pub upto : plan.upto ≡ world.meta.last_opstamp
-  pub rows : plan.rows ≡ map planned_row (rows_for world.meta.config choice world.meta.rows)
+  pub rows : plan.rows ≡ map (planned_as choice) (rows_for world.meta.config choice world.moment world.meta.last_opstamp world.meta.rows)
   pub settled : world.unsure ≡ false
 
 abbrev pub SaysPlanned : Choice → Result Plan WorldError → Keeping → State → Type 0

@@ -18,7 +18,7 @@ abbrev pub read_config : List ℕ → Result Settings ConfigError
 read_config text = settings_of (config_answer text)
 
 -- no task is read yet
-abbrev pub read_query : (config text : List ℕ) → (fields : List (List ℕ)) → Result Sought QueryError
+abbrev pub read_query : IndexConfig → (text : List ℕ) → (fields : List (List ℕ)) → Result Sought QueryError
 read_query config text fields = Err (Syntax 0)
 
 abbrev pub reads : Reads

@@ -13,7 +13,7 @@ use Rattle.source_checkpoint.specs.declared.delta.Part.{Part}
 use Rattle.source_log.specs.Log.{Log}
 use Rattle.split_states.specs.declared.facts.RowFacts.{RowFacts}
 use Rattle.index_world.specs.Config.{reads}
-use Rattle.meta_store.specs.Planning.{rows_for, planned_row}
+use Rattle.meta_store.specs.Planning.{rows_for, planned_as}
 use Rattle.meta_store.specs.Readings.{config_of}
 use Rattle.meta_store.specs.declared.planning.Choice.{Choice}
 use Rattle.index_world.specs.declared.tokens.Marks.{Marks}
@@ -148,7 +148,7 @@ pub record IsPlan (choice : Choice) (plan : Plan) (core : Core) : Type 0 where
   pub revision : plan.revision ≡ length core.history
   pub moment : plan.moment ≡ core.moment
   pub upto : plan.upto ≡ last_opstamp (history core.history)
-  pub rows : plan.rows ≡ map planned_row (rows_for (config_of reads (history core.history)) choice (rows (history core.history)))
+  pub rows : plan.rows ≡ map (planned_as choice) (rows_for (config_of reads (history core.history)) choice core.moment (last_opstamp (history core.history)) (rows (history core.history)))
 
 -- these are so many bytes of the number's file from a place on, and its size
 abbrev pub IsPieceGiven : (number from len : ℕ) → Piece → Core → Type 0

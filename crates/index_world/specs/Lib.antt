@@ -27,3 +27,6 @@ pub mod Saying
 pub mod CallsMade
 pub mod DirectLaws
 pub mod Alike
+pub mod KeptIndex
+pub mod KeptHeld
+pub mod Releases

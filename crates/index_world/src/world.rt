@@ -341,7 +341,7 @@ impl<S: ObjectStore, C: SteadyClock> World<S, C> {
             revision: life.meta.revision(),
             moment: life.moment,
             upto: life.meta.last_opstamp(),
-            rows: life.meta.plan_rows(alloc, choice)?,
+            rows: life.meta.plan_rows(alloc, choice, life.moment)?,
         })
     }
 

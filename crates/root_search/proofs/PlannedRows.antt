@@ -8,8 +8,8 @@ use Rattle.doc_value.specs.declared.facts.TimeRange.{TimeRange}
 use Rattle.doc_value.specs.declared.schema.Schema.{Schema}
 use Rattle.query_ast.specs.Sought.{Sought, view}
 use Rattle.meta_store.specs.Contents.{published_rows}
-use Rattle.meta_store.specs.History.{history}
-use Rattle.meta_store.specs.Planning.{is_searched, planned_row, rows_for, searched}
+use Rattle.meta_store.specs.History.{history, last_opstamp}
+use Rattle.meta_store.specs.Planning.{is_searched, planned_as, planned_row, rows_for, searched}
 use Rattle.meta_store.specs.Readings.{config_of}
 use Rattle.meta_store.specs.Rows.{rows}
 use Rattle.meta_store.specs.declared.config.Config.{Config}
@@ -54,12 +54,16 @@ use Rattle.root_search.proofs.Stands.{rows_seen, config_seen, planned_goes_on, s
 
 -- ---- the rows of a plan
 
-chosen_by : (c : Option Config) (config : IndexConfig) (q : Sought) (t : TimeRange) (choice : Choice) (rs : List Row) → index_of c ≡ Some config → IsChoiceOf q t choice → rows_for c choice rs ≡ searched config.schema q t rs
-chosen_by None config q t choice rs e is = absurd (cc)
-chosen_by (Some c) config q t choices.Look rs e is = absurd is
-chosen_by (Some c) config q t (choices.Search query times) rs e is =
+chosen_by : (c : Option Config) (config : IndexConfig) (q : Sought) (t : TimeRange) (choice : Choice) (now last : ℕ) (rs : List Row) → index_of c ≡ Some config → IsChoiceOf q t choice →
+    map (planned_as choice) (rows_for c choice now last rs) ≡ map planned_row (searched config.schema q t rs)
+chosen_by None config q t choice now last rs e is = absurd (cc)
+chosen_by (Some c) config q t choices.Merge now last rs e is = absurd is
+chosen_by (Some c) config q t choices.Deletes now last rs e is = absurd is
+chosen_by (Some c) config q t choices.Every now last rs e is = absurd is
+chosen_by (Some c) config q t choices.Look now last rs e is = absurd is
+chosen_by (Some c) config q t (choices.Search query times) now last rs e is =
     let same : c.settings.index ≡ config = cc in
-    ap (λ (x : IndexConfig). searched x.schema (view query) times rs) same ∙ ap₂ (λ (x : Sought) (y : TimeRange). searched config.schema x y rs) is.0 is.1
+    ap (map planned_row) (ap (λ (x : IndexConfig). searched x.schema (view query) times rs) same ∙ ap₂ (λ (x : Sought) (y : TimeRange). searched config.schema x y rs) is.0 is.1)
 
 numbers_are : (list : List Row) → map (λ (row : PlanRow). row.number) (map planned_row list) ≡ map (λ (row : Row). row.number) list
 numbers_are [] = refl
@@ -105,8 +109,8 @@ plan_ends searcher client search read held count config after log s configured p
     list = rows_seen after.history search
 
     chosen : held.plan.rows ≡ map planned_row list
-    chosen = p.rows ∙ ap (map planned_row) (chosen_by (config_of reads (history after.history)) config search.query search.times read.choice (rows (history after.history)) (configured_is after log config s configured) r.choice
-        ∙ ap (λ (c : IndexConfig). searched c.schema search.query search.times (rows (history after.history))) (sym is))
+    chosen = p.rows ∙ chosen_by (config_of reads (history after.history)) config search.query search.times read.choice after.moment (last_opstamp (history after.history)) (rows (history after.history)) (configured_is after log config s configured) r.choice
+        ∙ ap (λ (c : IndexConfig). map planned_row (searched c.schema search.query search.times (rows (history after.history)))) (sym is)
 
     many : length held.plan.rows ≡ length (planned_numbers (config_in after) search (history after.history))
     many = ap length chosen ∙ (length-map list planned_row ∙ sym (length-map list (λ (row : Row). row.number)))

@@ -15,6 +15,9 @@ use Rattle.root_search.specs.declared.reads.ReadSearch.{ReadSearch}
 -- the rows of a search with this query and these times are chosen
 abbrev pub IsChoiceOf : Sought → TimeRange → Choice → Type 0
 IsChoiceOf query times (choices.Search q t) = (view q ≡ query) × (t ≡ times)
+IsChoiceOf query times choices.Merge = ⊥
+IsChoiceOf query times choices.Deletes = ⊥
+IsChoiceOf query times choices.Every = ⊥
 IsChoiceOf query times choices.Look = ⊥
 
 -- it chooses the search's rows, and asks each split of the schema for the search

@@ -1,8 +1,12 @@
-use Rattle.std.proofs.Common.{sym, ap, ◌∙◌, subst, arith, ◌≤◌, map, refl}
+use Rattle.std.proofs.Common.{ℕ, sym, ap, ◌∙◌, subst, arith, ◌≤◌, map, refl}
 use Rattle.meta_store.specs.State as meta
 use Rattle.index_world.specs.Calls.{asked_and_looked, asked_clock}
 use Rattle.index_world.specs.Gate.{IsPlan}
-use Rattle.meta_store.specs.Planning.{planned_row, rows_for}
+use Rattle.meta_store.specs.Planning.{planned_as, rows_for}
+use Rattle.meta_store.specs.History.{history, last_opstamp}
+use Rattle.meta_store.specs.Readings.{config_of}
+use Rattle.meta_store.specs.Rows.{rows}
+use Rattle.index_world.specs.Config.{reads}
 use Rattle.index_world.specs.Core.{last_count}
 use Rattle.index_world.specs.Taking.{IsWant}
 use Rattle.index_world.specs.World.{Keeping, WorldStands}
@@ -61,7 +65,8 @@ returns-clause-step g c core log s =
       revision = c.revision.ensures ∙ life_revision _ after.history after.moment after.unsure k;
       moment = k.moment;
       upto = c.last_opstamp.ensures ∙ life_opstamp _ after.history after.moment after.unsure k;
-      rows = c.in_ok-plan_rows.ensures ∙ ap (λ (m : meta.State). map planned_row (rows_for m.config c.args.choice.now m.rows)) k.meta;
+      rows = c.in_ok-plan_rows.ensures ∙ ap (λ (m : meta.State). map (planned_as c.args.choice.now) (rows_for m.config c.args.choice.now c.settle.new.self.moment m.last_opstamp m.rows)) k.meta
+          ∙ ap (λ (moment : ℕ). map (planned_as c.args.choice.now) (rows_for (config_of reads (history after.history)) c.args.choice.now moment (last_opstamp (history after.history)) (rows (history after.history)))) k.moment;
     })
 
 -- ---- over every store
