@@ -1,7 +1,7 @@
 -- When a store is a sound index over a log, with all ten kinds of entries, and files that may be deleted. The calls of this crate
 -- speak of specs/Index, which is this without deletes; nothing is proved of it here yet.
-use Rattle.std.specs.Prelude.{◌≡◌, ◌⊎◌, ℕ, ◌<◌, ◌≤◌, ◌==◌, Bool, true, false, List, [], ◌∷◌, ◌++◌, length, map, IsSome, Option, Some, None, ⊤}
-use Rattle.std.specs.List.{AllByRecursion, list_any}
+use Rattle.std.specs.Prelude.{◌≡◌, ◌⊎◌, ℕ, ◌<◌, ◌≤◌, true, false, List, length, map, IsSome, Option, Some, None, ⊤}
+use Rattle.std.specs.List.{AllByRecursion}
 use Rattle.std.specs.FinMap.{get}
 use Rattle.delete_tasks.specs.Removes.{DeleteTask, removes}
 use Rattle.index_config.specs.declared.config.IndexConfig.{IndexConfig}
