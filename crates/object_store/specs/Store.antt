@@ -1,5 +1,5 @@
 -- What a store holds, and what its calls do to it.
-use Rattle.std.specs.Prelude.{◌≡◌, ℕ, ◌⊎◌, Bool, ◌&&◌, true, List, [], ◌∷◌, ◌++◌, length, take, drop, filter, Contains, Option, Some, None, Result, Ok, Err, IsSome, slice_get, remove, ⊤}
+use Rattle.std.specs.Prelude.{◌≡◌, ℕ, ◌+◌, ◌-◌, ◌^◌, min, ◌⊎◌, Bool, ◌&&◌, true, List, [], ◌∷◌, ◌++◌, length, take, drop, filter, Contains, Option, Some, None, Result, Ok, Err, IsSome, slice_get, remove, ⊤}
 use Rattle.std.specs.List.{starts_with}
 use Rattle.std.specs.Prelude.{nat_eq}
 use Rattle.std.specs.Ordering.{nat_cmp, is_lt}
@@ -91,6 +91,15 @@ Finds None from len (Ok piece) = ⊥
 Finds found from len (Err gets.Absent) = found ≡ None
 Finds found from len (Err gets.Failed) = ⊤
 Finds found from len (Err (gets.Memory e)) = ⊤
+
+-- a count of bytes stands still at its type's end
+abbrev pub last_given : ℕ
+last_given = 2 ^ 64 - 1
+
+-- how many bytes were given, behind a read: those of its piece are added
+abbrev pub given_more : Result Piece GetError → ℕ → ℕ
+given_more (Ok piece) count = min (count + length piece.bytes) last_given
+given_more (Err e) count = count
 
 abbrev pub Gets : List ℕ → ℕ → ℕ → Result Piece GetError → State → State → Type 0
 Gets key from len result old new = (new ≡ old) × Finds (map.get old.objects key) from len result

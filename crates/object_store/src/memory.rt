@@ -2,9 +2,10 @@ ghost use Rattle.std.specs.Prelude.{◌≡◌, ◌≤◌, ◌+◌, ◌∷◌, �
 ghost use Rattle.std.specs.Option.{option_copied};
 ghost use Rattle.std.specs.FinMap as finmap;
 ghost use Rattle.byte_fields.specs.Causes.{HasCause, following};
-ghost use Rattle.object_store.specs.Store.{AfterLanding, Creates, Gets, Deletes, Lists};
+ghost use Rattle.object_store.specs.Store.{AfterLanding, Creates, Gets, Deletes, Lists, given_more};
 ghost use Rattle.object_store.specs.Plan.{landing_of_call, landing_of_key};
 
+use crate::given::given_behind;
 use crate::kept::Kept;
 use crate::plan::{Landing, Plan};
 use crate::{CreateError, GetError, Key, Keys, ListError, ObjectStore, Piece};
@@ -16,6 +17,8 @@ use std::alloc::{AllocError, Global};
 pub struct MemoryStore {
     kept: Kept,
     plan: Plan,
+    // How many bytes it gave.
+    given: u64,
 }
 
 impl MemoryStore {
@@ -33,6 +36,7 @@ impl MemoryStore {
         MemoryStore {
             kept: Kept::vacant(alloc),
             plan: Plan::vacant(alloc),
+            given: 0,
         }
     }
 
@@ -76,6 +80,7 @@ impl MemoryStore {
         ensures due { held self.new ≡ begun (following self.old.plan.made) (held self.old) }
         ensures answer { result ≡ landing_of_call (following self.old.plan.made) self.old.plan.calls.items }
         ensures plan { self.new.plan ≡ record self.old.plan { made = following self.old.plan.made } }
+        ensures given { self.new.given ≡ self.old.given }
     {
         let landing = self.plan.begin();
         self.kept.land(self.plan.made);
@@ -170,6 +175,8 @@ impl ObjectStore for MemoryStore {
 
     ghost fault_count = { λ s. s.plan.faults };
 
+    ghost given = { λ s. s.given };
+
     fn create(&mut self, alloc: Global, key: &Key, content: &[u8]) -> Result<(), CreateError>
         ensures step { AfterLanding (Some (state self.old)) (Some (state self.new)) (Creates key.now content.now result) }
         ensures cause { HasCause self.old.plan.faults self.new.plan.faults (IsErrOf result CreateError.Failed) }
@@ -191,6 +198,7 @@ impl ObjectStore for MemoryStore {
     fn get(&mut self, alloc: Global, key: &Key, from: u64, len: u64) -> Result<Piece, GetError>
         ensures step { AfterLanding (Some (state self.old)) (Some (state self.new)) (Gets key.now from len result) }
         ensures bound { IfOk result (λ piece. length piece.bytes ≤ len) }
+        ensures given { self.new.given ≡ given_more result self.old.given }
         ensures cause { HasCause self.old.plan.faults self.new.plan.faults (IsErrOf result GetError.Failed) }
         // What is due lands as it begins, and nothing else.
         ensures held { held self.new ≡ begun (following self.old.plan.made) (held self.old) }
@@ -201,7 +209,11 @@ impl ObjectStore for MemoryStore {
         ensures made { self.new.plan.made ≡ following self.old.plan.made }
     {
         match self.begin() {
-            None => self.kept.shelf.get(alloc, key, from, len),
+            None => {
+                let answer = self.kept.shelf.get(alloc, key, from, len);
+                self.given = given_behind(self.given, &answer);
+                answer
+            }
             Some(_) => {
                 self.plan.count_fault();
                 Err(GetError::Failed)

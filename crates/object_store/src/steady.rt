@@ -2,6 +2,7 @@ ghost use Rattle.std.specs.Prelude.{◌≡◌, [], IfOk, IsErr, IsErrOf, length,
 ghost use Rattle.std.specs.Option.{option_copied};
 ghost use Rattle.std.specs.FinMap as finmap;
 
+use crate::given::given_behind;
 use crate::kept::Kept;
 use crate::{CreateError, GetError, Key, Keys, ListError, ObjectStore, Piece};
 use byte_fields::Failed;
@@ -11,6 +12,8 @@ use std::alloc::Global;
 #[derive(Drop)]
 pub struct SteadyStore {
     kept: Kept,
+    // How many bytes it gave.
+    given: u64,
 }
 
 impl SteadyStore {
@@ -23,6 +26,7 @@ impl SteadyStore {
     {
         SteadyStore {
             kept: Kept::vacant(alloc),
+            given: 0,
         }
     }
 }
@@ -35,12 +39,16 @@ impl ObjectStore for SteadyStore {
 
     ghost fault_count = { λ _. 0 };
 
+    ghost given = { λ s. s.given };
+
     fn create(&mut self, alloc: Global, key: &Key, content: &[u8]) -> Result<(), CreateError> {
         self.kept.create(alloc, key, content)
     }
 
     fn get(&mut self, alloc: Global, key: &Key, from: u64, len: u64) -> Result<Piece, GetError> {
-        self.kept.shelf.get(alloc, key, from, len)
+        let answer = self.kept.shelf.get(alloc, key, from, len);
+        self.given = given_behind(self.given, &answer);
+        answer
     }
 
     fn delete(&mut self, key: &Key) -> Result<(), Failed> {

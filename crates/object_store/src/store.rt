@@ -1,7 +1,7 @@
 ghost use Rattle.std.specs.Prelude.{◌≡◌, ◌≤◌, ◌<◌, ◌^◌, List, ℕ, length, take, drop, Option, IfOk, IsErr, IsErrOf};
 ghost use Rattle.std.specs.Option.{option_copied};
 ghost use Rattle.byte_fields.specs.Causes.{HasCause};
-ghost use Rattle.object_store.specs.Store.{State, AfterLanding, Creates, Gets, Deletes, Lists};
+ghost use Rattle.object_store.specs.Store.{State, AfterLanding, Creates, Gets, Deletes, Lists, given_more};
 
 use crate::{Key, Keys};
 use byte_fields::{Bytes, Failed};
@@ -91,6 +91,9 @@ pub trait ObjectStore {
     /// How often it has failed, up to 2 ^ 64 - 1.
     ghost fault_count: { Self → ℕ };
 
+    /// How many bytes of objects it has given, up to 2 ^ 64 - 1.
+    ghost given: { Self → ℕ };
+
     /// Makes an object under a key that is absent. An object that stands keeps its bytes.
     fn create(&mut self, alloc: Global, key: &Key, content: &[u8]) -> Result<(), CreateError>
         ensures step { AfterLanding (told self.old) (told self.new) (Creates key.now content.now result) }
@@ -100,6 +103,7 @@ pub trait ObjectStore {
     fn get(&mut self, alloc: Global, key: &Key, from: u64, len: u64) -> Result<Piece, GetError>
         ensures step { AfterLanding (told self.old) (told self.new) (Gets key.now from len result) }
         ensures bound { IfOk result (λ piece. length piece.bytes ≤ len) }
+        ensures given { given self.new ≡ given_more result (given self.old) }
         ensures cause { HasCause (fault_count self.old) (fault_count self.new) (IsErrOf result GetError.Failed) };
 
     /// Removes an object. An absent key is `Ok`. It takes no memory.

@@ -57,6 +57,8 @@ impl ObjectStore for CountedStore {
 
     ghost fault_count = { λ s. s.store.plan.faults };
 
+    ghost given = { λ s. s.store.given };
+
     fn create(&mut self, alloc: Global, key: &Key, content: &[u8]) -> Result<(), CreateError> {
         self.store.create(alloc, key, content)
     }

@@ -11,7 +11,7 @@ use crate::object_making::{Maker, remove_object};
 use crate::object_reading::read_piece;
 use crate::writer_lock::{LOCK, WriterLock, locked};
 use byte_fields::Failed;
-use object_store::{CreateError, GetError, Key, Keys, ListError, ObjectStore, Piece};
+use object_store::{CreateError, GetError, Key, Keys, ListError, ObjectStore, Piece, given_behind};
 use std::alloc::{AllocError, Global};
 use std::str;
 
@@ -36,6 +36,8 @@ pub struct FolderStore<'a, F: WriterLock> {
     place: FolderPath,
     writer: Option<Writer<F::File>>,
     faults: Faults,
+    // How many bytes it gave.
+    given: u64,
 }
 
 // The key as a path in the folder, if it is one.
@@ -58,6 +60,7 @@ impl<'a, F: WriterLock> FolderStore<'a, F> {
             place: FolderPath::of(alloc, folder)?,
             writer,
             faults: Faults::with_room(alloc, FolderPath::room(folder))?,
+            given: 0,
         })
     }
 
@@ -100,13 +103,15 @@ impl<'a, F: WriterLock> FolderStore<'a, F> {
     fn fail(&mut self, trouble: Trouble)
         ensures later { self.old.faults.count ≤ self.new.faults.count }
         ensures rose { Rose self.old.faults.count self.new.faults.count }
+        ensures given { self.new.given ≡ self.old.given }
     {
         self.faults.add(self.place.path(), trouble);
     }
 
     // A writer's folder is locked. It takes no memory.
     fn lock(&mut self) -> Result<(), Trouble>
-        ensures { self.new.faults ≡ self.old.faults }
+        ensures faults { self.new.faults ≡ self.old.faults }
+        ensures given { self.new.given ≡ self.old.given }
     {
         if let Some(writer) = &mut self.writer {
             if writer.held.is_none() {
@@ -119,7 +124,8 @@ impl<'a, F: WriterLock> FolderStore<'a, F> {
 
     // A writer's folder is locked, and has no files beside of others.
     fn begin(&mut self, alloc: Global) -> Result<(), Trouble>
-        ensures { self.new.faults ≡ self.old.faults }
+        ensures faults { self.new.faults ≡ self.old.faults }
+        ensures given { self.new.given ≡ self.old.given }
     {
         self.lock()?;
         if let Some(writer) = &mut self.writer {
@@ -156,6 +162,7 @@ impl<'a, F: WriterLock> FolderStore<'a, F> {
     ) -> Result<Option<Piece>, Trouble>
         ensures bound { IfOk result (λ found. IfSome found (λ piece. length piece.bytes ≤ len)) }
         ensures faults { self.new.faults ≡ self.old.faults }
+        ensures given { self.new.given ≡ self.old.given }
     {
         self.begin(alloc)?;
         let Some(name) = key_name(key) else {
@@ -200,6 +207,8 @@ impl<'a, F: WriterLock> ObjectStore for FolderStore<'a, F> {
 
     ghost fault_count = { λ s. s.faults.count };
 
+    ghost given = { λ s. s.given };
+
     fn create(&mut self, alloc: Global, key: &Key, content: &[u8]) -> Result<(), CreateError> {
         match self.make(alloc, key, content) {
             Ok(true) => Ok(()),
@@ -214,7 +223,11 @@ impl<'a, F: WriterLock> ObjectStore for FolderStore<'a, F> {
 
     fn get(&mut self, alloc: Global, key: &Key, from: u64, len: u64) -> Result<Piece, GetError> {
         match self.piece(alloc, key, from, len) {
-            Ok(Some(piece)) => Ok(piece),
+            Ok(Some(piece)) => {
+                let answer = Ok(piece);
+                self.given = given_behind(self.given, &answer);
+                answer
+            }
             Ok(None) => Err(GetError::Absent),
             Err(trouble) if trouble.is_memory() => Err(GetError::Memory(AllocError)),
             Err(trouble) => {
