@@ -18,7 +18,7 @@ use Rattle.index_world.specs.Configuration.{configuration}
 use Rattle.index_world.specs.Core.{Core, Late, late_key, file_at, IsNotLateIn, IsUnusedIn, IsStoredIn, IsShownIn, IsUploadedIn, IsPlannedIn, IsOther, KeepsFor, KeepsBut, journal_of}
 use Rattle.index_world.specs.Held.{All, But}
 use Rattle.index_world.specs.Held as held
-use Rattle.index_world.specs.Index.{IsNotLate, IsUnused, IsStored, IsFound, IsLeft, IsGivenUp}
+use Rattle.index_world.specs.Index.{IsNotLate, IsUnused, IsStored, IsFound, IsLeft}
 use Rattle.index_world.specs.Seen.{contents}
 use Rattle.index_world.specs.SplitFile.{file_of}
 use Rattle.index_world.specs.Standing.{late_object, StandsFor}

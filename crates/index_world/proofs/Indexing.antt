@@ -26,14 +26,14 @@ use Rattle.split_states.specs.declared.rows.Row.{Row}
 use Rattle.index_world.specs.Config.{reads}
 use Rattle.index_world.specs.Configuration.{configuration}
 use Rattle.index_world.specs.Held.{NoneAtEnd, KeepsFor, KeepsHeld, All, Still, Enters, AfterLanding}
-use Rattle.index_world.specs.Index.{IsRowKept, AreRowsKept, IsLateKey, Stands, IsIndexOf, IsStagedKey, IsNotLate, IsUnused, IsStored, IsFound, MayEnter, MayLand, IsBelowEnd, IsLateEntry, IsAllowed, HasStaged, has_staged, max_entries, is_meta, is_split}
+use Rattle.index_world.specs.Index.{IsRowKept, AreRowsKept, IsLateKey, Stands, IsIndexOf, IsStagedKey, IsNotLate, IsUnused, IsFound, MayEnter, MayLand, IsBelowEnd, IsLateEntry, IsAllowed, HasStaged, has_staged, max_entries, is_meta, is_split}
 use Rattle.index_world.proofs.Deleting.{Carries, MayEnter-carried, LateEntries-carried, keys_apart}
 use Rattle.index_world.proofs.Entering.{enters_both, unshown_more}
 use Rattle.index_world.proofs.InHand.{HasStaged-new}
 use Rattle.index_world.proofs.Journals.{stand-of, Stand-same, Stand-at, StandFrom-of, journal-end}
 use Rattle.index_world.proofs.StoreChanges.{All-snoc, staged_last}
 pub use Rattle.index_world.proofs.StoreChanges.{last_within}
-use Rattle.index_world.proofs.StoreKeys.{true_is_false, split_begins, meta_no_split, meta_is_no_split, split_key-injective, outside_apart, none_some, kept_at, absent_at, stood, get-other}
+use Rattle.index_world.proofs.StoreKeys.{true_is_false, split_begins, meta_no_split, meta_is_no_split, split_key-injective, outside_apart, kept_at, absent_at, stood, get-other}
 
 pub All-remove : {X : Type 0} (P : X → Type 0) (xs : List X) (i : ℕ) → AllByRecursion P xs → AllByRecursion P (remove xs i)
 All-remove P [] zero h = tt

@@ -1,5 +1,5 @@
 -- A create, an upload, a delete and a load leave a sound index.
-use Rattle.std.proofs.Common.{◌≡◌, ◌⊎◌, ℕ, ◌≤◌, List, [], ◌∷◌, ◌++◌, refl, sym, ap, ◌∙◌, subst, inl, inr, true, length, arith}
+use Rattle.std.proofs.Common.{◌≡◌, ◌⊎◌, ℕ, List, [], ◌∷◌, ◌++◌, refl, sym, ap, ◌∙◌, subst, inl, inr, true, length, arith}
 use Rattle.std.specs.FinMap.{get}
 use Rattle.std.specs.FinMap as finmap
 use Rattle.std.specs.Cmp.Lexicographic.{slice_cmp}
@@ -17,8 +17,8 @@ use Rattle.object_store.specs.declared.store.CreateError.{CreateError}
 use Rattle.object_store.specs.declared.store.CreateError.TheVariants as creates
 use Rattle.source_log.specs.Log.{Log}
 use Rattle.index_world.specs.Config.{reads}
-use Rattle.index_world.specs.Held.{NoneAtEnd, KeepsFor, KeepsHeld, All, But, Enters, Adopts, AfterLanding, AfterCreate, Goes, AfterUpload, AfterDelete, Loads}
-use Rattle.index_world.specs.Index.{IsIndexOf, IsLateKey, IsLateEntry, IsNotLate, IsUnused, IsStored, IsFound, IsGivenUp, MayEnter, is_meta, OneEntry}
+use Rattle.index_world.specs.Held.{NoneAtEnd, KeepsFor, All, But, Enters, Adopts, AfterLanding, AfterCreate, Goes, AfterUpload, AfterDelete, Loads}
+use Rattle.index_world.specs.Index.{IsIndexOf, IsLateKey, IsLateEntry, IsNotLate, IsUnused, IsStored, IsFound, IsGivenUp, MayEnter, OneEntry}
 use Rattle.index_world.proofs.Deleting.{LateEntries-carried, keys_apart, index-deleted}
 use Rattle.index_world.proofs.Indexing.{Below, Object, longer, below_stands, Stands-late, object-more, keeps-trans, held-fewer, index-enters, index-tried, index-dead, index-HasLanded, Still-trans, Still-enters, Enters-still}
 use Rattle.index_world.proofs.Journals.{journal-end, one-journal}

@@ -1,5 +1,5 @@
 -- The rows of what was taken in stay kept where the journal goes on, and a published one of them has its file.
-use Rattle.std.proofs.Common.{◌≡◌, ◌⊎◌, ℕ, List, ◌++◌, ◌∷◌, [], sym, ap, ◌∙◌, subst, inl, inr, true, refl}
+use Rattle.std.proofs.Common.{◌≡◌, ◌⊎◌, ℕ, List, sym, ap, ◌∙◌, subst, inr, true}
 use Rattle.std.specs.FinMap.{get}
 use Rattle.std.specs.List.{AllByRecursion}
 use Rattle.std.specs.Prelude.{Option, Some, None, is_some}
