@@ -17,12 +17,12 @@ use Rattle.index_world.specs.Index.{OneEntry, IsUnused, IsStored, is_meta}
 use Rattle.index_world.specs.Standing.{StandsFor}
 use Rattle.index_world.specs.World.{IsWorld}
 use Rattle.index_world.specs.Held.{All, But}
-use Rattle.index_world.specs.Onward.{Onward}
+use Rattle.index_world.specs.Onward.{Onward, Reread}
 use Rattle.index_world.proofs.StoreKeys.{true_is_false, split_outside}
 use Rattle.index_world.proofs.Journals.{one-journal}
 use Rattle.index_world.proofs.InHand.{number_apart}
 use Rattle.index_world.proofs.Indexing.{keeps-trans, held-fewer}
-use Rattle.index_world.proofs.Worlds.{Onward-trans, held-refl, world-same, world-unmarked}
+use Rattle.index_world.proofs.Worlds.{Onward-trans, Reread-behind, Reread-then, held-refl, onward-refl, world-reborn}
 use Rattle.index_world.proofs.WorldCalls.{Filed, world-file, world-file-late, world-taken}
 use Rattle.index_world.proofs.JournalCalls.{Counted, Begun, quiet, failing, rose_may, world-begins}
 
@@ -49,10 +49,10 @@ pub record UploadLaw (old new : State) (core : Core) (log : Log) (n : ℕ) (byte
 
 filed-on : (old mid new : State) (core between after : Core) (log : Log) (n : ℕ) → Onward old mid core between log → Filed mid new between after log n → Filed old new core after log n
 filed-on old mid new core between after log n o f =
-    record { world = f.world; others = keeps-trans (But n) All old mid new (journal_of core) (journal_of between) (journal_of after) o.held f.others }
+    record { world = f.world; others = keeps-trans (But n) All old mid new (journal_of core) (journal_of between) (journal_of after) o.held f.others; live = λ until m l. f.live until m (o.live until m l) }
 
 filed-of : (old new : State) (core after : Core) (log : Log) (n : ℕ) → Onward old new core after log → Filed old new core after log n
-filed-of old new core after log n o = record { world = o.world; others = held-fewer (But n) All old new (journal_of core) (journal_of after) o.held }
+filed-of old new core after log n o = record { world = o.world; others = held-fewer (But n) All old new (journal_of core) (journal_of after) o.held; live = o.live }
 
 absent_file : (kept : State) (core : Core) (n : ℕ) → StandsFor kept core → IsUnused kept (journal_of core) n → is_some (file_at core.files (split_key n)) ≡ false
 absent_file kept core n s u = ap is_some (s.files (split_key n) (split_outside n) ∙ u.absent)
@@ -194,7 +194,7 @@ sought_short_law once old new core log now key w c t =
 standing_taken : (kept : State) (core : Core) (log : Log) (standing : Option Entry) → IsWorld kept core log → core.standing ≡ standing →
     Onward kept kept core (with_standing standing core) log × ((with_standing standing core).history ≡ journal_of core) × ((with_standing standing core).standing ≡ None) × (clock_of (with_standing standing core) ≡ clock_of core)
     × ((with_standing standing core).store_faults ≡ core.store_faults)
-standing_taken kept core log None w e = (record { world = w; held = held-refl kept (journal_of core) }, ap (with_unread core.history) (sym e), e, refl, refl)
+standing_taken kept core log None w e = (onward-refl kept core log w, ap (with_unread core.history) (sym e), e, refl, refl)
 standing_taken kept core log (Some entry) w e = (world-taken kept core log entry w e, ap (with_unread core.history) (sym e), refl, refl, refl)
 
 -- a history with what stands unread is that history and more
@@ -206,7 +206,7 @@ pub record LoadLaw (old new : State) (core : Core) (log : Log) (read : List Entr
   pub fate : Fate
   pub after : Core
   pub did : loaded fate core ≡ gives answer after
-  pub onward : Onward old new core after log
+  pub onward : Reread old new core after log
   pub more : List Entry
   pub grown : after.history ≡ core.history ++ more
   pub history : after.history ≡ read
@@ -231,7 +231,7 @@ load_law once old mid new core log read now w c t j u =
       fate = two_calls first second;
       after = begun second whole;
       did = ap (λ es. unless_empty (length es == 0) (begun second whole)) same ∙ empty_or_not read (begun second whole);
-      onward = Onward-trans old mid new core whole (begun second whole) log there last.onward;
+      onward = Reread-then old mid new core whole (begun second whole) log there last.onward;
       more = more.0;
       grown = last.history ∙ s.1 ∙ more.1;
       history = last.history ∙ same;
@@ -266,13 +266,9 @@ load_law once old mid new core log read now w c t j u =
     same : whole.history ≡ read
     same = s.1 ∙ one-journal once mid 0 (journal_of start) read b.onward.world.stands_for.journal j
 
-    there : Onward old mid core whole log
-    there = Onward-trans old mid mid core start whole log b.onward
-        (record {
-          world = world-unmarked mid (record (with_standing start.standing start) { moment = moment_of (told (with_standing start.standing start).history); unsure = false }) log
-              (world-same mid (with_standing start.standing start) log (with_standing start.standing start).store_faults (moment_of (told (with_standing start.standing start).history)) (with_standing start.standing start).clock false s.0.world);
-          held = s.0.held;
-        })
+    there : Reread old mid core whole log
+    there = Reread-behind old mid mid core (with_standing start.standing start) whole log (Onward-trans old mid mid core start (with_standing start.standing start) log b.onward s.0)
+        (record { world = world-reborn mid (with_standing start.standing start) log s.2 s.0.world; held = held-refl mid (journal_of (with_standing start.standing start)) })
 
     faults : whole.store_faults ≡ now
     faults = s.4 ∙ b.faults

@@ -1,5 +1,5 @@
 -- Numbers in hand in the words of the core.
-use Rattle.std.proofs.Common.{◌≡◌, ◌⊎◌, inl, inr, ℕ, ◌≤◌, ◌<◌, ◌+◌, List, [], ◌∷◌, ◌++◌, sym, ap, ◌∙◌, subst, map, arith, append_assoc, append-nil}
+use Rattle.std.proofs.Common.{◌≡◌, refl, ◌⊎◌, inl, inr, ℕ, ◌≤◌, ◌<◌, ◌+◌, List, [], ◌∷◌, ◌++◌, sym, ap, ◌∙◌, subst, map, arith, append_assoc, append-nil}
 use Rattle.std.specs.List.{AllByRecursion}
 use Rattle.std.specs.Prelude.{Option, Some, None}
 use Rattle.index_config.specs.declared.config.IndexConfig.{IndexConfig}
@@ -15,7 +15,7 @@ use Rattle.split_states.specs.declared.rows.Row.{Row}
 use Rattle.split_states.specs.declared.rows.RowState.TheVariants.{Published}
 use Rattle.index_world.specs.Config.{reads}
 use Rattle.index_world.specs.Configuration.{configuration}
-use Rattle.index_world.specs.Core.{Core, Late, late_key, file_at, IsNotLateIn, IsUnusedIn, IsStoredIn, IsShownIn, IsUploadedIn, IsPlannedIn, IsOther, KeepsFor, KeepsBut, journal_of}
+use Rattle.index_world.specs.Core.{Core, Late, late_key, file_at, IsNotLateIn, IsUnusedIn, IsStoredIn, IsShownIn, IsUploadedIn, IsPlannedIn, IsLive, IsOther, KeepsFor, KeepsBut, journal_of}
 use Rattle.index_world.specs.Held.{All, But}
 use Rattle.index_world.specs.Held as held
 use Rattle.index_world.specs.Index.{IsNotLate, IsUnused, IsStored, IsFound, IsLeft}
@@ -23,9 +23,10 @@ use Rattle.index_world.specs.Seen.{contents}
 use Rattle.index_world.specs.SplitFile.{file_of}
 use Rattle.index_world.specs.Standing.{late_object, StandsFor}
 use Rattle.index_world.specs.World.{IsWorld, GoesFor, GoesOn}
-use Rattle.index_world.specs.Onward.{Onward}
+use Rattle.index_world.specs.Onward.{Onward, Reread}
 use Rattle.index_world.specs.DirectLaws.{stays_as_is}
 use Rattle.index_world.proofs.StoreKeys.{split_outside, none_some}
+use Rattle.index_world.proofs.Living.{live-on}
 use Rattle.index_world.proofs.Taken.{published_file}
 use Rattle.index_world.proofs.WorldCalls.{Filed}
 
@@ -90,11 +91,16 @@ keeps_by Kept Stays old new core after s t h =
     }
 
 planned_by : (Kept : ℕ → Type 0) (old new : State) (core after : Core) → StandsFor old core → StandsFor new after → held.KeepsFor Kept All old new (journal_of core) (journal_of after) → core.moment ≤ after.moment →
-    (until n : ℕ) (bytes : List ℕ) → IsPlannedIn core until n bytes → IsPlannedIn after until n bytes
-planned_by Kept old new core after s t h later until n bytes p = record { stands = λ early. stored-in new after n bytes t (h.stored n bytes tt (stored-of old core n bytes s (p.stands (omega (arith, early, later))))) }
+    ((until n : ℕ) → IsLive core until n → IsLive after until n) → (until n : ℕ) (bytes : List ℕ) → IsPlannedIn core until n bytes → IsPlannedIn after until n bytes
+planned_by Kept old new core after s t h later live until n bytes p =
+    record { live = live until n p.live; stands = λ early. stored-in new after n bytes t (h.stored n bytes tt (stored-of old core n bytes s (p.stands (omega (arith, early, later))))) }
 
 fewer : (Kept Fewer : ℕ → Type 0) (core after : Core) → ((n : ℕ) → Fewer n → Kept n) → KeepsFor Kept core after → KeepsFor Fewer core after
 fewer Kept Fewer core after less k = record { configured = k.configured; unused = λ n kept u. k.unused n (less n kept) u; uploaded = k.uploaded; shown = k.shown; staged = k.staged; given_up = k.given_up }
+
+-- also of a new life
+pub keeps_reread : (old new : State) (core after : Core) (log : Log) → StandsFor old core → Reread old new core after log → KeepsBut None core after
+keeps_reread old new core after log s o = fewer All (IsOther None) core after (λ n other. tt) (keeps_by All All old new core after s o.world.stands_for o.held)
 
 pub keeps_all : (old new : State) (core after : Core) (log : Log) → StandsFor old core → Onward old new core after log → KeepsBut None core after
 keeps_all old new core after log s o = fewer All (IsOther None) core after (λ n other. tt) (keeps_by All All old new core after s o.world.stands_for o.held)
@@ -110,7 +116,7 @@ goes-on old new core after log s o more grown faults moment =
       faults = faults;
       moment = moment;
       keeps = keeps_all old new core after log s o;
-      planned = planned_by All old new core after s o.world.stands_for o.held moment;
+      planned = planned_by All old new core after s o.world.stands_for o.held moment o.live;
     }
 
 pub file-goes-on : (old new : State) (core after : Core) (log : Log) (n : ℕ) → StandsFor old core → Filed old new core after log n → after.history ≡ core.history ++ [] →
@@ -121,7 +127,7 @@ file-goes-on old new core after log n s f grown faults moment =
       faults = faults;
       moment = moment;
       keeps = keeps_others old new core after log n s f;
-      planned = planned_by (But n) old new core after s f.world.stands_for f.others moment;
+      planned = planned_by (But n) old new core after s f.world.stands_for f.others moment f.live;
     }
 
 pub KeepsBut-refl : (core : Core) → KeepsBut None core core
@@ -210,7 +216,10 @@ moment_goes Kept core moment clock later =
         staged = λ n d f h. h;
         given_up = λ n g. g;
       };
-      planned = λ until n bytes p. record { stands = λ early. stored_then core moment clock n bytes (p.stands (omega (arith, early, later))) };
+      planned = λ until n bytes p. record {
+        live = live-on core (record core { moment = moment; clock = clock }) (record { history = refl; marks = refl; moment = later }) until n p.live;
+        stands = λ early. stored_then core moment clock n bytes (p.stands (omega (arith, early, later)));
+      };
     }
   where
     by : (n : ℕ) (bytes : List ℕ) → IsUploadedIn core n bytes → IsUploadedIn (record core { moment = moment; clock = clock }) n bytes
@@ -227,4 +236,17 @@ pub plan_begins : (kept : State) (core : Core) (log : Log) (config : IndexConfig
 plan_begins kept core log config n row w is found state =
     let f = published_file kept core.history core.standing log w.index.stands config n row is w.taken found state in
     let stored = stored-in kept core n _ w.stands_for f.0 in
-    (stored, shown-in kept core n _ w.stands_for f.1, record { stands = λ early. stored })
+    (
+      stored,
+      shown-in kept core n _ w.stands_for f.1,
+      record {
+        live = record {
+          config = config;
+          configured = is;
+          planned_at = core.moment;
+          ends = refl;
+          lasting = record { since = omega arith; lasts = λ early. record { row = row; found = found; state = inl state } };
+        };
+        stands = λ early. stored;
+      },
+    )

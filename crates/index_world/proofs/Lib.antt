@@ -17,6 +17,9 @@ pub mod WholeIndex
 pub mod StoreCalls
 pub mod Landing
 pub mod Taken
+pub mod Lasting
+pub mod Doomed
+pub mod Living
 pub mod Worlds
 pub mod WorldCalls
 pub mod JournalCalls

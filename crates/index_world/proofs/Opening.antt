@@ -18,6 +18,7 @@ use Rattle.index_world.specs.Standing.{late_object, IsCalled}
 use Rattle.index_world.specs.World.{IsWorld}
 use Rattle.index_world.proofs.StoreKeys.{true_is_false}
 use Rattle.index_world.proofs.Indexing.{Object}
+use Rattle.index_world.proofs.Living.{born-removes}
 
 to_file : Object → File
 to_file o = record { key = o.0; bytes = o.1 }
@@ -80,5 +81,6 @@ index_opens kept history log count clock i =
         };
         index = i;
         taken = i.stands.rows;
+        removes = born-removes kept (record { history = history; store_faults = count; moment = moment_of (told history); clock = clock; frozen = false; files = map to_file (entries kept.objects); unsure = false; standing = None; late = c.lates; marks = [] }) log i refl refl c.are c.called;
       };
     }

@@ -14,7 +14,7 @@ use Rattle.index_world.specs.Core.{Core, IsOther, KeepsBut, journal_of}
 use Rattle.index_world.specs.World.{IsWorld, IsTimely, Keeping, WorldStands, GoesFor, GoesOn}
 use Rattle.index_world.specs.Onward.{Onward}
 use Rattle.index_world.proofs.Asking.{timely_asked, asked_least}
-use Rattle.index_world.proofs.Worlds.{held-refl, world-same}
+use Rattle.index_world.proofs.Worlds.{world-same, onward-refl}
 use Rattle.index_world.proofs.InCore.{goes-on, goes_both, moment_goes}
 use Rattle.index_world.proofs.JournalCalls.{Counted, quiet, calm_get}
 use Rattle.index_world.proofs.JournalLaws.{Settled, Unsettled}
@@ -156,7 +156,7 @@ looks_sure kept core log short w t sure =
       short = short;
       after = core;
       did = ap (copying short) (settled_sure core calm_get calm_get sure refl) ∙ copied_is short core;
-      onward = record { world = w; held = held-refl kept (journal_of core) };
+      onward = onward-refl kept core log w;
       ends = ends_same core core core.unsure core.store_faults refl refl refl refl refl;
       timely = t;
     }

@@ -21,7 +21,7 @@ use Rattle.index_world.specs.World.{IsWorld, IsTimely, WorldStands}
 use Rattle.index_world.proofs.StoreKeys.{true_is_false, meta_begins}
 use Rattle.index_world.proofs.Journals.{stand-of, Stand-at}
 use Rattle.index_world.proofs.Asking.{timely_asked}
-use Rattle.index_world.proofs.InCore.{keeps_all, file-goes-on, stored-in}
+use Rattle.index_world.proofs.InCore.{file-goes-on, stored-in, keeps_reread}
 use Rattle.index_world.proofs.JournalCalls.{Counted, Begun}
 use Rattle.index_world.proofs.JournalLaws.{appends_short}
 use Rattle.index_world.proofs.FileCalls.{one_call, UploadLaw, LoadLaw, load_answer}
@@ -129,7 +129,7 @@ whole_loaded old mid new core log read now w clock some l j =
       did = l.did ∙ ap (λ r. gives r l.after) (ok_of read some);
       history = l.history;
       grown = (l.more, sym l.history ∙ l.grown);
-      keeps = keeps_all old new core l.after log w.stands_for l.onward;
+      keeps = keeps_reread old new core l.after log w.stands_for l.onward;
       faults = l.faults;
       moment = l.moment;
       unsure = l.unsure;

@@ -1,13 +1,17 @@
 -- What one life of a world knows of its store and its clock, whatever its actors do.
-use Rattle.std.specs.Prelude.{◌≡◌, ◌⊎◌, ◌<◌, ℕ, ◌-◌, ◌^◌, Bool, true, false, List, [], ◌∷◌, ◌++◌, Option, Some, None, bytes_eq, if◌then◌else◌}
+use Rattle.std.specs.Prelude.{◌≡◌, ◌⊎◌, ◌<◌, ◌≤◌, ◌==◌, ℕ, ◌+◌, ◌-◌, ◌^◌, max, Bool, true, false, List, [], ◌∷◌, ◌++◌, Option, Some, None, bytes_eq, if◌then◌else◌}
 use Rattle.std.specs.List.{AllByRecursion}
 use Rattle.index_config.specs.declared.config.IndexConfig.{IndexConfig}
 use Rattle.meta_journal.specs.Places.{meta_key, split_key}
 use Rattle.meta_journal.specs.declared.entry.Entry.{Entry}
-use Rattle.meta_store.specs.History.{history}
+use Rattle.meta_store.specs.History.{History, history}
+use Rattle.meta_store.specs.Rows.{rows}
 use Rattle.meta_store.specs.Numbers.{is_shown}
 use Rattle.source_checkpoint.specs.declared.delta.Part.{Part}
+use Rattle.split_states.specs.Rows.{row_at}
 use Rattle.split_states.specs.declared.facts.RowFacts.{RowFacts}
+use Rattle.split_states.specs.declared.rows.Row.{Row}
+use Rattle.split_states.specs.declared.rows.RowState.TheVariants.{Published, Marked}
 use Rattle.index_world.specs.Configuration.{configuration, StaysConfigured}
 use Rattle.index_world.specs.Index.{has_staged, HasStaged, IsGivenUp}
 
@@ -104,8 +108,40 @@ pub record IsShownIn (core : Core) (number : ℕ) (bytes : List ℕ) : Type 0 wh
 abbrev pub IsUploadedIn : Core → (number : ℕ) → List ℕ → Type 0
 IsUploadedIn core number bytes = IsStoredIn core number bytes ⊎ IsGivenUp (journal_of core) number
 
--- A PLANNED FILE: it stands as long as the moment is below this one. It begins by a plan (the law `plans_begin`), and each call keeps it.
+-- ---- until when a row lasts that was published when it was planned
+
+-- the greatest moment at which this life took a marking of the number in, 0 where it took none in
+abbrev pub taken_at : List Marking → ℕ → ℕ
+taken_at [] n = 0
+taken_at (mark ∷ marks) n = if mark.number == n then max mark.moment (taken_at marks n) else taken_at marks n
+
+-- THE RELEASE of a marked row: the grace behind its marking, or behind the moment at which this life took that in
+abbrev pub release_of : (grace : ℕ) → List Marking → Row → ℕ
+release_of grace marks row = max row.marked_at (taken_at marks row.number) + grace
+
+-- the row of the number stands, published, or marked and not released before this moment
+pub record Lasts (grace : ℕ) (h : History) (marks : List Marking) (until number : ℕ) : Type 0 where
+  pub row : Row
+  pub found : row_at (rows h) number ≡ Some row
+  pub state : (row.state ≡ Published) ⊎ ((row.state ≡ Marked) × (until ≤ release_of grace marks row))
+
+-- A row that was planned at a moment: until the grace behind it has passed it lasts.
+pub record IsLasting (grace : ℕ) (core : Core) (planned_at number : ℕ) : Type 0 where
+  pub since : planned_at ≤ core.moment
+  pub lasts : core.moment < planned_at + grace → Lasts grace (history core.history) core.marks (planned_at + grace) number
+
+-- the same under the configuration of what was taken in, up to this moment
+pub record IsLive (core : Core) (until number : ℕ) : Type 0 where
+  pub config : IndexConfig
+  pub configured : configuration core.history ≡ Some config
+  pub planned_at : ℕ
+  pub ends : until ≡ planned_at + config.deletion_grace
+  pub lasting : IsLasting config.deletion_grace core planned_at number
+
+-- A PLANNED FILE: its row lasts, and it stands as long as the moment is below this one. It begins by a plan (the law `plans_begin`), and
+-- each call keeps it.
 pub record IsPlannedIn (core : Core) (until number : ℕ) (bytes : List ℕ) : Type 0 where
+  pub live : IsLive core until number
   pub stands : core.moment < until → IsStoredIn core number bytes
 
 -- what a number in hand was staged with

@@ -8,6 +8,7 @@ use Rattle.meta_store.specs.State as meta
 use Rattle.index_world.specs.Config.{reads}
 use Rattle.index_world.specs.Core.{Core, KeepsFor, IsOther, IsPlannedIn, journal_of}
 use Rattle.index_world.specs.Index.{IsIndexOf, IsTaken, max_entries}
+use Rattle.index_world.specs.Releases.{RemovesInTime}
 use Rattle.index_world.specs.Standing.{StandsFor}
 
 -- THE WORLD'S INVARIANT: the core stands for the store, and the store is an index whose journal is the core's
@@ -17,6 +18,8 @@ pub record IsWorld (kept : State) (core : Core) (log : Log) : Type 0 where
   pub stands_for : StandsFor kept core
   pub index : IsIndexOf kept (journal_of core) log
   pub taken : IsTaken kept core.history log
+  -- what may still be taken in removes rows alone whose grace has passed, also behind the moment where their marking was taken in
+  pub removes : RemovesInTime core
 
 -- The moment is at least those of the history, and the format can spell it. Only a number below the limit is unsure.
 pub record IsTimely (core : Core) : Type 0 where

@@ -10,8 +10,8 @@ ghost use Rattle.object_store.specs.Store.{State, landed, with_object, with_late
 ghost use Rattle.object_store.specs.declared.store.CreateError.{CreateError};
 ghost use Rattle.source_log.specs.Log.{Log, IsLog};
 ghost use Rattle.index_world.specs.Index.{IsIndexOf, IsSplitKept, IsWholeIndexOf, MayEnter, IsUnused};
-ghost use Rattle.std.specs.Prelude.{None, Some, Bool, true, false, ◌<◌, ◌+◌, ◌++◌, ◌∷◌};
-ghost use Rattle.meta_store.specs.History.{moment_of, history as told};
+ghost use Rattle.std.specs.Prelude.{None, Some, Bool, true, false, ◌<◌, ◌≤◌, ◌+◌, ◌++◌, ◌∷◌};
+ghost use Rattle.meta_store.specs.History.{moment_of, last_number, history as told};
 ghost use Rattle.meta_store.specs.Ledgers.{ledger};
 ghost use Rattle.meta_store.specs.Rows.{rows};
 ghost use Rattle.meta_store.specs.State.{Legal};
@@ -29,6 +29,8 @@ ghost use Rattle.index_world.specs.Config.{reads};
 ghost use Rattle.index_world.specs.Configuration.{configuration, StaysConfigured};
 ghost use Rattle.index_world.specs.Core.{Core, IsPlannedIn, IsShownIn, IsStoredIn};
 ghost use Rattle.index_world.specs.Index.{MayPublish, IsAllowed, HasStaged, IsGivenUp, IsMade, IsStored};
+ghost use Rattle.meta_journal.specs.declared.entry.Act.TheVariants.{Remove};
+ghost use Rattle.index_world.specs.Releases.{IsDoomed, IsLasting, RemovesReleased, MayDoom};
 ghost use Rattle.index_world.specs.Onward.{Landing};
 ghost use Rattle.index_world.specs.Alike.{AreAlike};
 ghost use Rattle.index_world.specs.World.{IsWorld, IsTimely, Keeping, WorldStands};
@@ -80,6 +82,25 @@ pub fn plans_begin()
         row_at (rows (told core.history)) number ≡ Some row → row.state ≡ Published →
         let file = file_of config (contents config (ledger reads (told core.history)).tasks row log) in
         IsStoredIn core number file × IsShownIn core number file × IsPlannedIn core (core.moment + config.deletion_grace) number file }
+{}
+
+/// What was planned lasts through each entry that a life takes in, as long as those remove released rows alone, and is not what may be
+/// doomed before its grace has passed.
+pub fn planned_lasts()
+    ensures taken { (grace : ℕ) (core : Core) (entry : Entry) (planned_at number : ℕ) → Legal reads (told core.history) → IsAllowed core.history entry →
+        RemovesReleased grace core entry → IsLasting grace core planned_at number → IsLasting grace (taken_in entry core) planned_at number }
+    ensures doomed { (grace : ℕ) (core : Core) (planned_at number doomed : ℕ) → IsLasting grace core planned_at number → core.moment < planned_at + grace →
+        MayDoom grace core doomed → number ≡ doomed → ⊥ }
+    // What was doomed stays released, so a Remove of doomed numbers removes released rows alone.
+    ensures stays { (grace : ℕ) (core : Core) (entry : Entry) (number : ℕ) → Legal reads (told core.history) → IsAllowed core.history entry → number ≤ last_number (told core.history) →
+        IsDoomed grace (told core.history) core.marks core.moment number →
+        IsDoomed grace (told (taken_in entry core).history) (taken_in entry core).marks (taken_in entry core).moment number }
+    ensures removes { (grace : ℕ) (core : Core) (entry : Entry) → core.moment ≤ entry.moment →
+        ((numbers : List ℕ) → entry.act ≡ Remove numbers → AllByRecursion (IsDoomed grace (told core.history) core.marks core.moment) numbers) → RemovesReleased grace core entry }
+    // A late Remove of an earlier life, as this one begins.
+    ensures late { (grace : ℕ) (core : Core) (entry : Entry) → core.marks ≡ [] →
+        ((numbers : List ℕ) → entry.act ≡ Remove numbers → AllByRecursion (λ n. (row : Row) → row_at (rows (told core.history)) n ≡ Some row → row.marked_at + grace ≤ entry.moment) numbers) →
+        RemovesReleased grace core entry }
 {}
 
 /// What a load reads is the journal of which the store is an index.
