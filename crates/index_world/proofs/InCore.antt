@@ -79,7 +79,7 @@ uploaded-of kept core n bytes s (inl u) = inl (stored-of kept core n bytes s u)
 uploaded-of kept core n bytes s (inr g) = inr g
 
 -- what a store keeps of the numbers in hand its core keeps
-keeps_by : (Kept Stays : ℕ → Type 0) (old new : State) (core after : Core) → StandsFor old core → StandsFor new after → held.KeepsFor Kept Stays old new (journal_of core) (journal_of after) → KeepsFor Kept core after
+pub keeps_by : (Kept Stays : ℕ → Type 0) (old new : State) (core after : Core) → StandsFor old core → StandsFor new after → held.KeepsFor Kept Stays old new (journal_of core) (journal_of after) → KeepsFor Kept core after
 keeps_by Kept Stays old new core after s t h =
     record {
       configured = h.configured;
@@ -95,7 +95,7 @@ planned_by : (Kept : ℕ → Type 0) (old new : State) (core after : Core) → S
 planned_by Kept old new core after s t h later live until n bytes p =
     record { live = live until n p.live; stands = λ early. stored-in new after n bytes t (h.stored n bytes tt (stored-of old core n bytes s (p.stands (omega (arith, early, later))))) }
 
-fewer : (Kept Fewer : ℕ → Type 0) (core after : Core) → ((n : ℕ) → Fewer n → Kept n) → KeepsFor Kept core after → KeepsFor Fewer core after
+pub fewer : (Kept Fewer : ℕ → Type 0) (core after : Core) → ((n : ℕ) → Fewer n → Kept n) → KeepsFor Kept core after → KeepsFor Fewer core after
 fewer Kept Fewer core after less k = record { configured = k.configured; unused = λ n kept u. k.unused n (less n kept) u; uploaded = k.uploaded; shown = k.shown; staged = k.staged; given_up = k.given_up }
 
 -- also of a new life

@@ -27,6 +27,7 @@ pub mod Transactions
 pub mod Transacting
 pub mod InCore
 pub mod FileCalls
+pub mod DeleteCalls
 pub mod Opening
 pub mod JournalLaws
 pub mod WholeCalls

@@ -28,3 +28,4 @@ pub mod CallsMade
 pub mod DirectLaws
 pub mod Alike
 pub mod Releases
+pub mod Deleted

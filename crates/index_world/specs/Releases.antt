@@ -1,10 +1,11 @@
 -- What may still be taken in removes released rows alone, and what may be doomed is released.
-use Rattle.std.specs.Prelude.{◌≡◌, ℕ, ◌≤◌, List, length, Some, ⊤}
+use Rattle.std.specs.Prelude.{◌≡◌, true, ℕ, ◌≤◌, List, length, Some, ⊤}
 use Rattle.std.specs.List.{AllByRecursion}
 use Rattle.index_config.specs.declared.config.IndexConfig.{IndexConfig}
 use Rattle.meta_journal.specs.declared.entry.Act.TheVariants.{Remove}
 use Rattle.meta_journal.specs.declared.entry.Entry.{Entry}
 use Rattle.meta_store.specs.History.{History, history}
+use Rattle.meta_store.specs.Numbers.{has_staged}
 use Rattle.meta_store.specs.Rows.{rows}
 use Rattle.split_states.specs.Rows.{row_at}
 use Rattle.split_states.specs.declared.rows.Row.{Row}
@@ -44,3 +45,11 @@ pub record MayDoom (grace : ℕ) (core : Core) (number : ℕ) : Type 0 where
 -- A NUMBER THAT THIS LIFE DOOMED: its row, if it still has one, is marked, and was released by this moment
 abbrev pub IsDoomed : (grace : ℕ) (h : History) → List Marking → (moment number : ℕ) → Type 0
 IsDoomed grace h marks moment number = (row : Row) → row_at (rows h) number ≡ Some row → (row.state ≡ Marked) × (release_of grace marks row ≤ moment)
+
+-- A FILE THAT MAY BE DELETED, by what was taken in: its number was staged, and its row is gone, or is marked and released. So it is no
+-- file of a planned row whose time has not come, whatever stands unread.
+pub record MayFree (core : Core) (number : ℕ) : Type 0 where
+  pub config : IndexConfig
+  pub configured : configuration core.history ≡ Some config
+  pub staged : has_staged core.history number ≡ true
+  pub free : IsDoomed config.deletion_grace (history core.history) core.marks core.moment number

@@ -10,7 +10,7 @@ ghost use Rattle.object_store.specs.Store.{State, landed, with_object, with_late
 ghost use Rattle.object_store.specs.declared.store.CreateError.{CreateError};
 ghost use Rattle.source_log.specs.Log.{Log, IsLog};
 ghost use Rattle.index_world.specs.Index.{IsIndexOf, IsSplitKept, IsWholeIndexOf, MayEnter, IsUnused};
-ghost use Rattle.std.specs.Prelude.{None, Some, Bool, true, false, ◌<◌, ◌≤◌, ◌+◌, ◌++◌, ◌∷◌};
+ghost use Rattle.std.specs.Prelude.{IsErr, None, Some, Bool, true, false, ◌<◌, ◌≤◌, ◌+◌, ◌++◌, ◌∷◌};
 ghost use Rattle.meta_store.specs.History.{moment_of, last_number, history as told};
 ghost use Rattle.meta_store.specs.Ledgers.{ledger};
 ghost use Rattle.meta_store.specs.Rows.{rows};
@@ -27,10 +27,12 @@ ghost use Rattle.index_world.specs.Calls.{all_landed, fence_of, taken_in, asked_
 ghost use Rattle.index_config.specs.declared.config.IndexConfig.{IndexConfig};
 ghost use Rattle.index_world.specs.Config.{reads};
 ghost use Rattle.index_world.specs.Configuration.{configuration, StaysConfigured};
-ghost use Rattle.index_world.specs.Core.{Core, IsPlannedIn, IsShownIn, IsStoredIn};
+ghost use Rattle.byte_fields.specs.Causes.{Rose};
+ghost use Rattle.index_world.specs.Deleted.{DeletesAs};
+ghost use Rattle.index_world.specs.Core.{Core, last_count, IsPlannedIn, IsShownIn, IsStoredIn};
 ghost use Rattle.index_world.specs.Index.{MayPublish, IsAllowed, HasStaged, IsGivenUp, IsMade, IsStored};
 ghost use Rattle.meta_journal.specs.declared.entry.Act.TheVariants.{Remove};
-ghost use Rattle.index_world.specs.Releases.{IsDoomed, IsLasting, RemovesReleased, MayDoom};
+ghost use Rattle.index_world.specs.Releases.{IsDoomed, IsLasting, MayFree, RemovesReleased, MayDoom};
 ghost use Rattle.index_world.specs.Onward.{Landing};
 ghost use Rattle.index_world.specs.Alike.{AreAlike};
 ghost use Rattle.index_world.specs.World.{IsWorld, IsTimely, Keeping, WorldStands};
@@ -101,6 +103,14 @@ pub fn planned_lasts()
     ensures late { (grace : ℕ) (core : Core) (entry : Entry) → core.marks ≡ [] →
         ((numbers : List ℕ) → entry.act ≡ Remove numbers → AllByRecursion (λ n. (row : Row) → row_at (rows (told core.history)) n ≡ Some row → row.marked_at + grace ≤ entry.moment) numbers) →
         RemovesReleased grace core entry }
+{}
+
+/// A delete of a file that may be deleted by what was taken in is the core's own with some fate, whatever stands unread or lands as it
+/// begins: the world stands for the core without that file, and numbers in hand, what was shown and what was planned go on.
+pub fn deletes_are_the_cores()
+    ensures { (old new : State) (core : Core) (log : Log) (number : ℕ) (answer : Result (Unit {0}) Failed) (now : ℕ) → IsWorld old core log → MayFree core number →
+        core.store_faults ≤ now → now ≤ last_count → (IsErr answer → Rose core.store_faults now) →
+        LandsThen (Deletes (split_key number) answer) old new → DeletesAs new core log number answer now }
 {}
 
 /// What a load reads is the journal of which the store is an index.
