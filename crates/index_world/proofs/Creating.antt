@@ -12,6 +12,7 @@ use Rattle.meta_journal.specs.declared.journal_error.JournalError.{JournalError}
 use Rattle.meta_journal.specs.declared.journal_error.JournalError.TheVariants as journal
 use Rattle.meta_journal.specs.declared.place.Place.TheVariants.{Sure, Given}
 use Rattle.meta_store.specs.Answers.{Answer, HasNumbers, answer_to}
+use Rattle.meta_store.proofs.Numbers.{staged_marked, staged_row}
 use Rattle.meta_store.specs.History.{history}
 use Rattle.meta_store.specs.Readings.{config_of, reading_of}
 use Rattle.meta_store.specs.Rows.{rows}
@@ -35,7 +36,7 @@ use Rattle.index_world.specs.Calls.{Unmade, refused, troubled, faulted, is_full,
 use Rattle.index_world.specs.Configuration.{configuration}
 use Rattle.index_world.specs.Core.{Core, IsStoredIn, IsUploadedIn, journal_of, last_count}
 use Rattle.index_world.specs.Gate.{IsUnmade}
-use Rattle.index_world.specs.Index.{MayEnter, HasFile, HasStaged, IsAllowed, IsUploaded, IsGivenUp, max_entries}
+use Rattle.index_world.specs.Index.{MayEnter, HasFile, HasStaged, IsAllowed, IsStored, IsGivenUp, max_entries}
 use Rattle.index_world.specs.Life.{LifeIs, StandsBy, Creating}
 use Rattle.index_world.specs.Owning.{own_act, MayOwn}
 use Rattle.index_world.specs.Steps.{Counted}
@@ -44,8 +45,6 @@ use Rattle.index_world.specs.Unsure.{is_unsure}
 use Rattle.index_world.specs.World.{IsWorld}
 use Rattle.index_world.proofs.StoreKeys.{true_is_false}
 use Rattle.index_world.proofs.Asking.{made_is_publishable}
-use Rattle.index_world.proofs.Entering.{staged_row}
-use Rattle.index_world.proofs.GivenUp.{staged_unmarked}
 use Rattle.index_world.proofs.InCore.{stored-of}
 use Rattle.index_world.proofs.JournalCalls.{failed_law}
 use Rattle.index_world.proofs.JournalLaws.{spells_own, appends_made, appends_adopted, appends_foreign, appends_no_corrupt}
@@ -65,7 +64,7 @@ stored_staged : (core : Core) (number : ℕ) (bytes : List ℕ) → (row : Row) 
     IsUploadedIn core number bytes → IsStoredIn core number bytes
 stored_staged core number bytes s j (inl u) = u
 stored_staged core number bytes s j (inr g) =
-    let given_up = subst (λ es. IsGivenUp es number) j g in absurd (staged_unmarked (sym s.2 ∙ given_up.row s.0 s.1))
+    let given_up = subst (λ es. IsGivenUp es number) j g in absurd (staged_marked (sym s.2 ∙ given_up.row s.0 s.1))
 
 pub own_file : (kept : State) (core : Core) (log : Log) (own : Own) → IsWorld kept core log → MayOwn own log core → core.standing ≡ None → IsAllowed core.history (entry_of (own_act own core) core) →
     HasFile kept core.history log (own_act own core)
@@ -73,7 +72,7 @@ own_file kept core log (owns.Stage delta facts) w may none allowed = tt
 own_file kept core log (owns.Publish number) w may none allowed =
     let j = journal_is_history core none in
     made_is_publishable kept core.history log number may.delta may.facts may.bytes may.config (subst (λ es. configuration es ≡ Some may.config) j may.configured) (subst (λ es. HasStaged es number may.delta may.facts) j may.staged) may.made
-    (subst (λ es. IsUploaded kept es number may.bytes) j (stored-of kept core number may.bytes w.stands_for (stored_staged core number may.bytes (staged_row (history core.history) core.moment number allowed.1) j may.uploaded)))
+    (subst (λ es. IsStored kept es number may.bytes) j (stored-of kept core number may.bytes w.stands_for (stored_staged core number may.bytes (staged_row reads (history core.history) core.moment number allowed.1) j may.uploaded)))
 
 pub may_append_is : (act : Act) (core : Core) → IsOk (answer_behind core.history (entry_of act core)) → length core.history < max_entries → may_append act core ≡ Ok tt
 may_append_is act core ok below = by (answer_behind core.history (entry_of act core)) ok

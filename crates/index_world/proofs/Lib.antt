@@ -8,12 +8,15 @@ pub mod Asking
 pub mod Answering
 pub mod Following
 pub mod Configured
+pub mod Removed
+pub mod Rows
+pub mod Deleting
 pub mod Entering
-pub mod GivenUp
 pub mod Indexing
 pub mod WholeIndex
 pub mod StoreCalls
 pub mod Landing
+pub mod Taken
 pub mod Worlds
 pub mod WorldCalls
 pub mod JournalCalls

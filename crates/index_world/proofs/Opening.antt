@@ -79,5 +79,6 @@ index_opens kept history log count clock i =
           called = c.called;
         };
         index = i;
+        taken = i.stands.rows;
       };
     }

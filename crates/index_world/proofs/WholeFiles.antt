@@ -16,7 +16,7 @@ use Rattle.object_store.specs.Store.{State, HasLanded}
 use Rattle.source_log.specs.Log.{Log}
 use Rattle.index_world.specs.Calls.{Call, Fate, Grace, gives, Trouble, asked_clock, Unfetched, file_sought, sought_unless, fetched_from, loaded, upload_made}
 use Rattle.index_world.specs.Core.{Core, KeepsBut, IsUploadedIn, journal_of}
-use Rattle.index_world.specs.Index.{IsIndexOf, IsUploaded}
+use Rattle.index_world.specs.Index.{IsIndexOf, IsStored}
 use Rattle.index_world.specs.World.{IsWorld, IsTimely, WorldStands}
 use Rattle.index_world.proofs.StoreKeys.{true_is_false, meta_begins}
 use Rattle.index_world.proofs.Journals.{stand-of, Stand-at}
@@ -49,7 +49,7 @@ whole_upload old new core log n bytes answer now w some t c u =
     }
 
 -- behind an Ok the file is in hand
-pub uploaded_in_hand : (old new : State) (core : Core) (log : Log) (n : ℕ) (bytes : List ℕ) (now : ℕ) (u : UploadLaw old new core log n bytes (λ after. Ok tt) now) → IsUploaded new (journal_of u.after) n bytes →
+pub uploaded_in_hand : (old new : State) (core : Core) (log : Log) (n : ℕ) (bytes : List ℕ) (now : ℕ) (u : UploadLaw old new core log n bytes (λ after. Ok tt) now) → IsStored new (journal_of u.after) n bytes →
     IsUploadedIn u.after n bytes
 uploaded_in_hand old new core log n bytes now u h = inl (stored-in new u.after n bytes u.filed.world.stands_for h)
 

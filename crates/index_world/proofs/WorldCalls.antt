@@ -13,17 +13,18 @@ use Rattle.split_states.specs.declared.facts.RowFacts.{RowFacts}
 use Rattle.index_world.specs.Calls.{tried, taken_in, with_file}
 use Rattle.index_world.specs.Calls as calls
 use Rattle.index_world.specs.Core.{Core, Late, late_entry, late_dead, late_file, with_unread, journal_of}
-use Rattle.index_world.specs.Index.{IsIndexOf, MayEnter, IsUnused, IsUploaded, HasStaged}
+use Rattle.index_world.specs.Index.{IsIndexOf, IsTaken, MayEnter, IsUnused, IsStored, HasStaged}
 use Rattle.index_world.specs.Standing.{late_object, IsCalled, StandsFor}
 use Rattle.index_world.specs.World.{IsWorld}
-use Rattle.index_world.specs.Held.{KeepsHeld, KeepsOthers, Still, Enters}
+use Rattle.index_world.specs.Held.{KeepsFor, KeepsHeld, All, But, Still, Enters}
 use Rattle.index_world.specs.Onward.{Onward}
 use Rattle.index_world.proofs.StoreKeys.{meta_begins, split_outside}
 use Rattle.index_world.proofs.StoreChanges.{All-snoc, All-each}
 use Rattle.index_world.proofs.Indexing.{longer, journal_other, index-enters, index-tried, index-dead}
 use Rattle.index_world.proofs.StoreCalls.{file-stands, file-late}
 use Rattle.index_world.proofs.Landing.{files_more, files_same, journal_some}
-use Rattle.index_world.proofs.Worlds.{held-refl, journal_is_history}
+use Rattle.index_world.proofs.Taken.{taken_held}
+use Rattle.index_world.proofs.Worlds.{held-refl, journal_is_history, taken_on}
 
 -- ---- an entry comes to stand behind the history
 
@@ -40,8 +41,9 @@ world-enters kept core log entry bytes unsure w none spells may =
         world = record {
           stands_for = record { journal = enters.index.stands.journal; files = files_same kept core (meta_key (length core.history)) bytes s (meta_begins (length core.history)); late = s.late; called = s.called };
           index = enters.index;
+          taken = taken_on kept new core (record core { standing = Some entry; unsure = unsure }) log (core.history ++ entry ∷ []) w refl held;
         };
-        held = subst (λ es. KeepsHeld kept new es (core.history ++ entry ∷ [])) (sym (journal_is_history core none)) enters.held;
+        held = held;
       };
       fresh = enters.fresh;
     }
@@ -54,6 +56,9 @@ world-enters kept core log entry bytes unsure w none spells may =
 
     enters : Enters kept new core.history log entry
     enters = index-enters kept core.history log entry bytes (subst (λ es. IsIndexOf kept es log) (journal_is_history core none) w.index) spells may
+
+    held : KeepsHeld kept new (journal_of core) (core.history ++ entry ∷ [])
+    held = subst (λ es. KeepsHeld kept new es (core.history ++ entry ∷ [])) (sym (journal_is_history core none)) enters.held
 
 -- ---- its create failed, and it is late
 
@@ -80,6 +85,7 @@ world-tried kept core log entry bytes w can spells may =
           called = All-snoc (IsCalled core.history) core.late (late_entry (length core.history) entry bytes) s.called (omega arith, can, spells);
         };
         index = still.index;
+        taken = taken_on kept (with_late kept (meta_key (length core.history)) bytes) core (record core { late = core.late ++ late_entry (length core.history) entry bytes ∷ []; unsure = true }) log (journal_of core) w refl still.held;
       };
       held = still.held;
     }
@@ -105,6 +111,7 @@ world-taken kept core log entry w some =
           called = All-each (IsCalled core.history) (IsCalled (core.history ++ entry ∷ [])) core.late (λ late h. called_longer core.history entry late h) w.stands_for.called;
         };
         index = subst (λ es. IsIndexOf kept es log) same w.index;
+        taken = subst (λ es. IsTaken kept es log) same w.index.stands.rows;
       };
       held = subst (λ es. KeepsHeld kept kept (journal_of core) es) same (held-refl kept (journal_of core));
     }
@@ -116,10 +123,14 @@ world-taken kept core log entry w some =
 
 pub record Filed (old new : State) (core after : Core) (log : Log) (n : ℕ) : Type 0 where
   pub world : IsWorld new after log
-  pub others : KeepsOthers old new (journal_of core) (journal_of after) n
+  pub others : KeepsFor (But n) All old new (journal_of core) (journal_of after)
+
+-- a file of a number that was not shown is none of the rows that were taken in
+taken_but : (kept new : State) (core : Core) (log : Log) (n : ℕ) → IsWorld kept core log → KeepsFor (But n) All kept new (journal_of core) (journal_of core) → IsTaken new core.history log
+taken_but kept new core log n w held = taken_held kept core.history core.standing log w.index.stands (But n) All new (journal_of core) held (λ x own e. tt) w.taken
 
 pub world-file : (kept : State) (core : Core) (log : Log) (n : ℕ) (bytes : List ℕ) → IsWorld kept core log → IsUnused kept (journal_of core) n →
-    Filed kept (with_object kept (split_key n) bytes) core (with_file (split_key n) bytes core) log n × IsUploaded (with_object kept (split_key n) bytes) (journal_of core) n bytes
+    Filed kept (with_object kept (split_key n) bytes) core (with_file (split_key n) bytes core) log n × IsStored (with_object kept (split_key n) bytes) (journal_of core) n bytes
 world-file kept core log n bytes w u =
     let f = file-stands kept (journal_of core) log n bytes w.index u in (
       record {
@@ -131,6 +142,7 @@ world-file kept core log n bytes w u =
             called = s.called;
           };
           index = f.0;
+          taken = taken_but kept (with_object kept (split_key n) bytes) core log n w f.1;
         };
         others = f.1;
       },
@@ -153,6 +165,7 @@ world-file-late kept core log n bytes w u =
           called = All-snoc (IsCalled core.history) core.late (late_file (split_key n) bytes) s.called (split_outside n);
         };
         index = f.0;
+        taken = taken_but kept (with_late kept (split_key n) bytes) core log n w f.1;
       };
       others = f.1;
     }

@@ -8,20 +8,31 @@ use Rattle.object_store.specs.Store.{State, landed, land_one}
 use Rattle.source_log.specs.Log.{Log}
 use Rattle.index_world.specs.Calls.{all_landed, land_at, late_lands, entry_lands, file_lands, without_late}
 use Rattle.index_world.specs.Core.{Core, Late, late_entry, late_dead, late_file, late_key, file_at, with_unread, journal_of}
-use Rattle.index_world.specs.Index.{OneEntry, IsIndexOf, MayEnter}
+use Rattle.index_world.specs.Index.{OneEntry, IsIndexOf, IsTaken, MayEnter}
 use Rattle.index_world.specs.Standing.{late_object, StandsFor}
 use Rattle.index_world.specs.World.{IsWorld}
-use Rattle.index_world.specs.Held.{KeepsHeld}
+use Rattle.index_world.specs.Held.{KeepsHeld, All}
 use Rattle.index_world.specs.Onward.{Onward, SameLife, Landing}
 use Rattle.index_world.proofs.Journals.{one-journal}
 use Rattle.index_world.proofs.Indexing.{Lands, lands-one, longer, held-trans}
 use Rattle.index_world.proofs.Landing.{stands-lands}
+use Rattle.index_world.proofs.Taken.{taken_held}
+
+-- what was taken in stays kept where numbers do
+pub taken_on : (old new : State) (core after : Core) (log : Log) (more : List Entry) → IsWorld old core log → after.history ≡ core.history → KeepsHeld old new (journal_of core) more → IsTaken new after.history log
+taken_on old new core after log more w life h =
+    subst (λ es. IsTaken new es log) (sym life) (taken_held old core.history core.standing log w.index.stands All All new more h (λ x own e. tt) w.taken)
 
 -- where the core stands for the store and the store is an index, it is one of the core's journal
-pub onward-of : OneEntry → (old new : State) (core after : Core) (log : Log) (more : List Entry) → StandsFor new after → IsIndexOf new more log → KeepsHeld old new (journal_of core) more → Onward old new core after log
-onward-of once old new core after log more s i h =
+pub onward-of : OneEntry → (old new : State) (core after : Core) (log : Log) (more : List Entry) → IsWorld old core log → after.history ≡ core.history → StandsFor new after → IsIndexOf new more log → KeepsHeld old new (journal_of core) more →
+    Onward old new core after log
+onward-of once old new core after log more w life s i h =
     record {
-      world = record { stands_for = s; index = subst (λ es. IsIndexOf new es log) same i };
+      world = record {
+        stands_for = s;
+        index = subst (λ es. IsIndexOf new es log) same i;
+        taken = taken_on old new core after log more w life h;
+      };
       held = subst (λ es. KeepsHeld old new (journal_of core) es) same h;
     }
   where
@@ -29,7 +40,7 @@ onward-of once old new core after log more s i h =
     same = one-journal once new 0 more (journal_of after) i.stands.journal s.journal
 
 pub held-refl : (kept : State) (entries : List Entry) → KeepsHeld kept kept entries entries
-held-refl kept entries = record { configured = λ config e. e; unused = λ n u. u; uploaded = λ n bytes u. u; published = λ n p. p; staged = λ n d f s. s; given_up = λ n g. g }
+held-refl kept entries = record { configured = λ config e. e; unused = λ n all u. u; found = λ n bytes u. u; stored = λ n bytes stays u. u; left = λ n bytes u. u; shown = λ n e. e; staged = λ n d f h. h; given_up = λ n g. g }
 
 pub SameLife-refl : (core : Core) → SameLife core core
 SameLife-refl core = record { history = refl; store_faults = refl; moment = refl; clock = refl; unsure = refl }
@@ -94,20 +105,20 @@ was-lands (late_file key bytes) place core h = by (is_some (file_at core.files k
 pub journal_is_history : (core : Core) → core.standing ≡ None → journal_of core ≡ core.history
 journal_is_history core none = ap (with_unread core.history) none
 
-landing-of : OneEntry → (kept new : State) (core after : Core) (log : Log) → StandsFor new after → SameLife core after → (after.standing ≡ None → core.standing ≡ None) → Lands kept new (journal_of core) log →
+landing-of : OneEntry → (kept new : State) (core after : Core) (log : Log) → IsWorld kept core log → StandsFor new after → SameLife core after → (after.standing ≡ None → core.standing ≡ None) → Lands kept new (journal_of core) log →
     Landing kept new core after log
-landing-of once kept new core after log s same was (inl h) =
+landing-of once kept new core after log w s same was (inl h) =
     record {
-      onward = onward-of once kept new core after log (journal_of core) s h.0.index h.0.held;
+      onward = onward-of once kept new core after log (journal_of core) w same.history s h.0.index h.0.held;
       same = same;
       was = was;
       enters = λ none entry e.
           let j = journal_is_history core (was none) in
           subst (λ es. MayEnter new es log entry) j (h.0.enters entry (subst (λ es. MayEnter kept es log entry) (sym j) e));
     }
-landing-of once kept new core after log s same was (inr h) =
+landing-of once kept new core after log w s same was (inr h) =
     record {
-      onward = onward-of once kept new core after log (journal_of core ++ h.0 ∷ []) s h.1.index h.1.held;
+      onward = onward-of once kept new core after log (journal_of core ++ h.0 ∷ []) w same.history s h.1.index h.1.held;
       same = same;
       was = was;
       enters = λ none entry e. absurd (no_entry none);
@@ -138,7 +149,7 @@ world-land once kept core log place w = by (slice_get core.late place) refl
     by None e = subst (λ o. Landing kept (land_one o place kept) core core log) (sym (there None e)) (Landing-refl kept core log w)
     by (Some late) e =
         subst (λ o. Landing kept (land_one o place kept) core (land_at (Some late) place core) log) (sym (there (Some late) e))
-        (landing-of once kept (land_one (Some (late_object late)) place kept) core (land_at (Some late) place core) log
+        (landing-of once kept (land_one (Some (late_object late)) place kept) core (land_at (Some late) place core) log w
         (stands-lands kept core log place late w e (there (Some late) e) (get kept.objects (late_key late)) refl)
         (same-lands late place core) (was-lands late place core) (lands (Some late) e))
 
@@ -148,6 +159,15 @@ landings-from once old mid core between log (place ∷ places) h =
     landings-from once old (land_one (slice_get mid.late place) place mid) core (land_at (slice_get between.late place) place between) log places
     (Landing-trans old mid (land_one (slice_get mid.late place) place mid) core between (land_at (slice_get between.late place) place between) log h
     (world-land once mid between log place h.onward.world))
+
+-- what lands leaves the history and all that isn't in the store
+pub same-landed : (places : List ℕ) (core : Core) → SameLife core (all_landed places core)
+same-landed [] core = SameLife-refl core
+same-landed (place ∷ places) core = SameLife-trans core (land_at (slice_get core.late place) place core) (all_landed places (land_at (slice_get core.late place) place core)) (by (slice_get core.late place)) (same-landed places (land_at (slice_get core.late place) place core))
+  where
+    by : (late : Option Late) → SameLife core (land_at late place core)
+    by None = SameLife-refl core
+    by (Some late) = same-lands late place core
 
 -- what lands in the store lands in the core, by the same places
 pub world-lands : OneEntry → (old : State) (core : Core) (log : Log) (places : List ℕ) → IsWorld old core log → Landing old (landed places old) core (all_landed places core) log
@@ -161,18 +181,20 @@ world-frozen kept core log w =
     record {
       stands_for = record { journal = w.stands_for.journal; files = w.stands_for.files; late = w.stands_for.late; called = w.stands_for.called };
       index = w.index;
+      taken = w.taken;
     }
 
--- the same journal, files and late creates
 -- the marks of a life are nothing that its store tells
 pub world-unmarked : (kept : State) (core : Core) (log : Log) → IsWorld kept core log → IsWorld kept (record core { marks = [] }) log
 world-unmarked kept core log w =
-    record { stands_for = record { journal = w.stands_for.journal; files = w.stands_for.files; late = w.stands_for.late; called = w.stands_for.called }; index = w.index }
+    record { stands_for = record { journal = w.stands_for.journal; files = w.stands_for.files; late = w.stands_for.late; called = w.stands_for.called }; index = w.index; taken = w.taken }
 
+-- the same journal, files and late creates
 pub world-same : (kept : State) (core : Core) (log : Log) (faults moment clock : ℕ) (unsure : Bool) → IsWorld kept core log →
     IsWorld kept (record core { store_faults = faults; moment = moment; clock = clock; unsure = unsure }) log
 world-same kept core log faults moment clock unsure w =
     record {
       stands_for = record { journal = w.stands_for.journal; files = w.stands_for.files; late = w.stands_for.late; called = w.stands_for.called };
       index = w.index;
+      taken = w.taken;
     }

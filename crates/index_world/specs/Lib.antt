@@ -27,6 +27,4 @@ pub mod Saying
 pub mod CallsMade
 pub mod DirectLaws
 pub mod Alike
-pub mod KeptIndex
-pub mod KeptHeld
 pub mod Releases

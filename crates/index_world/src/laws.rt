@@ -6,27 +6,33 @@ ghost use Rattle.std.specs.List.{AllByRecursion};
 ghost use Rattle.meta_journal.specs.declared.entry.Entry.{Entry};
 ghost use Rattle.meta_journal.specs.Places.{meta_key, split_key, IsJournal};
 ghost use Rattle.meta_journal.specs.Spelling.{Spells};
-ghost use Rattle.object_store.specs.Store.{State, landed, with_object, with_late, HasLanded, LandsThen, Creates};
+ghost use Rattle.object_store.specs.Store.{State, landed, with_object, with_late, HasLanded, LandsThen, Creates, Deletes};
 ghost use Rattle.object_store.specs.declared.store.CreateError.{CreateError};
 ghost use Rattle.source_log.specs.Log.{Log, IsLog};
 ghost use Rattle.index_world.specs.Index.{IsIndexOf, IsSplitKept, IsWholeIndexOf, MayEnter, IsUnused};
-ghost use Rattle.std.specs.Prelude.{None, Some, Bool, true, false, ◌<◌, ◌++◌, ◌∷◌};
+ghost use Rattle.std.specs.Prelude.{None, Some, Bool, true, false, ◌<◌, ◌+◌, ◌++◌, ◌∷◌};
 ghost use Rattle.meta_store.specs.History.{moment_of, history as told};
 ghost use Rattle.meta_store.specs.Ledgers.{ledger};
 ghost use Rattle.meta_store.specs.Rows.{rows};
 ghost use Rattle.meta_store.specs.State.{Legal};
 ghost use Rattle.source_checkpoint.specs.declared.delta.Part.{Part};
+ghost use Rattle.byte_fields.specs.declared.calls.Failed.{Failed};
+ghost use Rattle.split_states.specs.Rows.{row_at};
 ghost use Rattle.split_states.specs.declared.facts.RowFacts.{RowFacts};
+ghost use Rattle.split_states.specs.declared.rows.Row.{Row};
+ghost use Rattle.split_states.specs.declared.rows.RowState.TheVariants.{Published};
+ghost use Rattle.index_world.specs.Seen.{contents};
+ghost use Rattle.index_world.specs.SplitFile.{file_of};
 ghost use Rattle.index_world.specs.Calls.{all_landed, fence_of, taken_in, asked_clock};
 ghost use Rattle.index_config.specs.declared.config.IndexConfig.{IndexConfig};
 ghost use Rattle.index_world.specs.Config.{reads};
 ghost use Rattle.index_world.specs.Configuration.{configuration, StaysConfigured};
-ghost use Rattle.index_world.specs.Core.{Core};
-ghost use Rattle.index_world.specs.Index.{MayPublish, IsAllowed, HasStaged, IsMade, IsUploaded};
+ghost use Rattle.index_world.specs.Core.{Core, IsPlannedIn, IsShownIn, IsStoredIn};
+ghost use Rattle.index_world.specs.Index.{MayPublish, IsAllowed, HasStaged, IsGivenUp, IsMade, IsStored};
 ghost use Rattle.index_world.specs.Onward.{Landing};
 ghost use Rattle.index_world.specs.Alike.{AreAlike};
 ghost use Rattle.index_world.specs.World.{IsWorld, IsTimely, Keeping, WorldStands};
-ghost use Rattle.index_world.specs.Held.{Still, Enters, AfterLanding, AfterCreate, AfterUpload, Loads};
+ghost use Rattle.index_world.specs.Held.{Still, Enters, AfterLanding, AfterCreate, AfterUpload, AfterDelete, Loads};
 
 /// Late creates that come to stand leave an index, of the same entries or with one that was late.
 pub fn landings_keep()
@@ -57,6 +63,23 @@ pub fn upload_keeps()
     ensures { (old new : State) (entries : List Entry) (log : Log) (number : ℕ) (bytes : List ℕ) (answer : Result (Unit {0}) CreateError) →
         IsIndexOf old entries log → IsUnused old entries number →
         LandsThen (Creates (split_key number) bytes answer) old new → AfterUpload answer old new entries log number bytes }
+{}
+
+/// A delete of the file of a number whose row was marked or is gone leaves an index with each of its answers, whatever lands as it
+/// begins, and all other files stand. What may be deleted may rest on a journal behind which an entry stands unread.
+pub fn delete_keeps()
+    ensures { (old new : State) (entries : List Entry) (log : Log) (number : ℕ) (answer : Result (Unit {0}) Failed) →
+        IsIndexOf old entries log → IsGivenUp entries number →
+        LandsThen (Deletes (split_key number) answer) old new → AfterDelete answer old new entries log number }
+{}
+
+/// A row that is published in what a life took in has its file, whatever stands unread behind it. Nothing else ever stands there, and up
+/// to the deletion grace behind the moment of a plan the file stands.
+pub fn plans_begin()
+    ensures { (kept : State) (core : Core) (log : Log) (config : IndexConfig) (number : ℕ) (row : Row) → IsWorld kept core log → configuration core.history ≡ Some config →
+        row_at (rows (told core.history)) number ≡ Some row → row.state ≡ Published →
+        let file = file_of config (contents config (ledger reads (told core.history)).tasks row log) in
+        IsStoredIn core number file × IsShownIn core number file × IsPlannedIn core (core.moment + config.deletion_grace) number file }
 {}
 
 /// What a load reads is the journal of which the store is an index.
@@ -112,7 +135,7 @@ pub fn a_configuration_stays()
 /// A number in hand whose file was made of the log under the index's configuration and uploaded may be published.
 pub fn made_file_may_be_published()
     ensures { (kept : State) (entries : List Entry) (log : Log) (number : ℕ) (delta : List Part) (facts : RowFacts) (bytes : List ℕ) →
-        (config : IndexConfig) → configuration entries ≡ Some config → HasStaged entries number delta facts → IsMade config log delta facts bytes → IsUploaded kept entries number bytes → MayPublish kept entries log number }
+        (config : IndexConfig) → configuration entries ≡ Some config → HasStaged entries number delta facts → IsMade config log delta facts bytes → IsStored kept entries number bytes → MayPublish kept entries log number }
 {}
 
 /// Cores for which one world stands agree on all that is seen of the index: so what a caller needs of one holds of each.
