@@ -10,3 +10,6 @@ pub mod Parsed
 pub mod Cut
 pub mod Sized
 pub mod Beside
+pub mod Numbers
+pub mod Fitting
+pub mod Weighed

@@ -1,4 +1,4 @@
-// Laws of printed documents, over the definitions alone.
+//! Laws of printed documents, over the definitions alone.
 
 ghost use Rattle.std.specs.Prelude.{◌≡◌, ◌≤◌, ℕ, List, Some, length, Ok};
 ghost use Rattle.doc_mapping.specs.Answer.{answer};

@@ -5,7 +5,7 @@ use Rattle.std.proofs.lemmas.Bool.Decides.{nat_tests}
 use Rattle.index_config.specs.declared.config.IndexConfig.{IndexConfig}
 use Rattle.std.specs.FinMap.{get}
 use Rattle.byte_fields.specs.Causes.{HasCause}
-use Rattle.object_store.specs.Store.{State, WhereTold, AfterLanding, HasLanded, LandsThen, Gets, Finds, Creates, IsPieceOf}
+use Rattle.object_store.specs.Store.{State, WhereTold, AfterLanding, HasLanded, LandsThen, Gets, Finds, Creates, IsPieceOf, given_more}
 use Rattle.object_store.specs.declared.store.CreateError.{CreateError}
 use Rattle.object_store.specs.declared.store.CreateError.TheVariants as creates
 use Rattle.object_store.specs.declared.store.GetError.{GetError}
@@ -15,7 +15,7 @@ use Rattle.object_store.proofs.Told.{told_map}
 use Rattle.index_world.specs.declared.tokens.Uploaded.{Uploaded}
 use Rattle.index_world.specs.declared.world_error.WorldError.{WorldError}
 use Rattle.index_world.specs.declared.world_error.WorldError.TheVariants as errors
-use Rattle.index_world.specs.Asked.{FetchesFile, IsFetch, IsInTime, UploadsFile, IsUpload, Behind}
+use Rattle.index_world.specs.Asked.{FetchesFile, given_behind, IsFetch, IsInTime, UploadsFile, IsUpload, Behind}
 use Rattle.index_world.specs.Taking.{of_create, of_get, IsFaultBetween}
 
 landed_to : (o m n : State) → HasLanded o m → n ≡ m → HasLanded o n
@@ -178,3 +178,12 @@ fault_uploaded key number n mid m before after answer r low high same cause rel 
 -- nobody acted before its turn
 pub told_behind : (a b : Option State) (Says : State → State → Type 0) → WhereTold a b Says → WhereTold a b (Behind Says)
 told_behind a b Says h = told_map a b (λ o n said. (o, said)) h
+
+-- what the store gave is what is answered
+pub given_fetched : (key : List ℕ) (before after old new count : ℕ) (answer : Result Piece GetError) (r : Result Piece WorldError) → count ≡ old → new ≡ given_more answer count → IsGot key before after answer r → new ≡ given_behind r old
+given_fetched key before after old new count answer r same given rel =
+    given ∙ ap (given_more answer) same ∙ said answer ∙ ap (λ (x : Result Piece WorldError). given_behind x old) (got_is key before after answer r rel)
+  where
+    said : (answer : Result Piece GetError) → given_more answer old ≡ given_behind (got key before after answer) old
+    said (Ok piece) = refl
+    said (Err e) = refl

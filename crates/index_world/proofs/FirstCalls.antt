@@ -257,7 +257,7 @@ module _ (text : List ℕ) (clock : Option ℕ) (n now : ℕ) where
 
 -- ---- of a world
 
-pub creates_index : (text : List ℕ) (told : Option State) (now : ℕ) (ticks clock : Option ℕ) (life : Life) → clock ≡ ticks → (old new : State) → CreatesLife text ticks life old new → CreatesIndex text ticks (kept_by told now clock life false) old new
+pub creates_index : {has : ℕ} (text : List ℕ) (told : Option State) (now : ℕ) (ticks clock : Option ℕ) (life : Life) → clock ≡ ticks → (old new : State) → CreatesLife text ticks life old new → CreatesIndex text ticks (kept_by has told now clock life false) old new
 creates_index text told now ticks clock life same old new h =
     record {
       moment = h.moment;

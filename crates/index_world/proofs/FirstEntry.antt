@@ -230,7 +230,7 @@ module _ (old new : State) (core : Core) (log : Log) (text : List ℕ) (now : �
       moment_is : after.moment ≡ moment
       moment_is = let e = m.moment in let t = time in omega (arith, e, t, at)
 
-      world_made : (told' : Option State) (clock : Option ℕ) (life : Life) → told' ≡ Some new → clock ≡ Some core.clock → LifeIs life (create_at text moment ∷ []) moment false → CreatesWorld text core log (kept_by told' now clock life false)
+      world_made : {has : ℕ} (told' : Option State) (clock : Option ℕ) (life : Life) → told' ≡ Some new → clock ≡ Some core.clock → LifeIs life (create_at text moment ∷ []) moment false → CreatesWorld text core log (kept_by has told' now clock life false)
       world_made told' clock life tells ticks k =
           let knows = knows_of life (create_at text moment ∷ []) after.history moment after.moment false false (ap (λ (n : ℕ). create_at text n ∷ []) at ∙ sym whole) (sym moment_is) refl k in
           record {
@@ -306,5 +306,5 @@ module _ (old new : State) (core : Core) (log : Log) (text : List ℕ) (now : �
     not_made errors.IndexExists (inr h) = landed_none h.0 h.1 now later (omega arith) errors.IndexExists told' tells h.2 refl
     not_made (errors.BadConfig bad) h = bad_none (errors.BadConfig bad) told' bad tells h.0 h.1 refl
 
-    pub was_made : (life : Life) (ticking : Option ℕ) → ticking ≡ clock → CreatesLife text clock life old new → CreatesWorld text core log (kept_by told' now ticking life false)
+    pub was_made : {has : ℕ} (life : Life) (ticking : Option ℕ) → ticking ≡ clock → CreatesLife text clock life old new → CreatesWorld text core log (kept_by has told' now ticking life false)
     was_made life ticking same h = world_made h.begins.0 h.begins.1 now later (omega arith) h.moment (moment_told h.moment h.asked) h.begins.2 told' ticking life tells (same ∙ ticks) h.knows

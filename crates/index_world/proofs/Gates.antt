@@ -52,11 +52,12 @@ use Rattle.index_world.proofs.Worlds.{world-same, world-frozen}
 
 -- ---- what a world keeps
 
-abbrev pub kept_by : Option State → ℕ → Option ℕ → Life → Bool → Keeping
-kept_by told count clock life frozen =
+abbrev pub kept_by : ℕ → Option State → ℕ → Option ℕ → Life → Bool → Keeping
+kept_by given told count clock life frozen =
     record {
       told = told;
       store_faults = count;
+      given = given;
       clock = clock;
       moment = life.moment;
       meta = life.meta.state;
@@ -65,7 +66,7 @@ kept_by told count clock life frozen =
       frozen = frozen;
     }
 
-pub stands_of : (told : Option State) (count : ℕ) (clock : Option ℕ) (life : Life) (frozen : Bool) (core : Core) (log : Log) → count ≤ last_count → (s : WorldStands (kept_by told count clock life frozen) core log) → StandsBy s.kept core log count life
+pub stands_of : {had : ℕ} (told : Option State) (count : ℕ) (clock : Option ℕ) (life : Life) (frozen : Bool) (core : Core) (log : Log) → count ≤ last_count → (s : WorldStands (kept_by had told count clock life frozen) core log) → StandsBy s.kept core log count life
 stands_of told count clock life frozen core log within s =
     record { world = s.world; timely = s.timely; faults = s.store_faults; within = within; knows = record { next = s.next; unsure = s.unsure; moment = s.moment; meta = s.meta }; opened = s.opened }
 
@@ -116,8 +117,8 @@ frozen_asks core e = ap (λ (f : Bool). record core { moment = asked_moment f co
 
 -- ---- from a whole call
 
-pub world_by : (new : State) (start after : Core) (log : Log) (more : List Entry) (doubt : Bool) (now : ℕ) (told : Option State) (clock : Option ℕ) (life : Life) (frozen : Bool) {E : Type 0} (call : Fate → Core → Gives E ⊤) (one : Option ℕ) (core : Core) (answer : Core → Result ⊤ E) →
-    (u : Whole call one new core start log answer more doubt now) → told ≡ Some new → clock ≡ Some start.clock → frozen ≡ start.frozen → LifeIs life (start.history ++ more) (greatest start.moment more) doubt → WorldStands (kept_by told now clock life frozen) u.after log
+pub world_by : {has : ℕ} (new : State) (start after : Core) (log : Log) (more : List Entry) (doubt : Bool) (now : ℕ) (told : Option State) (clock : Option ℕ) (life : Life) (frozen : Bool) {E : Type 0} (call : Fate → Core → Gives E ⊤) (one : Option ℕ) (core : Core) (answer : Core → Result ⊤ E) →
+    (u : Whole call one new core start log answer more doubt now) → told ≡ Some new → clock ≡ Some start.clock → frozen ≡ start.frozen → LifeIs life (start.history ++ more) (greatest start.moment more) doubt → WorldStands (kept_by has told now clock life frozen) u.after log
 world_by new start after log more doubt now told clock life frozen call one core answer u t c f k =
     record {
       kept = new;
@@ -134,9 +135,9 @@ world_by new start after log more doubt now told clock life frozen call one core
       opened = u.stands.opened;
     }
 
-pub does_by : {E A : Type 0} (call : Fate → Core → Gives E ⊤) (one : Option ℕ) (is : WorldError → E → Type 0) (holds : A → Core → Type 0) (r : Result A WorldError) (core start : Core) (log : Log) (new : State) (answer : Core → Result ⊤ E) (more : List Entry) (doubt : Bool) (now : ℕ)
+pub does_by : {has : ℕ} {E A : Type 0} (call : Fate → Core → Gives E ⊤) (one : Option ℕ) (is : WorldError → E → Type 0) (holds : A → Core → Type 0) (r : Result A WorldError) (core start : Core) (log : Log) (new : State) (answer : Core → Result ⊤ E) (more : List Entry) (doubt : Bool) (now : ℕ)
     (told : Option State) (clock : Option ℕ) (life : Life) (frozen : Bool) → (u : Whole call one new core start log answer more doubt now) → told ≡ Some new → clock ≡ Some start.clock → frozen ≡ start.frozen → LifeIs life (start.history ++ more) (greatest start.moment more) doubt →
-    Says is holds r (answer u.after) u.after → Acts WorldStands one call is holds r core log (kept_by told now clock life frozen)
+    Says is holds r (answer u.after) u.after → Acts WorldStands one call is holds r core log (kept_by has told now clock life frozen)
 does_by call one is holds r core start log new answer more doubt now told clock life frozen u t c f k says =
     record {
       fate = u.fate;
@@ -160,13 +161,13 @@ says_err is P Q answer after x (Ok b) Is s h same = absurd h
 says_err is P Q (Ok done) after x (Err error) Is s h same = absurd s
 says_err is P Q (Err e) after x (Err error) Is s h same = subst (λ (y : WorldError). is y e) (sym (same error h)) s
 
-module _ (told told' : Option State) (n now : ℕ) (clock : Option ℕ) (life life' : Life) (frozen : Bool) (core : Core) (log : Log) (s : WorldStands (kept_by told n clock life frozen) (asked_clock core) log) (own : Own) where
+module _ {had : ℕ} (told told' : Option State) (n now : ℕ) (clock : Option ℕ) (life life' : Life) (frozen : Bool) (core : Core) (log : Log) (s : WorldStands (kept_by had told n clock life frozen) (asked_clock core) log) (own : Own) where
   w : IsWorld s.kept core log
   w = world-same s.kept (asked_clock core) log core.store_faults core.moment core.clock core.unsure s.world
 
-  pub appends_ok : {A : Type 0} (Q : A → Core → Type 0) (a : A) → (x : Appending s.kept (asked_clock core) log own (Ok tt) told' now life') →
+  pub appends_ok : {has : ℕ} {A : Type 0} (Q : A → Core → Type 0) (a : A) → (x : Appending s.kept (asked_clock core) log own (Ok tt) told' now life') →
       ((after : Core) → LifeIs life' after.history after.moment after.unsure → OwnMade own (asked_clock core) tt after → Q a after) →
-      Acts WorldStands None (λ fate c. appended fate (own_act own) c) IsUnmade Q (Ok a) core log (kept_by told' now clock life' frozen)
+      Acts WorldStands None (λ fate c. appended fate (own_act own) c) IsUnmade Q (Ok a) core log (kept_by has told' now clock life' frozen)
   appends_ok Q a x holds =
       does_by (λ fate c. appended fate (own_act own) c) None IsUnmade Q (Ok a) core (asked_clock core) log x.new x.answer x.more x.doubt now told' clock life' frozen
       (whole_appended s.kept x.new core log (own_act own) x.answer x.more x.doubt now w s.opened (record { later = x.counted.later; within = x.counted.within }) x.did) x.tells s.clock s.frozen
@@ -177,8 +178,8 @@ module _ (told told' : Option State) (n now : ℕ) (clock : Option ℕ) (life li
       life_behind' x =
           knows_of life' x.did.after.history (core.history ++ x.more) x.did.after.moment (greatest (asked_clock core).moment x.more) x.did.after.unsure x.doubt x.did.ends.history x.did.ends.moment x.did.ends.unsure x.stands.knows
 
-  pub appends_err : {A : Type 0} (Q : A → Core → Type 0) (e : WorldError) (r : Result A WorldError) (Is : WorldError → Type 0) → (x : Appending s.kept (asked_clock core) log own (Err e) told' now life') → IsErrAnd r Is → ((error : WorldError) → Is error → error ≡ e) →
-      Acts WorldStands None (λ fate c. appended fate (own_act own) c) IsUnmade Q r core log (kept_by told' now clock life' frozen)
+  pub appends_err : {has : ℕ} {A : Type 0} (Q : A → Core → Type 0) (e : WorldError) (r : Result A WorldError) (Is : WorldError → Type 0) → (x : Appending s.kept (asked_clock core) log own (Err e) told' now life') → IsErrAnd r Is → ((error : WorldError) → Is error → error ≡ e) →
+      Acts WorldStands None (λ fate c. appended fate (own_act own) c) IsUnmade Q r core log (kept_by has told' now clock life' frozen)
   appends_err Q e r Is x h same =
       does_by (λ fate c. appended fate (own_act own) c) None IsUnmade Q r core (asked_clock core) log x.new x.answer x.more x.doubt now told' clock life' frozen
       (whole_appended s.kept x.new core log (own_act own) x.answer x.more x.doubt now w s.opened (record { later = x.counted.later; within = x.counted.within }) x.did) x.tells s.clock s.frozen
@@ -273,9 +274,9 @@ abbrev pub Wholes : (Fate → Core → Gives Trouble ⊤) → Core → Core → 
 Wholes call core start log old = (new : State) (answer : Core → Result ⊤ Trouble) (more : List Entry) (doubt : Bool) (now : ℕ) → Counted start now →
     (l : Looks old new start log answer more doubt now) → (u : Whole call None new core start log answer more doubt now) × (u.after ≡ l.after)
 
-module _ (call : Fate → Core → Gives Trouble ⊤) (told told' : Option State) (n now : ℕ) (clock : Option ℕ) (life life' : Life) (frozen : Bool) (core start : Core) (log : Log) (s : WorldStands (kept_by told n clock life frozen) start log) (within : n ≤ last_count) (wholes : Wholes call core start log s.kept) where
+module _ {had has : ℕ} (call : Fate → Core → Gives Trouble ⊤) (told told' : Option State) (n now : ℕ) (clock : Option ℕ) (life life' : Life) (frozen : Bool) (core start : Core) (log : Log) (s : WorldStands (kept_by had told n clock life frozen) start log) (within : n ≤ last_count) (wholes : Wholes call core start log s.kept) where
   pub looks_failed : {A : Type 0} (Q : A → Core → Type 0) (e : WorldError) (r : Result A WorldError) (Is : WorldError → Type 0) → Settling s.kept start log (Err e) told' now life' → IsErrAnd r Is → ((error : WorldError) → Is error → error ≡ e) →
-      Acts WorldStands None call IsTrouble Q r core log (kept_by told' now clock life' frozen)
+      Acts WorldStands None call IsTrouble Q r core log (kept_by has told' now clock life' frozen)
   looks_failed Q e (Ok a) Is x h same = absurd h
   looks_failed Q e (Err error) Is x h same =
       let d = x.did in
@@ -286,7 +287,7 @@ module _ (call : Fate → Core → Gives Trouble ⊤) (told told' : Option State
       (subst (λ (y : WorldError). IsTrouble y (d.trouble u.0.after)) (sym (same error h)) (subst (λ (a : Core). IsTrouble e (d.trouble a)) (sym u.1) d.is))
 
   pub looks_ok : {A : Type 0} (Q : A → Core → Type 0) (a : A) → Settling s.kept start log (Ok tt) told' now life' → ((after : Core) → LifeIs life' after.history after.moment after.unsure → Q a after) →
-      Acts WorldStands None call IsTrouble Q (Ok a) core log (kept_by told' now clock life' frozen)
+      Acts WorldStands None call IsTrouble Q (Ok a) core log (kept_by has told' now clock life' frozen)
   looks_ok Q a x holds =
       let l = looked_of s.kept start log false told' now life' n life (stands_of told n clock life frozen start log within s) x in
       let u = (wholes l.new (behind_short false) l.more l.doubt now l.counted l.looks).0 in
@@ -294,7 +295,7 @@ module _ (call : Fate → Core → Gives Trouble ⊤) (told told' : Option State
       (holds u.after (knows_of life' (start.history ++ l.more) u.after.history (greatest start.moment l.more) u.after.moment l.doubt u.after.unsure (sym u.ends.history) (sym u.ends.moment) (sym u.ends.unsure) l.knows))
 
   pub looks_wants : {A : Type 0} (Q : A → Core → Type 0) (r : Result A WorldError) (Is : WorldError → Type 0) → Settling s.kept start log (Ok tt) told' now life' → IsErrAnd r Is → ((error : WorldError) → Is error → IsWant error) →
-      Acts WorldStands None call IsTrouble Q r core log (kept_by told' now clock life' frozen)
+      Acts WorldStands None call IsTrouble Q r core log (kept_by has told' now clock life' frozen)
   looks_wants Q (Ok a) Is x h want = absurd h
   looks_wants Q (Err error) Is x h want =
       let l = looked_of s.kept start log true told' now life' n life (stands_of told n clock life frozen start log within s) x in
@@ -334,11 +335,11 @@ same_life life core k = knows_of life core.history (core.history ++ []) core.mom
 landed_then : (old new mid : State) → HasLanded old mid → new ≡ mid → HasLanded old new
 landed_then old new mid l e = (l.0, e ∙ l.1)
 
-pub uploads : (told told' : Option State) (n now : ℕ) (clock : Option ℕ) (life : Life) (frozen : Bool) (core : Core) (log : Log) (s : WorldStands (kept_by told n clock life frozen) core log) (number : ℕ) (key bytes : List ℕ) (before after : ℕ) (answer : Result ⊤ CreateError) (r : Result Uploaded WorldError) →
+pub uploads : {had has : ℕ} (told told' : Option State) (n now : ℕ) (clock : Option ℕ) (life : Life) (frozen : Bool) (core : Core) (log : Log) (s : WorldStands (kept_by had told n clock life frozen) core log) (number : ℕ) (key bytes : List ℕ) (before after : ℕ) (answer : Result ⊤ CreateError) (r : Result Uploaded WorldError) →
     IsUnusedIn core number → key ≡ split_key number → AfterLanding told told' (Creates key bytes answer) → HasCause n now (IsErrOf answer creates.Failed) → now ≤ last_count → before ≡ core.store_faults → after ≡ now →
     ((answer ≡ Ok tt) × (r ≡ Ok (record { number = number }))) ⊎ ((e : CreateError) × (answer ≡ Err e) × (r ≡ Err (of_create key before after e))) →
-    Acts WorldStands (Some number) (λ fate c. upload_made fate number bytes c) IsTrouble (WasUploaded number bytes) r core log (kept_by told' now clock life frozen)
-uploads told told' n now clock life frozen core log s number key bytes before after answer r u ek step cause within at behind rel =
+    Acts WorldStands (Some number) (λ fate c. upload_made fate number bytes c) IsTrouble (WasUploaded number bytes) r core log (kept_by has told' now clock life frozen)
+uploads {had} {has} told told' n now clock life frozen core log s number key bytes before after answer r u ek step cause within at behind rel =
     by answer r rel (told_of told told' s.kept (LandsThen (Creates key bytes answer)) s.told step) cause.failed
   where
     counted : Counted core now
@@ -354,13 +355,13 @@ uploads told told' n now clock life frozen core log s number key bytes before af
     lands answer new l = subst (λ (k : List ℕ). LandsThen (Creates k bytes answer) s.kept new) ek l
 
     ends_by : (r : Result Uploaded WorldError) (new : State) (a : Core → Result ⊤ Trouble) → told' ≡ Some new → (l : UploadLaw s.kept new core log number bytes a now) → Says IsTrouble (WasUploaded number bytes) r (a l.after) l.after →
-        Acts WorldStands (Some number) (λ fate c. upload_made fate number bytes c) IsTrouble (WasUploaded number bytes) r core log (kept_by told' now clock life frozen)
+        Acts WorldStands (Some number) (λ fate c. upload_made fate number bytes c) IsTrouble (WasUploaded number bytes) r core log (kept_by has told' now clock life frozen)
     ends_by r new a tells l says =
         does_by (λ fate c. upload_made fate number bytes c) (Some number) IsTrouble (WasUploaded number bytes) r core core log new a [] core.unsure now told' clock life frozen
         (whole_upload s.kept new core log number bytes a now s.world s.opened s.timely counted l) tells s.clock s.frozen (same_life life core knows) says
 
     failed_by : (new : State) → told' ≡ Some new → (e : CreateError) → LandsThen (Creates key bytes (Err e)) s.kept new → (e ≡ creates.Failed → Rose n now) →
-        Acts WorldStands (Some number) (λ fate c. upload_made fate number bytes c) IsTrouble (WasUploaded number bytes) (Err (of_create key before after e)) core log (kept_by told' now clock life frozen)
+        Acts WorldStands (Some number) (λ fate c. upload_made fate number bytes c) IsTrouble (WasUploaded number bytes) (Err (of_create key before after e)) core log (kept_by has told' now clock life frozen)
     failed_by new tells creates.Exists l rose =
         absurd (upload_never_exists once s.kept new core log number bytes s.world (let a = counted.later in omega (arith, a, within)) unused (lands (Err creates.Exists) new l))
     failed_by new tells creates.Failed l rose =
@@ -372,13 +373,13 @@ uploads told told' n now clock life frozen core log s number key bytes before af
 
     by : (answer : Result ⊤ CreateError) (r : Result Uploaded WorldError) → ((answer ≡ Ok tt) × (r ≡ Ok (record { number = number }))) ⊎ ((e : CreateError) × (answer ≡ Err e) × (r ≡ Err (of_create key before after e))) →
         Told told' (LandsThen (Creates key bytes answer) s.kept) → (IsErrOf answer creates.Failed → Rose n now) →
-        Acts WorldStands (Some number) (λ fate c. upload_made fate number bytes c) IsTrouble (WasUploaded number bytes) r core log (kept_by told' now clock life frozen)
+        Acts WorldStands (Some number) (λ fate c. upload_made fate number bytes c) IsTrouble (WasUploaded number bytes) r core log (kept_by has told' now clock life frozen)
     by answer r (inl d) t rose =
         let m = upload_is_made once s.kept t.new core log number bytes now s.world counted unused (lands (Ok tt) t.new (subst (λ (a : Result ⊤ CreateError). LandsThen (Creates key bytes a) s.kept t.new) d.0 t.says)) in
-        subst (λ (x : Result Uploaded WorldError). Acts WorldStands (Some number) (λ fate c. upload_made fate number bytes c) IsTrouble (WasUploaded number bytes) x core log (kept_by told' now clock life frozen)) (sym d.1)
+        subst (λ (x : Result Uploaded WorldError). Acts WorldStands (Some number) (λ fate c. upload_made fate number bytes c) IsTrouble (WasUploaded number bytes) x core log (kept_by has told' now clock life frozen)) (sym d.1)
         (ends_by (Ok (record { number = number })) t.new (λ c. Ok tt) t.is m.0 (record { same = refl; in_hand = uploaded_in_hand s.kept t.new core log number bytes now m.0 m.1 }))
     by answer r (inr d) t rose =
-        subst (λ (x : Result Uploaded WorldError). Acts WorldStands (Some number) (λ fate c. upload_made fate number bytes c) IsTrouble (WasUploaded number bytes) x core log (kept_by told' now clock life frozen)) (sym d.2)
+        subst (λ (x : Result Uploaded WorldError). Acts WorldStands (Some number) (λ fate c. upload_made fate number bytes c) IsTrouble (WasUploaded number bytes) x core log (kept_by has told' now clock life frozen)) (sym d.2)
         (failed_by t.new t.is d.0 (subst (λ (a : Result ⊤ CreateError). LandsThen (Creates key bytes a) s.kept t.new) d.1 t.says) (λ f. rose (d.1 ∙ ap Err f)))
 
 -- the grace is over
@@ -415,11 +416,11 @@ finds_what None from len (Err (gets.Memory e)) f = tt
 abbrev IsFetch : Grace → (number from len : ℕ) → Core → Log → Keeping → Result Piece WorldError → Type 0
 IsFetch grace number from len core log w r = Acts WorldStands None (fetched_from grace number) IsUnfetched (IsPieceGiven number from len) r core log w
 
-pub fetches : (grace : Grace) (told told' : Option State) (n now : ℕ) (clock : Option ℕ) (life : Life) (frozen : Bool) (core : Core) (log : Log) (s : WorldStands (kept_by told n clock life frozen) (asked_clock core) log) (low : IsTimely core) (number : ℕ) (key : List ℕ) (from len before after : ℕ) (answer : Result Piece GetError) (r : Result Piece WorldError) →
+pub fetches : {had has : ℕ} (grace : Grace) (told told' : Option State) (n now : ℕ) (clock : Option ℕ) (life : Life) (frozen : Bool) (core : Core) (log : Log) (s : WorldStands (kept_by had told n clock life frozen) (asked_clock core) log) (low : IsTimely core) (number : ℕ) (key : List ℕ) (from len before after : ℕ) (answer : Result Piece GetError) (r : Result Piece WorldError) →
     (asked_clock core).moment < grace.until → key ≡ split_key number → AfterLanding told told' (Gets key from len answer) → HasCause n now (IsErrOf answer gets.Failed) → now ≤ last_count → before ≡ core.store_faults → after ≡ now →
     ((piece : Piece) × (answer ≡ Ok piece) × (r ≡ Ok piece)) ⊎ ((e : GetError) × (answer ≡ Err e) × (r ≡ Err (of_get key before after e))) →
-    Acts WorldStands None (fetched_from grace number) IsUnfetched (IsPieceGiven number from len) r core log (kept_by told' now clock life frozen)
-fetches grace told told' n now clock life frozen core log s low number key from len before after answer r early ek step cause within at behind rel =
+    Acts WorldStands None (fetched_from grace number) IsUnfetched (IsPieceGiven number from len) r core log (kept_by has told' now clock life frozen)
+fetches {had} {has} grace told told' n now clock life frozen core log s low number key from len before after answer r early ek step cause within at behind rel =
     by answer r rel (told_of told told' s.kept (LandsThen (Gets key from len answer)) s.told step) cause.failed
   where
     w : IsWorld s.kept core log
@@ -431,7 +432,7 @@ fetches grace told told' n now clock life frozen core log s low number key from 
     knows : LifeIs life core.history (asked_clock core).moment core.unsure
     knows = record { next = s.next; unsure = s.unsure; moment = s.moment; meta = s.meta }
 
-    ends_by : (r : Result Piece WorldError) (new : State) (a : Core → Result ⊤ Unfetched) → told' ≡ Some new → (f : Fetches grace number s.kept new core log a now) → Says IsUnfetched (IsPieceGiven number from len) r (a f.after) f.after → IsFetch grace number from len core log (kept_by told' now clock life frozen) r
+    ends_by : (r : Result Piece WorldError) (new : State) (a : Core → Result ⊤ Unfetched) → told' ≡ Some new → (f : Fetches grace number s.kept new core log a now) → Says IsUnfetched (IsPieceGiven number from len) r (a f.after) f.after → IsFetch grace number from len core log (kept_by has told' now clock life frozen) r
     ends_by r new a tells f says =
         does_by (fetched_from grace number) None IsUnfetched (IsPieceGiven number from len) r core (asked_clock core) log new a [] core.unsure now told' clock life frozen
         (whole_fetched grace number s.kept new core log a now w s.opened low (record { later = counted.later; within = within }) f) tells s.clock s.frozen (same_life life (asked_clock core) knows) says
@@ -448,13 +449,13 @@ fetches grace told told' n now clock life frozen core log s low number key from 
     sought call x e = ap (λ (k : List ℕ). file_sought call k (asked_clock core)) (sym ek) ∙ e
 
     -- a file stands
-    there : (new : State) (piece : Piece) → told' ≡ Some new → HasLanded s.kept new → FindsWhat (get new.objects key) from len (Ok piece) → IsFetch grace number from len core log (kept_by told' now clock life frozen) (Ok piece)
+    there : (new : State) (piece : Piece) → told' ≡ Some new → HasLanded s.kept new → FindsWhat (get new.objects key) from len (Ok piece) → IsFetch grace number from len core log (kept_by has told' now clock life frozen) (Ok piece)
     there new piece tells l f =
         let g = sought_law once s.kept new (asked_clock core) log now key true outside s.world counted l (ap is_some f.1) in
         ends_by (Ok piece) new (λ c. Ok tt) tells (fetches-within grace number s.kept new core log (λ c. Ok tt) now g.0 g.1 early (sought g.0 _ g.2) g.3)
         (f.0, ap (file_at g.1.files) (sym ek) ∙ g.3.onward.world.stands_for.files key outside ∙ f.1, f.2)
 
-    failed_by : (new : State) → told' ≡ Some new → (e : GetError) → HasLanded s.kept new × FindsWhat (get new.objects key) from len (Err e) → (e ≡ gets.Failed → Rose n now) → IsFetch grace number from len core log (kept_by told' now clock life frozen) (Err (of_get key before after e))
+    failed_by : (new : State) → told' ≡ Some new → (e : GetError) → HasLanded s.kept new × FindsWhat (get new.objects key) from len (Err e) → (e ≡ gets.Failed → Rose n now) → IsFetch grace number from len core log (kept_by has told' now clock life frozen) (Err (of_get key before after e))
     failed_by new tells gets.Absent l rose =
         let g = sought_law once s.kept new (asked_clock core) log now key false outside s.world counted l.0 (ap is_some l.1) in
         ends_by (Err (errors.Missing key)) new (λ c. Err (absent (split_key number))) tells
@@ -468,12 +469,12 @@ fetches grace told told' n now clock life frozen core log s low number key from 
         ends_by (Err (errors.Memory a)) new (λ c. Err (hindered no_memory)) tells (fetches-within grace number s.kept new core log (λ c. Err (hindered no_memory)) now g.0 g.1 early (sought g.0 _ g.2) g.3) refl
 
     by : (answer : Result Piece GetError) (r : Result Piece WorldError) → ((piece : Piece) × (answer ≡ Ok piece) × (r ≡ Ok piece)) ⊎ ((e : GetError) × (answer ≡ Err e) × (r ≡ Err (of_get key before after e))) →
-        Told told' (LandsThen (Gets key from len answer) s.kept) → (IsErrOf answer gets.Failed → Rose n now) → IsFetch grace number from len core log (kept_by told' now clock life frozen) r
+        Told told' (LandsThen (Gets key from len answer) s.kept) → (IsErrOf answer gets.Failed → Rose n now) → IsFetch grace number from len core log (kept_by has told' now clock life frozen) r
     by answer r (inl d) t rose =
         let f = found t.new (Ok d.0) (subst (λ (a : Result Piece GetError). LandsThen (Gets key from len a) s.kept t.new) d.1 t.says) in
-        subst (λ (x : Result Piece WorldError). IsFetch grace number from len core log (kept_by told' now clock life frozen) x) (sym d.2) (there t.new d.0 t.is f.0 f.1)
+        subst (λ (x : Result Piece WorldError). IsFetch grace number from len core log (kept_by has told' now clock life frozen) x) (sym d.2) (there t.new d.0 t.is f.0 f.1)
     by answer r (inr d) t rose =
-        subst (λ (x : Result Piece WorldError). IsFetch grace number from len core log (kept_by told' now clock life frozen) x) (sym d.2)
+        subst (λ (x : Result Piece WorldError). IsFetch grace number from len core log (kept_by has told' now clock life frozen) x) (sym d.2)
         (failed_by t.new t.is d.0 (found t.new (Err d.0) (subst (λ (a : Result Piece GetError). LandsThen (Gets key from len a) s.kept t.new) d.1 t.says)) (λ f. rose (d.1 ∙ ap Err f)))
 
 -- ---- a world as a gate

@@ -169,7 +169,7 @@ opens_life es n now life some none j m time old new l =
 
 -- ---- of a world
 
-pub opens_world : (told : Option State) (now : ℕ) (clock : Option ℕ) (life : Life) (frozen : Bool) (old new : State) → FindsLife life old new → OpensIndex (kept_by told now clock life frozen) old new
+pub opens_world : {has : ℕ} (told : Option State) (now : ℕ) (clock : Option ℕ) (life : Life) (frozen : Bool) (old new : State) → FindsLife life old new → OpensIndex (kept_by has told now clock life frozen) old new
 opens_world told now clock life frozen old new f =
     record { entries = f.entries; finds = f.finds; next = f.knows.next; meta = f.knows.meta; moment = f.knows.moment; unsure = f.knows.unsure }
 
@@ -177,10 +177,10 @@ opens_world told now clock life frozen old new f =
 pub told_from : (w w' : Keeping) (new : Option State) (Says : ℕ → State → State → Type 0) → w ≡ w' → WhereTold w.told new (Says w.store_faults) → WhereTold w'.told new (Says w'.store_faults)
 told_from w w' new Says e h = subst (λ (k : Keeping). WhereTold k.told new (Says k.store_faults)) e h
 
-pub opens_no_more : (told : Option State) (now : ℕ) (clock : Option ℕ) (life : Life) (frozen : Bool) (n : ℕ) (x : WorldError) (r : Result ⊤ WorldError) (Is : WorldError → Type 0) → IsErrAnd r Is → ((error : WorldError) → Is error → error ≡ x) →
-    (old new : State) → OpensTo n now (Err x) old new → OpensAnew n r (kept_by told now clock life frozen) old new
-opens_no_more told now clock life frozen n x (Ok done) Is h same old new o = absurd h
-opens_no_more told now clock life frozen n x (Err error) Is h same old new o = subst (λ (y : WorldError). OpensNot n now y old new) (sym (same error h)) o
+pub opens_no_more : (has : ℕ) (told : Option State) (now : ℕ) (clock : Option ℕ) (life : Life) (frozen : Bool) (n : ℕ) (x : WorldError) (r : Result ⊤ WorldError) (Is : WorldError → Type 0) → IsErrAnd r Is → ((error : WorldError) → Is error → error ≡ x) →
+    (old new : State) → OpensTo n now (Err x) old new → OpensAnew n r (kept_by has told now clock life frozen) old new
+opens_no_more has told now clock life frozen n x (Ok done) Is h same old new o = absurd h
+opens_no_more has told now clock life frozen n x (Err error) Is h same old new o = subst (λ (y : WorldError). OpensNot n now y old new) (sym (same error h)) o
 
 pub opens_at : (told told' : Option State) (n now : ℕ) (r r' : Result Life WorldError) → r ≡ r' → WhereTold told told' (OpensTo n now r) → WhereTold told told' (OpensTo n now r')
 opens_at told told' n now r r' e w = subst (λ (x : Result Life WorldError). WhereTold told told' (OpensTo n now x)) e w

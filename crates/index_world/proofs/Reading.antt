@@ -159,10 +159,10 @@ opening_at core log r r' told now e o = subst (λ (x : Result Life WorldError). 
 
 -- ---- of a world
 
-pub loads_world : (core : Core) (log : Log) (life : Life) (told : Option State) (now : ℕ) (clock : Option ℕ) → Opening core log (Ok life) told now → clock ≡ Some core.clock → core.frozen ≡ false → LoadsWorld core log (kept_by told now clock life false)
+pub loads_world : {has : ℕ} (core : Core) (log : Log) (life : Life) (told : Option State) (now : ℕ) (clock : Option ℕ) → Opening core log (Ok life) told now → clock ≡ Some core.clock → core.frozen ≡ false → LoadsWorld core log (kept_by has told now clock life false)
 loads_world core log life told now clock o c awake = record { after = o.did.after; loads = o.did.loads; stands = world_stands o.new o.did.after log told now clock life false o.tells o.did.stands (c ∙ ap (λ (k : ℕ × Bool). Some k.0) (sym o.did.clock)) (sym awake ∙ ap (λ (k : ℕ × Bool). k.1) (sym o.did.clock)) }
   where
-    world_stands : (new : State) (after : Core) (log : Log) (told : Option State) (now : ℕ) (clock : Option ℕ) (life : Life) (frozen : Bool) → told ≡ Some new → StandsBy new after log now life → clock ≡ Some after.clock → frozen ≡ after.frozen → WorldStands (kept_by told now clock life frozen) after log
+    world_stands : {has : ℕ} (new : State) (after : Core) (log : Log) (told : Option State) (now : ℕ) (clock : Option ℕ) (life : Life) (frozen : Bool) → told ≡ Some new → StandsBy new after log now life → clock ≡ Some after.clock → frozen ≡ after.frozen → WorldStands (kept_by has told now clock life frozen) after log
     world_stands new after log told now clock life frozen t s c f =
         record {
           kept = new;
@@ -182,8 +182,8 @@ loads_world core log life told now clock o c awake = record { after = o.did.afte
 pub loads_none : (core : Core) (log : Log) (error : WorldError) (told : Option State) (now : ℕ) → Opening core log (Err error) told now → LoadsNone core log error told now
 loads_none core log error told now o = record { unread = o.did.unread; after = o.did.after; loads = o.did.loads; says = o.did.says; kept = o.new; tells = o.tells; world = o.did.world; counts = o.did.faults }
 
-pub loads_anew_ok : (core : Core) (log : Log) (life : Life) (told : Option State) (now : ℕ) (clock : Option ℕ) (frozen : Bool) → Opening core log (Ok life) told now → clock ≡ Some core.clock → frozen ≡ core.frozen →
-    LoadsAnew core log (Ok tt) (kept_by told now clock life frozen)
+pub loads_anew_ok : {has : ℕ} (core : Core) (log : Log) (life : Life) (told : Option State) (now : ℕ) (clock : Option ℕ) (frozen : Bool) → Opening core log (Ok life) told now → clock ≡ Some core.clock → frozen ≡ core.frozen →
+    LoadsAnew core log (Ok tt) (kept_by has told now clock life frozen)
 loads_anew_ok core log life told now clock frozen o c f =
     let s = o.did.stands in
     record {
@@ -207,8 +207,8 @@ loads_anew_ok core log life told now clock frozen o c f =
       };
     }
 
-pub loads_anew_err : (core : Core) (log : Log) (life : Life) (told told' : Option State) (n now : ℕ) (clock : Option ℕ) (frozen : Bool) (x : WorldError) → WorldStands (kept_by told n clock life frozen) core log → Opening core log (Err x) told' now →
-    (r : Result ⊤ WorldError) (Is : WorldError → Type 0) → IsErrAnd r Is → ((error : WorldError) → Is error → error ≡ x) → LoadsAnew core log r (kept_by told' now clock life frozen)
+pub loads_anew_err : {had has : ℕ} (core : Core) (log : Log) (life : Life) (told told' : Option State) (n now : ℕ) (clock : Option ℕ) (frozen : Bool) (x : WorldError) → WorldStands (kept_by had told n clock life frozen) core log → Opening core log (Err x) told' now →
+    (r : Result ⊤ WorldError) (Is : WorldError → Type 0) → IsErrAnd r Is → ((error : WorldError) → Is error → error ≡ x) → LoadsAnew core log r (kept_by has told' now clock life frozen)
 loads_anew_err core log life told told' n now clock frozen x s o (Ok done) Is h same = absurd h
 loads_anew_err core log life told told' n now clock frozen x s o (Err error) Is h same =
     let d = o.did in

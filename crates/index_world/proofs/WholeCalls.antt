@@ -28,6 +28,7 @@ keeping_of kept core =
     record {
       told = Some kept;
       store_faults = core.store_faults;
+      given = 0;
       clock = Some core.clock;
       moment = core.moment;
       meta = state_of reads (history core.history);

@@ -1,7 +1,7 @@
 -- What the calls of a world on one file do and answer over any store that tells, whether it is an index or not.
-use Rattle.std.specs.Prelude.{◌≡◌, ◌<◌, ◌≤◌, ℕ, List, Some, None, Result, Ok, Err, IsSome, ⊤}
+use Rattle.std.specs.Prelude.{◌≡◌, ◌+◌, ◌<◌, ◌≤◌, ℕ, List, length, min, Some, None, Result, Ok, Err, IsSome, ⊤}
 use Rattle.std.specs.FinMap.{get}
-use Rattle.object_store.specs.Store.{State, HasLanded, LandsThen, Creates, IsPieceOf}
+use Rattle.object_store.specs.Store.{State, HasLanded, LandsThen, Creates, IsPieceOf, last_given}
 use Rattle.object_store.specs.declared.store.CreateError.{CreateError}
 use Rattle.object_store.specs.declared.store.CreateError.TheVariants as creates
 use Rattle.object_store.specs.declared.store.Piece.{Piece}
@@ -25,6 +25,11 @@ FetchesFile key from len (Err errors.Full) old new = ⊥
 FetchesFile key from len (Err errors.NoIndex) old new = ⊥
 FetchesFile key from len (Err errors.IndexExists) old new = ⊥
 FetchesFile key from len (Err (errors.BadConfig bad)) old new = ⊥
+
+-- how many bytes a store gave, behind a fetch: those that are answered, and no others
+abbrev pub given_behind : Result Piece WorldError → ℕ → ℕ
+given_behind (Ok piece) count = min (count + length piece.bytes) last_given
+given_behind (Err error) count = count
 
 -- Over every store: Missing has the file's key, Expired the plan's moment, and no other error comes but want of memory and a fault of the store.
 abbrev pub IsFetch : (key : List ℕ) (planned_at : ℕ) → Result Piece WorldError → Type 0

@@ -22,8 +22,8 @@ state_code =
 
 abbrev pub keeping_code : Coded Keeping
 keeping_code =
-    code_by ((Option State × (ℕ × Option ℕ)) × ((ℕ × (meta.State × ℕ)) × (Bool × Bool)))
-    (coded× (coded× (coded_option store_code) (coded× coded_ℕ (coded_option coded_ℕ))) (coded× (coded× coded_ℕ (coded× state_code coded_ℕ)) (coded× coded_bool coded_bool)))
-    (λ k. ((k.told, (k.store_faults, k.clock)), ((k.moment, (k.meta, k.next)), (k.unsure, k.frozen))))
-    (λ p. record { told = p.0.0; store_faults = p.0.1.0; clock = p.0.1.1; moment = p.1.0.0; meta = p.1.0.1.0; next = p.1.0.1.1; unsure = p.1.1.0; frozen = p.1.1.1 })
+    code_by ((Option State × (ℕ × (ℕ × Option ℕ))) × ((ℕ × (meta.State × ℕ)) × (Bool × Bool)))
+    (coded× (coded× (coded_option store_code) (coded× coded_ℕ (coded× coded_ℕ (coded_option coded_ℕ)))) (coded× (coded× coded_ℕ (coded× state_code coded_ℕ)) (coded× coded_bool coded_bool)))
+    (λ k. ((k.told, (k.store_faults, (k.given, k.clock))), ((k.moment, (k.meta, k.next)), (k.unsure, k.frozen))))
+    (λ p. record { told = p.0.0; store_faults = p.0.1.0; given = p.0.1.1.0; clock = p.0.1.1.1; moment = p.1.0.0; meta = p.1.0.1.0; next = p.1.0.1.1; unsure = p.1.1.0; frozen = p.1.1.1 })
     (λ _. refl)

@@ -28,11 +28,12 @@ pub record IsTimely (core : Core) : Type 0 where
   pub clock : core.clock < 2 ^ 62
   pub room : core.unsure ≡ true → length core.history < max_entries
 
--- what a world keeps: what its store tells and counts, what its clock tells, its moment, its state, the number behind the
+-- what a world keeps: what its store tells, counts and gave, what its clock tells, its moment, its state, the number behind the
 -- entries that it took in, whether that one is unsure, and whether the clock is asked no more
 pub record Keeping : Type 0 where
   pub told : Option State
   pub store_faults : ℕ
+  pub given : ℕ
   pub clock : Option ℕ
   pub moment : ℕ
   pub meta : meta.State

@@ -10,7 +10,7 @@ ghost use Rattle.object_store.specs.Store.{State, WhereTold};
 ghost use Rattle.source_log.specs.Log.{Log};
 ghost use Rattle.meta_journal.specs.Places.{split_key};
 ghost use Rattle.index_world.specs.Answering.{IsAnswer, marks_answered, moment_answered, stage_answered, publish_answered, plan_answered};
-ghost use Rattle.index_world.specs.Asked.{FetchesFile, IsFetch, IsInTime, IsUpload, UploadsFile};
+ghost use Rattle.index_world.specs.Asked.{FetchesFile, given_behind, IsFetch, IsInTime, IsUpload, UploadsFile};
 ghost use Rattle.index_world.specs.Calls.{asked, asked_moment, looked, asked_and_looked, fetched_from, upload_made};
 ghost use Rattle.index_world.specs.Configuration.{index_of};
 ghost use Rattle.index_world.specs.Core.{Core, IsConfigured, IsUnusedIn};
@@ -61,6 +61,7 @@ impl<S: ObjectStore, C: SteadyClock> Model for World<S, C> {
     ghost view = { λ w. record {
       told = S.told w.store;
       store_faults = S.fault_count w.store;
+      given = S.given w.store;
       clock = C.told w.clock;
       moment = w.life.moment;
       meta = w.life.meta.state;
@@ -220,8 +221,10 @@ impl<S: ObjectStore, C: SteadyClock> World<S, C> {
         // Over every clock.
         ensures told { self.new.told ≡ self.old.told }
         ensures counted { self.new.store_faults ≡ self.old.store_faults }
+        ensures given { self.new.given ≡ self.old.given }
         ensures meta { self.new.meta ≡ self.old.meta }
         ensures next { self.new.next ≡ self.old.next }
+        ensures unsure { self.new.unsure ≡ self.old.unsure }
     {
         if !self.frozen {
             self.life.moment = self.life.moment.max(self.clock.ask());
@@ -295,6 +298,8 @@ impl<S: ObjectStore, C: SteadyClock> World<S, C> {
         ensures faults { IfErr result (IsFaultBetween self.old.store_faults self.new.store_faults) }
         // What is done to any store that tells.
         ensures answers { WhereTold self.old.told self.new.told (UploadsFile (split_key staged.number) content.now result) }
+        // And nothing else changes.
+        ensures same { self.new ≡ record self.old { told = self.new.told; store_faults = self.new.store_faults; given = self.new.given } }
     {
         let before = self.store.faults();
         let key = split_key(staged.number);
@@ -365,6 +370,12 @@ impl<S: ObjectStore, C: SteadyClock> World<S, C> {
         ensures kinds { (row : PlanRow) → slice_get plan.now.rows place ≡ Some row → IsFetch (split_key row.number) plan.now.moment result }
         ensures time { IfSome (index_of self.old.meta.config) (λ config. IsInTime (plan.now.moment + config.deletion_grace) self.new.moment result) }
         ensures faults { IfErr result (IsFaultBetween self.old.store_faults self.new.store_faults) }
+        // Over all stores: what the store gave is what is answered, and no byte more.
+        ensures given { self.new.given ≡ given_behind result self.old.given }
+        // And the state stays.
+        ensures meta { self.new.meta ≡ self.old.meta }
+        ensures next { self.new.next ≡ self.old.next }
+        ensures unsure { self.new.unsure ≡ self.old.unsure }
         // What any store that tells had under the key.
         ensures answers { (row : PlanRow) → slice_get plan.now.rows place ≡ Some row →
             WhereTold self.old.told self.new.told (FetchesFile (split_key row.number) from len result) }

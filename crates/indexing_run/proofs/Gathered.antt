@@ -19,7 +19,7 @@ use Rattle.split_build.specs.declared.builder.Builder.{Builder}
 use Rattle.split_build.specs.declared.build_error.BuildError.TheVariants.{Memory, TooManyDocs, TooLarge}
 use Rattle.split_bundle.specs.Documents.{weight as weight_of, total_weight}
 use Rattle.split_bundle.specs.declared.placed.Placed.{Placed}
-use Rattle.weight_laws.proofs.Weighed.{schema_weight}
+use Rattle.document_laws.proofs.Weighed.{schema_weight}
 use Rattle.indexing_run.proofs.Light.{accepted_as}
 
 -- ---- a document more

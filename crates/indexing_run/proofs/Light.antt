@@ -7,7 +7,7 @@ use Rattle.doc_value.specs.declared.doc.DocField.{DocField}
 use Rattle.index_config.specs.Answer.{config_answer}
 use Rattle.index_config.specs.declared.config.IndexConfig.{IndexConfig}
 use Rattle.index_world.specs.Accepted.{accepted}
-use Rattle.weight_laws.proofs.Weighed.{record_light}
+use Rattle.document_laws.proofs.Weighed.{record_light}
 use Rattle.indexing_run.proofs.Batches.{IsLight}
 
 ok_some : (r : Result (List DocField) Reject) (doc : List DocField) → result_ok r ≡ Some doc → r ≡ Ok doc

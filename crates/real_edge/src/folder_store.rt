@@ -24,6 +24,14 @@ struct Writer<H: Drop> {
     has_cleared: bool,
 }
 
+/// A folder of objects, and who may write it.
+#[derive(Drop)]
+struct Folder<'a, F: WriterLock> {
+    files: &'a F,
+    place: FolderPath,
+    writer: Option<Writer<F::File>>,
+}
+
 /// Objects in a folder: each is a plain file, and the parts of its key are folders. It tells nothing.
 ///
 /// A create writes a file beside, whose name no file had, syncs it, links it under the key's name where nothing has that name,
@@ -32,9 +40,7 @@ struct Writer<H: Drop> {
 /// what is no plain file is no object.
 #[derive(Drop)]
 pub struct FolderStore<'a, F: WriterLock> {
-    files: &'a F,
-    place: FolderPath,
-    writer: Option<Writer<F::File>>,
+    folder: Folder<'a, F>,
     faults: Faults,
     // How many bytes it gave.
     given: u64,
@@ -48,6 +54,88 @@ fn key_name(key: &Key) -> Option<&str> {
     }
 }
 
+impl<'a, F: WriterLock> Folder<'a, F> {
+    // A writer's folder is locked. It takes no memory.
+    fn lock(&mut self) -> Result<(), Trouble> {
+        if let Some(writer) = &mut self.writer {
+            if writer.held.is_none() {
+                self.place.go_to(LOCK)?;
+                writer.held = Some(locked(self.files, self.place.path())?);
+            }
+        }
+        Ok(())
+    }
+
+    // A writer's folder is locked, and has no files beside of others.
+    fn begin(&mut self, alloc: Global) -> Result<(), Trouble> {
+        self.lock()?;
+        if let Some(writer) = &mut self.writer {
+            if !writer.has_cleared {
+                let cleared = remove_leftovers(self.files, alloc, self.place.folder());
+                tried("reading", cleared)?;
+                writer.has_cleared = true;
+            }
+        }
+        Ok(())
+    }
+
+    fn make(&mut self, alloc: Global, key: &Key, content: &[u8]) -> Result<bool, Trouble> {
+        self.begin(alloc)?;
+        let Some(name) = key_name(key) else {
+            self.place.go_back()?;
+            return Err(Trouble::of("making an object in", "a key has an empty part"));
+        };
+        self.place.go_to(name)?;
+        match &mut self.writer {
+            Some(writer) => writer.maker.make(self.files, alloc, &self.place, content),
+            None => Err(Trouble::of("making", "the store is only read")),
+        }
+    }
+
+    fn piece(
+        &mut self,
+        alloc: Global,
+        key: &Key,
+        from: u64,
+        len: u64,
+    ) -> Result<Option<Piece>, Trouble>
+        ensures bound { IfOk result (λ found. IfSome found (λ piece. length piece.bytes ≤ len)) }
+    {
+        self.begin(alloc)?;
+        let Some(name) = key_name(key) else {
+            self.place.require(self.files)?;
+            return Ok(None);
+        };
+        self.place.go_to(name)?;
+        read_piece(self.files, alloc, &mut self.place, from, len)
+    }
+
+    fn remove(&mut self, key: &Key) -> Result<(), Trouble> {
+        self.lock()?;
+        let Some(name) = key_name(key) else {
+            return self.place.require(self.files);
+        };
+        self.place.go_to(name)?;
+        if self.writer.is_none() {
+            return Err(Trouble::of("removing", "the store is only read"));
+        }
+        remove_object(self.files, &mut self.place)
+    }
+
+    fn keys(
+        &mut self,
+        alloc: Global,
+        prefix: &Key,
+        after: Option<&Key>,
+        max: u32,
+    ) -> Result<Keys, Trouble>
+        ensures bound { IfOk result (λ keys. length keys ≤ max) }
+    {
+        self.begin(alloc)?;
+        keys_in(self.files, alloc, &mut self.place, prefix, after, max)
+    }
+}
+
 impl<'a, F: WriterLock> FolderStore<'a, F> {
     fn over(
         alloc: Global,
@@ -55,11 +143,15 @@ impl<'a, F: WriterLock> FolderStore<'a, F> {
         folder: &str,
         writer: Option<Writer<F::File>>,
     ) -> Result<FolderStore<'a, F>, AllocError> {
+        let place = FolderPath::of(alloc, folder)?;
+        let faults = Faults::with_room(alloc, FolderPath::room(folder))?;
         Ok(FolderStore {
-            files,
-            place: FolderPath::of(alloc, folder)?,
-            writer,
-            faults: Faults::with_room(alloc, FolderPath::room(folder))?,
+            folder: Folder {
+                files,
+                place,
+                writer,
+            },
+            faults,
             given: 0,
         })
     }
@@ -105,100 +197,7 @@ impl<'a, F: WriterLock> FolderStore<'a, F> {
         ensures rose { Rose self.old.faults.count self.new.faults.count }
         ensures given { self.new.given ≡ self.old.given }
     {
-        self.faults.add(self.place.path(), trouble);
-    }
-
-    // A writer's folder is locked. It takes no memory.
-    fn lock(&mut self) -> Result<(), Trouble>
-        ensures faults { self.new.faults ≡ self.old.faults }
-        ensures given { self.new.given ≡ self.old.given }
-    {
-        if let Some(writer) = &mut self.writer {
-            if writer.held.is_none() {
-                self.place.go_to(LOCK)?;
-                writer.held = Some(locked(self.files, self.place.path())?);
-            }
-        }
-        Ok(())
-    }
-
-    // A writer's folder is locked, and has no files beside of others.
-    fn begin(&mut self, alloc: Global) -> Result<(), Trouble>
-        ensures faults { self.new.faults ≡ self.old.faults }
-        ensures given { self.new.given ≡ self.old.given }
-    {
-        self.lock()?;
-        if let Some(writer) = &mut self.writer {
-            if !writer.has_cleared {
-                let cleared = remove_leftovers(self.files, alloc, self.place.folder());
-                tried("reading", cleared)?;
-                writer.has_cleared = true;
-            }
-        }
-        Ok(())
-    }
-
-    fn make(&mut self, alloc: Global, key: &Key, content: &[u8]) -> Result<bool, Trouble>
-        ensures { self.new.faults ≡ self.old.faults }
-    {
-        self.begin(alloc)?;
-        let Some(name) = key_name(key) else {
-            self.place.go_back()?;
-            return Err(Trouble::of("making an object in", "a key has an empty part"));
-        };
-        self.place.go_to(name)?;
-        match &mut self.writer {
-            Some(writer) => writer.maker.make(self.files, alloc, &self.place, content),
-            None => Err(Trouble::of("making", "the store is only read")),
-        }
-    }
-
-    fn piece(
-        &mut self,
-        alloc: Global,
-        key: &Key,
-        from: u64,
-        len: u64,
-    ) -> Result<Option<Piece>, Trouble>
-        ensures bound { IfOk result (λ found. IfSome found (λ piece. length piece.bytes ≤ len)) }
-        ensures faults { self.new.faults ≡ self.old.faults }
-        ensures given { self.new.given ≡ self.old.given }
-    {
-        self.begin(alloc)?;
-        let Some(name) = key_name(key) else {
-            self.place.require(self.files)?;
-            return Ok(None);
-        };
-        self.place.go_to(name)?;
-        read_piece(self.files, alloc, &mut self.place, from, len)
-    }
-
-    fn remove(&mut self, key: &Key) -> Result<(), Trouble>
-        ensures { self.new.faults ≡ self.old.faults }
-    {
-        self.lock()?;
-        let Some(name) = key_name(key) else {
-            return self.place.require(self.files);
-        };
-        self.place.go_to(name)?;
-        if self.writer.is_none() {
-            return Err(Trouble::of("removing", "the store is only read"));
-        }
-        remove_object(self.files, &mut self.place)
-    }
-
-    fn keys(
-        &mut self,
-        alloc: Global,
-        prefix: &Key,
-        after: Option<&Key>,
-        max: u32,
-    ) -> Result<Keys, Trouble>
-        ensures bound { IfOk result (λ keys. length keys ≤ max) }
-        ensures faults { self.new.faults ≡ self.old.faults }
-    {
-        self.begin(alloc)?;
-        keys_in(self.files, alloc, &mut self.place, prefix, after, max)
+        self.faults.add(self.folder.place.path(), trouble);
     }
 }
 
@@ -210,7 +209,7 @@ impl<'a, F: WriterLock> ObjectStore for FolderStore<'a, F> {
     ghost given = { λ s. s.given };
 
     fn create(&mut self, alloc: Global, key: &Key, content: &[u8]) -> Result<(), CreateError> {
-        match self.make(alloc, key, content) {
+        match self.folder.make(alloc, key, content) {
             Ok(true) => Ok(()),
             Ok(false) => Err(CreateError::Exists),
             Err(trouble) if trouble.is_memory() => Err(CreateError::Memory(AllocError)),
@@ -222,7 +221,7 @@ impl<'a, F: WriterLock> ObjectStore for FolderStore<'a, F> {
     }
 
     fn get(&mut self, alloc: Global, key: &Key, from: u64, len: u64) -> Result<Piece, GetError> {
-        match self.piece(alloc, key, from, len) {
+        match self.folder.piece(alloc, key, from, len) {
             Ok(Some(piece)) => {
                 let answer = Ok(piece);
                 self.given = given_behind(self.given, &answer);
@@ -238,7 +237,7 @@ impl<'a, F: WriterLock> ObjectStore for FolderStore<'a, F> {
     }
 
     fn delete(&mut self, key: &Key) -> Result<(), Failed> {
-        match self.remove(key) {
+        match self.folder.remove(key) {
             Ok(()) => Ok(()),
             Err(trouble) => {
                 self.fail(trouble);
@@ -254,7 +253,7 @@ impl<'a, F: WriterLock> ObjectStore for FolderStore<'a, F> {
         after: Option<&Key>,
         max: u32,
     ) -> Result<Keys, ListError> {
-        match self.keys(alloc, prefix, after, max) {
+        match self.folder.keys(alloc, prefix, after, max) {
             Ok(keys) => Ok(keys),
             Err(trouble) if trouble.is_memory() => Err(ListError::Memory(AllocError)),
             Err(trouble) => {

@@ -60,29 +60,29 @@ returns-clause-step g c core log s =
 
 pub returns-in_err-settle-clause-answers : goal.returns-in_err-settle-clause-answers
 returns-in_err-settle-clause-answers g c =
-    let new = (kept_by (g.S.ObjectStore.told c.settle.new.store) (g.S.ObjectStore.fault_count c.settle.new.store) (g.C.Clock.told c.self.inside.clock) c.settle.new.self c.self.inside.frozen) in
+    let new = (kept_by (g.S.ObjectStore.given c.settle.new.store) (g.S.ObjectStore.told c.settle.new.store) (g.S.ObjectStore.fault_count c.settle.new.store) (g.C.Clock.told c.self.inside.clock) c.settle.new.self c.self.inside.frozen) in
     let told = ap (λ (k : Keeping). k.told) c.self.view_is in
     let counts = ap (λ (k : Keeping). k.store_faults) c.self.view_is in (
       tells_failed (λ (r : Result Marks WorldError) now. SaysMarks r new now) (λ (k : Result ⊤ WorldError) now. IfErr k (λ error. SettlesNot error new.next new.meta now))
           c.from_residual.result _ c.in_err-settle.field-0.0 c.args.self.now new _ c.faults-before.result _ c.settle.result told counts (c.faults-before.ensures ∙ counts) c.in_err-settle.was c.from_residual.ensures.1 (λ error is. is)
           c.settle.ensures.faults c.settle.ensures.answers (λ now h. h),
-      followed_from (kept_by (g.S.ObjectStore.told c.self.inside.store) (g.S.ObjectStore.fault_count c.self.inside.store) (g.C.Clock.told c.self.inside.clock) c.self.inside.life c.self.inside.frozen) c.args.self.now new (ap (λ (k : Keeping). k.told) c.self.view_is) (ap (λ (k : Keeping). k.next) c.self.view_is) (ap (λ (k : Keeping). k.meta) c.self.view_is) c.settle.ensures.followed,
+      followed_from (kept_by (g.S.ObjectStore.given c.self.inside.store) (g.S.ObjectStore.told c.self.inside.store) (g.S.ObjectStore.fault_count c.self.inside.store) (g.C.Clock.told c.self.inside.clock) c.self.inside.life c.self.inside.frozen) c.args.self.now new (ap (λ (k : Keeping). k.told) c.self.view_is) (ap (λ (k : Keeping). k.next) c.self.view_is) (ap (λ (k : Keeping). k.meta) c.self.view_is) c.settle.ensures.followed,
     )
 
 pub returns-in_err-copied_checkpoints-clause-answers : goal.returns-in_err-copied_checkpoints-clause-answers
 returns-in_err-copied_checkpoints-clause-answers g c =
-    let new = (kept_by (g.S.ObjectStore.told c.settle.new.store) (g.S.ObjectStore.fault_count c.settle.new.store) (g.C.Clock.told c.self.inside.clock) c.settle.new.self c.self.inside.frozen) in
+    let new = (kept_by (g.S.ObjectStore.given c.settle.new.store) (g.S.ObjectStore.told c.settle.new.store) (g.S.ObjectStore.fault_count c.settle.new.store) (g.C.Clock.told c.self.inside.clock) c.settle.new.self c.self.inside.frozen) in
     let told = ap (λ (k : Keeping). k.told) c.self.view_is in (
       tells_short (λ (r : Result Marks WorldError) now. SaysMarks r new now) _ c.from_residual-in_err-copied_checkpoints.result _ c.args.self.now new _ told c.from_residual-in_err-copied_checkpoints.ensures.1 (λ error is. subst IsWant (sym is) tt)
           c.settle.ensures.answers (want_settles new.next new.meta),
-      followed_from (kept_by (g.S.ObjectStore.told c.self.inside.store) (g.S.ObjectStore.fault_count c.self.inside.store) (g.C.Clock.told c.self.inside.clock) c.self.inside.life c.self.inside.frozen) c.args.self.now new (ap (λ (k : Keeping). k.told) c.self.view_is) (ap (λ (k : Keeping). k.next) c.self.view_is) (ap (λ (k : Keeping). k.meta) c.self.view_is) c.settle.ensures.followed,
+      followed_from (kept_by (g.S.ObjectStore.given c.self.inside.store) (g.S.ObjectStore.told c.self.inside.store) (g.S.ObjectStore.fault_count c.self.inside.store) (g.C.Clock.told c.self.inside.clock) c.self.inside.life c.self.inside.frozen) c.args.self.now new (ap (λ (k : Keeping). k.told) c.self.view_is) (ap (λ (k : Keeping). k.next) c.self.view_is) (ap (λ (k : Keeping). k.meta) c.self.view_is) c.settle.ensures.followed,
     )
 
 pub returns-clause-answers : goal.returns-clause-answers
 returns-clause-answers g c =
-    let new = (kept_by (g.S.ObjectStore.told c.settle.new.store) (g.S.ObjectStore.fault_count c.settle.new.store) (g.C.Clock.told c.self.inside.clock) c.settle.new.self c.self.inside.frozen) in
+    let new = (kept_by (g.S.ObjectStore.given c.settle.new.store) (g.S.ObjectStore.told c.settle.new.store) (g.S.ObjectStore.fault_count c.settle.new.store) (g.C.Clock.told c.self.inside.clock) c.settle.new.self c.self.inside.frozen) in
     let told = ap (λ (k : Keeping). k.told) c.self.view_is in (
       tells_ok (λ (r : Result Marks WorldError) now. SaysMarks r new now) (λ (k : Result ⊤ WorldError) now. IfErr k (λ error. SettlesNot error new.next new.meta now)) (record { checkpoints = c.in_ok-copied_checkpoints.field-0; opstamp = c.last_opstamp.result; revision = c.revision.result }) _ c.args.self.now new _ c.settle.result told c.in_ok-settle.was c.settle.ensures.answers
           (λ now h. (c.in_ok-copied_checkpoints.ensures ∙ c.as_slice.ensures ∙ c.checkpoints.ensures, c.last_opstamp.ensures, c.revision.ensures, ap is_unsure c.in_ok-settle.ensures.place)),
-      followed_from (kept_by (g.S.ObjectStore.told c.self.inside.store) (g.S.ObjectStore.fault_count c.self.inside.store) (g.C.Clock.told c.self.inside.clock) c.self.inside.life c.self.inside.frozen) c.args.self.now new (ap (λ (k : Keeping). k.told) c.self.view_is) (ap (λ (k : Keeping). k.next) c.self.view_is) (ap (λ (k : Keeping). k.meta) c.self.view_is) c.settle.ensures.followed,
+      followed_from (kept_by (g.S.ObjectStore.given c.self.inside.store) (g.S.ObjectStore.told c.self.inside.store) (g.S.ObjectStore.fault_count c.self.inside.store) (g.C.Clock.told c.self.inside.clock) c.self.inside.life c.self.inside.frozen) c.args.self.now new (ap (λ (k : Keeping). k.told) c.self.view_is) (ap (λ (k : Keeping). k.next) c.self.view_is) (ap (λ (k : Keeping). k.meta) c.self.view_is) c.settle.ensures.followed,
     )

@@ -9,7 +9,7 @@ use Rattle.index_world.specs.Gate.{grace_of}
 use Rattle.index_world.specs.World.{Keeping, WorldStands}
 use Rattle.meta_store.specs.State.{State}
 use Rattle.index_world.specs.Configuration.{index_of}
-use Rattle.index_world.proofs.AskedLaws.{fetched_early, fetched_late, is_fetch, told_fetch, told_still, fault_fetched}
+use Rattle.index_world.proofs.AskedLaws.{fetched_early, fetched_late, given_fetched, is_fetch, told_fetch, told_still, fault_fetched}
 use Rattle.index_world.proofs.Configured.{configured-kept}
 use Rattle.index_world.proofs.Gates.{expires, fetches, world_asks}
 use Rattle.index_world.proofs.world.World.fetch.Goals as goal
@@ -75,4 +75,9 @@ pub returns-clause-faults : goal.returns-clause-faults
 returns-clause-faults g c =
     fault_fetched c.split_key-key.result _ _ _ c.faults-before.result c.faults-after.result c.get-answer.result c.match-answer.result (c.faults-before.ensures ∙ ap (λ (k : Keeping). k.store_faults) c.self.view_is) c.faults-after.ensures
     (ap (λ (k : Keeping). k.store_faults) c.self-2.view_is ∙ c.ask.ensures.counted) c.get-answer.ensures.cause
+    (elim c.match-answer.branch [ in-Ok v ↦ inl (v.in-Ok.piece, v.in-Ok.is, v.result-is) | in-Err v ↦ inr (v.in-Err.error, v.in-Err.is, v.result-is ∙ ap Err v.get_error.ensures) ])
+
+pub returns-clause-given : goal.returns-clause-given
+returns-clause-given g c =
+    given_fetched c.split_key-key.result c.faults-before.result c.faults-after.result _ _ _ c.get-answer.result c.match-answer.result (ap (λ (k : Keeping). k.given) c.self-2.view_is ∙ c.ask.ensures.given) c.get-answer.ensures.given
     (elim c.match-answer.branch [ in-Ok v ↦ inl (v.in-Ok.piece, v.in-Ok.is, v.result-is) | in-Err v ↦ inr (v.in-Err.error, v.in-Err.is, v.result-is ∙ ap Err v.get_error.ensures) ])

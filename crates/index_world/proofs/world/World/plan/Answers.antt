@@ -73,29 +73,29 @@ returns-clause-step g c core log s =
 
 pub returns-in_err-settle-clause-answers : goal.returns-in_err-settle-clause-answers
 returns-in_err-settle-clause-answers g c =
-    let new = (kept_by (g.S.ObjectStore.told c.settle.new.store) (g.S.ObjectStore.fault_count c.settle.new.store) (g.C.Clock.told c.self-2.inside.clock) c.settle.new.self c.self-2.inside.frozen) in
+    let new = (kept_by (g.S.ObjectStore.given c.settle.new.store) (g.S.ObjectStore.told c.settle.new.store) (g.S.ObjectStore.fault_count c.settle.new.store) (g.C.Clock.told c.self-2.inside.clock) c.settle.new.self c.self-2.inside.frozen) in
     let told = ap (λ (k : Keeping). k.told) c.self-2.view_is ∙ c.ask.ensures.told in
     let counts = ap (λ (k : Keeping). k.store_faults) c.self-2.view_is ∙ c.ask.ensures.counted in (
       tells_failed (λ (r : Result Plan WorldError) now. SaysPlanned c.args.choice.now r new now) (λ (k : Result ⊤ WorldError) now. IfErr k (λ error. SettlesNot error new.next new.meta now))
           c.from_residual.result _ c.in_err-settle.field-0.0 c.args.self.now new _ c.faults-before.result _ c.settle.result told counts (c.faults-before.ensures ∙ ap (λ (k : Keeping). k.store_faults) c.self.view_is) c.in_err-settle.was c.from_residual.ensures.1 (λ error is. is)
           c.settle.ensures.faults c.settle.ensures.answers (λ now h. h),
-      followed_from (kept_by (g.S.ObjectStore.told c.self-2.inside.store) (g.S.ObjectStore.fault_count c.self-2.inside.store) (g.C.Clock.told c.self-2.inside.clock) c.self-2.inside.life c.self-2.inside.frozen) c.args.self.now new (ap (λ (k : Keeping). k.told) c.self-2.view_is ∙ c.ask.ensures.told) (ap (λ (k : Keeping). k.next) c.self-2.view_is ∙ c.ask.ensures.next) (ap (λ (k : Keeping). k.meta) c.self-2.view_is ∙ c.ask.ensures.meta) c.settle.ensures.followed,
+      followed_from (kept_by (g.S.ObjectStore.given c.self-2.inside.store) (g.S.ObjectStore.told c.self-2.inside.store) (g.S.ObjectStore.fault_count c.self-2.inside.store) (g.C.Clock.told c.self-2.inside.clock) c.self-2.inside.life c.self-2.inside.frozen) c.args.self.now new (ap (λ (k : Keeping). k.told) c.self-2.view_is ∙ c.ask.ensures.told) (ap (λ (k : Keeping). k.next) c.self-2.view_is ∙ c.ask.ensures.next) (ap (λ (k : Keeping). k.meta) c.self-2.view_is ∙ c.ask.ensures.meta) c.settle.ensures.followed,
     )
 
 pub returns-in_err-plan_rows-clause-answers : goal.returns-in_err-plan_rows-clause-answers
 returns-in_err-plan_rows-clause-answers g c =
-    let new = (kept_by (g.S.ObjectStore.told c.settle.new.store) (g.S.ObjectStore.fault_count c.settle.new.store) (g.C.Clock.told c.self-2.inside.clock) c.settle.new.self c.self-2.inside.frozen) in
+    let new = (kept_by (g.S.ObjectStore.given c.settle.new.store) (g.S.ObjectStore.told c.settle.new.store) (g.S.ObjectStore.fault_count c.settle.new.store) (g.C.Clock.told c.self-2.inside.clock) c.settle.new.self c.self-2.inside.frozen) in
     let told = ap (λ (k : Keeping). k.told) c.self-2.view_is ∙ c.ask.ensures.told in (
       tells_short (λ (r : Result Plan WorldError) now. SaysPlanned c.args.choice.now r new now) _ c.from_residual-in_err-plan_rows.result _ c.args.self.now new _ told c.from_residual-in_err-plan_rows.ensures.1 (λ error is. subst IsWant (sym is) tt)
           c.settle.ensures.answers (want_settles new.next new.meta),
-      followed_from (kept_by (g.S.ObjectStore.told c.self-2.inside.store) (g.S.ObjectStore.fault_count c.self-2.inside.store) (g.C.Clock.told c.self-2.inside.clock) c.self-2.inside.life c.self-2.inside.frozen) c.args.self.now new (ap (λ (k : Keeping). k.told) c.self-2.view_is ∙ c.ask.ensures.told) (ap (λ (k : Keeping). k.next) c.self-2.view_is ∙ c.ask.ensures.next) (ap (λ (k : Keeping). k.meta) c.self-2.view_is ∙ c.ask.ensures.meta) c.settle.ensures.followed,
+      followed_from (kept_by (g.S.ObjectStore.given c.self-2.inside.store) (g.S.ObjectStore.told c.self-2.inside.store) (g.S.ObjectStore.fault_count c.self-2.inside.store) (g.C.Clock.told c.self-2.inside.clock) c.self-2.inside.life c.self-2.inside.frozen) c.args.self.now new (ap (λ (k : Keeping). k.told) c.self-2.view_is ∙ c.ask.ensures.told) (ap (λ (k : Keeping). k.next) c.self-2.view_is ∙ c.ask.ensures.next) (ap (λ (k : Keeping). k.meta) c.self-2.view_is ∙ c.ask.ensures.meta) c.settle.ensures.followed,
     )
 
 pub returns-clause-answers : goal.returns-clause-answers
 returns-clause-answers g c =
-    let new = (kept_by (g.S.ObjectStore.told c.settle.new.store) (g.S.ObjectStore.fault_count c.settle.new.store) (g.C.Clock.told c.self-2.inside.clock) c.settle.new.self c.self-2.inside.frozen) in
+    let new = (kept_by (g.S.ObjectStore.given c.settle.new.store) (g.S.ObjectStore.told c.settle.new.store) (g.S.ObjectStore.fault_count c.settle.new.store) (g.C.Clock.told c.self-2.inside.clock) c.settle.new.self c.self-2.inside.frozen) in
     let told = ap (λ (k : Keeping). k.told) c.self-2.view_is ∙ c.ask.ensures.told in (
       tells_ok (λ (r : Result Plan WorldError) now. SaysPlanned c.args.choice.now r new now) (λ (k : Result ⊤ WorldError) now. IfErr k (λ error. SettlesNot error new.next new.meta now)) (record { revision = c.revision.result; moment = c.settle.new.self.moment; upto = c.last_opstamp.result; rows = c.in_ok-plan_rows.field-0 }) _ c.args.self.now new _ c.settle.result told c.in_ok-settle.was c.settle.ensures.answers
           (λ now h. record { revision = c.revision.ensures; moment = refl; upto = c.last_opstamp.ensures; rows = c.in_ok-plan_rows.ensures; settled = ap is_unsure c.in_ok-settle.ensures.place }),
-      followed_from (kept_by (g.S.ObjectStore.told c.self-2.inside.store) (g.S.ObjectStore.fault_count c.self-2.inside.store) (g.C.Clock.told c.self-2.inside.clock) c.self-2.inside.life c.self-2.inside.frozen) c.args.self.now new (ap (λ (k : Keeping). k.told) c.self-2.view_is ∙ c.ask.ensures.told) (ap (λ (k : Keeping). k.next) c.self-2.view_is ∙ c.ask.ensures.next) (ap (λ (k : Keeping). k.meta) c.self-2.view_is ∙ c.ask.ensures.meta) c.settle.ensures.followed,
+      followed_from (kept_by (g.S.ObjectStore.given c.self-2.inside.store) (g.S.ObjectStore.told c.self-2.inside.store) (g.S.ObjectStore.fault_count c.self-2.inside.store) (g.C.Clock.told c.self-2.inside.clock) c.self-2.inside.life c.self-2.inside.frozen) c.args.self.now new (ap (λ (k : Keeping). k.told) c.self-2.view_is ∙ c.ask.ensures.told) (ap (λ (k : Keeping). k.next) c.self-2.view_is ∙ c.ask.ensures.next) (ap (λ (k : Keeping). k.meta) c.self-2.view_is ∙ c.ask.ensures.meta) c.settle.ensures.followed,
     )

@@ -43,20 +43,20 @@ returns-clause-step g c core log s p =
 
 pub returns-in_err-append-clause-answers : goal.returns-in_err-append-clause-answers
 returns-in_err-append-clause-answers g c =
-    let new = (kept_by (g.S.ObjectStore.told c.append.new.store) (g.S.ObjectStore.fault_count c.append.new.store) (g.C.Clock.told c.self-2.inside.clock) c.append.new.self c.self-2.inside.frozen) in
+    let new = (kept_by (g.S.ObjectStore.given c.append.new.store) (g.S.ObjectStore.told c.append.new.store) (g.S.ObjectStore.fault_count c.append.new.store) (g.C.Clock.told c.self-2.inside.clock) c.append.new.self c.self-2.inside.frozen) in
     let told = ap (λ (k : Keeping). k.told) c.self-2.view_is ∙ c.ask.ensures.told in
     let counts = ap (λ (k : Keeping). k.store_faults) c.self-2.view_is ∙ c.ask.ensures.counted in (
       tells_failed (λ (r : Result ℕ WorldError) now. SaysPublished c.args.uploaded.number r new now) (λ (k : Result ⊤ WorldError) now. Appends k (publish_in c.args.uploaded.number) new.moment new.next new.meta now)
           c.from_residual.result _ c.in_err-append.field-0.0 c.args.self.now new _ c.faults-before.result _ c.append.result told counts (c.faults-before.ensures ∙ ap (λ (k : Keeping). k.store_faults) c.self.view_is) c.in_err-append.was c.from_residual.ensures.1 (λ error is. is)
           c.append.ensures.faults c.append.ensures.answers (λ now h. h),
-      followed_from (kept_by (g.S.ObjectStore.told c.self-2.inside.store) (g.S.ObjectStore.fault_count c.self-2.inside.store) (g.C.Clock.told c.self-2.inside.clock) c.self-2.inside.life c.self-2.inside.frozen) c.args.self.now new (ap (λ (k : Keeping). k.told) c.self-2.view_is ∙ c.ask.ensures.told) (ap (λ (k : Keeping). k.next) c.self-2.view_is ∙ c.ask.ensures.next) (ap (λ (k : Keeping). k.meta) c.self-2.view_is ∙ c.ask.ensures.meta) c.append.ensures.followed,
+      followed_from (kept_by (g.S.ObjectStore.given c.self-2.inside.store) (g.S.ObjectStore.told c.self-2.inside.store) (g.S.ObjectStore.fault_count c.self-2.inside.store) (g.C.Clock.told c.self-2.inside.clock) c.self-2.inside.life c.self-2.inside.frozen) c.args.self.now new (ap (λ (k : Keeping). k.told) c.self-2.view_is ∙ c.ask.ensures.told) (ap (λ (k : Keeping). k.next) c.self-2.view_is ∙ c.ask.ensures.next) (ap (λ (k : Keeping). k.meta) c.self-2.view_is ∙ c.ask.ensures.meta) c.append.ensures.followed,
     )
 
 pub returns-clause-answers : goal.returns-clause-answers
 returns-clause-answers g c =
-    let new = (kept_by (g.S.ObjectStore.told c.append.new.store) (g.S.ObjectStore.fault_count c.append.new.store) (g.C.Clock.told c.self-2.inside.clock) c.append.new.self c.self-2.inside.frozen) in
+    let new = (kept_by (g.S.ObjectStore.given c.append.new.store) (g.S.ObjectStore.told c.append.new.store) (g.S.ObjectStore.fault_count c.append.new.store) (g.C.Clock.told c.self-2.inside.clock) c.append.new.self c.self-2.inside.frozen) in
     let told = ap (λ (k : Keeping). k.told) c.self-2.view_is ∙ c.ask.ensures.told in (
       tells_ok (λ (r : Result ℕ WorldError) now. SaysPublished c.args.uploaded.number r new now) (λ (k : Result ⊤ WorldError) now. Appends k (publish_in c.args.uploaded.number) new.moment new.next new.meta now) c.revision.result _ c.args.self.now new _ c.append.result told c.in_ok-append.was c.append.ensures.answers
           (λ now h. (h, c.revision.ensures, ap is_unsure c.in_ok-append.ensures.place)),
-      followed_from (kept_by (g.S.ObjectStore.told c.self-2.inside.store) (g.S.ObjectStore.fault_count c.self-2.inside.store) (g.C.Clock.told c.self-2.inside.clock) c.self-2.inside.life c.self-2.inside.frozen) c.args.self.now new (ap (λ (k : Keeping). k.told) c.self-2.view_is ∙ c.ask.ensures.told) (ap (λ (k : Keeping). k.next) c.self-2.view_is ∙ c.ask.ensures.next) (ap (λ (k : Keeping). k.meta) c.self-2.view_is ∙ c.ask.ensures.meta) c.append.ensures.followed,
+      followed_from (kept_by (g.S.ObjectStore.given c.self-2.inside.store) (g.S.ObjectStore.told c.self-2.inside.store) (g.S.ObjectStore.fault_count c.self-2.inside.store) (g.C.Clock.told c.self-2.inside.clock) c.self-2.inside.life c.self-2.inside.frozen) c.args.self.now new (ap (λ (k : Keeping). k.told) c.self-2.view_is ∙ c.ask.ensures.told) (ap (λ (k : Keeping). k.next) c.self-2.view_is ∙ c.ask.ensures.next) (ap (λ (k : Keeping). k.meta) c.self-2.view_is ∙ c.ask.ensures.meta) c.append.ensures.followed,
     )

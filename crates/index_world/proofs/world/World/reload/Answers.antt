@@ -12,8 +12,8 @@ returns-in_err-self-inside-clause-opened g c =
     let told = g.S.ObjectStore.told c.open.new.store in
     let now = g.S.ObjectStore.fault_count c.open.new.store in
     let clock = g.C.Clock.told c.self.inside.clock in
-    told_from _ _ told (λ n. OpensAnew n c.from_residual.result (kept_by told now clock c.self.inside.life c.self.inside.frozen)) c.self.view_is
-    (told_map _ _ (opens_no_more told now clock c.self.inside.life c.self.inside.frozen _ c.in_err-self-inside.field-0.0 c.from_residual.result _ c.from_residual.ensures.1 (λ error is. is))
+    told_from _ _ told (λ n. OpensAnew n c.from_residual.result (kept_by (g.S.ObjectStore.given c.open.new.store) told now clock c.self.inside.life c.self.inside.frozen)) c.self.view_is
+    (told_map _ _ (opens_no_more (g.S.ObjectStore.given c.open.new.store) told now clock c.self.inside.life c.self.inside.frozen _ c.in_err-self-inside.field-0.0 c.from_residual.result _ c.from_residual.ensures.1 (λ error is. is))
     (opens_at _ _ _ _ _ _ c.in_err-self-inside.was c.open.ensures.opened))
 
 pub returns-clause-opened : goal.returns-clause-opened
@@ -21,7 +21,7 @@ returns-clause-opened g c =
     let told = g.S.ObjectStore.told c.open.new.store in
     let now = g.S.ObjectStore.fault_count c.open.new.store in
     let clock = g.C.Clock.told c.self.inside.clock in
-    told_from _ _ told (λ n. OpensAnew n (Ok tt) (kept_by told now clock c.in_ok-self-inside.field-0 c.self.inside.frozen)) c.self.view_is
+    told_from _ _ told (λ n. OpensAnew n (Ok tt) (kept_by (g.S.ObjectStore.given c.open.new.store) told now clock c.in_ok-self-inside.field-0 c.self.inside.frozen)) c.self.view_is
     (told_map _ _ (opens_world told now clock c.in_ok-self-inside.field-0 c.self.inside.frozen) (opens_at _ _ _ _ _ _ c.in_ok-self-inside.was c.open.ensures.opened))
 
 pub returns-in_err-self-inside-clause-step : goal.returns-in_err-self-inside-clause-step

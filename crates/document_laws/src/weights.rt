@@ -1,4 +1,4 @@
-// Laws of the document of a record, over the definitions alone.
+//! How heavy documents are, over the definitions alone.
 
 ghost use Rattle.std.specs.Prelude.{◌≡◌, ◌+◌, ◌*◌, ◌^◌, ◌<◌, ◌≤◌, ℕ, List, length, Ok};
 ghost use Rattle.doc_mapping.specs.Answer.{answer};

@@ -32,7 +32,7 @@ use Rattle.doc_mapping.proofs.Recorded.{its_number, not_its_number}
 use Rattle.std.specs.Cmp.{unsigned_Decides}
 use Rattle.split_bundle.specs.Documents.{value_bytes, field_bytes, doc_bytes, weight}
 use Rattle.split_bundle.specs.declared.placed.Placed.{Placed}
-use Rattle.weight_laws.proofs.Fitting.{record_numbers}
+use Rattle.document_laws.proofs.Fitting.{record_numbers}
 
 -- ---- how long a varint is
 

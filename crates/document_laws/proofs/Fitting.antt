@@ -30,7 +30,7 @@ use Rattle.doc_mapping.specs.Answer.{answer, value_of}
 use Rattle.doc_mapping.specs.Documents.{value_at, i64_values, u64_values, date_values, texts_in, values_of, found_values, part_of, leaf_values, leaves_for, values_from, doc_from}
 use Rattle.document_laws.specs.ReadBack.{IsI64, AreInType, HasNumbers}
 use Rattle.document_laws.proofs.Recorded.{made_from}
-use Rattle.weight_laws.proofs.Numbers.{IsNum64, Has64, read_64, at_64}
+use Rattle.document_laws.proofs.Numbers.{IsNum64, Has64, read_64, at_64}
 
 -- ---- a second
 

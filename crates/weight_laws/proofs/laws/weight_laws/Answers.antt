@@ -1,5 +1,0 @@
-use Rattle.weight_laws.proofs.Weighed.{document_weight, record_weight, record_light}
-use Rattle.weight_laws.proofs.laws.weight_laws.Goals as goal
-
-pub returns : goal.returns
-returns c = record { document = document_weight; record_bytes = record_weight; light = record_light }
