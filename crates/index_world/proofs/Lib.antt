@@ -28,6 +28,7 @@ pub mod Transacting
 pub mod InCore
 pub mod FileCalls
 pub mod DeleteCalls
+pub mod Dooming
 pub mod Opening
 pub mod JournalLaws
 pub mod WholeCalls

@@ -422,7 +422,7 @@ with_standing (Some entry) core = taken_in entry core
 
 -- a new life: the moments of the old one are forgotten, and nothing is unsure
 abbrev pub reborn : Core → Core
-reborn core = record core { moment = moment_of (history core.history); unsure = false; marks = [] }
+reborn core = record core { moment = moment_of (history core.history); unsure = false; marks = []; doomed = [] }
 
 abbrev pub read_journal : Core → Core
 read_journal core = reborn (with_standing core.standing core)

@@ -57,6 +57,7 @@ pub record Core : Type 0 where
   pub standing : Option Entry  -- the entry that stands there unread
   pub late : List Late  -- the creates that failed and may land later, in the store's order
   pub marks : List Marking  -- what this life marked
+  pub doomed : List ℕ  -- the numbers whose files this life deleted while they had a row
 
 -- a count stands still at its type's end
 abbrev pub last_count : ℕ

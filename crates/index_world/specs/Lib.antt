@@ -29,3 +29,5 @@ pub mod DirectLaws
 pub mod Alike
 pub mod Releases
 pub mod Deleted
+pub mod Collecting
+pub mod Collected

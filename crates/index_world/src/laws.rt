@@ -28,6 +28,8 @@ ghost use Rattle.index_config.specs.declared.config.IndexConfig.{IndexConfig};
 ghost use Rattle.index_world.specs.Config.{reads};
 ghost use Rattle.index_world.specs.Configuration.{configuration, StaysConfigured};
 ghost use Rattle.byte_fields.specs.Causes.{Rose};
+ghost use Rattle.index_world.specs.Collected.{DoomsAs, SweepsAs};
+ghost use Rattle.index_world.specs.Collecting.{is_swept, next_doomed};
 ghost use Rattle.index_world.specs.Deleted.{DeletesAs};
 ghost use Rattle.index_world.specs.Core.{Core, last_count, IsPlannedIn, IsShownIn, IsStoredIn};
 ghost use Rattle.index_world.specs.Index.{MayPublish, IsAllowed, HasStaged, IsGivenUp, IsMade, IsStored};
@@ -111,6 +113,17 @@ pub fn deletes_are_the_cores()
     ensures { (old new : State) (core : Core) (log : Log) (number : ℕ) (answer : Result (Unit {0}) Failed) (now : ℕ) → IsWorld old core log → MayFree core number →
         core.store_faults ≤ now → now ≤ last_count → (IsErr answer → Rose core.store_faults now) →
         LandsThen (Deletes (split_key number) answer) old new → DeletesAs new core log number answer now }
+{}
+
+/// What the collector dooms or sweeps may be deleted, whatever stands unread, so its deletes are the core's own with some fate: the world
+/// stands for the core behind them, and numbers in hand, what was shown and what was planned go on.
+pub fn collecting_is_the_cores()
+    ensures dooms { (old new : State) (core : Core) (log : Log) (config : IndexConfig) (now : ℕ) → IsWorld old core log → configuration core.history ≡ Some config →
+        core.store_faults ≤ now → now ≤ last_count → (row : Row) (answer : Result (Unit {0}) Failed) → next_doomed core ≡ Some row → (IsErr answer → Rose core.store_faults now) →
+        LandsThen (Deletes (split_key row.number) answer) old new → DoomsAs new core log row.number answer }
+    ensures sweeps { (old new : State) (core : Core) (log : Log) (config : IndexConfig) (now : ℕ) → IsWorld old core log → configuration core.history ≡ Some config →
+        core.store_faults ≤ now → now ≤ last_count → (number : ℕ) (answer : Result (Unit {0}) Failed) → is_swept core number ≡ true → (IsErr answer → Rose core.store_faults now) →
+        LandsThen (Deletes (split_key number) answer) old new → SweepsAs new core log number answer }
 {}
 
 /// What a load reads is the journal of which the store is an index.
