@@ -1,6 +1,6 @@
 -- What the collector deletes may be deleted, and its deletes are the core's.
-use Rattle.std.proofs.Common.{◌≡◌, ◌⊎◌, ℕ, ◌≤◌, ◌==◌, ◌&&◌, Bool, true, false, not, List, [], ◌∷◌, ◌++◌, map, Option, Some, None, Result, Ok, Err, refl, sym, ap, ◌∙◌, subst, inl, inr, arith, append-nil, nat_le, eq-eqb}
-use Rattle.std.proofs.lemmas.Bool.{leb-true}
+use Rattle.std.proofs.Common.{◌≡◌, ◌⊎◌, ℕ, ◌+◌, ◌<◌, ◌≤◌, ◌==◌, ◌&&◌, Bool, true, false, not, List, [], ◌∷◌, ◌++◌, map, Option, Some, None, Result, Ok, Err, refl, sym, ap, ◌∙◌, subst, inl, inr, arith, append-nil, nat_le, nat_lt, eq-eqb}
+use Rattle.std.proofs.lemmas.Bool.{leb-true, leb-false, ltb-true}
 use Rattle.std.proofs.lemmas.List.Folds.{list_any-append}
 use Rattle.std.specs.List.{AllByRecursion, list_any}
 use Rattle.std.specs.Prelude.{IsErr, is_some, find, ◌||◌}
@@ -12,10 +12,10 @@ use Rattle.meta_journal.specs.declared.entry.Act.{Act}
 use Rattle.meta_journal.specs.declared.entry.Act.TheVariants.{Fence, Create, Stage, Publish, Replace, Raise, Task, MarkStaged, Remove, Retire}
 use Rattle.meta_journal.specs.declared.entry.Entry.{Entry}
 use Rattle.meta_store.proofs.Current.{AllOf-change, AllOf-change_each, AllOf-without_each}
-use Rattle.meta_store.proofs.Numbers.{each_found}
+use Rattle.meta_store.proofs.Numbers.{each_found, stage_next}
 use Rattle.meta_store.proofs.RowLists.{AllOf-append, AllOf-weaker, AllOf-both}
 use Rattle.meta_store.proofs.Sound.{sound}
-use Rattle.meta_store.specs.History.{History, history, last_opstamp, staged_numbers}
+use Rattle.meta_store.specs.History.{History, history, last_number, last_opstamp, staged_numbers}
 use Rattle.meta_store.specs.History.History.{Start, ◌▸◌}
 use Rattle.meta_store.specs.Rows.{rows}
 use Rattle.meta_store.specs.State.{Legal}
@@ -34,11 +34,12 @@ use Rattle.index_world.specs.Config.{reads}
 use Rattle.index_world.specs.Configuration.{configuration, config_or}
 use Rattle.index_world.specs.Core.{Core, journal_of, last_count, release_of, IsOther, IsStoredIn, IsUploadedIn}
 use Rattle.index_world.specs.Deleted.{DeletesAs}
-use Rattle.index_world.specs.Index.{OneEntry, has_staged}
+use Rattle.index_world.specs.Index.{OneEntry}
 use Rattle.index_world.specs.Releases.{MayFree}
 use Rattle.index_world.specs.World.{IsWorld, GoesFor}
 use Rattle.index_world.proofs.DeleteCalls.{world_deletes}
 use Rattle.index_world.proofs.InCore.{goes_both}
+use Rattle.index_world.proofs.InHand.{Comes}
 use Rattle.index_world.proofs.Living.{removes-on, live-on}
 use Rattle.index_world.proofs.StoreKeys.{true_is_false}
 use Rattle.index_world.proofs.Taken.{legal_unread}
@@ -78,6 +79,32 @@ rows_were (h ▸ entry) = by entry.act (rows_were h)
     by (MarkStaged numbers) all = AllOf-change_each (Was h) numbers (rows h) (marked entry.moment) (λ x e. e) all
     by (Remove numbers) all = AllOf-without_each (Was h) numbers (rows h) all
     by (Retire numbers) all = AllOf-change_each (Was h) numbers (rows h) (marked entry.moment) (λ x e. e) all
+
+-- each number up to the last was staged
+numbers_were : (h : History) (n : ℕ) → Legal reads h → 0 < n → n ≤ last_number h → list_any (λ k. k == n) (staged_numbers h) ≡ true
+numbers_were Start n l some low = absurd (omega (arith, some, low))
+numbers_were (h ▸ entry) n l some low = by entry.act l.1.1 (numbers_were h n l.0 some) low
+  where
+    by : (act : Act) → Comes h entry.moment act → (n ≤ last_number h → list_any (λ k. k == n) (staged_numbers h) ≡ true) → n ≤ last_number (h ▸ record { moment = entry.moment; act = act }) →
+        list_any (λ k. k == n) (staged_numbers (h ▸ record { moment = entry.moment; act = act })) ≡ true
+    by Fence may more le = more le
+    by (Create config) may more le = more le
+    by (Stage number delta facts) may more le =
+        let next = stage_next reads h entry.moment number delta facts may in
+        list_any-append (λ k. k == n) (staged_numbers h) (number ∷ []) ∙ at (nat_le n (last_number h)) refl next
+      where
+        at : (b : Bool) → nat_le n (last_number h) ≡ b → number ≡ last_number h + 1 → (list_any (λ k. k == n) (staged_numbers h) || ((number == n) || false)) ≡ true
+        at true e next = or_left (list_any (λ k. k == n) (staged_numbers h)) ((number == n) || false) (more (leb-true n (last_number h) e))
+        at false e next =
+            let high : last_number h < n = leb-false n (last_number h) e in
+            or_right (list_any (λ k. k == n) (staged_numbers h)) (number == n) (eq-eqb number n (omega (arith, high, le, next)))
+    by (Publish number) may more le = more le
+    by (Replace new old upto) may more le = more le
+    by (Raise number upto) may more le = more le
+    by (Task opstamp text fields times) may more le = more le
+    by (MarkStaged numbers) may more le = more le
+    by (Remove numbers) may more le = more le
+    by (Retire numbers) may more le = more le
 
 -- ---- what is found
 
@@ -122,8 +149,11 @@ module _ (core : Core) (config : IndexConfig) (is : configuration core.history �
   -- and so may what is swept
   pub swept_is_free : (number : ℕ) → is_swept core number ≡ true → MayFree core number
   swept_is_free number e =
-      let a = both_true (has_staged core.history number) _ e in
-      record { config = config; configured = is; staged = a.0; free = λ row found. absurd (gone row found a.1) }
+      let a = both_true (nat_lt 0 number) _ e in
+      let b = both_true (nat_lt number (last_number (history core.history) + 1)) _ a.1 in
+      let some : 0 < number = ltb-true 0 number a.0 in
+      let low : number < last_number (history core.history) + 1 = ltb-true number (last_number (history core.history) + 1) b.0 in
+      record { config = config; configured = is; staged = numbers_were (history core.history) number legal some (omega (arith, low)); free = λ row found. absurd (gone row found b.1) }
     where
       gone : (row : Row) → row_at (rows (history core.history)) number ≡ Some row → not (is_some (row_at (rows (history core.history)) number)) ≡ true → ⊥
       gone row found t = true_is_false (sym t ∙ ap (λ (o : Option Row). not (is_some o)) found)
@@ -172,10 +202,10 @@ module _ (once : OneEntry) (old new : State) (core : Core) (log : Log) (config :
   legal : Legal reads (history core.history)
   legal = legal_unread core.history core.standing w.index.stands.legal
 
-  pub dooms_as : (row : Row) (answer : Result (Unit {0}) Failed) → next_doomed core ≡ Some row → (IsErr answer → Rose core.store_faults now) → LandsThen (Deletes (split_key row.number) answer) old new → DoomsAs new core log row.number answer
+  pub dooms_as : (row : Row) (answer : Result (Unit {0}) Failed) → next_doomed core ≡ Some row → (IsErr answer → Rose core.store_faults now) → LandsThen (Deletes (split_key row.number) answer) old new → DoomsAs new core log row.number answer now
   dooms_as row answer e rose t = by answer (world_deletes once old new core log row.number answer now w (doomed_is_free core config is legal row e) later within rose t)
     where
-      by : (a : Result (Unit {0}) Failed) → DeletesAs new core log row.number a now → DoomsAs new core log row.number a
+      by : (a : Result (Unit {0}) Failed) → DeletesAs new core log row.number a now → DoomsAs new core log row.number a now
       by (Ok done) d =
           record {
             call = d.call;
@@ -183,12 +213,17 @@ module _ (once : OneEntry) (old new : State) (core : Core) (log : Log) (config :
             did = ap (λ o. doom_next o d.call core) e ∙ ap (dooming row.number) d.did;
             world = world_doomed new d.after log row.number d.world;
             goes_on = goes_both (IsOther None) (IsOther None) (IsOther None) core d.after (with_doomed row.number d.after) (λ n other. (other, other)) d.goes_on (goes_doomed d.after row.number);
+            history = d.history;
+            faults = d.faults;
+            moment = d.moment;
+            clock = d.clock;
+            unsure = d.unsure;
           }
-      by (Err x) d = record { call = d.call; after = d.after; did = ap (λ o. doom_next o d.call core) e ∙ ap (dooming row.number) d.did; world = d.world; goes_on = d.goes_on }
+      by (Err x) d = record { call = d.call; after = d.after; did = ap (λ o. doom_next o d.call core) e ∙ ap (dooming row.number) d.did; world = d.world; goes_on = d.goes_on; history = d.history; faults = d.faults; moment = d.moment; clock = d.clock; unsure = d.unsure }
 
-  pub sweeps_as : (number : ℕ) (answer : Result (Unit {0}) Failed) → is_swept core number ≡ true → (IsErr answer → Rose core.store_faults now) → LandsThen (Deletes (split_key number) answer) old new → SweepsAs new core log number answer
+  pub sweeps_as : (number : ℕ) (answer : Result (Unit {0}) Failed) → is_swept core number ≡ true → (IsErr answer → Rose core.store_faults now) → LandsThen (Deletes (split_key number) answer) old new → SweepsAs new core log number answer now
   sweeps_as number answer e rose t = by answer (world_deletes once old new core log number answer now w (swept_is_free core config is legal number e) later within rose t)
     where
-      by : (a : Result (Unit {0}) Failed) → DeletesAs new core log number a now → SweepsAs new core log number a
-      by (Ok done) d = record { call = d.call; after = d.after; did = ap (λ b. sweep_if b d.call number core) e ∙ ap (answers true) d.did; world = d.world; goes_on = d.goes_on }
-      by (Err x) d = record { call = d.call; after = d.after; did = ap (λ b. sweep_if b d.call number core) e ∙ ap (answers true) d.did; world = d.world; goes_on = d.goes_on }
+      by : (a : Result (Unit {0}) Failed) → DeletesAs new core log number a now → SweepsAs new core log number a now
+      by (Ok done) d = record { call = d.call; after = d.after; did = ap (λ b. sweep_if b d.call number core) e ∙ ap (answers true) d.did; world = d.world; goes_on = d.goes_on; history = d.history; faults = d.faults; moment = d.moment; clock = d.clock; unsure = d.unsure }
+      by (Err x) d = record { call = d.call; after = d.after; did = ap (λ b. sweep_if b d.call number core) e ∙ ap (answers true) d.did; world = d.world; goes_on = d.goes_on; history = d.history; faults = d.faults; moment = d.moment; clock = d.clock; unsure = d.unsure }

@@ -38,6 +38,7 @@ pub mod Settling
 pub mod Creating
 pub mod Appending
 pub mod Gates
+pub mod Sweeping
 pub mod Fronts
 pub mod Preparing
 pub mod Reading

@@ -1,5 +1,5 @@
 -- The calls of the collector, as functions of the core and a fate. No world makes them yet.
-use Rattle.std.specs.Prelude.{◌≡◌, ◌&&◌, ℕ, Bool, true, false, not, List, [], ◌∷◌, ◌++◌, length, filter, find, nat_le, Option, Some, None, is_some, Result, Ok, Err, ⊤}
+use Rattle.std.specs.Prelude.{◌≡◌, ◌&&◌, ℕ, Bool, true, false, not, List, [], ◌∷◌, ◌++◌, length, filter, find, nat_le, nat_lt, ◌+◌, Option, Some, None, is_some, Result, Ok, Err, ⊤}
 use Rattle.std.specs.List.{AllByRecursion, list_any}
 use Rattle.std.specs.Option.{option_map_or}
 use Rattle.std.specs.Prelude.{◌==◌}
@@ -8,8 +8,7 @@ use Rattle.meta_journal.specs.Places.{split_key}
 use Rattle.meta_journal.specs.declared.entry.Act.{Act}
 use Rattle.meta_journal.specs.declared.entry.Act.TheVariants.{MarkStaged, Remove}
 use Rattle.meta_journal.specs.declared.entry.Entry.{Entry}
-use Rattle.meta_store.specs.History.{history}
-use Rattle.meta_store.specs.Numbers.{has_staged}
+use Rattle.meta_store.specs.History.{history, last_number}
 use Rattle.meta_store.specs.Rows.{rows}
 use Rattle.split_states.specs.Due.{is_marked, stale_rows}
 use Rattle.split_states.specs.Rows.{row_at, row_numbers}
@@ -133,9 +132,12 @@ doom_next (Some row) call core = dooming row.number (file_deleted call (split_ke
 abbrev pub doom_call : Fate → Core → Gives Trouble (Option ℕ)
 doom_call fate core = asking fate.unasked no_memory core (λ c. doom_next (next_doomed c) fate.first c)
 
--- a number that was staged and whose row is gone
+-- a number up to the last one, all of which were staged, whose row is gone
+abbrev pub is_swept_by : (last : ℕ) → List Row → ℕ → Bool
+is_swept_by last list number = nat_lt 0 number && (nat_lt number (last + 1) && not (is_some (row_at list number)))
+
 abbrev pub is_swept : Core → ℕ → Bool
-is_swept core number = has_staged core.history number && not (is_some (row_at (rows (history core.history)) number))
+is_swept core number = is_swept_by (last_number (history core.history)) (rows (history core.history)) number
 
 abbrev pub sweep_if : Bool → Call → ℕ → Core → Gives Trouble Bool
 sweep_if false call number core = gives (Ok false) core

@@ -120,10 +120,10 @@ pub fn deletes_are_the_cores()
 pub fn collecting_is_the_cores()
     ensures dooms { (old new : State) (core : Core) (log : Log) (config : IndexConfig) (now : ℕ) → IsWorld old core log → configuration core.history ≡ Some config →
         core.store_faults ≤ now → now ≤ last_count → (row : Row) (answer : Result (Unit {0}) Failed) → next_doomed core ≡ Some row → (IsErr answer → Rose core.store_faults now) →
-        LandsThen (Deletes (split_key row.number) answer) old new → DoomsAs new core log row.number answer }
+        LandsThen (Deletes (split_key row.number) answer) old new → DoomsAs new core log row.number answer now }
     ensures sweeps { (old new : State) (core : Core) (log : Log) (config : IndexConfig) (now : ℕ) → IsWorld old core log → configuration core.history ≡ Some config →
         core.store_faults ≤ now → now ≤ last_count → (number : ℕ) (answer : Result (Unit {0}) Failed) → is_swept core number ≡ true → (IsErr answer → Rose core.store_faults now) →
-        LandsThen (Deletes (split_key number) answer) old new → SweepsAs new core log number answer }
+        LandsThen (Deletes (split_key number) answer) old new → SweepsAs new core log number answer now }
 {}
 
 /// What a load reads is the journal of which the store is an index.
