@@ -1,5 +1,5 @@
 -- A delete of a file in the words of the core: the world stands for the core without it, and all that is known goes on.
-use Rattle.std.proofs.Common.{◌≡◌, ◌⊎◌, ℕ, ◌+◌, ◌-◌, ◌≤◌, ◌<◌, Bool, true, false, not, List, [], ◌∷◌, ◌++◌, filter, Option, Some, None, Result, Ok, Err, IsOk, refl, sym, ap, ◌∙◌, subst, inl, inr, arith, append-nil}
+use Rattle.std.proofs.Common.{◌≡◌, ◌⊎◌, ℕ, ◌+◌, ◌-◌, ◌≤◌, ◌<◌, Bool, true, false, not, List, [], ◌∷◌, filter, Option, Some, None, Result, Ok, Err, refl, sym, ap, ◌∙◌, subst, inl, inr, arith, append-nil}
 use Rattle.std.specs.Cmp.Lexicographic.{bytes_decides}
 use Rattle.std.specs.FinMap.{get}
 use Rattle.std.specs.Prelude.{IsErr, bytes_eq, if◌then◌else◌}
@@ -37,7 +37,7 @@ use Rattle.index_world.proofs.JournalCalls.{Counted, Begun, quiet, failing, rose
 use Rattle.index_world.proofs.Living.{removes-on, live-on}
 use Rattle.index_world.proofs.Numbers.{history-snoc}
 use Rattle.index_world.proofs.Removed.{get-gone, get-kept}
-use Rattle.index_world.proofs.StoreKeys.{true_is_false, split_outside}
+use Rattle.index_world.proofs.StoreKeys.{true_is_false}
 use Rattle.index_world.proofs.Taken.{taken_held}
 use Rattle.index_world.proofs.Worlds.{same-landed}
 

@@ -1,5 +1,5 @@
 -- What the collector deletes may be deleted, and its deletes are the core's.
-use Rattle.std.proofs.Common.{◌≡◌, ◌⊎◌, ℕ, ◌+◌, ◌<◌, ◌≤◌, ◌==◌, ◌&&◌, Bool, true, false, not, List, [], ◌∷◌, ◌++◌, map, Option, Some, None, Result, Ok, Err, refl, sym, ap, ◌∙◌, subst, inl, inr, arith, append-nil, nat_le, nat_lt, eq-eqb}
+use Rattle.std.proofs.Common.{◌≡◌, ℕ, ◌+◌, ◌<◌, ◌≤◌, ◌==◌, ◌&&◌, Bool, true, false, not, List, [], ◌∷◌, map, Option, Some, None, Result, Ok, Err, refl, sym, ap, ◌∙◌, subst, inl, inr, arith, append-nil, nat_le, nat_lt, eq-eqb}
 use Rattle.std.proofs.lemmas.Bool.{leb-true, leb-false, ltb-true}
 use Rattle.std.proofs.lemmas.List.Folds.{list_any-append}
 use Rattle.std.specs.List.{AllByRecursion, list_any}
@@ -10,7 +10,6 @@ use Rattle.index_config.specs.declared.config.IndexConfig.{IndexConfig}
 use Rattle.meta_journal.specs.Places.{split_key}
 use Rattle.meta_journal.specs.declared.entry.Act.{Act}
 use Rattle.meta_journal.specs.declared.entry.Act.TheVariants.{Fence, Create, Stage, Publish, Replace, Raise, Task, MarkStaged, Remove, Retire}
-use Rattle.meta_journal.specs.declared.entry.Entry.{Entry}
 use Rattle.meta_store.proofs.Current.{AllOf-change, AllOf-change_each, AllOf-without_each}
 use Rattle.meta_store.proofs.Numbers.{each_found, stage_next}
 use Rattle.meta_store.proofs.RowLists.{AllOf-append, AllOf-weaker, AllOf-both}
@@ -27,12 +26,11 @@ use Rattle.split_states.specs.Rows.{row_at, published, marked, raised_row, repla
 use Rattle.split_states.specs.declared.rows.Row.{Row}
 use Rattle.split_states.specs.declared.rows.RowState.{RowState}
 use Rattle.split_states.specs.declared.rows.RowState.TheVariants.{Staged, Published, Marked}
-use Rattle.index_world.specs.Calls.{Call}
 use Rattle.index_world.specs.Collected.{DoomsAs, SweepsAs}
 use Rattle.index_world.specs.Collecting.{answers, dooming, doom_next, is_doomed, is_swept, may_go, next_doomed, sweep_if, with_doomed}
 use Rattle.index_world.specs.Config.{reads}
 use Rattle.index_world.specs.Configuration.{configuration, config_or}
-use Rattle.index_world.specs.Core.{Core, journal_of, last_count, release_of, IsOther, IsStoredIn, IsUploadedIn}
+use Rattle.index_world.specs.Core.{Core, last_count, release_of, IsOther, IsStoredIn, IsUploadedIn}
 use Rattle.index_world.specs.Deleted.{DeletesAs}
 use Rattle.index_world.specs.Index.{OneEntry}
 use Rattle.index_world.specs.Releases.{MayFree}

@@ -22,7 +22,7 @@ use Rattle.index_world.specs.declared.world_error.WorldError.{WorldError}
 use Rattle.index_world.specs.declared.world_error.WorldError.TheVariants as errors
 use Rattle.index_world.specs.Calls.{Call, Fate, Gives, gives, no_memory, faulted, store_fault, store_failed, Unread, not_read, no_index, or_short, asked_clock, asked_moment, entry_of, taken_in}
 use Rattle.index_world.specs.Config.{settings_of}
-use Rattle.index_world.specs.Core.{Core, last_count, with_unread, journal_of, clock_of}
+use Rattle.index_world.specs.Core.{Core, last_count, with_unread, clock_of}
 use Rattle.index_world.specs.Created.{create_at, Leaves, IsToldBy, MayBegin, Begins, MakesFirst, TriesFirst, FirstLanded, CreatesNot, CreatesLife, Uncreated, not_created, index_exists, bad_config, first_making, with_first, created_by, created_from, created, IsUncreated, CreatesAs, CreatesWorld, CreatesNone}
 use Rattle.index_world.specs.Index.{MayEnter}
 use Rattle.index_world.specs.Life.{LifeIs}

@@ -235,8 +235,7 @@ pub plan_begins : (kept : State) (core : Core) (log : Log) (config : IndexConfig
     let bytes = file_of config (contents config (ledger reads (history core.history)).tasks row log) in IsStoredIn core n bytes × IsShownIn core n bytes × IsPlannedIn core (core.moment + config.deletion_grace) n bytes
 plan_begins kept core log config n row w is found state =
     let f = published_file kept core.history core.standing log w.index.stands config n row is w.taken found state in
-    let stored = stored-in kept core n _ w.stands_for f.0 in
-    (
+    let stored = stored-in kept core n _ w.stands_for f.0 in (
       stored,
       shown-in kept core n _ w.stands_for f.1,
       record {

@@ -11,7 +11,7 @@ use Rattle.object_store.specs.Store.{State, landed, with_object, with_late, HasL
 use Rattle.object_store.specs.declared.store.CreateError.TheVariants as creates
 use Rattle.source_log.specs.Log.{Log}
 use Rattle.index_world.specs.Calls.{Call, exists, failed, Making, made_behind, made_at, create_at_end, tried, begun, risen, may_fail, taken_in, got_at, get_at_end, gives, store_failed}
-use Rattle.index_world.specs.Core.{Core, late_entry, last_count, journal_of, clock_of}
+use Rattle.index_world.specs.Core.{Core, late_entry, last_count, clock_of}
 use Rattle.index_world.specs.Index.{OneEntry, MayEnter, IsUnused, HasStaged}
 use Rattle.index_world.specs.World.{IsWorld}
 use Rattle.index_world.specs.Onward.{Onward, Landing}

@@ -25,7 +25,7 @@ use Rattle.index_world.specs.Config.{reads}
 use Rattle.index_world.specs.Configuration.{index_of, configuration}
 use Rattle.index_world.specs.Core.{Core, Late, late_entry, late_dead, late_file, file_at, release_of, Lasts, IsLasting, IsLive}
 use Rattle.index_world.specs.Index.{IsIndexOf, IsLateEntry, IsBelowEnd, MayLand, IsAllowed, max_entries}
-use Rattle.index_world.specs.Releases.{RemovesReleased, IsLateReleased, RemovesAll, RemovesInTime}
+use Rattle.index_world.specs.Releases.{RemovesReleased, IsLateReleased, RemovesInTime}
 use Rattle.index_world.specs.Standing.{late_object, IsCalled}
 use Rattle.index_world.proofs.Configured.{configured-more}
 use Rattle.index_world.proofs.InHand.{Comes}
@@ -160,7 +160,7 @@ removes-lands (late_entry n e b) place core at r = by core.standing (n == length
     by : (standing : Option Entry) (test : Bool) → core.standing ≡ standing → (n == length core.history) ≡ test → RemovesInTime (entry_lands standing test e core)
     by None true es et = λ config is.
         let after : Core = record core { standing = Some e } in
-            let a = r config is in
+        let a = r config is in
         record {
           standing = λ other s. let same : e ≡ other = cc s in
               subst (λ x. RemovesReleased config.deletion_grace after x) same (released-on core after config.deletion_grace e refl refl (All-get (IsLateReleased config.deletion_grace core) core.late place (late_entry n e b) a.late at (eqb-true n (length core.history) et)));

@@ -10,7 +10,7 @@ use Rattle.object_store.specs.Store.{State}
 use Rattle.source_log.specs.Log.{Log}
 use Rattle.index_world.specs.Calls.{Call, Fate, Gives, gives, Trouble, no_memory, Unmade, settled, unless_short, looked, asked, asked_and_looked, appended, asked_clock, and_then}
 use Rattle.index_world.specs.Config.{reads}
-use Rattle.index_world.specs.Core.{Core, IsOther, KeepsBut, journal_of}
+use Rattle.index_world.specs.Core.{Core, IsOther, KeepsBut}
 use Rattle.index_world.specs.World.{IsWorld, IsTimely, Keeping, WorldStands, GoesFor, GoesOn}
 use Rattle.index_world.specs.Onward.{Onward}
 use Rattle.index_world.proofs.Asking.{timely_asked, asked_least}

@@ -1,5 +1,5 @@
 -- What the collector's deletes do, in the words of the core.
-use Rattle.std.specs.Prelude.{◌≡◌, List, ℕ, Bool, true, false, Option, Some, None, Result, Ok, Err}
+use Rattle.std.specs.Prelude.{◌≡◌, List, ℕ, Bool, true, false, Some, None, Result, Ok, Err}
 use Rattle.byte_fields.specs.declared.calls.Failed.{Failed}
 use Rattle.object_store.specs.Store.{State, LandsThen, Deletes}
 use Rattle.source_log.specs.Log.{Log}

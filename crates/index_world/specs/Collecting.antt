@@ -1,7 +1,6 @@
 -- The calls of the collector, as functions of the core and a fate. No world makes them yet.
-use Rattle.std.specs.Prelude.{◌≡◌, ◌&&◌, ℕ, Bool, true, false, not, List, [], ◌∷◌, ◌++◌, length, filter, find, nat_le, nat_lt, ◌+◌, Option, Some, None, is_some, Result, Ok, Err, ⊤}
-use Rattle.std.specs.List.{AllByRecursion, list_any}
-use Rattle.std.specs.Option.{option_map_or}
+use Rattle.std.specs.Prelude.{◌&&◌, ℕ, Bool, true, false, not, List, [], ◌∷◌, ◌++◌, length, filter, find, nat_le, nat_lt, ◌+◌, Option, Some, None, is_some, Result, Ok, Err, ⊤}
+use Rattle.std.specs.List.{list_any}
 use Rattle.std.specs.Prelude.{◌==◌}
 use Rattle.index_config.specs.declared.config.IndexConfig.{IndexConfig}
 use Rattle.meta_journal.specs.Places.{split_key}
@@ -13,7 +12,7 @@ use Rattle.meta_store.specs.Rows.{rows}
 use Rattle.split_states.specs.Due.{is_marked, stale_rows}
 use Rattle.split_states.specs.Rows.{row_at, row_numbers}
 use Rattle.split_states.specs.declared.rows.Row.{Row}
-use Rattle.index_world.specs.Calls.{Call, Fate, Gives, gives, Trouble, no_memory, faulted, is_foreign, Unmade, troubled, store_failed, Made, made, exists, failed, Making, create_at_end, get_at_end, taken_in, settled, may_append, entry_of, last_create, or_short, and_then, as_unmade, asking, file_deleted}
+use Rattle.index_world.specs.Calls.{Call, Fate, Gives, gives, Trouble, no_memory, Unmade, troubled, store_failed, Made, made, exists, failed, Making, create_at_end, get_at_end, taken_in, settled, may_append, entry_of, last_create, or_short, and_then, as_unmade, asking, file_deleted}
 use Rattle.index_world.specs.Configuration.{configuration, config_or}
 use Rattle.index_world.specs.Core.{Core, release_of}
 

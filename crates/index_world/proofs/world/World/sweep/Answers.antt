@@ -1,8 +1,6 @@
-use Rattle.std.proofs.Common.{◌≡◌, sym, ap, ◌∙◌, subst, arith, inl, inr, Bool, true, false, not, ℕ}
-use Rattle.std.specs.Prelude.{Err}
+use Rattle.std.proofs.Common.{sym, ap, ◌∙◌, subst, arith, inl, inr}
 use Rattle.meta_store.specs.State as meta
-use Rattle.index_world.specs.Collecting.{is_swept, is_swept_by}
-use Rattle.index_world.specs.Core.{Core}
+use Rattle.index_world.specs.Collecting.{is_swept_by}
 use Rattle.index_world.specs.World.{Keeping, WorldStands}
 use Rattle.meta_journal.specs.Places.{split_key}
 use Rattle.index_world.proofs.Sweeping.{sweeps, told_swept, unswept}
