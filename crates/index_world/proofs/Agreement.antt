@@ -7,7 +7,7 @@ use Rattle.source_log.specs.Log.{Log}
 use Rattle.index_world.specs.Alike.{AreAlike}
 use Rattle.index_world.specs.Configuration.{configuration}
 use Rattle.index_world.specs.Core.{Core, journal_of, with_unread, IsUploadedIn}
-use Rattle.index_world.specs.Index.{IsUnused, IsUploaded, IsGivenUp, HasStaged}
+use Rattle.index_world.specs.Index.{IsUnused, IsStored, IsGivenUp, HasStaged}
 use Rattle.index_world.specs.Standing.{StandsFor}
 use Rattle.index_world.specs.World.{Keeping, WorldStands}
 use Rattle.index_world.proofs.InCore.{unused-in, unused-of, stored-in, stored-of}
@@ -53,5 +53,5 @@ alike_of w core other log read s o =
     journals = one-journal once s.kept 0 (journal_of core) (journal_of other) here.journal there.journal
 
     uploaded : (n : ℕ) (bytes : List ℕ) → IsUploadedIn core n bytes → IsUploadedIn other n bytes
-    uploaded n bytes (inl u) = inl (stored-in s.kept other n bytes there (subst (λ (es : List Entry). IsUploaded s.kept es n bytes) journals (stored-of s.kept core n bytes here u)))
+    uploaded n bytes (inl u) = inl (stored-in s.kept other n bytes there (subst (λ (es : List Entry). IsStored s.kept es n bytes) journals (stored-of s.kept core n bytes here u)))
     uploaded n bytes (inr g) = inr (subst (λ (es : List Entry). IsGivenUp es n) journals g)

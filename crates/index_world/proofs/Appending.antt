@@ -38,7 +38,7 @@ use Rattle.index_world.proofs.Journals.{once, one-journal}
 use Rattle.index_world.proofs.Lives.{want_trouble, knows_of, life_on, life_taken, stands_by, allowed_last, answers_allowed}
 use Rattle.index_world.proofs.StoreKeys.{true_is_false, none_some}
 use Rattle.index_world.proofs.Transacting.{Last, last_ok, last_fault, last_taken, last_no_memory, last_not, transacted_ok, transacted_fault, transacted_no_memory, transacted_not, adopted_no_memory, adopted_ends, adopted_then, settled_then, not_transacted, timely_more}
-use Rattle.index_world.proofs.Worlds.{journal_is_history, held-refl, world-lands, world-same}
+use Rattle.index_world.proofs.Worlds.{journal_is_history, world-lands, world-same, onward-refl}
 
 -- ---- at a result
 
@@ -294,7 +294,7 @@ module _ (old : State) (core : Core) (log : Log) (own : Own) (before count : ℕ
             let c = first_of (Ok None) k d in
             let t = transacted_ok old c.new core log (own_act own) now b.world b.timely c.counted d.sure c.did.can c.did.may c.did.step in
             ends_so c.new told' now life'' (Ok tt) (λ after. Ok tt) (entry_of (own_act own core) core ∷ []) false c.tells c.counted t
-            (own_made old old c.new core core t.after log own (record { world = b.world; held = held-refl old (journal_of core) }) (stood old c.new core t.after log own now b.world t.onward.world t.ends.history c.did.step))
+            (own_made old old c.new core core t.after log own (onward-refl old core log b.world) (stood old c.new core t.after log own now b.world t.onward.world t.ends.history c.did.step))
             (one_more life'' core (entry_of (own_act own core) core) refl c.did.knows)
         by (inr d) =
             let c = next_of (Ok None) k d in

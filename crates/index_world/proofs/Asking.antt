@@ -22,7 +22,7 @@ use Rattle.index_config.specs.declared.config.IndexConfig.{IndexConfig}
 use Rattle.index_world.specs.Config.{reads}
 use Rattle.index_world.specs.Configuration.{configuration}
 use Rattle.index_world.specs.Core.{Core}
-use Rattle.index_world.specs.Index.{MayEnter, MayPublish, HasStaged, IsMade, IsUploaded}
+use Rattle.index_world.specs.Index.{MayEnter, MayPublish, HasStaged, IsMade, IsStored}
 use Rattle.index_world.specs.Seen.{accepted_in, record_count}
 use Rattle.index_world.specs.SplitFile.{file_of, facts_of, AreSplit}
 use Rattle.index_world.specs.World.{IsTimely}
@@ -88,7 +88,7 @@ fence_enters kept core log l some t unsure =
 
 -- a number in hand whose file was made of the log and uploaded may be published
 pub made_is_publishable : (kept : State) (entries : List Entry) (log : Log) (n : ℕ) (delta : List Part) (facts : RowFacts) (bytes : List ℕ) →
-    (config : IndexConfig) → configuration entries ≡ Some config → HasStaged entries n delta facts → IsMade config log delta facts bytes → IsUploaded kept entries n bytes → MayPublish kept entries log n
+    (config : IndexConfig) → configuration entries ≡ Some config → HasStaged entries n delta facts → IsMade config log delta facts bytes → IsStored kept entries n bytes → MayPublish kept entries log n
 made_is_publishable kept entries log n delta facts bytes config configured s m u =
     record {
       config = config;

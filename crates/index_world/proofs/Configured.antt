@@ -131,12 +131,12 @@ create_first h moment text l may = by (config_of reads h) refl may
     by None ec f = none_begun h l ec
 
 -- the rows are kept under the configuration, or there are none
-pub rows_under : (kept : Kept) (entries : List Entry) (tasks : List KeptTask) (log : Log) → Legal reads (history entries) → AreRowsKept kept (configuration entries) tasks log (rows (history entries)) →
-    AllByRecursion (IsRowKept kept (config_or (configuration entries)) tasks log) (rows (history entries))
+pub rows_under : (kept : Kept) (entries : List Entry) (tasks : List KeptTask) (log : Log) → Legal reads (history entries) → AreRowsKept kept (configuration entries) tasks log (history entries) (rows (history entries)) →
+    AllByRecursion (IsRowKept kept (config_or (configuration entries)) tasks log (history entries)) (rows (history entries))
 rows_under kept entries tasks log l all = by (config_of reads (history entries)) refl
   where
-    by : (c : Option Config) → config_of reads (history entries) ≡ c → AllByRecursion (IsRowKept kept (config_or (index_of c)) tasks log) (rows (history entries))
-    by None e = subst (λ (rs : List Row). AllByRecursion (IsRowKept kept no_fields tasks log) rs) (sym (none_begun (history entries) l e)) tt
+    by : (c : Option Config) → config_of reads (history entries) ≡ c → AllByRecursion (IsRowKept kept (config_or (index_of c)) tasks log (history entries)) (rows (history entries))
+    by None e = subst (λ (rs : List Row). AllByRecursion (IsRowKept kept no_fields tasks log (history entries)) rs) (sym (none_begun (history entries) l e)) tt
     by (Some c) e = all c.settings.index (ap index_of e)
 
 -- ---- it is what a text was read as

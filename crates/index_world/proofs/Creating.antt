@@ -12,6 +12,7 @@ use Rattle.meta_journal.specs.declared.journal_error.JournalError.{JournalError}
 use Rattle.meta_journal.specs.declared.journal_error.JournalError.TheVariants as journal
 use Rattle.meta_journal.specs.declared.place.Place.TheVariants.{Sure, Given}
 use Rattle.meta_store.specs.Answers.{Answer, HasNumbers, answer_to}
+use Rattle.meta_store.proofs.Numbers.{staged_marked, staged_row}
 use Rattle.meta_store.specs.History.{history}
 use Rattle.meta_store.specs.Readings.{config_of, reading_of}
 use Rattle.meta_store.specs.Rows.{rows}
@@ -35,7 +36,7 @@ use Rattle.index_world.specs.Calls.{Unmade, refused, troubled, faulted, is_full,
 use Rattle.index_world.specs.Configuration.{configuration}
 use Rattle.index_world.specs.Core.{Core, IsStoredIn, IsUploadedIn, journal_of, last_count}
 use Rattle.index_world.specs.Gate.{IsUnmade}
-use Rattle.index_world.specs.Index.{MayEnter, HasFile, HasStaged, IsAllowed, IsUploaded, IsGivenUp, max_entries}
+use Rattle.index_world.specs.Index.{MayEnter, HasFile, HasStaged, IsAllowed, IsStored, IsGivenUp, max_entries}
 use Rattle.index_world.specs.Life.{LifeIs, StandsBy, Creating}
 use Rattle.index_world.specs.Owning.{own_act, MayOwn}
 use Rattle.index_world.specs.Steps.{Counted}
@@ -44,12 +45,11 @@ use Rattle.index_world.specs.Unsure.{is_unsure}
 use Rattle.index_world.specs.World.{IsWorld}
 use Rattle.index_world.proofs.StoreKeys.{true_is_false}
 use Rattle.index_world.proofs.Asking.{made_is_publishable}
-use Rattle.index_world.proofs.Entering.{staged_row}
-use Rattle.index_world.proofs.GivenUp.{staged_unmarked}
 use Rattle.index_world.proofs.InCore.{stored-of}
 use Rattle.index_world.proofs.JournalCalls.{failed_law}
 use Rattle.index_world.proofs.JournalLaws.{spells_own, appends_made, appends_adopted, appends_foreign, appends_no_corrupt}
 use Rattle.index_world.proofs.Journals.{once}
+use Rattle.index_world.proofs.Living.{NoRemove}
 use Rattle.index_world.proofs.Lives.{Told, told_of, life_more}
 use Rattle.index_world.proofs.Transacting.{own_allowed, own_enters, fault_tried}
 use Rattle.index_world.proofs.Worlds.{journal_is_history}
@@ -60,12 +60,17 @@ pub own_numbers : (own : Own) (core : Core) → HasNumbers (own_act own core)
 own_numbers (owns.Stage delta facts) core = tt
 own_numbers (owns.Publish number) core = tt
 
+-- it is no Remove
+no_remove_own : (own : Own) (core : Core) → NoRemove (entry_of (own_act own core) core)
+no_remove_own (owns.Stage delta facts) core numbers is = cc is
+no_remove_own (owns.Publish number) core numbers is = cc is
+
 -- the file of a row that is staged stands
 stored_staged : (core : Core) (number : ℕ) (bytes : List ℕ) → (row : Row) × (row_at (rows (history core.history)) number ≡ Some row) × (row.state ≡ Staged) → journal_of core ≡ core.history →
     IsUploadedIn core number bytes → IsStoredIn core number bytes
 stored_staged core number bytes s j (inl u) = u
 stored_staged core number bytes s j (inr g) =
-    let given_up = subst (λ es. IsGivenUp es number) j g in absurd (staged_unmarked (sym s.2 ∙ given_up.row s.0 s.1))
+    let given_up = subst (λ es. IsGivenUp es number) j g in absurd (staged_marked (sym s.2 ∙ given_up.row s.0 s.1))
 
 pub own_file : (kept : State) (core : Core) (log : Log) (own : Own) → IsWorld kept core log → MayOwn own log core → core.standing ≡ None → IsAllowed core.history (entry_of (own_act own core) core) →
     HasFile kept core.history log (own_act own core)
@@ -73,7 +78,7 @@ own_file kept core log (owns.Stage delta facts) w may none allowed = tt
 own_file kept core log (owns.Publish number) w may none allowed =
     let j = journal_is_history core none in
     made_is_publishable kept core.history log number may.delta may.facts may.bytes may.config (subst (λ es. configuration es ≡ Some may.config) j may.configured) (subst (λ es. HasStaged es number may.delta may.facts) j may.staged) may.made
-    (subst (λ es. IsUploaded kept es number may.bytes) j (stored-of kept core number may.bytes w.stands_for (stored_staged core number may.bytes (staged_row (history core.history) core.moment number allowed.1) j may.uploaded)))
+    (subst (λ es. IsStored kept es number may.bytes) j (stored-of kept core number may.bytes w.stands_for (stored_staged core number may.bytes (staged_row reads (history core.history) core.moment number allowed.1) j may.uploaded)))
 
 pub may_append_is : (act : Act) (core : Core) → IsOk (answer_behind core.history (entry_of act core)) → length core.history < max_entries → may_append act core ≡ Ok tt
 may_append_is act core ok below = by (answer_behind core.history (entry_of act core)) ok
@@ -167,7 +172,7 @@ module _ (old : State) (core : Core) (log : Log) (count now : ℕ) (life : Life)
           new = t.new;
           tells = t.is;
           counted = counted;
-          did = record { can = can; may = may; step = appends_made old t.new core log (own_act own core) now b.world counted can_own enters m t.says; knows = k };
+          did = record { can = can; may = may; step = appends_made old t.new core log (own_act own core) now b.world counted can_own (no_remove_own own core) enters m t.says; knows = k };
           still = still;
         }
 
@@ -183,7 +188,7 @@ module _ (old : State) (core : Core) (log : Log) (count now : ℕ) (life : Life)
           did = record {
             first = first;
             may = may;
-            step = appends_adopted old t.new core log (own_act own core) now b.world counted can_own enters f before t.says;
+            step = appends_adopted old t.new core log (own_act own core) now b.world counted can_own (no_remove_own own core) enters f before t.says;
             can = t.says.1.can;
             given = given;
             knows = k;
@@ -209,16 +214,16 @@ module _ (old : State) (core : Core) (log : Log) (count now : ℕ) (life : Life)
               counted = counted;
               did = inr (inr (inl (record {
                 may = may;
-                step = failed_law once old t.new core log (entry_of (own_act own core) core) now b.world counted rose can_own enters (spells_own (entry_of (own_act own core) core)) (fault_tried (length core.history) (entry_of (own_act own core) core) old t.new t.says);
+                step = failed_law once old t.new core log (entry_of (own_act own core) core) now b.world counted rose can_own (no_remove_own own core) enters (spells_own (entry_of (own_act own core) core)) (fault_tried (length core.history) (entry_of (own_act own core) core) old t.new t.says);
                 is = ap (λ (n : ℕ). errors.StoreFault before n) fault.1;
                 knows = k;
               })));
               still = still;
             }
         by (journal.Foreign key) t fault taken adopted full k =
-            let x = appends_foreign old t.new core log (own_act own core) now b.world counted can_own enters key t.says in
+            let x = appends_foreign old t.new core log (own_act own core) now b.world counted can_own (no_remove_own own core) enters key t.says in
             record { new = t.new; tells = t.is; counted = counted; did = inr (inr (inr (record { again = taken; may = may; step = x.0; is = ap errors.Foreign x.1; knows = k }))); still = still }
-        by (journal.Corrupt key) t fault taken adopted full k = absurd (appends_no_corrupt old t.new core log (own_act own core) now b.world counted can_own enters key t.says)
+        by (journal.Corrupt key) t fault taken adopted full k = absurd (appends_no_corrupt old t.new core log (own_act own core) now b.world counted can_own (no_remove_own own core) enters key t.says)
         by (journal.Missing key) t fault taken adopted full k = absurd t.says
         by (journal.Adopted f) t fault taken adopted full k = absurd (adopted f refl)
         by journal.Full t fault taken adopted full k = absurd (full refl)

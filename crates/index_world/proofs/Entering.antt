@@ -1,52 +1,44 @@
--- A legal entry at the journal's end leaves a sound index.
-use Rattle.std.proofs.Common.{◌≡◌, ◌⊎◌, ℕ, ◌<◌, ◌≤◌, ◌+◌, ◌^◌, List, [], ◌∷◌, ◌++◌, refl, sym, ap, ◌∙◌, subst, inl, inr, Bool, true, false, length, arith, map}
+-- Each kind of entry that may enter leaves a sound index, and numbers in hand.
+use Rattle.std.proofs.Common.{◌≡◌, ◌⊎◌, ℕ, ◌<◌, ◌≤◌, ◌+◌, ◌^◌, List, [], ◌∷◌, ◌++◌, refl, sym, ap, ◌∙◌, subst, inl, inr, Bool, true, false, length, arith}
 use Rattle.std.proofs.lemmas.List.{length-append}
-use Rattle.std.specs.FinMap.{get}
-use Rattle.std.specs.List.{AllByRecursion}
-use Rattle.std.specs.Prelude.{Option, Some, None, IsSome, is_some, if◌then◌else◌, ◌&&◌, not, filter, flat_map, bytes_eq}
 use Rattle.std.specs.Cmp.Lexicographic.{bytes_decides}
-use Rattle.delete_tasks.specs.Removed.{lies_in, covered_by}
-use Rattle.delete_tasks.specs.Removes.{DeleteTask as KeptTask}
+use Rattle.std.specs.FinMap.{get}
+use Rattle.std.specs.List.{AllByRecursion, list_any}
+use Rattle.std.specs.Prelude.{Option, Some, None, IsSome, is_some, if◌then◌else◌, bytes_eq, ◌==◌}
+use Rattle.delete_tasks.specs.Removes.{DeleteTask}
+use Rattle.index_config.specs.declared.config.IndexConfig.{IndexConfig}
 use Rattle.meta_journal.specs.Places.{meta_key, split_key, IsJournal}
 use Rattle.meta_journal.specs.Spelling.{Spells, CanSpell}
 use Rattle.meta_journal.specs.declared.entry.Act.{Act}
 use Rattle.meta_journal.specs.declared.entry.Act.TheVariants.{Fence, Create, Stage, Publish, Replace, Raise, Task, MarkStaged, Remove, Retire}
 use Rattle.meta_journal.specs.declared.entry.Entry.{Entry}
-use Rattle.meta_store.proofs.RowLists.{the_row, row_stands, StandsIn, AllOf-replace, held}
-use Rattle.meta_store.proofs.Sound.{sound, IsTraced}
-use Rattle.meta_store.specs.Contents.{is_kept}
-use Rattle.meta_store.specs.History.{History, history, delta_of, stamp_of, reach, last_number}
+use Rattle.meta_store.proofs.GivenUp.{GivenUp-more}
+use Rattle.meta_store.proofs.Numbers.{any_last, shown_more}
+use Rattle.meta_store.proofs.RowLists.{AllOf-weaker}
+use Rattle.meta_store.proofs.Staged.{HasStaged-more}
+use Rattle.meta_store.specs.History.{History, history, delta_of, shown_numbers}
 use Rattle.meta_store.specs.History.History.{◌▸◌}
 use Rattle.meta_store.specs.Ledgers.{ledger}
+use Rattle.meta_store.specs.Numbers.{is_shown}
+use Rattle.meta_store.specs.Readings.{config_of}
 use Rattle.meta_store.specs.Rows.{rows}
-use Rattle.meta_store.specs.Readings.{reading_of, config_of}
-use Rattle.meta_store.specs.State.{Legal, MayCome, state_of}
-use Rattle.meta_store.specs.declared.config.Config.{Config}
+use Rattle.meta_store.specs.State.{Legal}
 use Rattle.object_store.specs.Store.{State, with_object}
-use Rattle.source_checkpoint.specs.Deltas.{Partition, moved, spans_of, span_of, range_of}
+use Rattle.source_checkpoint.specs.Deltas.{Partition, moved}
 use Rattle.source_checkpoint.specs.declared.delta.Part.{Part}
-use Rattle.source_checkpoint.specs.declared.span.Span.{Span}
 use Rattle.source_log.specs.Log.{Log, records_of}
-use Rattle.split_states.specs.Rows.{row_at, published}
 use Rattle.split_states.specs.declared.rows.Row.{Row}
-use Rattle.split_states.specs.declared.rows.RowState.TheVariants.{Staged, Published}
-use Rattle.index_config.specs.declared.config.IndexConfig.{IndexConfig}
 use Rattle.index_world.specs.Config.{reads}
-use Rattle.index_world.specs.Configuration.{index_of, configuration}
-use Rattle.index_world.specs.Index.{Stands, IsRowSound, IsRowKept, AreRowsKept, IsStagedKey, IsLateKey, MayPublish, HasFile, MayEnter, IsBuilt, ranges_of, is_meta, is_split, max_entries}
-use Rattle.index_world.specs.Seen.{contents, accepted_in, accepted_records, rejected_in, meaning, place_of}
-use Rattle.index_world.specs.SplitFile.{file_of, facts_of, AreSplit}
-use Rattle.split_bundle.specs.declared.placed.Placed.{Placed}
-use Rattle.index_world.proofs.StoreKeys.{true_is_false, meta_key-injective, meta_begins, meta_no_split, get-same, get-other, absent_at, stood}
+use Rattle.index_world.specs.Configuration.{index_of}
+use Rattle.index_world.specs.Held.{KeepsHeld}
+use Rattle.index_world.specs.Index.{IsRowKept, AreRowsKept, IsStagedKey, IsLateKey, Stands, IsIndexOf, IsNotLate, IsFound, HasFile, MayEnter, MayLand, IsBelowEnd, IsLateEntry, is_meta, is_split, max_entries}
+use Rattle.index_world.proofs.Configured.{configured-more}
 use Rattle.index_world.proofs.Journals.{stand-of, Stand-same, Stand-snoc, StandFrom-of, journal-end}
 use Rattle.index_world.proofs.Numbers.{history-snoc}
-use Rattle.index_world.proofs.StoreChanges.{All-snoc, rows_more, staged_more, unpublished_more}
-use Rattle.index_world.proofs.Configured.{create_first}
-use Rattle.index_world.proofs.InHand.{Comes}
+use Rattle.index_world.proofs.Rows.{rows_act}
+use Rattle.index_world.proofs.StoreChanges.{staged_more}
+use Rattle.index_world.proofs.StoreKeys.{true_is_false, meta_key-injective, meta_begins, meta_no_split, get-same, get-other, absent_at, kept_at, stood, none_some, meta_is_no_split}
 
--- ---- the journal
-
--- behind the end nothing stands
 pub behind_end : (kept : State) (entries : List Entry) (log : Log) → Stands kept entries log → (n : ℕ) → length entries ≤ n → n < 10 ^ 20 → get kept.objects (meta_key n) ≡ None
 behind_end kept entries log s n h bound = by (get kept.objects (meta_key n)) refl
   where
@@ -95,7 +87,7 @@ split_keys_more kept entries log entry bytes s key split stands = by (stood kept
     by (inl same) = absurd (true_is_false (sym split ∙ ap is_split (sym same) ∙ meta_no_split (length entries)))
     by (inr h) = let there = s.split_keys key split h in (there.0, there.1, staged_more entries entry there.0 there.2)
 
--- ---- checkpoints
+-- ---- checkpoints: a Publish alone moves them
 
 moved_within : (limit : Partition → ℕ) (checkpoints : Partition → ℕ) (delta : List Part) (name : Partition) → checkpoints name ≤ limit name →
     AllByRecursion (λ part. part.to ≤ limit part.partition) delta → moved delta checkpoints name ≤ limit name
@@ -114,144 +106,70 @@ checkpoints_act kept entries log moment (Create config) h f name = h name
 checkpoints_act kept entries log moment (Stage number delta facts) h f name = h name
 checkpoints_act kept entries log moment (Publish number) h f name =
     moved_within (λ q. length (records_of log q)) (ledger reads (history entries)).checkpoints (delta_of (history entries) number) name (h name) f.ends
-checkpoints_act kept entries log moment (Replace new old upto) h f name = absurd f
-checkpoints_act kept entries log moment (Raise number upto) h f name = absurd f
-checkpoints_act kept entries log moment (Task opstamp text fields times) h f name = absurd f
-checkpoints_act kept entries log moment (MarkStaged numbers) h f name = absurd f
-checkpoints_act kept entries log moment (Remove numbers) h f name = absurd f
-checkpoints_act kept entries log moment (Retire numbers) h f name = absurd f
+checkpoints_act kept entries log moment (Replace new old upto) h f name = h name
+checkpoints_act kept entries log moment (Raise number upto) h f name = h name
+checkpoints_act kept entries log moment (Task opstamp text fields times) h f name = h name
+checkpoints_act kept entries log moment (MarkStaged numbers) h f name = h name
+checkpoints_act kept entries log moment (Remove numbers) h f name = h name
+checkpoints_act kept entries log moment (Retire numbers) h f name = h name
 
--- ---- contents
+-- ---- what an entry shows has a file, of which no create is late
 
-none_covers : (tasks : List KeptTask) (a b : ℕ) → covered_by (λ task. false) tasks a b ≡ false
-none_covers [] a b = refl
-none_covers (t ∷ tasks) a b = none_covers tasks a b
+abbrev Shows : Act → ℕ → Type 0
+Shows Fence n = ⊥
+Shows (Create config) n = ⊥
+Shows (Stage number delta facts) n = ⊥
+Shows (Publish number) n = number ≡ n
+Shows (Replace new old upto) n = new ≡ n
+Shows (Raise number upto) n = ⊥
+Shows (Task opstamp text fields times) n = ⊥
+Shows (MarkStaged numbers) n = ⊥
+Shows (Remove numbers) n = ⊥
+Shows (Retire numbers) n = ⊥
 
-and_true : (a b : Bool) → b ≡ false → (a && not b) ≡ a
-and_true true false e = refl
-and_true false false e = refl
-and_true true true e = absurd (true_is_false e)
-and_true false true e = absurd (true_is_false e)
-
-filter_same : (p q : Placed → Bool) (xs : List Placed) → ((x : Placed) → p x ≡ q x) → filter p xs ≡ filter q xs
-filter_same p q [] h = refl
-filter_same p q (x ∷ xs) h = by (q x) refl (h x) (filter_same p q xs h)
+unshown_by : (xs : List ℕ) (m n : ℕ) → list_any (λ k. k == n) xs ≡ false → (m ≡ n → ⊥) → list_any (λ k. k == n) (xs ++ m ∷ []) ≡ false
+unshown_by xs m n e apart = by (list_any (λ k. k == n) (xs ++ m ∷ [])) refl
   where
-    by : (b : Bool) → q x ≡ b → p x ≡ q x → filter p xs ≡ filter q xs → filter p (x ∷ xs) ≡ filter q (x ∷ xs)
-    by true e same more = rw e (rw (same ∙ e) (ap (λ l. x ∷ l) more))
-    by false e same more = rw e (rw (same ∙ e) more)
+    by : (b : Bool) → list_any (λ k. k == n) (xs ++ m ∷ []) ≡ b → list_any (λ k. k == n) (xs ++ m ∷ []) ≡ false
+    by false eb = eb
+    by true eb = absurd (old_or (any_last xs m n eb))
+      where
+        old_or : (list_any (λ k. k == n) xs ≡ true) ⊎ (m ≡ n) → ⊥
+        old_or (inl old) = true_is_false (sym old ∙ e)
+        old_or (inr same) = apart same
 
-spans_contents : (records : List Placed) (tasks : List KeptTask) (k : ℕ) (delta : List Part) →
-    flat_map (λ s. filter (is_kept meaning tasks s) records) (spans_of k delta) ≡ flat_map (λ part. filter (λ x. lies_in part (place_of x)) records) delta
-spans_contents records tasks k [] = refl
-spans_contents records tasks k (part ∷ delta) =
-    ap (λ l. l ++ flat_map (λ s. filter (is_kept meaning tasks s) records) (spans_of k delta))
-    (filter_same (is_kept meaning tasks (span_of k part)) (λ x. lies_in part (place_of x)) records (λ x. and_true (lies_in part (place_of x)) _ (none_covers tasks k k)))
-    ∙ ap (λ l. filter (λ x. lies_in part (place_of x)) records ++ l) (spans_contents records tasks k delta)
+unshown_on : (h : History) (moment : ℕ) (act : Act) (n : ℕ) → is_shown h n ≡ false → (Shows act n → ⊥) → is_shown (h ▸ record { moment = moment; act = act }) n ≡ false
+unshown_on h moment Fence n e apart = e
+unshown_on h moment (Create config) n e apart = e
+unshown_on h moment (Stage number delta facts) n e apart = e
+unshown_on h moment (Publish number) n e apart = unshown_by (shown_numbers h) number n e apart
+unshown_on h moment (Replace new old upto) n e apart = unshown_by (shown_numbers h) new n e apart
+unshown_on h moment (Raise number upto) n e apart = e
+unshown_on h moment (Task opstamp text fields times) n e apart = e
+unshown_on h moment (MarkStaged numbers) n e apart = e
+unshown_on h moment (Remove numbers) n e apart = e
+unshown_on h moment (Retire numbers) n e apart = e
 
-ranges_spans : (k : ℕ) (delta : List Part) → map range_of (spans_of k delta) ≡ delta
-ranges_spans k [] = refl
-ranges_spans k (part ∷ delta) = ap (λ l. part ∷ l) (ranges_spans k delta)
+pub unshown_more : (entries : List Entry) (entry : Entry) (n : ℕ) → is_shown (history entries) n ≡ false → (Shows entry.act n → ⊥) → is_shown (history (entries ++ entry ∷ [])) n ≡ false
+unshown_more entries entry n e apart = ap (λ h. is_shown h n) (history-snoc entries entry) ∙ unshown_on (history entries) entry.moment entry.act n e apart
 
--- ---- rows
+shown_file : (kept : State) (entries : List Entry) (log : Log) (act : Act) (n : ℕ) → HasFile kept entries log act → Shows act n →
+    ((bytes : List ℕ) × (get kept.objects (split_key n) ≡ Some bytes)) × IsNotLate kept (split_key n)
+shown_file kept entries log Fence n f s = absurd s
+shown_file kept entries log (Create config) n f s = absurd s
+shown_file kept entries log (Stage number delta facts) n f s = absurd s
+shown_file kept entries log (Publish number) n f s = ((_, ap (λ k. get kept.objects (split_key k)) (sym s) ∙ f.file), subst (λ k. IsNotLate kept (split_key k)) s f.not_late)
+shown_file kept entries log (Replace new old upto) n f s = ((_, ap (λ k. get kept.objects (split_key k)) (sym s) ∙ f.file), subst (λ k. IsNotLate kept (split_key k)) s f.not_late)
+shown_file kept entries log (Raise number upto) n f s = absurd s
+shown_file kept entries log (Task opstamp text fields times) n f s = absurd s
+shown_file kept entries log (MarkStaged numbers) n f s = absurd s
+shown_file kept entries log (Remove numbers) n f s = absurd s
+shown_file kept entries log (Retire numbers) n f s = absurd s
 
--- a Publish names a row that is staged
-pub staged_row : (h : History) (m n : ℕ) → Comes h m (Publish n) → (row : Row) × (row_at (rows h) n ≡ Some row) × (row.state ≡ Staged)
-staged_row h m n may = by (config_of reads h) may
-  where
-    by : (c : Option Config) → MayCome (reading_of reads c (Publish n)) c (state_of reads h) m (Publish n) → (row : Row) × (row_at (rows h) n ≡ Some row) × (row.state ≡ Staged)
-    by None f = absurd f
-    by (Some config) f = let r = the_row (row_at (rows h) n) _ f.0 in (r.0, r.1, r.2.0)
-
-staged_no : Staged ≡ Published → ⊥
-staged_no e = cc
-
--- a staged row is that of its delta
-fresh_spans : (entries : List Entry) (n : ℕ) (row : Row) → Legal reads (history entries) → StandsIn (rows (history entries)) n row → row.state ≡ Staged →
-    row.spans ≡ spans_of (stamp_of (history entries) n) (delta_of (history entries) n)
-fresh_spans entries n row legal at staged =
-    let h = history entries in
-    subst (λ k. row.spans ≡ spans_of (stamp_of h k) (delta_of h k)) at.number ((held (IsTraced (reach h) (delta_of h) (stamp_of h)) (last_number h) (rows h) n row at (sound reads h legal).held).fresh staged)
-
-pub fresh_contents : (config : IndexConfig) (entries : List Entry) (log : Log) (n : ℕ) (row : Row) → Legal reads (history entries) → StandsIn (rows (history entries)) n row → row.state ≡ Staged →
-    contents config (ledger reads (history entries)).tasks row log ≡ accepted_in config log (delta_of (history entries) n)
-fresh_contents config entries log n row legal at staged =
-    let h = history entries in
-    ap (λ (ss : List Span). flat_map (λ s. filter (is_kept meaning (ledger reads h).tasks s) (accepted_records config log)) ss) (fresh_spans entries n row legal at staged)
-    ∙ spans_contents (accepted_records config log) (ledger reads h).tasks (stamp_of h n) (delta_of h n)
-
-pub fresh_ranges : (entries : List Entry) (n : ℕ) (row : Row) → Legal reads (history entries) → StandsIn (rows (history entries)) n row → row.state ≡ Staged → ranges_of row ≡ delta_of (history entries) n
-fresh_ranges entries n row legal at staged =
-    ap (map range_of) (fresh_spans entries n row legal at staged) ∙ ranges_spans (stamp_of (history entries) n) (delta_of (history entries) n)
-
--- what a Publish needs is that its row is sound
-publish_sound : (kept : State) (entries : List Entry) (log : Log) (n : ℕ) (row : Row) → Legal reads (history entries) → StandsIn (rows (history entries)) n row → row.state ≡ Staged →
-    row_at (rows (history entries)) n ≡ Some row → (m : MayPublish kept entries log n) → IsRowSound kept m.config (ledger reads (history entries)).tasks log (published row)
-publish_sound kept entries log n row legal at staged found m =
-    record {
-      file = subst (λ k. get kept.objects (split_key k) ≡ Some (file_of m.config (contents m.config (ledger reads h).tasks row log))) (sym at.number) (m.file ∙ ap (λ xs. Some (file_of m.config xs)) (sym same));
-      facts = m.facts row found ∙ ap (λ xs. facts_of m.config xs (rejected_in m.config log (delta_of h n))) (sym same)
-          ∙ ap (λ ps. facts_of m.config (contents m.config (ledger reads h).tasks row log) (rejected_in m.config log ps)) (sym ranges);
-      split = subst (AreSplit m.config) (sym same) m.split;
-    }
-  where
-    h : History
-    h = history entries
-
-    same : contents m.config (ledger reads h).tasks row log ≡ accepted_in m.config log (delta_of h n)
-    same = fresh_contents m.config entries log n row legal at staged
-
-    ranges : ranges_of row ≡ delta_of h n
-    ranges = fresh_ranges entries n row legal at staged
-
-some_same : (one other : IndexConfig) → ◌≡◌ {A = Option IndexConfig} (Some one) (Some other) → one ≡ other
-some_same one other e = cc e
-
-rows_act : (kept : State) (entries : List Entry) (log : Log) (moment : ℕ) (act : Act) → Legal reads (history entries) → Comes (history entries) moment act →
-    HasFile kept entries log act → AreRowsKept kept (configuration entries) (ledger reads (history entries)).tasks log (rows (history entries)) →
-    AreRowsKept kept (index_of (config_of reads (history entries ▸ record { moment = moment; act = act }))) (ledger reads (history entries ▸ record { moment = moment; act = act })).tasks log (rows (history entries ▸ record { moment = moment; act = act }))
-rows_act kept entries log moment Fence legal may f all config is = all config is
-rows_act kept entries log moment (Create text) legal may f all config is =
-    subst (λ rs. AllByRecursion (IsRowKept kept config (ledger reads (history entries)).tasks log) rs) (sym (create_first (history entries) moment text legal may)) tt
-rows_act kept entries log moment (Stage number delta facts) legal may f all config is =
-    All-snoc (IsRowKept kept config (ledger reads (history entries)).tasks log) (rows (history entries)) _ (all config is) (λ s. absurd (staged_no s))
-rows_act kept entries log moment (Publish n) legal may f all config is =
-    let Kept : Row → Type 0 = IsRowKept kept config (ledger reads (history entries)).tasks log in
-    let r = staged_row (history entries) moment n may in
-    let at = row_stands (rows (history entries)) n r.0 (sound reads (history entries) legal).held.apart r.1 in
-    let before : AllByRecursion Kept (at.before ++ (r.0 ∷ at.behind)) = subst (λ rs. AllByRecursion Kept rs) at.is (all config is) in
-    let same : f.config ≡ config = some_same f.config config (sym f.configured ∙ is) in
-    subst (λ rs. AllByRecursion Kept rs) (sym (at.changed published))
-    (AllOf-replace Kept at.before r.0 (published r.0) at.behind before
-    (λ e. subst (λ (c : IndexConfig). IsRowSound kept c (ledger reads (history entries)).tasks log (published r.0)) same (publish_sound kept entries log n r.0 legal at r.2 r.1 f)))
-rows_act kept entries log moment (Replace new old upto) legal may f all config is = absurd f
-rows_act kept entries log moment (Raise number upto) legal may f all config is = absurd f
-rows_act kept entries log moment (Task opstamp text fields times) legal may f all config is = absurd f
-rows_act kept entries log moment (MarkStaged numbers) legal may f all config is = absurd f
-rows_act kept entries log moment (Remove numbers) legal may f all config is = absurd f
-rows_act kept entries log moment (Retire numbers) legal may f all config is = absurd f
-
--- ---- late creates
-
-pub built_act : (kept : State) (entries : List Entry) (log : Log) (act : Act) → HasFile kept entries log act → IsBuilt act
-built_act kept entries log Fence f = tt
-built_act kept entries log (Create config) f = tt
-built_act kept entries log (Stage number delta facts) f = tt
-built_act kept entries log (Publish number) f = tt
-built_act kept entries log (Replace new old upto) f = f
-built_act kept entries log (Raise number upto) f = f
-built_act kept entries log (Task opstamp text fields times) f = f
-built_act kept entries log (MarkStaged numbers) f = f
-built_act kept entries log (Remove numbers) f = f
-built_act kept entries log (Retire numbers) f = f
-
-pub publish_file : (kept : State) (entries : List Entry) (log : Log) (act : Act) (n : ℕ) → HasFile kept entries log act → act ≡ Publish n → MayPublish kept entries log n
-publish_file kept entries log act n f e = subst (λ a. HasFile kept entries log a) e f
-
-late_act : (kept : State) (entries : List Entry) (log : Log) (entry : Entry) → (lates : List (List ℕ × List ℕ)) →
-    ((n : ℕ) → entry.act ≡ Publish n → AllByRecursion (λ l. l.0 ≡ split_key n → ⊥) lates) → AllByRecursion (IsLateKey entries) lates → AllByRecursion (IsLateKey (entries ++ entry ∷ [])) lates
-late_act kept entries log entry [] apart h = tt
-late_act kept entries log entry (o ∷ lates) apart h = (first, late_act kept entries log entry lates (λ n p. (apart n p).1) h.1)
+late_act : (entries : List Entry) (entry : Entry) → (lates : List (List ℕ × List ℕ)) →
+    ((n : ℕ) → Shows entry.act n → AllByRecursion (λ l. l.0 ≡ split_key n → ⊥) lates) → AllByRecursion (IsLateKey entries) lates → AllByRecursion (IsLateKey (entries ++ entry ∷ [])) lates
+late_act entries entry [] apart h = tt
+late_act entries entry (o ∷ lates) apart h = (first, late_act entries entry lates (λ n p. (apart n p).1) h.1)
   where
     first : IsLateKey (entries ++ entry ∷ []) o
     first split =
@@ -259,8 +177,22 @@ late_act kept entries log entry (o ∷ lates) apart h = (first, late_act kept en
           there.0,
           there.1,
           staged_more entries entry there.0 there.2,
-          unpublished_more entries entry there.0 there.3 (λ m p same. (apart m p).0 (there.1 ∙ ap split_key (sym same))),
+          unshown_more entries entry there.0 there.3 (λ shows. (apart there.0 shows).0 there.1),
         )
+
+rows_more : (kept : State) (key bytes : List ℕ) (configured : Option IndexConfig) (tasks : List DeleteTask) (log : Log) (h : History) (list : List Row) → get kept.objects key ≡ None → ((n : ℕ) → key ≡ split_key n → ⊥) →
+    AreRowsKept kept configured tasks log h list → AreRowsKept (with_object kept key bytes) configured tasks log h list
+rows_more kept key bytes configured tasks log h list absent apart all config is =
+    AllOf-weaker (IsRowKept kept config tasks log h) (IsRowKept (with_object kept key bytes) config tasks log h) list
+    (λ row k. record {
+      published = λ e. let s = k.published e in record { file = get-other kept.objects key bytes (split_key row.number) (apart row.number) ∙ s.file; facts = s.facts; split = s.split };
+      marked = λ e s. by (get-other kept.objects key bytes (split_key row.number) (apart row.number)) (k.marked e s);
+      fresh = k.fresh;
+    }) (all config is)
+  where
+    by : {a b : Option (List ℕ)} {c : List ℕ} → a ≡ b → (b ≡ None) ⊎ (b ≡ Some c) → (a ≡ None) ⊎ (a ≡ Some c)
+    by e (inl none) = inl (e ∙ none)
+    by e (inr file) = inr (e ∙ file)
 
 -- ---- the whole
 
@@ -269,17 +201,17 @@ pub Stands-enters : (kept : State) (entries : List Entry) (log : Log) (entry : E
 Stands-enters kept entries log entry bytes s spells e =
     record {
       journal = journal_more kept entries log entry bytes s e.room e.can spells;
-      built = All-snoc (λ x. IsBuilt x.act) entries entry s.built (built_act kept entries log entry.act e.file);
       legal = subst (Legal reads) (sym (history-snoc entries entry)) (s.legal, e.legal);
       within = omega (arith, length-append entries (entry ∷ []), e.room);
       no_other = no_other_more kept entries log entry bytes s;
       checkpoints = λ name. subst (λ h. (ledger reads h).checkpoints name ≤ length (records_of log name)) (sym (history-snoc entries entry))
           (checkpoints_act kept entries log entry.moment entry.act s.checkpoints e.file name);
-      rows = subst (λ (h : History). AreRowsKept new (index_of (config_of reads h)) (ledger reads h).tasks log (rows h)) (sym (history-snoc entries entry))
-          (rows_more kept (meta_key (length entries)) bytes (index_of (config_of reads (history entries ▸ entry))) (ledger reads (history entries ▸ entry)).tasks log (rows (history entries ▸ entry)) absent
+      rows = subst (λ (h : History). AreRowsKept new (index_of (config_of reads h)) (ledger reads h).tasks log h (rows h)) (sym (history-snoc entries entry))
+          (rows_more kept (meta_key (length entries)) bytes (index_of (config_of reads (history entries ▸ entry))) (ledger reads (history entries ▸ entry)).tasks log (history entries ▸ entry) (rows (history entries ▸ entry)) absent
+          (λ n. meta_is_no_split (length entries) n)
           (rows_act kept entries log entry.moment entry.act s.legal e.legal.1 e.file s.rows));
       split_keys = split_keys_more kept entries log entry bytes s;
-      late_keys = late_act kept entries log entry kept.late (λ n p. (publish_file kept entries log entry.act n e.file p).not_late) s.late_keys;
+      late_keys = late_act entries entry kept.late (λ n shows. (shown_file kept entries log entry.act n e.file shows).1) s.late_keys;
     }
   where
     new : State
@@ -287,3 +219,53 @@ Stands-enters kept entries log entry bytes s spells e =
 
     absent : get kept.objects (meta_key (length entries)) ≡ None
     absent = journal-end kept entries s.journal
+
+-- numbers in hand
+pub held-enters : (kept : State) (entries : List Entry) (log : Log) (entry : Entry) (bytes : List ℕ) → Stands kept entries log → MayEnter kept entries log entry →
+    KeepsHeld kept (with_object kept (meta_key (length entries)) bytes) entries (entries ++ entry ∷ [])
+held-enters kept entries log entry bytes s e =
+    record {
+      configured = configured-more entries entry s.legal e.legal;
+      shown = λ n h. shown_more entries entry n h;
+      stored = λ n b stays u. record { staged = staged_more entries entry n u.staged; file = kept_at kept.objects (meta_key (length entries)) bytes (split_key n) b (journal-end kept entries s.journal) u.file; not_late = u.not_late };
+      left = λ n b f. record {
+        shown = shown_more entries entry n f.shown;
+        left = as_before (get-other kept.objects (meta_key (length entries)) bytes (split_key n) (meta_is_no_split (length entries) n)) f.left;
+        not_late = f.not_late;
+      };
+      staged = λ n delta facts h. HasStaged-more reads entries entry n delta facts s.legal e.legal h;
+      given_up = λ n g. GivenUp-more reads entries entry n s.legal e.legal g;
+      unused = λ n all u. record {
+        staged = staged_more entries entry n u.staged;
+        unshown = unshown_more entries entry n u.unshown (λ shows. let f = shown_file kept entries log entry.act n e.file shows in none_some f.0.0 (sym u.absent ∙ f.0.1));
+        absent = absent_at kept.objects (meta_key (length entries)) bytes (split_key n) (meta_is_no_split (length entries) n) u.absent;
+        not_late = u.not_late;
+      };
+      found = λ n b f. by n b f;
+    }
+  where
+    as_before : {a b : Option (List ℕ)} {c : List ℕ} → a ≡ b → (b ≡ None) ⊎ (b ≡ Some c) → (a ≡ None) ⊎ (a ≡ Some c)
+    as_before e (inl none) = inl (e ∙ none)
+    as_before e (inr file) = inr (e ∙ file)
+
+    by : (n : ℕ) (b : List ℕ) → IsFound kept entries n b → IsFound (with_object kept (meta_key (length entries)) bytes) (entries ++ entry ∷ []) n b
+    by n b (inl u) = inl (record { staged = staged_more entries entry n u.staged; file = kept_at kept.objects (meta_key (length entries)) bytes (split_key n) b (journal-end kept entries s.journal) u.file; not_late = u.not_late })
+    by n b (inr g) = inr (GivenUp-more reads entries entry n s.legal e.legal g)
+
+-- THE JOURNAL GROWS by an entry that may enter: the store is an index of it, and numbers in hand stay
+pub enters_both : (kept : State) (entries : List Entry) (log : Log) (entry : Entry) (bytes : List ℕ) → IsIndexOf kept entries log → Spells bytes entry → MayEnter kept entries log entry →
+    IsIndexOf (with_object kept (meta_key (length entries)) bytes) (entries ++ entry ∷ []) log × KeepsHeld kept (with_object kept (meta_key (length entries)) bytes) entries (entries ++ entry ∷ [])
+enters_both kept entries log entry bytes i spells e = (
+  record {
+    stands = Stands-enters kept entries log entry bytes i.stands spells e;
+    late_entries = AllOf-weaker (IsLateEntry kept entries log) (IsLateEntry (with_object kept (meta_key (length entries)) bytes) (entries ++ entry ∷ []) log) kept.late (λ o k meta. inl (by o (k meta))) i.late_entries;
+  },
+  held-enters kept entries log entry bytes i.stands e,
+)
+  where
+    longer : length (entries ++ entry ∷ []) ≡ length entries + 1
+    longer = length-append entries (entry ∷ [])
+
+    by : (o : List ℕ × List ℕ) → IsBelowEnd entries o ⊎ MayLand kept entries log o → IsBelowEnd (entries ++ entry ∷ []) o
+    by o (inl b) = let lt : b.0 < length entries = b.1 in (b.0, omega (arith, longer, lt), b.2)
+    by o (inr f) = (length entries, omega (arith, longer), f.key)

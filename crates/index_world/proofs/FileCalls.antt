@@ -13,14 +13,16 @@ use Rattle.source_log.specs.Log.{Log}
 use Rattle.index_world.specs.Calls.{Call, Fate, calm_call, Gives, gives, Trouble, no_memory, Unread, not_read, no_index, store_failed, begun, file_by, file_made, upload_made, sought_by, file_sought, hindered, or_short, with_file, taken_in, with_standing, reborn, read_journal, unless_empty, load_by, loaded, may_fail, risen}
 use Rattle.index_world.specs.Calls as calls
 use Rattle.index_world.specs.Core.{Core, late_file, file_at, last_count, with_unread, journal_of, clock_of}
-use Rattle.index_world.specs.Index.{OneEntry, IsUnused, IsUploaded, is_meta}
+use Rattle.index_world.specs.Index.{OneEntry, IsUnused, IsStored, is_meta}
 use Rattle.index_world.specs.Standing.{StandsFor}
 use Rattle.index_world.specs.World.{IsWorld}
-use Rattle.index_world.specs.Onward.{Onward}
+use Rattle.index_world.specs.Held.{All, But}
+use Rattle.index_world.specs.Onward.{Onward, Reread}
 use Rattle.index_world.proofs.StoreKeys.{true_is_false, split_outside}
 use Rattle.index_world.proofs.Journals.{one-journal}
 use Rattle.index_world.proofs.InHand.{number_apart}
-use Rattle.index_world.proofs.Worlds.{Onward-trans, held-refl, world-same, world-unmarked}
+use Rattle.index_world.proofs.Indexing.{keeps-trans, held-fewer}
+use Rattle.index_world.proofs.Worlds.{Onward-trans, Reread-behind, Reread-then, held-refl, onward-refl, world-reborn}
 use Rattle.index_world.proofs.WorldCalls.{Filed, world-file, world-file-late, world-taken}
 use Rattle.index_world.proofs.JournalCalls.{Counted, Begun, quiet, failing, rose_may, world-begins}
 
@@ -47,16 +49,16 @@ pub record UploadLaw (old new : State) (core : Core) (log : Log) (n : ℕ) (byte
 
 filed-on : (old mid new : State) (core between after : Core) (log : Log) (n : ℕ) → Onward old mid core between log → Filed mid new between after log n → Filed old new core after log n
 filed-on old mid new core between after log n o f =
-    record { world = f.world; others = record { configured = λ config e. f.others.configured config (o.held.configured config e); unused = λ m apart u. f.others.unused m apart (o.held.unused m u); uploaded = λ m b u. f.others.uploaded m b (o.held.uploaded m b u); published = λ m p. f.others.published m (o.held.published m p); staged = λ m d x s. f.others.staged m d x (o.held.staged m d x s); given_up = λ m g. f.others.given_up m (o.held.given_up m g) } }
+    record { world = f.world; others = keeps-trans (But n) All old mid new (journal_of core) (journal_of between) (journal_of after) o.held f.others; live = λ until m l. f.live until m (o.live until m l) }
 
 filed-of : (old new : State) (core after : Core) (log : Log) (n : ℕ) → Onward old new core after log → Filed old new core after log n
-filed-of old new core after log n o = record { world = o.world; others = record { configured = o.held.configured; unused = λ m apart u. o.held.unused m u; uploaded = o.held.uploaded; published = o.held.published; staged = o.held.staged; given_up = o.held.given_up } }
+filed-of old new core after log n o = record { world = o.world; others = held-fewer (But n) All old new (journal_of core) (journal_of after) o.held; live = o.live }
 
 absent_file : (kept : State) (core : Core) (n : ℕ) → StandsFor kept core → IsUnused kept (journal_of core) n → is_some (file_at core.files (split_key n)) ≡ false
 absent_file kept core n s u = ap is_some (s.files (split_key n) (split_outside n) ∙ u.absent)
 
 pub upload_is_made : OneEntry → (old new : State) (core : Core) (log : Log) (n : ℕ) (bytes : List ℕ) (now : ℕ) → IsWorld old core log → Counted core now → IsUnused old (journal_of core) n →
-    LandsThen (Creates (split_key n) bytes (Ok tt)) old new → (l : UploadLaw old new core log n bytes (λ c. Ok tt) now) × IsUploaded new (journal_of l.after) n bytes
+    LandsThen (Creates (split_key n) bytes (Ok tt)) old new → (l : UploadLaw old new core log n bytes (λ c. Ok tt) now) × IsStored new (journal_of l.after) n bytes
 upload_is_made once old new core log n bytes now w c u t = (
   record {
     call = quiet t.1.0 (now - core.store_faults) false;
@@ -69,7 +71,7 @@ upload_is_made once old new core log n bytes now w c u t = (
     clock = b.clock;
     unsure = b.unsure;
   },
-  subst (λ k. IsUploaded k (journal_of mid) n bytes) (sym t.2.1) file.1,
+  subst (λ k. IsStored k (journal_of mid) n bytes) (sym t.2.1) file.1,
 )
   where
     mid : Core
@@ -79,9 +81,9 @@ upload_is_made once old new core log n bytes now w c u t = (
     b = world-begins once old t.0 core log now (quiet t.1.0 (now - core.store_faults) false) w c refl t.1.1
 
     unused : IsUnused t.0 (journal_of mid) n
-    unused = b.onward.held.unused n u
+    unused = b.onward.held.unused n tt u
 
-    file : Filed t.0 (with_object t.0 (split_key n) bytes) mid (with_file (split_key n) bytes mid) log n × IsUploaded (with_object t.0 (split_key n) bytes) (journal_of mid) n bytes
+    file : Filed t.0 (with_object t.0 (split_key n) bytes) mid (with_file (split_key n) bytes mid) log n × IsStored (with_object t.0 (split_key n) bytes) (journal_of mid) n bytes
     file = world-file t.0 mid log n bytes b.onward.world unused
 
 pub upload_failed : OneEntry → (old new : State) (core : Core) (log : Log) (n : ℕ) (bytes : List ℕ) (now : ℕ) → IsWorld old core log → Counted core now → Rose core.store_faults now → IsUnused old (journal_of core) n →
@@ -98,7 +100,7 @@ upload_failed once old new core log n bytes now w c rose u t = by t.2
     b = world-begins once old t.0 core log now (call true) w c refl t.1.1
 
     unused : IsUnused t.0 (journal_of mid) n
-    unused = b.onward.held.unused n u
+    unused = b.onward.held.unused n tt u
 
     absent : is_some (file_at mid.files (split_key n)) ≡ false
     absent = absent_file t.0 mid n b.onward.world.stands_for unused
@@ -142,7 +144,7 @@ upload_failed once old new core log n bytes now w c rose u t = by t.2
 pub upload_never_exists : OneEntry → (old new : State) (core : Core) (log : Log) (n : ℕ) (bytes : List ℕ) → IsWorld old core log → core.store_faults ≤ last_count → IsUnused old (journal_of core) n →
     LandsThen (Creates (split_key n) bytes (Err creates.Exists)) old new → ⊥
 upload_never_exists once old new core log n bytes w low u t =
-    true_is_false (sym t.2.0 ∙ ap is_some ((world-begins once old t.0 core log core.store_faults (quiet t.1.0 (core.store_faults - core.store_faults) false) w (record { later = omega arith; within = low }) refl t.1.1).onward.held.unused n u).absent)
+    true_is_false (sym t.2.0 ∙ ap is_some ((world-begins once old t.0 core log core.store_faults (quiet t.1.0 (core.store_faults - core.store_faults) false) w (record { later = omega arith; within = low }) refl t.1.1).onward.held.unused n tt u).absent)
 
 pub upload_short : OneEntry → (old new : State) (core : Core) (log : Log) (n : ℕ) (bytes : List ℕ) (now : ℕ) → IsWorld old core log → Counted core now → HasLanded old new →
     UploadLaw old new core log n bytes (λ after. Err no_memory) now
@@ -192,7 +194,7 @@ sought_short_law once old new core log now key w c t =
 standing_taken : (kept : State) (core : Core) (log : Log) (standing : Option Entry) → IsWorld kept core log → core.standing ≡ standing →
     Onward kept kept core (with_standing standing core) log × ((with_standing standing core).history ≡ journal_of core) × ((with_standing standing core).standing ≡ None) × (clock_of (with_standing standing core) ≡ clock_of core)
     × ((with_standing standing core).store_faults ≡ core.store_faults)
-standing_taken kept core log None w e = (record { world = w; held = held-refl kept (journal_of core) }, ap (with_unread core.history) (sym e), e, refl, refl)
+standing_taken kept core log None w e = (onward-refl kept core log w, ap (with_unread core.history) (sym e), e, refl, refl)
 standing_taken kept core log (Some entry) w e = (world-taken kept core log entry w e, ap (with_unread core.history) (sym e), refl, refl, refl)
 
 -- a history with what stands unread is that history and more
@@ -204,7 +206,7 @@ pub record LoadLaw (old new : State) (core : Core) (log : Log) (read : List Entr
   pub fate : Fate
   pub after : Core
   pub did : loaded fate core ≡ gives answer after
-  pub onward : Onward old new core after log
+  pub onward : Reread old new core after log
   pub more : List Entry
   pub grown : after.history ≡ core.history ++ more
   pub history : after.history ≡ read
@@ -229,7 +231,7 @@ load_law once old mid new core log read now w c t j u =
       fate = two_calls first second;
       after = begun second whole;
       did = ap (λ es. unless_empty (length es == 0) (begun second whole)) same ∙ empty_or_not read (begun second whole);
-      onward = Onward-trans old mid new core whole (begun second whole) log there last.onward;
+      onward = Reread-then old mid new core whole (begun second whole) log there last.onward;
       more = more.0;
       grown = last.history ∙ s.1 ∙ more.1;
       history = last.history ∙ same;
@@ -264,13 +266,9 @@ load_law once old mid new core log read now w c t j u =
     same : whole.history ≡ read
     same = s.1 ∙ one-journal once mid 0 (journal_of start) read b.onward.world.stands_for.journal j
 
-    there : Onward old mid core whole log
-    there = Onward-trans old mid mid core start whole log b.onward
-        (record {
-          world = world-unmarked mid (record (with_standing start.standing start) { moment = moment_of (told (with_standing start.standing start).history); unsure = false }) log
-              (world-same mid (with_standing start.standing start) log (with_standing start.standing start).store_faults (moment_of (told (with_standing start.standing start).history)) (with_standing start.standing start).clock false s.0.world);
-          held = s.0.held;
-        })
+    there : Reread old mid core whole log
+    there = Reread-behind old mid mid core (with_standing start.standing start) whole log (Onward-trans old mid mid core start (with_standing start.standing start) log b.onward s.0)
+        (record { world = world-reborn mid (with_standing start.standing start) log s.2 s.0.world; held = held-refl mid (journal_of (with_standing start.standing start)) })
 
     faults : whole.store_faults ≡ now
     faults = s.4 ∙ b.faults

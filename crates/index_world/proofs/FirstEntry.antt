@@ -22,16 +22,17 @@ use Rattle.index_world.specs.declared.world_error.WorldError.{WorldError}
 use Rattle.index_world.specs.declared.world_error.WorldError.TheVariants as errors
 use Rattle.index_world.specs.Calls.{Call, Fate, Gives, gives, no_memory, faulted, store_fault, store_failed, Unread, not_read, no_index, or_short, asked_clock, asked_moment, entry_of, taken_in}
 use Rattle.index_world.specs.Config.{settings_of}
-use Rattle.index_world.specs.Core.{Core, last_count, with_unread, journal_of, clock_of}
+use Rattle.index_world.specs.Core.{Core, last_count, with_unread, clock_of}
 use Rattle.index_world.specs.Created.{create_at, Leaves, IsToldBy, MayBegin, Begins, MakesFirst, TriesFirst, FirstLanded, CreatesNot, CreatesLife, Uncreated, not_created, index_exists, bad_config, first_making, with_first, created_by, created_from, created, IsUncreated, CreatesAs, CreatesWorld, CreatesNone}
 use Rattle.index_world.specs.Index.{MayEnter}
 use Rattle.index_world.specs.Life.{LifeIs}
-use Rattle.index_world.specs.Onward.{Onward}
+use Rattle.index_world.specs.Onward.{Reread}
 use Rattle.index_world.specs.Steps.{Counted, quiet, MadeLaw, FailedLaw, ExistsLaw, Ends}
 use Rattle.index_world.specs.World.{IsWorld, IsTimely}
 use Rattle.index_world.proofs.FileCalls.{LoadLaw, UnreadLaw, load_law, load_failed_law, load_short_law}
 use Rattle.index_world.proofs.Gates.{kept_by}
-use Rattle.index_world.proofs.InCore.{keeps_all}
+use Rattle.index_world.proofs.Asking.{asked_least}
+use Rattle.index_world.proofs.InCore.{keeps_reread}
 use Rattle.index_world.proofs.JournalCalls.{calm_get, made_law, failed_law, exists_law}
 use Rattle.index_world.proofs.JournalLaws.{spells_own}
 use Rattle.index_world.proofs.Journals.{once}
@@ -40,7 +41,7 @@ use Rattle.index_world.proofs.StoreKeys.{true_is_false}
 use Rattle.index_world.proofs.Transacting.{ends_taken, timely_more}
 use Rattle.index_world.proofs.WholeCalls.{world_asked}
 use Rattle.index_world.proofs.WholeFiles.{load_no_corrupt, load_no_foreign}
-use Rattle.index_world.proofs.Worlds.{Onward-trans, held-refl}
+use Rattle.index_world.proofs.Worlds.{Reread-then, reread-of, onward-same}
 
 -- ---- small facts
 
@@ -83,13 +84,13 @@ module _ (old new : State) (core : Core) (log : Log) (text : List ℕ) (now : �
   abbrev fate_with : Fate → Call → Fate
   fate_with fate call = record { unasked = false; first = fate.first; second = fate.second; third = call }
 
-  none_by : (error : WorldError) (told' : Option State) (fate : Fate) (why : Uncreated) (after : Core) (more : List Entry) → told' ≡ Some new → created fate text core ≡ gives (Err why) after → Onward old new core after log →
+  none_by : (error : WorldError) (told' : Option State) (fate : Fate) (why : Uncreated) (after : Core) (more : List Entry) → told' ≡ Some new → created fate text core ≡ gives (Err why) after → Reread old new core after log →
       after.history ≡ core.history ++ more → after.store_faults ≡ now → IsUncreated error why → Leaves text why core after → CreatesNone text core log error told' now
   none_by error told' fate why after more tells did onward grown faults says leaves =
       record {
         why = why;
         after = after;
-        creates = record { fate = fate; did = did; grown = (more, grown); faults = omega (arith, later, faults); keeps = keeps_all old new core after log w.stands_for onward };
+        creates = record { fate = fate; did = did; grown = (more, grown); faults = omega (arith, later, faults); keeps = keeps_reread old new core after log w.stands_for onward };
         says = says;
         leaves = leaves;
         kept = new;
@@ -102,7 +103,7 @@ module _ (old new : State) (core : Core) (log : Log) (text : List ℕ) (now : �
   unread_by : (error : WorldError) (told' : Option State) (unread : Core → Unread) (why : Core → Uncreated) → told' ≡ Some new → (u : UnreadLaw old new core log (λ after. Err (unread after)) now) →
       created_from (gives (Err (unread u.after)) u.after) calm_get core.store_faults text ≡ gives (Err (why u.after)) u.after → IsUncreated error (why u.after) → Leaves text (why u.after) core u.after → CreatesNone text core log error told' now
   unread_by error told' unread why tells u is says leaves =
-      none_by error told' (fate_with u.fate calm_get) (why u.after) u.after [] tells (ap (λ (g : Gives Unread ⊤). created_from g calm_get core.store_faults text) u.did ∙ is) u.onward (u.history ∙ sym (append-nil core.history)) u.faults says leaves
+      none_by error told' (fate_with u.fate calm_get) (why u.after) u.after [] tells (ap (λ (g : Gives Unread ⊤). created_from g calm_get core.store_faults text) u.did ∙ is) (reread-of old new core u.after log u.onward) (u.history ∙ sym (append-nil core.history)) u.faults says leaves
 
   short_none : (error : WorldError) (told' : Option State) → told' ≡ Some new → HasLanded old new → IsUncreated error (not_created no_memory) → CreatesNone text core log error told' now
   short_none error told' tells l says =
@@ -171,8 +172,8 @@ module _ (old new : State) (core : Core) (log : Log) (text : List ℕ) (now : �
     world : IsWorld mid asked log
     world = world_asked mid l.after log l.onward.world
 
-    onward : Onward old mid core asked log
-    onward = Onward-trans old mid mid core l.after asked log l.onward (record { world = world; held = held-refl mid (journal_of l.after) })
+    onward : Reread old mid core asked log
+    onward = Reread-then old mid mid core l.after asked log l.onward (onward-same mid l.after log l.after.store_faults asked.moment l.after.clock l.after.unsure (asked_least l.after.frozen l.after.moment l.after.clock) l.onward.world)
 
     counts : Counted asked now
     counts = record { later = let f = l.faults in omega (arith, f, before_now); within = within }
@@ -190,7 +191,7 @@ module _ (old new : State) (core : Core) (log : Log) (text : List ℕ) (now : �
     -- it was made
     module _ (moment : ℕ) (at : moment ≡ core.clock) (tried : MakesFirst text moment mid new) where
       m : MadeLaw mid new asked log first now
-      m = made_law once mid new asked log first now world counts can (λ free. may) (spells_own first) (tries_at 0 (length asked.history) (create_at text moment) first (Ok tt) mid new at_start (first_is moment at) tried)
+      m = made_law once mid new asked log first now world counts can (λ numbers is. cc is) (λ free. may) (spells_own first) (tries_at 0 (length asked.history) (create_at text moment) first (Ok tt) mid new at_start (first_is moment at) tried)
 
       abbrev after : Core
       after = taken_in first m.after
@@ -210,8 +211,8 @@ module _ (old new : State) (core : Core) (log : Log) (text : List ℕ) (now : �
             room = λ u. absurd (true_is_false (sym (sym l.unsure ∙ u)));
           }
 
-      made_by : Onward old new core after log
-      made_by = Onward-trans old mid new core asked after log onward m.taken
+      made_by : Reread old new core after log
+      made_by = Reread-then old mid new core asked after log onward m.taken
 
       creates : CreatesAs text core after (Ok tt)
       creates =
@@ -220,7 +221,7 @@ module _ (old new : State) (core : Core) (log : Log) (text : List ℕ) (now : �
             did = did_with (quiet m.places (now - asked.store_faults) false) refl ∙ ap (first_making core.store_faults first) m.did;
             grown = (create_at text core.clock ∷ [], whole ∙ ap (λ (es : List Entry). es ++ create_at text core.clock ∷ []) (sym none));
             faults = let f = m.faults in omega (arith, f, later);
-            keeps = keeps_all old new core after log w.stands_for made_by;
+            keeps = keeps_reread old new core after log w.stands_for made_by;
           }
 
       clock_same : clock_of after ≡ clock_of core
@@ -263,7 +264,7 @@ module _ (old new : State) (core : Core) (log : Log) (text : List ℕ) (now : �
         let x : ExistsLaw mid new asked log first now = exists_law once mid new asked log first now world counts h.1 (subst (λ (n : ℕ). IsSome (numbered new n)) at_start stood) in
         let call = quiet x.places (now - asked.store_faults) false in
         none_by error told' (fate_with l.fate call) index_exists x.after l.more tells (did_with call refl ∙ ap (first_making core.store_faults first) x.did)
-        (Onward-trans old mid new core asked x.after log onward x.onward) (x.history ∙ l.grown) x.faults says
+        (Reread-then old mid new core asked x.after log onward x.onward) (x.history ∙ l.grown) x.faults says
         (let e = ap (λ (o : Option Entry). length (with_unread x.after.history o)) x.stands in let one = length-append x.after.history (x.other ∷ []) in omega (arith, e, one))
 
     -- its create failed
@@ -271,9 +272,9 @@ module _ (old new : State) (core : Core) (log : Log) (text : List ℕ) (now : �
         IsUncreated error (not_created (faulted (store_fault core.store_faults now))) → CreatesNone text core log error told' now
     tried_none error told' moment tells at tried still rose says =
         let rises : Rose asked.store_faults now = subst (λ (n : ℕ). Rose n now) (sym (l.faults ∙ still)) rose in
-        let f : FailedLaw mid new asked log first now = failed_law once mid new asked log first now world counts rises can (λ free. may) (spells_own first) (tries_at 0 (length asked.history) (create_at text moment) first create_failed mid new at_start (first_is moment at) tried) in
+        let f : FailedLaw mid new asked log first now = failed_law once mid new asked log first now world counts rises can (λ numbers is. cc is) (λ free. may) (spells_own first) (tries_at 0 (length asked.history) (create_at text moment) first create_failed mid new at_start (first_is moment at) tried) in
         none_by error told' (fate_with l.fate f.call) (not_created (store_failed core.store_faults f.after)) f.after l.more tells (did_with f.call f.short ∙ ap (first_making core.store_faults first) f.did)
-        (Onward-trans old mid new core asked f.after log onward f.onward) (f.history ∙ l.grown) f.faults
+        (Reread-then old mid new core asked f.after log onward f.onward) (f.history ∙ l.grown) f.faults
         (subst (λ (n : ℕ). IsUncreated error (not_created (faulted (store_fault core.store_faults n)))) (sym f.faults) says) (f.history ∙ l.history ∙ sym none)
 
   -- ---- by the error

@@ -1,5 +1,5 @@
 -- What a world's calls did, put together from what its life did.
-use Rattle.std.proofs.Common.{append-nil, ◌≡◌, ◌⊎◌, ℕ, ◌+◌, ◌<◌, ◌≤◌, List, [], ◌∷◌, ◌++◌, refl, sym, ap, ◌∙◌, subst, inl, inr, Bool, true, false, length, arith}
+use Rattle.std.proofs.Common.{◌^◌, append-nil, ◌≡◌, ◌⊎◌, ℕ, ◌+◌, ◌<◌, ◌≤◌, List, [], ◌∷◌, ◌++◌, refl, sym, ap, ◌∙◌, subst, inl, inr, Bool, true, false, length, arith}
 use Rattle.std.specs.Prelude.{Option, Some, None, is_some, Result, Ok, Err, IsErrOf, max, nat_le, ⊤}
 use Rattle.std.specs.Result.{IsErrAnd}
 use Rattle.byte_fields.specs.Causes.{HasCause, Rose}
@@ -111,6 +111,24 @@ world_freezes w w' core log e s =
       frozen = refl;
       opened = s.opened;
     })
+
+-- its clock was set
+pub clocked : (w : Keeping) (core : Core) (log : Log) (given moment : ℕ) → WorldStands w core log → moment < 2 ^ 62 → given ≡ moment → WorldStands (record w { clock = Some given }) (record core { clock = moment }) log
+clocked w core log given moment s low e =
+    record {
+      kept = s.kept;
+      told = s.told;
+      world = world-same s.kept core log core.store_faults core.moment moment core.unsure s.world;
+      timely = record { greatest = s.timely.greatest; moment = s.timely.moment; clock = low; room = s.timely.room };
+      store_faults = s.store_faults;
+      clock = ap Some e;
+      moment = s.moment;
+      meta = s.meta;
+      next = s.next;
+      unsure = s.unsure;
+      frozen = s.frozen;
+      opened = s.opened;
+    }
 
 pub frozen_asks : (core : Core) → core.frozen ≡ true → asked_clock core ≡ core
 frozen_asks core e = ap (λ (f : Bool). record core { moment = asked_moment f core.moment core.clock }) e

@@ -1,37 +1,29 @@
--- What a number in hand was staged with stays, and a new Stage's number has it.
-use Rattle.std.proofs.Common.{◌≡◌, ◌⊎◌, ℕ, ◌≤◌, List, [], ◌∷◌, ◌++◌, refl, sym, ap, ◌∙◌, subst, inl, inr, Bool, true, false, arith}
+-- A new Stage's number has what it was staged with.
+use Rattle.std.proofs.Common.{◌≡◌, ◌⊎◌, ℕ, List, [], ◌∷◌, ◌++◌, refl, sym, ap, subst, inl, inr, Bool, true, false, arith}
 use Rattle.std.proofs.lemmas.Bool.{eqb-true, eq-eqb}
-use Rattle.std.specs.Prelude.{Option, Some, None, ◌==◌, option_map, cond}
+use Rattle.std.specs.Prelude.{Option, Some, None, ◌==◌}
 use Rattle.meta_journal.specs.declared.entry.Act.{Act}
-use Rattle.meta_journal.specs.declared.entry.Act.TheVariants.{Fence, Create, Stage, Publish, Replace, Raise, Task, MarkStaged, Remove, Retire}
+use Rattle.meta_journal.specs.declared.entry.Act.TheVariants.{Stage}
 use Rattle.meta_journal.specs.declared.entry.Entry.{Entry}
-use Rattle.meta_store.proofs.RowLists.{row_at-change, changed_at}
-use Rattle.meta_store.proofs.Sound.{sound}
-use Rattle.meta_store.specs.History.{History, history, last_number, delta_of, last_opstamp}
+pub use Rattle.meta_store.proofs.Numbers.{number_apart}
+use Rattle.meta_store.specs.History.{History, history, delta_of, last_opstamp}
 use Rattle.meta_store.specs.History.History.{◌▸◌}
 use Rattle.meta_store.specs.Rows.{rows}
 use Rattle.meta_store.specs.Readings.{reading_of, config_of}
 use Rattle.meta_store.specs.State.{Legal, MayCome, state_of}
 use Rattle.source_checkpoint.specs.Deltas.{spans_of}
 use Rattle.source_checkpoint.specs.declared.delta.Part.{Part}
-use Rattle.split_states.specs.Rows.{row_at, published, staged}
+use Rattle.split_states.specs.Rows.{row_at, staged}
 use Rattle.split_states.specs.declared.facts.RowFacts.{RowFacts}
 use Rattle.split_states.specs.declared.rows.Row.{Row}
 use Rattle.index_world.specs.Config.{reads}
-use Rattle.index_world.specs.Index.{HasStaged, IsAllowed, IsBuilt}
-use Rattle.index_world.proofs.Numbers.{history-snoc, stage_next, staged_le, row_below}
-use Rattle.index_world.proofs.StoreChanges.{staged_more, staged_last}
+use Rattle.index_world.specs.Index.{HasStaged, IsAllowed}
+use Rattle.index_world.proofs.Numbers.{history-snoc, stage_next, row_below}
+use Rattle.index_world.proofs.StoreChanges.{staged_last}
 
 -- the act may come behind this history
 abbrev pub Comes : History → ℕ → Act → Type 0
 Comes h moment act = MayCome (reading_of reads (config_of reads h) act) (config_of reads h) (state_of reads h) moment act
-
-pub number_apart : (m n : ℕ) → (m ≡ n → ⊥) → (m == n) ≡ false
-number_apart m n h = by (m == n) refl
-  where
-    by : (b : Bool) → (m == n) ≡ b → (m == n) ≡ false
-    by true e = absurd (h (eqb-true m n e))
-    by false e = e
 
 -- a row that is found behind one more row
 pub row_at-append : (list : List Row) (r row : Row) (n : ℕ) → row_at (list ++ r ∷ []) n ≡ Some row → (row_at list n ≡ Some row) ⊎ ((r.number ≡ n) × (r ≡ row))
@@ -52,59 +44,13 @@ row_at-append (x ∷ xs) r row n e = by (x.number == n) refl (row_at-append xs r
     by false eb more = let found = rw eb at e in on eb (more found)
 
 -- the row that a Stage makes
-abbrev pub new_row : History → ℕ → ℕ → List Part → RowFacts → Row
+abbrev new_row : History → ℕ → ℕ → List Part → RowFacts → Row
 new_row h moment number delta facts = staged number (spans_of (last_opstamp h) delta) facts moment
 
 -- what the entries note of a number
-pub record Noted (h : History) (n : ℕ) (delta : List Part) (facts : RowFacts) : Type 0 where
-  pub noted : delta_of h n ≡ delta
-  pub kept : (row : Row) → row_at (rows h) n ≡ Some row → row.facts ≡ facts
-
-changed_facts : (n : ℕ) (row : Row) → (changed_at n published row).facts ≡ row.facts
-changed_facts n row = by (row.number == n)
-  where
-    by : (b : Bool) → (cond b (published row) row).facts ≡ row.facts
-    by true = refl
-    by false = refl
-
-pub mapped : (f : Row → Row) (o : Option Row) (row : Row) → option_map f o ≡ Some row → (old : Row) × (o ≡ Some old) × (f old ≡ row)
-mapped f None row e = cc
-mapped f (Some old) row e = (old, refl, cc)
-
-noted_on : (h : History) (moment : ℕ) (act : Act) (n : ℕ) (delta : List Part) (facts : RowFacts) → Legal reads h → Comes h moment act → IsBuilt act → n ≤ last_number h →
-    Noted h n delta facts → Noted (h ▸ record { moment = moment; act = act }) n delta facts
-noted_on h moment Fence n delta facts l f b low k = record { noted = k.noted; kept = k.kept }
-noted_on h moment (Create config) n delta facts l f b low k = record { noted = k.noted; kept = k.kept }
-noted_on h moment (Stage number d x) n delta facts l f b low k =
-    let next = stage_next reads h moment number d x f in
-    record {
-      noted = rw (number_apart n number (λ e. omega (arith, e, next, low))) k.noted;
-      kept = λ row e. by row (row_at-append (rows h) (new_row h moment number d x) row n e);
-    }
-  where
-    by : (row : Row) → (row_at (rows h) n ≡ Some row) ⊎ ((number ≡ n) × (new_row h moment number d x ≡ row)) → row.facts ≡ facts
-    by row (inl old) = k.kept row old
-    by row (inr new) = absurd (let e : number ≡ n = new.0 in let next = stage_next reads h moment number d x f in omega (arith, e, next, low))
-noted_on h moment (Publish number) n delta facts l f b low k =
-    record {
-      noted = k.noted;
-      kept = λ row e.
-          let m = mapped (changed_at number published) (row_at (rows h) n) row (sym (row_at-change (rows h) number n published (λ r. refl) (sound reads h l).held.apart) ∙ e) in
-          ap (λ (r : Row). r.facts) (sym m.2) ∙ changed_facts number m.0 ∙ k.kept m.0 m.1;
-    }
-noted_on h moment (Replace r old upto) n delta facts l f b low k = absurd b
-noted_on h moment (Raise number upto) n delta facts l f b low k = absurd b
-noted_on h moment (Task opstamp text fields times) n delta facts l f b low k = absurd b
-noted_on h moment (MarkStaged numbers) n delta facts l f b low k = absurd b
-noted_on h moment (Remove numbers) n delta facts l f b low k = absurd b
-noted_on h moment (Retire numbers) n delta facts l f b low k = absurd b
-
-pub HasStaged-more : (entries : List Entry) (entry : Entry) (n : ℕ) (delta : List Part) (facts : RowFacts) → Legal reads (history entries) → IsAllowed entries entry → IsBuilt entry.act →
-    HasStaged entries n delta facts → HasStaged (entries ++ entry ∷ []) n delta facts
-HasStaged-more entries entry n delta facts l a b k =
-    let on = noted_on (history entries) entry.moment entry.act n delta facts l a.1 b (staged_le (history entries) n k.staged) (record { noted = k.noted; kept = k.kept }) in
-    let there = subst (λ h. Noted h n delta facts) (sym (history-snoc entries entry)) on in
-    record { staged = staged_more entries entry n k.staged; noted = there.noted; kept = there.kept }
+record Noted (h : History) (n : ℕ) (delta : List Part) (facts : RowFacts) : Type 0 where
+  noted : delta_of h n ≡ delta
+  kept : (row : Row) → row_at (rows h) n ≡ Some row → row.facts ≡ facts
 
 new_noted : (h : History) (moment n : ℕ) (delta : List Part) (facts : RowFacts) → Legal reads h → Comes h moment (Stage n delta facts) →
     Noted (h ▸ record { moment = moment; act = Stage n delta facts }) n delta facts

@@ -11,7 +11,7 @@ use Rattle.object_store.specs.Store.{State, landed, with_object, with_late, HasL
 use Rattle.object_store.specs.declared.store.CreateError.TheVariants as creates
 use Rattle.source_log.specs.Log.{Log}
 use Rattle.index_world.specs.Calls.{Call, exists, failed, Making, made_behind, made_at, create_at_end, tried, begun, risen, may_fail, taken_in, got_at, get_at_end, gives, store_failed}
-use Rattle.index_world.specs.Core.{Core, late_entry, last_count, journal_of, clock_of}
+use Rattle.index_world.specs.Core.{Core, late_entry, last_count, clock_of}
 use Rattle.index_world.specs.Index.{OneEntry, MayEnter, IsUnused, HasStaged}
 use Rattle.index_world.specs.World.{IsWorld}
 use Rattle.index_world.specs.Onward.{Onward, Landing}
@@ -19,7 +19,8 @@ use Rattle.index_world.proofs.StoreKeys.{true_is_false}
 use Rattle.index_world.proofs.Journals.{journal-end, stand-of}
 use Rattle.index_world.proofs.Indexing.{longer}
 use Rattle.index_world.proofs.Landing.{journal_none, journal_some, standing_number}
-use Rattle.index_world.proofs.Worlds.{Onward-trans, held-refl, world-lands, world-same}
+use Rattle.index_world.proofs.Living.{NoRemove, live-on}
+use Rattle.index_world.proofs.Worlds.{Onward-trans, world-lands, world-same, onward-same}
 use Rattle.index_world.proofs.WorldCalls.{Entered, world-enters, world-tried, world-taken}
 pub use Rattle.index_world.specs.Steps.{Counted, quiet, MadeLaw, AdoptedLaw, FailedLaw, ExistsLaw}
 
@@ -54,7 +55,7 @@ pub world-begins : OneEntry → (old mid : State) (core : Core) (log : Log) (now
 world-begins once old mid core log now call w c rises at =
     subst (λ m. Begun old m core (begun call core) log now) (sym at)
     (record {
-      onward = record { world = l.onward.world; held = l.onward.held };
+      onward = record { world = l.onward.world; held = l.onward.held; live = λ until n k. l.onward.live until n (live-on core counted (record { history = refl; marks = refl; moment = omega arith }) until n k) };
       history = l.same.history;
       faults = l.same.store_faults ∙ ap (risen core.store_faults) rises ∙ risen_is core now c;
       moment = l.same.moment;
@@ -107,16 +108,16 @@ entry_stands once kept core log f w h = by (something_stands kept core log w (ap
 
 -- ---- the create was Ok
 
-pub made_law : OneEntry → (old new : State) (core : Core) (log : Log) (entry : Entry) (now : ℕ) → IsWorld old core log → Counted core now → CanSpell entry →
+pub made_law : OneEntry → (old new : State) (core : Core) (log : Log) (entry : Entry) (now : ℕ) → IsWorld old core log → Counted core now → CanSpell entry → NoRemove entry →
     (core.standing ≡ None → MayEnter old core.history log entry) → Spells (spelling entry) entry → LandsThen (Creates (meta_key (length core.history)) (spelling entry) (Ok tt)) old new →
     MadeLaw old new core log entry now
-made_law once old new core log entry now w c can may spells t =
+made_law once old new core log entry now w c can keeps may spells t =
     record {
       places = t.1.0;
       after = record mid { standing = Some entry };
       did = ap (λ o. made_behind o entry mid) none;
       unread = λ u. Onward-trans old new new core (record mid { standing = Some entry }) (record mid { standing = Some entry; unsure = u }) log there
-          (record { world = world-same new (record mid { standing = Some entry }) log mid.store_faults mid.moment mid.clock u there.world; held = held-refl new (journal_of (record mid { standing = Some entry })) });
+          (onward-same new (record mid { standing = Some entry }) log mid.store_faults mid.moment mid.clock u (omega arith) there.world);
       taken = Onward-trans old new new core (record mid { standing = Some entry }) (taken_in entry (record mid { standing = Some entry })) log there
           (world-taken new (record mid { standing = Some entry }) log entry (subst (λ k. IsWorld k (record mid { standing = Some entry }) log) (sym is) entered.onward.world) refl);
       history = b.history;
@@ -140,7 +141,7 @@ made_law once old new core log entry now w c can may spells t =
     none = nothing_stands t.0 mid log b.onward.world (ap (λ es. numbered t.0 (length es)) b.history ∙ t.2.0)
 
     entered : Entered t.0 (with_object t.0 (meta_key (length mid.history)) (spelling entry)) mid log entry mid.unsure
-    entered = world-enters t.0 mid log entry (spelling entry) mid.unsure b.onward.world none spells (subst (λ es. MayEnter t.0 es log entry) (sym b.history) (b.enters none entry may))
+    entered = world-enters t.0 mid log entry (spelling entry) mid.unsure b.onward.world none spells keeps (subst (λ es. MayEnter t.0 es log entry) (sym b.history) (b.enters none entry may))
 
     is : new ≡ with_object t.0 (meta_key (length mid.history)) (spelling entry)
     is = t.2.1 ∙ ap (λ es. with_object t.0 (meta_key (length es)) (spelling entry)) (sym b.history)
@@ -156,7 +157,7 @@ calm_get = quiet [] 0 false
 
 calm_begun : (kept : State) (core : Core) (log : Log) → IsWorld kept core log → Onward kept kept core (begun calm_get core) log
 calm_begun kept core log w =
-    record { world = world-same kept core log (risen core.store_faults 0) core.moment core.clock core.unsure w; held = held-refl kept (journal_of core) }
+    onward-same kept core log (risen core.store_faults 0) core.moment core.clock core.unsure (omega arith) w
 
 pub still_counted : (a now : ℕ) → a ≡ now → now ≤ last_count → risen a 0 ≡ now
 still_counted a now e w = omega (arith, e, w)
@@ -175,7 +176,7 @@ adopted_law once old new core log tried_entry entry before now w c t h =
       got = refl;
       onward = Onward-trans old new new core (begun calm_get mid) (taken_in entry (begun calm_get mid)) log there (world-taken new (begun calm_get mid) log entry there.world stands);
       unread = λ known. Onward-trans old new new core mid (record (begun (quiet [] 0 true) mid) { unsure = mid.unsure || known }) log b.onward
-          (record { world = world-same new mid log (risen mid.store_faults 0) mid.moment mid.clock (mid.unsure || known) b.onward.world; held = held-refl new (journal_of mid) });
+          (onward-same new mid log (risen mid.store_faults 0) mid.moment mid.clock (mid.unsure || known) (omega arith) b.onward.world);
       sure = refl;
       mid_history = b.history;
       mid_faults = b.faults;
@@ -205,10 +206,10 @@ has_failed core = record { answer = failed; core = core }
 
 -- ---- the create failed
 
-pub failed_law : OneEntry → (old new : State) (core : Core) (log : Log) (entry : Entry) (now : ℕ) → IsWorld old core log → Counted core now → Rose core.store_faults now → CanSpell entry →
+pub failed_law : OneEntry → (old new : State) (core : Core) (log : Log) (entry : Entry) (now : ℕ) → IsWorld old core log → Counted core now → Rose core.store_faults now → CanSpell entry → NoRemove entry →
     (core.standing ≡ None → MayEnter old core.history log entry) → Spells (spelling entry) entry → LandsThen (Creates (meta_key (length core.history)) (spelling entry) (Err creates.Failed)) old new →
     FailedLaw old new core log entry now
-failed_law once old new core log entry now w c rose can may spells t = by t.2
+failed_law once old new core log entry now w c rose can keeps may spells t = by t.2
   where
     call : Bool → Call
     call at_once = failing t.1.0 (now - core.store_faults) at_once
@@ -226,7 +227,7 @@ failed_law once old new core log entry now w c rose can may spells t = by t.2
         ⊎ ((new ≡ with_late t.0 (meta_key (length core.history)) (spelling entry)) ⊎ (IsSome (get t.0.objects (meta_key (length core.history))) × (new ≡ t.0))) → FailedLaw old new core log entry now
     by (inl d) =
         let none : mid.standing ≡ None = nothing_stands t.0 mid log b.onward.world (ap (λ es. numbered t.0 (length es)) b.history ∙ d.0) in
-        let entered = world-enters t.0 mid log entry (spelling entry) true b.onward.world none spells (subst (λ es. MayEnter t.0 es log entry) (sym b.history) (b.enters none entry may)) in
+        let entered = world-enters t.0 mid log entry (spelling entry) true b.onward.world none spells keeps (subst (λ es. MayEnter t.0 es log entry) (sym b.history) (b.enters none entry may)) in
         let is : new ≡ with_object t.0 (meta_key (length mid.history)) (spelling entry) = d.1 ∙ ap (λ es. with_object t.0 (meta_key (length es)) (spelling entry)) (sym b.history) in
         record {
           call = call true;
@@ -242,7 +243,7 @@ failed_law once old new core log entry now w c rose can may spells t = by t.2
         }
     by (inr (inl d)) =
         let is : new ≡ with_late t.0 (meta_key (length mid.history)) (spelling entry) = d ∙ ap (λ es. with_late t.0 (meta_key (length es)) (spelling entry)) (sym b.history) in
-        let onward = world-tried t.0 mid log entry (spelling entry) b.onward.world can spells (λ none. subst (λ es. MayEnter t.0 es log entry) (sym b.history) (b.enters none entry may)) in
+        let onward = world-tried t.0 mid log entry (spelling entry) b.onward.world can spells keeps (λ none. subst (λ es. MayEnter t.0 es log entry) (sym b.history) (b.enters none entry may)) in
         record {
           call = call false;
           short = refl;
@@ -264,7 +265,7 @@ failed_law once old new core log entry now w c rose can may spells t = by t.2
           did = ap (λ f. made_at f true entry mid) (fails true) ∙ ap (λ o. has_failed (tried true o entry mid)) u.is;
           onward = Onward-trans old t.0 new core mid (record mid { unsure = true }) log b.onward
               (subst (λ k. Onward t.0 k mid (record mid { unsure = true }) log) (sym d.1)
-              (record { world = world-same t.0 mid log mid.store_faults mid.moment mid.clock true b.onward.world; held = held-refl t.0 (journal_of mid) }));
+              (onward-same t.0 mid log mid.store_faults mid.moment mid.clock true (omega arith) b.onward.world));
           history = b.history;
           faults = b.faults;
           moment = b.moment;
@@ -327,7 +328,7 @@ get_failed_law once old new core log entry before now w c rose t h =
       after = record second { unsure = true };
       got = ap (λ f. got_at f get_call before e.other second) fails;
       onward = Onward-trans old new new core e.after (record second { unsure = true }) log e.onward
-          (record { world = world-same new e.after log (risen e.after.store_faults (now - core.store_faults)) e.after.moment e.after.clock true e.onward.world; held = held-refl new (journal_of e.after) });
+          (onward-same new e.after log (risen e.after.store_faults (now - core.store_faults)) e.after.moment e.after.clock true (omega arith) e.onward.world);
       history = e.history;
       faults = ap (λ n. risen n (now - core.store_faults)) e.faults ∙ risen_is core now c;
       moment = e.moment;

@@ -19,6 +19,7 @@ use Rattle.index_world.specs.Index.{MayEnter}
 use Rattle.index_world.specs.World.{IsWorld, IsTimely}
 use Rattle.index_world.proofs.Journals.{once, stand-of}
 use Rattle.index_world.proofs.Numbers.{history-snoc}
+use Rattle.index_world.proofs.Living.{NoRemove}
 use Rattle.index_world.proofs.Landing.{journal_some}
 use Rattle.index_world.proofs.Asking.{fence_enters}
 use Rattle.index_world.proofs.JournalCalls.{Counted, Begun, quiet, failing, calm_get, world-begins, made_law, adopted_law, failed_law, exists_law, get_failed_law, MadeLaw, AdoptedLaw, FailedLaw, ExistsLaw, GetFailedLaw, something_stands, last_entry, still_counted, Unread}
@@ -56,17 +57,17 @@ corrupt_never old new core log now key w c t corrupt = by (something_stands new 
 
 -- ---- what an append answered
 
-module _ (old new : State) (core : Core) (log : Log) (act : Act) (now : ℕ) (w : IsWorld old core log) (c : Counted core now) (can : CanSpell (entry_of act core))
+module _ (old new : State) (core : Core) (log : Log) (act : Act) (now : ℕ) (w : IsWorld old core log) (c : Counted core now) (can : CanSpell (entry_of act core)) (keeps : NoRemove (entry_of act core))
     (may : core.standing ≡ None → MayEnter old core.history log (entry_of act core)) where
   pub appends_made : (m : ℕ) → Appends (length core.history) (entry_of act core) (Ok m) old new → MadeLaw old new core log (entry_of act core) now
-  appends_made m a = made_law once old new core log (entry_of act core) now w c can may (spells_own (entry_of act core)) a.1
+  appends_made m a = made_law once old new core log (entry_of act core) now w c can keeps may (spells_own (entry_of act core)) a.1
 
   pub appends_adopted : (f : Entry) (before : ℕ) → Appends (length core.history) (entry_of act core) (Err (errors.Adopted f)) old new → AdoptedLaw old new core log (entry_of act core) f before now
   appends_adopted f before a = adopted_law once old new core log (entry_of act core) f before now w c a.0 a.1
 
   pub appends_fault : (x y before : ℕ) → Rose core.store_faults now → Appends (length core.history) (entry_of act core) (Err (errors.StoreFault x y)) old new →
       FailedLaw old new core log (entry_of act core) now ⊎ GetFailedLaw old new core log (entry_of act core) before now
-  appends_fault x y before rose (inl tried) = inl (failed_law once old new core log (entry_of act core) now w c rose can may (spells_own (entry_of act core)) tried)
+  appends_fault x y before rose (inl tried) = inl (failed_law once old new core log (entry_of act core) now w c rose can keeps may (spells_own (entry_of act core)) tried)
   appends_fault x y before rose (inr got) = inr (get_failed_law once old new core log (entry_of act core) before now w c rose got.0 got.1)
 
   pub appends_foreign : (key : List ℕ) → Appends (length core.history) (entry_of act core) (Err (errors.Foreign key)) old new →
@@ -95,11 +96,14 @@ module _ (old new : State) (core : Core) (log : Log) (now : ℕ) (w : IsWorld ol
   can_fence : CanSpell (fence_of core)
   can_fence = record { moment = t.moment; act = tt }
 
+  keeps_fence : NoRemove (fence_of core)
+  keeps_fence numbers is = cc is
+
   may_fence : core.standing ≡ None → MayEnter old core.history log (fence_of core)
   may_fence none = fence_enters old core log (legal_history old core log w) some t unsure
 
   fence_made : Tries (length core.history) (fence_of core) (Ok tt) old new → MadeLaw old new core log (fence_of core) now
-  fence_made tried = made_law once old new core log (fence_of core) now w c can_fence may_fence (spells_own (fence_of core)) tried
+  fence_made tried = made_law once old new core log (fence_of core) now w c can_fence keeps_fence may_fence (spells_own (fence_of core)) tried
 
   by_made : MadeLaw old new core log (fence_of core) now → Settled old new core log (fence_of core) now
   by_made m =
@@ -170,7 +174,7 @@ module _ (old new : State) (core : Core) (log : Log) (now : ℕ) (w : IsWorld ol
   pub settles_fault : (x y : ℕ) → Rose core.store_faults now → SettlesAt (length core.history) core.moment (Err (errors.StoreFault x y)) old new →
       Unsettled old new core log (store_failed core.store_faults) now
   settles_fault x y rose (inl tried) =
-      let f = failed_law once old new core log (fence_of core) now w c rose can_fence may_fence (spells_own (fence_of core)) tried in
+      let f = failed_law once old new core log (fence_of core) now w c rose can_fence keeps_fence may_fence (spells_own (fence_of core)) tried in
       record {
         first = f.call;
         second = calm_get;

@@ -8,12 +8,18 @@ pub mod Asking
 pub mod Answering
 pub mod Following
 pub mod Configured
+pub mod Removed
+pub mod Rows
+pub mod Deleting
 pub mod Entering
-pub mod GivenUp
 pub mod Indexing
 pub mod WholeIndex
 pub mod StoreCalls
 pub mod Landing
+pub mod Taken
+pub mod Lasting
+pub mod Doomed
+pub mod Living
 pub mod Worlds
 pub mod WorldCalls
 pub mod JournalCalls
@@ -21,6 +27,8 @@ pub mod Transactions
 pub mod Transacting
 pub mod InCore
 pub mod FileCalls
+pub mod DeleteCalls
+pub mod Dooming
 pub mod Opening
 pub mod JournalLaws
 pub mod WholeCalls
@@ -30,6 +38,7 @@ pub mod Settling
 pub mod Creating
 pub mod Appending
 pub mod Gates
+pub mod Sweeping
 pub mod Fronts
 pub mod Preparing
 pub mod Reading

@@ -18,6 +18,7 @@ use Rattle.index_world.specs.Standing.{late_object, IsCalled}
 use Rattle.index_world.specs.World.{IsWorld}
 use Rattle.index_world.proofs.StoreKeys.{true_is_false}
 use Rattle.index_world.proofs.Indexing.{Object}
+use Rattle.index_world.proofs.Living.{born-removes}
 
 to_file : Object → File
 to_file o = record { key = o.0; bytes = o.1 }
@@ -63,7 +64,7 @@ call_late kept entries log (o ∷ late) h = by (is_meta o.0) refl h.0 (call_late
 pub record Opening (kept : State) (history : List Entry) (log : Log) (count clock : ℕ) : Type 0 where
   pub files : List File
   pub late : List Late
-  pub world : IsWorld kept (record { history = history; store_faults = count; moment = moment_of (told history); clock = clock; frozen = false; files = files; unsure = false; standing = None; late = late; marks = [] }) log
+  pub world : IsWorld kept (record { history = history; store_faults = count; moment = moment_of (told history); clock = clock; frozen = false; files = files; unsure = false; standing = None; late = late; marks = []; doomed = [] }) log
 
 pub index_opens : (kept : State) (history : List Entry) (log : Log) (count clock : ℕ) → IsIndexOf kept history log → Opening kept history log count clock
 index_opens kept history log count clock i =
@@ -79,5 +80,7 @@ index_opens kept history log count clock i =
           called = c.called;
         };
         index = i;
+        taken = i.stands.rows;
+        removes = born-removes kept (record { history = history; store_faults = count; moment = moment_of (told history); clock = clock; frozen = false; files = map to_file (entries kept.objects); unsure = false; standing = None; late = c.lates; marks = []; doomed = [] }) log i refl refl c.are c.called;
       };
     }

@@ -28,7 +28,7 @@ use Rattle.std.specs.Result.{IsErrAnd}
 use Rattle.index_world.proofs.Fronts.{AreTimely, journal_timely}
 use Rattle.index_world.proofs.FileCalls.{LoadLaw, UnreadLaw, load_answer, load_law, load_failed_law, load_short_law}
 use Rattle.index_world.proofs.Gates.{kept_by}
-use Rattle.index_world.proofs.InCore.{keeps_all}
+use Rattle.index_world.proofs.InCore.{keeps_all, keeps_reread}
 use Rattle.index_world.proofs.JournalLaws.{legal_history}
 use Rattle.index_world.proofs.Journals.{once}
 use Rattle.index_world.proofs.Lives.{Told, told_of}
@@ -106,7 +106,7 @@ module _ (old : State) (core : Core) (log : Log) (n now : ℕ) (told told' : Opt
           did = record {
             unread = no_index;
             after = law.after;
-            loads = record { fate = law.fate; did = law.did ∙ ap (λ (es : List Entry). gives (load_answer es) law.after) none; grown = (law.more, law.grown); faults = let a = counted.later in let b = law.faults in omega (arith, a, b); keeps = keeps_all old t.new core law.after log w.stands_for law.onward };
+            loads = record { fate = law.fate; did = law.did ∙ ap (λ (es : List Entry). gives (load_answer es) law.after) none; grown = (law.more, law.grown); faults = let a = counted.later in let b = law.faults in omega (arith, a, b); keeps = keeps_reread old t.new core law.after log w.stands_for law.onward };
             says = refl;
             world = law.onward.world;
             faults = sym law.faults;

@@ -17,13 +17,13 @@ use Rattle.object_store.specs.Store.{State, HasLanded}
 use Rattle.source_log.specs.Log.{Log}
 use Rattle.index_world.specs.Calls.{Call, gives, Trouble, faulted, no_memory, Unmade, refused, troubled, is_foreign, store_failed, last_create, begun, taken_in, may_append, or_full, full_answer, answer_behind, entry_of, adopted_making}
 use Rattle.index_world.specs.Config.{reads}
-use Rattle.index_world.specs.Core.{Core, journal_of, clock_of}
+use Rattle.index_world.specs.Core.{Core, clock_of}
 use Rattle.index_world.specs.Index.{MayEnter, HasFile, max_entries, IsAllowed}
 use Rattle.index_world.specs.World.{IsWorld, IsTimely}
 use Rattle.index_world.specs.Onward.{Onward}
 use Rattle.index_world.proofs.StoreKeys.{true_is_false}
 use Rattle.index_world.proofs.Asking.{timely_taken}
-use Rattle.index_world.proofs.Worlds.{Onward-trans, held-refl}
+use Rattle.index_world.proofs.Worlds.{Onward-trans, onward-refl}
 use Rattle.index_world.proofs.JournalCalls.{Counted, quiet, calm_get, MadeLaw, AdoptedLaw, FailedLaw, ExistsLaw, still_counted}
 use Rattle.index_world.proofs.JournalLaws.{Settled, Unsettled, appends_short, short_get}
 use Rattle.index_world.proofs.Transactions.{last_is_made, last_failed, last_foreign, last_refused, first_made, first_failed, first_adopted, first_refused, first_short, first_by, after_settling, not_settled}
@@ -192,7 +192,7 @@ last_not kept core log act before e w t may =
       call = calm_get;
       after = core;
       did = last_refused act core calm_get before e refl may;
-      onward = record { world = w; held = held-refl kept (journal_of core) };
+      onward = onward-refl kept core log w;
       ends = ends_same core core core.unsure core.store_faults refl refl refl refl refl;
       timely = t;
     }
@@ -278,7 +278,7 @@ transacted_not kept core log act e w t sure may =
       third = calm_get;
       after = core;
       did = first_refused act core calm_get calm_get calm_get e sure refl may;
-      onward = record { world = w; held = held-refl kept (journal_of core) };
+      onward = onward-refl kept core log w;
       ends = ends_same core core core.unsure core.store_faults refl refl refl refl refl;
       timely = t;
     }

@@ -1,5 +1,5 @@
 -- The whole calls of a world: with some fate each is the core's call, and behind it the world stands for the core that it gave.
-use Rattle.std.proofs.Common.{◌≡◌, inl, inr, ℕ, ◌<◌, ◌≤◌, List, [], ◌∷◌, refl, ap, ◌∙◌, Bool, true, false, length, arith}
+use Rattle.std.proofs.Common.{◌≡◌, ℕ, ◌<◌, ◌≤◌, List, [], ◌∷◌, refl, ap, ◌∙◌, Bool, true, false, length, arith}
 use Rattle.std.proofs.lemmas.List.{length-append}
 use Rattle.std.specs.Prelude.{Option, Some, None, Result, Ok, Err, max, ⊤}
 use Rattle.meta_journal.specs.declared.entry.Act.{Act}
@@ -10,12 +10,12 @@ use Rattle.object_store.specs.Store.{State}
 use Rattle.source_log.specs.Log.{Log}
 use Rattle.index_world.specs.Calls.{Call, Fate, Gives, gives, Trouble, no_memory, Unmade, settled, unless_short, looked, asked, asked_and_looked, appended, asked_clock, and_then}
 use Rattle.index_world.specs.Config.{reads}
-use Rattle.index_world.specs.Core.{Core, IsStoredIn, IsUploadedIn, KeepsBut, journal_of}
-use Rattle.index_world.specs.World.{IsWorld, IsTimely, Keeping, WorldStands, GoesOn}
+use Rattle.index_world.specs.Core.{Core, IsOther, KeepsBut}
+use Rattle.index_world.specs.World.{IsWorld, IsTimely, Keeping, WorldStands, GoesFor, GoesOn}
 use Rattle.index_world.specs.Onward.{Onward}
 use Rattle.index_world.proofs.Asking.{timely_asked, asked_least}
-use Rattle.index_world.proofs.Worlds.{held-refl, world-same}
-use Rattle.index_world.proofs.InCore.{goes-on, KeepsBut-trans}
+use Rattle.index_world.proofs.Worlds.{world-same, onward-refl}
+use Rattle.index_world.proofs.InCore.{goes-on, goes_both, moment_goes}
 use Rattle.index_world.proofs.JournalCalls.{Counted, quiet, calm_get}
 use Rattle.index_world.proofs.JournalLaws.{Settled, Unsettled}
 use Rattle.index_world.proofs.Transactions.{settled_sure}
@@ -78,23 +78,11 @@ pub counted_asked : (core : Core) (now : ℕ) → Counted core now → Counted (
 counted_asked core now c = record { later = c.later; within = c.within }
 
 -- the asking of the clock changes no file
-pub stored_asked : (core : Core) (n : ℕ) (bytes : List ℕ) → IsStoredIn core n bytes → IsStoredIn (asked_clock core) n bytes
-stored_asked core n bytes u = record { staged = u.staged; file = u.file; not_late = u.not_late }
-
-uploaded_asked : (core : Core) (n : ℕ) (bytes : List ℕ) → IsUploadedIn core n bytes → IsUploadedIn (asked_clock core) n bytes
-uploaded_asked core n bytes (inl u) = inl (stored_asked core n bytes u)
-uploaded_asked core n bytes (inr g) = inr g
+pub goes_asked : (Kept : ℕ → Type 0) (core : Core) → GoesFor Kept core (asked_clock core)
+goes_asked Kept core = moment_goes Kept core (asked_clock core).moment core.clock (asked_least core.frozen core.moment core.clock)
 
 pub keeps_asked : (core : Core) → KeepsBut None core (asked_clock core)
-keeps_asked core =
-    record {
-      configured = λ config e. e;
-      unused = λ n other u. record { staged = u.staged; unpublished = u.unpublished; absent = u.absent; not_late = u.not_late };
-      stored = stored_asked core;
-      published = λ n p. p;
-      uploaded = uploaded_asked core;
-      staged = λ n d f s. s;
-    }
+keeps_asked core = (goes_asked (IsOther None) core).keeps
 
 -- what the world keeps stays where the core went on from one whose clock was asked
 pub went_on : (old new : State) (core after : Core) (log : Log) (more : List Entry) (doubt : Bool) (now : ℕ) → IsWorld old core log → Counted core now → Onward old new core after log → Ends core after more doubt now → GoesOn None core after
@@ -103,13 +91,8 @@ went_on old new core after log more doubt now w c o e =
 
 pub went_on_asked : (old new : State) (core after : Core) (log : Log) (more : List Entry) (doubt : Bool) (now : ℕ) → IsWorld old core log → Counted core now → Onward old new (asked_clock core) after log → Ends (asked_clock core) after more doubt now → GoesOn None core after
 went_on_asked old new core after log more doubt now w c o e =
-    let g = went_on old new (asked_clock core) after log more doubt now (world_asked old core log w) (counted_asked core now c) o e in
-    record {
-      grown = g.grown;
-      faults = g.faults;
-      moment = let a = g.moment in let b = asked_least core.frozen core.moment core.clock in omega (arith, a, b);
-      keeps = KeepsBut-trans None core (asked_clock core) after (keeps_asked core) g.keeps;
-    }
+    goes_both (IsOther None) (IsOther None) (IsOther None) core (asked_clock core) after (λ n other. (other, other)) (goes_asked (IsOther None) core)
+    (went_on old new (asked_clock core) after log more doubt now (world_asked old core log w) (counted_asked core now c) o e)
 
 -- ---- a transaction
 
@@ -133,12 +116,7 @@ whole_asked kept core log w some t =
       fate = record { unasked = false; first = calm_get; second = calm_get; third = calm_get };
       after = asked_clock core;
       did = refl;
-      goes_on = record {
-        grown = ([], (same_history core).history);
-        faults = omega arith;
-        moment = asked_least core.frozen core.moment core.clock;
-        keeps = keeps_asked core;
-      };
+      goes_on = goes_asked (IsOther None) core;
       ends = same_history (asked_clock core);
       stands = stands_behind kept (asked_clock core) (asked_clock core) log [] core.unsure core.store_faults some (world_asked kept core log w) (timely_asked core t) (same_history (asked_clock core));
     }
@@ -179,7 +157,7 @@ looks_sure kept core log short w t sure =
       short = short;
       after = core;
       did = ap (copying short) (settled_sure core calm_get calm_get sure refl) ∙ copied_is short core;
-      onward = record { world = w; held = held-refl kept (journal_of core) };
+      onward = onward-refl kept core log w;
       ends = ends_same core core core.unsure core.store_faults refl refl refl refl refl;
       timely = t;
     }

@@ -16,12 +16,12 @@ use Rattle.object_store.specs.Store.{State, HasLanded}
 use Rattle.source_log.specs.Log.{Log}
 use Rattle.index_world.specs.Calls.{Call, Fate, Grace, gives, Trouble, asked_clock, Unfetched, file_sought, sought_unless, fetched_from, loaded, upload_made}
 use Rattle.index_world.specs.Core.{Core, KeepsBut, IsUploadedIn, journal_of}
-use Rattle.index_world.specs.Index.{IsIndexOf, IsUploaded}
+use Rattle.index_world.specs.Index.{IsIndexOf, IsStored}
 use Rattle.index_world.specs.World.{IsWorld, IsTimely, WorldStands}
 use Rattle.index_world.proofs.StoreKeys.{true_is_false, meta_begins}
 use Rattle.index_world.proofs.Journals.{stand-of, Stand-at}
 use Rattle.index_world.proofs.Asking.{timely_asked}
-use Rattle.index_world.proofs.InCore.{keeps_all, file-goes-on, stored-in}
+use Rattle.index_world.proofs.InCore.{file-goes-on, stored-in, keeps_reread}
 use Rattle.index_world.proofs.JournalCalls.{Counted, Begun}
 use Rattle.index_world.proofs.JournalLaws.{appends_short}
 use Rattle.index_world.proofs.FileCalls.{one_call, UploadLaw, LoadLaw, load_answer}
@@ -49,7 +49,7 @@ whole_upload old new core log n bytes answer now w some t c u =
     }
 
 -- behind an Ok the file is in hand
-pub uploaded_in_hand : (old new : State) (core : Core) (log : Log) (n : ℕ) (bytes : List ℕ) (now : ℕ) (u : UploadLaw old new core log n bytes (λ after. Ok tt) now) → IsUploaded new (journal_of u.after) n bytes →
+pub uploaded_in_hand : (old new : State) (core : Core) (log : Log) (n : ℕ) (bytes : List ℕ) (now : ℕ) (u : UploadLaw old new core log n bytes (λ after. Ok tt) now) → IsStored new (journal_of u.after) n bytes →
     IsUploadedIn u.after n bytes
 uploaded_in_hand old new core log n bytes now u h = inl (stored-in new u.after n bytes u.filed.world.stands_for h)
 
@@ -129,7 +129,7 @@ whole_loaded old mid new core log read now w clock some l j =
       did = l.did ∙ ap (λ r. gives r l.after) (ok_of read some);
       history = l.history;
       grown = (l.more, sym l.history ∙ l.grown);
-      keeps = keeps_all old new core l.after log w.stands_for l.onward;
+      keeps = keeps_reread old new core l.after log w.stands_for l.onward;
       faults = l.faults;
       moment = l.moment;
       unsure = l.unsure;

@@ -6,24 +6,31 @@ use Rattle.meta_journal.specs.Places.{meta_key, split_key}
 use Rattle.meta_journal.specs.Spelling.{Spells, CanSpell}
 use Rattle.meta_journal.specs.declared.entry.Act.TheVariants.{Stage}
 use Rattle.meta_journal.specs.declared.entry.Entry.{Entry}
+use Rattle.meta_store.specs.History.{history}
+use Rattle.meta_store.specs.History.History.{◌▸◌}
+use Rattle.meta_store.specs.State.{Legal}
 use Rattle.object_store.specs.Store.{State, with_object, with_late}
 use Rattle.source_checkpoint.specs.declared.delta.Part.{Part}
 use Rattle.source_log.specs.Log.{Log}
 use Rattle.split_states.specs.declared.facts.RowFacts.{RowFacts}
 use Rattle.index_world.specs.Calls.{tried, taken_in, with_file}
 use Rattle.index_world.specs.Calls as calls
-use Rattle.index_world.specs.Core.{Core, Late, late_entry, late_dead, late_file, with_unread, journal_of}
-use Rattle.index_world.specs.Index.{IsIndexOf, MayEnter, IsUnused, IsUploaded, HasStaged}
+use Rattle.index_world.specs.Config.{reads}
+use Rattle.index_world.specs.Core.{Core, Late, late_entry, late_dead, late_file, with_unread, journal_of, IsLive}
+use Rattle.index_world.specs.Index.{IsIndexOf, IsTaken, MayEnter, IsUnused, IsStored, HasStaged}
 use Rattle.index_world.specs.Standing.{late_object, IsCalled, StandsFor}
 use Rattle.index_world.specs.World.{IsWorld}
-use Rattle.index_world.specs.Held.{KeepsHeld, KeepsOthers, Still, Enters}
+use Rattle.index_world.specs.Held.{KeepsFor, KeepsHeld, All, But, Still, Enters}
 use Rattle.index_world.specs.Onward.{Onward}
 use Rattle.index_world.proofs.StoreKeys.{meta_begins, split_outside}
 use Rattle.index_world.proofs.StoreChanges.{All-snoc, All-each}
 use Rattle.index_world.proofs.Indexing.{longer, journal_other, index-enters, index-tried, index-dead}
 use Rattle.index_world.proofs.StoreCalls.{file-stands, file-late}
 use Rattle.index_world.proofs.Landing.{files_more, files_same, journal_some}
-use Rattle.index_world.proofs.Worlds.{held-refl, journal_is_history}
+use Rattle.index_world.proofs.Living.{NoRemove, removes-on, removes-stands, removes-late, removes-file, removes-taken, live-on, live-taken}
+use Rattle.index_world.proofs.Numbers.{history-snoc}
+use Rattle.index_world.proofs.Taken.{taken_held}
+use Rattle.index_world.proofs.Worlds.{held-refl, journal_is_history, taken_on}
 
 -- ---- an entry comes to stand behind the history
 
@@ -32,16 +39,19 @@ pub record Entered (old new : State) (core : Core) (log : Log) (entry : Entry) (
   pub fresh : (number : ℕ) (delta : List Part) (facts : RowFacts) → entry.act ≡ Stage number delta facts →
       IsUnused new (core.history ++ entry ∷ []) number × HasStaged (core.history ++ entry ∷ []) number delta facts
 
-pub world-enters : (kept : State) (core : Core) (log : Log) (entry : Entry) (bytes : List ℕ) (unsure : Bool) → IsWorld kept core log → core.standing ≡ None → Spells bytes entry → MayEnter kept core.history log entry →
+pub world-enters : (kept : State) (core : Core) (log : Log) (entry : Entry) (bytes : List ℕ) (unsure : Bool) → IsWorld kept core log → core.standing ≡ None → Spells bytes entry → NoRemove entry → MayEnter kept core.history log entry →
     Entered kept (with_object kept (meta_key (length core.history)) bytes) core log entry unsure
-world-enters kept core log entry bytes unsure w none spells may =
+world-enters kept core log entry bytes unsure w none spells keeps may =
     record {
       onward = record {
         world = record {
           stands_for = record { journal = enters.index.stands.journal; files = files_same kept core (meta_key (length core.history)) bytes s (meta_begins (length core.history)); late = s.late; called = s.called };
           index = enters.index;
+          taken = taken_on kept new core (record core { standing = Some entry; unsure = unsure }) log (core.history ++ entry ∷ []) w refl held;
+          removes = removes-stands core entry unsure keeps w.removes;
         };
-        held = subst (λ es. KeepsHeld kept new es (core.history ++ entry ∷ [])) (sym (journal_is_history core none)) enters.held;
+        held = held;
+        live = live-on core (record core { standing = Some entry; unsure = unsure }) (record { history = refl; marks = refl; moment = omega arith });
       };
       fresh = enters.fresh;
     }
@@ -55,6 +65,9 @@ world-enters kept core log entry bytes unsure w none spells may =
     enters : Enters kept new core.history log entry
     enters = index-enters kept core.history log entry bytes (subst (λ es. IsIndexOf kept es log) (journal_is_history core none) w.index) spells may
 
+    held : KeepsHeld kept new (journal_of core) (core.history ++ entry ∷ [])
+    held = subst (λ es. KeepsHeld kept new es (core.history ++ entry ∷ [])) (sym (journal_is_history core none)) enters.held
+
 -- ---- its create failed, and it is late
 
 still_tried : (kept : State) (core : Core) (log : Log) (entry : Entry) (bytes : List ℕ) → IsWorld kept core log → Spells bytes entry → (core.standing ≡ None → MayEnter kept core.history log entry) →
@@ -66,10 +79,10 @@ still_tried kept core log entry bytes w spells may (Some u) some =
     index-dead kept (journal_of core) log (length core.history) bytes w.index
     (let e : length (journal_of core) ≡ length (core.history ++ u ∷ []) = ap (λ o. length (with_unread core.history o)) some in omega (arith, e, longer core.history u))
 
-pub world-tried : (kept : State) (core : Core) (log : Log) (entry : Entry) (bytes : List ℕ) → IsWorld kept core log → CanSpell entry → Spells bytes entry →
+pub world-tried : (kept : State) (core : Core) (log : Log) (entry : Entry) (bytes : List ℕ) → IsWorld kept core log → CanSpell entry → Spells bytes entry → NoRemove entry →
     (core.standing ≡ None → MayEnter kept core.history log entry) →
     Onward kept (with_late kept (meta_key (length core.history)) bytes) core (record core { late = core.late ++ late_entry (length core.history) entry bytes ∷ []; unsure = true }) log
-world-tried kept core log entry bytes w can spells may =
+world-tried kept core log entry bytes w can spells keeps may =
     let still = still_tried kept core log entry bytes w spells may core.standing refl in
     record {
       world = record {
@@ -80,8 +93,11 @@ world-tried kept core log entry bytes w can spells may =
           called = All-snoc (IsCalled core.history) core.late (late_entry (length core.history) entry bytes) s.called (omega arith, can, spells);
         };
         index = still.index;
+        taken = taken_on kept (with_late kept (meta_key (length core.history)) bytes) core (record core { late = core.late ++ late_entry (length core.history) entry bytes ∷ []; unsure = true }) log (journal_of core) w refl still.held;
+        removes = removes-late core entry bytes keeps w.removes;
       };
       held = still.held;
+      live = live-on core (record core { late = core.late ++ late_entry (length core.history) entry bytes ∷ []; unsure = true }) (record { history = refl; marks = refl; moment = omega arith });
     }
   where
     s : StandsFor kept core
@@ -105,21 +121,32 @@ world-taken kept core log entry w some =
           called = All-each (IsCalled core.history) (IsCalled (core.history ++ entry ∷ [])) core.late (λ late h. called_longer core.history entry late h) w.stands_for.called;
         };
         index = subst (λ es. IsIndexOf kept es log) same w.index;
+        taken = subst (λ es. IsTaken kept es log) same w.index.stands.rows;
+        removes = removes-taken core entry w.stands_for.called;
       };
+      live = live-taken core entry legal.0 legal.1 some w.removes;
       held = subst (λ es. KeepsHeld kept kept (journal_of core) es) same (held-refl kept (journal_of core));
     }
   where
     same : journal_of core ≡ core.history ++ entry ∷ []
     same = ap (with_unread core.history) some
 
+    legal : Legal reads (history core.history ▸ entry)
+    legal = subst (Legal reads) (ap history same ∙ history-snoc core.history entry) w.index.stands.legal
+
 -- ---- an upload
 
 pub record Filed (old new : State) (core after : Core) (log : Log) (n : ℕ) : Type 0 where
   pub world : IsWorld new after log
-  pub others : KeepsOthers old new (journal_of core) (journal_of after) n
+  pub others : KeepsFor (But n) All old new (journal_of core) (journal_of after)
+  pub live : (until number : ℕ) → IsLive core until number → IsLive after until number
+
+-- a file of a number that was not shown is none of the rows that were taken in
+taken_but : (kept new : State) (core : Core) (log : Log) (n : ℕ) → IsWorld kept core log → KeepsFor (But n) All kept new (journal_of core) (journal_of core) → IsTaken new core.history log
+taken_but kept new core log n w held = taken_held kept core.history core.standing log w.index.stands (But n) All new (journal_of core) held (λ x own e. tt) w.taken
 
 pub world-file : (kept : State) (core : Core) (log : Log) (n : ℕ) (bytes : List ℕ) → IsWorld kept core log → IsUnused kept (journal_of core) n →
-    Filed kept (with_object kept (split_key n) bytes) core (with_file (split_key n) bytes core) log n × IsUploaded (with_object kept (split_key n) bytes) (journal_of core) n bytes
+    Filed kept (with_object kept (split_key n) bytes) core (with_file (split_key n) bytes core) log n × IsStored (with_object kept (split_key n) bytes) (journal_of core) n bytes
 world-file kept core log n bytes w u =
     let f = file-stands kept (journal_of core) log n bytes w.index u in (
       record {
@@ -131,8 +158,11 @@ world-file kept core log n bytes w u =
             called = s.called;
           };
           index = f.0;
+          taken = taken_but kept (with_object kept (split_key n) bytes) core log n w f.1;
+          removes = removes-on core (with_file (split_key n) bytes core) refl refl (λ entry e. e) refl w.removes;
         };
         others = f.1;
+        live = live-on core (with_file (split_key n) bytes core) (record { history = refl; marks = refl; moment = omega arith });
       },
       f.2,
     )
@@ -153,8 +183,11 @@ world-file-late kept core log n bytes w u =
           called = All-snoc (IsCalled core.history) core.late (late_file (split_key n) bytes) s.called (split_outside n);
         };
         index = f.0;
+        taken = taken_but kept (with_late kept (split_key n) bytes) core log n w f.1;
+        removes = removes-file core (split_key n) bytes w.removes;
       };
       others = f.1;
+      live = live-on core (calls.with_late (late_file (split_key n) bytes) core) (record { history = refl; marks = refl; moment = omega arith });
     }
   where
     s : StandsFor kept core

@@ -1,5 +1,5 @@
 -- What the calls of a world answer over every store, sound or not: by what the store holds and counts, and what the world keeps.
-use Rattle.std.specs.Prelude.{◌≡◌, ◌⊎◌, ◌+◌, ◌≤◌, ℕ, false, List, [], ◌∷◌, length, map, Some, Result, Ok, Err, IfErr, IfSome, IsErr, IsOk, IsSome, ⊤}
+use Rattle.std.specs.Prelude.{◌≡◌, ◌⊎◌, ◌+◌, ◌≤◌, ℕ, Bool, false, List, [], ◌∷◌, length, map, Some, Result, Ok, Err, IfErr, IfOk, IfSome, IsErr, IsOk, IsSome, ⊤}
 use Rattle.meta_journal.specs.Journal.{IsCorrupt}
 use Rattle.meta_journal.specs.Places.{meta_key, split_key, numbered, HasEntry, Stand}
 use Rattle.meta_journal.specs.declared.entry.Act.{Act}
@@ -18,6 +18,8 @@ use Rattle.source_checkpoint.specs.declared.delta.Part.{Part}
 use Rattle.split_states.specs.declared.facts.RowFacts.{RowFacts}
 use Rattle.index_world.specs.Asked.{FetchesFile, IsFetch, IsInTime, IsUpload, UploadsFile}
 use Rattle.index_world.specs.Calls.{asked_moment}
+use Rattle.index_world.specs.Collected.{SweepsFile}
+use Rattle.index_world.specs.Collecting.{is_swept_by}
 use Rattle.index_world.specs.Config.{reads}
 use Rattle.index_world.specs.Configuration.{index_of}
 use Rattle.index_world.specs.Index.{max_entries}
@@ -38,6 +40,7 @@ pub data Answered : Type 0 where
   upload_answered : (number : ℕ) → (content : List ℕ) → Result Uploaded WorldError → Answered
   publish_answered : (number : ℕ) → Result ℕ WorldError → Answered
   plan_answered : Choice → Result Plan WorldError → Answered
+  sweep_answered : (number : ℕ) → Result Bool WorldError → Answered
   fetch_answered : (number planned_at from len : ℕ) → Result Piece WorldError → Answered
 
 -- ---- an entry and the state
@@ -178,6 +181,8 @@ IsAnswer (stage_answered delta facts result) old new = Tells result old new (λ 
 IsAnswer (upload_answered number content result) old new = IsUpload (split_key number) number result × Tells result old new (UploadsFile (split_key number) content result)
 IsAnswer (publish_answered number result) old new = Tells result old new (λ was now. SaysPublished number result new now) × Followed old new
 IsAnswer (plan_answered choice result) old new = Tells result old new (λ was now. SaysPlanned choice result new now) × Followed old new
+IsAnswer (sweep_answered number result) old new =
+    IfOk result (λ swept. swept ≡ is_swept_by old.meta.last_number old.meta.rows number) × Tells result old new (SweepsFile (split_key number) result)
 IsAnswer (fetch_answered number planned_at from len result) old new =
     IsFetch (split_key number) planned_at result × IfSome (index_of old.meta.config) (λ config. IsInTime (planned_at + config.deletion_grace) new.moment result)
     × Tells result old new (FetchesFile (split_key number) from len result)

@@ -1,6 +1,6 @@
 -- What the calls of the store and of the world do to a core, given the fate of each call. With a calm fate (nothing lands,
 -- nothing fails, memory is there) each is a function of the core alone.
-use Rattle.std.specs.Prelude.{ℕ, ◌+◌, ◌==◌, ◌&&◌, ◌||◌, Bool, true, false, List, [], ◌∷◌, ◌++◌, length, map, min, max, nat_lt, nat_le, remove, slice_get, Option, Some, None, is_some, Result, Ok, Err, ⊤}
+use Rattle.std.specs.Prelude.{ℕ, ◌+◌, ◌==◌, ◌&&◌, ◌||◌, Bool, true, false, List, [], ◌∷◌, ◌++◌, length, map, min, max, nat_lt, nat_le, remove, slice_get, Option, Some, None, is_some, Result, Ok, Err, ⊤, not, filter, bytes_eq}
 use Rattle.meta_journal.specs.Places.{meta_key, split_key}
 use Rattle.meta_journal.specs.Spelling.{spelling}
 use Rattle.meta_journal.specs.declared.entry.Act.{Act}
@@ -353,6 +353,23 @@ file_made call key bytes core =
 abbrev pub upload_made : Fate → ℕ → List ℕ → Core → Gives Trouble ⊤
 upload_made fate number bytes core = file_made fate.first (split_key number) bytes core
 
+-- ---- deleting a file
+
+abbrev pub without_file : List ℕ → Core → Core
+without_file key core = record core { files = filter (λ file. not (bytes_eq file.key key)) core.files }
+
+-- a delete by whether it fails, and whether one that failed took effect
+abbrev pub deleted_by : Bool → Bool → ℕ → List ℕ → Core → Gives Trouble ⊤
+deleted_by true true before key core = gives (Err (store_failed before core)) (without_file key core)
+deleted_by true false before key core = gives (Err (store_failed before core)) core
+deleted_by false at_once before key core = gives (Ok tt) (without_file key core)
+
+-- The delete of a file needs no memory, and is Ok also where nothing stands.
+abbrev pub file_deleted : Call → List ℕ → Core → Gives Trouble ⊤
+file_deleted call key core = deleted_by (may_fail call core.store_faults) call.at_once core.store_faults key (begun call core)
+
+-- ---- fetching a file
+
 abbrev pub got_file : Bool → ℕ → Core → Gives Trouble ⊤
 got_file true before core = gives (Err (store_failed before core)) core
 got_file false before core = gives (Ok tt) core
@@ -405,7 +422,7 @@ with_standing (Some entry) core = taken_in entry core
 
 -- a new life: the moments of the old one are forgotten, and nothing is unsure
 abbrev pub reborn : Core → Core
-reborn core = record core { moment = moment_of (history core.history); unsure = false; marks = [] }
+reborn core = record core { moment = moment_of (history core.history); unsure = false; marks = []; doomed = [] }
 
 abbrev pub read_journal : Core → Core
 read_journal core = reborn (with_standing core.standing core)

@@ -17,6 +17,10 @@ pub data Ask : Type 0 where
   of_publish : (number : ℕ) → Ask
   of_plan : (choice : Choice) → Ask
   of_fetch : (number from len : ℕ) → Ask
+  of_mark_stale : Ask
+  of_doom : Ask
+  of_remove : Ask
+  of_sweep : (number : ℕ) → Ask
 
 -- a call, and what is seen of the index behind it: its history, the moment and the count of faults
 pub record CallMade : Type 0 where

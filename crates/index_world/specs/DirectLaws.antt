@@ -36,11 +36,12 @@ stays_as_is Kept core =
       keeps = record {
         configured = λ config e. e;
         unused = λ number kept u. u;
-        stored = λ number bytes u. u;
-        published = λ number p. p;
         uploaded = λ number bytes u. u;
+        shown = λ number bytes s. s;
         staged = λ number delta facts h. h;
+        given_up = λ number g. g;
       };
+      planned = λ until number bytes p. p;
     }
 
 -- where nobody acted it does

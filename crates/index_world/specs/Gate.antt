@@ -67,6 +67,27 @@ pub record Acts {W E A : Type 0} (Stands : W → Core → Log → Type 0) (one :
   pub goes_on : GoesOn one core after
   pub stands : Stands new after log
 
+-- The same of a call whose core's answer says more than that it was done: what the code answered holds of that and of the core behind.
+abbrev pub SaysWith : {E A B : Type 0} → (WorldError → E → Type 0) → (A → B → Core → Type 0) → Result A WorldError → Result B E → Core → Type 0
+SaysWith is holds (Ok a) (Ok b) after = holds a b after
+SaysWith is holds (Ok a) (Err e) after = ⊥
+SaysWith is holds (Err error) (Ok b) after = ⊥
+SaysWith is holds (Err error) (Err e) after = is error e
+
+pub record ActsWith {W E A B : Type 0} (Stands : W → Core → Log → Type 0) (one : Option ℕ) (call : Fate → Core → Gives E B)
+    (is : WorldError → E → Type 0) (holds : A → B → Core → Type 0) (result : Result A WorldError) (core : Core) (log : Log) (new : W) : Type 0 where
+  pub fate : Fate
+  pub answer : Result B E
+  pub after : Core
+  pub did : call fate core ≡ gives answer after
+  pub says : SaysWith is holds result answer after
+  pub goes_on : GoesOn one core after
+  pub stands : Stands new after log
+
+-- what the code gave is what the core did
+abbrev pub IsGiven : {A : Type 0} → A → A → Core → Type 0
+IsGiven given answer after = given ≡ answer
+
 -- A call of a gate came to its turn behind what other actors did, `Between`, which left unused what the caller owns. There it did this
 -- to the core, and the gate recorded it as its own.
 pub record Does {W E A : Type 0} (Stands : W → Core → Log → Type 0) (Between : Core → Core → Type 0) (Owns : W → ℕ → Type 0) (Adds : W → List CallMade → W → Type 0) (one : Option ℕ) (ask : Ask) (call : Fate → Core → Gives E ⊤)
@@ -75,6 +96,16 @@ pub record Does {W E A : Type 0} (Stands : W → Core → Log → Type 0) (Betwe
   pub passed : Between core mid
   pub owned : (number : ℕ) → Owns old number → IsUnusedIn core number → IsUnusedIn mid number
   pub acts : Acts Stands one call is holds result mid log new
+  pub made : List CallMade
+  pub own : Adds old made new
+  pub once : IsRecorded ask mid acts.after (IsShort result) made
+
+pub record DoesWith {W E A B : Type 0} (Stands : W → Core → Log → Type 0) (Between : Core → Core → Type 0) (Owns : W → ℕ → Type 0) (Adds : W → List CallMade → W → Type 0) (one : Option ℕ) (ask : Ask) (call : Fate → Core → Gives E B)
+    (is : WorldError → E → Type 0) (holds : A → B → Core → Type 0) (result : Result A WorldError) (core : Core) (log : Log) (old new : W) : Type 0 where
+  pub mid : Core
+  pub passed : Between core mid
+  pub owned : (number : ℕ) → Owns old number → IsUnusedIn core number → IsUnusedIn mid number
+  pub acts : ActsWith Stands one call is holds result mid log new
   pub made : List CallMade
   pub own : Adds old made new
   pub once : IsRecorded ask mid acts.after (IsShort result) made

@@ -1,8 +1,13 @@
--- What one store call leaves of an index and of the numbers in hand.
-use Rattle.std.specs.Prelude.{◌≡◌, ◌⊎◌, ℕ, true, List, [], ◌∷◌, ◌++◌, Result, Ok, Err}
+-- What one store call leaves of an index and of the numbers in hand, where files may be deleted.
+use Rattle.std.specs.Prelude.{◌≡◌, ◌⊎◌, ℕ, true, List, [], ◌∷◌, ◌++◌, None, Result, Ok, Err}
+use Rattle.std.specs.FinMap.{get}
 use Rattle.std.specs.List.{AllByRecursion}
+use Rattle.byte_fields.specs.declared.calls.Failed.{Failed}
+use Rattle.meta_journal.specs.Places.{split_key}
 use Rattle.meta_journal.specs.declared.entry.Act.TheVariants.{Stage}
 use Rattle.meta_journal.specs.declared.entry.Entry.{Entry}
+use Rattle.meta_store.specs.History.{history}
+use Rattle.meta_store.specs.Numbers.{is_shown}
 use Rattle.object_store.specs.Store.{State}
 use Rattle.object_store.specs.declared.store.CreateError.{CreateError}
 use Rattle.object_store.specs.declared.store.CreateError.TheVariants as creates
@@ -10,29 +15,33 @@ use Rattle.source_checkpoint.specs.declared.delta.Part.{Part}
 use Rattle.source_log.specs.Log.{Log}
 use Rattle.split_states.specs.declared.facts.RowFacts.{RowFacts}
 use Rattle.index_world.specs.Configuration.{StaysConfigured}
-use Rattle.index_world.specs.Index.{IsIndexOf, MayEnter, IsBelowEnd, IsUnused, IsUploaded, IsGivenUp, HasStaged, is_meta, was_published}
+use Rattle.index_world.specs.Index.{IsIndexOf, MayEnter, IsBelowEnd, IsUnused, IsStored, IsFound, IsLeft, IsGivenUp, HasStaged, is_meta}
 
 -- no late create of the journal can come to stand any more
 abbrev pub NoneAtEnd : List (List ℕ × List ℕ) → List Entry → Type 0
 NoneAtEnd late entries = AllByRecursion (λ object. is_meta object.0 ≡ true → IsBelowEnd entries object) late
 
--- Numbers in hand and the configuration stay as they were, where the journal went on to `more`.
-pub record KeepsHeld (old new : State) (entries more : List Entry) : Type 0 where
+-- Numbers in hand and the configuration stay as they were, where the journal went on to `more`; of unused numbers those that
+-- are kept, and of files that stand those that stay.
+pub record KeepsFor (Kept Stays : ℕ → Type 0) (old new : State) (entries more : List Entry) : Type 0 where
   pub configured : StaysConfigured entries more
-  pub unused : (number : ℕ) → IsUnused old entries number → IsUnused new more number
-  pub uploaded : (number : ℕ) (bytes : List ℕ) → IsUploaded old entries number bytes → IsUploaded new more number bytes
-  pub published : (number : ℕ) → was_published entries number ≡ true → was_published more number ≡ true
+  pub unused : (number : ℕ) → Kept number → IsUnused old entries number → IsUnused new more number
+  pub found : (number : ℕ) (bytes : List ℕ) → IsFound old entries number bytes → IsFound new more number bytes
+  pub stored : (number : ℕ) (bytes : List ℕ) → Stays number → IsStored old entries number bytes → IsStored new more number bytes
+  pub left : (number : ℕ) (bytes : List ℕ) → IsLeft old entries number bytes → IsLeft new more number bytes
+  pub shown : (number : ℕ) → is_shown (history entries) number ≡ true → is_shown (history more) number ≡ true
   pub staged : (number : ℕ) (delta : List Part) (facts : RowFacts) → HasStaged entries number delta facts → HasStaged more number delta facts
   pub given_up : (number : ℕ) → IsGivenUp entries number → IsGivenUp more number
 
--- ... but for this one
-pub record KeepsOthers (old new : State) (entries more : List Entry) (number : ℕ) : Type 0 where
-  pub configured : StaysConfigured entries more
-  pub unused : (other : ℕ) → (other ≡ number → ⊥) → IsUnused old entries other → IsUnused new more other
-  pub uploaded : (other : ℕ) (bytes : List ℕ) → IsUploaded old entries other bytes → IsUploaded new more other bytes
-  pub published : (other : ℕ) → was_published entries other ≡ true → was_published more other ≡ true
-  pub staged : (other : ℕ) (delta : List Part) (facts : RowFacts) → HasStaged entries other delta facts → HasStaged more other delta facts
-  pub given_up : (other : ℕ) → IsGivenUp entries other → IsGivenUp more other
+-- all numbers, and all but one
+abbrev pub All : ℕ → Type 0
+All number = Unit {0}
+
+abbrev pub But : ℕ → ℕ → Type 0
+But one number = number ≡ one → ⊥
+
+abbrev pub KeepsHeld : State → State → List Entry → List Entry → Type 0
+KeepsHeld old new entries more = KeepsFor All All old new entries more
 
 -- the store is still an index of this journal, and what might enter still may
 pub record Still (old new : State) (entries : List Entry) (log : Log) : Type 0 where
@@ -63,24 +72,26 @@ AfterCreate (Err creates.Exists) old new entries log entry = Adopts old new entr
 AfterCreate (Err creates.Failed) old new entries log entry = Enters old new entries log entry ⊎ AfterLanding old new entries log
 AfterCreate (Err (creates.Memory e)) old new entries log entry = AfterLanding old new entries log
 
--- the store is an index of a journal that is this one, or this one and an entry that landed
-pub record Goes (new : State) (entries : List Entry) (log : Log) (more : List Entry) : Type 0 where
+-- the store is an index of a journal that is this one, or this one and an entry that landed; what might enter an unchanged one
+-- still may, and numbers in hand stay
+pub record Goes (Kept Stays : ℕ → Type 0) (old new : State) (entries : List Entry) (log : Log) : Type 0 where
+  pub more : List Entry
   pub grown : (more ≡ entries) ⊎ ((entry : Entry) × (more ≡ entries ++ entry ∷ []) × NoneAtEnd new.late more)
   pub index : IsIndexOf new more log
-
-pub record AfterFile (old new : State) (entries : List Entry) (log : Log) (number : ℕ) : Type 0 where
-  pub more : List Entry
-  pub goes : Goes new entries log more
-  pub held : KeepsOthers old new entries more number
+  pub held : KeepsFor Kept Stays old new entries more
 
 -- an upload of these bytes under a number in hand, by its answer
 abbrev pub AfterUpload : Result (Unit {0}) CreateError → State → State → List Entry → Log → ℕ → List ℕ → Type 0
-AfterUpload (Ok done) old new entries log number bytes =
-    (after : AfterFile old new entries log number) × IsUploaded new after.more number bytes
+AfterUpload (Ok done) old new entries log number bytes = (after : Goes (But number) All old new entries log) × IsStored new after.more number bytes
 AfterUpload (Err creates.Exists) old new entries log number bytes = ⊥
-AfterUpload (Err creates.Failed) old new entries log number bytes = AfterFile old new entries log number
-AfterUpload (Err (creates.Memory e)) old new entries log number bytes =
-    (after : AfterFile old new entries log number) × IsUnused new after.more number
+AfterUpload (Err creates.Failed) old new entries log number bytes = Goes (But number) All old new entries log
+AfterUpload (Err (creates.Memory e)) old new entries log number bytes = (after : Goes (But number) All old new entries log) × IsUnused new after.more number
+
+-- a delete of a number's file, by its answer: behind Ok it is gone. What may be deleted is said of the journal that was known as
+-- the call began.
+abbrev pub AfterDelete : Result (Unit {0}) Failed → State → State → List Entry → Log → ℕ → Type 0
+AfterDelete (Ok done) old new entries log number = Goes All (But number) old new entries log × (get new.objects (split_key number) ≡ None)
+AfterDelete (Err e) old new entries log number = Goes All (But number) old new entries log
 
 -- what a load read, and what its store is then
 pub record Loads (mid new : State) (log : Log) (read : List Entry) : Type 0 where

@@ -1,30 +1,32 @@
--- When a store is a sound index over a log.
-use Rattle.std.specs.Prelude.{◌≡◌, ◌⊎◌, ℕ, ◌<◌, ◌≤◌, ◌==◌, Bool, true, false, nat_eq, List, [], ◌∷◌, ◌++◌, length, map, IsSome, Option, Some, None, ⊤}
-use Rattle.std.specs.List.{AllByRecursion, list_any, starts_with}
+-- When a store is a sound index over a log: with all ten kinds of entries, and files that may be deleted.
+use Rattle.std.specs.Prelude.{◌≡◌, ◌⊎◌, ℕ, ◌<◌, ◌≤◌, Bool, true, false, nat_eq, List, [], ◌∷◌, ◌++◌, length, map, IsSome, Option, Some, None, ⊤}
+use Rattle.std.specs.List.{AllByRecursion, starts_with}
 use Rattle.std.specs.FinMap.{get}
 use Rattle.meta_journal.specs.Places.{meta_prefix, split_prefix, meta_key, split_key, IsJournal}
 use Rattle.meta_journal.specs.Spelling.{Spells, CanSpell}
 use Rattle.meta_journal.specs.declared.entry.Act.{Act}
 use Rattle.meta_journal.specs.declared.entry.Act.TheVariants.{Fence, Create, Stage, Publish, Replace, Raise, Task, MarkStaged, Remove, Retire}
 use Rattle.meta_journal.specs.declared.entry.Entry.{Entry}
-use Rattle.meta_store.specs.History.{history, delta_of, staged_numbers, published_numbers}
+use Rattle.meta_store.specs.History.{History, history, delta_of}
 use Rattle.delete_tasks.specs.Removes.{DeleteTask as KeptTask}
 use Rattle.meta_store.specs.Ledgers.{ledger}
 use Rattle.meta_store.specs.Rows.{rows}
+use Rattle.meta_store.specs.Numbers.{is_shown}
+pub use Rattle.meta_store.specs.Numbers.{has_staged, IsGivenUp, HasStaged}
 use Rattle.meta_store.specs.Readings.{config_of, reading_of}
 use Rattle.meta_store.specs.State.{Legal, MayFollow, state_of}
 use Rattle.object_store.specs.Store.{State, with_object}
 use Rattle.source_checkpoint.specs.Deltas.{range_of}
 use Rattle.source_checkpoint.specs.declared.delta.Part.{Part}
 use Rattle.source_log.specs.Log.{Log, records_of}
-use Rattle.split_states.specs.Rows.{row_at}
+use Rattle.split_states.specs.Rows.{row_at, joined_spans, raised_row}
 use Rattle.split_states.specs.declared.facts.RowFacts.{RowFacts}
 use Rattle.split_states.specs.declared.rows.Row.{Row}
-use Rattle.split_states.specs.declared.rows.RowState.TheVariants.{Published, Marked}
+use Rattle.split_states.specs.declared.rows.RowState.TheVariants.{Staged, Published, Marked}
 use Rattle.index_config.specs.declared.config.IndexConfig.{IndexConfig}
 use Rattle.index_world.specs.Config.{reads}
 use Rattle.index_world.specs.Configuration.{configuration}
-use Rattle.index_world.specs.Seen.{contents, accepted_in, rejected_in}
+use Rattle.index_world.specs.Seen.{contents, replaced, accepted_in, rejected_in}
 use Rattle.split_bundle.specs.Splits.{IsSplit}
 use Rattle.index_world.specs.SplitFile.{file_of, facts_of, AreSplit}
 
@@ -50,42 +52,32 @@ pub record IsRowSound (kept : State) (config : IndexConfig) (tasks : List KeptTa
   pub facts : row.facts ≡ facts_of config (contents config tasks row log) (rejected_in config log (ranges_of row))
   pub split : AreSplit config (contents config tasks row log)
 
--- where the row is published, it is sound
-abbrev pub IsRowKept : State → IndexConfig → List KeptTask → Log → Row → Type 0
-IsRowKept kept config tasks log row = row.state ≡ Published → IsRowSound kept config tasks log row
+-- the file is gone, or still that of the row's contents
+abbrev pub IsFileLeft : State → IndexConfig → List KeptTask → Log → Row → Type 0
+IsFileLeft kept config tasks log row =
+    (get kept.objects (split_key row.number) ≡ None) ⊎ (get kept.objects (split_key row.number) ≡ Some (file_of config (contents config tasks row log)))
+
+-- A published row is sound. Under a marked row that was ever shown nothing else stands. Of a marked row that was never shown the file
+-- may stand, be late, or be gone.
+pub record IsRowKept (kept : State) (config : IndexConfig) (tasks : List KeptTask) (log : Log) (h : History) (row : Row) : Type 0 where
+  pub published : row.state ≡ Published → IsRowSound kept config tasks log row
+  pub marked : row.state ≡ Marked → is_shown h row.number ≡ true → IsFileLeft kept config tasks log row
+  pub fresh : row.state ≡ Staged → is_shown h row.number ≡ false
 
 -- under the configuration of these entries, if they have one, each row is kept
-abbrev pub AreRowsKept : State → Option IndexConfig → List KeptTask → Log → List Row → Type 0
-AreRowsKept kept configured tasks log list =
-    (config : IndexConfig) → configured ≡ Some config → AllByRecursion (IsRowKept kept config tasks log) list
+abbrev pub AreRowsKept : State → Option IndexConfig → List KeptTask → Log → History → List Row → Type 0
+AreRowsKept kept configured tasks log h list =
+    (config : IndexConfig) → configured ≡ Some config → AllByRecursion (IsRowKept kept config tasks log h) list
+
+-- The rows of what a life took in are kept too, whatever stands unread behind it and may have marked them: plans go by these.
+abbrev pub IsTaken : State → List Entry → Log → Type 0
+IsTaken kept entries log =
+    AreRowsKept kept (configuration entries) (ledger reads (history entries)).tasks log (history entries) (rows (history entries))
 
 -- where the row is published, its file is a split of its contents
 abbrev pub IsSplitKept : State → IndexConfig → List KeptTask → Log → Row → Type 0
 IsSplitKept kept config tasks log row =
     row.state ≡ Published → (bytes : List ℕ) × (get kept.objects (split_key row.number) ≡ Some bytes) × IsSplit config.schema bytes (contents config tasks row log)
-
--- ---- what the entries say of numbers
-
--- whether a number was ever staged
-abbrev pub has_staged : List Entry → ℕ → Bool
-has_staged entries number = list_any (λ n. n == number) (staged_numbers (history entries))
-
--- whether a row of this number was ever published, by the entries and not by the rows
-abbrev pub was_published : List Entry → ℕ → Bool
-was_published entries number = list_any (λ n. n == number) (published_numbers (history entries))
-
--- the kinds of entries that this index has so far
-abbrev pub IsBuilt : Act → Type 0
-IsBuilt Fence = ⊤
-IsBuilt (Create config) = ⊤
-IsBuilt (Stage number delta facts) = ⊤
-IsBuilt (Publish number) = ⊤
-IsBuilt (Replace new old upto) = ⊥
-IsBuilt (Raise number upto) = ⊥
-IsBuilt (Task opstamp text fields times) = ⊥
-IsBuilt (MarkStaged numbers) = ⊥
-IsBuilt (Remove numbers) = ⊥
-IsBuilt (Retire numbers) = ⊥
 
 -- ---- what stands
 
@@ -93,21 +85,20 @@ IsBuilt (Retire numbers) = ⊥
 abbrev pub IsStagedKey : List Entry → List ℕ → Type 0
 IsStagedKey entries key = (number : ℕ) × (key ≡ split_key number) × (has_staged entries number ≡ true)
 
--- a late create of a split has a number that was staged and never published
+-- a late create of a split has a number that was staged and never shown
 abbrev pub IsLateKey : List Entry → List ℕ × List ℕ → Type 0
 IsLateKey entries late = is_split late.0 ≡ true →
-    (number : ℕ) × (late.0 ≡ split_key number) × (has_staged entries number ≡ true) × (was_published entries number ≡ false)
+    (number : ℕ) × (late.0 ≡ split_key number) × (has_staged entries number ≡ true) × (is_shown (history entries) number ≡ false)
 
 -- the parts that speak of what stands
 pub record Stands (kept : State) (entries : List Entry) (log : Log) : Type 0 where
   pub journal : IsJournal kept entries
-  pub built : AllByRecursion (λ e. IsBuilt e.act) entries
   pub legal : Legal reads (history entries)
   pub within : length entries ≤ max_entries
   pub no_other : (key : List ℕ) → is_meta key ≡ true → IsSome (get kept.objects key) →
       (number : ℕ) × (number < length entries) × (key ≡ meta_key number)
   pub checkpoints : (name : List ℕ) → (ledger reads (history entries)).checkpoints name ≤ length (records_of log name)
-  pub rows : AreRowsKept kept (configuration entries) (ledger reads (history entries)).tasks log (rows (history entries))
+  pub rows : IsTaken kept entries log
   pub split_keys : (key : List ℕ) → is_split key ≡ true → IsSome (get kept.objects key) → IsStagedKey entries key
   pub late_keys : AllByRecursion (IsLateKey entries) kept.late
 
@@ -130,18 +121,35 @@ pub record MayPublish (kept : State) (entries : List Entry) (log : Log) (number 
   pub split : AreSplit config (accepted_in config log (delta_of (history entries) number))
   pub not_late : IsNotLate kept (split_key number)
 
--- nothing is asked of a file but by a Publish
+-- What a Replace needs: the file of the new row stands for what the old rows hold and no task up to `upto` covers, in the order of
+-- their spans; the facts are its, with the records of all their ranges that are no documents; and no create of it is late.
+pub record MayReplace (kept : State) (entries : List Entry) (log : Log) (new : ℕ) (old : List ℕ) (upto : ℕ) : Type 0 where
+  pub config : IndexConfig
+  pub configured : configuration entries ≡ Some config
+  pub file : get kept.objects (split_key new) ≡ Some (file_of config (replaced config (ledger reads (history entries)).tasks upto (joined_spans (rows (history entries)) old) log))
+  pub facts : (row : Row) → row_at (rows (history entries)) new ≡ Some row →
+      row.facts ≡ facts_of config (replaced config (ledger reads (history entries)).tasks upto (joined_spans (rows (history entries)) old) log)
+      (rejected_in config log (map range_of (joined_spans (rows (history entries)) old)))
+  pub split : AreSplit config (replaced config (ledger reads (history entries)).tasks upto (joined_spans (rows (history entries)) old) log)
+  pub not_late : IsNotLate kept (split_key new)
+
+-- what a Raise needs: what the row holds is as before
+abbrev pub LeavesContents : List Entry → Log → (number upto : ℕ) → Type 0
+LeavesContents entries log number upto = (config : IndexConfig) (row : Row) → configuration entries ≡ Some config → row_at (rows (history entries)) number ≡ Some row →
+    contents config (ledger reads (history entries)).tasks (raised_row upto row) log ≡ contents config (ledger reads (history entries)).tasks row log
+
+-- nothing is asked of a file but by a Publish and a Replace, and of contents by a Raise
 abbrev pub HasFile : State → List Entry → Log → Act → Type 0
 HasFile kept entries log Fence = ⊤
 HasFile kept entries log (Create config) = ⊤
 HasFile kept entries log (Stage number delta facts) = ⊤
 HasFile kept entries log (Publish number) = MayPublish kept entries log number
-HasFile kept entries log (Replace new old upto) = ⊥
-HasFile kept entries log (Raise number upto) = ⊥
-HasFile kept entries log (Task opstamp text fields times) = ⊥
-HasFile kept entries log (MarkStaged numbers) = ⊥
-HasFile kept entries log (Remove numbers) = ⊥
-HasFile kept entries log (Retire numbers) = ⊥
+HasFile kept entries log (Replace new old upto) = MayReplace kept entries log new old upto
+HasFile kept entries log (Raise number upto) = LeavesContents entries log number upto
+HasFile kept entries log (Task opstamp text fields times) = ⊤
+HasFile kept entries log (MarkStaged numbers) = ⊤
+HasFile kept entries log (Remove numbers) = ⊤
+HasFile kept entries log (Retire numbers) = ⊤
 
 -- the entry is allowed behind these
 abbrev pub IsAllowed : List Entry → Entry → Type 0
@@ -180,29 +188,29 @@ IsIndex kept log = (entries : List Entry) × IsIndexOf kept entries log
 
 -- ---- numbers in hand
 
--- a staged value in hand: the key neither stands nor is late
+-- A staged value in hand: never shown, and its key neither stands nor is late. It stays so where its row is marked or removed.
 pub record IsUnused (kept : State) (entries : List Entry) (number : ℕ) : Type 0 where
   pub staged : has_staged entries number ≡ true
-  pub unpublished : was_published entries number ≡ false
+  pub unshown : is_shown (history entries) number ≡ false
   pub absent : get kept.objects (split_key number) ≡ None
   pub not_late : IsNotLate kept (split_key number)
 
--- an uploaded value in hand: the file stands, and no create of it is late
-pub record IsUploaded (kept : State) (entries : List Entry) (number : ℕ) (bytes : List ℕ) : Type 0 where
+-- the file stands with these bytes, and no create of it is late
+pub record IsStored (kept : State) (entries : List Entry) (number : ℕ) (bytes : List ℕ) : Type 0 where
   pub staged : has_staged entries number ≡ true
   pub file : get kept.objects (split_key number) ≡ Some bytes
   pub not_late : IsNotLate kept (split_key number)
 
--- the row of a staged number was marked, or is gone
-pub record IsGivenUp (entries : List Entry) (number : ℕ) : Type 0 where
-  pub staged : has_staged entries number ≡ true
-  pub row : (row : Row) → row_at (rows (history entries)) number ≡ Some row → row.state ≡ Marked
+-- An uploaded value in hand, and a file that was ever shown: it stands, or its row was marked or is gone.
+abbrev pub IsFound : State → List Entry → (number : ℕ) → List ℕ → Type 0
+IsFound kept entries number bytes = IsStored kept entries number bytes ⊎ IsGivenUp entries number
 
--- what a number in hand was staged with
-pub record HasStaged (entries : List Entry) (number : ℕ) (delta : List Part) (facts : RowFacts) : Type 0 where
-  pub staged : has_staged entries number ≡ true
-  pub noted : delta_of (history entries) number ≡ delta
-  pub kept : (row : Row) → row_at (rows (history entries)) number ≡ Some row → row.facts ≡ facts
+-- A file that was shown under a number: what stands there is this file, if something does, and nothing else ever comes there. So what
+-- is kept of it (a footer) is right as long as a fetch finds it.
+pub record IsLeft (kept : State) (entries : List Entry) (number : ℕ) (bytes : List ℕ) : Type 0 where
+  pub shown : is_shown (history entries) number ≡ true
+  pub left : (get kept.objects (split_key number) ≡ None) ⊎ (get kept.objects (split_key number) ≡ Some bytes)
+  pub not_late : IsNotLate kept (split_key number)
 
 -- what a step knows of the file that it built from the log under a configuration
 pub record IsMade (config : IndexConfig) (log : Log) (delta : List Part) (facts : RowFacts) (bytes : List ℕ) : Type 0 where

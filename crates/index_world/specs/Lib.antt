@@ -27,3 +27,7 @@ pub mod Saying
 pub mod CallsMade
 pub mod DirectLaws
 pub mod Alike
+pub mod Releases
+pub mod Deleted
+pub mod Collecting
+pub mod Collected

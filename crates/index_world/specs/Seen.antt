@@ -1,12 +1,12 @@
 -- What this index takes of the log, and what is seen of it.
-use Rattle.std.specs.Prelude.{ℕ, suc, Bool, false, List, [], ◌∷◌, length, Option, Some, None, ◌-◌, ◌+◌, take, filter, flat_map}
+use Rattle.std.specs.Prelude.{ℕ, suc, List, [], ◌∷◌, length, Option, Some, None, ◌-◌, ◌+◌, take, filter, flat_map}
 use Rattle.doc_value.specs.declared.doc.DocField.{DocField}
 use Rattle.index_config.specs.declared.config.IndexConfig.{IndexConfig}
 use Rattle.source_checkpoint.specs.declared.delta.Part.{Part}
 use Rattle.source_log.specs.Log.{Log}
 use Rattle.meta_journal.specs.declared.entry.Entry.{Entry}
 use Rattle.split_states.specs.declared.rows.Row.{Row}
-use Rattle.delete_tasks.specs.Removes.{DeleteTask}
+use Rattle.delete_tasks.specs.Removes.{DeleteTask, removes}
 use Rattle.delete_tasks.specs.Ledger.{Ledger}
 use Rattle.delete_tasks.specs.Removed.{Place, lies_in}
 use Rattle.meta_store.specs.History.{history}
@@ -14,6 +14,8 @@ use Rattle.meta_store.specs.Ledgers.{ledger}
 use Rattle.index_world.specs.Config.{reads}
 use Rattle.meta_store.specs.Contents.{Meaning}
 use Rattle.meta_store.specs.Contents as by
+use Rattle.meta_store.specs.Left.{left_over}
+use Rattle.source_checkpoint.specs.declared.span.Span.{Span}
 use Rattle.split_bundle.specs.declared.placed.Placed.{Placed}
 use Rattle.index_world.specs.Accepted.{accepted}
 use Rattle.index_world.specs.Configuration.{configuration, config_or}
@@ -21,12 +23,9 @@ use Rattle.index_world.specs.Configuration.{configuration, config_or}
 abbrev pub place_of : Placed → Place
 place_of placed = record { partition = placed.partition; offset = placed.offset }
 
--- no task matches a document yet
-abbrev pub matches_task : Placed → DeleteTask → Bool
-matches_task placed task = false
-
-abbrev pub meaning : Meaning Placed
-meaning = record { place = place_of; matches = matches_task }
+-- a task matches a document where it removes it, by the schema of the configuration
+abbrev pub meaning : IndexConfig → Meaning Placed
+meaning config = record { place = place_of; matches = λ x task. removes config.schema x.doc task }
 
 -- ---- the accepted records of a log
 
@@ -63,11 +62,15 @@ rejected_in config log delta = record_count delta - length (accepted_in config l
 
 -- the accepted records of a row's spans, without those that one of these tasks removed
 abbrev pub contents : IndexConfig → List DeleteTask → Row → Log → List Placed
-contents config tasks row log = by.contents meaning tasks (accepted_records config log) row
+contents config tasks row log = by.contents (meaning config) tasks (accepted_records config log) row
+
+-- what a replacement of rows with these spans holds, raised up to a task: what they held without what is covered up to there
+abbrev pub replaced : IndexConfig → List DeleteTask → (upto : ℕ) → List Span → Log → List Placed
+replaced config tasks upto spans log = left_over (meaning config) tasks (accepted_records config log) upto spans
 
 -- the accepted records below the checkpoints, by partition and then offset, without the removed ones
 abbrev pub visible : IndexConfig → Ledger → Log → List Placed
-visible config l log = by.visible meaning l (accepted_records config log)
+visible config l log = by.visible (meaning config) l (accepted_records config log)
 
 -- what is visible at a revision: behind that many entries, under the configuration that they name. Before there is one
 -- nothing is below a checkpoint.

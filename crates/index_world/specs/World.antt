@@ -6,15 +6,20 @@ use Rattle.object_store.specs.Store.{State}
 use Rattle.source_log.specs.Log.{Log}
 use Rattle.meta_store.specs.State as meta
 use Rattle.index_world.specs.Config.{reads}
-use Rattle.index_world.specs.Core.{Core, KeepsFor, IsOther, journal_of}
-use Rattle.index_world.specs.Index.{IsIndexOf, max_entries}
+use Rattle.index_world.specs.Core.{Core, KeepsFor, IsOther, IsPlannedIn, journal_of}
+use Rattle.index_world.specs.Index.{IsIndexOf, IsTaken, max_entries}
+use Rattle.index_world.specs.Releases.{RemovesInTime}
 use Rattle.index_world.specs.Standing.{StandsFor}
 
 -- THE WORLD'S INVARIANT: the core stands for the store, and the store is an index whose journal is the core's
--- history with what stands unread behind it.
+-- history with what stands unread behind it. The rows of the history are kept too: what stands unread may have marked them, and
+-- plans go by the history.
 pub record IsWorld (kept : State) (core : Core) (log : Log) : Type 0 where
   pub stands_for : StandsFor kept core
   pub index : IsIndexOf kept (journal_of core) log
+  pub taken : IsTaken kept core.history log
+  -- what may still be taken in removes rows alone whose grace has passed, also behind the moment where their marking was taken in
+  pub removes : RemovesInTime core
 
 -- The moment is at least those of the history, and the format can spell it. Only a number below the limit is unsure.
 pub record IsTimely (core : Core) : Type 0 where
@@ -52,12 +57,14 @@ pub record WorldStands (keeping : Keeping) (core : Core) (log : Log) : Type 0 wh
   -- an index that was opened has an entry
   pub opened : 0 < length core.history
 
--- the core went on: its history grew at its end, its counts didn't fall, and numbers in hand stay, of unused ones those that are kept
+-- The core went on: its history grew at its end, its counts didn't fall, numbers in hand stay, of unused ones those that are kept, and
+-- planned files stand as long as they were to.
 pub record GoesFor (Kept : ℕ → Type 0) (core after : Core) : Type 0 where
   pub grown : (more : List Entry) × (after.history ≡ core.history ++ more)
   pub faults : core.store_faults ≤ after.store_faults
   pub moment : core.moment ≤ after.moment
   pub keeps : KeepsFor Kept core after
+  pub planned : (until number : ℕ) (bytes : List ℕ) → IsPlannedIn core until number bytes → IsPlannedIn after until number bytes
 
 -- all but this one
 abbrev pub GoesOn : Option ℕ → Core → Core → Type 0

@@ -118,6 +118,10 @@ impl<S: ObjectStore, C: SteadyClock> Gate for Direct<S, C> {
         self.world.upload(alloc, staged, content)
     }
 
+    fn sweep(&mut self, _alloc: Global, number: u64) -> Result<bool, WorldError> {
+        self.world.sweep(number)
+    }
+
     fn publish(&mut self, alloc: Global, uploaded: Uploaded) -> Result<u64, WorldError> {
         self.world.publish(alloc, uploaded)
     }

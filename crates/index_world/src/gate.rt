@@ -7,12 +7,14 @@ ghost use Rattle.meta_journal.specs.Spelling.{CanSpellFacts};
 ghost use Rattle.source_log.specs.Log.{Log};
 ghost use Rattle.meta_journal.specs.Places.{split_key};
 ghost use Rattle.object_store.specs.Store.{State, WhereTold};
-ghost use Rattle.index_world.specs.Answering.{Answered, marks_answered, moment_answered, stage_answered, upload_answered, publish_answered, plan_answered, fetch_answered};
+ghost use Rattle.index_world.specs.Answering.{Answered, marks_answered, moment_answered, stage_answered, upload_answered, publish_answered, plan_answered, fetch_answered, sweep_answered};
 ghost use Rattle.index_world.specs.Asked.{Behind, FetchesFile, IsFetch, IsUpload, UploadsFile};
 ghost use Rattle.index_world.specs.Calls.{asked, looked, asked_and_looked, fetched_from, upload_made};
-ghost use Rattle.index_world.specs.CallsMade.{CallMade, of_checkpoints, of_moment, of_stage, of_upload, of_publish, of_plan, of_fetch};
+ghost use Rattle.index_world.specs.CallsMade.{CallMade, of_checkpoints, of_moment, of_stage, of_upload, of_publish, of_plan, of_fetch, of_sweep};
 ghost use Rattle.index_world.specs.Core.{Core, IsConfigured, IsUnusedIn, Nobody};
-ghost use Rattle.index_world.specs.Gate.{Does, fetched_more, grace_of, IsSoundCore, IsTrouble, IsUnmade, IsUnfetched, AreMarks, IsMoment, stage_call, WasStaged, WasUploaded, publish_call, IsPublishable, IsRevision, IsPlan, IsPieceGiven};
+ghost use Rattle.index_world.specs.Collected.{SweepsFile};
+ghost use Rattle.index_world.specs.Collecting.{sweep_call};
+ghost use Rattle.index_world.specs.Gate.{Does, DoesWith, IsGiven, fetched_more, grace_of, IsSoundCore, IsTrouble, IsUnmade, IsUnfetched, AreMarks, IsMoment, stage_call, WasStaged, WasUploaded, publish_call, IsPublishable, IsRevision, IsPlan, IsPieceGiven};
 ghost use Rattle.index_world.specs.World.{GoesFor};
 ghost use Rattle.meta_store.specs.declared.planning.PlanRow.{PlanRow};
 
@@ -118,6 +120,17 @@ pub trait Gate {
         ensures step { (core : Core) (log : Log) → Stands self.old core log → IsUnusedIn core staged.number →
             Does Stands Between Owns Adds (Some staged.number) (of_upload staged.number content.now) (λ fate c. upload_made fate staged.number content.now c) IsTrouble
             (WasUploaded staged.number content.now) result core log self.old self.new };
+
+    /// Deletes the file of a number that was staged and whose row is gone, and says whether it is such a number: of another one nothing
+    /// is done, and no call of the store is made.
+    fn sweep(&mut self, alloc: Global, number: u64) -> Result<bool, WorldError>
+        ensures later { since self.old self.new }
+        ensures answered { Answers self.old (sweep_answered number result) self.new }
+        // What any store that tells had done to it.
+        ensures answers { WhereTold (told self.old) (told self.new) (Behind (SweepsFile (split_key number) result)) }
+        ensures same { bytes_fetched self.new ≡ bytes_fetched self.old }
+        ensures step { (core : Core) (log : Log) → Stands self.old core log →
+            DoesWith Stands Between Owns Adds None (of_sweep number) (sweep_call number) IsTrouble IsGiven result core log self.old self.new };
 
     /// Publishes an uploaded file: its checkpoints move with it. Gives the revision.
     fn publish(&mut self, alloc: Global, uploaded: Uploaded) -> Result<u64, WorldError>

@@ -6,27 +6,39 @@ ghost use Rattle.std.specs.List.{AllByRecursion};
 ghost use Rattle.meta_journal.specs.declared.entry.Entry.{Entry};
 ghost use Rattle.meta_journal.specs.Places.{meta_key, split_key, IsJournal};
 ghost use Rattle.meta_journal.specs.Spelling.{Spells};
-ghost use Rattle.object_store.specs.Store.{State, landed, with_object, with_late, HasLanded, LandsThen, Creates};
+ghost use Rattle.object_store.specs.Store.{State, landed, with_object, with_late, HasLanded, LandsThen, Creates, Deletes};
 ghost use Rattle.object_store.specs.declared.store.CreateError.{CreateError};
 ghost use Rattle.source_log.specs.Log.{Log, IsLog};
 ghost use Rattle.index_world.specs.Index.{IsIndexOf, IsSplitKept, IsWholeIndexOf, MayEnter, IsUnused};
-ghost use Rattle.std.specs.Prelude.{None, Some, Bool, true, false, ◌<◌, ◌++◌, ◌∷◌};
-ghost use Rattle.meta_store.specs.History.{moment_of, history as told};
+ghost use Rattle.std.specs.Prelude.{IsErr, None, Some, Bool, true, false, ◌<◌, ◌≤◌, ◌+◌, ◌++◌, ◌∷◌};
+ghost use Rattle.meta_store.specs.History.{moment_of, last_number, history as told};
 ghost use Rattle.meta_store.specs.Ledgers.{ledger};
 ghost use Rattle.meta_store.specs.Rows.{rows};
 ghost use Rattle.meta_store.specs.State.{Legal};
 ghost use Rattle.source_checkpoint.specs.declared.delta.Part.{Part};
+ghost use Rattle.byte_fields.specs.declared.calls.Failed.{Failed};
+ghost use Rattle.split_states.specs.Rows.{row_at};
 ghost use Rattle.split_states.specs.declared.facts.RowFacts.{RowFacts};
+ghost use Rattle.split_states.specs.declared.rows.Row.{Row};
+ghost use Rattle.split_states.specs.declared.rows.RowState.TheVariants.{Published};
+ghost use Rattle.index_world.specs.Seen.{contents};
+ghost use Rattle.index_world.specs.SplitFile.{file_of};
 ghost use Rattle.index_world.specs.Calls.{all_landed, fence_of, taken_in, asked_clock};
 ghost use Rattle.index_config.specs.declared.config.IndexConfig.{IndexConfig};
 ghost use Rattle.index_world.specs.Config.{reads};
 ghost use Rattle.index_world.specs.Configuration.{configuration, StaysConfigured};
-ghost use Rattle.index_world.specs.Core.{Core};
-ghost use Rattle.index_world.specs.Index.{MayPublish, IsAllowed, HasStaged, IsMade, IsUploaded};
+ghost use Rattle.byte_fields.specs.Causes.{Rose};
+ghost use Rattle.index_world.specs.Collected.{DoomsAs, SweepsAs};
+ghost use Rattle.index_world.specs.Collecting.{is_swept, next_doomed};
+ghost use Rattle.index_world.specs.Deleted.{DeletesAs};
+ghost use Rattle.index_world.specs.Core.{Core, last_count, IsPlannedIn, IsShownIn, IsStoredIn};
+ghost use Rattle.index_world.specs.Index.{MayPublish, IsAllowed, HasStaged, IsGivenUp, IsMade, IsStored};
+ghost use Rattle.meta_journal.specs.declared.entry.Act.TheVariants.{Remove};
+ghost use Rattle.index_world.specs.Releases.{IsDoomed, IsLasting, MayFree, RemovesReleased, MayDoom};
 ghost use Rattle.index_world.specs.Onward.{Landing};
 ghost use Rattle.index_world.specs.Alike.{AreAlike};
 ghost use Rattle.index_world.specs.World.{IsWorld, IsTimely, Keeping, WorldStands};
-ghost use Rattle.index_world.specs.Held.{Still, Enters, AfterLanding, AfterCreate, AfterUpload, Loads};
+ghost use Rattle.index_world.specs.Held.{Still, Enters, AfterLanding, AfterCreate, AfterUpload, AfterDelete, Loads};
 
 /// Late creates that come to stand leave an index, of the same entries or with one that was late.
 pub fn landings_keep()
@@ -57,6 +69,61 @@ pub fn upload_keeps()
     ensures { (old new : State) (entries : List Entry) (log : Log) (number : ℕ) (bytes : List ℕ) (answer : Result (Unit {0}) CreateError) →
         IsIndexOf old entries log → IsUnused old entries number →
         LandsThen (Creates (split_key number) bytes answer) old new → AfterUpload answer old new entries log number bytes }
+{}
+
+/// A delete of the file of a number whose row was marked or is gone leaves an index with each of its answers, whatever lands as it
+/// begins, and all other files stand. What may be deleted may rest on a journal behind which an entry stands unread.
+pub fn delete_keeps()
+    ensures { (old new : State) (entries : List Entry) (log : Log) (number : ℕ) (answer : Result (Unit {0}) Failed) →
+        IsIndexOf old entries log → IsGivenUp entries number →
+        LandsThen (Deletes (split_key number) answer) old new → AfterDelete answer old new entries log number }
+{}
+
+/// A row that is published in what a life took in has its file, whatever stands unread behind it. Nothing else ever stands there, and up
+/// to the deletion grace behind the moment of a plan the file stands.
+pub fn plans_begin()
+    ensures { (kept : State) (core : Core) (log : Log) (config : IndexConfig) (number : ℕ) (row : Row) → IsWorld kept core log → configuration core.history ≡ Some config →
+        row_at (rows (told core.history)) number ≡ Some row → row.state ≡ Published →
+        let file = file_of config (contents config (ledger reads (told core.history)).tasks row log) in
+        IsStoredIn core number file × IsShownIn core number file × IsPlannedIn core (core.moment + config.deletion_grace) number file }
+{}
+
+/// What was planned lasts through each entry that a life takes in, as long as those remove released rows alone, and is not what may be
+/// doomed before its grace has passed.
+pub fn planned_lasts()
+    ensures taken { (grace : ℕ) (core : Core) (entry : Entry) (planned_at number : ℕ) → Legal reads (told core.history) → IsAllowed core.history entry →
+        RemovesReleased grace core entry → IsLasting grace core planned_at number → IsLasting grace (taken_in entry core) planned_at number }
+    ensures doomed { (grace : ℕ) (core : Core) (planned_at number doomed : ℕ) → IsLasting grace core planned_at number → core.moment < planned_at + grace →
+        MayDoom grace core doomed → number ≡ doomed → ⊥ }
+    // What was doomed stays released, so a Remove of doomed numbers removes released rows alone.
+    ensures stays { (grace : ℕ) (core : Core) (entry : Entry) (number : ℕ) → Legal reads (told core.history) → IsAllowed core.history entry → number ≤ last_number (told core.history) →
+        IsDoomed grace (told core.history) core.marks core.moment number →
+        IsDoomed grace (told (taken_in entry core).history) (taken_in entry core).marks (taken_in entry core).moment number }
+    ensures removes { (grace : ℕ) (core : Core) (entry : Entry) → core.moment ≤ entry.moment →
+        ((numbers : List ℕ) → entry.act ≡ Remove numbers → AllByRecursion (IsDoomed grace (told core.history) core.marks core.moment) numbers) → RemovesReleased grace core entry }
+    // A late Remove of an earlier life, as this one begins.
+    ensures late { (grace : ℕ) (core : Core) (entry : Entry) → core.marks ≡ [] →
+        ((numbers : List ℕ) → entry.act ≡ Remove numbers → AllByRecursion (λ n. (row : Row) → row_at (rows (told core.history)) n ≡ Some row → row.marked_at + grace ≤ entry.moment) numbers) →
+        RemovesReleased grace core entry }
+{}
+
+/// A delete of a file that may be deleted by what was taken in is the core's own with some fate, whatever stands unread or lands as it
+/// begins: the world stands for the core without that file, and numbers in hand, what was shown and what was planned go on.
+pub fn deletes_are_the_cores()
+    ensures { (old new : State) (core : Core) (log : Log) (number : ℕ) (answer : Result (Unit {0}) Failed) (now : ℕ) → IsWorld old core log → MayFree core number →
+        core.store_faults ≤ now → now ≤ last_count → (IsErr answer → Rose core.store_faults now) →
+        LandsThen (Deletes (split_key number) answer) old new → DeletesAs new core log number answer now }
+{}
+
+/// What the collector dooms or sweeps may be deleted, whatever stands unread, so its deletes are the core's own with some fate: the world
+/// stands for the core behind them, and numbers in hand, what was shown and what was planned go on.
+pub fn collecting_is_the_cores()
+    ensures dooms { (old new : State) (core : Core) (log : Log) (config : IndexConfig) (now : ℕ) → IsWorld old core log → configuration core.history ≡ Some config →
+        core.store_faults ≤ now → now ≤ last_count → (row : Row) (answer : Result (Unit {0}) Failed) → next_doomed core ≡ Some row → (IsErr answer → Rose core.store_faults now) →
+        LandsThen (Deletes (split_key row.number) answer) old new → DoomsAs new core log row.number answer now }
+    ensures sweeps { (old new : State) (core : Core) (log : Log) (config : IndexConfig) (now : ℕ) → IsWorld old core log → configuration core.history ≡ Some config →
+        core.store_faults ≤ now → now ≤ last_count → (number : ℕ) (answer : Result (Unit {0}) Failed) → is_swept core number ≡ true → (IsErr answer → Rose core.store_faults now) →
+        LandsThen (Deletes (split_key number) answer) old new → SweepsAs new core log number answer now }
 {}
 
 /// What a load reads is the journal of which the store is an index.
@@ -112,7 +179,7 @@ pub fn a_configuration_stays()
 /// A number in hand whose file was made of the log under the index's configuration and uploaded may be published.
 pub fn made_file_may_be_published()
     ensures { (kept : State) (entries : List Entry) (log : Log) (number : ℕ) (delta : List Part) (facts : RowFacts) (bytes : List ℕ) →
-        (config : IndexConfig) → configuration entries ≡ Some config → HasStaged entries number delta facts → IsMade config log delta facts bytes → IsUploaded kept entries number bytes → MayPublish kept entries log number }
+        (config : IndexConfig) → configuration entries ≡ Some config → HasStaged entries number delta facts → IsMade config log delta facts bytes → IsStored kept entries number bytes → MayPublish kept entries log number }
 {}
 
 /// Cores for which one world stands agree on all that is seen of the index: so what a caller needs of one holds of each.

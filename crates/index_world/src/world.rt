@@ -16,7 +16,9 @@ ghost use Rattle.index_world.specs.Configuration.{index_of};
 ghost use Rattle.index_world.specs.Core.{Core, IsConfigured, IsUnusedIn};
 ghost use Rattle.index_world.specs.Created.{CreatesIndex, CreatesNot, CreatesWorld, CreatesNone, IsOfCreate};
 ghost use Rattle.index_config.specs.Answer.{config_answer};
-ghost use Rattle.index_world.specs.Gate.{Acts, grace_of, IsTrouble, IsUnmade, IsUnfetched, AreMarks, IsMoment, stage_call, WasStaged, WasUploaded, publish_call, IsPublishable, IsRevision, IsPlan, IsPieceGiven};
+ghost use Rattle.index_world.specs.Collected.{SweepsFile};
+ghost use Rattle.index_world.specs.Collecting.{is_swept_by, sweep_call};
+ghost use Rattle.index_world.specs.Gate.{Acts, ActsWith, IsGiven, grace_of, IsTrouble, IsUnmade, IsUnfetched, AreMarks, IsMoment, stage_call, WasStaged, WasUploaded, publish_call, IsPublishable, IsRevision, IsPlan, IsPieceGiven};
 ghost use Rattle.index_world.specs.Loading.{LoadsWorld, LoadsNone, LoadsAnew};
 ghost use Rattle.index_world.specs.Taking.{IsFaultBetween};
 ghost use Rattle.index_world.specs.Opened.{OpensIndex, OpensNot, OpensAnew};
@@ -91,6 +93,13 @@ fn copied_checkpoints(
         })?;
     }
     Ok(copy)
+}
+
+// Whether a number was staged and its row is gone.
+fn is_swept(meta: &Meta, number: u64) -> bool
+    ensures { result ≡ is_swept_by meta.now.state.last_number meta.now.state.rows number }
+{
+    0 < number && number < meta.next_number() && meta.rows().get(number).is_none()
 }
 
 impl<S: ObjectStore, C: SteadyClock> World<S, C> {
@@ -310,6 +319,32 @@ impl<S: ObjectStore, C: SteadyClock> World<S, C> {
                 number: staged.number,
             }),
             Err(error) => Err(create_error(error, key, before, after)),
+        }
+    }
+
+    /// Deletes the file of a number that was staged and whose row is gone, and says whether it is such a number: of another one nothing
+    /// is done, and no call of the store is made.
+    pub fn sweep(&mut self, number: u64) -> Result<bool, WorldError>
+        ensures step { (core : Core) (log : Log) → WorldStands self.old core log →
+            ActsWith WorldStands None (sweep_call number) IsTrouble IsGiven result core log self.new }
+        // Over all stores: which numbers these are, and a fault has its counts before and behind, of which the second rose.
+        ensures kinds { IfOk result (λ swept. swept ≡ is_swept_by self.old.meta.last_number self.old.meta.rows number) }
+        ensures faults { IfErr result (IsFaultBetween self.old.store_faults self.new.store_faults) }
+        // What is done to any store that tells.
+        ensures answers { WhereTold self.old.told self.new.told (SweepsFile (split_key number) result) }
+        // And nothing else changes.
+        ensures same { self.new ≡ record self.old { told = self.new.told; store_faults = self.new.store_faults; given = self.new.given } }
+    {
+        if !is_swept(&self.life.meta, number) {
+            return Ok(false);
+        }
+        let before = self.store.faults();
+        let key = split_key(number);
+        let answer = self.store.delete(&key);
+        let after = self.store.faults();
+        match answer {
+            Ok(()) => Ok(true),
+            Err(_) => Err(WorldError::StoreFault { before, after }),
         }
     }
 
