@@ -1,5 +1,5 @@
 -- Whatever lands and fails, no line deletes a file, and it takes in at most an entry that stood there and one of its own.
-use Rattle.std.proofs.Common.{◌≡◌, ℕ, List, [], ◌∷◌, ◌++◌, refl, sym, ap, ◌∙◌, Bool, true, false, append_assoc, subst}
+use Rattle.std.proofs.Common.{◌≡◌, ℕ, List, [], ◌∷◌, ◌++◌, refl, sym, ap, ap₂, ◌∙◌, Bool, true, false, append_assoc, subst}
 use Rattle.std.proofs.lemmas.List.{append-nil}
 use Rattle.std.specs.Prelude.{Option, Some, None, Result, Ok, Err, ⊤, if◌then◌else◌, ◌==◌, ◌||◌, slice_get, length, is_some, nat_le, bytes_eq}
 use Rattle.index_config.specs.Answer.{config_answer}
@@ -14,7 +14,7 @@ use Rattle.source_log.specs.Log.{Log}
 use Rattle.index_world.specs.Calls.{Fate, Call, Trouble, faulted, no_memory, Unmade, Unread, not_read, Gives, Made, made, exists, failed, risen, may_fail, entry_lands, file_lands, land_at, all_landed, begun, tried, made_behind, made_at, create_at_end, taken_in, or_short, unless_short, asked_clock, asking, and_then_by, taken_unless, got_at, get_at_end, settle_made, settle_with, settled, fence_of, entry_of, may_append, last_made, last_unless, last_create, troubled_by, as_unmade, adopted_made, first_unless, transact, appended, looked, asked_and_looked, asked, file_by, file_made, got_file, file_got, Grace, unless_over, fetched, with_standing, read_journal, unless_empty, load_by, loaded}
 use Rattle.index_world.specs.Calls as calls
 use Rattle.index_world.specs.Created.{first_made, created_by, created_behind, created}
-use Rattle.index_world.specs.Core.{Core, File, Late, late_entry, late_dead, late_file, file_at}
+use Rattle.index_world.specs.Core.{Core, File, Late, late_entry, late_dead, late_file, file_at, with_unread, journal_of}
 use Rattle.index_world.specs.Gate.{stage_act}
 use Rattle.index_world.specs.SplitFile.{file_of}
 use Rattle.index_world.proofs.StoreKeys.{none_some}
@@ -91,10 +91,21 @@ joined (x ∷ y ∷ xs) ys o w = absurd o
 
 -- ---- from one core to another
 
+-- the journal goes on
+abbrev pub Grown : Core → Core → Type 0
+Grown a b = (more : List Entry) × (journal_of b ≡ journal_of a ++ more)
+
+same_journal : (a b : Core) → journal_of b ≡ journal_of a → Grown a b
+same_journal a b e = ([], e ∙ sym (append-nil (journal_of a)))
+
+grown_on : (a b c : Core) → Grown a b → Grown b c → Grown a c
+grown_on a b c g h = (g.0 ++ h.0, h.1 ∙ ap (λ l. l ++ h.0) g.1 ∙ append_assoc (journal_of a) g.0 h.0)
+
 -- the files stay, and nothing is taken in
 record Still (a b : Core) : Type 0 where
   files : Stay a.files b.files
   history : b.history ≡ a.history
+  journal : Grown a b
 
 -- the files stay, and these entries are taken in
 pub record Takes (P : List Entry → Type 0) (a b : Core) : Type 0 where
@@ -102,55 +113,84 @@ pub record Takes (P : List Entry → Type 0) (a b : Core) : Type 0 where
   pub more : List Entry
   pub grown : b.history ≡ a.history ++ more
   pub few : P more
+  pub journal : Grown a b
+
+-- what a call changes beside the files, the history and what stands unread
+unmoved : (a b : Core) → b.files ≡ a.files → b.history ≡ a.history → b.standing ≡ a.standing → Still a b
+unmoved a b files history standing =
+    record {
+      files = λ key bytes e. subst (λ (fs : List File). file_at fs key ≡ Some bytes) (sym files) e;
+      history = history;
+      journal = same_journal a b (ap₂ with_unread history standing);
+    }
 
 still : (core : Core) → Still core core
-still core = record { files = λ key bytes e. e; history = refl }
+still core = unmoved core core refl refl refl
 
 still_on : {a b c : Core} → Still a b → Still b c → Still a c
-still_on s t = record { files = λ key bytes e. t.files key bytes (s.files key bytes e); history = t.history ∙ s.history }
+still_on {a} {b} {c} s t = record { files = λ key bytes e. t.files key bytes (s.files key bytes e); history = t.history ∙ s.history; journal = grown_on a b c s.journal t.journal }
 
 none : (P : List Entry → Type 0) {a b : Core} → P [] → Still a b → Takes P a b
-none P {a} nil s = record { files = s.files; more = []; grown = s.history ∙ sym (append-nil a.history); few = nil }
+none P {a} nil s = record { files = s.files; more = []; grown = s.history ∙ sym (append-nil a.history); few = nil; journal = s.journal }
+
+pub takes_none : (core : Core) → Takes Few core core
+takes_none core = none Few tt (still core)
 
 behind : {P : List Entry → Type 0} {a b c : Core} → Still a b → Takes P b c → Takes P a c
-behind s t = record { files = λ key bytes e. t.files key bytes (s.files key bytes e); more = t.more; grown = t.grown ∙ ap (λ l. l ++ t.more) s.history; few = t.few }
+behind {P} {a} {b} {c} s t =
+    record {
+      files = λ key bytes e. t.files key bytes (s.files key bytes e);
+      more = t.more;
+      grown = t.grown ∙ ap (λ l. l ++ t.more) s.history;
+      few = t.few;
+      journal = grown_on a b c s.journal t.journal;
+    }
 
 before : {P : List Entry → Type 0} {a b c : Core} → Takes P a b → Still b c → Takes P a c
-before t s = record { files = λ key bytes e. s.files key bytes (t.files key bytes e); more = t.more; grown = s.history ∙ t.grown; few = t.few }
+before {P} {a} {b} {c} t s =
+    record { files = λ key bytes e. s.files key bytes (t.files key bytes e); more = t.more; grown = s.history ∙ t.grown; few = t.few; journal = grown_on a b c t.journal s.journal }
 
 same : {P : List Entry → Type 0} {a b c : Core} → Takes P a b → c ≡ b → Takes P a c
 same {P} {a} t e = subst (Takes P a) (sym e) t
 
 weaker : (P Q : List Entry → Type 0) {a b : Core} → ((es : List Entry) → P es → Q es) → Takes P a b → Takes Q a b
-weaker P Q f t = record { files = t.files; more = t.more; grown = t.grown; few = f t.more t.few }
+weaker P Q f t = record { files = t.files; more = t.more; grown = t.grown; few = f t.more t.few; journal = t.journal }
 
 and_own : {a b c : Core} → Takes One a b → Takes Own b c → Takes Few a c
-and_own {a} t u =
+and_own {a} {b} {c} t u =
     record {
       files = λ key bytes e. u.files key bytes (t.files key bytes e);
       more = t.more ++ u.more;
       grown = u.grown ∙ ap (λ l. l ++ u.more) t.grown ∙ append_assoc a.history t.more u.more;
       few = joined t.more u.more t.few u.few;
+      journal = grown_on a b c t.journal u.journal;
+    }
+
+-- an entry came to stand unread where none did
+comes : (core : Core) (entry : Entry) → core.standing ≡ None → (after : Core) → after.files ≡ core.files → after.history ≡ core.history → after.standing ≡ Some entry → Still core after
+comes core entry none after files history standing =
+    record {
+      files = λ key bytes e. subst (λ (fs : List File). file_at fs key ≡ Some bytes) (sym files) e;
+      history = history;
+      journal = (entry ∷ [], ap₂ with_unread history standing ∙ ap (λ l. l ++ entry ∷ []) (sym (ap (with_unread core.history) none)));
     }
 
 -- ---- what lands
 
-entry_still : (standing : Option Entry) (b : Bool) (entry : Entry) (core : Core) → Still core (entry_lands standing b entry core)
-entry_still None true entry core = record { files = λ key bytes e. e; history = refl }
-entry_still None false entry core = still core
-entry_still (Some standing) b entry core = still core
+entry_still : (standing : Option Entry) (b : Bool) (entry : Entry) (core : Core) → core.standing ≡ standing → Still core (entry_lands standing b entry core)
+entry_still None true entry core q = comes core entry q _ refl refl refl
+entry_still None false entry core q = still core
+entry_still (Some standing) b entry core q = still core
 
 file_still : (b : Bool) (key bytes : List ℕ) (core : Core) → Still core (file_lands b key bytes core)
 file_still true key bytes core = still core
-file_still false key bytes core = record { files = stay_more core.files (record { key = key; bytes = bytes } ∷ []); history = refl }
+file_still false key bytes core = record { files = stay_more core.files (record { key = key; bytes = bytes } ∷ []); history = refl; journal = same_journal core (file_lands false key bytes core) refl }
 
 land_still : (late : Option Late) (place : ℕ) (core : Core) → Still core (land_at late place core)
 land_still None place core = still core
-land_still (Some (late_entry number entry bytes)) place core =
-    let s = entry_still core.standing (number == length core.history) entry core in record { files = s.files; history = s.history }
-land_still (Some (late_dead key bytes)) place core = record { files = λ key bytes e. e; history = refl }
-land_still (Some (late_file key bytes)) place core =
-    let s = file_still (is_some (file_at core.files key)) key bytes core in record { files = s.files; history = s.history }
+land_still (Some (late_entry number entry bytes)) place core = still_on (entry_still core.standing (number == length core.history) entry core refl) (unmoved _ _ refl refl refl)
+land_still (Some (late_dead key bytes)) place core = unmoved _ _ refl refl refl
+land_still (Some (late_file key bytes)) place core = still_on (file_still (is_some (file_at core.files key)) key bytes core) (unmoved _ _ refl refl refl)
 
 landed_still : (places : List ℕ) (core : Core) → Still core (all_landed places core)
 landed_still [] core = still core
@@ -159,35 +199,78 @@ landed_still (place ∷ places) core =
 
 begun_still : (call : Call) (core : Core) → Still core (begun call core)
 begun_still call core =
-    let s = landed_still call.lands (record core { store_faults = risen core.store_faults call.rises }) in record { files = s.files; history = s.history }
+    still_on (unmoved core (record core { store_faults = risen core.store_faults call.rises }) refl refl refl) (landed_still call.lands (record core { store_faults = risen core.store_faults call.rises }))
+
+-- what stands unread stays
+entry_some : (standing : Option Entry) (b : Bool) (entry one : Entry) (core : Core) → core.standing ≡ standing → core.standing ≡ Some one → (entry_lands standing b entry core).standing ≡ Some one
+entry_some None b entry one core q s = absurd (none_some one (sym q ∙ s))
+entry_some (Some standing) b entry one core q s = s
+
+file_some : (b : Bool) (key bytes : List ℕ) (one : Entry) (core : Core) → core.standing ≡ Some one → (file_lands b key bytes core).standing ≡ Some one
+file_some true key bytes one core s = s
+file_some false key bytes one core s = s
+
+land_some : (late : Option Late) (place : ℕ) (one : Entry) (core : Core) → core.standing ≡ Some one → (land_at late place core).standing ≡ Some one
+land_some None place one core s = s
+land_some (Some (late_entry number entry bytes)) place one core s = entry_some core.standing (number == length core.history) entry one core refl s
+land_some (Some (late_dead key bytes)) place one core s = s
+land_some (Some (late_file key bytes)) place one core s = file_some (is_some (file_at core.files key)) key bytes one core s
+
+landed_some : (places : List ℕ) (one : Entry) (core : Core) → core.standing ≡ Some one → (all_landed places core).standing ≡ Some one
+landed_some [] one core s = s
+landed_some (place ∷ places) one core s =
+    landed_some places one (land_at (slice_get core.late place) place core) (land_some (slice_get core.late place) place one core s)
+
+begun_some : (call : Call) (one : Entry) (core : Core) → core.standing ≡ Some one → (begun call core).standing ≡ Some one
+begun_some call one core s = landed_some call.lands one (record core { store_faults = risen core.store_faults call.rises }) s
 
 -- ---- creates and gets at the end
 
-tried_still : (b : Bool) (standing : Option Entry) (entry : Entry) (core : Core) → Still core (tried b standing entry core)
-tried_still true None entry core = record { files = λ key bytes e. e; history = refl }
-tried_still true (Some other) entry core = record { files = λ key bytes e. e; history = refl }
-tried_still false standing entry core = record { files = λ key bytes e. e; history = refl }
+tried_still : (b : Bool) (standing : Option Entry) (entry : Entry) (core : Core) → core.standing ≡ standing → Still core (tried b standing entry core)
+tried_still true None entry core q = comes core entry q _ refl refl refl
+tried_still true (Some other) entry core q = unmoved _ _ refl refl refl
+tried_still false standing entry core q = unmoved _ _ refl refl refl
 
-behind_still : (standing : Option Entry) (entry : Entry) (core : Core) → Still core (made_behind standing entry core).core
-behind_still None entry core = record { files = λ key bytes e. e; history = refl }
-behind_still (Some other) entry core = still core
+behind_still : (standing : Option Entry) (entry : Entry) (core : Core) → core.standing ≡ standing → Still core (made_behind standing entry core).core
+behind_still None entry core q = comes core entry q _ refl refl refl
+behind_still (Some other) entry core q = still core
 
 made_still : (b c : Bool) (entry : Entry) (core : Core) → Still core (made_at b c entry core).core
-made_still true c entry core = tried_still c core.standing entry core
-made_still false c entry core = behind_still core.standing entry core
+made_still true c entry core = tried_still c core.standing entry core refl
+made_still false c entry core = behind_still core.standing entry core refl
 
 create_still : (call : Call) (entry : Entry) (core : Core) → Still core (create_at_end call entry core).core
 create_still call entry core = still_on (begun_still call core) (made_still (may_fail call core.store_faults) call.at_once entry (begun call core))
 
-taken_one : (entry : Entry) (core : Core) → Takes One core (taken_in entry core)
-taken_one entry core = record { files = λ key bytes e. e; more = entry ∷ []; grown = refl; few = tt }
+-- what stands behind a create: this entry where it was made, and else the one that it met
+abbrev Fits : Made → Entry → Core → Type 0
+Fits made entry core = core.standing ≡ Some entry
+Fits (exists other) entry core = core.standing ≡ Some other
+Fits failed entry core = ⊤
 
-taken_own : (entry : Entry) (core : Core) → IsOwn entry.act → Takes Own core (taken_in entry core)
-taken_own entry core own = record { files = λ key bytes e. e; more = entry ∷ []; grown = refl; few = own }
+behind_fits : (standing : Option Entry) (entry : Entry) (core : Core) → core.standing ≡ standing → Fits (made_behind standing entry core).answer entry (made_behind standing entry core).core
+behind_fits None entry core q = refl
+behind_fits (Some other) entry core q = q
 
-taken_unless_one : (b unsure : Bool) (entry : Entry) (core : Core) → Takes One core (taken_unless b unsure entry core).core
-taken_unless_one true unsure entry core = none One tt (record { files = λ key bytes e. e; history = refl })
-taken_unless_one false unsure entry core = taken_one entry core
+made_fits : (b c : Bool) (entry : Entry) (core : Core) → Fits (made_at b c entry core).answer entry (made_at b c entry core).core
+made_fits true c entry core = tt
+made_fits false c entry core = behind_fits core.standing entry core refl
+
+create_fits : (call : Call) (entry : Entry) (core : Core) → Fits (create_at_end call entry core).answer entry (create_at_end call entry core).core
+create_fits call entry core = made_fits (may_fail call core.store_faults) call.at_once entry (begun call core)
+
+taken_journal : (entry : Entry) (core : Core) → core.standing ≡ Some entry → Grown core (taken_in entry core)
+taken_journal entry core s = same_journal core (taken_in entry core) (sym (ap (with_unread core.history) s))
+
+taken_one : (entry : Entry) (core : Core) → core.standing ≡ Some entry → Takes One core (taken_in entry core)
+taken_one entry core s = record { files = λ key bytes e. e; more = entry ∷ []; grown = refl; few = tt; journal = taken_journal entry core s }
+
+taken_own : (entry : Entry) (core : Core) → core.standing ≡ Some entry → IsOwn entry.act → Takes Own core (taken_in entry core)
+taken_own entry core s own = record { files = λ key bytes e. e; more = entry ∷ []; grown = refl; few = own; journal = taken_journal entry core s }
+
+taken_unless_one : (b unsure : Bool) (entry : Entry) (core : Core) → core.standing ≡ Some entry → Takes One core (taken_unless b unsure entry core).core
+taken_unless_one true unsure entry core s = none One tt (unmoved _ _ refl refl refl)
+taken_unless_one false unsure entry core s = taken_one entry core s
 
 or_short_takes : {E A : Type 0} (P : List Entry → Type 0) → P [] → (b : Bool) (e : E) (call : Call) (core : Core) (given : Gives E A) → Takes P core given.core →
     Takes P core (or_short b e call core given).core
@@ -197,26 +280,26 @@ or_short_takes P nil false e call core given t = t
 asking_takes : {E A : Type 0} (P : List Entry → Type 0) → P [] → (b : Bool) (e : E) (core : Core) (next : Core → Gives E A) → ((c : Core) → Takes P c (next c).core) →
     Takes P core (asking b e core next).core
 asking_takes P nil true e core next t = none P nil (still core)
-asking_takes P nil false e core next t = behind (record { files = λ key bytes e. e; history = refl }) (t (asked_clock core))
+asking_takes P nil false e core next t = behind (unmoved _ _ refl refl refl) (t (asked_clock core))
 
 then_own : {E A B : Type 0} {start core : Core} (r : Result A E) (next : Core → Gives E B) → Takes One start core → ((c : Core) → Takes Own c (next c).core) →
     Takes Few start (and_then_by r core next).core
 then_own (Ok a) next t u = and_own t (u _)
 then_own (Err e) next t u = weaker One Few one_few t
 
-got_one : (b : Bool) (call : Call) (count : ℕ) (entry : Entry) (core : Core) → Takes One core (got_at b call count entry core).core
-got_one true call count entry core = none One tt (record { files = λ key bytes e. e; history = refl })
-got_one false call count entry core = taken_unless_one call.short (core.unsure || call.at_once) entry core
+got_one : (b : Bool) (call : Call) (count : ℕ) (entry : Entry) (core : Core) → core.standing ≡ Some entry → Takes One core (got_at b call count entry core).core
+got_one true call count entry core s = none One tt (unmoved _ _ refl refl refl)
+got_one false call count entry core s = taken_unless_one call.short (core.unsure || call.at_once) entry core s
 
-get_one : (call : Call) (entry : Entry) (count : ℕ) (core : Core) → Takes One core (get_at_end call entry count core).core
-get_one call entry count core = behind (begun_still call core) (got_one (may_fail call core.store_faults) call count entry (begun call core))
+get_one : (call : Call) (entry : Entry) (count : ℕ) (core : Core) → core.standing ≡ Some entry → Takes One core (get_at_end call entry count core).core
+get_one call entry count core s = behind (begun_still call core) (got_one (may_fail call core.store_faults) call count entry (begun call core) (begun_some call entry core s))
 
 -- ---- settling and appending
 
-settle_made_one : (get : Call) (count : ℕ) (fence : Entry) (m : Made) (core : Core) → Takes One core (settle_made get count fence m core).core
-settle_made_one get count fence made core = taken_unless_one get.short true fence core
-settle_made_one get count fence (exists entry) core = get_one get entry count core
-settle_made_one get count fence failed core = none One tt (still core)
+settle_made_one : (get : Call) (count : ℕ) (fence : Entry) (m : Made) (core : Core) → Fits m fence core → Takes One core (settle_made get count fence m core).core
+settle_made_one get count fence made core f = taken_unless_one get.short true fence core f
+settle_made_one get count fence (exists entry) core f = get_one get entry count core f
+settle_made_one get count fence failed core f = none One tt (still core)
 
 unless_short_still : (b : Bool) (core : Core) → Still core (unless_short b core).core
 unless_short_still true core = still core
@@ -225,19 +308,19 @@ unless_short_still false core = still core
 settle_one : (b : Bool) (first second : Call) (core : Core) → Takes One core (settle_with b first second core).core
 settle_one false first second core = none One tt (unless_short_still first.short core)
 settle_one true first second core =
-    or_short_takes One tt first.short _ _ core _ (behind (create_still first (fence_of core) core) (settle_made_one second _ _ _ _))
+    or_short_takes One tt first.short _ _ core _ (behind (create_still first (fence_of core) core) (settle_made_one second _ _ _ _ (create_fits first (fence_of core) core)))
 
 settled_one : (first second : Call) (core : Core) → Takes One core (settled first second core).core
 settled_one first second core = settle_one core.unsure first second core
 
-last_made_own : (count : ℕ) (entry : Entry) (m : Made) (core : Core) → IsOwn entry.act → Takes Own core (last_made count entry m core).core
-last_made_own count entry made core own = taken_own entry core own
-last_made_own count entry (exists other) core own = none Own tt (still core)
-last_made_own count entry failed core own = none Own tt (still core)
+last_made_own : (count : ℕ) (entry : Entry) (m : Made) (core : Core) → IsOwn entry.act → Fits m entry core → Takes Own core (last_made count entry m core).core
+last_made_own count entry made core own f = taken_own entry core f own
+last_made_own count entry (exists other) core own f = none Own tt (still core)
+last_made_own count entry failed core own f = none Own tt (still core)
 
 last_unless_own : (r : Result ⊤ Unmade) (call : Call) (count : ℕ) (act : Act) (core : Core) → IsOwn act → Takes Own core (last_unless r call count act core).core
 last_unless_own (Err e) call count act core own = none Own tt (still core)
-last_unless_own (Ok done) call count act core own = behind (create_still call (entry_of act core) core) (last_made_own count _ _ _ own)
+last_unless_own (Ok done) call count act core own = behind (create_still call (entry_of act core) core) (last_made_own count _ _ _ own (create_fits call (entry_of act core) core))
 
 last_own : (call : Call) (count : ℕ) (act : Act) (core : Core) → IsOwn act → Takes Own core (last_create call count act core).core
 last_own call count act core own = or_short_takes Own tt call.short _ _ core _ (last_unless_own (may_append act core) call count act core own)
@@ -247,15 +330,15 @@ troubled_still (Ok a) core = still core
 troubled_still (Err e) core = still core
 
 module _ (act : Core → Act) (own : (c : Core) → IsOwn (act c)) where
-  adopted_few : (get again : Call) (count : ℕ) (entry : Entry) (m : Made) (core : Core) → IsOwn entry.act → Takes Few core (adopted_made get again count act entry m core).core
-  adopted_few get again count entry made core is = weaker Own Few own_few (taken_own entry core is)
-  adopted_few get again count entry (exists other) core is =
-      then_own (as_unmade (get_at_end get other count core)).answer _ (before (get_one get other count core) (troubled_still _ _)) (λ c. last_own again count (act c) c (own c))
-  adopted_few get again count entry failed core is = none Few tt (still core)
+  adopted_few : (get again : Call) (count : ℕ) (entry : Entry) (m : Made) (core : Core) → IsOwn entry.act → Fits m entry core → Takes Few core (adopted_made get again count act entry m core).core
+  adopted_few get again count entry made core is f = weaker Own Few own_few (taken_own entry core f is)
+  adopted_few get again count entry (exists other) core is f =
+      then_own (as_unmade (get_at_end get other count core)).answer _ (before (get_one get other count core f) (troubled_still _ _)) (λ c. last_own again count (act c) c (own c))
+  adopted_few get again count entry failed core is f = none Few tt (still core)
 
   first_few : (r : Result ⊤ Unmade) (first second third : Call) (core : Core) → Takes Few core (first_unless r first second third act core).core
   first_few (Err e) first second third core = none Few tt (still core)
-  first_few (Ok done) first second third core = behind (create_still first (entry_of (act core) core) core) (adopted_few second third _ _ _ _ (own core))
+  first_few (Ok done) first second third core = behind (create_still first (entry_of (act core) core) core) (adopted_few second third _ _ _ _ (own core) (create_fits first (entry_of (act core) core) core))
 
   transact_few : (b : Bool) (first second third : Call) (core : Core) → Takes Few core (transact b first second third act core).core
   transact_few true first second third core =
@@ -284,7 +367,7 @@ asked_few fate core = asking_takes Few tt fate.unasked _ core _ (λ c. none Few 
 file_by_still : (b c d : Bool) (count : ℕ) (key bytes : List ℕ) (core : Core) → Still core (file_by b c d count key bytes core).core
 file_by_still true true true count key bytes core = still core
 file_by_still true true false count key bytes core = file_still false key bytes core
-file_by_still true false d count key bytes core = record { files = λ key bytes e. e; history = refl }
+file_by_still true false d count key bytes core = unmoved _ _ refl refl refl
 file_by_still false c true count key bytes core = still core
 file_by_still false c false count key bytes core = file_still false key bytes core
 
@@ -296,7 +379,7 @@ file_made_few call key bytes core =
 -- a fetch takes nothing in
 asking_still : {E A : Type 0} (b : Bool) (e : E) (core : Core) (next : Core → Gives E A) → ((c : Core) → Still c (next c).core) → Still core (asking b e core next).core
 asking_still true e core next t = still core
-asking_still false e core next t = still_on (record { files = λ key bytes e. e; history = refl }) (t (asked_clock core))
+asking_still false e core next t = still_on (unmoved _ _ refl refl refl) (t (asked_clock core))
 
 got_still : (b : Bool) (count : ℕ) (call : Call) (core : Core) → Still core (or_short b no_memory call core (got_file (may_fail call core.store_faults) count (begun call core))).core
 got_still true count call core = begun_still call core
@@ -325,12 +408,12 @@ each_still grace (next ∷ more) fate core =
 
 -- ---- opening
 
-standing_one : (standing : Option Entry) (core : Core) → Takes One core (with_standing standing core)
-standing_one None core = none One tt (still core)
-standing_one (Some entry) core = taken_one entry core
+standing_one : (standing : Option Entry) (core : Core) → core.standing ≡ standing → Takes One core (with_standing standing core)
+standing_one None core q = none One tt (still core)
+standing_one (Some entry) core q = taken_one entry core q
 
 journal_one : (core : Core) → Takes One core (read_journal core)
-journal_one core = before (standing_one core.standing core) (record { files = λ key bytes e. e; history = refl })
+journal_one core = before (standing_one core.standing core refl) (unmoved _ _ refl refl refl)
 
 unless_empty_still : (b : Bool) (core : Core) → Still core (unless_empty b core).core
 unless_empty_still true core = still core
@@ -350,16 +433,16 @@ loaded_few fate core = weaker One Few one_few (loaded_one fate core)
 
 -- ---- making an index
 
-first_own : (count : ℕ) (entry : Entry) (m : Made) (core : Core) → IsOwn entry.act → Takes Own core (first_made count entry m core).core
-first_own count entry made core own = taken_own entry core own
-first_own count entry (exists other) core own = none Own tt (still core)
-first_own count entry failed core own = none Own tt (still core)
+first_own : (count : ℕ) (entry : Entry) (m : Made) (core : Core) → IsOwn entry.act → Fits m entry core → Takes Own core (first_made count entry m core).core
+first_own count entry made core own f = taken_own entry core f own
+first_own count entry (exists other) core own f = none Own tt (still core)
+first_own count entry failed core own f = none Own tt (still core)
 
 created_by_own : (answer : Result IndexConfig ConfigError) (call : Call) (count : ℕ) (text : List ℕ) (core : Core) → Takes Own core (created_by answer call count text core).core
 created_by_own (Err error) call count text core = none Own tt (still core)
 created_by_own (Ok config) call count text core =
-    behind (record { files = λ key bytes e. e; history = refl })
-    (behind (create_still call (entry_of (Create text) (asked_clock core)) (asked_clock core)) (first_own count (entry_of (Create text) (asked_clock core)) _ _ tt))
+    behind (unmoved _ _ refl refl refl)
+    (behind (create_still call (entry_of (Create text) (asked_clock core)) (asked_clock core)) (first_own count (entry_of (Create text) (asked_clock core)) _ _ tt (create_fits call (entry_of (Create text) (asked_clock core)) (asked_clock core))))
 
 created_own : (answer : Result ⊤ Unread) (call : Call) (count : ℕ) (text : List ℕ) (core : Core) → Takes Own core (created_behind answer call count text core).core
 created_own (Ok done) call count text core = none Own tt (still core)
@@ -451,7 +534,7 @@ client_turn_few true luck name node = none Few tt (still node.core)
 client_turn_few false luck name node = client_few (searching_luck luck) node.log (client_named name node.clients) node.core
 
 full_few : (luck : Luck) (node : Node) (line : Line) → Takes Few node.core (full_turn luck node line).node.core
-full_few luck node (At moment) = none Few tt (record { files = λ key bytes e. e; history = refl })
+full_few luck node (At moment) = none Few tt (unmoved _ _ refl refl refl)
 full_few luck node (Assign i names) = same (none Few tt (still node.core)) (assign_same (indexer_at node.indexers i).place i names (indexer_at node.indexers i) node)
 full_few luck node (StepIndexer i) = indexer_turn_few node.down luck i node
 full_few luck node (RestartIndexer i) = none Few tt (still node.core)

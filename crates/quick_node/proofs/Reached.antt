@@ -44,7 +44,7 @@ use Rattle.node_run.specs.Standing.{NodeStands}
 use Rattle.node_run.specs.Turns.{Turn}
 use Rattle.split_bundle.specs.declared.placed.Placed.{Placed}
 use Rattle.quick_node.specs.Once.{published as shown_rows, held_at, IsStanding, AreStanding, Reaches}
-use Rattle.quick_node.proofs.Files.{Few, Takes, IsOwn, turn_few}
+use Rattle.quick_node.proofs.Files.{Few, Takes, IsOwn, takes_none, turn_few}
 use Rattle.quick_node.proofs.Onces.{covers_at, each_weaker, published_have}
 use Rattle.quick_node.proofs.SameLog.{turn_log}
 
@@ -152,31 +152,31 @@ module _ (old new : State) (core after : Core) (log : Log) (was : IsWorld old co
   taken_legal : Legal reads (history after.history)
   taken_legal = legal_unread after.history after.standing legal
 
-  behind : Among new (file_at after.files)
-  behind number bytes e = world.stands_for.files (split_key number) (split_outside number) ∙ e
+  new_files : Among new (file_at after.files)
+  new_files number bytes e = world.stands_for.files (split_key number) (split_outside number) ∙ e
 
-  then : Among old (file_at after.files)
-  then number bytes e = t.files (split_key number) bytes (was.stands_for.files (split_key number) (split_outside number) ∙ e)
+  old_files : Among old (file_at after.files)
+  old_files number bytes e = t.files (split_key number) bytes (was.stands_for.files (split_key number) (split_outside number) ∙ e)
 
   holds : (revision : ℕ) (es : List Entry) → take revision (journal_of after) ≡ es → Stand (file_at after.files) log es → AreStanding (file_at after.files) revision (journal_of after) log
   holds revision es e s = subst (Stand (file_at after.files) log) (sym e) s
 
   whole : Stand (file_at after.files) log (journal_of after)
-  whole = sound_stand new (file_at after.files) log (journal_of after) behind (taken_sound new log (journal_of after) legal world.index.stands.rows)
+  whole = sound_stand new (file_at after.files) log (journal_of after) new_files (taken_sound new log (journal_of after) legal world.index.stands.rows)
 
   taken : Stand (file_at after.files) log after.history
-  taken = sound_stand new (file_at after.files) log after.history behind (taken_sound new log after.history taken_legal world.taken)
+  taken = sound_stand new (file_at after.files) log after.history new_files (taken_sound new log after.history taken_legal world.taken)
 
   first : Stand (file_at after.files) log core.history
   first =
-      sound_stand old (file_at after.files) log core.history then
+      sound_stand old (file_at after.files) log core.history old_files
       (taken_sound old log core.history (legal_unread core.history core.standing was.index.stands.legal) was.taken)
 
   -- of an entry that was settled or adopted, before one's own
   between : (x f : Entry) → after.history ≡ core.history ++ (x ∷ f ∷ []) → IsOwn f.act → Stand (file_at after.files) log (core.history ++ x ∷ [])
   between x f grown own =
       let e : after.history ≡ (core.history ++ x ∷ []) ++ f ∷ [] = grown ∙ sym (append_assoc core.history (x ∷ []) (f ∷ [])) in
-      sound_stand new (file_at after.files) log (core.history ++ x ∷ []) behind
+      sound_stand new (file_at after.files) log (core.history ++ x ∷ []) new_files
       (sound_before new log (core.history ++ x ∷ []) f (subst (λ (es : List Entry). Legal reads (history es)) e taken_legal) own (let l = length-append core.history (x ∷ []) in omega (arith, l))
       (subst (λ (es : List Entry). IsTaken new es log) e world.taken))
 
@@ -223,6 +223,7 @@ module _ (old new : State) (core after : Core) (log : Log) (was : IsWorld old co
           files = stood revision (let l = unread_longer core.history core.standing in omega (arith, l, le));
           covers = covers_at revision (journal_of after) log is legal;
         };
+        goes_on = t.journal;
         stay = λ number bytes e. inl (t.files (split_key number) bytes e);
       }
 
@@ -238,7 +239,7 @@ module _ (old new : State) (core after : Core) (log : Log) (was : IsWorld old co
 -- nothing was done
 pub reaches_itself : (kept : State) (core : Core) (log : Log) → IsLog log → IsWorld kept core log → Reaches core core log
 reaches_itself kept core log is world =
-    reaches kept kept core core log world world (record { files = λ key bytes e. e; more = []; grown = sym (append-nil core.history); few = tt }) is
+    reaches kept kept core core log world world (takes_none core) is
 
 -- a line of a node of the code
 pub line_reaches : {S L : Type 0} (told : L → Option Log) (count : L → ℕ) (since : L → L → Type 0) (firsts : List L) (old new : DriveNode S L) (node last : Node) (line : Line) (said : Option Outcome) →

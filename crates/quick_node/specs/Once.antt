@@ -1,5 +1,5 @@
 -- THE PROMISE over a store: which records of the log stand in its published files.
-use Rattle.std.specs.Prelude.{◌≡◌, ◌⊎◌, ◌≤◌, ℕ, List, length, flat_map, take, Option, Some, IsPermutation}
+use Rattle.std.specs.Prelude.{◌≡◌, ◌⊎◌, ◌≤◌, ℕ, List, ◌++◌, length, flat_map, take, Option, Some, IsPermutation}
 use Rattle.std.specs.List.{AllByRecursion}
 use Rattle.std.specs.List.Sorted.{IsStrictlySortedBy}
 use Rattle.std.specs.FinMap.{get}
@@ -91,10 +91,11 @@ AreLeft kept revision entries log = AllByRecursion (λ row. IsLeft kept entries 
 
 -- ---- from one core to another
 
--- What a line leaves. At each revision that it reached, from the end of the journal before it on, the rows that were published then
--- have their files in the store as it is behind the line. A file that stood before the line stands there still, or its number was
--- given up.
+-- What a line leaves. The journal goes on. At each revision that the line reached, from the end of the journal before it on, the rows
+-- that were published then have their files in the store as it is behind the line. And a file that stood before the line stands
+-- there still, or its number was given up.
 pub record Reaches (before after : Core) (log : Log) : Type 0 where
+  pub goes_on : (more : List Entry) × (journal_of after ≡ journal_of before ++ more)
   pub reached : (revision : ℕ) → length (journal_of before) ≤ revision → HoldsAt (file_at after.files) revision (journal_of after) log
   pub stay : (number : ℕ) (bytes : List ℕ) → file_at before.files (split_key number) ≡ Some bytes →
       (file_at after.files (split_key number) ≡ Some bytes) ⊎ IsGivenUp (journal_of after) number
