@@ -1,6 +1,6 @@
 -- The parts of a node behind each of its lines.
 use Rattle.std.proofs.Common.{◌≡◌, ℕ, zero, suc, ◌<◌, ◌^◌, List, [], ◌∷◌, ◌++◌, length, get_or, refl, sym, ap, ◌∙◌, subst, arith, Bool, true, false, map, inl, inr, take, drop, ◌≤◌}
-use Rattle.std.proofs.lemmas.List.{append-nil, take_at}
+use Rattle.std.proofs.lemmas.List.{take_at}
 use Rattle.std.proofs.lemmas.Bool.{lt-ltb, le-ltb}
 use Rattle.std.specs.List.{AllZip}
 use Rattle.std.specs.Prelude.{◌||◌, if◌then◌else◌, nat_lt, slice_set, Option, Some, None, Result, Ok, Err, IfOk, IsErr, ⊤}
@@ -481,7 +481,7 @@ without_over searcher client core after log keeps s =
       request = by searcher.request s.request;
     }
   where
-    by : (kept : KeptRequest) → IsRequest kept searching.no_request core log → IsRequest kept searching.no_request after log
+    by : (kept : KeptRequest) → IsRequest searcher.footers kept searching.no_request core log → IsRequest searcher.footers kept searching.no_request after log
     by requests.Vacant p = p
     by (requests.Opened text) p = p
     by (requests.Planned search) p = absurd (cc p.1)
