@@ -1,6 +1,6 @@
 -- What one life of a world knows of its store and its clock, whatever its actors do.
 use Rattle.std.specs.Prelude.{◌≡◌, ◌⊎◌, ◌<◌, ◌≤◌, ◌==◌, ℕ, ◌+◌, ◌-◌, ◌^◌, max, Bool, true, false, List, [], ◌∷◌, ◌++◌, Option, Some, None, bytes_eq, if◌then◌else◌}
-use Rattle.std.specs.List.{AllByRecursion}
+use Rattle.std.specs.List.{AllByRecursion, list_any}
 use Rattle.index_config.specs.declared.config.IndexConfig.{IndexConfig}
 use Rattle.meta_journal.specs.Places.{meta_key, split_key}
 use Rattle.meta_journal.specs.declared.entry.Entry.{Entry}
@@ -58,6 +58,9 @@ pub record Core : Type 0 where
   pub late : List Late  -- the creates that failed and may land later, in the store's order
   pub marks : List Marking  -- what this life marked
   pub doomed : List ℕ  -- the numbers whose files this life deleted while they had a row
+
+abbrev pub is_in : List ℕ → ℕ → Bool
+is_in numbers number = list_any (λ n. n == number) numbers
 
 -- a count stands still at its type's end
 abbrev pub last_count : ℕ

@@ -324,7 +324,7 @@ impl<S: ObjectStore, C: SteadyClock> World<S, C> {
 
     /// Deletes the file of a number that was staged and whose row is gone, and says whether it is such a number: of another one nothing
     /// is done, and no call of the store is made.
-    pub fn sweep(&mut self, number: u64) -> Result<bool, WorldError>
+    pub fn sweep_delete(&mut self, number: u64) -> Result<bool, WorldError>
         ensures step { (core : Core) (log : Log) → WorldStands self.old core log →
             ActsWith WorldStands None (sweep_call number) IsTrouble IsGiven result core log self.new }
         // Over all stores: which numbers these are, and a fault has its counts before and behind, of which the second rose.
