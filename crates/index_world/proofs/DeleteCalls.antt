@@ -182,6 +182,7 @@ module _ (old new : State) (core : Core) (log : Log) (n now : ℕ) (w : IsWorld 
         faults = b.faults;
         moment = b.moment;
         clock = b.clock;
+        upkeep = b.upkeep;
         unsure = b.unsure;
         gone = λ ok. file_at-gone mid.files (split_key n);
       }
@@ -230,6 +231,7 @@ module _ (old new : State) (core : Core) (log : Log) (n now : ℕ) (w : IsWorld 
             faults = b.faults;
             moment = b.moment;
             clock = b.clock;
+            upkeep = b.upkeep;
             unsure = b.unsure;
             gone = λ ok. absurd (true_is_false (sym ok));
           }
@@ -246,6 +248,7 @@ module _ (old new : State) (core : Core) (log : Log) (n now : ℕ) (w : IsWorld 
             faults = b.faults;
             moment = b.moment;
             clock = b.clock;
+            upkeep = b.upkeep;
             unsure = b.unsure;
             gone = λ ok. absurd (true_is_false (sym ok));
           }

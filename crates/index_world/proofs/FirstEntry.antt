@@ -22,18 +22,18 @@ use Rattle.index_world.specs.declared.world_error.WorldError.{WorldError}
 use Rattle.index_world.specs.declared.world_error.WorldError.TheVariants as errors
 use Rattle.index_world.specs.Calls.{Call, Fate, Gives, gives, no_memory, faulted, store_fault, store_failed, Unread, not_read, no_index, or_short, asked_clock, asked_moment, entry_of, taken_in}
 use Rattle.index_world.specs.Config.{settings_of}
-use Rattle.index_world.specs.Core.{Core, last_count, with_unread, clock_of}
+use Rattle.index_world.specs.Core.{Core, last_count, with_unread, clock_of, Upkeep, upkeep_of, no_upkeep}
 use Rattle.index_world.specs.Created.{create_at, Leaves, IsToldBy, MayBegin, Begins, MakesFirst, TriesFirst, FirstLanded, CreatesNot, CreatesLife, Uncreated, not_created, index_exists, bad_config, first_making, with_first, created_by, created_from, created, IsUncreated, CreatesAs, CreatesWorld, CreatesNone}
 use Rattle.index_world.specs.Index.{MayEnter}
 use Rattle.index_world.specs.Life.{LifeIs}
 use Rattle.index_world.specs.Onward.{Reread}
-use Rattle.index_world.specs.Steps.{Counted, quiet, MadeLaw, FailedLaw, ExistsLaw, Ends}
+use Rattle.index_world.specs.Steps.{Counted, noting, quiet, MadeLaw, FailedLaw, ExistsLaw, Ends}
 use Rattle.index_world.specs.World.{IsWorld, IsTimely}
 use Rattle.index_world.proofs.FileCalls.{LoadLaw, UnreadLaw, load_law, load_failed_law, load_short_law}
 use Rattle.index_world.proofs.Gates.{kept_by}
 use Rattle.index_world.proofs.Asking.{asked_least}
 use Rattle.index_world.proofs.InCore.{keeps_reread}
-use Rattle.index_world.proofs.JournalCalls.{calm_get, made_law, failed_law, exists_law}
+use Rattle.index_world.proofs.JournalCalls.{calm_get, noted_same, made_law, failed_law, exists_law}
 use Rattle.index_world.proofs.JournalLaws.{spells_own}
 use Rattle.index_world.proofs.Journals.{once}
 use Rattle.index_world.proofs.Lives.{knows_of}
@@ -199,8 +199,14 @@ module _ (old new : State) (core : Core) (log : Log) (text : List ℕ) (now : �
       whole : after.history ≡ create_at text core.clock ∷ []
       whole = ap (λ (es : List Entry). es ++ first ∷ []) (m.history ∙ l.history) ∙ ap (λ (e : Entry). e ∷ []) (sym (first_is core.clock refl))
 
+      noted : upkeep_of after ≡ noting asked.moment (upkeep_of asked) first
+      noted = noted_same asked m.after first m.moment m.upkeep
+
+      none_noted : upkeep_of after ≡ no_upkeep
+      none_noted = noted ∙ ap (λ (k : Upkeep). noting asked.moment k first) l.upkeep
+
       ends : Ends asked after (first ∷ []) false now
-      ends = ends_taken asked after first now (ap (λ (es : List Entry). es ++ first ∷ []) m.history) m.faults (ap (λ (n : ℕ). max n asked.moment) m.moment) m.clock refl
+      ends = ends_taken asked after first now (ap (λ (es : List Entry). es ++ first ∷ []) m.history) m.faults (ap (λ (n : ℕ). max n asked.moment) m.moment) m.clock noted refl
 
       timely_before : IsTimely asked
       timely_before =
@@ -230,9 +236,9 @@ module _ (old new : State) (core : Core) (log : Log) (text : List ℕ) (now : �
       moment_is : after.moment ≡ moment
       moment_is = let e = m.moment in let t = time in omega (arith, e, t, at)
 
-      world_made : {has : ℕ} (told' : Option State) (clock : Option ℕ) (life : Life) → told' ≡ Some new → clock ≡ Some core.clock → LifeIs life (create_at text moment ∷ []) moment false → CreatesWorld text core log (kept_by has told' now clock life false)
+      world_made : {has : ℕ} (told' : Option State) (clock : Option ℕ) (life : Life) → told' ≡ Some new → clock ≡ Some core.clock → LifeIs life (create_at text moment ∷ []) moment false no_upkeep → CreatesWorld text core log (kept_by has told' now clock life false)
       world_made told' clock life tells ticks k =
-          let knows = knows_of life (create_at text moment ∷ []) after.history moment after.moment false false (ap (λ (n : ℕ). create_at text n ∷ []) at ∙ sym whole) (sym moment_is) refl k in
+          let knows = knows_of life (create_at text moment ∷ []) after.history moment after.moment false false (ap (λ (n : ℕ). create_at text n ∷ []) at ∙ sym whole) (sym moment_is) refl (sym none_noted) k in
           record {
             after = after;
             creates = creates;
@@ -248,6 +254,8 @@ module _ (old new : State) (core : Core) (log : Log) (text : List ℕ) (now : �
               next = knows.next;
               unsure = knows.unsure;
               frozen = sym awake ∙ ap (λ (x : ℕ × Bool). x.1) (sym clock_same);
+              marks = knows.marks;
+              doomed = knows.doomed;
               opened = let e = ap length whole in omega (arith, e);
             };
             none = none;

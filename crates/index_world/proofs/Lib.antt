@@ -34,6 +34,8 @@ pub mod JournalLaws
 pub mod WholeCalls
 pub mod WholeFiles
 pub mod Lives
+pub mod Halves
+pub mod Markings
 pub mod Settling
 pub mod Creating
 pub mod Appending

@@ -35,6 +35,8 @@ keeping_of kept core =
       next = length core.history;
       unsure = core.unsure;
       frozen = core.frozen;
+      marks = core.marks;
+      doomed = core.doomed;
     }
 
 -- A whole call did this: it is the core's call with some fate, its answer is this one, and the world stands behind it.
@@ -66,6 +68,8 @@ stands_behind new start after log more doubt now some w t e =
       next = refl;
       unsure = refl;
       frozen = refl;
+      marks = λ n. refl;
+      doomed = λ n. refl;
       opened = let l = ap length e.history in let a = length-append start.history more in omega (arith, some, l, a);
     }
 
@@ -122,7 +126,7 @@ whole_asked kept core log w some t =
     }
   where
     same_history : (c : Core) → Ends c c [] c.unsure c.store_faults
-    same_history c = ends_same c c c.unsure c.store_faults refl refl refl refl refl
+    same_history c = ends_same c c c.unsure c.store_faults refl refl refl refl refl refl
 
 -- ---- settling, and what is copied behind it
 
@@ -158,7 +162,7 @@ looks_sure kept core log short w t sure =
       after = core;
       did = ap (copying short) (settled_sure core calm_get calm_get sure refl) ∙ copied_is short core;
       onward = onward-refl kept core log w;
-      ends = ends_same core core core.unsure core.store_faults refl refl refl refl refl;
+      ends = ends_same core core core.unsure core.store_faults refl refl refl refl refl refl;
       timely = t;
     }
 

@@ -31,7 +31,7 @@ use Rattle.index_world.proofs.WholeCalls.{Whole, keeping_of, stands_behind, went
 -- ---- an upload
 
 pub upload_ends : (old new : State) (core : Core) (log : Log) (n : ℕ) (bytes : List ℕ) (answer : Core → Result ⊤ Trouble) (now : ℕ) (u : UploadLaw old new core log n bytes answer now) → Ends core u.after [] core.unsure now
-upload_ends old new core log n bytes answer now u = ends_same core u.after core.unsure now u.history u.faults u.moment u.clock u.unsure
+upload_ends old new core log n bytes answer now u = ends_same core u.after core.unsure now u.history u.faults u.moment u.clock u.upkeep u.unsure
 
 abbrev pub whole_upload : (old new : State) (core : Core) (log : Log) (n : ℕ) (bytes : List ℕ) (answer : Core → Result ⊤ Trouble) (now : ℕ) →
     IsWorld old core log → 0 < length core.history → IsTimely core → Counted core now → UploadLaw old new core log n bytes answer now →
@@ -91,7 +91,7 @@ whole_fetched grace number old new core log answer now w some t c f =
     b = f.begun
 
     ends : Ends (asked_clock core) f.after [] core.unsure now
-    ends = ends_same (asked_clock core) f.after core.unsure now b.history b.faults b.moment b.clock b.unsure
+    ends = ends_same (asked_clock core) f.after core.unsure now b.history b.faults b.moment b.clock b.upkeep b.unsure
 
 -- ---- reading the journal
 
@@ -150,6 +150,8 @@ whole_loaded old mid new core log read now w clock some l j =
         next = refl;
         unsure = refl;
         frozen = refl;
+        marks = λ n. refl;
+        doomed = λ n. refl;
         opened = let e = ap length l.history in omega (arith, e, some);
       };
     }

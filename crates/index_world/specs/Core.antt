@@ -14,6 +14,7 @@ use Rattle.split_states.specs.declared.rows.Row.{Row}
 use Rattle.split_states.specs.declared.rows.RowState.TheVariants.{Published, Marked}
 use Rattle.index_world.specs.Configuration.{configuration, StaysConfigured}
 use Rattle.index_world.specs.Index.{has_staged, HasStaged, IsGivenUp}
+pub use Rattle.index_world.specs.declared.marking.Marking.{Marking}
 
 -- an object outside the journal
 pub record File : Type 0 where
@@ -41,11 +42,6 @@ late_bytes (late_entry number entry bytes) = bytes
 late_bytes (late_dead key bytes) = bytes
 late_bytes (late_file key bytes) = bytes
 
--- a row that was marked: its number, and the greatest moment where its marking was taken in
-pub record Marking : Type 0 where
-  pub number : ℕ
-  pub moment : ℕ
-
 pub record Core : Type 0 where
   pub history : List Entry  -- as it was taken in
   pub store_faults : ℕ
@@ -69,6 +65,18 @@ last_count = 2 ^ 64 - 1
 -- what a life knows of its clock
 abbrev pub clock_of : Core → ℕ × Bool
 clock_of core = (core.clock, core.frozen)
+
+-- what a life noted: which marking it took in when, and whose files it deleted while they had a row
+pub record Upkeep : Type 0 where
+  pub marks : List Marking
+  pub doomed : List ℕ
+
+abbrev pub upkeep_of : Core → Upkeep
+upkeep_of core = record { marks = core.marks; doomed = core.doomed }
+
+-- it noted nothing yet
+abbrev pub no_upkeep : Upkeep
+no_upkeep = record { marks = []; doomed = [] }
 
 -- these entries, and the one that stands unread behind them
 abbrev pub with_unread : List Entry → Option Entry → List Entry

@@ -3,10 +3,12 @@
 
 mod config;
 mod direct;
+mod doom_list;
 mod first_entry;
 mod gate;
 pub mod laws;
 mod life;
+mod marking;
 mod own;
 mod steady;
 mod taking;

@@ -70,6 +70,8 @@ impl<S: ObjectStore, C: SteadyClock> Model for World<S, C> {
       next = w.life.journal.next;
       unsure = is_unsure w.life.journal.place;
       frozen = w.frozen;
+      marks = w.life.marks.items;
+      doomed = w.life.doomed.numbers.items;
     } };
 }
 
@@ -234,6 +236,8 @@ impl<S: ObjectStore, C: SteadyClock> World<S, C> {
         ensures meta { self.new.meta ≡ self.old.meta }
         ensures next { self.new.next ≡ self.old.next }
         ensures unsure { self.new.unsure ≡ self.old.unsure }
+        ensures marks { self.new.marks ≡ self.old.marks }
+        ensures doomed { self.new.doomed ≡ self.old.doomed }
     {
         if !self.frozen {
             self.life.moment = self.life.moment.max(self.clock.ask());
