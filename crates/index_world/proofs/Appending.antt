@@ -383,7 +383,7 @@ module _ (old : State) (core : Core) (log : Log) (own : Own) (before count : ℕ
 
     stands : StandsBy a.new a.step.after log n life''
     stands =
-        stands_by a.new core a.step.after log n life'' (f ∷ []) false b.opened a.counted.within a.step.onward.world (timely_more core a.step.after f n b.timely a.can ends_taken) ends_taken
+        stands_by a.new core a.step.after log n life'' (f ∷ []) false b.opened a.counted.within a.step.onward.world (timely_more core a.step.after f n b.timely a.can ends_taken a.step.onward.world) ends_taken
         (life_taken life' life'' core.history core.moment true f a.knows took a.can.moment)
 
     again : life''.journal.settled ≡ true

@@ -49,7 +49,7 @@ use Rattle.index_world.proofs.InCore.{stored-of}
 use Rattle.index_world.proofs.JournalCalls.{failed_law}
 use Rattle.index_world.proofs.JournalLaws.{spells_own, appends_made, appends_adopted, appends_foreign, appends_no_corrupt}
 use Rattle.index_world.proofs.Journals.{once}
-use Rattle.index_world.proofs.Living.{NoRemove}
+use Rattle.index_world.proofs.Living.{Releases}
 use Rattle.index_world.proofs.Lives.{Notes, Told, told_of, life_more}
 use Rattle.index_world.proofs.Transacting.{own_allowed, own_enters, fault_tried}
 use Rattle.index_world.proofs.Worlds.{journal_is_history}
@@ -60,10 +60,10 @@ pub own_numbers : (own : Own) (core : Core) → HasNumbers (own_act own core)
 own_numbers (owns.Stage delta facts) core = tt
 own_numbers (owns.Publish number) core = tt
 
--- it is no Remove
-no_remove_own : (own : Own) (core : Core) → NoRemove (entry_of (own_act own core) core)
-no_remove_own (owns.Stage delta facts) core numbers is = cc is
-no_remove_own (owns.Publish number) core numbers is = cc is
+-- it removes released rows alone
+releases_own : (own : Own) (core : Core) → Releases core (entry_of (own_act own core) core)
+releases_own (owns.Stage delta facts) core config is numbers e = cc e
+releases_own (owns.Publish number) core config is numbers e = cc e
 
 -- the file of a row that is staged stands
 stored_staged : (core : Core) (number : ℕ) (bytes : List ℕ) → (row : Row) × (row_at (rows (history core.history)) number ≡ Some row) × (row.state ≡ Staged) → journal_of core ≡ core.history →
@@ -173,7 +173,7 @@ module _ (old : State) (core : Core) (log : Log) (count now : ℕ) (life : Life)
           new = t.new;
           tells = t.is;
           counted = counted;
-          did = record { can = can; may = may; step = appends_made old t.new core log (own_act own core) now b.world counted can_own (no_remove_own own core) enters m t.says; knows = k };
+          did = record { can = can; may = may; step = appends_made old t.new core log (own_act own core) now b.world counted can_own (releases_own own core) enters m t.says; knows = k };
           still = still;
         }
 
@@ -189,7 +189,7 @@ module _ (old : State) (core : Core) (log : Log) (count now : ℕ) (life : Life)
           did = record {
             first = first;
             may = may;
-            step = appends_adopted old t.new core log (own_act own core) now b.world counted can_own (no_remove_own own core) enters f before t.says;
+            step = appends_adopted old t.new core log (own_act own core) now b.world counted can_own (releases_own own core) enters f before t.says;
             can = t.says.1.can;
             given = given;
             knows = k;
@@ -215,16 +215,16 @@ module _ (old : State) (core : Core) (log : Log) (count now : ℕ) (life : Life)
               counted = counted;
               did = inr (inr (inl (record {
                 may = may;
-                step = failed_law once old t.new core log (entry_of (own_act own core) core) now b.world counted rose can_own (no_remove_own own core) enters (spells_own (entry_of (own_act own core) core)) (fault_tried (length core.history) (entry_of (own_act own core) core) old t.new t.says);
+                step = failed_law once old t.new core log (entry_of (own_act own core) core) now b.world counted rose can_own (releases_own own core) enters (spells_own (entry_of (own_act own core) core)) (fault_tried (length core.history) (entry_of (own_act own core) core) old t.new t.says);
                 is = ap (λ (n : ℕ). errors.StoreFault before n) fault.1;
                 knows = k;
               })));
               still = still;
             }
         by (journal.Foreign key) t fault taken adopted full k =
-            let x = appends_foreign old t.new core log (own_act own core) now b.world counted can_own (no_remove_own own core) enters key t.says in
+            let x = appends_foreign old t.new core log (own_act own core) now b.world counted can_own (releases_own own core) enters key t.says in
             record { new = t.new; tells = t.is; counted = counted; did = inr (inr (inr (record { again = taken; may = may; step = x.0; is = ap errors.Foreign x.1; knows = k }))); still = still }
-        by (journal.Corrupt key) t fault taken adopted full k = absurd (appends_no_corrupt old t.new core log (own_act own core) now b.world counted can_own (no_remove_own own core) enters key t.says)
+        by (journal.Corrupt key) t fault taken adopted full k = absurd (appends_no_corrupt old t.new core log (own_act own core) now b.world counted can_own (releases_own own core) enters key t.says)
         by (journal.Missing key) t fault taken adopted full k = absurd t.says
         by (journal.Adopted f) t fault taken adopted full k = absurd (adopted f refl)
         by journal.Full t fault taken adopted full k = absurd (full refl)

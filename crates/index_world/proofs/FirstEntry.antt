@@ -26,6 +26,8 @@ use Rattle.index_world.specs.Core.{Core, last_count, with_unread, clock_of, Upke
 use Rattle.index_world.specs.Created.{create_at, Leaves, IsToldBy, MayBegin, Begins, MakesFirst, TriesFirst, FirstLanded, CreatesNot, CreatesLife, Uncreated, not_created, index_exists, bad_config, first_making, with_first, created_by, created_from, created, IsUncreated, CreatesAs, CreatesWorld, CreatesNone}
 use Rattle.index_world.specs.Index.{MayEnter}
 use Rattle.index_world.specs.Life.{LifeIs}
+use Rattle.index_world.specs.Releases.{MayFree}
+use Rattle.std.specs.List.{AllByRecursion}
 use Rattle.index_world.specs.Onward.{Reread}
 use Rattle.index_world.specs.Steps.{Counted, noting, quiet, MadeLaw, FailedLaw, ExistsLaw, Ends}
 use Rattle.index_world.specs.World.{IsWorld, IsTimely}
@@ -191,7 +193,7 @@ module _ (old new : State) (core : Core) (log : Log) (text : List ℕ) (now : �
     -- it was made
     module _ (moment : ℕ) (at : moment ≡ core.clock) (tried : MakesFirst text moment mid new) where
       m : MadeLaw mid new asked log first now
-      m = made_law once mid new asked log first now world counts can (λ numbers is. cc is) (λ free. may) (spells_own first) (tries_at 0 (length asked.history) (create_at text moment) first (Ok tt) mid new at_start (first_is moment at) tried)
+      m = made_law once mid new asked log first now world counts can (λ config is numbers e. cc e) (λ free. may) (spells_own first) (tries_at 0 (length asked.history) (create_at text moment) first (Ok tt) mid new at_start (first_is moment at) tried)
 
       abbrev after : Core
       after = taken_in first m.after
@@ -215,6 +217,7 @@ module _ (old new : State) (core : Core) (log : Log) (text : List ℕ) (now : �
             moment = omega (arith, time, low);
             clock = omega (arith, clocks, low);
             room = λ u. absurd (true_is_false (sym (sym l.unsure ∙ u)));
+            doomed = subst (λ (ns : List ℕ). AllByRecursion (MayFree asked) ns) (sym (ap (λ (k : Upkeep). k.doomed) l.upkeep)) tt;
           }
 
       made_by : Reread old new core after log
@@ -246,7 +249,7 @@ module _ (old new : State) (core : Core) (log : Log) (text : List ℕ) (now : �
               kept = new;
               told = tells;
               world = m.taken.world;
-              timely = timely_more asked after first now timely_before can ends;
+              timely = timely_more asked after first now timely_before can ends m.taken.world;
               store_faults = sym m.faults;
               clock = ticks ∙ ap (λ (x : ℕ × Bool). Some x.0) (sym clock_same);
               moment = knows.moment;
@@ -280,7 +283,7 @@ module _ (old new : State) (core : Core) (log : Log) (text : List ℕ) (now : �
         IsUncreated error (not_created (faulted (store_fault core.store_faults now))) → CreatesNone text core log error told' now
     tried_none error told' moment tells at tried still rose says =
         let rises : Rose asked.store_faults now = subst (λ (n : ℕ). Rose n now) (sym (l.faults ∙ still)) rose in
-        let f : FailedLaw mid new asked log first now = failed_law once mid new asked log first now world counts rises can (λ numbers is. cc is) (λ free. may) (spells_own first) (tries_at 0 (length asked.history) (create_at text moment) first create_failed mid new at_start (first_is moment at) tried) in
+        let f : FailedLaw mid new asked log first now = failed_law once mid new asked log first now world counts rises can (λ config is numbers e. cc e) (λ free. may) (spells_own first) (tries_at 0 (length asked.history) (create_at text moment) first create_failed mid new at_start (first_is moment at) tried) in
         none_by error told' (fate_with l.fate f.call) (not_created (store_failed core.store_faults f.after)) f.after l.more tells (did_with f.call f.short ∙ ap (first_making core.store_faults first) f.did)
         (Reread-then old mid new core asked f.after log onward f.onward) (f.history ∙ l.grown) f.faults
         (subst (λ (n : ℕ). IsUncreated error (not_created (faulted (store_fault core.store_faults n)))) (sym f.faults) says) (f.history ∙ l.history ∙ sym none)

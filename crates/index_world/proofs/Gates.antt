@@ -44,7 +44,7 @@ use Rattle.index_world.specs.Steps.{Counted, greatest, noted_behind}
 use Rattle.index_world.specs.Taking.{IsWant, of_create, of_get}
 use Rattle.index_world.specs.Unsure.{is_unsure}
 use Rattle.index_world.specs.World.{IsWorld, IsTimely, Keeping, WorldStands}
-use Rattle.index_world.proofs.Asking.{timely_asked}
+use Rattle.index_world.proofs.Timely.{frees_later, timely_asked}
 use Rattle.index_world.proofs.Lives.{Told, told_of, want_trouble, knows_of}
 use Rattle.index_world.proofs.Numbers.{history-snoc, revision_is, staged_le}
 use Rattle.index_world.proofs.WholeCalls.{Whole, Looks, looks_sure, looks_settled, looks_unsettled, whole_appended, whole_asked, whole_looked, whole_asked_and_looked, world_asked, copied}
@@ -105,7 +105,7 @@ world_freezes w w' core log e s =
       kept = s.kept;
       told = s.told;
       world = world-frozen s.kept core log s.world;
-      timely = record { greatest = s.timely.greatest; moment = s.timely.moment; clock = s.timely.clock; room = s.timely.room };
+      timely = record { greatest = s.timely.greatest; moment = s.timely.moment; clock = s.timely.clock; room = s.timely.room; doomed = frees_later core (record core { frozen = true }) refl refl (omega arith) refl s.timely.doomed };
       store_faults = s.store_faults;
       clock = s.clock;
       moment = s.moment;
@@ -125,7 +125,7 @@ clocked w core log given moment s low e =
       kept = s.kept;
       told = s.told;
       world = world-same s.kept core log core.store_faults core.moment moment core.unsure s.world;
-      timely = record { greatest = s.timely.greatest; moment = s.timely.moment; clock = low; room = s.timely.room };
+      timely = record { greatest = s.timely.greatest; moment = s.timely.moment; clock = low; room = s.timely.room; doomed = frees_later core (record core { clock = moment }) refl refl (omega arith) refl s.timely.doomed };
       store_faults = s.store_faults;
       clock = ap Some e;
       moment = s.moment;

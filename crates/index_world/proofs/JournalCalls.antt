@@ -11,7 +11,7 @@ use Rattle.object_store.specs.Store.{State, landed, with_object, with_late, HasL
 use Rattle.object_store.specs.declared.store.CreateError.TheVariants as creates
 use Rattle.source_log.specs.Log.{Log}
 use Rattle.index_world.specs.Calls.{Call, exists, failed, Making, made_behind, made_at, create_at_end, tried, begun, risen, may_fail, taken_in, got_at, get_at_end, gives, store_failed}
-use Rattle.index_world.specs.Core.{Core, late_entry, last_count, clock_of, upkeep_of}
+use Rattle.index_world.specs.Core.{Core, late_entry, last_count, clock_of, Upkeep, upkeep_of}
 use Rattle.index_world.specs.Index.{OneEntry, MayEnter, IsUnused, HasStaged}
 use Rattle.index_world.specs.World.{IsWorld}
 use Rattle.index_world.specs.Onward.{Onward, Landing}
@@ -19,7 +19,7 @@ use Rattle.index_world.proofs.StoreKeys.{true_is_false}
 use Rattle.index_world.proofs.Journals.{journal-end, stand-of}
 use Rattle.index_world.proofs.Indexing.{longer}
 use Rattle.index_world.proofs.Landing.{journal_none, journal_some, standing_number}
-use Rattle.index_world.proofs.Living.{NoRemove, live-on}
+use Rattle.index_world.proofs.Living.{Releases, releases-on, live-on}
 use Rattle.index_world.proofs.Worlds.{Onward-trans, world-lands, world-same, onward-same}
 use Rattle.index_world.proofs.WorldCalls.{Entered, world-enters, world-tried, world-taken}
 use Rattle.index_world.specs.Steps.{noting}
@@ -115,7 +115,7 @@ entry_stands once kept core log f w h = by (something_stands kept core log w (ap
 
 -- ---- the create was Ok
 
-pub made_law : OneEntry → (old new : State) (core : Core) (log : Log) (entry : Entry) (now : ℕ) → IsWorld old core log → Counted core now → CanSpell entry → NoRemove entry →
+pub made_law : OneEntry → (old new : State) (core : Core) (log : Log) (entry : Entry) (now : ℕ) → IsWorld old core log → Counted core now → CanSpell entry → Releases core entry →
     (core.standing ≡ None → MayEnter old core.history log entry) → Spells (spelling entry) entry → LandsThen (Creates (meta_key (length core.history)) (spelling entry) (Ok tt)) old new →
     MadeLaw old new core log entry now
 made_law once old new core log entry now w c can keeps may spells t =
@@ -149,7 +149,7 @@ made_law once old new core log entry now w c can keeps may spells t =
     none = nothing_stands t.0 mid log b.onward.world (ap (λ es. numbered t.0 (length es)) b.history ∙ t.2.0)
 
     entered : Entered t.0 (with_object t.0 (meta_key (length mid.history)) (spelling entry)) mid log entry mid.unsure
-    entered = world-enters t.0 mid log entry (spelling entry) mid.unsure b.onward.world none spells keeps (subst (λ es. MayEnter t.0 es log entry) (sym b.history) (b.enters none entry may))
+    entered = world-enters t.0 mid log entry (spelling entry) mid.unsure b.onward.world none spells (releases-on core mid entry b.history (ap (λ (u : Upkeep). u.marks) b.upkeep) keeps) (subst (λ es. MayEnter t.0 es log entry) (sym b.history) (b.enters none entry may))
 
     is : new ≡ with_object t.0 (meta_key (length mid.history)) (spelling entry)
     is = t.2.1 ∙ ap (λ es. with_object t.0 (meta_key (length es)) (spelling entry)) (sym b.history)
@@ -216,7 +216,7 @@ has_failed core = record { answer = failed; core = core }
 
 -- ---- the create failed
 
-pub failed_law : OneEntry → (old new : State) (core : Core) (log : Log) (entry : Entry) (now : ℕ) → IsWorld old core log → Counted core now → Rose core.store_faults now → CanSpell entry → NoRemove entry →
+pub failed_law : OneEntry → (old new : State) (core : Core) (log : Log) (entry : Entry) (now : ℕ) → IsWorld old core log → Counted core now → Rose core.store_faults now → CanSpell entry → Releases core entry →
     (core.standing ≡ None → MayEnter old core.history log entry) → Spells (spelling entry) entry → LandsThen (Creates (meta_key (length core.history)) (spelling entry) (Err creates.Failed)) old new →
     FailedLaw old new core log entry now
 failed_law once old new core log entry now w c rose can keeps may spells t = by t.2
@@ -237,7 +237,7 @@ failed_law once old new core log entry now w c rose can keeps may spells t = by 
         ⊎ ((new ≡ with_late t.0 (meta_key (length core.history)) (spelling entry)) ⊎ (IsSome (get t.0.objects (meta_key (length core.history))) × (new ≡ t.0))) → FailedLaw old new core log entry now
     by (inl d) =
         let none : mid.standing ≡ None = nothing_stands t.0 mid log b.onward.world (ap (λ es. numbered t.0 (length es)) b.history ∙ d.0) in
-        let entered = world-enters t.0 mid log entry (spelling entry) true b.onward.world none spells keeps (subst (λ es. MayEnter t.0 es log entry) (sym b.history) (b.enters none entry may)) in
+        let entered = world-enters t.0 mid log entry (spelling entry) true b.onward.world none spells (releases-on core mid entry b.history (ap (λ (u : Upkeep). u.marks) b.upkeep) keeps) (subst (λ es. MayEnter t.0 es log entry) (sym b.history) (b.enters none entry may)) in
         let is : new ≡ with_object t.0 (meta_key (length mid.history)) (spelling entry) = d.1 ∙ ap (λ es. with_object t.0 (meta_key (length es)) (spelling entry)) (sym b.history) in
         record {
           call = call true;
@@ -254,7 +254,7 @@ failed_law once old new core log entry now w c rose can keeps may spells t = by 
         }
     by (inr (inl d)) =
         let is : new ≡ with_late t.0 (meta_key (length mid.history)) (spelling entry) = d ∙ ap (λ es. with_late t.0 (meta_key (length es)) (spelling entry)) (sym b.history) in
-        let onward = world-tried t.0 mid log entry (spelling entry) b.onward.world can spells keeps (λ none. subst (λ es. MayEnter t.0 es log entry) (sym b.history) (b.enters none entry may)) in
+        let onward = world-tried t.0 mid log entry (spelling entry) b.onward.world can spells (releases-on core mid entry b.history (ap (λ (u : Upkeep). u.marks) b.upkeep) keeps) (λ none. subst (λ es. MayEnter t.0 es log entry) (sym b.history) (b.enters none entry may)) in
         record {
           call = call false;
           short = refl;

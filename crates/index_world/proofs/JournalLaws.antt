@@ -19,7 +19,7 @@ use Rattle.index_world.specs.Index.{MayEnter}
 use Rattle.index_world.specs.World.{IsWorld, IsTimely}
 use Rattle.index_world.proofs.Journals.{once, stand-of}
 use Rattle.index_world.proofs.Numbers.{history-snoc}
-use Rattle.index_world.proofs.Living.{NoRemove}
+use Rattle.index_world.proofs.Living.{Releases}
 use Rattle.index_world.proofs.Landing.{journal_some}
 use Rattle.index_world.proofs.Asking.{fence_enters}
 use Rattle.index_world.proofs.JournalCalls.{Counted, Begun, noted_same, quiet, failing, calm_get, world-begins, made_law, adopted_law, failed_law, exists_law, get_failed_law, MadeLaw, AdoptedLaw, FailedLaw, ExistsLaw, GetFailedLaw, something_stands, last_entry, still_counted, Unread}
@@ -57,7 +57,7 @@ corrupt_never old new core log now key w c t corrupt = by (something_stands new 
 
 -- ---- what an append answered
 
-module _ (old new : State) (core : Core) (log : Log) (act : Act) (now : ℕ) (w : IsWorld old core log) (c : Counted core now) (can : CanSpell (entry_of act core)) (keeps : NoRemove (entry_of act core))
+module _ (old new : State) (core : Core) (log : Log) (act : Act) (now : ℕ) (w : IsWorld old core log) (c : Counted core now) (can : CanSpell (entry_of act core)) (keeps : Releases core (entry_of act core))
     (may : core.standing ≡ None → MayEnter old core.history log (entry_of act core)) where
   pub appends_made : (m : ℕ) → Appends (length core.history) (entry_of act core) (Ok m) old new → MadeLaw old new core log (entry_of act core) now
   appends_made m a = made_law once old new core log (entry_of act core) now w c can keeps may (spells_own (entry_of act core)) a.1
@@ -96,8 +96,8 @@ module _ (old new : State) (core : Core) (log : Log) (now : ℕ) (w : IsWorld ol
   can_fence : CanSpell (fence_of core)
   can_fence = record { moment = t.moment; act = tt }
 
-  keeps_fence : NoRemove (fence_of core)
-  keeps_fence numbers is = cc is
+  keeps_fence : Releases core (fence_of core)
+  keeps_fence config is numbers e = cc e
 
   may_fence : core.standing ≡ None → MayEnter old core.history log (fence_of core)
   may_fence none = fence_enters old core log (legal_history old core log w) some t unsure

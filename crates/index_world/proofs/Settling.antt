@@ -102,7 +102,7 @@ module _ (old : State) (core : Core) (log : Log) (count now : ℕ) (life : Life)
             entry = f;
             can = can;
             step = s;
-            stands = stands_by t.new core s.after log now new (f ∷ []) false b.opened within s.onward.world (timely_more core s.after f now b.timely can (settled_ends old t.new core log f now s)) (settled_ends old t.new core log f now s)
+            stands = stands_by t.new core s.after log now new (f ∷ []) false b.opened within s.onward.world (timely_more core s.after f now b.timely can (settled_ends old t.new core log f now s) s.onward.world) (settled_ends old t.new core log f now s)
                 (life_taken mid new core.history core.moment true f k took can.moment);
             again = ap (λ (j : Numbered). j.settled) took.journal;
           });

@@ -11,7 +11,7 @@ use Rattle.meta_store.proofs.Answered.{answered}
 use Rattle.meta_store.specs.Answers.{HasNumbers}
 use Rattle.meta_store.specs.History.{history, moment_of}
 use Rattle.meta_store.specs.Readings.{config_of, reading_of}
-use Rattle.meta_store.specs.State.{state_of}
+use Rattle.meta_store.specs.State.{Legal, state_of}
 use Rattle.meta_store.specs.declared.refusal.Refusal.{Refusal}
 use Rattle.object_store.specs.Store.{State, HasLanded}
 use Rattle.source_log.specs.Log.{Log}
@@ -22,11 +22,12 @@ use Rattle.index_world.specs.Index.{MayEnter, HasFile, max_entries, IsAllowed}
 use Rattle.index_world.specs.World.{IsWorld, IsTimely}
 use Rattle.index_world.specs.Onward.{Onward}
 use Rattle.index_world.proofs.StoreKeys.{true_is_false}
-use Rattle.index_world.proofs.Asking.{timely_taken}
 use Rattle.index_world.proofs.Worlds.{Onward-trans, onward-refl}
 use Rattle.index_world.specs.Steps.{noting, noted_behind}
 use Rattle.index_world.proofs.JournalCalls.{Counted, noted_same, quiet, calm_get, MadeLaw, AdoptedLaw, FailedLaw, ExistsLaw, still_counted}
-use Rattle.index_world.proofs.JournalLaws.{Settled, Unsettled, appends_short, short_get}
+use Rattle.index_world.proofs.Timely.{frees_later, timely_taken}
+use Rattle.index_world.proofs.Numbers.{history-snoc}
+use Rattle.index_world.proofs.JournalLaws.{Settled, Unsettled, appends_short, legal_history, short_get}
 use Rattle.index_world.proofs.Transactions.{last_is_made, last_failed, last_foreign, last_refused, first_made, first_failed, first_adopted, first_refused, first_short, first_by, after_settling, not_settled}
 pub use Rattle.index_world.specs.Steps.{greatest, Ends, Transacted}
 
@@ -106,6 +107,7 @@ timely_same core after unsure now t e room =
       moment = let a = t.moment in let b = e.moment in omega (arith, a, b);
       clock = let a = t.clock in let b = ap (λ (c : ℕ × Bool). c.0) e.clock in omega (arith, a, b);
       room = λ u. subst (λ h. length h < max_entries) (sym same) (room (sym e.unsure ∙ u));
+      doomed = frees_later core after same (ap (λ (k : Upkeep). k.marks) e.upkeep) (let b = e.moment in omega (arith, b)) (ap (λ (k : Upkeep). k.doomed) e.upkeep) t.doomed;
     }
 
 -- an entry more
@@ -113,14 +115,16 @@ pub ends_taken : (core after : Core) (entry : Entry) (now : ℕ) → after.histo
     upkeep_of after ≡ noting core.moment (upkeep_of core) entry → after.unsure ≡ false → Ends core after (entry ∷ []) false now
 ends_taken core after entry now h f m c k u = record { history = h; faults = f; moment = m; clock = c; upkeep = k; unsure = u }
 
-pub timely_more : (core after : Core) (entry : Entry) (now : ℕ) → IsTimely core → CanSpell entry → Ends core after (entry ∷ []) false now → IsTimely after
-timely_more core after entry now t can e =
-    let taken = timely_taken core entry t can in
+pub timely_more : {kept : State} {log : Log} (core after : Core) (entry : Entry) (now : ℕ) → IsTimely core → CanSpell entry → Ends core after (entry ∷ []) false now → IsWorld kept after log → IsTimely after
+timely_more {kept} {log} core after entry now t can e w =
+    let legal = subst (Legal reads) (ap history e.history ∙ history-snoc core.history entry) (legal_history kept after log w) in
+    let taken = timely_taken core entry legal.0 legal.1 t can in
     record {
       greatest = subst (λ h. moment_of (history h) ≤ after.moment) (sym e.history) (let a = taken.greatest in let b = e.moment in omega (arith, a, b));
       moment = let a = taken.moment in let b = e.moment in omega (arith, a, b);
       clock = let a = t.clock in let b = ap (λ (c : ℕ × Bool). c.0) e.clock in omega (arith, a, b);
       room = λ u. absurd (true_is_false (sym (sym e.unsure ∙ u)));
+      doomed = frees_later (taken_in entry core) after e.history (ap (λ (k : Upkeep). k.marks) e.upkeep) (let b = e.moment in omega (arith, b)) (ap (λ (k : Upkeep). k.doomed) e.upkeep) taken.doomed;
     }
 
 -- ---- the last create of a transaction
@@ -145,7 +149,7 @@ module _ (old new : State) (core : Core) (log : Log) (act : Act) (before now : �
         did = last_is_made old new core log act before now may m;
         onward = m.taken;
         ends = own_ends m;
-        timely = timely_more core (taken_in (entry_of act core) m.after) (entry_of act core) now t (record { moment = t.moment; act = can }) (own_ends m);
+        timely = timely_more core (taken_in (entry_of act core) m.after) (entry_of act core) now t (record { moment = t.moment; act = can }) (own_ends m) m.taken.world;
       }
 
   failed_ends : (f : FailedLaw old new core log (entry_of act core) now) → Ends core f.after [] true now
@@ -218,7 +222,7 @@ module _ (old new : State) (core : Core) (log : Log) (act : Core → Act) (now :
         did = first_made old new core log act calm_get calm_get now sure may m;
         onward = m.taken;
         ends = own_ends old new core log (act core) 0 now w t c m;
-        timely = timely_more core (taken_in (entry_of (act core) core) m.after) (entry_of (act core) core) now t (record { moment = t.moment; act = can }) (own_ends old new core log (act core) 0 now w t c m);
+        timely = timely_more core (taken_in (entry_of (act core) core) m.after) (entry_of (act core) core) now t (record { moment = t.moment; act = can }) (own_ends old new core log (act core) 0 now w t c m) m.taken.world;
       }
 
   pub transacted_fault : may_append (act core) core ≡ Ok tt → FailedLaw old new core log (entry_of (act core) core) now → Transacted old new core log act (λ after. Err (troubled (store_failed core.store_faults after))) [] true now

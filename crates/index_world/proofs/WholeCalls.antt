@@ -13,7 +13,8 @@ use Rattle.index_world.specs.Config.{reads}
 use Rattle.index_world.specs.Core.{Core, IsOther, KeepsBut}
 use Rattle.index_world.specs.World.{IsWorld, IsTimely, Keeping, WorldStands, GoesFor, GoesOn}
 use Rattle.index_world.specs.Onward.{Onward}
-use Rattle.index_world.proofs.Asking.{timely_asked, asked_least}
+use Rattle.index_world.proofs.Timely.{timely_asked}
+use Rattle.index_world.proofs.Asking.{asked_least}
 use Rattle.index_world.proofs.Worlds.{world-same, onward-refl}
 use Rattle.index_world.proofs.InCore.{goes-on, goes_both, moment_goes}
 use Rattle.index_world.proofs.JournalCalls.{Counted, quiet, calm_get}
@@ -177,7 +178,7 @@ looks_settled old new core log f now short t can s =
       did = ap (copying short) s.did ∙ copied_is short s.after;
       onward = s.onward;
       ends = settled_ends old new core log f now s;
-      timely = timely_more core s.after f now t can (settled_ends old new core log f now s);
+      timely = timely_more core s.after f now t can (settled_ends old new core log f now s) s.onward.world;
     }
 
 abbrev pub fails_by : (Core → Trouble) → Core → Result ⊤ Trouble

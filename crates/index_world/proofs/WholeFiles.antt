@@ -15,12 +15,14 @@ use Rattle.meta_store.specs.History.History.{Start, ◌▸◌}
 use Rattle.object_store.specs.Store.{State, HasLanded}
 use Rattle.source_log.specs.Log.{Log}
 use Rattle.index_world.specs.Calls.{Call, Fate, Grace, gives, Trouble, asked_clock, Unfetched, file_sought, sought_unless, fetched_from, loaded, upload_made}
-use Rattle.index_world.specs.Core.{Core, KeepsBut, IsUploadedIn, journal_of}
+use Rattle.std.specs.List.{AllByRecursion}
+use Rattle.index_world.specs.Core.{Core, KeepsBut, IsUploadedIn, journal_of, Upkeep}
+use Rattle.index_world.specs.Releases.{MayFree}
 use Rattle.index_world.specs.Index.{IsIndexOf, IsStored}
 use Rattle.index_world.specs.World.{IsWorld, IsTimely, WorldStands}
+use Rattle.index_world.proofs.Timely.{timely_asked}
 use Rattle.index_world.proofs.StoreKeys.{true_is_false, meta_begins}
 use Rattle.index_world.proofs.Journals.{stand-of, Stand-at}
-use Rattle.index_world.proofs.Asking.{timely_asked}
 use Rattle.index_world.proofs.InCore.{file-goes-on, stored-in, keeps_reread}
 use Rattle.index_world.proofs.JournalCalls.{Counted, Begun}
 use Rattle.index_world.proofs.JournalLaws.{appends_short}
@@ -142,6 +144,7 @@ whole_loaded old mid new core log read now w clock some l j =
           moment = let m = l.moment in let low = journal_moments mid read j in omega (arith, m, low);
           clock = let e = ap (λ (c : ℕ × Bool). c.0) l.clock in omega (arith, e, clock);
           room = λ u. absurd (true_is_false (sym (sym l.unsure ∙ u)));
+          doomed = subst (λ (ns : List ℕ). AllByRecursion (MayFree l.after) ns) (sym (ap (λ (k : Upkeep). k.doomed) l.upkeep)) tt;
         };
         store_faults = refl;
         clock = refl;

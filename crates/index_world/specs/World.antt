@@ -1,5 +1,6 @@
 -- What holds of a store and of the core that stands for it, from one call of the world to the next.
 use Rattle.std.specs.Prelude.{◌≡◌, ◌≤◌, ◌<◌, ◌^◌, ℕ, Bool, true, List, ◌++◌, length, Option, Some}
+use Rattle.std.specs.List.{AllByRecursion}
 use Rattle.meta_journal.specs.declared.entry.Entry.{Entry}
 use Rattle.meta_store.specs.History.{history, moment_of}
 use Rattle.object_store.specs.Store.{State}
@@ -8,7 +9,7 @@ use Rattle.meta_store.specs.State as meta
 use Rattle.index_world.specs.Config.{reads}
 use Rattle.index_world.specs.Core.{Core, KeepsFor, IsOther, IsPlannedIn, Marking, journal_of, taken_at, is_in}
 use Rattle.index_world.specs.Index.{IsIndexOf, IsTaken, max_entries}
-use Rattle.index_world.specs.Releases.{RemovesInTime}
+use Rattle.index_world.specs.Releases.{MayFree, RemovesInTime}
 use Rattle.index_world.specs.Standing.{StandsFor}
 
 -- THE WORLD'S INVARIANT: the core stands for the store, and the store is an index whose journal is the core's
@@ -27,6 +28,8 @@ pub record IsTimely (core : Core) : Type 0 where
   pub moment : core.moment < 2 ^ 62
   pub clock : core.clock < 2 ^ 62
   pub room : core.unsure ≡ true → length core.history < max_entries
+  -- what this life doomed may be deleted: its row is marked and released, or gone
+  pub doomed : AllByRecursion (MayFree core) core.doomed
 
 -- what a world keeps: what its store tells, counts and gave, what its clock tells, its moment, its state, the number behind the
 -- entries that it took in, whether that one is unsure, whether the clock is asked no more, which markings this life took in when, and which

@@ -118,6 +118,10 @@ impl<S: ObjectStore, C: SteadyClock> Gate for Direct<S, C> {
         self.world.upload(alloc, staged, content)
     }
 
+    fn doom(&mut self, _alloc: Global) -> Result<Option<u64>, WorldError> {
+        self.world.doom()
+    }
+
     fn sweep_delete(&mut self, _alloc: Global, number: u64) -> Result<bool, WorldError> {
         self.world.sweep_delete(number)
     }

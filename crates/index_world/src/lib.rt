@@ -9,6 +9,7 @@ mod gate;
 pub mod laws;
 mod life;
 mod marking;
+mod next_doomed;
 mod own;
 mod steady;
 mod taking;
