@@ -22,13 +22,13 @@ use Rattle.index_world.specs.declared.own.Own.TheVariants as owns
 use Rattle.index_world.specs.declared.world_error.WorldError.{WorldError}
 use Rattle.index_world.specs.declared.world_error.WorldError.TheVariants as errors
 use Rattle.index_world.specs.Calls.{Made, made, exists, Making, made_behind, begun, risen, Unmade, troubled, faulted, store_fault, is_foreign, no_memory, store_failed, entry_of, may_append}
-use Rattle.index_world.specs.Core.{Core, journal_of, IsUnusedIn, HasStagedIn, KeepsBut}
+use Rattle.index_world.specs.Core.{Core, journal_of, IsUnusedIn, HasStagedIn, KeepsBut, Upkeep, upkeep_of}
 use Rattle.index_world.specs.Gate.{IsTrouble, IsUnmade, Says}
 use Rattle.index_world.specs.Index.{has_staged, HasStaged, IsUnused}
 use Rattle.index_world.specs.Life.{LifeIs, StandsBy, TookIn, TookNone, SettledSure, SettledIn, Settling, CreatedOwn, CreatesBy, Creating, OwnMade, Appending}
 use Rattle.index_world.specs.Onward.{Onward}
 use Rattle.index_world.specs.Owning.{own_act, MayOwn}
-use Rattle.index_world.specs.Steps.{Counted, MadeLaw, AdoptedLaw, Ends, greatest, Transacted}
+use Rattle.index_world.specs.Steps.{Counted, noting, noted_behind, MadeLaw, AdoptedLaw, Ends, greatest, Transacted}
 use Rattle.index_world.specs.Taking.{IsWant}
 use Rattle.index_world.specs.Unsure.{is_unsure}
 use Rattle.index_world.specs.World.{IsWorld, IsTimely}
@@ -141,11 +141,12 @@ foreign_is error core after e h =
     subst (λ (x : WorldError). IsTrouble x (faulted (is_foreign (meta_key (length after.history))))) (sym e)
     (ap (λ es. faulted (is_foreign (meta_key (length es)))) (h ∙ append-nil core.history))
 
-none_more : (life : Life) (core : Core) (doubt : Bool) → LifeIs life core.history core.moment doubt → LifeIs life (core.history ++ []) (greatest core.moment []) doubt
-none_more life core doubt k = knows_of life core.history (core.history ++ []) core.moment core.moment doubt doubt (sym (append-nil core.history)) refl refl k
+none_more : (life : Life) (core : Core) (doubt : Bool) → LifeIs life core.history core.moment doubt (upkeep_of core) → LifeIs life (core.history ++ []) (greatest core.moment []) doubt (upkeep_of core)
+none_more life core doubt k = knows_of life core.history (core.history ++ []) core.moment core.moment doubt doubt (sym (append-nil core.history)) refl refl refl k
 
-one_more : (life : Life) (core : Core) (entry : Entry) → entry.moment ≡ core.moment → LifeIs life (core.history ++ entry ∷ []) core.moment false → LifeIs life (core.history ++ entry ∷ []) (greatest core.moment (entry ∷ [])) false
-one_more life core entry e k = knows_of life (core.history ++ entry ∷ []) (core.history ++ entry ∷ []) core.moment (max core.moment entry.moment) false false refl (omega (arith, e)) refl k
+one_more : (life : Life) (core : Core) (entry : Entry) → entry.moment ≡ core.moment → LifeIs life (core.history ++ entry ∷ []) core.moment false (noting core.moment (upkeep_of core) entry) →
+    LifeIs life (core.history ++ entry ∷ []) (greatest core.moment (entry ∷ [])) false (noting core.moment (upkeep_of core) entry)
+one_more life core entry e k = knows_of life (core.history ++ entry ∷ []) (core.history ++ entry ∷ []) core.moment (max core.moment entry.moment) false false refl (omega (arith, e)) refl refl k
 
 -- ---- the last create of a transaction
 
@@ -161,7 +162,7 @@ record Lasts (old new : State) (core : Core) (log : Log) (own : Own) (before : �
   more : List Entry
   doubt : Bool
   did : Last old new core log (own_act own core) before answer more doubt now
-  knows : LifeIs life (core.history ++ more) (greatest core.moment more) doubt
+  knows : LifeIs life (core.history ++ more) (greatest core.moment more) doubt (noted_behind core.moment (upkeep_of core) more)
   says : LastSays new own core r (answer did.after) did.after
 
 module _ (old new : State) (core : Core) (log : Log) (own : Own) (settled : Bool) (before now : ℕ) (w : IsWorld old core log) (t : IsTimely core) (c : Counted core now) (sure : core.unsure ≡ false) (life : Life) where
@@ -185,7 +186,7 @@ module _ (old new : State) (core : Core) (log : Log) (own : Own) (settled : Bool
         doubt = core.unsure;
         did = subst (λ (n : ℕ). Last old new core log (own_act own core) before (λ after. Err d.unmade) [] core.unsure n) (sym d.faults)
             (subst (λ (s : State). Last old s core log (own_act own core) before (λ after. Err d.unmade) [] core.unsure core.store_faults) (sym d.same) (last_not old core log (own_act own core) before d.unmade w t d.may));
-        knows = none_more life core core.unsure (knows_of life core.history core.history core.moment core.moment false core.unsure refl refl (sym sure) d.knows);
+        knows = none_more life core core.unsure (knows_of life core.history core.history core.moment core.moment false core.unsure refl refl (sym sure) refl d.knows);
         says = d.is;
       }
   last_failed error again (inr (inl d)) =
@@ -194,7 +195,7 @@ module _ (old new : State) (core : Core) (log : Log) (own : Own) (settled : Bool
         more = [];
         doubt = core.unsure;
         did = last_no_memory old new core log (own_act own core) before now w t c d.landed;
-        knows = none_more life core core.unsure (knows_of life core.history core.history core.moment core.moment false core.unsure refl refl (sym sure) d.knows);
+        knows = none_more life core core.unsure (knows_of life core.history core.history core.moment core.moment false core.unsure refl refl (sym sure) refl d.knows);
         says = want_trouble error d.is;
       }
   last_failed error again (inr (inr (inl d))) =
@@ -207,7 +208,7 @@ module _ (old new : State) (core : Core) (log : Log) (own : Own) (settled : Bool
         more = [];
         doubt = core.unsure;
         did = l;
-        knows = none_more life core core.unsure (knows_of life core.history core.history core.moment core.moment false core.unsure refl refl (sym sure) d.knows);
+        knows = none_more life core core.unsure (knows_of life core.history core.history core.moment core.moment false core.unsure refl refl (sym sure) refl d.knows);
         says = foreign_is error core l.after d.is l.ends.history;
       }
 
@@ -219,16 +220,18 @@ then_says old mid new core between after log own (Ok done) (Err u) o s = absurd 
 then_says old mid new core between after log own (Err error) (Ok d) o s = absurd s
 then_says old mid new core between after log own (Err error) (Err u) o s = s
 
-then_knows : (life : Life) (core between : Core) (f : Entry) (more : List Entry) (doubt : Bool) → between.history ≡ core.history ++ f ∷ [] → between.moment ≡ max core.moment f.moment → LifeIs life (between.history ++ more) (greatest between.moment more) doubt →
-    LifeIs life (core.history ++ f ∷ more) (greatest core.moment (f ∷ more)) doubt
-then_knows life core between f more doubt h m k =
+then_knows : (life : Life) (core between : Core) (f : Entry) (more : List Entry) (doubt : Bool) → between.history ≡ core.history ++ f ∷ [] → between.moment ≡ max core.moment f.moment → upkeep_of between ≡ noting core.moment (upkeep_of core) f →
+    LifeIs life (between.history ++ more) (greatest between.moment more) doubt (noted_behind between.moment (upkeep_of between) more) →
+    LifeIs life (core.history ++ f ∷ more) (greatest core.moment (f ∷ more)) doubt (noted_behind core.moment (upkeep_of core) (f ∷ more))
+then_knows life core between f more doubt h m n k =
     knows_of life (between.history ++ more) (core.history ++ f ∷ more) (greatest between.moment more) (greatest (max core.moment f.moment) more) doubt doubt
-    (ap (λ es. es ++ more) h ∙ append_assoc core.history (f ∷ []) more) (ap (λ (x : ℕ). greatest x more) m) refl k
+    (ap (λ es. es ++ more) h ∙ append_assoc core.history (f ∷ []) more) (ap (λ (x : ℕ). greatest x more) m) refl
+    (ap (λ (x : ℕ). noted_behind x (upkeep_of between) more) m ∙ ap (λ (u : Upkeep). noted_behind (max core.moment f.moment) u more) n) k
 
 module _ (old : State) (core : Core) (log : Log) (own : Own) (before count : ℕ) (life : Life) (b : StandsBy old core log count life) (at : before ≡ core.store_faults) (owned : MayOwn own log core) where
   -- a transaction ended so
   ends_so : (new : State) (told : Option State) (now : ℕ) (life' : Life) (r : Result ⊤ WorldError) (answer : Core → Result ⊤ Unmade) (more : List Entry) (doubt : Bool) → told ≡ Some new → Counted core now →
-      (t : Transacted old new core log (own_act own) answer more doubt now) → Says IsUnmade (OwnMade own core) r (answer t.after) t.after → LifeIs life' (core.history ++ more) (greatest core.moment more) doubt →
+      (t : Transacted old new core log (own_act own) answer more doubt now) → Says IsUnmade (OwnMade own core) r (answer t.after) t.after → LifeIs life' (core.history ++ more) (greatest core.moment more) doubt (noted_behind core.moment (upkeep_of core) more) →
       Appending old core log own r told now life'
   ends_so new told now life' r answer more doubt tells c t says k =
       record {
@@ -252,18 +255,18 @@ module _ (old : State) (core : Core) (log : Log) (own : Own) (before count : ℕ
       ends_so s.new told now life' (Err error) (λ after. Err (troubled (d.trouble after))) [] true s.tells s.counted
       (not_transacted old s.new core log (own_act own) d.trouble now b.timely d.doubt d.step)
       (subst (λ (e : WorldError). IsTrouble e (d.trouble d.step.after)) (sym (same error h)) d.is)
-      (none_more life' core true (knows_of life' d.step.after.history core.history d.step.after.moment core.moment d.step.after.unsure true d.step.history d.step.moment d.step.unsure d.stands.knows))
+      (none_more life' core true (knows_of life' d.step.after.history core.history d.step.after.moment core.moment d.step.after.unsure true d.step.history d.step.moment d.step.unsure d.step.upkeep d.stands.knows))
 
   -- an entry was taken in, and behind it the last create ended so
   then_ends : (mid new : State) (between : Core) (f : Entry) (told : Option State) (n now : ℕ) (life' : Life) (r : Result ⊤ WorldError) → told ≡ Some new → Counted core now → Onward old mid core between log →
-      between.history ≡ core.history ++ f ∷ [] → between.moment ≡ max core.moment f.moment → (l : Lasts mid new between log own core.store_faults r now life') →
+      between.history ≡ core.history ++ f ∷ [] → between.moment ≡ max core.moment f.moment → upkeep_of between ≡ noting core.moment (upkeep_of core) f → (l : Lasts mid new between log own core.store_faults r now life') →
       ((answer : Core → Result ⊤ Unmade) (more : List Entry) (doubt : Bool) (k : Last mid new between log (own_act own between) core.store_faults answer more doubt now) →
       (t : Transacted old new core log (own_act own) answer (f ∷ more) doubt now) × (t.after ≡ k.after)) → Appending old core log own r told now life'
-  then_ends mid new between f told n now life' r tells c o h m l join =
+  then_ends mid new between f told n now life' r tells c o h m u l join =
       let j = join l.answer l.more l.doubt l.did in
       ends_so new told now life' r l.answer (f ∷ l.more) l.doubt tells c j.0
       (subst (λ (a : Core). Says IsUnmade (OwnMade own core) r (l.answer a) a) (sym j.1) (then_says old mid new core between l.did.after log own r (l.answer l.did.after) o l.says))
-      (then_knows life' core between f l.more l.doubt h m l.knows)
+      (then_knows life' core between f l.more l.doubt h m u l.knows)
 
   faults_on : (n now : ℕ) (between : Core) → Counted core n → between.store_faults ≡ n → Counted between now → Counted core now
   faults_on n now between a e c = record { later = let x = a.later in let y = c.later in omega (arith, x, y, e); within = c.within }
@@ -282,7 +285,7 @@ module _ (old : State) (core : Core) (log : Log) (own : Own) (before count : ℕ
 
     settled_ends_by : (d : SettledIn old s.new core log n life') (new : State) (r : Result ⊤ WorldError) → told' ≡ Some new → Counted d.step.after now → Lasts s.new new d.step.after log own before r now life'' → Appending old core log own r told' now life''
     settled_ends_by d new r tells c l =
-        then_ends s.new new d.step.after d.entry told' n now life'' r tells (faults_on n now d.step.after s.counted d.step.faults c) d.step.onward d.step.history d.step.moment (at_start s.new new d.step.after r now life'' l)
+        then_ends s.new new d.step.after d.entry told' n now life'' r tells (faults_on n now d.step.after s.counted d.step.faults c) d.step.onward d.step.history d.step.moment d.step.upkeep (at_start s.new new d.step.after r now life'' l)
         (λ answer more doubt k. (settled_then old s.new new core log (own_act own) d.entry n now answer more doubt d.doubt d.step k, refl))
 
     -- the own entry was made
@@ -310,10 +313,10 @@ module _ (old : State) (core : Core) (log : Log) (own : Own) (before count : ℕ
             ends_so new told' now life'' (Err error) (λ after. Err x.unmade) [] core.unsure tells c
             (subst (λ (m : ℕ). Transacted old new core log (own_act own) (λ after. Err x.unmade) [] core.unsure m) (sym x.faults)
             (subst (λ (o : State). Transacted old o core log (own_act own) (λ after. Err x.unmade) [] core.unsure core.store_faults) (sym x.same) (transacted_not old core log (own_act own) x.unmade b.world b.timely d.sure x.may)))
-            x.is (none_more life'' core core.unsure (knows_of life'' core.history core.history core.moment core.moment false core.unsure refl refl (sym d.sure) x.knows))
+            x.is (none_more life'' core core.unsure (knows_of life'' core.history core.history core.moment core.moment false core.unsure refl refl (sym d.sure) refl x.knows))
         calm d new tells c (inr (inl x)) =
             ends_so new told' now life'' (Err error) (λ after. Err (troubled no_memory)) [] core.unsure tells c (transacted_no_memory old new core log (own_act own) now b.world b.timely c d.sure x.landed)
-            (want_trouble error x.is) (none_more life'' core core.unsure (knows_of life'' core.history core.history core.moment core.moment false core.unsure refl refl (sym d.sure) x.knows))
+            (want_trouble error x.is) (none_more life'' core core.unsure (knows_of life'' core.history core.history core.moment core.moment false core.unsure refl refl (sym d.sure) refl x.knows))
         calm d new tells c (inr (inr (inl x))) =
             let t = transacted_fault old new core log (own_act own) now b.world b.timely c d.sure x.may x.step in
             ends_so new told' now life'' (Err error) (λ after. Err (troubled (store_failed core.store_faults after))) [] true tells c t
@@ -341,7 +344,7 @@ module _ (old : State) (core : Core) (log : Log) (own : Own) (before count : ℕ
     pub may : may_append (own_act own core) core ≡ Ok tt
     pub step : AdoptedLaw old new core log (entry_of (own_act own core) core) f core.store_faults now
     pub can : CanSpell f
-    pub knows : LifeIs life' core.history core.moment true
+    pub knows : LifeIs life' core.history core.moment true (upkeep_of core)
 
   pub adopting : (told told' : Option State) (n now : ℕ) (life' life'' : Life) (s : Settling old core log (Ok tt) told n life') (f : Entry) →
       ((o : State) (c : Core) (l : Log) → told ≡ Some o → StandsBy o c l n life' → MayOwn own l c → Creating o c l (own_act own c) life'.journal.settled before (Ok (Some f)) told' now life'') → Adopting told' now f life''
@@ -371,7 +374,7 @@ module _ (old : State) (core : Core) (log : Log) (own : Own) (before count : ℕ
       (adopted_no_memory old a.new core log (own_act own) now b.world b.timely a.counted a.sure f a.may a.step)
       (want_trouble error (subst IsWant (sym (same error h)) (took.want (answers_allowed life'.meta.state core.history f a.knows.meta (allowed_last a.new a.step.after log core.history f a.step.onward.world a.step.history)))))
       (none_more life'' core true
-      (life_on life' life'' core.history core.moment true true a.knows (ap (λ (j : Numbered). j.next) took.journal) took.meta took.moment (ap (λ (j : Numbered). is_unsure j.place) took.journal ∙ a.knows.unsure)))
+      (life_on life' life'' core.history core.moment true true a.knows (ap (λ (j : Numbered). j.next) took.journal) took.meta took.moment took.upkeep (ap (λ (j : Numbered). is_unsure j.place) took.journal ∙ a.knows.unsure)))
 
   -- it was taken in, and the own entry is created once more
   module _ (told told' : Option State) (n now : ℕ) (f : Entry) (life' life'' last : Life) (a : Adopting told n f life') (took : TookIn life' f life'') where
@@ -380,7 +383,7 @@ module _ (old : State) (core : Core) (log : Log) (own : Own) (before count : ℕ
 
     stands : StandsBy a.new a.step.after log n life''
     stands =
-        stands_by a.new core a.step.after log n life'' (f ∷ []) false b.opened a.counted.within a.step.onward.world (timely_more core a.step.after f n b.timely a.can ends_taken) ends_taken
+        stands_by a.new core a.step.after log n life'' (f ∷ []) false b.opened a.counted.within a.step.onward.world (timely_more core a.step.after f n b.timely a.can ends_taken a.step.onward.world) ends_taken
         (life_taken life' life'' core.history core.moment true f a.knows took a.can.moment)
 
     again : life''.journal.settled ≡ true
@@ -392,7 +395,7 @@ module _ (old : State) (core : Core) (log : Log) (own : Own) (before count : ℕ
 
     adopted_ends_by : (new : State) (r : Result ⊤ WorldError) → told' ≡ Some new → Counted a.step.after now → Lasts a.new new a.step.after log own before r now last → Appending old core log own r told' now last
     adopted_ends_by new r tells c l =
-        then_ends a.new new a.step.after f told' n now last r tells (faults_on n now a.step.after a.counted a.step.faults c) a.step.onward a.step.history a.step.moment (at_start a.new new a.step.after r now last l)
+        then_ends a.new new a.step.after f told' n now last r tells (faults_on n now a.step.after a.counted a.step.faults c) a.step.onward a.step.history a.step.moment a.step.upkeep (at_start a.new new a.step.after r now last l)
         (λ answer more doubt k. (adopted_then old a.new new core log (own_act own) f n now answer more doubt a.sure a.may a.step k, refl))
 
     pub second_made : ((o : State) (c : Core) (l : Log) → told ≡ Some o → StandsBy o c l n life'' → MayOwn own l c → Creating o c l (own_act own c) life''.journal.settled before (Ok None) told' now last) → Appending old core log own (Ok tt) told' now last

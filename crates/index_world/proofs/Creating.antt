@@ -1,7 +1,7 @@
 -- What one create of an entry of one's own did to a life, in the words of the core.
 use Rattle.std.proofs.Common.{◌≡◌, ℕ, ◌+◌, ◌<◌, ◌≤◌, List, [], ◌∷◌, ◌++◌, refl, sym, ap, ◌∙◌, subst, inl, inr, Bool, true, false, length, arith, IsOk}
 use Rattle.std.proofs.lemmas.Bool.Decides.{nat_tests}
-use Rattle.std.specs.Prelude.{Option, Some, None, Result, Ok, Err, nat_le}
+use Rattle.std.specs.Prelude.{Option, Some, None, Result, Ok, Err, nat_le, max}
 use Rattle.std.specs.Result.{IsErrAnd}
 use Rattle.byte_fields.specs.Causes.{Rose}
 use Rattle.meta_journal.specs.Journal.{Appends, FaultIs, IsTaken, place_refused}
@@ -34,12 +34,12 @@ use Rattle.index_world.specs.declared.world_error.WorldError.{WorldError}
 use Rattle.index_world.specs.declared.world_error.WorldError.TheVariants as errors
 use Rattle.index_world.specs.Calls.{Unmade, refused, troubled, faulted, is_full, may_append, or_full, full_answer, answer_behind, entry_of}
 use Rattle.index_world.specs.Configuration.{configuration}
-use Rattle.index_world.specs.Core.{Core, IsStoredIn, IsUploadedIn, journal_of, last_count}
+use Rattle.index_world.specs.Core.{Core, IsStoredIn, IsUploadedIn, journal_of, last_count, Upkeep, upkeep_of}
 use Rattle.index_world.specs.Gate.{IsUnmade}
 use Rattle.index_world.specs.Index.{MayEnter, HasFile, HasStaged, IsAllowed, IsStored, IsGivenUp, max_entries}
 use Rattle.index_world.specs.Life.{LifeIs, StandsBy, Creating}
 use Rattle.index_world.specs.Owning.{own_act, MayOwn}
-use Rattle.index_world.specs.Steps.{Counted}
+use Rattle.index_world.specs.Steps.{Counted, noting}
 use Rattle.index_world.specs.Taking.{IsWant, IsUnprepared, of_journal}
 use Rattle.index_world.specs.Unsure.{is_unsure}
 use Rattle.index_world.specs.World.{IsWorld}
@@ -49,8 +49,8 @@ use Rattle.index_world.proofs.InCore.{stored-of}
 use Rattle.index_world.proofs.JournalCalls.{failed_law}
 use Rattle.index_world.proofs.JournalLaws.{spells_own, appends_made, appends_adopted, appends_foreign, appends_no_corrupt}
 use Rattle.index_world.proofs.Journals.{once}
-use Rattle.index_world.proofs.Living.{NoRemove}
-use Rattle.index_world.proofs.Lives.{Told, told_of, life_more}
+use Rattle.index_world.proofs.Living.{Releases}
+use Rattle.index_world.proofs.Lives.{Notes, Told, told_of, life_more}
 use Rattle.index_world.proofs.Transacting.{own_allowed, own_enters, fault_tried}
 use Rattle.index_world.proofs.Worlds.{journal_is_history}
 
@@ -60,10 +60,10 @@ pub own_numbers : (own : Own) (core : Core) → HasNumbers (own_act own core)
 own_numbers (owns.Stage delta facts) core = tt
 own_numbers (owns.Publish number) core = tt
 
--- it is no Remove
-no_remove_own : (own : Own) (core : Core) → NoRemove (entry_of (own_act own core) core)
-no_remove_own (owns.Stage delta facts) core numbers is = cc is
-no_remove_own (owns.Publish number) core numbers is = cc is
+-- it removes released rows alone
+releases_own : (own : Own) (core : Core) → Releases core (entry_of (own_act own core) core)
+releases_own (owns.Stage delta facts) core config is numbers e = cc e
+releases_own (owns.Publish number) core config is numbers e = cc e
 
 -- the file of a row that is staged stands
 stored_staged : (core : Core) (number : ℕ) (bytes : List ℕ) → (row : Row) × (row_at (rows (history core.history)) number ≡ Some row) × (row.state ≡ Staged) → journal_of core ≡ core.history →
@@ -110,12 +110,13 @@ pub appends_at : (told told' : Option State) (n : ℕ) (entry : Entry) (r r' : R
 appends_at told told' n entry r r' e w = subst (λ (x : Result ℕ JournalError). WhereTold told told' (λ a s. Appends n entry x a s)) e w
 
 -- it was taken in
-pub life_own : (life new : Life) (entries : List Entry) (time : ℕ) (doubt : Bool) (entry x : Entry) (reading : Said) (s : meta.State) → LifeIs life entries time doubt → new.journal.next ≡ life.journal.next + 1 → new.journal.place ≡ Sure →
-    s ≡ life.meta.state → new.meta.state ≡ after reading entry s → ((config : Option Config) → reading ≡ reading_of reads config entry.act) → new.moment ≡ life.moment → entry ≡ x → LifeIs new (entries ++ x ∷ []) time false
-life_own life new entries time doubt entry x reading s k n p state applied read m same =
-    subst (λ (y : Entry). LifeIs new (entries ++ y ∷ []) time false) same
+pub life_own : {upkeep : Upkeep} (life new : Life) (entries : List Entry) (time : ℕ) (doubt : Bool) (entry x : Entry) (reading : Said) (s : meta.State) → LifeIs life entries time doubt upkeep → new.journal.next ≡ life.journal.next + 1 → new.journal.place ≡ Sure →
+    s ≡ life.meta.state → new.meta.state ≡ after reading entry s → ((config : Option Config) → reading ≡ reading_of reads config entry.act) → new.moment ≡ life.moment → Notes life new entry life.moment →
+    max time entry.moment ≡ life.moment → entry ≡ x → LifeIs new (entries ++ x ∷ []) time false (noting time upkeep x)
+life_own {upkeep} life new entries time doubt entry x reading s k n p state applied read m noted at same =
+    subst (λ (y : Entry). LifeIs new (entries ++ y ∷ []) time false (noting time upkeep y)) same
     (life_more life new entries time time doubt entry k n p
-    (applied ∙ ap (λ (t : meta.State). after reading entry t) state ∙ ap (λ (r : Said). after r entry life.meta.state) (read life.meta.state.config)) (m ∙ k.moment))
+    (applied ∙ ap (λ (t : meta.State). after reading entry t) state ∙ ap (λ (r : Said). after r entry life.meta.state) (read life.meta.state.config)) (m ∙ k.moment) (subst (Notes life new entry) (sym at) noted))
 
 -- ---- what a create answered
 
@@ -124,18 +125,18 @@ module _ (old : State) (core : Core) (log : Log) (count now : ℕ) (life : Life)
   counted = record { later = let f = b.faults in omega (arith, later, f); within = within }
 
   -- the store isn't called
-  pub creating_wants : (new : Life) (act : Act) (settled : Bool) (before : ℕ) (error : WorldError) → IsWant error → told' ≡ told → LifeIs new core.history core.moment false → new.journal.settled ≡ settled →
+  pub creating_wants : (new : Life) (act : Act) (settled : Bool) (before : ℕ) (error : WorldError) → IsWant error → told' ≡ told → LifeIs new core.history core.moment false (upkeep_of core) → new.journal.settled ≡ settled →
       Creating old core log act settled before (Err error) told' now new
   creating_wants new act settled before error want same k still =
       record { new = old; tells = same ∙ e; counted = counted; did = inr (inl (record { is = want; landed = ([], refl); knows = k })); still = still }
 
   pub creating_wants_by : (new : Life) (act : Act) (settled : Bool) (before : ℕ) (r : Result (Option Entry) WorldError) (Is : WorldError → Type 0) → IsErrAnd r Is → ((error : WorldError) → Is error → IsWant error) → told' ≡ told →
-      LifeIs new core.history core.moment false → new.journal.settled ≡ settled → Creating old core log act settled before r told' now new
+      LifeIs new core.history core.moment false (upkeep_of core) → new.journal.settled ≡ settled → Creating old core log act settled before r told' now new
   creating_wants_by new act settled before (Ok x) Is h want same k still = absurd h
   creating_wants_by new act settled before (Err error) Is h want same k still = creating_wants new act settled before error (want error h) same k still
 
   pub creating_unprepared : (new : Life) (act : Act) (settled : Bool) (before : ℕ) (error : WorldError) → IsUnprepared (answer_behind core.history (entry_of act core)) (length core.history) error → told' ≡ told → now ≡ count →
-      LifeIs new core.history core.moment false → new.journal.settled ≡ settled → Creating old core log act settled before (Err error) told' now new
+      LifeIs new core.history core.moment false (upkeep_of core) → new.journal.settled ≡ settled → Creating old core log act settled before (Err error) told' now new
   creating_unprepared new act settled before error why same stood k still = by (answer_behind core.history (entry_of act core)) refl why
     where
       refused_by : (unmade : Unmade) → may_append act core ≡ Err unmade → IsUnmade error unmade → Creating old core log act settled before (Err error) told' now new
@@ -164,7 +165,7 @@ module _ (old : State) (core : Core) (log : Log) (count now : ℕ) (life : Life)
         record { new = t.new; is = t.is; says = subst (λ (x : Entry). Appends (length core.history) x r old t.new) same (subst (λ (n : ℕ). Appends n entry r old t.new) b.knows.next t.says) }
 
     -- it was made
-    pub creating_own : (new : Life) (settled : Bool) (before m : ℕ) → WhereTold told told' (λ a s. Appends life.journal.next entry (Ok m) a s) → LifeIs new (core.history ++ entry_of (own_act own core) core ∷ []) core.moment false →
+    pub creating_own : (new : Life) (settled : Bool) (before m : ℕ) → WhereTold told told' (λ a s. Appends life.journal.next entry (Ok m) a s) → LifeIs new (core.history ++ entry_of (own_act own core) core ∷ []) core.moment false (noting core.moment (upkeep_of core) (entry_of (own_act own core) core)) →
         new.journal.settled ≡ settled → Creating old core log (own_act own core) settled before (Ok None) told' now new
     creating_own new settled before m w k still =
         let t = appends (Ok m) w in
@@ -172,13 +173,13 @@ module _ (old : State) (core : Core) (log : Log) (count now : ℕ) (life : Life)
           new = t.new;
           tells = t.is;
           counted = counted;
-          did = record { can = can; may = may; step = appends_made old t.new core log (own_act own core) now b.world counted can_own (no_remove_own own core) enters m t.says; knows = k };
+          did = record { can = can; may = may; step = appends_made old t.new core log (own_act own core) now b.world counted can_own (releases_own own core) enters m t.says; knows = k };
           still = still;
         }
 
     -- an entry stood there, and was read
     pub creating_gives : (new : Life) (settled : Bool) (before : ℕ) (f : Entry) → WhereTold told told' (λ a s. Appends life.journal.next entry (Err (journal.Adopted f)) a s) → settled ≡ false → new.journal.place ≡ Given →
-        LifeIs new core.history core.moment true → new.journal.settled ≡ settled → Creating old core log (own_act own core) settled before (Ok (Some f)) told' now new
+        LifeIs new core.history core.moment true (upkeep_of core) → new.journal.settled ≡ settled → Creating old core log (own_act own core) settled before (Ok (Some f)) told' now new
     creating_gives new settled before f w first given k still =
         let t = appends (Err (journal.Adopted f)) w in
         record {
@@ -188,7 +189,7 @@ module _ (old : State) (core : Core) (log : Log) (count now : ℕ) (life : Life)
           did = record {
             first = first;
             may = may;
-            step = appends_adopted old t.new core log (own_act own core) now b.world counted can_own (no_remove_own own core) enters f before t.says;
+            step = appends_adopted old t.new core log (own_act own core) now b.world counted can_own (releases_own own core) enters f before t.says;
             can = t.says.1.can;
             given = given;
             knows = k;
@@ -198,13 +199,13 @@ module _ (old : State) (core : Core) (log : Log) (count now : ℕ) (life : Life)
 
     -- it failed
     pub creating_failed : (new : Life) (settled : Bool) (number before : ℕ) (x : JournalError) (error : WorldError) → error ≡ of_journal number before x → WhereTold told told' (λ a s. Appends life.journal.next entry (Err x) a s) → FaultIs count now x → IsTaken settled x →
-        ((f : Entry) → x ≡ journal.Adopted f → ⊥) → (x ≡ journal.Full → ⊥) → LifeIs new core.history core.moment (is_unsure (place_refused Sure x)) → new.journal.settled ≡ settled →
+        ((f : Entry) → x ≡ journal.Adopted f → ⊥) → (x ≡ journal.Full → ⊥) → LifeIs new core.history core.moment (is_unsure (place_refused Sure x)) (upkeep_of core) → new.journal.settled ≡ settled →
         Creating old core log (own_act own core) settled before (Err error) told' now new
     creating_failed new settled number before x error is w fault taken adopted full k still =
         subst (λ (y : WorldError). Creating old core log (own_act own core) settled before (Err y) told' now new) (sym is) (by x (appends (Err x) w) fault taken adopted full k)
       where
         by : (x : JournalError) → Told told' (λ s. Appends (length core.history) (entry_of (own_act own core) core) (Err x) old s) → FaultIs count now x → IsTaken settled x → ((f : Entry) → x ≡ journal.Adopted f → ⊥) → (x ≡ journal.Full → ⊥) →
-            LifeIs new core.history core.moment (is_unsure (place_refused Sure x)) → Creating old core log (own_act own core) settled before (Err (of_journal number before x)) told' now new
+            LifeIs new core.history core.moment (is_unsure (place_refused Sure x)) (upkeep_of core) → Creating old core log (own_act own core) settled before (Err (of_journal number before x)) told' now new
         by (journal.Memory a) t fault taken adopted full k = record { new = t.new; tells = t.is; counted = counted; did = inr (inl (record { is = tt; landed = t.says; knows = k })); still = still }
         by (journal.StoreFault low high) t fault taken adopted full k =
             let rose : Rose core.store_faults now = subst (λ (n : ℕ). Rose n now) b.faults fault.2 in
@@ -214,16 +215,16 @@ module _ (old : State) (core : Core) (log : Log) (count now : ℕ) (life : Life)
               counted = counted;
               did = inr (inr (inl (record {
                 may = may;
-                step = failed_law once old t.new core log (entry_of (own_act own core) core) now b.world counted rose can_own (no_remove_own own core) enters (spells_own (entry_of (own_act own core) core)) (fault_tried (length core.history) (entry_of (own_act own core) core) old t.new t.says);
+                step = failed_law once old t.new core log (entry_of (own_act own core) core) now b.world counted rose can_own (releases_own own core) enters (spells_own (entry_of (own_act own core) core)) (fault_tried (length core.history) (entry_of (own_act own core) core) old t.new t.says);
                 is = ap (λ (n : ℕ). errors.StoreFault before n) fault.1;
                 knows = k;
               })));
               still = still;
             }
         by (journal.Foreign key) t fault taken adopted full k =
-            let x = appends_foreign old t.new core log (own_act own core) now b.world counted can_own (no_remove_own own core) enters key t.says in
+            let x = appends_foreign old t.new core log (own_act own core) now b.world counted can_own (releases_own own core) enters key t.says in
             record { new = t.new; tells = t.is; counted = counted; did = inr (inr (inr (record { again = taken; may = may; step = x.0; is = ap errors.Foreign x.1; knows = k }))); still = still }
-        by (journal.Corrupt key) t fault taken adopted full k = absurd (appends_no_corrupt old t.new core log (own_act own core) now b.world counted can_own (no_remove_own own core) enters key t.says)
+        by (journal.Corrupt key) t fault taken adopted full k = absurd (appends_no_corrupt old t.new core log (own_act own core) now b.world counted can_own (releases_own own core) enters key t.says)
         by (journal.Missing key) t fault taken adopted full k = absurd t.says
         by (journal.Adopted f) t fault taken adopted full k = absurd (adopted f refl)
         by journal.Full t fault taken adopted full k = absurd (full refl)

@@ -11,21 +11,23 @@ use Rattle.meta_store.proofs.Answered.{answered}
 use Rattle.meta_store.specs.Answers.{HasNumbers}
 use Rattle.meta_store.specs.History.{history, moment_of}
 use Rattle.meta_store.specs.Readings.{config_of, reading_of}
-use Rattle.meta_store.specs.State.{state_of}
+use Rattle.meta_store.specs.State.{Legal, state_of}
 use Rattle.meta_store.specs.declared.refusal.Refusal.{Refusal}
 use Rattle.object_store.specs.Store.{State, HasLanded}
 use Rattle.source_log.specs.Log.{Log}
 use Rattle.index_world.specs.Calls.{Call, gives, Trouble, faulted, no_memory, Unmade, refused, troubled, is_foreign, store_failed, last_create, begun, taken_in, may_append, or_full, full_answer, answer_behind, entry_of, adopted_making}
 use Rattle.index_world.specs.Config.{reads}
-use Rattle.index_world.specs.Core.{Core, clock_of}
+use Rattle.index_world.specs.Core.{Core, clock_of, Upkeep, upkeep_of}
 use Rattle.index_world.specs.Index.{MayEnter, HasFile, max_entries, IsAllowed}
 use Rattle.index_world.specs.World.{IsWorld, IsTimely}
 use Rattle.index_world.specs.Onward.{Onward}
 use Rattle.index_world.proofs.StoreKeys.{true_is_false}
-use Rattle.index_world.proofs.Asking.{timely_taken}
 use Rattle.index_world.proofs.Worlds.{Onward-trans, onward-refl}
-use Rattle.index_world.proofs.JournalCalls.{Counted, quiet, calm_get, MadeLaw, AdoptedLaw, FailedLaw, ExistsLaw, still_counted}
-use Rattle.index_world.proofs.JournalLaws.{Settled, Unsettled, appends_short, short_get}
+use Rattle.index_world.specs.Steps.{noting, noted_behind}
+use Rattle.index_world.proofs.JournalCalls.{Counted, noted_same, quiet, calm_get, MadeLaw, AdoptedLaw, FailedLaw, ExistsLaw, still_counted}
+use Rattle.index_world.proofs.Timely.{frees_later, timely_taken}
+use Rattle.index_world.proofs.Numbers.{history-snoc}
+use Rattle.index_world.proofs.JournalLaws.{Settled, Unsettled, appends_short, legal_history, short_get}
 use Rattle.index_world.proofs.Transactions.{last_is_made, last_failed, last_foreign, last_refused, first_made, first_failed, first_adopted, first_refused, first_short, first_by, after_settling, not_settled}
 pub use Rattle.index_world.specs.Steps.{greatest, Ends, Transacted}
 
@@ -76,6 +78,10 @@ greatest_append : (m : ℕ) (a b : List Entry) → greatest m (a ++ b) ≡ great
 greatest_append m [] b = refl
 greatest_append m (e ∷ a) b = greatest_append (max m e.moment) a b
 
+noted_append : (m : ℕ) (k : Upkeep) (a b : List Entry) → noted_behind m k (a ++ b) ≡ noted_behind (greatest m a) (noted_behind m k a) b
+noted_append m k [] b = refl
+noted_append m k (e ∷ a) b = noted_append (max m e.moment) (noting m k e) a b
+
 pub Ends-trans : (a b c : Core) (more rest : List Entry) (u v : Bool) (n m : ℕ) → Ends a b more u n → Ends b c rest v m → Ends a c (more ++ rest) v m
 Ends-trans a b c more rest u v n m x y =
     record {
@@ -83,12 +89,13 @@ Ends-trans a b c more rest u v n m x y =
       faults = y.faults;
       moment = y.moment ∙ ap (λ k. greatest k rest) x.moment ∙ sym (greatest_append a.moment more rest);
       clock = y.clock ∙ x.clock;
+      upkeep = y.upkeep ∙ ap (λ n. noted_behind n (upkeep_of b) rest) x.moment ∙ ap (λ k. noted_behind (greatest a.moment more) k rest) x.upkeep ∙ sym (noted_append a.moment (upkeep_of a) more rest);
       unsure = y.unsure;
     }
 
 -- no entry more
-pub ends_same : (core after : Core) (unsure : Bool) (now : ℕ) → after.history ≡ core.history → after.store_faults ≡ now → after.moment ≡ core.moment → clock_of after ≡ clock_of core → after.unsure ≡ unsure → Ends core after [] unsure now
-ends_same core after unsure now h f m c u = record { history = h ∙ sym (append-nil core.history); faults = f; moment = m; clock = c; unsure = u }
+pub ends_same : (core after : Core) (unsure : Bool) (now : ℕ) → after.history ≡ core.history → after.store_faults ≡ now → after.moment ≡ core.moment → clock_of after ≡ clock_of core → upkeep_of after ≡ upkeep_of core → after.unsure ≡ unsure → Ends core after [] unsure now
+ends_same core after unsure now h f m c k u = record { history = h ∙ sym (append-nil core.history); faults = f; moment = m; clock = c; upkeep = k; unsure = u }
 
 -- ---- moments
 
@@ -100,21 +107,24 @@ timely_same core after unsure now t e room =
       moment = let a = t.moment in let b = e.moment in omega (arith, a, b);
       clock = let a = t.clock in let b = ap (λ (c : ℕ × Bool). c.0) e.clock in omega (arith, a, b);
       room = λ u. subst (λ h. length h < max_entries) (sym same) (room (sym e.unsure ∙ u));
+      doomed = frees_later core after same (ap (λ (k : Upkeep). k.marks) e.upkeep) (let b = e.moment in omega (arith, b)) (ap (λ (k : Upkeep). k.doomed) e.upkeep) t.doomed;
     }
 
 -- an entry more
-pub ends_taken : (core after : Core) (entry : Entry) (now : ℕ) → after.history ≡ core.history ++ entry ∷ [] → after.store_faults ≡ now → after.moment ≡ max core.moment entry.moment → clock_of after ≡ clock_of core → after.unsure ≡ false →
-    Ends core after (entry ∷ []) false now
-ends_taken core after entry now h f m c u = record { history = h; faults = f; moment = m; clock = c; unsure = u }
+pub ends_taken : (core after : Core) (entry : Entry) (now : ℕ) → after.history ≡ core.history ++ entry ∷ [] → after.store_faults ≡ now → after.moment ≡ max core.moment entry.moment → clock_of after ≡ clock_of core →
+    upkeep_of after ≡ noting core.moment (upkeep_of core) entry → after.unsure ≡ false → Ends core after (entry ∷ []) false now
+ends_taken core after entry now h f m c k u = record { history = h; faults = f; moment = m; clock = c; upkeep = k; unsure = u }
 
-pub timely_more : (core after : Core) (entry : Entry) (now : ℕ) → IsTimely core → CanSpell entry → Ends core after (entry ∷ []) false now → IsTimely after
-timely_more core after entry now t can e =
-    let taken = timely_taken core entry t can in
+pub timely_more : {kept : State} {log : Log} (core after : Core) (entry : Entry) (now : ℕ) → IsTimely core → CanSpell entry → Ends core after (entry ∷ []) false now → IsWorld kept after log → IsTimely after
+timely_more {kept} {log} core after entry now t can e w =
+    let legal = subst (Legal reads) (ap history e.history ∙ history-snoc core.history entry) (legal_history kept after log w) in
+    let taken = timely_taken core entry legal.0 legal.1 t can in
     record {
       greatest = subst (λ h. moment_of (history h) ≤ after.moment) (sym e.history) (let a = taken.greatest in let b = e.moment in omega (arith, a, b));
       moment = let a = taken.moment in let b = e.moment in omega (arith, a, b);
       clock = let a = t.clock in let b = ap (λ (c : ℕ × Bool). c.0) e.clock in omega (arith, a, b);
       room = λ u. absurd (true_is_false (sym (sym e.unsure ∙ u)));
+      doomed = frees_later (taken_in entry core) after e.history (ap (λ (k : Upkeep). k.marks) e.upkeep) (let b = e.moment in omega (arith, b)) (ap (λ (k : Upkeep). k.doomed) e.upkeep) taken.doomed;
     }
 
 -- ---- the last create of a transaction
@@ -129,7 +139,7 @@ pub record Last (old new : State) (core : Core) (log : Log) (act : Act) (before 
 
 module _ (old new : State) (core : Core) (log : Log) (act : Act) (before now : ℕ) (w : IsWorld old core log) (t : IsTimely core) (c : Counted core now) where
   own_ends : (m : MadeLaw old new core log (entry_of act core) now) → Ends core (taken_in (entry_of act core) m.after) (entry_of act core ∷ []) false now
-  own_ends m = ends_taken core (taken_in (entry_of act core) m.after) (entry_of act core) now (ap (λ es. es ++ entry_of act core ∷ []) m.history) m.faults (ap (λ n. max n core.moment) m.moment) m.clock refl
+  own_ends m = ends_taken core (taken_in (entry_of act core) m.after) (entry_of act core) now (ap (λ es. es ++ entry_of act core ∷ []) m.history) m.faults (ap (λ n. max n core.moment) m.moment) m.clock (noted_same core m.after (entry_of act core) m.moment m.upkeep) refl
 
   pub last_ok : CanSpellAct act → may_append act core ≡ Ok tt → MadeLaw old new core log (entry_of act core) now → Last old new core log act before (λ after. Ok tt) (entry_of act core ∷ []) false now
   last_ok can may m =
@@ -139,11 +149,11 @@ module _ (old new : State) (core : Core) (log : Log) (act : Act) (before now : �
         did = last_is_made old new core log act before now may m;
         onward = m.taken;
         ends = own_ends m;
-        timely = timely_more core (taken_in (entry_of act core) m.after) (entry_of act core) now t (record { moment = t.moment; act = can }) (own_ends m);
+        timely = timely_more core (taken_in (entry_of act core) m.after) (entry_of act core) now t (record { moment = t.moment; act = can }) (own_ends m) m.taken.world;
       }
 
   failed_ends : (f : FailedLaw old new core log (entry_of act core) now) → Ends core f.after [] true now
-  failed_ends f = ends_same core f.after true now f.history f.faults f.moment f.clock f.unsure
+  failed_ends f = ends_same core f.after true now f.history f.faults f.moment f.clock f.upkeep f.unsure
 
   pub last_fault : may_append act core ≡ Ok tt → FailedLaw old new core log (entry_of act core) now → Last old new core log act before (λ after. Err (troubled (store_failed before after))) [] true now
   last_fault may f =
@@ -157,7 +167,7 @@ module _ (old new : State) (core : Core) (log : Log) (act : Act) (before now : �
       }
 
   exists_ends : (x : ExistsLaw old new core log (entry_of act core) now) → Ends core x.after [] core.unsure now
-  exists_ends x = ends_same core x.after core.unsure now x.history x.faults x.moment x.clock x.unsure
+  exists_ends x = ends_same core x.after core.unsure now x.history x.faults x.moment x.clock x.upkeep x.unsure
 
   pub last_taken : may_append act core ≡ Ok tt → ExistsLaw old new core log (entry_of act core) now →
       Last old new core log act before (λ after. Err (troubled (faulted (is_foreign (meta_key (length after.history)))))) [] core.unsure now
@@ -174,7 +184,7 @@ module _ (old new : State) (core : Core) (log : Log) (act : Act) (before now : �
   pub last_no_memory : HasLanded old new → Last old new core log act before (λ after. Err (troubled no_memory)) [] core.unsure now
   last_no_memory l =
       let b = appends_short old new core log now w c l in
-      let ends = ends_same core (begun (quiet l.0 (now - core.store_faults) true) core) core.unsure now b.history b.faults b.moment b.clock b.unsure in
+      let ends = ends_same core (begun (quiet l.0 (now - core.store_faults) true) core) core.unsure now b.history b.faults b.moment b.clock b.upkeep b.unsure in
       record {
         call = quiet l.0 (now - core.store_faults) true;
         after = begun (quiet l.0 (now - core.store_faults) true) core;
@@ -193,7 +203,7 @@ last_not kept core log act before e w t may =
       after = core;
       did = last_refused act core calm_get before e refl may;
       onward = onward-refl kept core log w;
-      ends = ends_same core core core.unsure core.store_faults refl refl refl refl refl;
+      ends = ends_same core core core.unsure core.store_faults refl refl refl refl refl refl;
       timely = t;
     }
 
@@ -212,7 +222,7 @@ module _ (old new : State) (core : Core) (log : Log) (act : Core → Act) (now :
         did = first_made old new core log act calm_get calm_get now sure may m;
         onward = m.taken;
         ends = own_ends old new core log (act core) 0 now w t c m;
-        timely = timely_more core (taken_in (entry_of (act core) core) m.after) (entry_of (act core) core) now t (record { moment = t.moment; act = can }) (own_ends old new core log (act core) 0 now w t c m);
+        timely = timely_more core (taken_in (entry_of (act core) core) m.after) (entry_of (act core) core) now t (record { moment = t.moment; act = can }) (own_ends old new core log (act core) 0 now w t c m) m.taken.world;
       }
 
   pub transacted_fault : may_append (act core) core ≡ Ok tt → FailedLaw old new core log (entry_of (act core) core) now → Transacted old new core log act (λ after. Err (troubled (store_failed core.store_faults after))) [] true now
@@ -231,7 +241,7 @@ module _ (old new : State) (core : Core) (log : Log) (act : Core → Act) (now :
   pub transacted_no_memory : HasLanded old new → Transacted old new core log act (λ after. Err (troubled no_memory)) [] core.unsure now
   transacted_no_memory l =
       let b = appends_short old new core log now w c l in
-      let ends = ends_same core (begun (quiet l.0 (now - core.store_faults) true) core) core.unsure now b.history b.faults b.moment b.clock b.unsure in
+      let ends = ends_same core (begun (quiet l.0 (now - core.store_faults) true) core) core.unsure now b.history b.faults b.moment b.clock b.upkeep b.unsure in
       record {
         first = quiet l.0 (now - core.store_faults) true;
         second = calm_get;
@@ -266,7 +276,7 @@ module _ (old new : State) (core : Core) (log : Log) (act : Core → Act) (now :
       or_yes false = refl
 
       ends : Ends core after [] true now
-      ends = ends_same core after true now a.mid_history (still_counted a.mid.store_faults now a.mid_faults c.within) a.mid_moment a.mid_clock (or_yes a.mid.unsure)
+      ends = ends_same core after true now a.mid_history (still_counted a.mid.store_faults now a.mid_faults c.within) a.mid_moment a.mid_clock a.mid_upkeep (or_yes a.mid.unsure)
 
 -- the store isn't called
 pub transacted_not : (kept : State) (core : Core) (log : Log) (act : Core → Act) (e : Unmade) → IsWorld kept core log → IsTimely core → core.unsure ≡ false → may_append (act core) core ≡ Err e →
@@ -279,13 +289,13 @@ transacted_not kept core log act e w t sure may =
       after = core;
       did = first_refused act core calm_get calm_get calm_get e sure refl may;
       onward = onward-refl kept core log w;
-      ends = ends_same core core core.unsure core.store_faults refl refl refl refl refl;
+      ends = ends_same core core core.unsure core.store_faults refl refl refl refl refl refl;
       timely = t;
     }
 
 -- what stood there was taken in, and the entry made anew
 pub adopted_ends : (old new : State) (core : Core) (log : Log) (tried f : Entry) (before now : ℕ) (a : AdoptedLaw old new core log tried f before now) → Ends core a.after (f ∷ []) false now
-adopted_ends old new core log tried f before now a = ends_taken core a.after f now a.history a.faults a.moment a.clock a.sure
+adopted_ends old new core log tried f before now a = ends_taken core a.after f now a.history a.faults a.moment a.clock a.upkeep a.sure
 
 abbrev pub adopted_then : (old mid new : State) (core : Core) (log : Log) (act : Core → Act) (f : Entry) (n now : ℕ) (answer : Core → Result ⊤ Unmade) (more : List Entry) (unsure : Bool) →
     core.unsure ≡ false → may_append (act core) core ≡ Ok tt → (a : AdoptedLaw old mid core log (entry_of (act core) core) f core.store_faults n) →
@@ -305,7 +315,7 @@ adopted_then old mid new core log act f n now answer more unsure sure may a l =
 -- ---- where the number was unsure
 
 pub settled_ends : (old new : State) (core : Core) (log : Log) (f : Entry) (now : ℕ) (s : Settled old new core log f now) → Ends core s.after (f ∷ []) false now
-settled_ends old new core log f now s = ends_taken core s.after f now s.history s.faults s.moment s.clock s.unsure
+settled_ends old new core log f now s = ends_taken core s.after f now s.history s.faults s.moment s.clock s.upkeep s.unsure
 
 abbrev pub settled_then : (old mid new : State) (core : Core) (log : Log) (act : Core → Act) (f : Entry) (n now : ℕ) (answer : Core → Result ⊤ Unmade) (more : List Entry) (unsure : Bool) →
     core.unsure ≡ true → (s : Settled old mid core log f n) → Last mid new s.after log (act s.after) core.store_faults answer more unsure now → Transacted old new core log act answer (f ∷ more) unsure now
@@ -322,7 +332,7 @@ settled_then old mid new core log act f n now answer more unsure doubt s l =
     }
 
 pub unsettled_ends : (old new : State) (core : Core) (log : Log) (trouble : Core → Trouble) (now : ℕ) (u : Unsettled old new core log trouble now) → Ends core u.after [] true now
-unsettled_ends old new core log trouble now u = ends_same core u.after true now u.history u.faults u.moment u.clock u.unsure
+unsettled_ends old new core log trouble now u = ends_same core u.after true now u.history u.faults u.moment u.clock u.upkeep u.unsure
 
 pub timely_unsettled : (old new : State) (core : Core) (log : Log) (trouble : Core → Trouble) (now : ℕ) → IsTimely core → core.unsure ≡ true → (u : Unsettled old new core log trouble now) → IsTimely u.after
 timely_unsettled old new core log trouble now t doubt u = timely_same core u.after true now t (unsettled_ends old new core log trouble now u) (λ e. t.room doubt)

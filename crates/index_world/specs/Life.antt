@@ -21,25 +21,31 @@ use Rattle.index_world.specs.declared.own.Own.{Own}
 use Rattle.index_world.specs.declared.world_error.WorldError.{WorldError}
 use Rattle.index_world.specs.declared.world_error.WorldError.TheVariants as errors
 use Rattle.index_world.specs.Answering.{AppendedOwn, AppendsNot}
-use Rattle.index_world.specs.Calls.{Trouble, Unmade, Unread, may_append, entry_of}
+use Rattle.index_world.specs.Calls.{Trouble, Unmade, Unread, may_append, entry_of, marks_of}
 use Rattle.index_world.specs.Config.{reads}
-use Rattle.index_world.specs.Core.{Core, last_count, journal_of, IsUnusedIn, HasStagedIn, clock_of}
+use Rattle.index_world.specs.Core.{Core, last_count, journal_of, IsUnusedIn, HasStagedIn, clock_of, Upkeep, upkeep_of, no_upkeep, taken_at, is_in}
 use Rattle.index_world.specs.Gate.{IsTrouble, IsUnmade, Says}
 use Rattle.index_world.specs.Index.{has_staged}
 use Rattle.index_world.specs.Loading.{LoadsAs, IsUnread}
 use Rattle.index_world.specs.Opened.{Finds, all_found, OpensNot}
 use Rattle.index_world.specs.Owning.{own_act}
-use Rattle.index_world.specs.Steps.{Counted, MadeLaw, AdoptedLaw, FailedLaw, ExistsLaw, Settled, Unsettled, Transacted}
+use Rattle.index_world.specs.Steps.{Counted, noting, MadeLaw, AdoptedLaw, FailedLaw, ExistsLaw, Settled, Unsettled, Transacted}
 use Rattle.index_world.specs.Taking.{IsNotTaken, IsWant}
 use Rattle.index_world.specs.Unsure.{is_unsure}
 use Rattle.index_world.specs.World.{IsWorld, IsTimely}
 
--- it took these entries in, has this moment, and its next number is unsure or not
-pub record LifeIs (life : Life) (entries : List Entry) (time : ℕ) (doubt : Bool) : Type 0 where
+-- it took these entries in, has this moment, its next number is unsure or not, and it noted this
+pub record LifeIs (life : Life) (entries : List Entry) (time : ℕ) (doubt : Bool) (upkeep : Upkeep) : Type 0 where
   pub next : life.journal.next ≡ length entries
   pub unsure : is_unsure life.journal.place ≡ doubt
   pub moment : life.moment ≡ time
   pub meta : life.meta.state ≡ state_of reads (history entries)
+  pub marks : (n : ℕ) → taken_at life.marks.items n ≡ taken_at upkeep.marks n
+  pub doomed : (n : ℕ) → is_in life.doomed.numbers.items n ≡ is_in upkeep.doomed n
+
+-- it noted nothing
+abbrev pub NotesNothing : Life → Type 0
+NotesNothing life = (life.marks.items ≡ []) × (life.doomed.numbers.items ≡ [])
 
 -- with a store that holds and counts this it stands for the core
 pub record StandsBy (kept : State) (core : Core) (log : Log) (count : ℕ) (life : Life) : Type 0 where
@@ -47,7 +53,7 @@ pub record StandsBy (kept : State) (core : Core) (log : Log) (count : ℕ) (life
   pub timely : IsTimely core
   pub faults : count ≡ core.store_faults
   pub within : count ≤ last_count
-  pub knows : LifeIs life core.history core.moment core.unsure
+  pub knows : LifeIs life core.history core.moment core.unsure (upkeep_of core)
   pub opened : 0 < length core.history
 
 -- ---- taking an entry in
@@ -55,17 +61,24 @@ pub record StandsBy (kept : State) (core : Core) (log : Log) (count : ℕ) (life
 abbrev pub reading_in : meta.State → Act → Said
 reading_in state act = reading_of reads state.config act
 
+-- what it noted stays
+abbrev pub SameUpkeep : Life → Life → Type 0
+SameUpkeep old new = (new.marks.items ≡ old.marks.items) × (new.doomed ≡ old.doomed)
+
 -- it was taken in
 pub record TookIn (old : Life) (entry : Entry) (new : Life) : Type 0 where
   pub journal : new.journal ≡ record { next = old.journal.next + 1; place = Sure; settled = true }
   pub meta : new.meta.state ≡ after (reading_in old.meta.state entry.act) entry old.meta.state
   pub moment : entry.moment < 2 ^ 62 → new.moment ≡ max old.moment entry.moment
+  pub marks : entry.moment < 2 ^ 62 → new.marks.items ≡ old.marks.items ++ marks_of entry.act (max old.moment entry.moment)
+  pub doomed : new.doomed ≡ old.doomed
 
 -- It was not, which an entry that may come next meets by want of memory alone. Any other is refused with the key of its number.
 pub record TookNone (old : Life) (entry : Entry) (error : WorldError) (new : Life) : Type 0 where
   pub journal : new.journal ≡ old.journal
   pub meta : new.meta.state ≡ old.meta.state
   pub moment : new.moment ≡ old.moment
+  pub upkeep : SameUpkeep old new
   pub want : IsOk (answer_to (reading_in old.meta.state entry.act) old.meta.state entry) → IsWant error
   pub unfit : IsNotTaken (answer_to (reading_in old.meta.state entry.act) old.meta.state entry) old.journal.next error
 
@@ -112,7 +125,7 @@ pub record CreatedOwn (old new : State) (core : Core) (log : Log) (act : Act) (c
   pub can : CanSpellAct act
   pub may : may_append act core ≡ Ok tt
   pub step : MadeLaw old new core log (entry_of act core) count
-  pub knows : LifeIs life (core.history ++ entry_of act core ∷ []) core.moment false
+  pub knows : LifeIs life (core.history ++ entry_of act core ∷ []) core.moment false (noting core.moment (upkeep_of core) (entry_of act core))
 
 -- an entry stood at its number, and is given
 pub record CreateGives (old new : State) (core : Core) (log : Log) (act : Act) (settled : Bool) (before count : ℕ) (entry : Entry) (life : Life) : Type 0 where
@@ -121,7 +134,7 @@ pub record CreateGives (old new : State) (core : Core) (log : Log) (act : Act) (
   pub step : AdoptedLaw old new core log (entry_of act core) entry before count
   pub can : CanSpell entry
   pub given : life.journal.place ≡ Given
-  pub knows : LifeIs life core.history core.moment true
+  pub knows : LifeIs life core.history core.moment true (upkeep_of core)
 
 -- it is refused, or the journal is full: the store isn't called
 pub record CreateRefused (old new : State) (core : Core) (act : Act) (count : ℕ) (error : WorldError) (life : Life) : Type 0 where
@@ -130,20 +143,20 @@ pub record CreateRefused (old new : State) (core : Core) (act : Act) (count : �
   pub is : IsUnmade error unmade
   pub same : new ≡ old
   pub faults : count ≡ core.store_faults
-  pub knows : LifeIs life core.history core.moment false
+  pub knows : LifeIs life core.history core.moment false (upkeep_of core)
 
 -- no memory is found
 pub record CreateWants (old new : State) (core : Core) (error : WorldError) (life : Life) : Type 0 where
   pub is : IsWant error
   pub landed : HasLanded old new
-  pub knows : LifeIs life core.history core.moment false
+  pub knows : LifeIs life core.history core.moment false (upkeep_of core)
 
 -- the store failed
 pub record CreateFails (old new : State) (core : Core) (log : Log) (act : Act) (before count : ℕ) (error : WorldError) (life : Life) : Type 0 where
   pub may : may_append act core ≡ Ok tt
   pub step : FailedLaw old new core log (entry_of act core) count
   pub is : error ≡ errors.StoreFault before count
-  pub knows : LifeIs life core.history core.moment true
+  pub knows : LifeIs life core.history core.moment true (upkeep_of core)
 
 -- behind a number that was settled something stood
 pub record CreateMeets (old new : State) (core : Core) (log : Log) (act : Act) (settled : Bool) (count : ℕ) (error : WorldError) (life : Life) : Type 0 where
@@ -151,7 +164,7 @@ pub record CreateMeets (old new : State) (core : Core) (log : Log) (act : Act) (
   pub may : may_append act core ≡ Ok tt
   pub step : ExistsLaw old new core log (entry_of act core) count
   pub is : error ≡ errors.Foreign (meta_key (length core.history))
-  pub knows : LifeIs life core.history core.moment false
+  pub knows : LifeIs life core.history core.moment false (upkeep_of core)
 
 abbrev pub CreatesBy : State → State → Core → Log → Act → Bool → (before count : ℕ) → Life → Result (Option Entry) WorldError → Type 0
 CreatesBy old new core log act settled before count life (Ok None) = CreatedOwn old new core log act count life
@@ -205,6 +218,7 @@ pub record SameBut (core after : Core) : Type 0 where
   pub history : after.history ≡ core.history
   pub moment : after.moment ≡ core.moment
   pub clock : clock_of after ≡ clock_of core
+  pub upkeep : upkeep_of after ≡ upkeep_of core
   pub unsure : after.unsure ≡ core.unsure
 
 -- the index was opened
@@ -237,7 +251,7 @@ pub record Opening (core : Core) (log : Log) (result : Result Life WorldError) (
 pub record FindsLife (life : Life) (old new : State) : Type 0 where
   pub entries : List Entry
   pub finds : Finds (all_found entries) old new
-  pub knows : LifeIs life entries (moment_of (history entries)) false
+  pub knows : LifeIs life entries (moment_of (history entries)) false no_upkeep
 
 abbrev pub OpensTo : (before now : ℕ) → Result Life WorldError → State → State → Type 0
 OpensTo before now (Ok life) old new = FindsLife life old new

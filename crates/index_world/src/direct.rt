@@ -118,8 +118,12 @@ impl<S: ObjectStore, C: SteadyClock> Gate for Direct<S, C> {
         self.world.upload(alloc, staged, content)
     }
 
-    fn sweep(&mut self, _alloc: Global, number: u64) -> Result<bool, WorldError> {
-        self.world.sweep(number)
+    fn doom(&mut self, _alloc: Global) -> Result<Option<u64>, WorldError> {
+        self.world.doom()
+    }
+
+    fn sweep_delete(&mut self, _alloc: Global, number: u64) -> Result<bool, WorldError> {
+        self.world.sweep_delete(number)
     }
 
     fn publish(&mut self, alloc: Global, uploaded: Uploaded) -> Result<u64, WorldError> {

@@ -4,9 +4,10 @@ ghost use Rattle.std.specs.Prelude.{◌≡◌, ◌≤◌, ◌<◌, ◌^◌, IsSo
 ghost use Rattle.std.specs.Option.{ForSome};
 ghost use Rattle.doc_value.specs.Documents.{IsSchema};
 
-use crate::config::reading_of;
+use crate::doom_list::Doomed;
+use crate::marking::{Marking, note};
 use crate::own::{Own, act_of};
-use crate::taking::{admit, moment_of, prepare, world_error};
+use crate::taking::{admit, moment_of, prepare, read_with_room, world_error};
 use crate::world_error::WorldError;
 use index_config::IndexConfig;
 use meta_journal::{Entry, Journal, JournalError, meta_key};
@@ -15,12 +16,15 @@ use object_store::ObjectStore;
 use std::alloc::Global;
 use std::mem;
 
-/// The journal, the state behind the entries that were taken in, and the greatest moment.
+/// The journal, the state behind the entries that were taken in, the greatest moment, which markings were taken in when, and
+/// whose files were deleted while they had a row.
 #[derive(Drop)]
 pub struct Life {
     pub journal: Journal,
     pub meta: Meta,
     pub moment: u64,
+    pub marks: Vec<Marking>,
+    pub doomed: Doomed,
     ghost timely: { moment < 2 ^ 62 },
     ghost in_step: { meta.state.revision ≡ journal.next },
     // An index that was opened has a configuration.
@@ -30,7 +34,7 @@ pub struct Life {
 }
 
 impl Life {
-    ghost use Rattle.std.specs.Prelude.{◌≡◌, ◌≤◌, OnOk, IfOk, IfErr, IsOk, MatchResult, Option, Some};
+    ghost use Rattle.std.specs.Prelude.{◌≡◌, ◌≤◌, ◌+◌, OnOk, IfOk, IfErr, IsOk, MatchResult, Option, Some, length, vec_len, vec_capacity};
     ghost use Rattle.meta_store.specs.Readings as read;
     ghost use Rattle.meta_store.specs.declared.config.Config.{Config};
     ghost use Rattle.index_world.specs.Config.{reads};
@@ -38,6 +42,7 @@ impl Life {
     ghost use Rattle.object_store.specs.Store.{State, WhereTold};
     ghost use Rattle.source_log.specs.Log.{Log};
     ghost use Rattle.index_world.specs.Answering.{Appends, Follows, KeepsEntries, SettlesNot, answer_in};
+    ghost use Rattle.index_world.specs.Calls.{marked_by};
     ghost use Rattle.index_world.specs.Configuration.{index_of};
     ghost use Rattle.index_world.specs.Core.{Core};
     ghost use Rattle.index_world.specs.Life.{TookIn, TookNone, StandsBy, Settling, Creating, Appending, Makes};
@@ -63,7 +68,7 @@ impl Life {
         ensures taken { MatchResult result (λ done. TookIn self.old entry self.new) (λ error. TookNone self.old entry error self.new) }
         ensures allowed { OnOk result (IsOk (answer_in self.old.meta.state entry)) }
     {
-        match reading_of(alloc, &entry) {
+        match read_with_room(alloc, &mut self.marks, &entry) {
             Ok(reading) => self.take_read(entry, reading),
             Err(refused) => {
                 mem::drop(entry);
@@ -75,6 +80,7 @@ impl Life {
     // Takes in the entry that the journal gave at its next number, whose readings these are.
     fn take_read(&mut self, entry: Entry, reading: Reading) -> Result<(), WorldError>
         requires given { self.old.journal.place ≡ Given }
+        requires room { vec_len self.old.marks + length (marked_by entry.act) ≤ vec_capacity self.old.marks }
         requires read { (config : Option Config) → reading ≡ read.reading_of reads config entry.act }
         ensures place { OnOk result (self.new.journal.place ≡ Sure) }
         ensures taken { MatchResult result (λ done. TookIn self.old entry self.new) (λ error. TookNone self.old entry error self.new) }
@@ -86,8 +92,9 @@ impl Life {
         match admit(&mut self.meta, reading, &entry, self.journal.next()) {
             Ok(handed) => {
                 self.journal.step_over();
-                self.meta.apply(entry, handed);
                 self.moment = self.moment.max(moment);
+                note(&mut self.marks, &entry.act, self.moment);
+                self.meta.apply(entry, handed);
                 Ok(())
             }
             Err(error) => {
@@ -148,7 +155,7 @@ impl Life {
             moment: self.moment,
             act: act_of(alloc, own, &self.meta)?,
         };
-        let reading = match reading_of(alloc, &entry) {
+        let reading = match read_with_room(alloc, &mut self.marks, &entry) {
             Ok(reading) => reading,
             Err(refused) => {
                 mem::drop(entry);
@@ -167,6 +174,7 @@ impl Life {
         let _count = store.faults();
         match answer {
             Ok(_) => {
+                note(&mut self.marks, &entry.act, self.moment);
                 self.meta.apply(entry, handed);
                 Ok(None)
             }

@@ -9,7 +9,7 @@ ghost use Rattle.meta_journal.specs.Spelling.{CanSpellFacts};
 ghost use Rattle.object_store.specs.Store.{State, WhereTold};
 ghost use Rattle.source_log.specs.Log.{Log};
 ghost use Rattle.meta_journal.specs.Places.{split_key};
-ghost use Rattle.index_world.specs.Answering.{IsAnswer, marks_answered, moment_answered, stage_answered, publish_answered, plan_answered};
+ghost use Rattle.index_world.specs.Answering.{IsAnswer, marks_answered, moment_answered, stage_answered, publish_answered, plan_answered, doom_answered};
 ghost use Rattle.index_world.specs.Asked.{FetchesFile, given_behind, IsFetch, IsInTime, IsUpload, UploadsFile};
 ghost use Rattle.index_world.specs.Calls.{asked, asked_moment, looked, asked_and_looked, fetched_from, upload_made};
 ghost use Rattle.index_world.specs.Configuration.{index_of};
@@ -17,7 +17,7 @@ ghost use Rattle.index_world.specs.Core.{Core, IsConfigured, IsUnusedIn};
 ghost use Rattle.index_world.specs.Created.{CreatesIndex, CreatesNot, CreatesWorld, CreatesNone, IsOfCreate};
 ghost use Rattle.index_config.specs.Answer.{config_answer};
 ghost use Rattle.index_world.specs.Collected.{SweepsFile};
-ghost use Rattle.index_world.specs.Collecting.{is_swept_by, sweep_call};
+ghost use Rattle.index_world.specs.Collecting.{is_swept_by, doom_call, sweep_call};
 ghost use Rattle.index_world.specs.Gate.{Acts, ActsWith, IsGiven, grace_of, IsTrouble, IsUnmade, IsUnfetched, AreMarks, IsMoment, stage_call, WasStaged, WasUploaded, publish_call, IsPublishable, IsRevision, IsPlan, IsPieceGiven};
 ghost use Rattle.index_world.specs.Loading.{LoadsWorld, LoadsNone, LoadsAnew};
 ghost use Rattle.index_world.specs.Taking.{IsFaultBetween};
@@ -27,6 +27,7 @@ ghost use Rattle.meta_store.specs.declared.planning.PlanRow.{PlanRow};
 
 use crate::first_entry::create;
 use crate::life::Life;
+use crate::next_doomed::next_doomed;
 use crate::own::Own;
 use crate::steady::SteadyClock;
 use crate::taking::{create_error, get_error, open};
@@ -70,6 +71,8 @@ impl<S: ObjectStore, C: SteadyClock> Model for World<S, C> {
       next = w.life.journal.next;
       unsure = is_unsure w.life.journal.place;
       frozen = w.frozen;
+      marks = w.life.marks.items;
+      doomed = w.life.doomed.numbers.items;
     } };
 }
 
@@ -93,6 +96,19 @@ fn copied_checkpoints(
         })?;
     }
     Ok(copy)
+}
+
+// The moment behind the asking of a clock, which a frozen world doesn't ask.
+fn asked_of<C: SteadyClock>(clock: &mut C, frozen: bool, moment: u64) -> u64
+    ensures asks { IfSome (C.told clock.old) (λ told. result ≡ asked_moment frozen moment told) }
+    ensures same { C.told clock.new ≡ C.told clock.old }
+    ensures below { moment < 2 ^ 62 → result < 2 ^ 62 }
+{
+    if frozen {
+        moment
+    } else {
+        moment.max(clock.ask())
+    }
 }
 
 // Whether a number was staged and its row is gone.
@@ -234,10 +250,10 @@ impl<S: ObjectStore, C: SteadyClock> World<S, C> {
         ensures meta { self.new.meta ≡ self.old.meta }
         ensures next { self.new.next ≡ self.old.next }
         ensures unsure { self.new.unsure ≡ self.old.unsure }
+        ensures marks { self.new.marks ≡ self.old.marks }
+        ensures doomed { self.new.doomed ≡ self.old.doomed }
     {
-        if !self.frozen {
-            self.life.moment = self.life.moment.max(self.clock.ask());
-        }
+        self.life.moment = asked_of(&mut self.clock, self.frozen, self.life.moment);
     }
 
     /// The checkpoints, the last opstamp and the revision.
@@ -324,7 +340,7 @@ impl<S: ObjectStore, C: SteadyClock> World<S, C> {
 
     /// Deletes the file of a number that was staged and whose row is gone, and says whether it is such a number: of another one nothing
     /// is done, and no call of the store is made.
-    pub fn sweep(&mut self, number: u64) -> Result<bool, WorldError>
+    pub fn sweep_delete(&mut self, number: u64) -> Result<bool, WorldError>
         ensures step { (core : Core) (log : Log) → WorldStands self.old core log →
             ActsWith WorldStands None (sweep_call number) IsTrouble IsGiven result core log self.new }
         // Over all stores: which numbers these are, and a fault has its counts before and behind, of which the second rose.
@@ -344,6 +360,31 @@ impl<S: ObjectStore, C: SteadyClock> World<S, C> {
         let after = self.store.faults();
         match answer {
             Ok(()) => Ok(true),
+            Err(_) => Err(WorldError::StoreFault { before, after }),
+        }
+    }
+
+    /// Deletes the file of the least row that is marked, released and not doomed yet, and gives its number, behind which it is
+    /// doomed. None, without a call of the store, where there is no such row; a delete that failed may be tried again.
+    pub fn doom(&mut self) -> Result<Option<u64>, WorldError>
+        ensures step { (core : Core) (log : Log) → WorldStands self.old core log →
+            ActsWith WorldStands None doom_call IsTrouble IsGiven result core log self.new }
+        // Over every store, sound or not.
+        ensures answers { IsAnswer (doom_answered result) self.old self.new }
+    {
+        self.life.doomed.reserve()?;
+        self.life.moment = asked_of(&mut self.clock, self.frozen, self.life.moment);
+        let Some(number) = next_doomed(&self.life) else {
+            return Ok(None);
+        };
+        let before = self.store.faults();
+        let answer = self.store.delete(&split_key(number));
+        let after = self.store.faults();
+        match answer {
+            Ok(()) => {
+                self.life.doomed.insert(number);
+                Ok(Some(number))
+            }
             Err(_) => Err(WorldError::StoreFault { before, after }),
         }
     }

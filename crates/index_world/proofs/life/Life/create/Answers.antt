@@ -1,4 +1,4 @@
-use Rattle.std.proofs.Common.{refl, sym, ap, ◌∙◌, subst, arith, ◌≡◌, ℕ, false, true, IsOk, length}
+use Rattle.std.proofs.Common.{refl, sym, ap, ◌∙◌, ◌++◌, subst, arith, ◌≡◌, ℕ, false, true, IsOk, length}
 use Rattle.std.specs.Prelude.{Result, Ok, Err, IfErr, ⊤}
 use Rattle.meta_journal.specs.Journal.{FaultIs, IsTaken, place_appended, next_appended}
 use Rattle.meta_journal.specs.Spelling.{CanSpellAct}
@@ -8,6 +8,7 @@ use Rattle.meta_store.specs.Answers.{answer_to}
 use Rattle.meta_store.specs.Said.{Said}
 use Rattle.meta_store.specs.History.{at}
 use Rattle.meta_store.specs.State.{after, State}
+use Rattle.index_world.specs.Calls.{marks_of}
 use Rattle.index_world.specs.Owning.{own_act, act_in}
 use Rattle.index_world.specs.Taking.{IsWant}
 use Rattle.index_world.specs.Answering.{answer_in, behind}
@@ -25,21 +26,21 @@ pub returns-in_err-act_of-clause-step : goal.returns-in_err-act_of-clause-step
 returns-in_err-act_of-clause-step g c old core log e b owned =
     creating_wants_by old core log _ _ c.args.self.now b _ _ e (omega arith) b.within c.args.self.now _ _ c.args.before c.from_residual.result _ c.from_residual.ensures.1
     (λ error is. subst IsWant (sym is) tt) refl
-    (life_on c.args.self.now c.args.self.now core.history core.moment core.unsure false b.knows refl refl refl (ap is_unsure c.requires.sure)) refl
+    (life_on c.args.self.now c.args.self.now core.history core.moment core.unsure false b.knows refl refl refl (refl, refl) (ap is_unsure c.requires.sure)) refl
 
 pub returns-in-Err-clause-step : goal.returns-in-Err-clause-step
 returns-in-Err-clause-step g c old core log e b owned =
-    creating_wants old core log _ _ c.args.self.now b _ _ e (omega arith) b.within c.args.self.now _ _ c.args.before _ tt refl
-    (life_on c.args.self.now c.args.self.now core.history core.moment core.unsure false b.knows refl refl refl (ap is_unsure c.requires.sure)) refl
+    creating_wants old core log _ _ c.args.self.now b _ _ e (omega arith) b.within _ _ _ c.args.before _ tt refl
+    (life_on c.args.self.now _ core.history core.moment core.unsure false b.knows refl refl refl (c.read_with_room.ensures.same, refl) (ap is_unsure c.requires.sure)) refl
 
 pub returns-in-Err-prepare-clause-step : goal.returns-in-Err-prepare-clause-step
 returns-in-Err-prepare-clause-step g c old core log e b owned =
     let same = entry_is c.args.self.now.moment core.moment c.in_ok-act_of.field-0 (own_act c.args.own core) b.knows.moment (c.in_ok-act_of.ensures.same ∙ ap (act_in c.args.own) b.knows.meta) in
-    let answer = answer_same c.in-Ok.reading c.args.self.now.meta.state _ _ core c.in-Ok.ensures b.knows.meta same in
+    let answer = answer_same c.in-Ok.reading c.args.self.now.meta.state _ _ core c.in-Ok.ensures.value b.knows.meta same in
     let revision : c.args.self.now.meta.state.revision ≡ length core.history = c.args.self.now.in_step ∙ b.knows.next in
     creating_unprepared old core log _ _ c.args.self.now b _ _ e (omega arith) b.within _ (own_act c.args.own core) _ c.args.before c.in-Err-prepare.unprepared
     (unprepared_same _ _ _ _ _ _ answer revision refl c.in-Err-prepare.ensures.why) refl refl
-    (life_on c.args.self.now _ core.history core.moment core.unsure false b.knows refl c.prepare.ensures.same refl (ap is_unsure c.requires.sure)) refl
+    (life_on c.args.self.now _ core.history core.moment core.unsure false b.knows refl c.prepare.ensures.same refl (c.read_with_room.ensures.same, refl) (ap is_unsure c.requires.sure)) refl
 
 pub returns-in-Ok-answer-clause-step : goal.returns-in-Ok-answer-clause-step
 returns-in-Ok-answer-clause-step g c old core log e b owned =
@@ -49,14 +50,14 @@ returns-in-Ok-answer-clause-step g c old core log e b owned =
     let act : c.in_ok-act_of.field-0 ≡ own_act c.args.own core = c.in_ok-act_of.ensures.same ∙ ap (act_in c.args.own) b.knows.meta in
     let same = entry_is c.args.self.now.moment core.moment c.in_ok-act_of.field-0 (own_act c.args.own core) b.knows.moment act in
     let state : c.prepare.new.meta.state ≡ c.args.self.now.meta.state = c.prepare.ensures.same in
-    let answer = answer_same c.in-Ok.reading c.prepare.new.meta.state _ _ core c.in-Ok.ensures (state ∙ b.knows.meta) same in
+    let answer = answer_same c.in-Ok.reading c.prepare.new.meta.state _ _ core c.in-Ok.ensures.value (state ∙ b.knows.meta) same in
     let revision : c.args.self.now.meta.state.revision ≡ length core.history = c.args.self.now.in_step ∙ b.knows.next in
     creating_own old core log _ _ c.args.self.now b _ _ e c.append-answer.ensures.later (omega (arith, count, fits)) c.args.own _ same (subst CanSpellAct act c.in_ok-act_of.ensures.can)
     (may_append_is (own_act c.args.own core) core (subst IsOk answer c.in-Ok-prepare.ensures.allowed) (let low = c.in-Ok-prepare.ensures.below in omega (arith, low, revision))) owned
     _ _ c.args.before c.in-Ok-answer.field-0
     (appends_at _ _ _ _ _ _ said c.append-answer.ensures.answer)
     (life_own c.args.self.now _ core.history core.moment core.unsure _ _ c.in-Ok.reading c.prepare.new.meta.state b.knows
-    (c.append-answer.ensures.next ∙ ap (next_appended c.args.self.now.journal.next) said) (c.append-answer.ensures.place ∙ ap place_appended said) state (c.apply.ensures ∙ ap (λ (r : Said). after r (at c.args.self.now.moment c.in_ok-act_of.field-0) c.prepare.new.meta.state) c.in-Ok-prepare.ensures.handed) c.in-Ok.ensures refl same)
+    (c.append-answer.ensures.next ∙ ap (next_appended c.args.self.now.journal.next) said) (c.append-answer.ensures.place ∙ ap place_appended said) state (c.apply.ensures ∙ ap (λ (r : Said). after r (at c.args.self.now.moment c.in_ok-act_of.field-0) c.prepare.new.meta.state) c.in-Ok-prepare.ensures.handed) c.in-Ok.ensures.value refl (c.note.ensures ∙ ap (λ ms. ms ++ marks_of c.in_ok-act_of.field-0 c.args.self.now.moment) c.read_with_room.ensures.same, refl) (let m = b.knows.moment in omega (arith, m)) same)
     c.append-answer.ensures.settled
 
 pub returns-in-Adopted-clause-step : goal.returns-in-Adopted-clause-step
@@ -67,7 +68,7 @@ returns-in-Adopted-clause-step g c old core log e b owned =
     let act : c.in_ok-act_of.field-0 ≡ own_act c.args.own core = c.in_ok-act_of.ensures.same ∙ ap (act_in c.args.own) b.knows.meta in
     let same = entry_is c.args.self.now.moment core.moment c.in_ok-act_of.field-0 (own_act c.args.own core) b.knows.moment act in
     let state : c.prepare.new.meta.state ≡ c.args.self.now.meta.state = c.prepare.ensures.same in
-    let answer = answer_same c.in-Ok.reading c.prepare.new.meta.state _ _ core c.in-Ok.ensures (state ∙ b.knows.meta) same in
+    let answer = answer_same c.in-Ok.reading c.prepare.new.meta.state _ _ core c.in-Ok.ensures.value (state ∙ b.knows.meta) same in
     let revision : c.args.self.now.meta.state.revision ≡ length core.history = c.args.self.now.in_step ∙ b.knows.next in
     let place = c.append-answer.ensures.place ∙ ap place_appended said in
     creating_gives old core log _ _ c.args.self.now b _ _ e c.append-answer.ensures.later (omega (arith, count, fits)) c.args.own _ same (subst CanSpellAct act c.in_ok-act_of.ensures.can)
@@ -75,7 +76,7 @@ returns-in-Adopted-clause-step g c old core log e b owned =
     _ _ c.args.before c.in-Adopted.entry
     (appends_at _ _ _ _ _ _ said c.append-answer.ensures.answer)
     (subst (λ (r : Result ℕ JournalError). IfErr r (IsTaken c.args.self.now.journal.settled)) said c.append-answer.ensures.taken) place
-    (life_on c.args.self.now _ core.history core.moment core.unsure true b.knows (c.append-answer.ensures.next ∙ ap (next_appended c.args.self.now.journal.next) said) c.prepare.ensures.same refl (ap is_unsure place))
+    (life_on c.args.self.now _ core.history core.moment core.unsure true b.knows (c.append-answer.ensures.next ∙ ap (next_appended c.args.self.now.journal.next) said) c.prepare.ensures.same refl (c.read_with_room.ensures.same, refl) (ap is_unsure place))
     c.append-answer.ensures.settled
 
 pub returns-in_default-clause-place : goal.returns-in_default-clause-place
@@ -89,7 +90,7 @@ returns-in_default-clause-step g c old core log e b owned =
     let act : c.in_ok-act_of.field-0 ≡ own_act c.args.own core = c.in_ok-act_of.ensures.same ∙ ap (act_in c.args.own) b.knows.meta in
     let same = entry_is c.args.self.now.moment core.moment c.in_ok-act_of.field-0 (own_act c.args.own core) b.knows.moment act in
     let state : c.prepare.new.meta.state ≡ c.args.self.now.meta.state = c.prepare.ensures.same in
-    let answer = answer_same c.in-Ok.reading c.prepare.new.meta.state _ _ core c.in-Ok.ensures (state ∙ b.knows.meta) same in
+    let answer = answer_same c.in-Ok.reading c.prepare.new.meta.state _ _ core c.in-Ok.ensures.value (state ∙ b.knows.meta) same in
     let revision : c.args.self.now.meta.state.revision ≡ length core.history = c.args.self.now.in_step ∙ b.knows.next in
     let low = c.in-Ok-prepare.ensures.below in
     let step = c.args.self.now.in_step in
@@ -103,7 +104,7 @@ returns-in_default-clause-step g c old core log e b owned =
     (subst (λ (r : Result ℕ JournalError). IfErr r (IsTaken c.args.self.now.journal.settled)) said c.append-answer.ensures.taken)
     no
     (λ full. let le = c.append-answer.ensures.full.0 (said ∙ ap Err full) in omega (arith, le, low, step))
-    (life_on c.args.self.now _ core.history core.moment core.unsure _ b.knows (c.append-answer.ensures.next ∙ ap (next_appended c.args.self.now.journal.next) said) c.prepare.ensures.same refl (ap is_unsure place))
+    (life_on c.args.self.now _ core.history core.moment core.unsure _ b.knows (c.append-answer.ensures.next ∙ ap (next_appended c.args.self.now.journal.next) said) c.prepare.ensures.same refl (c.read_with_room.ensures.same, refl) (ap is_unsure place))
     c.append-answer.ensures.settled
 
 pub apply-requires-clause-few : goal.apply-requires-clause-few
@@ -135,7 +136,7 @@ returns-in-Err-prepare-clause-faults g c le = unprepared_no_fault _ _ c.args.bef
 pub returns-in-Err-prepare-clause-answers : goal.returns-in-Err-prepare-clause-answers
 returns-in-Err-prepare-clause-answers g c =
     makes_unprepared (g.S.ObjectStore.told c.args.store.now) _ (act_in c.args.own) c.args.self.now.moment c.args.self.now.journal.next c.args.self.now.meta.state.revision c.prepare.new.meta.state c.in-Err-prepare.unprepared
-    (answer_here c.in-Ok.reading (act_in c.args.own) c.args.self.now.moment c.in_ok-act_of.field-0 c.args.self.now.meta.state c.prepare.new.meta.state c.in-Ok.ensures c.in_ok-act_of.ensures.same c.prepare.ensures.same)
+    (answer_here c.in-Ok.reading (act_in c.args.own) c.args.self.now.moment c.in_ok-act_of.field-0 c.args.self.now.meta.state c.prepare.new.meta.state c.in-Ok.ensures.value c.in_ok-act_of.ensures.same c.prepare.ensures.same)
     c.args.self.now.in_step c.in-Err-prepare.ensures.why
 
 pub returns-in-Ok-answer-clause-later : goal.returns-in-Ok-answer-clause-later
@@ -149,7 +150,7 @@ returns-in-Ok-answer-clause-answers g c =
     makes_own (g.S.ObjectStore.told c.args.store.now) (g.S.ObjectStore.told c.append-answer.new.store) (act_in c.args.own) c.in-Ok-answer.field-0 c.args.self.now.moment c.args.self.now.journal.next c.append-answer.new.self.next before c.apply.new.self.state entry
     (ap (at c.args.self.now.moment) (c.in_ok-act_of.ensures.same ∙ ap (act_in c.args.own) (sym c.prepare.ensures.same))) (record { moment = c.args.self.now.timely; act = c.in_ok-act_of.ensures.can })
     (c.append-answer.ensures.next ∙ ap (next_appended c.args.self.now.journal.next) said)
-    (c.apply.ensures ∙ ap (λ (r : Said). after r entry before) (c.in-Ok-prepare.ensures.handed ∙ c.in-Ok.ensures before.config))
+    (c.apply.ensures ∙ ap (λ (r : Said). after r entry before) (c.in-Ok-prepare.ensures.handed ∙ c.in-Ok.ensures.value before.config))
     (subst (λ (r : Result ℕ JournalError). WhereTold (g.S.ObjectStore.told c.args.store.now) (g.S.ObjectStore.told c.append-answer.new.store) (Appends c.args.self.now.journal.next entry r)) said c.append-answer.ensures.answer)
 
 pub returns-in-Adopted-clause-later : goal.returns-in-Adopted-clause-later
@@ -209,8 +210,8 @@ returns-in-Ok-answer-clause-followed g c =
     let was = c.args.self.now.meta.state in
     own_follows (g.S.ObjectStore.told c.args.store.now) (g.S.ObjectStore.told c.append-answer.new.store) c.in-Ok-answer.field-0 c.args.self.now.journal.next c.append-answer.new.self.next was c.apply.new.self.state entry
     (record { moment = c.args.self.now.timely; act = c.in_ok-act_of.ensures.can }) (c.append-answer.ensures.next ∙ ap (next_appended c.args.self.now.journal.next) said)
-    (subst (λ (s : State). IsOk (answer_in s entry)) c.prepare.ensures.same (subst (λ (r : Said). IsOk (answer_to r before entry)) (c.in-Ok.ensures before.config) c.in-Ok-prepare.ensures.allowed))
-    (c.apply.ensures ∙ ap (λ (r : Said). after r entry before) (c.in-Ok-prepare.ensures.handed ∙ c.in-Ok.ensures before.config) ∙ ap (λ (s : State). behind s entry) c.prepare.ensures.same)
+    (subst (λ (s : State). IsOk (answer_in s entry)) c.prepare.ensures.same (subst (λ (r : Said). IsOk (answer_to r before entry)) (c.in-Ok.ensures.value before.config) c.in-Ok-prepare.ensures.allowed))
+    (c.apply.ensures ∙ ap (λ (r : Said). after r entry before) (c.in-Ok-prepare.ensures.handed ∙ c.in-Ok.ensures.value before.config) ∙ ap (λ (s : State). behind s entry) c.prepare.ensures.same)
     (subst (λ (r : Result ℕ JournalError). WhereTold (g.S.ObjectStore.told c.args.store.now) (g.S.ObjectStore.told c.append-answer.new.store) (Appends c.args.self.now.journal.next entry r)) said c.append-answer.ensures.answer)
 
 pub returns-in-Ok-answer-clause-keeps : goal.returns-in-Ok-answer-clause-keeps

@@ -4,8 +4,8 @@ use Rattle.index_world.specs.Collecting.{is_swept_by}
 use Rattle.index_world.specs.World.{Keeping, WorldStands}
 use Rattle.meta_journal.specs.Places.{split_key}
 use Rattle.index_world.proofs.Sweeping.{sweeps, told_swept, unswept}
-use Rattle.index_world.proofs.world.World.sweep.Goals as goal
-use Rattle.index_world.proofs.world.World.sweep.Goals.{in-Ok, in-Err}
+use Rattle.index_world.proofs.world.World.sweep_delete.Goals as goal
+use Rattle.index_world.proofs.world.World.sweep_delete.Goals.{in-Ok, in-Err}
 
 pub returns-then-not-is_swept-clause-step : goal.returns-then-not-is_swept-clause-step
 returns-then-not-is_swept-clause-step g c core log s =
