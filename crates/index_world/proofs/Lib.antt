@@ -54,3 +54,6 @@ pub mod FirstCalls
 pub mod FetchLaws
 pub mod Agreement
 pub mod AskedLaws
+pub mod SweepPages
+pub mod Swept
+pub mod SweepLists

@@ -8,6 +8,7 @@ mod first_entry;
 mod gate;
 pub mod laws;
 mod life;
+mod listing;
 mod marking;
 mod next_doomed;
 mod own;

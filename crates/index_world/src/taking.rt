@@ -20,7 +20,7 @@ ghost use Rattle.index_world.specs.Config.{reads};
 ghost use Rattle.index_world.specs.Core.{Core};
 ghost use Rattle.index_world.specs.Life.{Opening, OpensTo};
 ghost use Rattle.index_world.specs.Opened.{first_refused};
-ghost use Rattle.index_world.specs.Taking.{IsFaultBetween, IsNoFault, IsRefusedAt, IsUnfit, IsUnprepared, IsWant, of_create, of_get, of_journal};
+ghost use Rattle.index_world.specs.Taking.{IsFaultBetween, IsNoFault, IsRefusedAt, IsUnfit, IsUnprepared, IsWant, of_create, of_get, of_journal, of_list};
 ghost use Rattle.index_world.specs.World.{IsWorld};
 
 use crate::config::reading_of;
@@ -30,7 +30,7 @@ use crate::marking::{Marking, reserve};
 use crate::world_error::WorldError;
 use meta_journal::{Entry, Journal, JournalError, meta_key};
 use meta_store::{Meta, Reading};
-use object_store::{CreateError, GetError, Key, ObjectStore};
+use object_store::{CreateError, GetError, Key, ListError, ObjectStore};
 use std::alloc::{AllocError, Global};
 use std::mem;
 
@@ -77,6 +77,16 @@ pub fn get_error(error: GetError, key: Key, before: u64, after: u64) -> WorldErr
         GetError::Absent => WorldError::Missing { key },
         GetError::Failed => WorldError::StoreFault { before, after },
         GetError::Memory(refused) => WorldError::Memory(refused),
+    }
+}
+
+/// What the store's error in a listing is to the world.
+pub fn list_error(error: ListError, before: u64, after: u64) -> WorldError
+    ensures { result ≡ of_list before after error }
+{
+    match error {
+        ListError::Failed => WorldError::StoreFault { before, after },
+        ListError::Memory(refused) => WorldError::Memory(refused),
     }
 }
 
