@@ -1,0 +1,6 @@
+pub mod Ranks
+pub mod Told
+pub mod Running
+pub mod Least
+pub mod Calling
+pub mod Alone
