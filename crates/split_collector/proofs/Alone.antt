@@ -1,5 +1,6 @@
 -- Where nobody acts between the calls of a step, it is the step of a collector that is alone.
-use Rattle.std.proofs.Common.{◌≡◌, ℕ, zero, suc, ◌+◌, ◌*◌, ◌≤◌, Bool, true, false, List, [], ◌∷◌, length, map, refl, sym, ap, ◌∙◌, subst, arith, Option, Some, None, Result, Ok, Err, length-map}
+use Rattle.std.proofs.Common.{◌≡◌, ℕ, zero, suc, ◌+◌, ◌*◌, ◌≤◌, Bool, true, false, List, [], ◌∷◌, length, map, refl, sym, ap, ◌∙◌, subst, arith, Option, Some, None, Result, Ok, Err}
+use Rattle.std.proofs.lemmas.List.{length-map}
 use Rattle.std.specs.Prelude.{IsSome, ⊤}
 use Rattle.index_world.specs.Calls.{Fate, Gives, Unmade, as_unmade}
 use Rattle.index_world.specs.Collecting.{list_call, sweep_call}
@@ -51,7 +52,7 @@ no_ends Between (to_list behind) core (p ∷ ps) closed passed = absurd closed
 no_ends Between (to_sweep number next) core (p ∷ ps) closed passed =
     let left = turned (to_sweep number next) p.luck p.core in
     ap (λ (end : Option (List ℕ)). with_end end (ends_of ps)) passed.2 ∙ no_ends Between left.turn left.core ps (closed_sweep number next p.luck p.core closed) passed.3
-no_ends Between (ended outcome) core (p ∷ ps) closed passed = absurd passed.0
+no_ends Between (ended outcome) core (p ∷ ps) closed passed = let none = passed.0 in absurd (cc)
 
 -- ---- each call takes its own end
 
@@ -75,7 +76,7 @@ takes_end Between (to_list behind) core p ps passed =
     let both = list_takes p.luck.end (ends_of ps) (λ none. no_ends Between left.turn left.core ps (closed_list behind p.luck p.core none) passed.3) in
     record { end = both.0; others = both.1 }
 takes_end Between (to_sweep number next) core p ps passed = record { end = sym passed.2; others = takes_none p ps passed.2 }
-takes_end Between (ended outcome) core p ps passed = absurd passed.0
+takes_end Between (ended outcome) core p ps passed = let none = passed.0 in absurd (cc)
 
 -- ---- a step
 
@@ -106,6 +107,6 @@ pub steps_alone_is : (passages : List Passage) (core after : Core) (outcome : Op
 steps_alone_is [] core after outcome passed did = let wrong : ◌≡◌ {A = Turn (Option Outcome)} to_mark (ended outcome) = ap (λ (s : Stand). s.turn) did in absurd (cc)
 steps_alone_is (p ∷ ps) core after outcome passed did =
     let luck = luck_of (p ∷ ps) in
-    let count = length-map (λ (q : Passage). q.luck.fate) ps in
+    let count = length-map ps (λ (q : Passage). q.luck.fate) in
     ap (λ (s : Stand). stepped false s)
     (alone_is (max_calls luck) to_mark core after outcome (p ∷ ps) (enough_calls (ends_of (p ∷ ps)) (fates_of ps) (length (p ∷ ps)) (omega (arith, count))) passed did)

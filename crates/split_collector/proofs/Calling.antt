@@ -1,7 +1,9 @@
 -- Each call of a gate is the machine's at its turn.
-use Rattle.std.proofs.Common.{◌≡◌, ℕ, ◌+◌, ◌≤◌, ◌<◌, min, Bool, true, false, List, refl, sym, ap, ◌∙◌, subst, Option, Some, None, Result, Ok, Err}
+use Rattle.std.proofs.Common.{◌≡◌, ℕ, ◌+◌, ◌≤◌, ◌<◌, min, Bool, true, false, List, refl, sym, ap, ◌∙◌, subst, arith, Option, Some, None, Result, Ok, Err}
+use Rattle.std.proofs.lemmas.Bool.Decides.{nat_tests}
 use Rattle.std.specs.List.{reduce}
-use Rattle.std.specs.Prelude.{⊤, ◌==◌, if◌then◌else◌}
+use Rattle.std.specs.Prelude.{⊤, ◌==◌, if◌then◌else◌, IsErrAnd}
+use Rattle.std.specs.declared.alloc.AllocError.{AllocError}
 use Rattle.source_log.specs.Log.{Log}
 use Rattle.index_world.specs.Calls.{Fate, Gives, Trouble, Unmade, as_unmade, gives, troubled, troubled_by}
 use Rattle.index_world.specs.CallsMade.{Ask, CallMade, IsRecorded, IsShort, of_doom, of_mark_stale, of_remove, of_sweep, of_sweep_list}
@@ -10,7 +12,8 @@ use Rattle.index_world.specs.Core.{Core}
 use Rattle.index_world.specs.Gate.{Does, DoesWith, IsGiven, IsTrouble, IsUnmade, Says, SaysWith}
 use Rattle.index_world.specs.declared.tokens.SweepPage.{SweepPage}
 use Rattle.index_world.specs.declared.world_error.WorldError.{WorldError}
-use Rattle.split_collector.specs.Ending.{Told, fault_said, page_of, told}
+use Rattle.split_collector.specs.declared.outcome.CollectorOutcome.{CollectorOutcome as Said}
+use Rattle.split_collector.specs.Ending.{Told, fault_said, page_of, told, turn_of}
 use Rattle.split_collector.specs.Outcomes.{Outcome}
 use Rattle.split_collector.specs.Standing.{Alike, Answers, CollectsAs}
 use Rattle.split_collector.specs.Steps.{CallLuck, Passage, Stand, called, failed_with, least_left, outcomes, page_by, page_given, stand, turned}
@@ -177,3 +180,38 @@ module _ {W : Type 0} (Stands : W → Core → Log → Type 0) (Between : Core �
       (λ e. subst (λ (g : Gives Trouble ⊤). (page : SweepPage) × (page.next ≡ end_of answer) × IsSweepPage behind page g.core) (sym a.did) (listed_page behind answer a.answer a.after a.says (sym (ap (λ (g : Gives Trouble ⊤). g.answer) a.did) ∙ e)))
       (ap (λ (g : Gives Unmade ⊤). page_given behind (end_of answer) g) (unmade_is (list_call a.fate d.mid) a.answer a.after a.did)) (listed_alike behind answer given a.after says) a.goes_on a.stands d.own
       (short_as (of_sweep_list behind) d.mid a.after (IsShort answer) (reached ≡ ended None) d.made (listed_short behind answer given a.after says) d.once)
+
+  -- the same, where it leads to this turn
+  pub retold : (from : Turn (Option Outcome)) (to other : Turn Told) → to ≡ other → CollectsAs Stands Between Adds from to core log old new → CollectsAs Stands Between Adds from other core log old new
+  retold from to other e f = subst (λ (t : Turn Told). CollectsAs Stands Between Adds from t core log old new) e f
+
+-- ---- where an answer leads
+
+pub counted_none : (did : ℕ → Told) (next : Turn Told) (answer : Result ℕ WorldError) (n : ℕ) → answer ≡ Ok n → n ≡ 0 → counted told did next answer ≡ next
+counted_none did next answer n is none = ap (λ (r : Result ℕ WorldError). counted told did next r) (is ∙ ap (λ (k : ℕ). Ok k) none)
+
+pub counted_some : (did : ℕ → Told) (next : Turn Told) (answer : Result ℕ WorldError) (n : ℕ) → answer ≡ Ok n → (n ≡ 0 → ⊥) → counted told did next answer ≡ ended (did n)
+counted_some did next answer n is some =
+    let test : (n == 0) ≡ false = grind (arith, nat_tests) in
+    ap (λ (r : Result ℕ WorldError). counted told did next r) is ∙ ap (λ (b : Bool). if b then next else ended (did n)) test
+
+pub counted_failed : (did : ℕ → Told) (next : Turn Told) (answer : Result ℕ WorldError) (error : WorldError) → answer ≡ Err error → counted told did next answer ≡ ended (fault_said error)
+counted_failed did next answer error is = ap (λ (r : Result ℕ WorldError). counted told did next r) is
+
+-- ---- a page
+
+-- the machine stands where the code does
+pub page_reached : (least : Option ℕ) (next : Option (List ℕ)) (turn : Turn (Option Outcome)) → Alike (page_turn told least next) turn → turn ≡ page_turn outcomes least next
+page_reached None None turn alike = by alike.0 alike.1 alike.2
+  where
+    by : (outcome : Option Outcome) → turn ≡ ended outcome → Answers told.nothing outcome → turn ≡ ended outcomes.nothing
+    by None e h = absurd h
+    by (Some outcome) e h = e ∙ ap (λ (o : Outcome). ended (Some o)) h
+page_reached None (Some key) turn alike = alike
+page_reached (Some number) next turn alike = alike
+
+-- ---- want of memory that is handed on
+
+pub lost_turn : (result : Result (Option Said) AllocError) (refused : AllocError) (next : Turn Told) → IsErrAnd result (λ e. e ≡ refused) → turn_of result next ≡ ended (Err refused)
+lost_turn (Ok given) refused next h = absurd h
+lost_turn (Err e) refused next h = ap (λ (x : AllocError). ended (Err x)) h

@@ -4,3 +4,4 @@ pub mod Running
 pub mod Least
 pub mod Calling
 pub mod Alone
+pub mod Printing

@@ -51,16 +51,16 @@ rises room [] [] bytes fits less = absurd (cc)
 rises room (x ∷ xs) [] bytes fits less = absurd (cc)
 rises zero a (y ∷ ys) bytes fits less = absurd (omega arith)
 rises (suc room) [] (y ∷ ys) bytes fits less = let some = some_left room in let one = suc-mul y (257 ^ room) in omega (arith, some, one)
-rises (suc room) (x ∷ xs) (y ∷ ys) bytes fits less = by (heads x y (slice_cmp nat_cmp xs ys) less)
+rises (suc room) (x ∷ xs) (y ∷ ys) bytes fits less = by (heads x y (slice_cmp nat_cmp xs ys) less) (λ later. rises room xs ys bytes.1 (omega arith) later)
   where
-    by : (x < y) ⊎ ((x ≡ y) × (is_lt (slice_cmp nat_cmp xs ys) ≡ true)) → suc x * 257 ^ room + rank room xs < suc y * 257 ^ room + rank room ys
-    by (inl below) =
+    by : (x < y) ⊎ ((x ≡ y) × (is_lt (slice_cmp nat_cmp xs ys) ≡ true)) → (is_lt (slice_cmp nat_cmp xs ys) ≡ true → rank room xs < rank room ys) → suc x * 257 ^ room + rank room xs < suc y * 257 ^ room + rank room ys
+    by (inl below) later =
         let rest = below_all room xs bytes.1 in
         let first : suc (suc x) * 257 ^ room ≤ suc y * 257 ^ room = mul-le-mul_right (257 ^ room) (omega (arith, below)) in
         let one = suc-mul (suc x) (257 ^ room) in
         omega (arith, rest, first, one)
-    by (inr same) =
-        let rest = rises room xs ys bytes.1 (omega arith) same.1 in
+    by (inr same) later =
+        let rest = later same.1 in
         let first = ap (λ (n : ℕ). suc n * 257 ^ room) same.0 in
         omega (arith, rest, first)
 

@@ -73,7 +73,7 @@ module _ {W : Type 0} (Stands : W → Core → Log → Type 0) (Between : Core �
   one_collects goes from reached to ask luck core mid after log old new made asks passed paged does alike on stands own recorded =
       record {
         passages = record { core = mid; luck = luck } ∷ [];
-        passed = (subst (λ (o : Option Ask). IsSome o) (sym asks) tt, passed, paged, tt);
+        passed = (subst (λ (o : Option Ask). IsSome o) (sym asks) refl, passed, paged, tt);
         reached = reached;
         after = after;
         did = does;
@@ -110,10 +110,10 @@ module _ {W : Type 0} (Stands : W → Core → Log → Type 0) (Between : Core �
 
 module _ {W : Type 0} (tells : W → Option State) (Answers : W → Answered → W → Type 0) where
   pub none_called : (from : Turn Told) (gate : W) → CallsTo tells Answers from from gate gate
-  none_called from gate = ([], refl, refl)
+  none_called from gate = ([], (refl, refl))
 
   pub one_called : (from to : Turn Told) (call : Answered) (old new : W) → Answers old call new → Sweeps (tells old) (tells new) call → Leads from call to → CallsTo tells Answers from to old new
-  one_called from to call old new answered sweeps leads = (call ∷ [], new, to, answered, sweeps, leads, (refl, refl))
+  one_called from to call old new answered sweeps leads = (call ∷ [], (new, to, answered, sweeps, leads, (refl, refl)))
 
   calls_more : (from mid to : Turn Told) (xs ys : List Answered) (old gate new : W) → AreCalls tells Answers from old xs mid gate → AreCalls tells Answers mid gate ys to new → AreCalls tells Answers from old (xs ++ ys) to new
   calls_more from mid to [] ys old gate new a b = subst (λ (t : Turn Told). AreCalls tells Answers t old ys to new) a.0 (subst (λ (w : W). AreCalls tells Answers mid w ys to new) a.1 b)

@@ -4,11 +4,11 @@ ghost use Rattle.std.specs.Prelude.{◌≡◌, IfOk, ℕ, List, Option, None, mi
 ghost use Rattle.std.specs.List.{reduce};
 ghost use Rattle.source_log.specs.Log.{Log};
 ghost use Rattle.index_world.specs.Core.{Core};
-ghost use Rattle.split_collector.specs.Ending.{CallsTo, fault_said, told, turn_of};
+ghost use Rattle.split_collector.specs.Ending.{CallsTo, Told, fault_said, told, turn_of};
 ghost use Rattle.split_collector.specs.Paging.{GoesBehind, paged_turn};
 ghost use Rattle.split_collector.specs.Standing.{CollectsAs};
 ghost use Rattle.split_collector.specs.Steps.{outcomes};
-ghost use Rattle.split_collector.specs.Turns.{behind_sweep, next_behind, page_turn, paging, to_doom, to_list, to_mark, to_remove, to_sweep};
+ghost use Rattle.split_collector.specs.Turns.{Turn, behind_sweep, ended, next_behind, page_turn, paging, to_doom, to_list, to_mark, to_remove, to_sweep};
 
 use crate::keys::is_behind;
 use crate::outcome::CollectorOutcome;
@@ -27,6 +27,13 @@ fn faulted(error: WorldError) -> Result<CollectorOutcome, AllocError>
     }
 }
 
+// A try that a fault of the world ended.
+fn failed(error: WorldError) -> Result<Option<CollectorOutcome>, AllocError>
+    ensures { (next : Turn Told) → turn_of result next ≡ ended (fault_said error) }
+{
+    Ok(Some(faulted(error)?))
+}
+
 /// Marks the rows that have been staged for too long.
 pub(crate) fn mark_stale<G: Gate>(
     alloc: Global,
@@ -41,7 +48,7 @@ pub(crate) fn mark_stale<G: Gate>(
     match gate.mark_stale(alloc) {
         Ok(0) => Ok(None),
         Ok(count) => Ok(Some(CollectorOutcome::MarkedStale { count })),
-        Err(error) => Ok(Some(faulted(error)?)),
+        Err(error) => failed(error),
     }
 }
 
@@ -59,7 +66,7 @@ pub(crate) fn doom<G: Gate>(
     match gate.doom(alloc) {
         Ok(None) => Ok(None),
         Ok(Some(number)) => Ok(Some(CollectorOutcome::Doomed { number })),
-        Err(error) => Ok(Some(faulted(error)?)),
+        Err(error) => failed(error),
     }
 }
 
@@ -77,7 +84,7 @@ pub(crate) fn remove<G: Gate>(
     match gate.remove(alloc) {
         Ok(0) => Ok(None),
         Ok(count) => Ok(Some(CollectorOutcome::Removed { count })),
-        Err(error) => Ok(Some(faulted(error)?)),
+        Err(error) => failed(error),
     }
 }
 
@@ -101,6 +108,36 @@ fn next_page(behind: &Option<Key>, end: Option<Key>) -> Paged
     }
 }
 
+// What comes of a page, by what became of its least number.
+fn behind_page(
+    swept: Result<Option<CollectorOutcome>, AllocError>,
+    behind: &Option<Key>,
+    end: Option<Key>,
+) -> Result<Paged, AllocError>
+    ensures turn { paged_turn result ≡ turn_of swept (paging told (next_behind behind.now end)) }
+    ensures goes_on { IfOk result (GoesBehind behind.now) }
+{
+    match swept? {
+        Some(outcome) => Ok(Paged::Ended(outcome)),
+        None => Ok(next_page(behind, end)),
+    }
+}
+
+// A page that a fault of the world ended.
+fn unlisted(error: WorldError) -> Result<Paged, AllocError>
+    ensures turn { paged_turn result ≡ ended (fault_said error) }
+    ensures goes_on { (behind : Option (List ℕ)) → IfOk result (GoesBehind behind) }
+{
+    Ok(Paged::Ended(faulted(error)?))
+}
+
+// The least of some numbers.
+fn least(numbers: &[u64]) -> Option<u64>
+    ensures { result ≡ reduce min numbers.now }
+{
+    numbers.iter().copied().min()
+}
+
 // Deletes the file with a number.
 fn sweep_number<G: Gate>(
     alloc: Global,
@@ -116,7 +153,7 @@ fn sweep_number<G: Gate>(
     match gate.sweep_delete(alloc, number) {
         Ok(true) => Ok(Some(CollectorOutcome::Swept { number })),
         Ok(false) => Ok(None),
-        Err(error) => Ok(Some(faulted(error)?)),
+        Err(error) => failed(error),
     }
 }
 
@@ -132,8 +169,8 @@ fn sweep_least<G: Gate>(
     ensures step { (core : Core) (log : Log) (next : Option (List ℕ)) → G.Stands gate.old core log →
         CollectsAs G.Stands G.Between G.Adds (page_turn outcomes (reduce min numbers.now) next) (turn_of result (paging told next)) core log gate.old gate.new }
 {
-    match numbers.iter().min() {
-        Some(number) => sweep_number(alloc, gate, *number),
+    match least(numbers) {
+        Some(number) => sweep_number(alloc, gate, number),
         None => Ok(None),
     }
 }
@@ -153,12 +190,10 @@ fn sweep_page<G: Gate>(
 {
     let SweepPage { numbers, next } = match gate.sweep_list(alloc, behind.as_ref()) {
         Ok(page) => page,
-        Err(error) => return Ok(Paged::Ended(faulted(error)?)),
+        Err(error) => return unlisted(error),
     };
-    match sweep_least(alloc, gate, numbers.as_slice())? {
-        Some(outcome) => Ok(Paged::Ended(outcome)),
-        None => Ok(next_page(behind, next)),
-    }
+    let swept = sweep_least(alloc, gate, numbers.as_slice());
+    behind_page(swept, behind, next)
 }
 
 /// Deletes the first file that a listing shows whose number was staged and has no row any more.
