@@ -3,5 +3,6 @@ pub mod Told
 pub mod Running
 pub mod Least
 pub mod Calling
+pub mod Stepping
 pub mod Alone
 pub mod Printing
