@@ -7,7 +7,7 @@ use Rattle.index_world.specs.Collecting.{list_call, sweep_call}
 use Rattle.index_world.specs.Core.{Core}
 use Rattle.index_world.specs.Gate.{NoneBetween}
 use Rattle.split_collector.specs.Outcomes.{Outcome}
-use Rattle.split_collector.specs.Steps.{ArePassed, CallLuck, IsPaged, Luck, Passage, Stand, Stepped, alone, end_at, ends_behind, ends_of, fates_of, first_end, first_fate, luck_of, max_calls, other_ends, other_fates, outcomes, page_by, ran, stand, step_collector, stepped, turned, with_end}
+use Rattle.split_collector.specs.Steps.{ArePassed, CallLuck, Luck, Passage, Stand, Stepped, alone, end_at, ends_behind, ends_of, fates_of, first_end, first_fate, luck_of, max_calls, other_ends, other_fates, outcomes, page_by, ran, stand, step_collector, stepped, turned, with_end}
 use Rattle.split_collector.specs.Turns.{Turn, behind_delete, behind_list, ended, page_turn, to_doom, to_list, to_mark, to_remove, to_sweep}
 
 -- ---- behind a page that is the last no other one is listed
@@ -51,7 +51,7 @@ no_ends Between to_remove core (p ∷ ps) closed passed = absurd closed
 no_ends Between (to_list behind) core (p ∷ ps) closed passed = absurd closed
 no_ends Between (to_sweep number next) core (p ∷ ps) closed passed =
     let left = turned (to_sweep number next) p.luck p.core in
-    ap (λ (end : Option (List ℕ)). with_end end (ends_of ps)) passed.2 ∙ no_ends Between left.turn left.core ps (closed_sweep number next p.luck p.core closed) passed.3
+    ap (λ (end : Option (List ℕ)). with_end end (ends_of ps)) passed.2.0 ∙ no_ends Between left.turn left.core ps (closed_sweep number next p.luck p.core closed) passed.3
 no_ends Between (ended outcome) core (p ∷ ps) closed passed = let none = passed.0 in absurd (cc)
 
 -- ---- each call takes its own end
@@ -75,7 +75,7 @@ takes_end Between (to_list behind) core p ps passed =
     let left = turned (to_list behind) p.luck p.core in
     let both = list_takes p.luck.end (ends_of ps) (λ none. no_ends Between left.turn left.core ps (closed_list behind p.luck p.core none) passed.3) in
     record { end = both.0; others = both.1 }
-takes_end Between (to_sweep number next) core p ps passed = record { end = sym passed.2; others = takes_none p ps passed.2 }
+takes_end Between (to_sweep number next) core p ps passed = record { end = sym passed.2.0; others = takes_none p ps passed.2.0 }
 takes_end Between (ended outcome) core p ps passed = let none = passed.0 in absurd (cc)
 
 -- ---- a step

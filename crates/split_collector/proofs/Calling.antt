@@ -2,14 +2,14 @@
 use Rattle.std.proofs.Common.{◌≡◌, ℕ, ◌+◌, ◌≤◌, ◌<◌, min, Bool, true, false, List, refl, sym, ap, ◌∙◌, subst, arith, Option, Some, None, Result, Ok, Err}
 use Rattle.std.proofs.lemmas.Bool.Decides.{nat_tests}
 use Rattle.std.specs.List.{reduce}
-use Rattle.std.specs.Prelude.{⊤, ◌==◌, if◌then◌else◌, IsErrAnd}
+use Rattle.std.specs.Prelude.{⊤, ◌==◌, if◌then◌else◌, IfSome, IsErrAnd}
 use Rattle.std.specs.declared.alloc.AllocError.{AllocError}
 use Rattle.source_log.specs.Log.{Log}
 use Rattle.index_world.specs.Calls.{Fate, Gives, Trouble, Unmade, as_unmade, gives, troubled, troubled_by}
 use Rattle.index_world.specs.CallsMade.{Ask, CallMade, IsRecorded, IsShort, of_doom, of_mark_stale, of_remove, of_sweep, of_sweep_list}
-use Rattle.index_world.specs.Collecting.{IsSweepPage, doom_call, list_call, mark_stale_call, remove_call, sweep_call}
+use Rattle.index_world.specs.Collecting.{IsSweepPage, doom_call, is_swept, list_call, mark_stale_call, remove_call, sweep_call}
 use Rattle.index_world.specs.Core.{Core}
-use Rattle.index_world.specs.Gate.{Does, DoesWith, IsGiven, IsTrouble, IsUnmade, Says, SaysWith}
+use Rattle.index_world.specs.Gate.{Does, DoesWith, IsGiven, IsSoundCore, IsTrouble, IsUnmade, Says, SaysWith}
 use Rattle.index_world.specs.declared.tokens.SweepPage.{SweepPage}
 use Rattle.index_world.specs.declared.world_error.WorldError.{WorldError}
 use Rattle.split_collector.specs.declared.outcome.CollectorOutcome.{CollectorOutcome as Said}
@@ -18,9 +18,10 @@ use Rattle.split_collector.specs.Outcomes.{Outcome}
 use Rattle.split_collector.specs.Standing.{Alike, Answers, CollectsAs}
 use Rattle.split_collector.specs.Steps.{CallLuck, Passage, Stand, called, failed_with, least_left, outcomes, page_by, page_given, stand, turned}
 use Rattle.split_collector.specs.Turns.{Page, Turn, behind_delete, behind_doom, behind_list, behind_mark, behind_remove, counted, ended, next_behind, page_turn, paging, to_doom, to_list, to_mark, to_remove, to_sweep}
-use Rattle.split_collector.proofs.Running.{BetweenGoes, one_collects, short_as}
+use Rattle.split_collector.proofs.Running.{BetweenGoes, one_collects, one_collects_at, short_as}
 use Rattle.split_collector.proofs.Told.{fault_answers, want_is_none}
-use Rattle.split_collector.proofs.Least.{least_of_page}
+use Rattle.split_collector.proofs.Gone.{still_swept}
+use Rattle.split_collector.proofs.Least.{least_is_swept, least_of_page}
 
 -- ---- an answer of the code and one of the core lead to the same turn
 
@@ -104,6 +105,16 @@ listed_page behind (Ok page) (Err trouble) after s e = absurd s
 listed_page behind (Err error) (Ok done) after s e = absurd s
 listed_page behind (Err error) (Err trouble) after s e = let wrong : ◌≡◌ {A = Result ⊤ Trouble} (Err trouble) (Ok tt) = e in absurd (cc)
 
+-- the least number of a page that was given is to be swept
+abbrev pub IsToSweep : Result SweepPage WorldError → Core → Type 0
+IsToSweep (Ok page) core = IfSome (reduce min page.numbers.items) (λ n. is_swept core n ≡ true)
+IsToSweep (Err error) core = Unit {0}
+
+listed_swept : (behind : Option (List ℕ)) (answer : Result SweepPage WorldError) (given : Result ⊤ Unmade) (after : Core) → Says IsUnmade (IsSweepPage behind) answer given after → IsToSweep answer after
+listed_swept behind (Ok page) (Ok done) after s = least_is_swept behind page after s
+listed_swept behind (Ok page) (Err unmade) after s = absurd s
+listed_swept behind (Err error) given after s = tt
+
 -- ---- an answer of a call that makes no entry
 
 unmade_of : {B : Type 0} → Result B Trouble → Result B Unmade
@@ -158,28 +169,32 @@ module _ {W : Type 0} (Stands : W → Core → Log → Type 0) (Between : Core �
       (ap (λ (g : Gives Unmade (Option ℕ)). called (behind_doom outcomes) g) (unmade_is (doom_call a.fate d.mid) a.answer a.after a.did)) (doomed_alike answer given a.after says) a.goes_on a.stands d.own
       (short_as of_doom d.mid a.after (IsShort answer) (behind_doom outcomes given ≡ ended None) d.made (doomed_short answer given a.after says) d.once)
 
-  pub sweeps : (number : ℕ) (next : Option (List ℕ)) (answer : Result Bool WorldError) → DoesWith Stands Between Owns Adds None (of_sweep number) (sweep_call number) IsTrouble IsGiven answer core log old new
-      → CollectsAs Stands Between Adds (to_sweep number next) (behind_delete told number next answer) core log old new
-  sweeps number next answer d =
+  pub sweeps : ((gate : W) (c : Core) (l : Log) → Stands gate c l → IsSoundCore c l) → (number : ℕ) (next : Option (List ℕ)) (answer : Result Bool WorldError) → is_swept core number ≡ true
+      → DoesWith Stands Between Owns Adds None (of_sweep number) (sweep_call number) IsTrouble IsGiven answer core log old new → CollectsAs Stands Between Adds (to_sweep number next) (behind_delete told number next answer) core log old new
+  sweeps sound number next answer swept d =
       let a = d.acts in
       let given = unmade_of a.answer in
       let says = unmade_says answer a.answer a.after a.says in
-      one_collects Stands Between Adds goes (to_sweep number next) (behind_delete outcomes number next given) (behind_delete told number next answer) (of_sweep number) (luck_at a.fate) core d.mid a.after log old new d.made refl d.passed refl
+      let still = still_swept core d.mid a.after log number a.fate (goes core d.mid d.passed) (ap (λ (g : Gives Trouble Bool). g.core) a.did) (sound new a.after log a.stands) swept in
+      one_collects Stands Between Adds goes (to_sweep number next) (behind_delete outcomes number next given) (behind_delete told number next answer) (of_sweep number) (luck_at a.fate) core d.mid a.after log old new d.made refl d.passed (refl, still)
       (ap (λ (g : Gives Unmade Bool). called (behind_delete outcomes number next) g) (unmade_is (sweep_call number a.fate d.mid) a.answer a.after a.did)) (deleted_alike number next answer given a.after says) a.goes_on a.stands d.own
       (short_as (of_sweep number) d.mid a.after (IsShort answer) (behind_delete outcomes number next given ≡ ended None) d.made (deleted_short number next answer given a.after says) d.once)
 
+  -- a listing, whose page has a least number that is to be swept
   pub lists : (behind : Option (List ℕ)) (answer : Result SweepPage WorldError) → Does Stands Between Owns Adds None (of_sweep_list behind) list_call IsTrouble (IsSweepPage behind) answer core log old new
-      → CollectsAs Stands Between Adds (to_list behind) (behind_list told behind (page_of answer)) core log old new
+      → (f : CollectsAs Stands Between Adds (to_list behind) (behind_list told behind (page_of answer)) core log old new) × IsToSweep answer f.after
   lists behind answer d =
       let a = d.acts in
       let given = unmade_of a.answer in
       let says = unmade_page (IsSweepPage behind) answer a.answer a.after a.says in
       let luck : CallLuck = record { fate = a.fate; end = end_of answer } in
       let reached = behind_list outcomes behind (page_by behind (end_of answer) a.after given) in
-      one_collects Stands Between Adds goes (to_list behind) reached (behind_list told behind (page_of answer)) (of_sweep_list behind) luck core d.mid a.after log old new d.made refl d.passed
+      let one =
+      one_collects_at Stands Between Adds goes (to_list behind) reached (behind_list told behind (page_of answer)) (of_sweep_list behind) luck core d.mid a.after log old new d.made refl d.passed
       (λ e. subst (λ (g : Gives Trouble ⊤). (page : SweepPage) × (page.next ≡ end_of answer) × IsSweepPage behind page g.core) (sym a.did) (listed_page behind answer a.answer a.after a.says (sym (ap (λ (g : Gives Trouble ⊤). g.answer) a.did) ∙ e)))
       (ap (λ (g : Gives Unmade ⊤). page_given behind (end_of answer) g) (unmade_is (list_call a.fate d.mid) a.answer a.after a.did)) (listed_alike behind answer given a.after says) a.goes_on a.stands d.own
-      (short_as (of_sweep_list behind) d.mid a.after (IsShort answer) (reached ≡ ended None) d.made (listed_short behind answer given a.after says) d.once)
+      (short_as (of_sweep_list behind) d.mid a.after (IsShort answer) (reached ≡ ended None) d.made (listed_short behind answer given a.after says) d.once) in
+      (one.0, subst (λ (c : Core). IsToSweep answer c) (sym one.1) (listed_swept behind answer given a.after says))
 
   -- the same, where it leads to this turn
   pub retold : (from : Turn (Option Outcome)) (to other : Turn Told) → to ≡ other → CollectsAs Stands Between Adds from to core log old new → CollectsAs Stands Between Adds from other core log old new

@@ -4,12 +4,17 @@ use Rattle.std.proofs.Math.Nat.{le_refl}
 use Rattle.std.proofs.lemmas.Bool.Decides.{nat_tests}
 use Rattle.std.proofs.lemmas.List.Elements.{All-contains, All-from_recursion}
 use Rattle.std.specs.List.{AllByRecursion, reduce}
-use Rattle.std.specs.Prelude.{Contains, find, ◌&&◌, not, is_some, nat_lt}
+use Rattle.std.specs.Prelude.{Contains, IfSome, find, ◌&&◌, not, is_some, nat_lt}
+use Rattle.meta_journal.specs.Places.{split_key}
 use Rattle.meta_store.specs.History.{history, last_number}
-use Rattle.index_world.specs.Collecting.{IsSweepPage, is_left}
-use Rattle.index_world.specs.Core.{Core}
+use Rattle.meta_store.specs.Rows.{rows}
+use Rattle.object_store.specs.Store.{is_behind}
+use Rattle.split_states.specs.Rows.{row_at}
+use Rattle.index_world.specs.Collecting.{IsSweepPage, is_left, is_past, is_swept}
+use Rattle.index_world.specs.Core.{Core, file_at}
 use Rattle.index_world.specs.declared.tokens.SweepPage.{SweepPage}
 use Rattle.split_collector.specs.Steps.{least_left, numbers_from}
+use Rattle.split_collector.proofs.Gone.{both}
 
 -- ---- the least of some numbers
 
@@ -57,18 +62,27 @@ none_found p first (suc count) none = by (p first) refl (none_found p (suc first
 
 -- ---- a page
 
-both : (a b : Bool) → (a && b) ≡ true → (a ≡ true) × (b ≡ true)
-both true true e = (refl, refl)
-both true false e = absurd (cc)
-both false b e = absurd (cc)
+-- what is left is to be swept
+left_is_swept : (core : Core) (behind end : Option (List ℕ)) (n : ℕ) → is_left core behind end n ≡ true → is_swept core n ≡ true
+left_is_swept core behind end n e = (both (is_swept core n) (is_some (file_at core.files (split_key n)) && (is_behind behind (split_key n) && not (is_past end (split_key n)))) e).0
 
--- a number that is left was staged
+-- and was staged
 in_range : (core : Core) (behind end : Option (List ℕ)) (n : ℕ) → is_left core behind end n ≡ true → (1 ≤ n) × (n < 1 + last_number (history core.history))
 in_range core behind end n e =
-    let swept = (both _ _ e).0 in
-    let some : nat_lt 0 n ≡ true = (both _ _ swept).0 in
-    let below : nat_lt n (last_number (history core.history) + 1) ≡ true = (both _ _ (both _ _ swept).1).0 in
-    (grind (arith, nat_tests, some), grind (arith, nat_tests, below))
+    let last = last_number (history core.history) in
+    let gone : Bool = not (is_some (row_at (rows (history core.history)) n)) in
+    let swept = both (nat_lt 0 n) (nat_lt n (last + 1) && gone) (left_is_swept core behind end n e) in
+    let some : nat_lt 0 n ≡ true = swept.0 in
+    let below : nat_lt n (last + 1) ≡ true = (both (nat_lt n (last + 1)) gone swept.1).0 in
+    (grind (arith, nat_tests), grind (arith, nat_tests))
+
+-- the least number of a page is to be swept
+pub least_is_swept : (behind : Option (List ℕ)) (page : SweepPage) (core : Core) → IsSweepPage behind page core → IfSome (reduce min page.numbers.items) (λ n. is_swept core n ≡ true)
+least_is_swept behind page core s = by page.numbers.items s.only
+  where
+    by : (ns : List ℕ) → AllByRecursion (λ n. is_left core behind page.next n ≡ true) ns → IfSome (reduce min ns) (λ n. is_swept core n ≡ true)
+    by [] only = tt
+    by (n ∷ ns) only = left_is_swept core behind page.next (fold min n ns) (least_among (λ m. is_left core behind page.next m ≡ true) n ns only.0 only.1)
 
 pub least_of_page : (behind : Option (List ℕ)) (page : SweepPage) (core : Core) → IsSweepPage behind page core → reduce min page.numbers.items ≡ least_left behind page.next core
 least_of_page behind page core s = by page.numbers.items s.only s.all

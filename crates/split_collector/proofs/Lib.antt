@@ -1,6 +1,7 @@
 pub mod Ranks
 pub mod Told
 pub mod Running
+pub mod Gone
 pub mod Least
 pub mod Calling
 pub mod Stepping

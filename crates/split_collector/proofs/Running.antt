@@ -12,7 +12,7 @@ use Rattle.index_world.proofs.InCore.{goes_both}
 use Rattle.split_collector.specs.Ending.{AreCalls, CallsTo, Leads, Sweeps, Told}
 use Rattle.split_collector.specs.Outcomes.{Outcome}
 use Rattle.split_collector.specs.Standing.{Alike, CollectsAs}
-use Rattle.split_collector.specs.Steps.{ArePassed, AreRecorded, CallLuck, IsPaged, Passage, Stand, ask_at, ran, stand, turned}
+use Rattle.split_collector.specs.Steps.{ArePassed, AreRecorded, CallLuck, IsCallAt, Passage, Stand, ask_at, ran, stand, turned}
 use Rattle.split_collector.specs.Turns.{Turn, ended}
 
 -- ---- passages behind others
@@ -67,11 +67,11 @@ module _ {W : Type 0} (Stands : W → Core → Log → Type 0) (Between : Core �
         recorded = refl;
       }
 
-  -- one
-  pub one_collects : BetweenGoes Between → (from reached : Turn (Option Outcome)) (to : Turn Told) (ask : Ask) (luck : CallLuck) (core mid after : Core) (log : Log) (old new : W) (made : List CallMade) → ask_at from ≡ Some ask → Between core mid → IsPaged from (record { core = mid; luck = luck })
-      → turned from luck mid ≡ stand reached after → Alike to reached → GoesOn None mid after → Stands new after log → Adds old made new → IsRecorded ask mid after (reached ≡ ended None) made → CollectsAs Stands Between Adds from to core log old new
-  one_collects goes from reached to ask luck core mid after log old new made asks passed paged does alike on stands own recorded =
-      record {
+  -- one, and the core behind it
+  pub one_collects_at : BetweenGoes Between → (from reached : Turn (Option Outcome)) (to : Turn Told) (ask : Ask) (luck : CallLuck) (core mid after : Core) (log : Log) (old new : W) (made : List CallMade) → ask_at from ≡ Some ask → Between core mid → IsCallAt from (record { core = mid; luck = luck })
+      → turned from luck mid ≡ stand reached after → Alike to reached → GoesOn None mid after → Stands new after log → Adds old made new → IsRecorded ask mid after (reached ≡ ended None) made → (f : CollectsAs Stands Between Adds from to core log old new) × (f.after ≡ after)
+  one_collects_at goes from reached to ask luck core mid after log old new made asks passed paged does alike on stands own recorded =
+      (record {
         passages = record { core = mid; luck = luck } ∷ [];
         passed = (subst (λ (o : Option Ask). IsSome o) (sym asks) refl, passed, paged, tt);
         reached = reached;
@@ -84,7 +84,12 @@ module _ {W : Type 0} (Stands : W → Core → Log → Type 0) (Between : Core �
         made = made;
         own = own;
         recorded = (ask, made, [], asks, sym (append-nil made), subst (λ (s : Stand). IsRecorded ask mid s.core (s.turn ≡ ended None) made) (sym does) recorded, refl);
-      }
+      }, refl)
+
+  pub one_collects : BetweenGoes Between → (from reached : Turn (Option Outcome)) (to : Turn Told) (ask : Ask) (luck : CallLuck) (core mid after : Core) (log : Log) (old new : W) (made : List CallMade) → ask_at from ≡ Some ask → Between core mid → IsCallAt from (record { core = mid; luck = luck })
+      → turned from luck mid ≡ stand reached after → Alike to reached → GoesOn None mid after → Stands new after log → Adds old made new → IsRecorded ask mid after (reached ≡ ended None) made → CollectsAs Stands Between Adds from to core log old new
+  one_collects goes from reached to ask luck core mid after log old new made asks passed paged does alike on stands own recorded =
+      (one_collects_at goes from reached to ask luck core mid after log old new made asks passed paged does alike on stands own recorded).0
 
   -- some behind others
   pub then_collects : AddsMore Adds → (from mid : Turn (Option Outcome)) (next to : Turn Told) (core : Core) (log : Log) (old gate new : W) → (f : CollectsAs Stands Between Adds from next core log old gate) → f.reached ≡ mid → CollectsAs Stands Between Adds mid to f.after log gate new

@@ -3,7 +3,7 @@ use Rattle.std.specs.Prelude.{◌≡◌, ℕ, suc, zero, ◌+◌, ◌*◌, Bool,
 use Rattle.meta_store.specs.History.{history, last_number}
 use Rattle.index_world.specs.Calls.{Fate, calm_fate, Gives, Trouble, Unmade, as_unmade, faulted, no_memory, refused, troubled}
 use Rattle.index_world.specs.CallsMade.{Ask, CallMade, IsRecorded, of_doom, of_mark_stale, of_remove, of_sweep, of_sweep_list}
-use Rattle.index_world.specs.Collecting.{IsSweepPage, doom_call, is_left, list_call, mark_stale_call, remove_call, sweep_call}
+use Rattle.index_world.specs.Collecting.{IsSweepPage, doom_call, is_left, is_swept, list_call, mark_stale_call, remove_call, sweep_call}
 use Rattle.index_world.specs.Core.{Core}
 use Rattle.index_world.specs.declared.tokens.SweepPage.{SweepPage}
 use Rattle.split_collector.specs.Outcomes.{Outcome, MarkedStale, Doomed, Removed, Swept, Nothing, Refused, Faulted}
@@ -168,23 +168,24 @@ ask_at (to_list behind) = Some (of_sweep_list behind)
 ask_at (to_sweep number next) = Some (of_sweep number)
 ask_at (ended outcome) = None
 
--- A listing that was answered gave a page up to this end, of the core that it left. No other call has one.
-abbrev pub IsPaged : Turn (Option Outcome) → Passage → Type 0
-IsPaged (to_list behind) passage =
+-- A listing that was answered gave a page up to this end, of the core that it left; no other call has an end. A number whose file is deleted is
+-- still to be swept at that turn.
+abbrev pub IsCallAt : Turn (Option Outcome) → Passage → Type 0
+IsCallAt (to_list behind) passage =
     let given = list_call passage.luck.fate passage.core in
     given.answer ≡ Ok tt → (page : SweepPage) × (page.next ≡ passage.luck.end) × IsSweepPage behind page given.core
-IsPaged to_mark passage = passage.luck.end ≡ None
-IsPaged to_doom passage = passage.luck.end ≡ None
-IsPaged to_remove passage = passage.luck.end ≡ None
-IsPaged (to_sweep number next) passage = passage.luck.end ≡ None
-IsPaged (ended outcome) passage = passage.luck.end ≡ None
+IsCallAt to_mark passage = passage.luck.end ≡ None
+IsCallAt to_doom passage = passage.luck.end ≡ None
+IsCallAt to_remove passage = passage.luck.end ≡ None
+IsCallAt (to_sweep number next) passage = (passage.luck.end ≡ None) × (is_swept passage.core number ≡ true)
+IsCallAt (ended outcome) passage = passage.luck.end ≡ None
 
 -- Each call comes at its turn, and none behind the end. Before each other actors may have acted on the core that the call before it left.
 abbrev pub ArePassed : (Core → Core → Type 0) → Turn (Option Outcome) → Core → List Passage → Type 0
 ArePassed Between turn core [] = ⊤
 ArePassed Between turn core (passage ∷ more) =
     let left = turned turn passage.luck passage.core in
-    IsSome (ask_at turn) × Between core passage.core × IsPaged turn passage × ArePassed Between left.turn left.core more
+    IsSome (ask_at turn) × Between core passage.core × IsCallAt turn passage × ArePassed Between left.turn left.core more
 
 -- Each is recorded as what it left, or it found no memory.
 abbrev pub AreRecorded : Turn (Option Outcome) → List Passage → List CallMade → Type 0

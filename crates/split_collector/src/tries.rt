@@ -1,8 +1,9 @@
 // What a step tries, one try behind another: each makes its calls, and gives an outcome where it did something or failed.
 
-ghost use Rattle.std.specs.Prelude.{◌≡◌, IfOk, ℕ, List, Option, None, min};
+ghost use Rattle.std.specs.Prelude.{◌≡◌, true, IfOk, IfSome, ℕ, List, Option, None, min};
 ghost use Rattle.std.specs.List.{reduce};
 ghost use Rattle.source_log.specs.Log.{Log};
+ghost use Rattle.index_world.specs.Collecting.{is_swept};
 ghost use Rattle.index_world.specs.Core.{Core};
 ghost use Rattle.split_collector.specs.Ending.{CallsTo, Told, fault_said, told, turn_of};
 ghost use Rattle.split_collector.specs.Paging.{GoesBehind, paged_turn};
@@ -147,7 +148,7 @@ fn sweep_number<G: Gate>(
     ensures later { G.since gate.old gate.new }
     ensures same { G.bytes_fetched gate.new ≡ G.bytes_fetched gate.old }
     ensures ends { (next : Option (List ℕ)) → CallsTo G.told G.Answers (to_sweep number next) (turn_of result (paging told next)) gate.old gate.new }
-    ensures step { (core : Core) (log : Log) (next : Option (List ℕ)) → G.Stands gate.old core log →
+    ensures step { (core : Core) (log : Log) (next : Option (List ℕ)) → G.Stands gate.old core log → is_swept core number ≡ true →
         CollectsAs G.Stands G.Between G.Adds (to_sweep number next) (turn_of result (paging told next)) core log gate.old gate.new }
 {
     match gate.sweep_delete(alloc, number) {
@@ -166,7 +167,7 @@ fn sweep_least<G: Gate>(
     ensures later { G.since gate.old gate.new }
     ensures same { G.bytes_fetched gate.new ≡ G.bytes_fetched gate.old }
     ensures ends { (next : Option (List ℕ)) → CallsTo G.told G.Answers (page_turn told (reduce min numbers.now) next) (turn_of result (paging told next)) gate.old gate.new }
-    ensures step { (core : Core) (log : Log) (next : Option (List ℕ)) → G.Stands gate.old core log →
+    ensures step { (core : Core) (log : Log) (next : Option (List ℕ)) → G.Stands gate.old core log → IfSome (reduce min numbers.now) (λ n. is_swept core n ≡ true) →
         CollectsAs G.Stands G.Between G.Adds (page_turn outcomes (reduce min numbers.now) next) (turn_of result (paging told next)) core log gate.old gate.new }
 {
     match least(numbers) {
