@@ -52,7 +52,7 @@ found p first (suc count) n passes low high least = by (p first) refl (λ above.
         above : (first ≡ n → ⊥) → suc first ≤ n
         above apart = omega (arith, apart)
 
-none_found : (p : ℕ → Bool) (first count : ℕ) → ((m : ℕ) → p m ≡ true → ⊥) → find p (numbers_from first count) ≡ None
+pub none_found : (p : ℕ → Bool) (first count : ℕ) → ((m : ℕ) → p m ≡ true → ⊥) → find p (numbers_from first count) ≡ None
 none_found p first zero none = refl
 none_found p first (suc count) none = by (p first) refl (none_found p (suc first) count none)
   where
@@ -67,7 +67,7 @@ left_is_swept : (core : Core) (behind end : Option (List ℕ)) (n : ℕ) → is_
 left_is_swept core behind end n e = (both (is_swept core n) (is_some (file_at core.files (split_key n)) && (is_behind behind (split_key n) && not (is_past end (split_key n)))) e).0
 
 -- and was staged
-in_range : (core : Core) (behind end : Option (List ℕ)) (n : ℕ) → is_left core behind end n ≡ true → (1 ≤ n) × (n < 1 + last_number (history core.history))
+pub in_range : (core : Core) (behind end : Option (List ℕ)) (n : ℕ) → is_left core behind end n ≡ true → (1 ≤ n) × (n < 1 + last_number (history core.history))
 in_range core behind end n e =
     let last = last_number (history core.history) in
     let gone : Bool = not (is_some (row_at (rows (history core.history)) n)) in

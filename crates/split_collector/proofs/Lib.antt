@@ -7,3 +7,4 @@ pub mod Calling
 pub mod Stepping
 pub mod Alone
 pub mod Printing
+pub mod Idling

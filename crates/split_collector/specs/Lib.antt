@@ -4,3 +4,4 @@ pub mod Steps
 pub mod Ending
 pub mod Standing
 pub mod Paging
+pub mod Idle
