@@ -1,13 +1,13 @@
 -- Where nobody acts between the calls of a step, it is the step of a collector that is alone.
-use Rattle.std.proofs.Common.{◌≡◌, ℕ, zero, suc, ◌+◌, ◌*◌, ◌≤◌, Bool, true, false, List, [], ◌∷◌, length, map, refl, sym, ap, ◌∙◌, subst, arith, Option, Some, None, Result, Ok, Err}
+use Rattle.std.proofs.Common.{◌≡◌, ℕ, zero, suc, ◌+◌, ◌*◌, ◌≤◌, Bool, true, false, List, [], ◌∷◌, length, refl, sym, ap, ◌∙◌, subst, arith, Option, Some, None, Result, Ok, Err}
 use Rattle.std.proofs.lemmas.List.{length-map}
-use Rattle.std.specs.Prelude.{IsSome, ⊤}
-use Rattle.index_world.specs.Calls.{Fate, Gives, Unmade, as_unmade}
+use Rattle.std.specs.Prelude.{⊤}
+use Rattle.index_world.specs.Calls.{Fate, Unmade, as_unmade}
 use Rattle.index_world.specs.Collecting.{list_call, sweep_call}
 use Rattle.index_world.specs.Core.{Core}
 use Rattle.index_world.specs.Gate.{NoneBetween}
 use Rattle.split_collector.specs.Outcomes.{Outcome}
-use Rattle.split_collector.specs.Steps.{ArePassed, CallLuck, Luck, Passage, Stand, Stepped, alone, end_at, ends_behind, ends_of, fates_of, first_end, first_fate, luck_of, max_calls, other_ends, other_fates, outcomes, page_by, ran, stand, step_collector, stepped, turned, with_end}
+use Rattle.split_collector.specs.Steps.{ArePassed, CallLuck, Passage, Stand, alone, end_at, ends_behind, ends_of, fates_of, first_end, luck_of, max_calls, other_ends, other_fates, outcomes, page_by, ran, stand, step_collector, stepped, turned, with_end}
 use Rattle.split_collector.specs.Turns.{Turn, behind_delete, behind_list, ended, page_turn, to_doom, to_list, to_mark, to_remove, to_sweep}
 
 -- ---- behind a page that is the last no other one is listed

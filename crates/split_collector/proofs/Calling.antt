@@ -1,12 +1,12 @@
 -- Each call of a gate is the machine's at its turn.
-use Rattle.std.proofs.Common.{◌≡◌, ℕ, ◌+◌, ◌≤◌, ◌<◌, min, Bool, true, false, List, refl, sym, ap, ◌∙◌, subst, arith, Option, Some, None, Result, Ok, Err}
+use Rattle.std.proofs.Common.{◌≡◌, ℕ, min, Bool, true, false, List, refl, sym, ap, ◌∙◌, subst, arith, Option, Some, None, Result, Ok, Err}
 use Rattle.std.proofs.lemmas.Bool.Decides.{nat_tests}
 use Rattle.std.specs.List.{reduce}
 use Rattle.std.specs.Prelude.{⊤, ◌==◌, if◌then◌else◌, IfSome, IsErrAnd}
 use Rattle.std.specs.declared.alloc.AllocError.{AllocError}
 use Rattle.source_log.specs.Log.{Log}
-use Rattle.index_world.specs.Calls.{Fate, Gives, Trouble, Unmade, as_unmade, gives, troubled, troubled_by}
-use Rattle.index_world.specs.CallsMade.{Ask, CallMade, IsRecorded, IsShort, of_doom, of_mark_stale, of_remove, of_sweep, of_sweep_list}
+use Rattle.index_world.specs.Calls.{Fate, Gives, Trouble, Unmade, as_unmade, gives, troubled}
+use Rattle.index_world.specs.CallsMade.{CallMade, IsShort, of_doom, of_mark_stale, of_remove, of_sweep, of_sweep_list}
 use Rattle.index_world.specs.Collecting.{IsSweepPage, doom_call, is_swept, list_call, mark_stale_call, remove_call, sweep_call}
 use Rattle.index_world.specs.Core.{Core}
 use Rattle.index_world.specs.Gate.{Does, DoesWith, IsGiven, IsSoundCore, IsTrouble, IsUnmade, Says, SaysWith}
@@ -16,8 +16,8 @@ use Rattle.split_collector.specs.declared.outcome.CollectorOutcome.{CollectorOut
 use Rattle.split_collector.specs.Ending.{Told, fault_said, page_of, told, turn_of}
 use Rattle.split_collector.specs.Outcomes.{Outcome}
 use Rattle.split_collector.specs.Standing.{Alike, Answers, CollectsAs}
-use Rattle.split_collector.specs.Steps.{CallLuck, Passage, Stand, called, failed_with, least_left, outcomes, page_by, page_given, stand, turned}
-use Rattle.split_collector.specs.Turns.{Page, Turn, behind_delete, behind_doom, behind_list, behind_mark, behind_remove, counted, ended, next_behind, page_turn, paging, to_doom, to_list, to_mark, to_remove, to_sweep}
+use Rattle.split_collector.specs.Steps.{CallLuck, called, failed_with, least_left, outcomes, page_by, page_given}
+use Rattle.split_collector.specs.Turns.{Turn, behind_delete, behind_doom, behind_list, behind_mark, behind_remove, counted, ended, next_behind, page_turn, paging, to_doom, to_list, to_mark, to_remove, to_sweep}
 use Rattle.split_collector.proofs.Running.{BetweenGoes, one_collects, one_collects_at, short_as}
 use Rattle.split_collector.proofs.Told.{fault_answers, want_is_none}
 use Rattle.split_collector.proofs.Gone.{still_swept}

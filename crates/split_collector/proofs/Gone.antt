@@ -1,5 +1,5 @@
 -- A number that was staged and has no row gets none again, so it is still to be swept when its delete comes.
-use Rattle.std.proofs.Common.{◌≡◌, ℕ, ◌+◌, ◌≤◌, ◌<◌, max, Bool, true, false, List, [], ◌∷◌, ◌++◌, fold, map, refl, sym, ap, ◌∙◌, subst, arith}
+use Rattle.std.proofs.Common.{◌≡◌, ℕ, ◌+◌, ◌≤◌, Bool, true, false, List, [], ◌∷◌, fold, map, refl, sym, ap, ◌∙◌, subst, arith}
 use Rattle.std.proofs.lemmas.Bool.Decides.{nat_tests}
 use Rattle.std.proofs.lemmas.List.Sums.{fold-append}
 use Rattle.std.specs.Prelude.{Option, Some, None, Result, Ok, Err, ◌==◌, ◌&&◌, not, is_some, nat_lt}
@@ -20,8 +20,8 @@ use Rattle.split_states.specs.declared.rows.Row.{Row}
 use Rattle.index_world.proofs.Configured.{legal_front}
 use Rattle.index_world.proofs.JournalLaws.{legal_history}
 use Rattle.index_world.proofs.Worlds.{same-landed}
-use Rattle.index_world.specs.Calls.{Call, Fate, Gives, Trouble, begun, deleted_by, file_deleted, may_fail, risen}
-use Rattle.index_world.specs.Collecting.{answered_by, answers, is_swept, is_swept_by, sweep_call, sweep_if}
+use Rattle.index_world.specs.Calls.{Call, Fate, begun, deleted_by, file_deleted, may_fail, risen}
+use Rattle.index_world.specs.Collecting.{answered_by, is_swept, is_swept_by, sweep_call, sweep_if}
 use Rattle.index_world.specs.Config.{reads}
 use Rattle.index_world.specs.Core.{Core, Nobody}
 use Rattle.index_world.specs.Gate.{IsSoundCore}

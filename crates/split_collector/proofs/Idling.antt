@@ -1,16 +1,15 @@
 -- A step is Nothing exactly where it had nothing to do.
-use Rattle.std.proofs.Common.{◌≡◌, ◌⊎◌, inl, inr, ℕ, zero, suc, ◌+◌, ◌≤◌, ◌<◌, Bool, true, false, cond, List, [], ◌∷◌, refl, sym, ap, ◌∙◌, subst, arith, eqb-true, Option, Some, None, Result, Ok, Err}
-use Rattle.std.proofs.lemmas.Bool.{cases_Bool}
-use Rattle.std.specs.Prelude.{⊤, ◌↔◌, ◌==◌, find, if◌then◌else◌, MatchOption}
+use Rattle.std.proofs.Common.{◌≡◌, ◌⊎◌, inl, inr, ℕ, zero, suc, ◌+◌, ◌≤◌, ◌<◌, Bool, true, false, cond, List, [], ◌∷◌, refl, sym, ap, ◌∙◌, arith, eqb-true, Option, Some, None, Result, Ok, Err}
+use Rattle.std.specs.Prelude.{⊤, ◌==◌, find, if◌then◌else◌, MatchOption}
 use Rattle.meta_journal.specs.Places.{split_key}
 use Rattle.meta_store.specs.History.{history, last_number}
-use Rattle.index_world.specs.Calls.{Fate, Gives, Trouble, Unmade, as_unmade, faulted, file_deleted, no_memory, refused, troubled, troubled_by}
-use Rattle.index_world.specs.Collecting.{answers, answered_by, doom_call, is_left, is_swept, list_call, mark_stale_call, remove_call, sweep_call, sweep_if}
+use Rattle.index_world.specs.Calls.{Trouble, Unmade, as_unmade, faulted, file_deleted, no_memory, refused, troubled, troubled_by}
+use Rattle.index_world.specs.Collecting.{answered_by, doom_call, is_left, is_swept, list_call, mark_stale_call, remove_call, sweep_if}
 use Rattle.index_world.specs.Core.{Core}
 use Rattle.split_collector.specs.Idle.{GaveNone, HadNothing}
-use Rattle.split_collector.specs.Outcomes.{Outcome, MarkedStale, Doomed, Removed, Swept, Nothing, Refused, Faulted}
-use Rattle.split_collector.specs.Steps.{ArePassed, CallLuck, Passage, Stand, called, failed_with, least_left, numbers_from, outcomes, page_by, page_given, ran, stand, turned}
-use Rattle.split_collector.specs.Turns.{Turn, behind_delete, behind_doom, behind_list, behind_mark, behind_remove, counted, ended, next_behind, page_turn, paging, to_doom, to_list, to_mark, to_remove, to_sweep}
+use Rattle.split_collector.specs.Outcomes.{Outcome, Doomed, Swept, Nothing}
+use Rattle.split_collector.specs.Steps.{ArePassed, Passage, called, failed_with, least_left, numbers_from, outcomes, page_given, ran, turned}
+use Rattle.split_collector.specs.Turns.{Turn, behind_delete, behind_doom, behind_mark, behind_remove, counted, ended, next_behind, page_turn, paging, to_doom, to_list, to_mark, to_remove, to_sweep}
 use Rattle.split_collector.proofs.Least.{in_range, none_found}
 
 abbrev T : Type 0
@@ -27,8 +26,10 @@ found_none p first (suc count) n none low high = by (p first) refl none (λ rest
   where
     below : (first ≡ n → ⊥) → suc first ≤ n
     below apart = omega (arith, apart)
+
     here : (first ≡ n) ⊎ (suc first ≤ n)
     here = grind arith
+
     by : (b : Bool) → p first ≡ b → cond b (Some first) (find p (numbers_from (suc first) count)) ≡ None → (find p (numbers_from (suc first) count) ≡ None → suc first ≤ n → p n ≡ false) → p n ≡ false
     by true e wrong rest = absurd (cc)
     by false e later rest = at here
@@ -82,6 +83,7 @@ module _ (Between : Core → Core → Type 0) where
       after : (answer : Result ⊤ Trouble) (core : Core) → let left = called (behind_delete outcomes number next) (as_unmade (answered_by true answer core)) in ArePassed Between left.turn left.core ps → (ran left.turn left.core ps).turn ≡ idle → ⊥
       after (Ok done) core passed' e' = let wrong = (end_is (Some (Swept number)) core ps passed' e').0 in absurd (cc)
       after (Err trouble) core passed' e' = failed_never (troubled trouble) (end_is (failed_with (troubled trouble)) core ps passed' e').0
+
       by : (b : Bool) → b ≡ true → let left = called (behind_delete outcomes number next) (as_unmade (sweep_if b p.luck.fate.first number p.core)) in ArePassed Between left.turn left.core ps → (ran left.turn left.core ps).turn ≡ idle → ⊥
       by true is passed' e' = let deleted = file_deleted p.luck.fate.first (split_key number) p.core in after deleted.answer deleted.core passed' e'
       by false is passed' e' = absurd (cc)
@@ -101,9 +103,11 @@ module _ (Between : Core → Core → Type 0) where
       next_page : (next : Option (List ℕ)) (c : Core) → ArePassed Between (paging outcomes next) c ps → (ran (paging outcomes next) c ps).turn ≡ idle → Further ps → MatchOption next (ps ≡ []) (λ key. GaveNone (Some key) ps)
       next_page None c passed' e' further = (end_is (Some Nothing) c ps passed' e').1
       next_page (Some key) c passed' e' further = further key c passed' e'
+
       page : (least : Option ℕ) (next : Option (List ℕ)) (c : Core) → ArePassed Between (page_turn outcomes least next) c ps → (ran (page_turn outcomes least next) c ps).turn ≡ idle → Further ps → (least ≡ None) × MatchOption next (ps ≡ []) (λ key. GaveNone (Some key) ps)
       page None next c passed' e' further = (refl, next_page next c passed' e' further)
       page (Some number) next c passed' e' further = absurd (none_else number next c ps passed' e')
+
       by : (answer : Result ⊤ Trouble) (c : Core) → let left = page_given behind p.luck.end (troubled_by answer c) in ArePassed Between left.turn left.core ps → (ran left.turn left.core ps).turn ≡ idle → Further ps
           → (answer ≡ Ok tt) × ((n : ℕ) → is_left c behind p.luck.end n ≡ false) × MatchOption (next_behind behind p.luck.end) (ps ≡ []) (λ key. GaveNone (Some key) ps)
       by (Ok done) c passed' e' further =

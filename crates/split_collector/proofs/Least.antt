@@ -31,6 +31,7 @@ min_among P a x one other = by (which a x)
   where
     which : (n m : ℕ) → (min n m ≡ n) ⊎ (min n m ≡ m)
     which n m = grind arith
+
     by : (min a x ≡ a) ⊎ (min a x ≡ x) → P (min a x)
     by (inl e) = subst P (sym e) one
     by (inr e) = subst P (sym e) other

@@ -1,6 +1,5 @@
 -- The words of what the code answers.
-use Rattle.std.proofs.Common.{◌≡◌, ℕ, List, [], ◌∷◌, refl, sym, ap, ◌∙◌, subst, decimal, Some}
-use Rattle.std.specs.Prelude.{codes}
+use Rattle.std.proofs.Common.{◌≡◌, ℕ, List, [], ◌∷◌, sym, ap, ◌∙◌, Some}
 use Rattle.index_config.specs.declared.config_error.ConfigError.{ConfigError}
 use Rattle.index_config.specs.declared.config_error.ConfigError.TheVariants as configs
 use Rattle.meta_store.specs.declared.refusal.Refusal.{Refusal}

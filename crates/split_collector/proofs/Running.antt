@@ -1,6 +1,6 @@
 -- Calls that follow one another, over a core and over any gate.
-use Rattle.std.proofs.Common.{◌≡◌, ◌⊎◌, inl, inr, ℕ, List, [], ◌∷◌, ◌++◌, refl, sym, ap, ◌∙◌, subst, append_assoc, append-nil, Option, Some, None, Result, Ok, Err}
-use Rattle.std.specs.Prelude.{⊤, IsSome}
+use Rattle.std.proofs.Common.{◌≡◌, inl, inr, List, [], ◌∷◌, ◌++◌, refl, sym, ap, ◌∙◌, subst, append_assoc, append-nil, Option, Some, None}
+use Rattle.std.specs.Prelude.{IsSome}
 use Rattle.object_store.specs.Store.{State}
 use Rattle.source_log.specs.Log.{Log}
 use Rattle.index_world.specs.Answering.{Answered}
@@ -70,21 +70,23 @@ module _ {W : Type 0} (Stands : W → Core → Log → Type 0) (Between : Core �
   -- one, and the core behind it
   pub one_collects_at : BetweenGoes Between → (from reached : Turn (Option Outcome)) (to : Turn Told) (ask : Ask) (luck : CallLuck) (core mid after : Core) (log : Log) (old new : W) (made : List CallMade) → ask_at from ≡ Some ask → Between core mid → IsCallAt from (record { core = mid; luck = luck })
       → turned from luck mid ≡ stand reached after → Alike to reached → GoesOn None mid after → Stands new after log → Adds old made new → IsRecorded ask mid after (reached ≡ ended None) made → (f : CollectsAs Stands Between Adds from to core log old new) × (f.after ≡ after)
-  one_collects_at goes from reached to ask luck core mid after log old new made asks passed paged does alike on stands own recorded =
-      (record {
-        passages = record { core = mid; luck = luck } ∷ [];
-        passed = (subst (λ (o : Option Ask). IsSome o) (sym asks) refl, passed, paged, tt);
-        reached = reached;
-        after = after;
-        did = does;
-        alike = alike;
-        stands = stands;
-        always = goes_both Nobody (IsOther None) Nobody core mid after (λ n kept. (kept, absurd kept)) (goes core mid passed) on;
-        alone = λ none. subst (λ (c : Core). GoesOn None c after) (none core mid passed) on;
-        made = made;
-        own = own;
-        recorded = (ask, made, [], asks, sym (append-nil made), subst (λ (s : Stand). IsRecorded ask mid s.core (s.turn ≡ ended None) made) (sym does) recorded, refl);
-      }, refl)
+  one_collects_at goes from reached to ask luck core mid after log old new made asks passed paged does alike on stands own recorded = (
+    record {
+      passages = record { core = mid; luck = luck } ∷ [];
+      passed = (subst (λ (o : Option Ask). IsSome o) (sym asks) refl, passed, paged, tt);
+      reached = reached;
+      after = after;
+      did = does;
+      alike = alike;
+      stands = stands;
+      always = goes_both Nobody (IsOther None) Nobody core mid after (λ n kept. (kept, absurd kept)) (goes core mid passed) on;
+      alone = λ none. subst (λ (c : Core). GoesOn None c after) (none core mid passed) on;
+      made = made;
+      own = own;
+      recorded = (ask, made, [], asks, sym (append-nil made), subst (λ (s : Stand). IsRecorded ask mid s.core (s.turn ≡ ended None) made) (sym does) recorded, refl);
+    },
+    refl,
+  )
 
   pub one_collects : BetweenGoes Between → (from reached : Turn (Option Outcome)) (to : Turn Told) (ask : Ask) (luck : CallLuck) (core mid after : Core) (log : Log) (old new : W) (made : List CallMade) → ask_at from ≡ Some ask → Between core mid → IsCallAt from (record { core = mid; luck = luck })
       → turned from luck mid ≡ stand reached after → Alike to reached → GoesOn None mid after → Stands new after log → Adds old made new → IsRecorded ask mid after (reached ≡ ended None) made → CollectsAs Stands Between Adds from to core log old new

@@ -1,13 +1,12 @@
 -- What an error is told as, and what of it is the machine's.
-use Rattle.std.proofs.Common.{◌≡◌, ℕ, refl, sym, ap, ◌∙◌, subst, Option, Some, None, Result, Ok, Err}
+use Rattle.std.proofs.Common.{◌≡◌, refl, sym, ap, subst, None, Ok}
 use Rattle.std.specs.declared.alloc.AllocError.{AllocError}
-use Rattle.index_world.specs.Calls.{Fault, Trouble, Unmade, faulted, is_expired, is_foreign, is_full, no_memory, refused, store_fault, troubled}
+use Rattle.index_world.specs.Calls.{Fault, Trouble, Unmade, faulted, no_memory, refused, troubled}
 use Rattle.index_world.specs.Gate.{IsTrouble, IsUnmade}
 use Rattle.index_world.specs.Taking.{IsWant}
 use Rattle.index_world.specs.declared.world_error.WorldError.{WorldError}
 use Rattle.index_world.specs.declared.world_error.WorldError.TheVariants as errors
 use Rattle.split_collector.specs.Ending.{Told, fault_said}
-use Rattle.split_collector.specs.Outcomes.{Outcome}
 use Rattle.split_collector.specs.Standing.{Answers}
 use Rattle.split_collector.specs.Steps.{failed_with}
 use Rattle.split_collector.specs.declared.outcome.CollectorOutcome.TheVariants as said

@@ -1,5 +1,5 @@
 -- How a step ends, whatever its gate tells: by what its calls answered.
-use Rattle.std.specs.Prelude.{◌≡◌, ℕ, List, [], ◌∷◌, min, Option, Some, None, Result, Ok, Err, ⊤}
+use Rattle.std.specs.Prelude.{◌≡◌, List, [], ◌∷◌, min, Option, Some, None, Result, Ok, Err, ⊤}
 use Rattle.std.specs.List.{reduce}
 use Rattle.std.specs.declared.alloc.AllocError.{AllocError}
 use Rattle.meta_journal.specs.Places.{split_key}

@@ -1,7 +1,7 @@
 -- One step of a collector, given the fate of its calls.
 use Rattle.std.specs.Prelude.{◌≡◌, ℕ, suc, zero, ◌+◌, ◌*◌, Bool, true, false, List, [], ◌∷◌, ◌++◌, length, map, find, Option, Some, None, IsSome, Result, Ok, Err, ⊤}
 use Rattle.meta_store.specs.History.{history, last_number}
-use Rattle.index_world.specs.Calls.{Fate, calm_fate, Gives, Trouble, Unmade, as_unmade, faulted, no_memory, refused, troubled}
+use Rattle.index_world.specs.Calls.{Fate, calm_fate, Gives, Unmade, as_unmade, faulted, no_memory, refused, troubled}
 use Rattle.index_world.specs.CallsMade.{Ask, CallMade, IsRecorded, of_doom, of_mark_stale, of_remove, of_sweep, of_sweep_list}
 use Rattle.index_world.specs.Collecting.{IsSweepPage, doom_call, is_left, is_swept, list_call, mark_stale_call, remove_call, sweep_call}
 use Rattle.index_world.specs.Core.{Core}

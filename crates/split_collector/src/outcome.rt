@@ -33,11 +33,7 @@ fn put_numbered(alloc: Global, out: &mut Bytes, word: &[u8], number: u64) -> Res
     put_number(alloc, out, number)
 }
 
-fn put_outcome(
-    alloc: Global,
-    out: &mut Bytes,
-    outcome: &CollectorOutcome,
-) -> Result<(), AllocError>
+fn put_outcome(alloc: Global, out: &mut Bytes, outcome: &CollectorOutcome) -> Result<(), AllocError>
     ensures { OnOk result (out.new ≡ with_words out.old (said_words outcome.now)) }
 {
     match outcome {

@@ -1,4 +1,4 @@
-use Rattle.std.proofs.Common.{◌≡◌, ◌∙◌, None, Ok, Result, refl, sym, ap, subst}
+use Rattle.std.proofs.Common.{◌∙◌, None, Ok, Result, refl, sym, ap, subst}
 use Rattle.std.specs.declared.alloc.AllocError.{AllocError}
 use Rattle.split_collector.specs.Ending.{CallsTo, Told, told}
 use Rattle.split_collector.specs.Paging.{GoesBehind, paged_turn}
@@ -27,10 +27,10 @@ loop-outcome-preserved g c =
       same = c.sweep_page.ensures.same ∙ c.loop-outcome.invariant.same;
       key = goes.1;
       ends = (subst (λ (t : Turn Told). CallsTo g.G.Gate.told g.G.Gate.Answers (to_list None) t c.args.gate.now c.sweep_page.new.gate) (ap (λ (r : Result Paged AllocError). paged_turn r) (c.in_ok-outcome.was ∙ ap (λ (p : Paged). Ok p) c.in-Next.is))
-    (then_called g.G.Gate.told g.G.Gate.Answers (to_list None) (to_list c.loop-outcome.behind) (paged_turn c.sweep_page.result) c.args.gate.now c.loop-outcome.gate c.sweep_page.new.gate c.loop-outcome.invariant.ends c.sweep_page.ensures.ends));
+          (then_called g.G.Gate.told g.G.Gate.Answers (to_list None) (to_list c.loop-outcome.behind) (paged_turn c.sweep_page.result) c.args.gate.now c.loop-outcome.gate c.sweep_page.new.gate c.loop-outcome.invariant.ends c.sweep_page.ensures.ends));
       step = λ core log stands. let f = c.loop-outcome.invariant.step core log stands in
-    subst (λ (t : Turn Told). CollectsAs g.G.Gate.Stands g.G.Gate.Between g.G.Gate.Adds (to_list None) t core log c.args.gate.now c.sweep_page.new.gate) (ap (λ (r : Result Paged AllocError). paged_turn r) (c.in_ok-outcome.was ∙ ap (λ (p : Paged). Ok p) c.in-Next.is))
-    (then_collects g.G.Gate.Stands g.G.Gate.Between g.G.Gate.Adds g.met.G.Gate.adds_more (to_list None) (to_list c.loop-outcome.behind) (to_list c.loop-outcome.behind) (paged_turn c.sweep_page.result) core log c.args.gate.now c.loop-outcome.gate c.sweep_page.new.gate f f.alike (c.sweep_page.ensures.step f.after log f.stands));
+          subst (λ (t : Turn Told). CollectsAs g.G.Gate.Stands g.G.Gate.Between g.G.Gate.Adds (to_list None) t core log c.args.gate.now c.sweep_page.new.gate) (ap (λ (r : Result Paged AllocError). paged_turn r) (c.in_ok-outcome.was ∙ ap (λ (p : Paged). Ok p) c.in-Next.is))
+          (then_collects g.G.Gate.Stands g.G.Gate.Between g.G.Gate.Adds g.met.G.Gate.adds_more (to_list None) (to_list c.loop-outcome.behind) (to_list c.loop-outcome.behind) (paged_turn c.sweep_page.result) core log c.args.gate.now c.loop-outcome.gate c.sweep_page.new.gate f f.alike (c.sweep_page.ensures.step f.after log f.stands));
     }
 
 pub loop-outcome-smaller : goal.loop-outcome-smaller

@@ -1,5 +1,4 @@
-use Rattle.std.proofs.Common.{◌≡◌, ◌∙◌, ℕ, List, Option, Some, None, sym, subst, min}
-use Rattle.std.specs.List.{reduce}
+use Rattle.std.proofs.Common.{◌≡◌, ◌∙◌, ℕ, Option, sym, subst}
 use Rattle.std.specs.Prelude.{IfSome, true}
 use Rattle.index_world.specs.Collecting.{is_swept}
 use Rattle.split_collector.specs.Ending.{CallsTo, told, turn_of}

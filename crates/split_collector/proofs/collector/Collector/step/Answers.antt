@@ -1,6 +1,6 @@
 use Rattle.std.proofs.Common.{None, Ok}
 use Rattle.split_collector.specs.Ending.{told, turn_of}
-use Rattle.split_collector.specs.Turns.{behind_sweep, ended, to_doom, to_list, to_mark, to_remove}
+use Rattle.split_collector.specs.Turns.{behind_sweep, ended, to_doom, to_list, to_remove}
 use Rattle.split_collector.proofs.Stepping.{did_turn, further, passed_turn, short_turn, so_far}
 use Rattle.split_collector.proofs.collector.Collector.step.Goals as goal
 
