@@ -13,6 +13,7 @@ use byte_fields::{Bytes, Client};
 use index_world::{WorldError, put_fault, put_number, put_word};
 use indexing_run::IndexerOutcome;
 use root_search::SearchStep;
+use split_collector::CollectorOutcome;
 use std::alloc::{AllocError, Global};
 
 /// The printed answer to a line, without a line feed.
@@ -38,6 +39,16 @@ fn of_indexer(alloc: Global, number: u64, text: &[u8]) -> Result<OutLine, AllocE
     let mut bytes = Bytes::vacant(alloc);
     put_word(&mut bytes, b"indexer")?;
     put_number(alloc, &mut bytes, number)?;
+    put_word(&mut bytes, text)?;
+    Ok(OutLine { bytes })
+}
+
+// `collector` and a text.
+fn of_collector(alloc: Global, text: &[u8]) -> Result<OutLine, AllocError>
+    ensures { IfOk result (λ out. out.bytes ≡ codes "collector" ++ 32 ∷ text.now) }
+{
+    let mut bytes = Bytes::vacant(alloc);
+    put_word(&mut bytes, b"collector")?;
     put_word(&mut bytes, text)?;
     Ok(OutLine { bytes })
 }
@@ -129,6 +140,28 @@ impl OutLine {
             SearchStep::Replied(_) => Ok(OutLine { bytes: words }),
             _ => named(alloc, client, words.as_slice()),
         }
+    }
+
+    pub fn collector(alloc: Global, outcome: &CollectorOutcome) -> Result<OutLine, AllocError>
+        ensures said { (answer : collecting.CollectorOutcome) → IsCollected outcome.now answer →
+            IfOk result (λ out. out.bytes ≡ outcome_text (said.collector_said answer)) }
+        // Whatever the outcome is.
+        ensures exact { IfOk result (λ out. out.bytes ≡ collected_text outcome.now) }
+    {
+        let words = split_collector::print_outcome(alloc, outcome)?;
+        of_collector(alloc, words.as_slice())
+    }
+
+    pub fn collector_down(alloc: Global) -> Result<OutLine, AllocError>
+        ensures { IfOk result (λ out. out.bytes ≡ outcome_text said.collector_down) }
+    {
+        of_collector(alloc, b"down")
+    }
+
+    pub fn collector_restarted(alloc: Global) -> Result<OutLine, AllocError>
+        ensures { IfOk result (λ out. out.bytes ≡ outcome_text said.collector_restarted) }
+    {
+        of_collector(alloc, b"restarted")
     }
 
     pub fn node_restarted(alloc: Global, revision: u64) -> Result<OutLine, AllocError>
