@@ -6,7 +6,7 @@ use Rattle.index_world.specs.Core.{Core}
 use Rattle.indexing_run.specs.Outcomes.{IndexerOutcome}
 use Rattle.indexing_run.specs.Places.{Indexer}
 use Rattle.root_search.specs.Steps.{Client}
-use Rattle.split_collector.specs.Outcomes.{CollectorOutcome}
+use Rattle.split_collector.specs.Outcomes.{Outcome as CollectorOutcome}
 use Rattle.root_search.specs.declared.outcome.SearchStep.{SearchStep}
 
 pub record Node : Type 0 where

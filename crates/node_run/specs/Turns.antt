@@ -12,22 +12,24 @@ use Rattle.indexing_run.specs.Steps as indexing
 use Rattle.root_search.specs.Steps.{Request, no_request, opened, planned, Client, without_request}
 use Rattle.root_search.specs.Steps as searching
 use Rattle.root_search.specs.declared.outcome.SearchStep.{SearchStep}
-use Rattle.split_collector.specs.Outcomes.{CollectorOutcome}
+use Rattle.split_collector.specs.Outcomes.{Outcome as CollectorOutcome}
 use Rattle.split_collector.specs.Steps as collecting
 use Rattle.node_run.specs.Node.{Node, Line, At, Assign, StepIndexer, RestartIndexer, RestartClient, StepCollector, RestartCollector, RestartNode, Open, StepClient, world_fault, no_index, Outcome, at_said, assigned, indexer_busy, indexer_said, indexer_down, indexer_restarted, client_restarted, collector_said, collector_down, collector_restarted, node_restarted, node_failed, request_opened, request_busy, client_said, client_down}
 
--- The fate of one line: its call of a log, its call of the world, a client's or the collector's further calls if it makes some, and whether
--- memory is missing: in its actor's own step, before the line does anything, or behind all that it does.
+-- The fate of one line: its call of a log, its call of the world, a client's or the collector's further calls if it makes some, where the
+-- pages end that the collector lists, and whether memory is missing: in its actor's own step, before the line does anything, or behind all
+-- that it does.
 pub record Luck : Type 0 where
   pub log : indexing.LogCall
   pub world : Fate
   pub more : List Fate
+  pub ends : List (List ℕ)
   pub inner : Bool
   pub early : Bool
   pub short : Bool
 
 abbrev pub calm : Luck
-calm = record { log = record { fails = false; rises = 0; short = false }; world = calm_fate; more = []; inner = false; early = false; short = false }
+calm = record { log = record { fails = false; rises = 0; short = false }; world = calm_fate; more = []; ends = []; inner = false; early = false; short = false }
 
 -- What a line says, and the node behind it. Without memory it says nothing.
 pub record Turned : Type 0 where
@@ -123,7 +125,7 @@ abbrev pub client_turn : Luck → List ℕ → Node → Turned
 client_turn luck name node = client_turn_by node.down luck name node
 
 abbrev pub collecting_luck : Luck → collecting.Luck
-collecting_luck luck = record { world = luck.world; more = luck.more; short = luck.inner }
+collecting_luck luck = record { world = luck.world; more = luck.more; ends = luck.ends; short = luck.inner }
 
 abbrev pub said_by_collector : Option CollectorOutcome → Option Outcome
 said_by_collector None = None
