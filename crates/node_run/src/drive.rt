@@ -12,7 +12,9 @@ ghost use Rattle.indexing_run.specs.Places.{Indexer as Actor, is_idle};
 ghost use Rattle.indexing_run.specs.Standing.{IndexerStands};
 ghost use Rattle.root_search.specs.Searching.{SearcherStands};
 ghost use Rattle.root_search.specs.Steps.{Client as Asker, without_request};
-ghost use Rattle.node_run.specs.Alone.{SearchesAlone, StepsAlone};
+ghost use Rattle.split_collector.specs.Ending.{CallsTo};
+ghost use Rattle.split_collector.specs.Turns.{ended, to_mark};
+ghost use Rattle.node_run.specs.Alone.{CollectsAlone, SearchesAlone, StepsAlone};
 ghost use Rattle.node_run.specs.Calm.{log_counts};
 ghost use Rattle.node_run.specs.Fitting.{IsNumbered, IsYes};
 ghost use Rattle.node_run.specs.Lines.{IsWellFormed, AreNames, outcome_text};
@@ -20,7 +22,7 @@ ghost use Rattle.node_run.specs.Logs.{logs_in};
 ghost use Rattle.node_run.specs.Named.{place_in, names_of, HasPlaces, IsKnown};
 ghost use Rattle.node_run.specs.Node.{Node};
 ghost use Rattle.node_run.specs.Node as said;
-ghost use Rattle.node_run.specs.Printing.{fault_text, EndsAlone, TellsSearch, HasMore, PrintsLine};
+ghost use Rattle.node_run.specs.Printing.{AnswersAlone, fault_text, EndsAlone, told_alone, TellsSearch, HasMore, PrintsLine};
 ghost use Rattle.node_run.specs.Seen.{seen};
 ghost use Rattle.node_run.specs.Standing.{NodeStands, IsFresh, fresh_node, accepts_of, accepts_client, accepts_indexer, DoesLine, DoesMost, LetGo, GivesLogs, GivesStore};
 ghost use Rattle.node_run.specs.Turns.{made_idle, quiet, stopped};
@@ -90,6 +92,18 @@ fn step_indexer<S: ObjectStore, L: SourceLog>(
     ensures ends { EndsAlone L.told L.fault_count indexer.old result indexer.new gate.old.world gate.new.world }
 {
     indexer.step(alloc, gate)
+}
+
+fn step_collector<S: ObjectStore>(
+    alloc: Global,
+    gate: &mut Direct<S, ScriptClock>,
+    collector: &mut Collector,
+) -> Result<CollectorOutcome, AllocError>
+    ensures step { (core : Core) (log : Log) → WorldStands gate.old.world core log → CollectsAlone result gate.new.world core log }
+    // Whatever the world is.
+    ensures tells { CallsTo told_alone AnswersAlone to_mark (ended result) gate.old gate.new }
+{
+    collector.step(alloc, gate)
 }
 
 fn step_searcher<Rt: Threads + Sync, S: ObjectStore>(

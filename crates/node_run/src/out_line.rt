@@ -5,9 +5,11 @@ ghost use Rattle.index_world.specs.Calls.{Fault, faulted, not_read, no_index};
 ghost use Rattle.index_world.specs.Loading.{IsUnread};
 ghost use Rattle.indexing_run.specs.Outcomes as indexing;
 ghost use Rattle.indexing_run.specs.Standing.{IsSaid};
+ghost use Rattle.split_collector.specs.Outcomes as collecting;
+ghost use Rattle.split_collector.specs.Standing.{IsSaid as IsCollected};
 ghost use Rattle.node_run.specs.Lines.{outcome_text};
 ghost use Rattle.node_run.specs.Node as said;
-ghost use Rattle.node_run.specs.Printing.{fault_text, said_text};
+ghost use Rattle.node_run.specs.Printing.{collected_text, fault_text, said_text};
 
 use byte_fields::{Bytes, Client};
 use index_world::{WorldError, put_fault, put_number, put_word};
@@ -143,7 +145,7 @@ impl OutLine {
     }
 
     pub fn collector(alloc: Global, outcome: &CollectorOutcome) -> Result<OutLine, AllocError>
-        ensures said { (answer : collecting.CollectorOutcome) → IsCollected outcome.now answer →
+        ensures said { (answer : collecting.Outcome) → IsCollected outcome.now answer →
             IfOk result (λ out. out.bytes ≡ outcome_text (said.collector_said answer)) }
         // Whatever the outcome is.
         ensures exact { IfOk result (λ out. out.bytes ≡ collected_text outcome.now) }
