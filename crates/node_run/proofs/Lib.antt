@@ -1,5 +1,7 @@
 pub mod OnLiterals
 pub mod Rows
+pub mod CallMoves
+pub mod CollectorMoves
 pub mod Moving
 pub mod Spelling
 pub mod Calming
