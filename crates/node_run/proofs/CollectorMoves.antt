@@ -4,7 +4,7 @@ use Rattle.std.specs.Prelude.{Option, Some, None, Result, Ok, Err, ⊤}
 use Rattle.meta_journal.specs.Places.{split_key}
 use Rattle.meta_journal.specs.declared.entry.Entry.{Entry}
 use Rattle.split_states.specs.declared.rows.Row.{Row}
-use Rattle.index_world.specs.Calls.{Call, Fate, Gives, Made, made, exists, failed, Trouble, Unmade, as_unmade, begun, deleted_by, entry_of, file_deleted, get_at_end, is_at_once, may_append, may_fail, settled}
+use Rattle.index_world.specs.Calls.{Call, Fate, Gives, Made, made, exists, failed, Trouble, Unmade, as_unmade, begun, deleted_by, entry_of, file_deleted, get_at_end, may_append, may_fail, settled}
 use Rattle.index_world.specs.Collecting.{Offer, adopted_offer, answered_by, appended_if, doom_call, doom_next, doomed_by, first_offer, last_offer, list_call, mark_stale_call, next_doomed, nothing, offer_unless, remove_call, removal_offer, stale_offer, sweep_call, sweep_if, transact_if, is_swept}
 use Rattle.index_world.specs.Core.{Core}
 use Rattle.split_collector.specs.Outcomes.{Outcome}
