@@ -37,11 +37,13 @@ pub mod WholeFiles
 pub mod Lives
 pub mod Halves
 pub mod NextDoomed
+pub mod RowNumbers
 pub mod Markings
 pub mod Settling
 pub mod Creating
 pub mod Appending
 pub mod Gates
+pub mod RowCalls
 pub mod Sweeping
 pub mod DoomCalls
 pub mod Fronts

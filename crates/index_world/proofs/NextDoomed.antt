@@ -12,14 +12,14 @@ use Rattle.index_world.specs.Collecting.{may_go_by}
 use Rattle.index_world.specs.Core.{Marking, is_in, release_of, taken_at}
 use Rattle.index_world.proofs.StoreKeys.{true_is_false}
 
-none_is_some : (row : Row) → ◌≡◌ {A = Option Row} None (Some row) → ⊥
+pub none_is_some : (row : Row) → ◌≡◌ {A = Option Row} None (Some row) → ⊥
 none_is_some row e = cc e
 
 -- the rows from a number on
 abbrev pub from_on : ℕ → List Row → List Row
 from_on from list = filter (λ row. nat_le from row.number) list
 
-not_from : (from n : ℕ) → n < from → nat_le from n ≡ false
+pub not_from : (from n : ℕ) → n < from → nat_le from n ≡ false
 not_from from n lt = grind (lt, arith, nat_tests)
 
 pub all_from : (from least : ℕ) (list : List Row) → from ≤ least → Order least (row_numbers list) → from_on from list ≡ list
@@ -57,7 +57,7 @@ module _ (P D : Row → Bool) (sub : (x : Row) → D x ≡ false → P x ≡ fal
       by false t more = rw (sub x t) (more (rw t at e) p)
 
   -- what is found stands behind the numbers before it
-  found_from : (from least : ℕ) (list : List Row) (row : Row) → Order least (row_numbers list) → find D (from_on from list) ≡ Some row → least ≤ row.number
+  pub found_from : (from least : ℕ) (list : List Row) (row : Row) → Order least (row_numbers list) → find D (from_on from list) ≡ Some row → least ≤ row.number
   found_from from least [] row h e = absurd (none_is_some row e)
   found_from from least (x ∷ list) row h e =
       let p = order_rest least x.number (row_numbers list) h in

@@ -99,20 +99,6 @@ went_on_asked old new core after log more doubt now w c o e =
     goes_both (IsOther None) (IsOther None) (IsOther None) core (asked_clock core) after (λ n other. (other, other)) (goes_asked (IsOther None) core)
     (went_on old new (asked_clock core) after log more doubt now (world_asked old core log w) (counted_asked core now c) o e)
 
--- ---- a transaction
-
-abbrev pub whole_appended : (old new : State) (core : Core) (log : Log) (act : Core → Act) (answer : Core → Result ⊤ Unmade) (more : List Entry) (doubt : Bool) (now : ℕ) →
-    IsWorld old core log → 0 < length core.history → Counted core now → Transacted old new (asked_clock core) log act answer more doubt now → Whole (λ fate c. appended fate act c) None new core (asked_clock core) log answer more doubt now
-whole_appended old new core log act answer more doubt now w some c t =
-    record {
-      fate = record { unasked = false; first = t.first; second = t.second; third = t.third };
-      after = t.after;
-      did = t.did;
-      goes_on = went_on_asked old new core t.after log more doubt now w c t.onward t.ends;
-      ends = t.ends;
-      stands = stands_behind new (asked_clock core) t.after log more doubt now some t.onward.world t.timely t.ends;
-    }
-
 -- ---- a call that only asks the clock
 
 abbrev pub whole_asked : (kept : State) (core : Core) (log : Log) → IsWorld kept core log → 0 < length core.history → IsTimely core → Whole asked None kept core (asked_clock core) log (λ after. Ok tt) [] core.unsure core.store_faults

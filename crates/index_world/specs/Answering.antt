@@ -133,10 +133,6 @@ AppendsNot errors.NoIndex act moment next state now = ⊥
 AppendsNot errors.IndexExists act moment next state now = ⊥
 AppendsNot (errors.BadConfig bad) act moment next state now = ⊥
 
-abbrev pub Appends : Result ⊤ WorldError → (meta.State → Act) → (moment next : ℕ) → meta.State → State → Type 0
-Appends (Ok done) act moment next state now = AppendedOwn act moment next state now
-Appends (Err error) act moment next state now = AppendsNot error act moment next state now
-
 -- ---- what each call answers, by what is kept behind it: nothing is unsure where something is given
 
 abbrev pub SaysMarks : Result Marks WorldError → Keeping → State → Type 0

@@ -1,13 +1,13 @@
 -- What the steps of a transaction did to a store and its core: each is the core's own with some fate, and the invariant holds again.
-use Rattle.std.specs.Prelude.{◌≡◌, ◌≤◌, ◌-◌, ℕ, Bool, true, false, List, [], ◌∷◌, ◌++◌, Some, max, Result, Ok, Err, ⊤, ◌||◌}
-use Rattle.meta_journal.specs.declared.entry.Act.{Act}
+use Rattle.std.specs.Prelude.{◌≡◌, ◌≤◌, ◌-◌, ℕ, Bool, true, false, List, [], ◌∷◌, ◌++◌, Option, Some, max, Result, Ok, Err, ⊤, ◌||◌}
 use Rattle.meta_journal.specs.declared.entry.Act.TheVariants.{Stage}
 use Rattle.meta_journal.specs.declared.entry.Entry.{Entry}
 use Rattle.object_store.specs.Store.{State}
 use Rattle.source_checkpoint.specs.declared.delta.Part.{Part}
 use Rattle.source_log.specs.Log.{Log}
 use Rattle.split_states.specs.declared.facts.RowFacts.{RowFacts}
-use Rattle.index_world.specs.Calls.{Call, made, exists, failed, create_at_end, get_at_end, begun, taken_in, marks_of, gives, Trouble, Unmade, settled, transact}
+use Rattle.index_world.specs.Calls.{Call, made, exists, failed, create_at_end, get_at_end, begun, taken_in, marks_of, gives, Trouble, Unmade, settled}
+use Rattle.index_world.specs.Collecting.{Offer, transact_if}
 use Rattle.index_world.specs.Core.{Core, last_count, clock_of, Upkeep, upkeep_of}
 use Rattle.index_world.specs.Index.{IsUnused, HasStaged}
 use Rattle.index_world.specs.Onward.{Onward}
@@ -141,12 +141,12 @@ pub record Ends (core after : Core) (more : List Entry) (doubt : Bool) (now : �
   pub unsure : after.unsure ≡ doubt
 
 -- a transaction did this
-pub record Transacted (old new : State) (core : Core) (log : Log) (act : Core → Act) (answer : Core → Result ⊤ Unmade) (more : List Entry) (unsure : Bool) (now : ℕ) : Type 0 where
+pub record Transacted (old new : State) (core : Core) (log : Log) (offered : Core → Option (Offer ℕ)) (answer : Core → Result ℕ Unmade) (more : List Entry) (unsure : Bool) (now : ℕ) : Type 0 where
   pub first : Call
   pub second : Call
   pub third : Call
   pub after : Core
-  pub did : transact core.unsure first second third act core ≡ gives (answer after) after
+  pub did : transact_if core.unsure first second third 0 offered core ≡ gives (answer after) after
   pub onward : Onward old new core after log
   pub ends : Ends core after more unsure now
   pub timely : IsTimely after

@@ -118,8 +118,16 @@ impl<S: ObjectStore, C: SteadyClock> Gate for Direct<S, C> {
         self.world.upload(alloc, staged, content)
     }
 
+    fn mark_stale(&mut self, alloc: Global) -> Result<u32, WorldError> {
+        self.world.mark_stale(alloc)
+    }
+
     fn doom(&mut self, _alloc: Global) -> Result<Option<u64>, WorldError> {
         self.world.doom()
+    }
+
+    fn remove(&mut self, alloc: Global) -> Result<u32, WorldError> {
+        self.world.remove(alloc)
     }
 
     fn sweep_list(&mut self, alloc: Global, behind: Option<&Key>) -> Result<SweepPage, WorldError> {

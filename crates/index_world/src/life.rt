@@ -6,7 +6,7 @@ ghost use Rattle.doc_value.specs.Documents.{IsSchema};
 
 use crate::doom_list::Doomed;
 use crate::marking::{Marking, note};
-use crate::own::{Own, act_of};
+use crate::own::{Offer, Outcome, Own, act_of};
 use crate::taking::{admit, moment_of, prepare, read_with_room, world_error};
 use crate::world_error::WorldError;
 use index_config::IndexConfig;
@@ -41,12 +41,12 @@ impl Life {
     ghost use Rattle.meta_journal.specs.declared.place.Place.TheVariants.{Sure, Given};
     ghost use Rattle.object_store.specs.Store.{State, WhereTold};
     ghost use Rattle.source_log.specs.Log.{Log};
-    ghost use Rattle.index_world.specs.Answering.{Appends, Follows, KeepsEntries, SettlesNot, answer_in};
+    ghost use Rattle.index_world.specs.Answering.{Follows, KeepsEntries, SettlesNot, answer_in};
     ghost use Rattle.index_world.specs.Calls.{marked_by};
     ghost use Rattle.index_world.specs.Configuration.{index_of};
     ghost use Rattle.index_world.specs.Core.{Core};
-    ghost use Rattle.index_world.specs.Life.{TookIn, TookNone, StandsBy, Settling, Creating, Appending, Makes};
-    ghost use Rattle.index_world.specs.Owning.{CanOwn, MayOwn, act_in, own_act};
+    ghost use Rattle.index_world.specs.Life.{TookIn, TookNone, StandsBy, Settling, Creating, Appending, Appends, Makes};
+    ghost use Rattle.index_world.specs.Owning.{CanOwn, MayOwn};
     ghost use Rattle.index_world.specs.PlaceMade.{IsPlaceMade};
     ghost use Rattle.index_world.specs.Taking.{IsFaultBetween};
 
@@ -131,29 +131,32 @@ impl Life {
         }
     }
 
-    // Creates an entry of one's own, made of the state as it is. Gives the entry that stands there where one does.
+    // Creates an entry of one's own, made of the state as it is, where there is one. Gives the entry that stands there where one does.
     fn create<S: ObjectStore>(
         &mut self,
         alloc: Global,
         store: &mut S,
         own: Own,
         before: u64,
-    ) -> Result<Option<Entry>, WorldError>
+    ) -> Result<Outcome, WorldError>
         requires sure { self.old.journal.place ≡ Sure }
         requires can { CanOwn own }
-        ensures place { IfOk result (λ given. IsPlaceMade given self.new.journal.place) }
+        ensures place { IfOk result (λ outcome. IsPlaceMade outcome self.new.journal.place) }
         ensures step { (old : State) (core : Core) (log : Log) → S.told store.old ≡ Some old → StandsBy old core log (S.fault_count store.old) self.old →
-            MayOwn own.entry log core → Creating old core log (own_act own.entry core) self.old.journal.settled before result (S.told store.new) (S.fault_count store.new) self.new }
+            MayOwn own.entry log core → Creating old core log own.entry self.old.journal.settled before result (S.told store.new) (S.fault_count store.new) self.new }
         // Over all stores, whatever the state is.
         ensures later { S.fault_count store.old ≤ S.fault_count store.new }
         ensures faults { before ≤ S.fault_count store.old → IfErr result (IsFaultBetween before (S.fault_count store.new)) }
-        ensures answers { WhereTold (S.told store.old) (S.told store.new) (λ was now. Makes (act_in own.entry) result self.new now) }
+        ensures answers { WhereTold (S.told store.old) (S.told store.new) (λ was now. Makes own.entry result self.new now) }
         ensures followed { WhereTold (S.told store.old) (S.told store.new) (λ was now. Follows self.old.journal.next self.old.meta.state self.new.journal.next self.new.meta.state now) }
         ensures keeps { WhereTold (S.told store.old) (S.told store.new) KeepsEntries }
     {
+        let Some(Offer { act, count }) = act_of(alloc, own, self)? else {
+            return Ok(Outcome::Done(0));
+        };
         let entry = Entry {
             moment: self.moment,
-            act: act_of(alloc, own, &self.meta)?,
+            act,
         };
         let reading = match read_with_room(alloc, &mut self.marks, &entry) {
             Ok(reading) => reading,
@@ -176,47 +179,51 @@ impl Life {
             Ok(_) => {
                 note(&mut self.marks, &entry.act, self.moment);
                 self.meta.apply(entry, handed);
-                Ok(None)
+                Ok(Outcome::Done(count))
             }
             Err(error) => {
                 mem::drop(handed);
                 mem::drop(entry);
                 match error {
-                    JournalError::Adopted { entry } => Ok(Some(entry)),
+                    JournalError::Adopted { entry } => Ok(Outcome::Given(entry)),
                     error => Err(world_error(error, self.journal.next(), before)),
                 }
             }
         }
     }
 
-    /// One transaction: it settles and appends. Where an entry stands at the number already, that one is taken in, and the
-    /// own one is made anew and created once more.
+    /// One transaction: it settles and appends, where there is something to append, and says how many rows were given up or removed. Where an
+    /// entry stands at the number already, that one is taken in, and the own one is made anew and created once more.
     pub fn append<S: ObjectStore>(
         &mut self,
         alloc: Global,
         store: &mut S,
         own: Own,
         before: u64,
-    ) -> Result<(), WorldError>
+    ) -> Result<u32, WorldError>
         requires { CanOwn own }
         ensures place { OnOk result (self.new.journal.place ≡ Sure) }
         ensures step { (old : State) (core : Core) (log : Log) → S.told store.old ≡ Some old → StandsBy old core log (S.fault_count store.old) self.old →
             before ≡ core.store_faults → MayOwn own.entry log core → Appending old core log own.entry result (S.told store.new) (S.fault_count store.new) self.new }
         // Over all stores, whatever the state is.
         ensures faults { before ≤ S.fault_count store.old → IfErr result (IsFaultBetween before (S.fault_count store.new)) }
-        ensures answers { WhereTold (S.told store.old) (S.told store.new) (λ was now. Appends result (act_in own.entry) self.new.moment self.new.journal.next self.new.meta.state now) }
+        ensures answers { WhereTold (S.told store.old) (S.told store.new) (λ was now. Appends own.entry result self.new now) }
         ensures followed { WhereTold (S.told store.old) (S.told store.new) (λ was now. Follows self.old.journal.next self.old.meta.state self.new.journal.next self.new.meta.state now) }
     {
         self.settle(alloc, store, before)?;
-        let Some(entry) = self.create(alloc, store, own, before)? else {
-            return Ok(());
+        let entry = match self.create(alloc, store, own, before)? {
+            Outcome::Done(count) => return Ok(count),
+            Outcome::Given(entry) => entry,
         };
         self.take_in(alloc, entry)?;
-        let Some(_) = self.create(alloc, store, own, before)? else {
-            return Ok(());
-        };
-        Err(WorldError::Foreign {
-            key: meta_key(self.journal.next()),
-        })
+        match self.create(alloc, store, own, before)? {
+            Outcome::Done(count) => Ok(count),
+            Outcome::Given(entry) => {
+                mem::drop(entry);
+                Err(WorldError::Foreign {
+                    key: meta_key(self.journal.next()),
+                })
+            }
+        }
     }
 }

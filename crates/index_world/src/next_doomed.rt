@@ -12,8 +12,8 @@ use crate::life::Life;
 use crate::marking::taken_at;
 use split_states::Row;
 
-// The greatest number of these rows, 0 for none.
-fn greatest_number(rows: &[Row]) -> u64
+/// The greatest number of these rows, 0 for none.
+pub fn greatest_number(rows: &[Row]) -> u64
     requires { RowsRise rows.now }
     ensures { AllByRecursion (λ row. row.number ≤ result) rows.now }
 {

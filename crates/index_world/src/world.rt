@@ -11,7 +11,7 @@ ghost use Rattle.meta_journal.specs.Spelling.{CanSpellFacts};
 ghost use Rattle.object_store.specs.Store.{State, WhereTold};
 ghost use Rattle.source_log.specs.Log.{Log};
 ghost use Rattle.meta_journal.specs.Places.{split_key};
-ghost use Rattle.index_world.specs.Answering.{IsAnswer, marks_answered, moment_answered, SaysListed, stage_answered, publish_answered, plan_answered, doom_answered};
+ghost use Rattle.index_world.specs.Answering.{IsAnswer, marks_answered, moment_answered, SaysListed, stage_answered, publish_answered, plan_answered, mark_stale_answered, doom_answered, remove_answered};
 ghost use Rattle.index_world.specs.Asked.{FetchesFile, given_behind, IsFetch, IsInTime, IsUpload, UploadsFile};
 ghost use Rattle.index_world.specs.Calls.{asked, asked_moment, looked, asked_and_looked, fetched_from, upload_made};
 ghost use Rattle.index_world.specs.Configuration.{index_of};
@@ -19,7 +19,7 @@ ghost use Rattle.index_world.specs.Core.{Core, IsConfigured, IsUnusedIn};
 ghost use Rattle.index_world.specs.Created.{CreatesIndex, CreatesNot, CreatesWorld, CreatesNone, IsOfCreate};
 ghost use Rattle.index_config.specs.Answer.{config_answer};
 ghost use Rattle.index_world.specs.Collected.{SweepsFile};
-ghost use Rattle.index_world.specs.Collecting.{is_swept_by, doom_call, IsSweepPage, list_call, sweep_call};
+ghost use Rattle.index_world.specs.Collecting.{is_swept_by, doom_call, IsSweepPage, list_call, mark_stale_call, remove_call, sweep_call};
 ghost use Rattle.index_world.specs.Gate.{Acts, ActsWith, IsGiven, grace_of, IsTrouble, IsUnmade, IsUnfetched, AreMarks, IsMoment, stage_call, WasStaged, WasUploaded, publish_call, IsPublishable, IsRevision, IsPlan, IsPieceGiven};
 ghost use Rattle.index_world.specs.Loading.{LoadsWorld, LoadsNone, LoadsAnew};
 ghost use Rattle.index_world.specs.Taking.{IsFaultBetween};
@@ -384,6 +384,33 @@ impl<S: ObjectStore, C: SteadyClock> World<S, C> {
             Ok(()) => Ok(true),
             Err(_) => Err(WorldError::StoreFault { before, after }),
         }
+    }
+
+    /// Marks all rows that have been staged for the grace of the configuration, and says how many. Where there is none nothing is
+    /// appended.
+    pub fn mark_stale(&mut self, alloc: Global) -> Result<u32, WorldError>
+        ensures step { (core : Core) (log : Log) → WorldStands self.old core log →
+            ActsWith WorldStands None mark_stale_call IsUnmade IsGiven result core log self.new }
+        // Over every store, sound or not.
+        ensures answers { IsAnswer (mark_stale_answered result) self.old self.new }
+    {
+        let before = self.store.faults();
+        self.ask();
+        self.life
+            .append(alloc, &mut self.store, Own::MarkStale, before)
+    }
+
+    /// Removes all marked rows that this life doomed, and says how many. Where there is none nothing is appended.
+    pub fn remove(&mut self, alloc: Global) -> Result<u32, WorldError>
+        ensures step { (core : Core) (log : Log) → WorldStands self.old core log →
+            ActsWith WorldStands None remove_call IsUnmade IsGiven result core log self.new }
+        // Over every store, sound or not.
+        ensures answers { IsAnswer (remove_answered result) self.old self.new }
+    {
+        let before = self.store.faults();
+        self.ask();
+        self.life
+            .append(alloc, &mut self.store, Own::Remove, before)
     }
 
     /// Deletes the file of the least row that is marked, released and not doomed yet, and gives its number, behind which it is

@@ -2,10 +2,8 @@
 use Rattle.std.proofs.Common.{◌≡◌, ℕ, ◌≤◌, List, [], ◌∷◌, ◌++◌, cond, true, take, drop, length, refl, sym, ap, ◌∙◌, subst, append_assoc, IsPermutation}
 use Rattle.std.proofs.lemmas.List.{append-nil, take-append-drop, take-take}
 use Rattle.std.proofs.Math.Seq.{take-length, take-append_seam}
-use Rattle.std.specs.FinMap.{get}
-use Rattle.std.specs.Prelude.{Option, Some, flat_map}
+use Rattle.std.specs.Prelude.{Some, flat_map}
 use Rattle.std.specs.List.{AllByRecursion}
-use Rattle.meta_journal.specs.Places.{split_key}
 use Rattle.meta_journal.specs.declared.entry.Entry.{Entry}
 use Rattle.meta_store.proofs.Numbers.{found_of, shown_more, true_false}
 use Rattle.meta_store.proofs.Seen.{published_is_visible}
@@ -13,26 +11,26 @@ use Rattle.meta_store.proofs.Sound.{sound, legal_take}
 use Rattle.meta_store.proofs.Within.{placed}
 use Rattle.meta_store.specs.Contents.{published_rows}
 use Rattle.meta_store.specs.History.{History, history}
-use Rattle.meta_store.specs.History.History.{Start, ◌▸◌}
+use Rattle.meta_store.specs.History.History.{Start}
 use Rattle.meta_store.specs.Ledgers.{ledger}
 use Rattle.meta_store.specs.Numbers.{is_shown, IsPlaced}
 use Rattle.meta_store.specs.Rows.{rows}
 use Rattle.meta_store.specs.State.{Legal}
 use Rattle.object_store.specs.Store.{State}
 use Rattle.source_log.specs.Log.{Log, IsLog}
-use Rattle.split_states.specs.Rows.{is_published, row_at}
+use Rattle.split_states.specs.Rows.{is_published}
 use Rattle.split_states.specs.declared.rows.Row.{Row}
 use Rattle.split_states.specs.declared.rows.RowState.{RowState}
 use Rattle.split_states.specs.declared.rows.RowState.TheVariants.{Staged, Published, Marked}
 use Rattle.index_config.specs.declared.config.IndexConfig.{IndexConfig}
 use Rattle.index_world.specs.Config.{reads}
 use Rattle.index_world.specs.Configuration.{configuration, config_or}
-use Rattle.index_world.specs.Index.{IsIndexOf, IsRowKept, IsRowSound}
+use Rattle.index_world.specs.Index.{IsIndexOf, IsRowKept}
 use Rattle.index_world.specs.Seen.{contents, meaning, accepted_records, visible}
 use Rattle.index_world.proofs.Configured.{configured-take, rows_under}
 use Rattle.root_search.proofs.Records.{visible_in_order}
 use Rattle.quick_node.specs.Serve.{IsPrefixOf}
-use Rattle.quick_node.specs.Once.{published, IsHeldIn, HoldsOnce, held_at, CoversAt, IsStanding, HoldsAt, IsLeftBy, IsLeft, AreLeft}
+use Rattle.quick_node.specs.Once.{IsHeldIn, HoldsOnce, CoversAt, IsLeftBy, IsLeft, AreLeft}
 
 -- ---- published rows
 

@@ -6,7 +6,7 @@ use Rattle.std.proofs.lemmas.List.{map-append, take_more}
 use Rattle.std.proofs.lemmas.List.Sums.{sum_by_more}
 use Rattle.lru.proofs.CallerLemmas.{Contains-lookup, Contains-remove_entry}
 use Rattle.meta_store.specs.declared.planning.PlanRow.{PlanRow}
-use Rattle.index_world.specs.Core.{Core, IsShownIn, IsStoredIn}
+use Rattle.index_world.specs.Core.{Core, IsStoredIn}
 use Rattle.index_world.proofs.InCore.{stored_is_shown}
 use Rattle.leaf_search.specs.FileRanges.{total}
 use Rattle.leaf_search.specs.declared.file_ranges.FileRange.{FileRange}

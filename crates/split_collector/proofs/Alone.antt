@@ -81,7 +81,7 @@ takes_end Between (ended outcome) core p ps passed = let none = passed.0 in absu
 -- ---- a step
 
 -- no call more is made behind the end
-ended_stays : (calls : ℕ) (outcome : Option Outcome) (fates : List Fate) (ends : List (List ℕ)) (core : Core) → alone calls (ended outcome) fates ends core ≡ stand (ended outcome) core
+pub ended_stays : (calls : ℕ) (outcome : Option Outcome) (fates : List Fate) (ends : List (List ℕ)) (core : Core) → alone calls (ended outcome) fates ends core ≡ stand (ended outcome) core
 ended_stays zero outcome fates ends core = refl
 ended_stays (suc calls) outcome fates ends core = ended_stays calls outcome (other_fates fates) ends core
 

@@ -38,7 +38,7 @@ found_none p first (suc count) n none low high = by (p first) refl none (λ rest
         at (inl same) = ap p (sym same) ∙ e
         at (inr above) = rest later above
 
-none_left : (core : Core) (behind end : Option (List ℕ)) → least_left behind end core ≡ None → (n : ℕ) → is_left core behind end n ≡ false
+pub none_left : (core : Core) (behind end : Option (List ℕ)) → least_left behind end core ≡ None → (n : ℕ) → is_left core behind end n ≡ false
 none_left core behind end none n = by (is_left core behind end n) refl
   where
     by : (b : Bool) → is_left core behind end n ≡ b → b ≡ false
@@ -139,7 +139,7 @@ module _ (Between : Core → Core → Type 0) where
         dooms = d;
         removes = three.0;
         pages = three.1;
-        are = ap (λ (l : List Passage). m ∷ (d ∷ l)) three.2;
+        are = ap (λ (l : List Passage). m ∷ (d ∷ l)) {x = ps} {y = three.0 ∷ three.1} three.2;
         none_stale = one.0;
         none_doomed = two.0;
         none_removed = three.3;

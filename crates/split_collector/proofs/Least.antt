@@ -42,7 +42,7 @@ least_among P a (x ∷ xs) one all = least_among P (min a x) xs (min_among P a x
 
 -- ---- the first number that passes a test
 
-found : (p : ℕ → Bool) (first count n : ℕ) → p n ≡ true → first ≤ n → n < first + count → ((m : ℕ) → p m ≡ true → n ≤ m) → find p (numbers_from first count) ≡ Some n
+pub found : (p : ℕ → Bool) (first count n : ℕ) → p n ≡ true → first ≤ n → n < first + count → ((m : ℕ) → p m ≡ true → n ≤ m) → find p (numbers_from first count) ≡ Some n
 found p first zero n passes low high least = absurd (omega arith)
 found p first (suc count) n passes low high least = by (p first) refl (λ above. found p (suc first) count n passes above (omega arith) least)
   where
@@ -64,7 +64,7 @@ none_found p first (suc count) none = by (p first) refl (none_found p (suc first
 -- ---- a page
 
 -- what is left is to be swept
-left_is_swept : (core : Core) (behind end : Option (List ℕ)) (n : ℕ) → is_left core behind end n ≡ true → is_swept core n ≡ true
+pub left_is_swept : (core : Core) (behind end : Option (List ℕ)) (n : ℕ) → is_left core behind end n ≡ true → is_swept core n ≡ true
 left_is_swept core behind end n e = (both (is_swept core n) (is_some (file_at core.files (split_key n)) && (is_behind behind (split_key n) && not (is_past end (split_key n)))) e).0
 
 -- and was staged

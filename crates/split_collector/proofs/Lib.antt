@@ -8,3 +8,4 @@ pub mod Stepping
 pub mod Alone
 pub mod Printing
 pub mod Idling
+pub mod OnePage

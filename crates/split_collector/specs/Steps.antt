@@ -1,6 +1,7 @@
 -- One step of a collector, given the fate of its calls.
 use Rattle.std.specs.Prelude.{◌≡◌, ℕ, suc, zero, ◌+◌, ◌*◌, Bool, true, false, List, [], ◌∷◌, ◌++◌, length, map, find, Option, Some, None, IsSome, Result, Ok, Err, ⊤}
 use Rattle.meta_store.specs.History.{history, last_number}
+use Rattle.object_store.specs.Store.{is_behind}
 use Rattle.index_world.specs.Calls.{Fate, calm_fate, Gives, Unmade, as_unmade, faulted, no_memory, refused, troubled}
 use Rattle.index_world.specs.CallsMade.{Ask, CallMade, IsRecorded, of_doom, of_mark_stale, of_remove, of_sweep, of_sweep_list}
 use Rattle.index_world.specs.Collecting.{IsSweepPage, doom_call, is_left, is_swept, list_call, mark_stale_call, remove_call, sweep_call}
@@ -210,3 +211,10 @@ ends_of (passage ∷ more) = with_end passage.luck.end (ends_of more)
 
 abbrev pub luck_of : List Passage → Luck
 luck_of passages = record { world = first_fate (fates_of passages); more = other_fates (fates_of passages); ends = ends_of passages; short = false }
+
+-- ---- pages
+
+-- keys that rise, the first behind another one
+abbrev pub RiseFrom : (behind : Option (List ℕ)) → List (List ℕ) → Type 0
+RiseFrom behind [] = ⊤
+RiseFrom behind (end ∷ ends) = (is_behind behind end ≡ true) × RiseFrom (Some end) ends

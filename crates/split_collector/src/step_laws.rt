@@ -1,12 +1,13 @@
 //! Laws of steps, over the definitions alone.
 
-ghost use Rattle.std.specs.Prelude.{◌≡◌, ◌↔◌, List, Option, Some};
-ghost use Rattle.index_world.specs.Core.{Core};
+ghost use Rattle.std.specs.Prelude.{◌≡◌, ◌↔◌, ◌+◌, ◌*◌, ◌^◌, ◌<◌, ◌≤◌, ℕ, List, [], length, Option, None, Some};
+ghost use Rattle.meta_store.specs.History.{history, last_number};
+ghost use Rattle.index_world.specs.Core.{Core, last_count};
 ghost use Rattle.index_world.specs.Gate.{NoneBetween};
 ghost use Rattle.split_collector.specs.Idle.{HadNothing};
 ghost use Rattle.split_collector.specs.Outcomes.{Outcome, Nothing};
-ghost use Rattle.split_collector.specs.Steps.{ArePassed, Passage, luck_of, ran, stand, step_collector};
-ghost use Rattle.split_collector.specs.Turns.{ended, to_mark};
+ghost use Rattle.split_collector.specs.Steps.{ArePassed, Passage, RiseFrom, alone, luck_of, ran, stand, step_collector};
+ghost use Rattle.split_collector.specs.Turns.{ended, to_list, to_mark};
 
 use index_world::Gate;
 
@@ -20,4 +21,10 @@ pub fn steps_alone()
 /// page had a number whose file was to be swept, from the first file to the last.
 pub fn nothing_is_exact<G: Gate>(_gate: &G)
     ensures { (passages : List Passage) (core : Core) → ArePassed G.Between to_mark core passages → ((ran to_mark core passages).turn ≡ ended (Some Nothing)) ↔ HadNothing passages }
+{}
+
+/// Where nothing lands and nothing fails, it makes no difference to a sweep where its pages end: it is that of one page.
+pub fn pages_make_no_difference()
+    ensures { (ends : List (List ℕ)) (core : Core) (calls : ℕ) → RiseFrom None ends → core.store_faults ≤ last_count → last_number (history core.history) < 2 ^ 64 → 2 + 2 * length ends ≤ calls →
+        alone calls (to_list None) [] ends core ≡ alone 2 (to_list None) [] [] core }
 {}
