@@ -8,7 +8,7 @@ use Rattle.index_world.specs.Core.{Core}
 use Rattle.index_world.specs.Gate.{NoneBetween}
 use Rattle.split_collector.specs.Outcomes.{Outcome}
 use Rattle.split_collector.specs.Steps.{ArePassed, CallLuck, Passage, Stand, alone, end_at, ends_behind, ends_of, fates_of, first_end, luck_of, max_calls, other_ends, other_fates, outcomes, page_by, ran, stand, step_collector, stepped, turned, with_end}
-use Rattle.split_collector.specs.Turns.{Turn, behind_delete, behind_list, ended, page_turn, to_doom, to_list, to_mark, to_remove, to_sweep}
+use Rattle.split_collector.specs.Turns.{Turn, behind_delete, behind_list, ended, next_behind, page_turn, to_doom, to_list, to_mark, to_remove, to_sweep}
 
 -- ---- behind a page that is the last no other one is listed
 
@@ -20,7 +20,7 @@ IsClosed (to_list behind) = ⊥
 IsClosed (to_sweep number next) = next ≡ None
 IsClosed (ended outcome) = Unit {0}
 
-closed_page : (behind : Option (List ℕ)) (core : Core) (answer : Result ⊤ Unmade) → IsClosed (behind_list outcomes behind (page_by behind None core answer))
+closed_page : (behind : Option (List ℕ)) (core : Core) (answer : Result ⊤ Unmade) → IsClosed (behind_list outcomes (page_by behind None core answer))
 closed_page behind core (Ok done) = by _
   where
     by : (least : Option ℕ) → IsClosed (page_turn outcomes least None)
@@ -36,7 +36,7 @@ closed_delete number (Err unmade) = tt
 closed_list : (behind : Option (List ℕ)) (luck : CallLuck) (core : Core) → luck.end ≡ None → IsClosed (turned (to_list behind) luck core).turn
 closed_list behind luck core last =
     let given = as_unmade (list_call luck.fate core) in
-    subst (λ (end : Option (List ℕ)). IsClosed (behind_list outcomes behind (page_by behind end given.core given.answer))) (sym last) (closed_page behind given.core given.answer)
+    subst (λ (end : Option (List ℕ)). IsClosed (behind_list outcomes (page_by behind (next_behind behind end) given.core given.answer))) (sym last) (closed_page behind given.core given.answer)
 
 closed_sweep : (number : ℕ) (next : Option (List ℕ)) (luck : CallLuck) (core : Core) → next ≡ None → IsClosed (turned (to_sweep number next) luck core).turn
 closed_sweep number next luck core last =

@@ -2,13 +2,14 @@
 use Rattle.std.proofs.Common.{◌≡◌, ℕ, min, Bool, true, false, List, refl, sym, ap, ◌∙◌, subst, arith, Option, Some, None, Result, Ok, Err}
 use Rattle.std.proofs.lemmas.Bool.Decides.{nat_tests}
 use Rattle.std.specs.List.{reduce}
-use Rattle.std.specs.Prelude.{⊤, ◌==◌, if◌then◌else◌, IfSome, IsErrAnd}
+use Rattle.std.specs.Prelude.{⊤, ◌==◌, if◌then◌else◌, IfSome, IsErrAnd, IsSome}
 use Rattle.std.specs.declared.alloc.AllocError.{AllocError}
+use Rattle.object_store.specs.Store.{is_behind}
 use Rattle.source_log.specs.Log.{Log}
 use Rattle.index_world.specs.Calls.{Fate, Gives, Trouble, Unmade, as_unmade, gives, troubled}
 use Rattle.index_world.specs.CallsMade.{CallMade, IsShort, of_doom, of_mark_stale, of_remove, of_sweep, of_sweep_list}
 use Rattle.index_world.specs.Collecting.{IsSweepPage, doom_call, is_swept, list_call, mark_stale_call, remove_call, sweep_call}
-use Rattle.index_world.specs.Core.{Core}
+use Rattle.index_world.specs.Core.{Core, file_at}
 use Rattle.index_world.specs.Gate.{Does, DoesWith, IsGiven, IsSoundCore, IsTrouble, IsUnmade, Says, SaysWith}
 use Rattle.index_world.specs.declared.tokens.SweepPage.{SweepPage}
 use Rattle.index_world.specs.declared.world_error.WorldError.{WorldError}
@@ -83,17 +84,26 @@ end_of : Result SweepPage WorldError → Option (List ℕ)
 end_of (Ok page) = page.next
 end_of (Err error) = None
 
+-- a page of the code ends where the next one begins
+end_goes : (behind : Option (List ℕ)) (page : SweepPage) (core : Core) → IsSweepPage behind page core → next_behind behind page.next ≡ page.next
+end_goes behind page core s = by page.next s.goes_on
+  where
+    by : (end : Option (List ℕ)) → IfSome end (λ key. (is_behind behind key ≡ true) × IsSome (file_at core.files key)) → next_behind behind end ≡ end
+    by None goes = refl
+    by (Some key) goes = ap (λ (b : Bool). if b then Some key else None) goes.0
+
 listed_alike : (behind : Option (List ℕ)) (answer : Result SweepPage WorldError) (given : Result ⊤ Unmade) (after : Core) → Says IsUnmade (IsSweepPage behind) answer given after
-    → Alike (behind_list told behind (page_of answer)) (behind_list outcomes behind (page_by behind (end_of answer) after given))
+    → Alike (behind_list told (page_of behind answer)) (behind_list outcomes (page_by behind (next_behind behind (end_of answer)) after given))
 unfolding end_of
 listed_alike behind (Ok page) (Ok done) after s =
-    subst (λ (o : Option ℕ). Alike (page_turn told o (next_behind behind page.next)) (page_turn outcomes (least_left behind page.next after) (next_behind behind page.next))) (sym (least_of_page behind page after s))
-    (page_alike (least_left behind page.next after) (next_behind behind page.next))
+    let next = next_behind behind page.next in
+    let least : reduce min page.numbers.items ≡ least_left behind next after = least_of_page behind page after s ∙ ap (λ (e : Option (List ℕ)). least_left behind e after) (sym (end_goes behind page after s)) in
+    subst (λ (o : Option ℕ). Alike (page_turn told o next) (page_turn outcomes (least_left behind next after) next)) (sym least) (page_alike (least_left behind next after) next)
 listed_alike behind (Ok page) (Err unmade) after s = absurd s
 listed_alike behind (Err error) (Ok done) after s = absurd s
 listed_alike behind (Err error) (Err unmade) after s = failed_alike error unmade s
 
-listed_short : (behind : Option (List ℕ)) (answer : Result SweepPage WorldError) (given : Result ⊤ Unmade) (after : Core) → Says IsUnmade (IsSweepPage behind) answer given after → IsShort answer → behind_list outcomes behind (page_by behind (end_of answer) after given) ≡ ended None
+listed_short : (behind : Option (List ℕ)) (answer : Result SweepPage WorldError) (given : Result ⊤ Unmade) (after : Core) → Says IsUnmade (IsSweepPage behind) answer given after → IsShort answer → behind_list outcomes (page_by behind (next_behind behind (end_of answer)) after given) ≡ ended None
 listed_short behind (Ok page) given after s short = absurd short
 listed_short behind (Err error) (Ok done) after s short = absurd s
 listed_short behind (Err error) (Err unmade) after s short = ap (λ (o : Option Outcome). ended o) (want_is_none error unmade s short)
@@ -182,17 +192,17 @@ module _ {W : Type 0} (Stands : W → Core → Log → Type 0) (Between : Core �
 
   -- a listing, whose page has a least number that is to be swept
   pub lists : (behind : Option (List ℕ)) (answer : Result SweepPage WorldError) → Does Stands Between Owns Adds None (of_sweep_list behind) list_call IsTrouble (IsSweepPage behind) answer core log old new
-      → (f : CollectsAs Stands Between Adds (to_list behind) (behind_list told behind (page_of answer)) core log old new) × IsToSweep answer f.after
+      → (f : CollectsAs Stands Between Adds (to_list behind) (behind_list told (page_of behind answer)) core log old new) × IsToSweep answer f.after
   lists behind answer d =
       let a = d.acts in
       let given = unmade_of a.answer in
       let says = unmade_page (IsSweepPage behind) answer a.answer a.after a.says in
       let luck : CallLuck = record { fate = a.fate; end = end_of answer } in
-      let reached = behind_list outcomes behind (page_by behind (end_of answer) a.after given) in
+      let reached = behind_list outcomes (page_by behind (next_behind behind (end_of answer)) a.after given) in
       let one =
-      one_collects_at Stands Between Adds goes (to_list behind) reached (behind_list told behind (page_of answer)) (of_sweep_list behind) luck core d.mid a.after log old new d.made refl d.passed
+      one_collects_at Stands Between Adds goes (to_list behind) reached (behind_list told (page_of behind answer)) (of_sweep_list behind) luck core d.mid a.after log old new d.made refl d.passed
       (λ e. subst (λ (g : Gives Trouble ⊤). (page : SweepPage) × (page.next ≡ end_of answer) × IsSweepPage behind page g.core) (sym a.did) (listed_page behind answer a.answer a.after a.says (sym (ap (λ (g : Gives Trouble ⊤). g.answer) a.did) ∙ e)))
-      (ap (λ (g : Gives Unmade ⊤). page_given behind (end_of answer) g) (unmade_is (list_call a.fate d.mid) a.answer a.after a.did)) (listed_alike behind answer given a.after says) a.goes_on a.stands d.own
+      (ap (λ (g : Gives Unmade ⊤). page_given behind (next_behind behind (end_of answer)) g) (unmade_is (list_call a.fate d.mid) a.answer a.after a.did)) (listed_alike behind answer given a.after says) a.goes_on a.stands d.own
       (short_as (of_sweep_list behind) d.mid a.after (IsShort answer) (reached ≡ ended None) d.made (listed_short behind answer given a.after says) d.once) in
       (one.0, subst (λ (c : Core). IsToSweep answer c) (sym one.1) (listed_swept behind answer given a.after says))
 

@@ -122,7 +122,7 @@ answered_core : {E A B : Type 0} (b : B) (answer : Result A E) (core : Core) →
 answered_core b (Ok a) core = refl
 answered_core b (Err e) core = refl
 
-swept_history : (swept : Bool) (call : Call) (number : ℕ) (core : Core) → (sweep_if swept call number core).core.history ≡ core.history
+pub swept_history : (swept : Bool) (call : Call) (number : ℕ) (core : Core) → (sweep_if swept call number core).core.history ≡ core.history
 swept_history false call number core = refl
 swept_history true call number core =
     let given = file_deleted call (split_key number) core in

@@ -108,11 +108,11 @@ module _ (Between : Core → Core → Type 0) where
       page None next c passed' e' further = (refl, next_page next c passed' e' further)
       page (Some number) next c passed' e' further = absurd (none_else number next c ps passed' e')
 
-      by : (answer : Result ⊤ Trouble) (c : Core) → let left = page_given behind p.luck.end (troubled_by answer c) in ArePassed Between left.turn left.core ps → (ran left.turn left.core ps).turn ≡ idle → Further ps
-          → (answer ≡ Ok tt) × ((n : ℕ) → is_left c behind p.luck.end n ≡ false) × MatchOption (next_behind behind p.luck.end) (ps ≡ []) (λ key. GaveNone (Some key) ps)
+      by : (answer : Result ⊤ Trouble) (c : Core) → let left = page_given behind (next_behind behind p.luck.end) (troubled_by answer c) in ArePassed Between left.turn left.core ps → (ran left.turn left.core ps).turn ≡ idle → Further ps
+          → (answer ≡ Ok tt) × ((n : ℕ) → is_left c behind (next_behind behind p.luck.end) n ≡ false) × MatchOption (next_behind behind p.luck.end) (ps ≡ []) (λ key. GaveNone (Some key) ps)
       by (Ok done) c passed' e' further =
-          let given = page (least_left behind p.luck.end c) (next_behind behind p.luck.end) c passed' e' further in
-          (refl, none_left c behind p.luck.end given.0, given.1)
+          let given = page (least_left behind (next_behind behind p.luck.end) c) (next_behind behind p.luck.end) c passed' e' further in
+          (refl, none_left c behind (next_behind behind p.luck.end) given.0, given.1)
       by (Err trouble) c passed' e' further = absurd (failed_never (troubled trouble) (end_is (failed_with (troubled trouble)) c ps passed' e').0)
 
   removes_none : (core : Core) (ps : List Passage) → ArePassed Between to_remove core ps → (ran to_remove core ps).turn ≡ idle → (p : Passage) × (pages : List Passage) × (ps ≡ p ∷ pages) × ((remove_call p.luck.fate p.core).answer ≡ Ok 0) × GaveNone None pages
@@ -152,8 +152,8 @@ listed_none : (behind : Option (List ℕ)) (core : Core) (ps : List Passage) →
 listed_none behind core [] none = absurd none
 listed_none behind core (p ∷ ps) none =
     let given = list_call p.luck.fate p.core in
-    ap (λ (r : Result ⊤ Trouble). let left = page_given behind p.luck.end (troubled_by r given.core) in (ran left.turn left.core ps).turn) none.0
-    ∙ ap (λ (o : Option ℕ). (ran (page_turn outcomes o (next_behind behind p.luck.end)) given.core ps).turn) (least_none given.core behind p.luck.end none.1)
+    ap (λ (r : Result ⊤ Trouble). let left = page_given behind (next_behind behind p.luck.end) (troubled_by r given.core) in (ran left.turn left.core ps).turn) none.0
+    ∙ ap (λ (o : Option ℕ). (ran (page_turn outcomes o (next_behind behind p.luck.end)) given.core ps).turn) (least_none given.core behind (next_behind behind p.luck.end) none.1)
     ∙ by (next_behind behind p.luck.end) given.core none.2 (λ key more. listed_none (Some key) given.core ps more)
   where
     by : (next : Option (List ℕ)) (c : Core) → MatchOption next (ps ≡ []) (λ key. GaveNone (Some key) ps) → ((key : List ℕ) → GaveNone (Some key) ps → (ran (to_list (Some key)) c ps).turn ≡ idle) → (ran (paging outcomes next) c ps).turn ≡ idle

@@ -1,22 +1,24 @@
--- Where nothing lands and nothing fails, a sweep is that of one page.
+-- Where all calls are calm, a step comes to the same wherever the pages of its sweep end.
 use Rattle.std.proofs.Common.{◌≡◌, ◌⊎◌, inl, inr, ℕ, zero, suc, ◌+◌, ◌*◌, ◌^◌, ◌≤◌, ◌<◌, min, Bool, true, false, cond, List, [], ◌∷◌, length, refl, sym, ap, ◌∙◌, subst, arith, Option, Some, None, Result, Ok, Err}
 use Rattle.std.specs.Cmp.Lexicographic.{slice_cmp}
+use Rattle.std.specs.List.{AllByRecursion}
 use Rattle.std.specs.Ordering.{is_lt, nat_cmp}
-use Rattle.std.specs.Prelude.{⊤, ◌&&◌, not, is_some, find, if◌then◌else◌}
+use Rattle.std.specs.Prelude.{⊤, ◌&&◌, ◌==◌, not, is_some, find, if◌then◌else◌}
 use Rattle.std.specs.declared.cmp.Ordering.{Ordering}
 use Rattle.std.specs.declared.cmp.Ordering.TheVariants.{Less, Equal, Greater}
 use Rattle.meta_journal.proofs.KeyOrder.{keys_rise, less_then}
 use Rattle.meta_journal.specs.Places.{meta_key, split_key}
+use Rattle.meta_journal.specs.declared.entry.Entry.{Entry}
 use Rattle.meta_store.specs.History.{history, last_number}
 use Rattle.object_store.specs.Store.{is_behind}
-use Rattle.index_world.specs.Calls.{Fate, Gives, Trouble, as_unmade, begun, calm_call, calm_fate, gives, without_file}
-use Rattle.index_world.specs.Collecting.{is_left, is_past, is_swept, list_call, sweep_call, sweep_if}
+use Rattle.index_world.specs.Calls.{Fate, Gives, Trouble, Unmade, as_unmade, begun, calm_call, calm_fate, gives, troubled, troubled_by, without_file}
+use Rattle.index_world.specs.Collecting.{doom_call, is_left, is_past, is_swept, list_call, mark_stale_call, remove_call, sweep_call, sweep_if}
 use Rattle.index_world.specs.Core.{Core, file_at, last_count}
-use Rattle.split_collector.specs.Outcomes.{Outcome, Nothing, Swept}
-use Rattle.split_collector.specs.Steps.{CallLuck, RiseFrom, Stand, alone, called, end_at, ends_behind, first_end, least_left, numbers_from, other_ends, outcomes, page_given, stand, turned}
-use Rattle.split_collector.specs.Turns.{Turn, behind_delete, ended, next_behind, page_turn, paging, to_list, to_sweep}
+use Rattle.split_collector.specs.Outcomes.{Doomed, Outcome, Nothing, Swept}
+use Rattle.split_collector.specs.Steps.{CallLuck, IsCalm, Luck, Stand, alone, called, calm_luck, end_at, ends_behind, failed_with, first_end, least_left, max_calls, numbers_from, other_ends, outcomes, page_given, stand, step_collector, stepped, turned}
+use Rattle.split_collector.specs.Turns.{Turn, behind_delete, behind_doom, behind_mark, behind_remove, counted, ended, next_behind, page_turn, paging, to_doom, to_list, to_mark, to_remove, to_sweep}
 use Rattle.split_collector.proofs.Alone.{ended_stays}
-use Rattle.split_collector.proofs.Gone.{both}
+use Rattle.split_collector.proofs.Gone.{both, swept_history}
 use Rattle.split_collector.proofs.Idling.{none_left}
 use Rattle.split_collector.proofs.Least.{found, in_range, left_is_swept}
 
@@ -143,60 +145,163 @@ first_page core behind end n small e =
 
 -- ---- calm calls
 
-min_is : (count last : ℕ) → count ≤ last → min (count + 0) last ≡ count
-min_is count last le = omega arith
+-- what a calm call of the store leaves
+abbrev capped : Core → Core
+capped core = begun calm_call core
 
-calm_begun : (core : Core) → core.store_faults ≤ last_count → begun calm_call core ≡ core
-calm_begun core le = ap (λ (n : ℕ). let c : Core = record core { store_faults = n } in c) (min_is core.store_faults last_count le)
+min_twice : (count last : ℕ) → min (min (count + 0) last + 0) last ≡ min (count + 0) last
+min_twice count last = omega arith
 
-calm_list : (core : Core) → core.store_faults ≤ last_count → list_call calm_fate core ≡ gives (Ok tt) core
-calm_list core le = ap (λ (c : Core). let g : Gives Trouble ⊤ = gives (Ok tt) c in g) (calm_begun core le)
-
-calm_delete : (core : Core) (number : ℕ) → core.store_faults ≤ last_count → is_swept core number ≡ true → sweep_call number calm_fate core ≡ gives (Ok true) (without_file (split_key number) core)
-calm_delete core number le swept =
-    ap (λ (b : Bool). sweep_if b calm_call number core) swept ∙ ap (λ (c : Core). let g : Gives Trouble Bool = gives (Ok true) (without_file (split_key number) c) in g) (calm_begun core le)
-
-listed : (behind end : Option (List ℕ)) (core : Core) → core.store_faults ≤ last_count → turned (to_list behind) (record { fate = calm_fate; end = end }) core ≡ stand (page_turn outcomes (least_left behind end core) (next_behind behind end)) core
-listed behind end core le = ap (λ (g : Gives Trouble ⊤). page_given behind end (as_unmade g)) (calm_list core le)
-
-deleted : (number : ℕ) (next : Option (List ℕ)) (core : Core) → core.store_faults ≤ last_count → is_swept core number ≡ true
-    → turned (to_sweep number next) (record { fate = calm_fate; end = None }) core ≡ stand (ended (Some (Swept number))) (without_file (split_key number) core)
-deleted number next core le swept = ap (λ (g : Gives Trouble Bool). called (behind_delete outcomes number next) (as_unmade g)) (calm_delete core number le swept)
-
--- ---- a sweep
+capped_twice : (core : Core) → capped (capped core) ≡ capped core
+capped_twice core = ap (λ (n : ℕ). let c : Core = record core { store_faults = n } in c) (min_twice core.store_faults last_count)
 
 -- the file of this number is deleted, if there is one
 swept_by : Option ℕ → Core → Stand
 swept_by None core = stand (ended (Some Nothing)) core
 swept_by (Some number) core = stand (ended (Some (Swept number))) (without_file (split_key number) core)
 
-number_swept : (calls number : ℕ) (next : Option (List ℕ)) (ends : List (List ℕ)) (core : Core) → 1 ≤ calls → core.store_faults ≤ last_count → is_swept core number ≡ true → alone calls (to_sweep number next) [] ends core ≡ swept_by (Some number) core
+number_swept : (calls number : ℕ) (next : Option (List ℕ)) (ends : List (List ℕ)) (core : Core) → 1 ≤ calls → is_swept core number ≡ true → alone calls (to_sweep number next) [] ends core ≡ swept_by (Some number) (capped core)
 unfolding swept_by
-number_swept zero number next ends core enough le swept = absurd (omega arith)
-number_swept (suc calls) number next ends core enough le swept =
-    ap (λ (s : Stand). alone calls s.turn [] ends s.core) (deleted number next core le swept) ∙ ended_stays calls (Some (Swept number)) [] ends (without_file (split_key number) core)
+number_swept zero number next ends core enough swept = absurd (omega arith)
+number_swept (suc calls) number next ends core enough swept =
+    ap (λ (b : Bool). let left = called (behind_delete outcomes number next) (as_unmade (sweep_if b calm_call number core)) in alone calls left.turn [] ends left.core) swept
+    ∙ ended_stays calls (Some (Swept number)) [] ends (without_file (split_key number) (capped core))
 
 least_swept : (core : Core) (behind end : Option (List ℕ)) (n : ℕ) → least_left behind end core ≡ Some n → is_swept core n ≡ true
 least_swept core behind end n e = left_is_swept core behind end n (found_is (is_left core behind end) 1 (last_number (history core.history)) n e).passes
 
-pages_swept : (ends : List (List ℕ)) (behind : Option (List ℕ)) (core : Core) (calls : ℕ) → RiseFrom behind ends → core.store_faults ≤ last_count → last_number (history core.history) < 2 ^ 64 → 2 + 2 * length ends ≤ calls
-    → alone calls (to_list behind) [] ends core ≡ swept_by (least_left behind None core) core
-unfolding swept_by
-pages_swept ends behind core zero rises le small enough = absurd (omega arith)
-pages_swept [] behind core (suc calls) rises le small enough =
-    ap (λ (s : Stand). alone calls s.turn [] [] s.core) (listed behind None core le) ∙ by (least_left behind None core) refl
-  where
-    by : (least : Option ℕ) → least_left behind None core ≡ least → alone calls (page_turn outcomes least None) [] [] core ≡ swept_by least core
-    by None e = ended_stays calls (Some Nothing) [] [] core
-    by (Some n) e = number_swept calls n None [] core (omega arith) le (least_swept core behind None n e)
-pages_swept (end ∷ ends) behind core (suc calls) rises le small enough =
-    ap (λ (s : Stand). alone calls s.turn [] ends s.core) (listed behind (Some end) core le)
-    ∙ (ap (λ (b : Bool). alone calls (page_turn outcomes (least_left behind (Some end) core) (if b then Some end else None)) [] ends core) rises.0
-    ∙ by (least_left behind (Some end) core) refl (pages_swept ends (Some end) core calls rises.1 le small (omega arith)))
-  where
-    by : (least : Option ℕ) → least_left behind (Some end) core ≡ least → alone calls (to_list (Some end)) [] ends core ≡ swept_by (least_left (Some end) None core) core → alone calls (page_turn outcomes least (Some end)) [] ends core ≡ swept_by (least_left behind None core) core
-    by None e rest = rest ∙ ap (λ (o : Option ℕ). swept_by o core) (sym (next_page core behind end rises.0 e))
-    by (Some n) e rest = number_swept calls n (Some end) ends core (omega arith) le (least_swept core behind (Some end) n e) ∙ ap (λ (o : Option ℕ). swept_by o core) (sym (first_page core behind end n small e))
+-- ---- a sweep
 
-pub one_page : (ends : List (List ℕ)) (core : Core) (calls : ℕ) → RiseFrom None ends → core.store_faults ≤ last_count → last_number (history core.history) < 2 ^ 64 → 2 + 2 * length ends ≤ calls → alone calls (to_list None) [] ends core ≡ alone 2 (to_list None) [] [] core
-one_page ends core calls rises le small enough = pages_swept ends None core calls rises le small enough ∙ sym (pages_swept [] None core 2 tt le small (omega arith))
+page_swept : (calls : ℕ) (least : Option ℕ) (ends : List (List ℕ)) (core : Core) → ((n : ℕ) → least ≡ Some n → is_swept core n ≡ true) → 1 ≤ calls → alone calls (page_turn outcomes least None) [] ends (capped core) ≡ swept_by least (capped core)
+unfolding swept_by
+page_swept calls None ends core swept enough = ended_stays calls (Some Nothing) [] ends (capped core)
+page_swept calls (Some n) ends core swept enough = number_swept calls n None ends (capped core) enough (swept n refl) ∙ ap (λ (c : Core). swept_by (Some n) c) (capped_twice core)
+
+last_page : (calls : ℕ) (behind : Option (List ℕ)) (ends : List (List ℕ)) (core : Core) → 1 ≤ calls → alone calls (page_turn outcomes (least_left behind None core) None) [] ends (capped core) ≡ swept_by (least_left behind None core) (capped core)
+last_page calls behind ends core enough = page_swept calls (least_left behind None core) ends core (λ n e. least_swept core behind None n e) enough
+
+pages_swept : (ends : List (List ℕ)) (behind : Option (List ℕ)) (core : Core) (calls : ℕ) → last_number (history core.history) < 2 ^ 64 → 2 + 2 * length ends ≤ calls → alone calls (to_list behind) [] ends core ≡ swept_by (least_left behind None core) (capped core)
+unfolding swept_by
+pages_swept ends behind core zero small enough = absurd (omega arith)
+pages_swept [] behind core (suc calls) small enough = last_page calls behind [] core (omega arith)
+pages_swept (end ∷ ends) behind core (suc calls) small enough = by (is_behind behind end) refl (pages_swept ends (Some end) (capped core) calls small (omega arith))
+  where
+    page : (least : Option ℕ) → is_behind behind end ≡ true → least_left behind (Some end) core ≡ least → alone calls (to_list (Some end)) [] ends (capped core) ≡ swept_by (least_left (Some end) None core) (capped (capped core))
+        → alone calls (page_turn outcomes least (Some end)) [] ends (capped core) ≡ swept_by (least_left behind None core) (capped core)
+    page None rises e rest =
+        rest ∙ (ap (λ (c : Core). swept_by (least_left (Some end) None core) c) (capped_twice core) ∙ ap (λ (o : Option ℕ). swept_by o (capped core)) (sym (next_page core behind end rises e)))
+    page (Some n) rises e rest =
+        number_swept calls n (Some end) ends (capped core) (omega arith) (least_swept core behind (Some end) n e)
+        ∙ (ap (λ (c : Core). swept_by (Some n) c) (capped_twice core) ∙ ap (λ (o : Option ℕ). swept_by o (capped core)) (sym (first_page core behind end n small e)))
+
+    by : (b : Bool) → is_behind behind end ≡ b → alone calls (to_list (Some end)) [] ends (capped core) ≡ swept_by (least_left (Some end) None core) (capped (capped core))
+        → (let next = if b then Some end else None in alone calls (page_turn outcomes (least_left behind next core) next) [] ends (capped core)) ≡ swept_by (least_left behind None core) (capped core)
+    by true rises rest = page (least_left behind (Some end) core) rises refl rest
+    by false rises rest = last_page calls behind ends core (omega arith)
+
+-- a sweep takes no entry in
+abbrev InSweep : Turn (Option Outcome) → Type 0
+InSweep to_mark = ⊥
+InSweep to_doom = ⊥
+InSweep to_remove = ⊥
+InSweep (to_list behind) = Unit {0}
+InSweep (to_sweep number next) = Unit {0}
+InSweep (ended outcome) = Unit {0}
+
+paging_in : (next : Option (List ℕ)) → InSweep (paging outcomes next)
+paging_in None = tt
+paging_in (Some key) = tt
+
+page_in : (least : Option ℕ) (next : Option (List ℕ)) → InSweep (page_turn outcomes least next)
+page_in None next = paging_in next
+page_in (Some number) next = tt
+
+delete_in : (number : ℕ) (next : Option (List ℕ)) (answer : Result Bool Unmade) → InSweep (behind_delete outcomes number next answer)
+delete_in number next (Ok true) = tt
+delete_in number next (Ok false) = paging_in next
+delete_in number next (Err unmade) = tt
+
+unmade_core : {A : Type 0} (answer : Result A Trouble) (core : Core) → (troubled_by answer core).core ≡ core
+unmade_core (Ok a) core = refl
+unmade_core (Err trouble) core = refl
+
+same_history : (calls : ℕ) (turn : Turn (Option Outcome)) (ends : List (List ℕ)) (core : Core) → InSweep turn → (alone calls turn [] ends core).core.history ≡ core.history
+same_history zero turn ends core inside = refl
+same_history (suc calls) to_mark ends core inside = absurd inside
+same_history (suc calls) to_doom ends core inside = absurd inside
+same_history (suc calls) to_remove ends core inside = absurd inside
+same_history (suc calls) (to_list behind) ends core inside =
+    let next = next_behind behind (first_end ends) in
+    same_history calls (page_turn outcomes (least_left behind next core) next) (other_ends ends) (capped core) (page_in (least_left behind next core) next)
+same_history (suc calls) (to_sweep number next) ends core inside =
+    let given = sweep_call number calm_fate core in
+    let left = called (behind_delete outcomes number next) (as_unmade given) in
+    same_history calls left.turn ends left.core (delete_in number next (as_unmade given).answer)
+    ∙ (ap (λ (c : Core). c.history) (unmade_core given.answer given.core) ∙ swept_history (is_swept core number) calm_call number core)
+same_history (suc calls) (ended outcome) ends core inside = same_history calls (ended outcome) ends core tt
+
+-- ---- a step
+
+-- so many calls come to the same, wherever pages end
+abbrev IsSame : (calls fewer : ℕ) (ends : List (List ℕ)) → Turn (Option Outcome) → Core → Type 0
+IsSame calls fewer ends turn core = last_number (history (alone calls turn [] ends core).core.history) < 2 ^ 64 → alone calls turn [] ends core ≡ alone fewer turn [] [] core
+
+ended_same : (calls fewer : ℕ) (ends : List (List ℕ)) (outcome : Option Outcome) (core : Core) → IsSame calls fewer ends (ended outcome) core
+ended_same calls fewer ends outcome core small = ended_stays calls outcome [] ends core ∙ sym (ended_stays fewer outcome [] [] core)
+
+counted_same : (calls fewer : ℕ) (ends : List (List ℕ)) (does : ℕ → Option Outcome) (other : Turn (Option Outcome)) (answer : Result ℕ Unmade) (core : Core) → IsSame calls fewer ends other core → IsSame calls fewer ends (counted outcomes does other answer) core
+counted_same calls fewer ends does other (Ok n) core same =
+    elim (n == 0) as (λ b. IsSame calls fewer ends (if b then other else ended (does n)) core) [ true ↦ same | false ↦ ended_same calls fewer ends (does n) core ]
+counted_same calls fewer ends does other (Err unmade) core same = ended_same calls fewer ends (failed_with unmade) core
+
+doomed_same : (calls fewer : ℕ) (ends : List (List ℕ)) (answer : Result (Option ℕ) Trouble) (core : Core) → ((c : Core) → IsSame calls fewer ends to_remove c) → let left = called (behind_doom outcomes) (troubled_by answer core) in IsSame calls fewer ends left.turn left.core
+doomed_same calls fewer ends (Ok None) core same = same core
+doomed_same calls fewer ends (Ok (Some n)) core same = ended_same calls fewer ends (Some (Doomed n)) core
+doomed_same calls fewer ends (Err trouble) core same = ended_same calls fewer ends (failed_with (troubled trouble)) core
+
+sweep_same : (calls : ℕ) (ends : List (List ℕ)) (core : Core) → 2 + 2 * length ends ≤ calls → IsSame calls 2 ends (to_list None) core
+sweep_same calls ends core enough small =
+    let low : last_number (history core.history) < 2 ^ 64 = subst (λ (es : List Entry). last_number (history es) < 2 ^ 64) (same_history calls (to_list None) ends core tt) small in
+    pages_swept ends None core calls low enough ∙ sym (pages_swept [] None core 2 low (omega arith))
+
+remove_same : (calls : ℕ) (ends : List (List ℕ)) (core : Core) → 2 + 2 * length ends ≤ calls → IsSame (suc calls) 3 ends to_remove core
+remove_same calls ends core enough =
+    let given = remove_call calm_fate core in
+    counted_same calls 2 ends outcomes.removed (to_list None) given.answer given.core (sweep_same calls ends given.core enough)
+
+doom_same : (calls : ℕ) (ends : List (List ℕ)) (core : Core) → 2 + 2 * length ends ≤ calls → IsSame (suc (suc calls)) 4 ends to_doom core
+doom_same calls ends core enough =
+    let given = doom_call calm_fate core in
+    doomed_same (suc calls) 3 ends given.answer given.core (λ c. remove_same calls ends c enough)
+
+mark_same : (calls : ℕ) (ends : List (List ℕ)) (core : Core) → 2 + 2 * length ends ≤ calls → IsSame (suc (suc (suc calls))) 5 ends to_mark core
+mark_same calls ends core enough =
+    let given = mark_stale_call calm_fate core in
+    counted_same (suc (suc calls)) 4 ends outcomes.marked to_doom given.answer given.core (doom_same calls ends given.core enough)
+
+pub one_page : (ends : List (List ℕ)) (core : Core) (calls : ℕ) → 5 + 2 * length ends ≤ calls → last_number (history (alone calls to_mark [] ends core).core.history) < 2 ^ 64 → alone calls to_mark [] ends core ≡ alone 5 to_mark [] [] core
+one_page ends core zero enough small = absurd (omega arith)
+one_page ends core (suc zero) enough small = absurd (omega arith)
+one_page ends core (suc (suc zero)) enough small = absurd (omega arith)
+one_page ends core (suc (suc (suc calls))) enough small = mark_same calls ends core (omega arith) small
+
+-- ---- calm fates
+
+calm_as_none : (calls : ℕ) (turn : Turn (Option Outcome)) (fates : List Fate) (ends : List (List ℕ)) (core : Core) → AllByRecursion (λ fate. fate ≡ calm_fate) fates → alone calls turn fates ends core ≡ alone calls turn [] ends core
+calm_as_none zero turn fates ends core calm = refl
+calm_as_none (suc calls) turn [] ends core calm = refl
+calm_as_none (suc calls) turn (fate ∷ fates) ends core calm =
+    let left = turned turn (record { fate = calm_fate; end = end_at turn ends }) core in
+    ap (λ (f : Fate). let given = turned turn (record { fate = f; end = end_at turn ends }) core in alone calls given.turn fates (ends_behind turn ends) given.core) calm.0
+    ∙ calm_as_none calls left.turn fates (ends_behind turn ends) left.core calm.1
+
+at_most : (ends : List (List ℕ)) (more : List Fate) → 5 + 2 * length ends ≤ 5 + 2 * length ends + length more
+at_most ends more = omega arith
+
+pub calm_same : (luck : Luck) (core : Core) → IsCalm luck → last_number (history (step_collector luck core).core.history) < 2 ^ 64 → step_collector luck core ≡ step_collector calm_luck core
+calm_same luck core calm small =
+    let all : AllByRecursion (λ fate. fate ≡ calm_fate) (luck.world ∷ luck.more) = (calm.world, calm.more) in
+    let none = calm_as_none (max_calls luck) to_mark (luck.world ∷ luck.more) luck.ends core all in
+    let low : last_number (history (alone (max_calls luck) to_mark [] luck.ends core).core.history) < 2 ^ 64 = subst (λ (s : Stand). last_number (history s.core.history) < 2 ^ 64) none small in
+    ap (λ (b : Bool). stepped b (alone (max_calls luck) to_mark (luck.world ∷ luck.more) luck.ends core)) calm.enough
+    ∙ ap (λ (s : Stand). stepped false s) (none ∙ (one_page luck.ends core (max_calls luck) (at_most luck.ends luck.more) low ∙ sym (calm_as_none 5 to_mark (calm_fate ∷ []) [] core (refl, tt))))

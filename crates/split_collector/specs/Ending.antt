@@ -1,5 +1,5 @@
 -- How a step ends, whatever its gate tells: by what its calls answered.
-use Rattle.std.specs.Prelude.{◌≡◌, List, [], ◌∷◌, min, Option, Some, None, Result, Ok, Err, ⊤}
+use Rattle.std.specs.Prelude.{◌≡◌, ℕ, List, [], ◌∷◌, min, Option, Some, None, Result, Ok, Err, ⊤}
 use Rattle.std.specs.List.{reduce}
 use Rattle.std.specs.declared.alloc.AllocError.{AllocError}
 use Rattle.meta_journal.specs.Places.{split_key}
@@ -10,7 +10,7 @@ use Rattle.index_world.specs.Collected.{SweepsFile}
 use Rattle.index_world.specs.declared.tokens.SweepPage.{SweepPage}
 use Rattle.index_world.specs.declared.world_error.WorldError.{WorldError}
 use Rattle.index_world.specs.declared.world_error.WorldError.TheVariants as errors
-use Rattle.split_collector.specs.Turns.{Page, Turn, Ways, behind_delete, behind_doom, behind_list, behind_mark, behind_remove, ended, to_doom, to_list, to_mark, to_remove, to_sweep}
+use Rattle.split_collector.specs.Turns.{Page, Turn, Ways, behind_delete, behind_doom, behind_list, behind_mark, behind_remove, ended, next_behind, to_doom, to_list, to_mark, to_remove, to_sweep}
 use Rattle.split_collector.specs.declared.outcome.CollectorOutcome.{CollectorOutcome as Said}
 use Rattle.split_collector.specs.declared.outcome.CollectorOutcome.TheVariants as said
 
@@ -34,16 +34,17 @@ told =
       failed = fault_said;
     }
 
-abbrev pub page_of : Result SweepPage WorldError → Result Page WorldError
-page_of (Ok page) = Ok (record { least = reduce min page.numbers.items; end = page.next })
-page_of (Err error) = Err error
+-- a page that was listed behind a key
+abbrev pub page_of : (behind : Option (List ℕ)) → Result SweepPage WorldError → Result Page WorldError
+page_of behind (Ok page) = Ok (record { least = reduce min page.numbers.items; next = next_behind behind page.next })
+page_of behind (Err error) = Err error
 
 -- A call that was answered so is the one of its turn, and leads to the next one.
 abbrev pub Leads : Turn Told → Answered → Turn Told → Type 0
 Leads to_mark (mark_stale_answered answer) next = next ≡ behind_mark told answer
 Leads to_doom (doom_answered answer) next = next ≡ behind_doom told answer
 Leads to_remove (remove_answered answer) next = next ≡ behind_remove told answer
-Leads (to_list behind) (list_answered from answer) next = (from ≡ behind) × (next ≡ behind_list told behind (page_of answer))
+Leads (to_list behind) (list_answered from answer) next = (from ≡ behind) × (next ≡ behind_list told (page_of behind answer))
 Leads (to_sweep number end) (sweep_answered swept answer) next = (swept ≡ number) × (next ≡ behind_delete told number end answer)
 Leads turn call next = ⊥
 

@@ -10,8 +10,8 @@ abbrev pub GaveNone : (behind : Option (List ℕ)) → List Passage → Type 0
 GaveNone behind [] = ⊥
 GaveNone behind (passage ∷ more) =
     let given = list_call passage.luck.fate passage.core in
-    (given.answer ≡ Ok tt) × ((n : ℕ) → is_left given.core behind passage.luck.end n ≡ false)
-    × MatchOption (next_behind behind passage.luck.end) (more ≡ []) (λ key. GaveNone (Some key) more)
+    let next = next_behind behind passage.luck.end in
+    (given.answer ≡ Ok tt) × ((n : ℕ) → is_left given.core behind next n ≡ false) × MatchOption next (more ≡ []) (λ key. GaveNone (Some key) more)
 
 -- No row was to be marked, none to be doomed, none to be removed, and no file to be swept, from the first one to the last.
 pub record HadNothing (passages : List Passage) : Type 0 where

@@ -1,14 +1,14 @@
 -- One step of a collector, given the fate of its calls.
 use Rattle.std.specs.Prelude.{◌≡◌, ℕ, suc, zero, ◌+◌, ◌*◌, Bool, true, false, List, [], ◌∷◌, ◌++◌, length, map, find, Option, Some, None, IsSome, Result, Ok, Err, ⊤}
+use Rattle.std.specs.List.{AllByRecursion}
 use Rattle.meta_store.specs.History.{history, last_number}
-use Rattle.object_store.specs.Store.{is_behind}
 use Rattle.index_world.specs.Calls.{Fate, calm_fate, Gives, Unmade, as_unmade, faulted, no_memory, refused, troubled}
 use Rattle.index_world.specs.CallsMade.{Ask, CallMade, IsRecorded, of_doom, of_mark_stale, of_remove, of_sweep, of_sweep_list}
 use Rattle.index_world.specs.Collecting.{IsSweepPage, doom_call, is_left, is_swept, list_call, mark_stale_call, remove_call, sweep_call}
 use Rattle.index_world.specs.Core.{Core}
 use Rattle.index_world.specs.declared.tokens.SweepPage.{SweepPage}
 use Rattle.split_collector.specs.Outcomes.{Outcome, MarkedStale, Doomed, Removed, Swept, Nothing, Refused, Faulted}
-use Rattle.split_collector.specs.Turns.{Page, Turn, Ways, behind_delete, behind_doom, behind_list, behind_mark, behind_remove, ended, to_doom, to_list, to_mark, to_remove, to_sweep}
+use Rattle.split_collector.specs.Turns.{Page, Turn, Ways, behind_delete, behind_doom, behind_list, behind_mark, behind_remove, ended, next_behind, to_doom, to_list, to_mark, to_remove, to_sweep}
 
 -- want of memory is no outcome
 abbrev pub failed_with : Unmade → Option Outcome
@@ -53,19 +53,19 @@ numbers_from first (suc count) = first ∷ numbers_from (suc first) count
 abbrev pub least_left : (behind end : Option (List ℕ)) → Core → Option ℕ
 least_left behind end core = find (is_left core behind end) (numbers_from 1 (last_number (history core.history)))
 
-abbrev pub page_by : (behind end : Option (List ℕ)) → Core → Result ⊤ Unmade → Result Page Unmade
-page_by behind end core (Ok done) = Ok (record { least = least_left behind end core; end = end })
-page_by behind end core (Err unmade) = Err unmade
+abbrev pub page_by : (behind next : Option (List ℕ)) → Core → Result ⊤ Unmade → Result Page Unmade
+page_by behind next core (Ok done) = Ok (record { least = least_left behind next core; next = next })
+page_by behind next core (Err unmade) = Err unmade
 
-abbrev pub page_given : (behind end : Option (List ℕ)) → Gives Unmade ⊤ → Stand
-page_given behind end given = stand (behind_list outcomes behind (page_by behind end given.core given.answer)) given.core
+abbrev pub page_given : (behind next : Option (List ℕ)) → Gives Unmade ⊤ → Stand
+page_given behind next given = stand (behind_list outcomes (page_by behind next given.core given.answer)) given.core
 
 -- a step's next call
 abbrev pub turned : Turn (Option Outcome) → CallLuck → Core → Stand
 turned to_mark luck core = called (behind_mark outcomes) (mark_stale_call luck.fate core)
 turned to_doom luck core = called (behind_doom outcomes) (as_unmade (doom_call luck.fate core))
 turned to_remove luck core = called (behind_remove outcomes) (remove_call luck.fate core)
-turned (to_list behind) luck core = page_given behind luck.end (as_unmade (list_call luck.fate core))
+turned (to_list behind) luck core = page_given behind (next_behind behind luck.end) (as_unmade (list_call luck.fate core))
 turned (to_sweep number next) luck core = called (behind_delete outcomes number next) (as_unmade (sweep_call number luck.fate core))
 turned (ended outcome) luck core = stand (ended outcome) core
 
@@ -196,6 +196,17 @@ AreRecorded turn (passage ∷ more) made =
     (ask : Ask) × (first : List CallMade) × (rest : List CallMade) × (ask_at turn ≡ Some ask) × (made ≡ first ++ rest)
     × IsRecorded ask passage.core left.core (left.turn ≡ ended None) first × AreRecorded left.turn more rest
 
+-- ---- calm
+
+abbrev pub calm_luck : Luck
+calm_luck = record { world = calm_fate; more = []; ends = []; short = false }
+
+-- every call of it is calm, wherever its pages end
+pub record IsCalm (luck : Luck) : Type 0 where
+  pub world : luck.world ≡ calm_fate
+  pub more : AllByRecursion (λ fate. fate ≡ calm_fate) luck.more
+  pub enough : luck.short ≡ false
+
 -- ---- the luck of a step between whose calls nobody acts
 
 abbrev pub fates_of : List Passage → List Fate
@@ -211,10 +222,3 @@ ends_of (passage ∷ more) = with_end passage.luck.end (ends_of more)
 
 abbrev pub luck_of : List Passage → Luck
 luck_of passages = record { world = first_fate (fates_of passages); more = other_fates (fates_of passages); ends = ends_of passages; short = false }
-
--- ---- pages
-
--- keys that rise, the first behind another one
-abbrev pub RiseFrom : (behind : Option (List ℕ)) → List (List ℕ) → Type 0
-RiseFrom behind [] = ⊤
-RiseFrom behind (end ∷ ends) = (is_behind behind end ≡ true) × RiseFrom (Some end) ends

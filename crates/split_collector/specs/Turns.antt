@@ -51,18 +51,18 @@ abbrev pub next_behind : (behind end : Option (List ℕ)) → Option (List ℕ)
 next_behind behind None = None
 next_behind behind (Some key) = if is_behind behind key then Some key else None
 
--- the least number of a page, and where it ends, if it isn't the last one
+-- the least number of a page, and behind which key the next one begins, if it isn't the last one
 pub record Page : Type 0 where
   pub least : Option ℕ
-  pub end : Option (List ℕ)
+  pub next : Option (List ℕ)
 
 abbrev pub page_turn : {O E : Type 0} → Ways O E → (least : Option ℕ) → (next : Option (List ℕ)) → Turn O
 page_turn ways None next = paging ways next
 page_turn ways (Some number) next = to_sweep number next
 
-abbrev pub behind_list : {O E : Type 0} → Ways O E → (behind : Option (List ℕ)) → Result Page E → Turn O
-behind_list ways behind (Ok page) = page_turn ways page.least (next_behind behind page.end)
-behind_list ways behind (Err error) = ended (ways.failed error)
+abbrev pub behind_list : {O E : Type 0} → Ways O E → Result Page E → Turn O
+behind_list ways (Ok page) = page_turn ways page.least page.next
+behind_list ways (Err error) = ended (ways.failed error)
 
 -- a number that isn't to be swept any more is passed over
 abbrev pub behind_delete : {O E : Type 0} → Ways O E → (number : ℕ) → (next : Option (List ℕ)) → Result Bool E → Turn O

@@ -9,4 +9,4 @@ mod tries;
 
 pub use collector::Collector;
 pub use outcome::{CollectorOutcome, print_outcome};
-pub use step_laws::{nothing_is_exact, pages_make_no_difference, steps_alone};
+pub use step_laws::{calm_steps_agree, nothing_is_exact, pages_make_no_difference, steps_alone};

@@ -1,13 +1,13 @@
 //! Laws of steps, over the definitions alone.
 
-ghost use Rattle.std.specs.Prelude.{◌≡◌, ◌↔◌, ◌+◌, ◌*◌, ◌^◌, ◌<◌, ◌≤◌, ℕ, List, [], length, Option, None, Some};
+ghost use Rattle.std.specs.Prelude.{◌≡◌, ◌↔◌, ◌+◌, ◌*◌, ◌^◌, ◌<◌, ◌≤◌, ℕ, List, [], length, Option, Some};
 ghost use Rattle.meta_store.specs.History.{history, last_number};
-ghost use Rattle.index_world.specs.Core.{Core, last_count};
+ghost use Rattle.index_world.specs.Core.{Core};
 ghost use Rattle.index_world.specs.Gate.{NoneBetween};
 ghost use Rattle.split_collector.specs.Idle.{HadNothing};
 ghost use Rattle.split_collector.specs.Outcomes.{Outcome, Nothing};
-ghost use Rattle.split_collector.specs.Steps.{ArePassed, Passage, RiseFrom, alone, luck_of, ran, stand, step_collector};
-ghost use Rattle.split_collector.specs.Turns.{ended, to_list, to_mark};
+ghost use Rattle.split_collector.specs.Steps.{ArePassed, IsCalm, Luck, Passage, alone, calm_luck, luck_of, ran, stand, step_collector};
+ghost use Rattle.split_collector.specs.Turns.{ended, to_mark};
 
 use index_world::Gate;
 
@@ -23,8 +23,14 @@ pub fn nothing_is_exact<G: Gate>(_gate: &G)
     ensures { (passages : List Passage) (core : Core) → ArePassed G.Between to_mark core passages → ((ran to_mark core passages).turn ≡ ended (Some Nothing)) ↔ HadNothing passages }
 {}
 
-/// Where nothing lands and nothing fails, it makes no difference to a sweep where its pages end: it is that of one page.
+/// Where all its calls are calm, a step comes to the same wherever the pages of its sweep end: what it sweeps is the least number that is left.
 pub fn pages_make_no_difference()
-    ensures { (ends : List (List ℕ)) (core : Core) (calls : ℕ) → RiseFrom None ends → core.store_faults ≤ last_count → last_number (history core.history) < 2 ^ 64 → 2 + 2 * length ends ≤ calls →
-        alone calls (to_list None) [] ends core ≡ alone 2 (to_list None) [] [] core }
+    ensures { (ends : List (List ℕ)) (core : Core) (calls : ℕ) → 5 + 2 * length ends ≤ calls → last_number (history (alone calls to_mark [] ends core).core.history) < 2 ^ 64 →
+        alone calls to_mark [] ends core ≡ alone 5 to_mark [] [] core }
+{}
+
+/// So each step whose calls are calm is the one.
+pub fn calm_steps_agree()
+    ensures { (luck : Luck) (core : Core) → IsCalm luck → last_number (history (step_collector luck core).core.history) < 2 ^ 64 →
+        step_collector luck core ≡ step_collector calm_luck core }
 {}
