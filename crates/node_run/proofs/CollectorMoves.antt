@@ -4,7 +4,7 @@ use Rattle.std.specs.Prelude.{Option, Some, None, Result, Ok, Err, ⊤}
 use Rattle.meta_journal.specs.Places.{split_key}
 use Rattle.meta_journal.specs.declared.entry.Entry.{Entry}
 use Rattle.split_states.specs.declared.rows.Row.{Row}
-use Rattle.index_world.specs.Calls.{Call, Fate, Gives, Made, made, exists, failed, Trouble, Unmade, as_unmade, begun, deleted_by, entry_of, file_deleted, get_at_end, may_append, may_fail, settled}
+use Rattle.index_world.specs.Calls.{Call, Fate, Gives, Made, made, exists, failed, Trouble, Unmade, as_unmade, begun, deleted_by, entry_of, file_deleted, get_at_end, may_append, may_fail, settled, troubled_by}
 use Rattle.index_world.specs.Collecting.{Offer, adopted_offer, answered_by, appended_if, doom_call, doom_next, doomed_by, first_offer, last_offer, list_call, mark_stale_call, next_doomed, nothing, offer_unless, remove_call, removal_offer, stale_offer, sweep_call, sweep_if, transact_if, is_swept}
 use Rattle.index_world.specs.Core.{Core}
 use Rattle.split_collector.specs.Outcomes.{Outcome}
@@ -14,7 +14,7 @@ use Rattle.node_run.proofs.CallMoves.{Moves, kept, same, stays, moves_on, begun_
 
 -- ---- an entry where the state offers one
 
-answered_same : {E A B : Type 0} (b : B) (r : Result A E) (core : Core) → (answered_by b r core).core ≡ core
+pub answered_same : {E A B : Type 0} (b : B) (r : Result A E) (core : Core) → (answered_by b r core).core ≡ core
 answered_same b (Ok a) core = refl
 answered_same b (Err e) core = refl
 
@@ -57,7 +57,7 @@ appended_if_moves fate none offered core =
 
 -- ---- deletes
 
-deleted_kept : (fails at_once : Bool) (before : ℕ) (key : List ℕ) (core : Core) → kept (deleted_by fails at_once before key core).core ≡ kept core
+pub deleted_kept : (fails at_once : Bool) (before : ℕ) (key : List ℕ) (core : Core) → kept (deleted_by fails at_once before key core).core ≡ kept core
 deleted_kept true true before key core = refl
 deleted_kept true false before key core = refl
 deleted_kept false at_once before key core = refl
@@ -66,7 +66,7 @@ file_deleted_moves : (call : Call) (key : List ℕ) (core : Core) → Moves core
 file_deleted_moves call key core =
     moves_on (begun_moves call core) (stays (deleted_kept (may_fail call core.store_faults) call.at_once core.store_faults key (begun call core)))
 
-doomed_kept : (number : ℕ) (r : Result ⊤ Trouble) (core : Core) → kept (doomed_by number r core).core ≡ kept core
+pub doomed_kept : (number : ℕ) (r : Result ⊤ Trouble) (core : Core) → kept (doomed_by number r core).core ≡ kept core
 doomed_kept number (Ok done) core = refl
 doomed_kept number (Err e) core = refl
 
@@ -81,9 +81,13 @@ sweep_if_moves : (b : Bool) (call : Call) (number : ℕ) (core : Core) → Moves
 sweep_if_moves false call number core = stays refl
 sweep_if_moves true call number core = moves_on (file_deleted_moves call (split_key number) core) (same (answered_same true _ _))
 
+pub unmade_same : {A : Type 0} (r : Result A Trouble) (core : Core) → (troubled_by r core).core ≡ core
+unmade_same (Ok a) core = refl
+unmade_same (Err e) core = refl
+
 -- ---- a step
 
-called_moves : (turn : Turn (Option Outcome)) (luck : CallLuck) (core : Core) → Moves core (turned turn luck core).core
+pub called_moves : (turn : Turn (Option Outcome)) (luck : CallLuck) (core : Core) → Moves core (turned turn luck core).core
 called_moves to_mark luck core = appended_if_moves luck.fate 0 stale_offer core
 called_moves to_doom luck core = moves_on (doom_moves luck.fate core) (troubled_moves _ _)
 called_moves to_remove luck core = appended_if_moves luck.fate 0 removal_offer core
@@ -91,7 +95,7 @@ called_moves (to_list behind) luck core = moves_on (file_got_moves luck.fate.fir
 called_moves (to_sweep number next) luck core = moves_on (sweep_if_moves (is_swept core number) luck.fate.first number core) (troubled_moves _ _)
 called_moves (ended outcome) luck core = stays refl
 
-alone_moves : (calls : ℕ) (turn : Turn (Option Outcome)) (fates : List Fate) (ends : List (List ℕ)) (core : Core) → Moves core (alone calls turn fates ends core).core
+pub alone_moves : (calls : ℕ) (turn : Turn (Option Outcome)) (fates : List Fate) (ends : List (List ℕ)) (core : Core) → Moves core (alone calls turn fates ends core).core
 alone_moves zero turn fates ends core = stays refl
 alone_moves (suc calls) turn fates ends core =
     moves_on (called_moves turn (record { fate = first_fate fates; end = end_at turn ends }) core) (alone_moves calls _ (other_fates fates) (ends_behind turn ends) _)

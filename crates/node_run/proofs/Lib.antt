@@ -6,6 +6,8 @@ pub mod Moving
 pub mod Spelling
 pub mod Calming
 pub mod CalmSteps
+pub mod CollectorCalms
+pub mod StagedNumbers
 pub mod Digits
 pub mod Begins
 pub mod Naming
@@ -16,6 +18,8 @@ pub mod Zips
 pub mod Names
 pub mod Places
 pub mod Refusals
+pub mod CallTells
+pub mod CollectorTells
 pub mod Telling
 pub mod Parts
 pub mod StillCalls

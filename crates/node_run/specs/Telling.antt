@@ -40,14 +40,14 @@ IndexerMayTell (indexing.Refused refusal) = Unit {0}
 IndexerMayTell (indexing.SourceFault before after) = Unit {0}
 IndexerMayTell (indexing.Faulted fault) = IsNotForeign fault
 
--- no entry of its own is refused, and no key is foreign
+-- no key is foreign
 abbrev pub CollectorMayTell : CollectorOutcome → Type 0
 CollectorMayTell (collecting.MarkedStale count) = Unit {0}
 CollectorMayTell (collecting.Doomed number) = Unit {0}
 CollectorMayTell (collecting.Removed count) = Unit {0}
 CollectorMayTell (collecting.Swept number) = Unit {0}
 CollectorMayTell collecting.Nothing = Unit {0}
-CollectorMayTell (collecting.Refused refusal) = ⊥
+CollectorMayTell (collecting.Refused refusal) = Unit {0}
 CollectorMayTell (collecting.Faulted fault) = IsNotForeign fault
 
 -- what a text asks is refused, or what it counts has too many buckets: nothing failed
