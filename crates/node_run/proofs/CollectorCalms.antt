@@ -90,10 +90,8 @@ module _ {B : Type 0} (none : B) (offered : Core → Option (Offer B)) where
   offer_still : (r : Result ⊤ Unmade) (offer : Offer B) (core : Core) → IsStill core → IsStill (offer_unless r calm_call calm_call calm_call none offered offer core).core
   offer_still (Err e) offer core s = s
   offer_still (Ok done) offer core s =
-      making_still core.standing core.store_faults offer (entry_of offer.act core) (begun calm_call core) s.standing (calm_still core s)
-    where
-      calm_still : (core : Core) → IsStill core → IsStill (begun calm_call core)
-      calm_still core s = record { late = s.late; standing = s.standing; unsure = s.unsure; below = (let below = s.below in omega (arith, below)) }
+      making_still core.standing core.store_faults offer (entry_of offer.act core) (begun calm_call core) s.standing
+      (record { late = s.late; standing = s.standing; unsure = s.unsure; below = omega (arith, s.below) })
 
   first_offer_still : (offer : Option (Offer B)) (core : Core) → IsStill core → IsStill (first_offer offer calm_call calm_call calm_call none offered core).core
   first_offer_still None core s = s
@@ -213,35 +211,41 @@ ended_alone : (calls : ℕ) (turn : Turn (Option Outcome)) (fates : List Fate) (
 ended_alone calls turn fates ends core e =
     ap (λ (t : Turn (Option Outcome)). (alone calls t fates ends core).turn) e ∙ ap (λ (s : Stand). s.turn) (ended_stays calls None fates ends core)
 
+module _ (calls : ℕ) (turn : Turn (Option Outcome)) (fates : List Fate) (ends : List (List ℕ)) (core : Core) (s : IsStill core) where
+  abbrev last_of : Stand → Stand
+  last_of l = alone calls l.turn (other_fates fates) (ends_behind turn ends) l.core
+
+  abbrev calm_last_of : Stand → Stand
+  calm_last_of l = alone calls l.turn [] (ends_behind turn ends) l.core
+
+  abbrev left : Stand
+  left = turned turn (record { fate = first_fate fates; end = end_at turn ends }) core
+
+  abbrev calm_left : Stand
+  calm_left = turned turn (record { fate = calm_fate; end = end_at turn ends }) core
+
+  -- behind its first call
+  next_calms : Same core (last_of left).core → ((l : Stand) → IsStill l.core → Same l.core (last_of l).core → StandCalms (last_of l) (calm_last_of l)) → StandCalms (last_of left) (calm_last_of calm_left)
+  next_calms same behind = by (turned_calms turn (first_fate fates) (end_at turn ends) core s left_same)
+    where
+      left_same : Same core left.core
+      left_same =
+          count_inside core.store_faults left.core.store_faults (last_of left).core.store_faults same s.below (called_moves turn (record { fate = first_fate fates; end = end_at turn ends }) core).later.rises
+          (alone_moves calls left.turn (other_fates fates) (ends_behind turn ends) left.core).later.rises
+
+      on : (l : Stand) → l ≡ left → IsStill l.core → StandCalms (last_of l) (calm_last_of l)
+      on l e still =
+          behind l still (ap (λ (x : Stand). (last_of x).core.store_faults) e ∙ (same ∙ sym (ap (λ (x : Stand). x.core.store_faults) e ∙ left_same)))
+
+      by : StandCalms left calm_left → StandCalms (last_of left) (calm_last_of calm_left)
+      by (inl none) = inl (ended_alone calls left.turn (other_fates fates) (ends_behind turn ends) left.core none)
+      by (inr e) = subst (λ (l : Stand). StandCalms (last_of l) (calm_last_of calm_left)) (sym e) (on calm_left (sym e) (turned_still turn (end_at turn ends) core s))
+
 alone_calms : (calls : ℕ) (turn : Turn (Option Outcome)) (fates : List Fate) (ends : List (List ℕ)) (core : Core) → IsStill core → Same core (alone calls turn fates ends core).core →
     StandCalms (alone calls turn fates ends core) (alone calls turn [] ends core)
 alone_calms zero turn fates ends core s same = inr refl
-alone_calms (suc calls) turn fates ends core s same = by (turned_calms turn (first_fate fates) (end_at turn ends) core s left_same)
-  where
-    left : Stand
-    left = turned turn (record { fate = first_fate fates; end = end_at turn ends }) core
-
-    calm_left : Stand
-    calm_left = turned turn (record { fate = calm_fate; end = end_at turn ends }) core
-
-    last : Stand
-    last = alone calls left.turn (other_fates fates) (ends_behind turn ends) left.core
-
-    left_same : Same core left.core
-    left_same =
-        count_inside core.store_faults left.core.store_faults last.core.store_faults same s.below (called_moves turn (record { fate = first_fate fates; end = end_at turn ends }) core).later.rises
-        (alone_moves calls left.turn (other_fates fates) (ends_behind turn ends) left.core).later.rises
-
-    on : (l : Stand) → l ≡ left → IsStill l.core → StandCalms (alone calls l.turn (other_fates fates) (ends_behind turn ends) l.core) (alone calls l.turn [] (ends_behind turn ends) l.core)
-    on l e still =
-        alone_calms calls l.turn (other_fates fates) (ends_behind turn ends) l.core still
-        (ap (λ (x : Stand). (alone calls x.turn (other_fates fates) (ends_behind turn ends) x.core).core.store_faults) e ∙ (same ∙ sym (ap (λ (x : Stand). x.core.store_faults) e ∙ left_same)))
-
-    by : StandCalms left calm_left → StandCalms last (alone calls calm_left.turn [] (ends_behind turn ends) calm_left.core)
-    by (inl none) = inl (ended_alone calls left.turn (other_fates fates) (ends_behind turn ends) left.core none)
-    by (inr e) =
-        subst (λ (l : Stand). StandCalms (alone calls l.turn (other_fates fates) (ends_behind turn ends) l.core) (alone calls calm_left.turn [] (ends_behind turn ends) calm_left.core)) (sym e)
-        (on calm_left (sym e) (turned_still turn (end_at turn ends) core s))
+alone_calms (suc calls) turn fates ends core s same =
+    next_calms calls turn fates ends core s same (λ l still counted. alone_calms calls l.turn (other_fates fates) (ends_behind turn ends) l.core still counted)
 
 abbrev pub CollectCalms : Stepped → Stepped → Type 0
 CollectCalms step calm_step = (step.outcome ≡ None) ⊎ (step ≡ calm_step)
@@ -271,13 +275,13 @@ pub collector_calms : (luck : Luck) (core : Core) → IsStill core → last_numb
     CollectCalms (step_collector luck core) (step_collector calm_collecting core)
 collector_calms luck core s small same = by luck.short (alone_calms (max_calls luck) to_mark (luck.world ∷ luck.more) luck.ends core s same)
   where
-    left : Stand
-    left = alone (max_calls luck) to_mark (luck.world ∷ luck.more) luck.ends core
+    whole : Stand
+    whole = alone (max_calls luck) to_mark (luck.world ∷ luck.more) luck.ends core
 
-    calm_left : Stand
-    calm_left = alone (max_calls luck) to_mark [] luck.ends core
+    calm_whole : Stand
+    calm_whole = alone (max_calls luck) to_mark [] luck.ends core
 
-    by : (short : Bool) → StandCalms left calm_left → CollectCalms (stepped short left) (step_collector calm_collecting core)
+    by : (short : Bool) → StandCalms whole calm_whole → CollectCalms (stepped short whole) (step_collector calm_collecting core)
     by true h = inl refl
     by false (inl none) = inl (ap outcome_at none)
     by false (inr e) =

@@ -358,12 +358,11 @@ client_turns node name new world' result up s =
     ap (λ b. client_turn_by b luck name node) up
     ∙ ap (client_stepped name node) s.did
 
-pub collecting_alone : {result : Result Collected AllocError} {world : Keeping} {core : Core} {log : Log} → CollectsAlone result world core log → Luck
+abbrev pub collecting_alone : {result : Result Collected AllocError} {world : Keeping} {core : Core} {log : Log} → CollectsAlone result world core log → Luck
 collecting_alone s = record { log = calm.log; world = s.luck.world; more = s.luck.more; ends = s.luck.ends; inner = s.luck.short; early = false; short = false }
 
 pub collector_turns : (node : Node) (world' : Keeping) (result : Result Collected AllocError) → node.down ≡ false → (s : CollectsAlone result world' node.core node.log) →
     full_turn (collecting_alone s) node StepCollector ≡ record { said = said_by_collector s.outcome; node = record node { core = s.after } }
-unfolding collecting_alone
 collector_turns node world' result up s = ap (λ b. collector_turn_by b (collecting_alone s) node) up ∙ ap (collector_stepped node) s.did
 
 pub collected_some : (given : Collected) (o : Option CollectorOutcome) → collects.Answers (Ok given) o → (x : CollectorOutcome) × (o ≡ Some x) × collects.IsSaid given x
