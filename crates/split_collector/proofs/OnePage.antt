@@ -3,7 +3,7 @@ use Rattle.std.proofs.Common.{◌≡◌, ◌⊎◌, inl, inr, ℕ, zero, suc, �
 use Rattle.std.specs.Cmp.Lexicographic.{slice_cmp}
 use Rattle.std.specs.List.{AllByRecursion}
 use Rattle.std.specs.Ordering.{is_lt, nat_cmp}
-use Rattle.std.specs.Prelude.{⊤, ◌&&◌, ◌==◌, not, is_some, find, if◌then◌else◌}
+use Rattle.std.specs.Prelude.{◌&&◌, ◌==◌, not, is_some, find, if◌then◌else◌}
 use Rattle.std.specs.declared.cmp.Ordering.{Ordering}
 use Rattle.std.specs.declared.cmp.Ordering.TheVariants.{Less, Equal, Greater}
 use Rattle.meta_journal.proofs.KeyOrder.{keys_rise, less_then}
@@ -11,12 +11,12 @@ use Rattle.meta_journal.specs.Places.{meta_key, split_key}
 use Rattle.meta_journal.specs.declared.entry.Entry.{Entry}
 use Rattle.meta_store.specs.History.{history, last_number}
 use Rattle.object_store.specs.Store.{is_behind}
-use Rattle.index_world.specs.Calls.{Fate, Gives, Trouble, Unmade, as_unmade, begun, calm_call, calm_fate, gives, troubled, troubled_by, without_file}
-use Rattle.index_world.specs.Collecting.{doom_call, is_left, is_past, is_swept, list_call, mark_stale_call, remove_call, sweep_call, sweep_if}
+use Rattle.index_world.specs.Calls.{Fate, Trouble, Unmade, as_unmade, begun, calm_call, calm_fate, troubled, troubled_by, without_file}
+use Rattle.index_world.specs.Collecting.{doom_call, is_left, is_past, is_swept, mark_stale_call, remove_call, sweep_call, sweep_if}
 use Rattle.index_world.specs.Core.{Core, file_at, last_count}
 use Rattle.split_collector.specs.Outcomes.{Doomed, Outcome, Nothing, Swept}
-use Rattle.split_collector.specs.Steps.{CallLuck, IsCalm, Luck, Stand, alone, called, calm_luck, end_at, ends_behind, failed_with, first_end, least_left, max_calls, numbers_from, other_ends, outcomes, page_given, stand, step_collector, stepped, turned}
-use Rattle.split_collector.specs.Turns.{Turn, behind_delete, behind_doom, behind_mark, behind_remove, counted, ended, next_behind, page_turn, paging, to_doom, to_list, to_mark, to_remove, to_sweep}
+use Rattle.split_collector.specs.Steps.{IsCalm, Luck, Stand, alone, called, calm_luck, end_at, ends_behind, failed_with, first_end, least_left, max_calls, numbers_from, other_ends, outcomes, stand, step_collector, stepped, turned}
+use Rattle.split_collector.specs.Turns.{Turn, behind_delete, behind_doom, counted, ended, next_behind, page_turn, paging, to_doom, to_list, to_mark, to_remove, to_sweep}
 use Rattle.split_collector.proofs.Alone.{ended_stays}
 use Rattle.split_collector.proofs.Gone.{both, swept_history}
 use Rattle.split_collector.proofs.Idling.{none_left}
