@@ -7,7 +7,7 @@ use Rattle.object_store.specs.Store.{State}
 use Rattle.source_checkpoint.specs.declared.delta.Part.{Part}
 use Rattle.source_log.specs.Log.{Log}
 use Rattle.split_states.specs.declared.facts.RowFacts.{RowFacts}
-use Rattle.index_world.specs.Calls.{Call, made, exists, failed, create_at_end, get_at_end, begun, taken_in, gives, Trouble, Unmade, settled, transact}
+use Rattle.index_world.specs.Calls.{done_never, Call, made, exists, failed, create_at_end, get_at_end, begun, taken_in, gives, Trouble, Unmade, settled, transact}
 use Rattle.index_world.specs.Core.{Core, last_count, clock_of}
 use Rattle.index_world.specs.Index.{IsUnused, HasStaged}
 use Rattle.index_world.specs.Onward.{Onward}
@@ -20,7 +20,7 @@ pub record Counted (core : Core) (now : ℕ) : Type 0 where
 
 -- the fate of a call that doesn't fail
 abbrev pub quiet : List ℕ → ℕ → Bool → Call
-quiet places rises short = record { lands = places; fails = false; at_once = false; rises = rises; short = short }
+quiet places rises short = record { lands = places; fails = false; effect = done_never; rises = rises; short = short }
 
 -- a create behind the history made its entry
 pub record MadeLaw (old new : State) (core : Core) (log : Log) (entry : Entry) (now : ℕ) : Type 0 where

@@ -8,7 +8,7 @@ use Rattle.meta_journal.specs.declared.entry.Entry.{Entry}
 use Rattle.meta_journal.specs.Places.{split_key}
 use Rattle.source_checkpoint.specs.declared.ledger.Checkpoint.{Checkpoint}
 use Rattle.source_log.specs.Log.{Log}
-use Rattle.index_world.specs.Calls.{Fate, Call, Trouble, faulted, no_memory, Unmade, Unread, not_read, Gives, Made, made, exists, failed, risen, may_fail, entry_lands, file_lands, land_at, all_landed, begun, tried, made_behind, made_at, create_at_end, taken_in, or_short, unless_short, asked_clock, asking, and_then_by, taken_unless, got_at, get_at_end, settle_made, settle_with, settled, fence_of, entry_of, may_append, last_made, last_unless, last_create, troubled_by, as_unmade, adopted_made, first_unless, transact, appended, looked, asked_and_looked, asked, file_by, file_made, got_file, file_got, Grace, unless_over, fetched, with_standing, read_journal, unless_empty, load_by, loaded}
+use Rattle.index_world.specs.Calls.{Effect, done_at_once, done_late, done_never, is_at_once, Fate, Call, Trouble, faulted, no_memory, Unmade, Unread, not_read, Gives, Made, made, exists, failed, risen, may_fail, entry_lands, file_lands, land_at, all_landed, begun, tried, made_behind, made_at, create_at_end, taken_in, or_short, unless_short, asked_clock, asking, and_then_by, taken_unless, got_at, get_at_end, settle_made, settle_with, settled, fence_of, entry_of, may_append, last_made, last_unless, last_create, troubled_by, as_unmade, adopted_made, first_unless, transact, appended, looked, asked_and_looked, asked, file_by, file_made, got_file, file_got, Grace, unless_over, fetched, with_standing, read_journal, unless_empty, load_by, loaded}
 use Rattle.index_world.specs.Calls as calls
 use Rattle.index_world.specs.Core.{Core, Late, late_entry, late_dead, late_file, file_at, last_count}
 use Rattle.index_world.specs.Gate.{stage_act}
@@ -109,22 +109,23 @@ begun_moves call core =
 
 -- ---- creates and gets at the end
 
-pub tried_kept : (b : Bool) (standing : Option Entry) (entry : Entry) (core : Core) → kept (tried b standing entry core) ≡ kept core
-tried_kept true None entry core = refl
-tried_kept true (Some other) entry core = refl
-tried_kept false standing entry core = refl
+pub tried_kept : (b : Effect) (standing : Option Entry) (entry : Entry) (core : Core) → kept (tried b standing entry core) ≡ kept core
+tried_kept done_at_once None entry core = refl
+tried_kept done_at_once (Some other) entry core = refl
+tried_kept done_late standing entry core = refl
+tried_kept done_never standing entry core = refl
 
 behind_kept : (standing : Option Entry) (entry : Entry) (core : Core) → kept (made_behind standing entry core).core ≡ kept core
 behind_kept None entry core = refl
 behind_kept (Some other) entry core = refl
 
-made_kept : (b c : Bool) (entry : Entry) (core : Core) → kept (made_at b c entry core).core ≡ kept core
+made_kept : (b : Bool) (c : Effect) (entry : Entry) (core : Core) → kept (made_at b c entry core).core ≡ kept core
 made_kept true c entry core = tried_kept c core.standing entry core
 made_kept false c entry core = behind_kept core.standing entry core
 
 create_moves : (call : Call) (entry : Entry) (core : Core) → Moves core (create_at_end call entry core).core
 create_moves call entry core =
-    moves_on (begun_moves call core) (stays (made_kept (may_fail call core.store_faults) call.at_once entry (begun call core)))
+    moves_on (begun_moves call core) (stays (made_kept (may_fail call core.store_faults) call.effect entry (begun call core)))
 
 taken_moves : (entry : Entry) (core : Core) → Moves core (taken_in entry core)
 taken_moves entry core =
@@ -151,7 +152,7 @@ then_moves (Err e) next m n = m
 
 got_moves : (b : Bool) (call : Call) (before : ℕ) (entry : Entry) (core : Core) → Moves core (got_at b call before entry core).core
 got_moves true call before entry core = stays refl
-got_moves false call before entry core = taken_unless_moves call.short (core.unsure || call.at_once) entry core
+got_moves false call before entry core = taken_unless_moves call.short (core.unsure || is_at_once call.effect) entry core
 
 get_moves : (call : Call) (entry : Entry) (before : ℕ) (core : Core) → Moves core (get_at_end call entry before core).core
 get_moves call entry before core =
@@ -228,17 +229,18 @@ asked_and_looked_moves fate core = asking_moves fate.unasked _ _ (λ c. looked_m
 asked_moves : (fate : Fate) (core : Core) → Moves core (asked fate core).core
 asked_moves fate core = asking_moves fate.unasked _ _ (λ c. stays refl)
 
-pub file_by_kept : (b c d : Bool) (before : ℕ) (key bytes : List ℕ) (core : Core) → kept (file_by b c d before key bytes core).core ≡ kept core
-file_by_kept true true true before key bytes core = refl
-file_by_kept true true false before key bytes core = refl
-file_by_kept true false d before key bytes core = refl
+pub file_by_kept : (b : Bool) (c : Effect) (d : Bool) (before : ℕ) (key bytes : List ℕ) (core : Core) → kept (file_by b c d before key bytes core).core ≡ kept core
+file_by_kept true done_at_once true before key bytes core = refl
+file_by_kept true done_at_once false before key bytes core = refl
+file_by_kept true done_late d before key bytes core = refl
+file_by_kept true done_never d before key bytes core = refl
 file_by_kept false c true before key bytes core = refl
 file_by_kept false c false before key bytes core = refl
 
 file_made_moves : (call : Call) (key bytes : List ℕ) (core : Core) → Moves core (file_made call key bytes core).core
 file_made_moves call key bytes core =
     or_short_moves call.short _ _ _
-    (moves_on (begun_moves call core) (stays (file_by_kept (may_fail call core.store_faults) call.at_once _ core.store_faults key bytes (begun call core))))
+    (moves_on (begun_moves call core) (stays (file_by_kept (may_fail call core.store_faults) call.effect _ core.store_faults key bytes (begun call core))))
 
 pub got_file_same : (b : Bool) (before : ℕ) (core : Core) → (got_file b before core).core ≡ core
 got_file_same true before core = refl

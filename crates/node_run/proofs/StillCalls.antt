@@ -7,7 +7,7 @@ use Rattle.meta_journal.specs.declared.entry.Entry.{Entry}
 use Rattle.meta_journal.specs.Places.{split_key}
 use Rattle.source_checkpoint.specs.declared.ledger.Checkpoint.{Checkpoint}
 use Rattle.source_log.specs.Log.{Log}
-use Rattle.index_world.specs.Calls.{Unmade, begun, calm_call, calm_fate, made_behind, adopted_making, first_unless, transact, appended, entry_of, may_append, unless_short, and_then, settle_with, looked, asked, asked_clock, asked_and_looked, file_by, file_made, Grace, fetched, reborn, unless_empty, loaded}
+use Rattle.index_world.specs.Calls.{done_never, Unmade, begun, calm_call, calm_fate, made_behind, adopted_making, first_unless, transact, appended, entry_of, may_append, unless_short, and_then, settle_with, looked, asked, asked_clock, asked_and_looked, file_by, file_made, Grace, fetched, reborn, unless_empty, loaded}
 use Rattle.index_world.specs.Core.{Core, file_at}
 use Rattle.index_world.specs.Gate.{stage_call, publish_call, stage_act}
 use Rattle.index_world.specs.SplitFile.{file_of}
@@ -60,7 +60,7 @@ looked_by_still false core e s = s
 looked_still : (core : Core) → IsStill core → IsStill (looked calm_fate core).core
 looked_still core s = looked_by_still core.unsure core s.unsure s
 
-file_still : (b : Bool) (before : ℕ) (key bytes : List ℕ) (core : Core) → IsStill core → IsStill (file_by false false b before key bytes core).core
+file_still : (b : Bool) (before : ℕ) (key bytes : List ℕ) (core : Core) → IsStill core → IsStill (file_by false done_never b before key bytes core).core
 file_still true before key bytes core s = s
 file_still false before key bytes core s = record { late = s.late; standing = s.standing; unsure = s.unsure; below = s.below }
 

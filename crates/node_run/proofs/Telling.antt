@@ -15,7 +15,7 @@ use Rattle.source_checkpoint.specs.declared.delta.StaleDelta.{StaleDelta}
 use Rattle.source_checkpoint.specs.declared.delta.StaleDelta.TheVariants as deltas
 use Rattle.source_checkpoint.specs.declared.ledger.Checkpoint.{Checkpoint}
 use Rattle.source_log.specs.Log.{Log}
-use Rattle.index_world.specs.Calls.{Fate, Call, Fault, store_fault, is_foreign, is_full, is_expired, Grace, unless_over, Trouble, faulted, no_memory, Unmade, refused, troubled, Unread, not_read, Gives, gives, Made, made, exists, failed, Making, risen, may_fail, entry_lands, file_lands, late_lands, without_late, land_at, all_landed, begun, with_file, tried, made_behind, made_at, create_at_end, taken_in, or_short, unless_short, asked_clock, asking, and_then, and_then_by, taken_unless, got_at, get_at_end, settle_made, settle_with, settled, fence_of, entry_of, may_append, last_made, last_unless, last_create, troubled_by, as_unmade, adopted_made, first_unless, transact, appended, looked, settled_and_copied, asked_and_looked, asked, file_by, file_made, got_file, file_got, fetched, unless_empty, read_journal, load_by, loaded}
+use Rattle.index_world.specs.Calls.{Effect, done_at_once, done_late, done_never, is_at_once, Fate, Call, Fault, store_fault, is_foreign, is_full, is_expired, Grace, unless_over, Trouble, faulted, no_memory, Unmade, refused, troubled, Unread, not_read, Gives, gives, Made, made, exists, failed, Making, risen, may_fail, entry_lands, file_lands, late_lands, without_late, land_at, all_landed, begun, with_file, tried, made_behind, made_at, create_at_end, taken_in, or_short, unless_short, asked_clock, asking, and_then, and_then_by, taken_unless, got_at, get_at_end, settle_made, settle_with, settled, fence_of, entry_of, may_append, last_made, last_unless, last_create, troubled_by, as_unmade, adopted_made, first_unless, transact, appended, looked, settled_and_copied, asked_and_looked, asked, file_by, file_made, got_file, file_got, fetched, unless_empty, read_journal, load_by, loaded}
 use Rattle.index_world.specs.Calls as calls
 use Rattle.index_world.specs.Core.{Core, File, Late, late_entry, late_dead, late_file, late_key, file_at, IsNotLateIn}
 use Rattle.index_world.specs.Gate.{stage_act}
@@ -167,7 +167,7 @@ taken_unless_settles false unsure entry core low = taken_settled entry core low
 
 got_settles : (b : Bool) (call : Call) (before : ℕ) (entry : Entry) (core : Core) → AreLow (length core.history) core → Settles (got_at b call before entry core)
 got_settles true call before entry core low = tt
-got_settles false call before entry core low = taken_unless_settles call.short (core.unsure || call.at_once) entry core low
+got_settles false call before entry core low = taken_unless_settles call.short (core.unsure || is_at_once call.effect) entry core low
 
 low_begun : (call : Call) (core : Core) → AreLow (length core.history) core → AreLow (length (begun call core).history) (begun call core)
 low_begun call core low = subst (λ h. AreLow (length h) (begun call core)) (sym (begun_history call core)) (begun_low (length core.history) call core low)
@@ -185,12 +185,12 @@ behind_low : (standing : Option Entry) (entry : Entry) (core : Core) → AreLow 
 behind_low None entry core low = low
 behind_low (Some other) entry core low = low
 
-made_low : (b c : Bool) (entry : Entry) (core : Core) → AreLow (length core.history) core → MadeLow (made_at b c entry core).answer (made_at b c entry core).core
+made_low : (b : Bool) (c : Effect) (entry : Entry) (core : Core) → AreLow (length core.history) core → MadeLow (made_at b c entry core).answer (made_at b c entry core).core
 made_low true c entry core low = tt
 made_low false c entry core low = behind_low core.standing entry core low
 
 create_low : (call : Call) (entry : Entry) (core : Core) → AreLow (length core.history) core → MadeLow (create_at_end call entry core).answer (create_at_end call entry core).core
-create_low call entry core low = made_low (may_fail call core.store_faults) call.at_once entry (begun call core) (low_begun call core low)
+create_low call entry core low = made_low (may_fail call core.store_faults) call.effect entry (begun call core) (low_begun call core low)
 
 settle_made_settles : (get : Call) (before : ℕ) (fence : Entry) (m : Made) (core : Core) → MadeLow m core → Settles (settle_made get before fence m core)
 settle_made_settles get before fence made core low = taken_unless_settles get.short true fence core low
@@ -224,7 +224,7 @@ behind_none : (standing : Option Entry) (entry : Entry) (core : Core) → standi
 behind_none None entry core e = tt
 behind_none (Some other) entry core e = cc
 
-made_none : (b c : Bool) (entry : Entry) (core : Core) → core.standing ≡ None → IsNotThere (made_at b c entry core).answer
+made_none : (b : Bool) (c : Effect) (entry : Entry) (core : Core) → core.standing ≡ None → IsNotThere (made_at b c entry core).answer
 made_none true c entry core none = tt
 made_none false c entry core none = behind_none core.standing entry core none
 
@@ -237,7 +237,7 @@ full_own : (b : Bool) (call : Call) (before : ℕ) (act : Act) (core : Core) →
 full_own true call before act core s = tt
 full_own false call before act core s =
     last_made_own before (entry_of act core) (create_at_end call (entry_of act core) core).answer (create_at_end call (entry_of act core) core).core
-    (made_none (may_fail call core.store_faults) call.at_once (entry_of act core) (begun call core) (begun_settled call core s).none)
+    (made_none (may_fail call core.store_faults) call.effect (entry_of act core) (begun call core) (begun_settled call core s).none)
 
 last_by_own : (r : Result (Unit {0}) Refusal) (call : Call) (before : ℕ) (act : Act) (core : Core) → IsSettled core → Own (last_unless (calls.or_full r core) call before act core)
 last_by_own (Err refusal) call before act core s = tt
@@ -348,9 +348,10 @@ landed_free (place ∷ places) key core f =
 abbrev OwnTrouble : Gives Trouble ⊤ → Type 0
 OwnTrouble given = IfErr IsStoreTrouble given.answer
 
-file_by_own : (a b : Bool) (o : Option (List ℕ)) (before : ℕ) (key bytes : List ℕ) (core : Core) → o ≡ None → OwnTrouble (file_by a b (is_some o) before key bytes core)
-file_by_own true true None before key bytes core e = tt
-file_by_own true false None before key bytes core e = tt
+file_by_own : (a : Bool) (b : Effect) (o : Option (List ℕ)) (before : ℕ) (key bytes : List ℕ) (core : Core) → o ≡ None → OwnTrouble (file_by a b (is_some o) before key bytes core)
+file_by_own true done_at_once None before key bytes core e = tt
+file_by_own true done_late None before key bytes core e = tt
+file_by_own true done_never None before key bytes core e = tt
 file_by_own false b None before key bytes core e = tt
 file_by_own a b (Some x) before key bytes core e = cc
 
@@ -358,10 +359,10 @@ file_own : (call : Call) (key bytes : List ℕ) (core : Core) → IsFree core ke
 file_own call key bytes core f = by call.short
   where
     by : (b : Bool) → OwnTrouble (or_short b no_memory call core
-        (file_by (may_fail call core.store_faults) call.at_once (is_some (file_at (begun call core).files key)) core.store_faults key bytes (begun call core)))
+        (file_by (may_fail call core.store_faults) call.effect (is_some (file_at (begun call core).files key)) core.store_faults key bytes (begun call core)))
     by true = tt
     by false =
-        file_by_own (may_fail call core.store_faults) call.at_once (file_at (begun call core).files key) core.store_faults key bytes (begun call core)
+        file_by_own (may_fail call core.store_faults) call.effect (file_at (begun call core).files key) core.store_faults key bytes (begun call core)
         (landed_free call.lands key (record core { store_faults = risen core.store_faults call.rises }) (record { absent = f.absent; not_late = f.not_late }))
 
 -- ---- the other calls fail by the store alone
@@ -372,7 +373,7 @@ taken_own false unsure entry core = tt
 
 got_own : (b : Bool) (call : Call) (before : ℕ) (entry : Entry) (core : Core) → OwnTrouble (got_at b call before entry core)
 got_own true call before entry core = tt
-got_own false call before entry core = taken_own call.short (core.unsure || call.at_once) entry core
+got_own false call before entry core = taken_own call.short (core.unsure || is_at_once call.effect) entry core
 
 settle_made_own : (get : Call) (before : ℕ) (fence : Entry) (m : Made) (core : Core) → OwnTrouble (settle_made get before fence m core)
 settle_made_own get before fence made core = taken_own get.short true fence core

@@ -12,7 +12,7 @@ use Rattle.source_checkpoint.specs.declared.delta.StaleDelta.{StaleDelta}
 use Rattle.source_checkpoint.specs.declared.delta.StaleDelta.TheVariants as deltas
 use Rattle.source_checkpoint.specs.declared.ledger.Checkpoint.{Checkpoint}
 use Rattle.source_log.specs.Log.{Log}
-use Rattle.index_world.specs.Calls.{Fate, Call, Fault, store_fault, is_foreign, is_full, is_expired, Grace, unless_over, Trouble, faulted, no_memory, Unmade, refused, troubled, Unread, not_read, Gives, gives, Made, made, exists, failed, Making, risen, may_fail, begun, tried, made_behind, made_at, create_at_end, taken_in, or_short, unless_short, asked_clock, asking, and_then, and_then_by, taken_unless, got_at, get_at_end, settle_made, settle_with, settled, fence_of, entry_of, may_append, last_made, last_unless, last_create, troubled_by, as_unmade, adopted_made, first_unless, transact, appended, looked, settled_and_copied, asked_and_looked, asked, file_by, file_made, got_file, file_got, fetched, with_standing, read_journal, unless_empty, load_by, loaded}
+use Rattle.index_world.specs.Calls.{Effect, done_at_once, done_late, done_never, is_at_once, Fate, Call, Fault, store_fault, is_foreign, is_full, is_expired, Grace, unless_over, Trouble, faulted, no_memory, Unmade, refused, troubled, Unread, not_read, Gives, gives, Made, made, exists, failed, Making, risen, may_fail, begun, tried, made_behind, made_at, create_at_end, taken_in, or_short, unless_short, asked_clock, asking, and_then, and_then_by, taken_unless, got_at, get_at_end, settle_made, settle_with, settled, fence_of, entry_of, may_append, last_made, last_unless, last_create, troubled_by, as_unmade, adopted_made, first_unless, transact, appended, looked, settled_and_copied, asked_and_looked, asked, file_by, file_made, got_file, file_got, fetched, with_standing, read_journal, unless_empty, load_by, loaded}
 use Rattle.index_world.specs.Calls as calls
 use Rattle.index_world.specs.Core.{Core, last_count, file_at}
 use Rattle.index_world.specs.Gate.{stage_act}
@@ -91,7 +91,7 @@ module _ (low : ℕ) where
   got_good : (b : Bool) (call : Call) (entry : Entry) (core : Core) → low ≤ core.store_faults → core.store_faults ≤ last_count → (b ≡ true → Rose low core.store_faults) →
       Good trouble_told low (got_at b call low entry core)
   got_good true call entry core on bound rose = record { says = failed_here core (rose refl); on = on; bound = bound }
-  got_good false call entry core on bound rose = taken_good call.short (core.unsure || call.at_once) entry core on bound
+  got_good false call entry core on bound rose = taken_good call.short (core.unsure || is_at_once call.effect) entry core on bound
 
   get_good : (call : Call) (entry : Entry) (core : Core) → low ≤ core.store_faults → core.store_faults ≤ last_count → Good trouble_told low (get_at_end call entry low core)
   get_good call entry core on bound =
@@ -113,12 +113,13 @@ module _ (low : ℕ) where
   behind_good None entry core on bound = record { rose = λ e. absurd (made_not_failed e); on = on; bound = bound }
   behind_good (Some other) entry core on bound = record { rose = λ e. absurd (exists_not_failed other e); on = on; bound = bound }
 
-  tried_count : (b : Bool) (standing : Option Entry) (entry : Entry) (core : Core) → (tried b standing entry core).store_faults ≡ core.store_faults
-  tried_count true None entry core = refl
-  tried_count true (Some other) entry core = refl
-  tried_count false standing entry core = refl
+  tried_count : (b : Effect) (standing : Option Entry) (entry : Entry) (core : Core) → (tried b standing entry core).store_faults ≡ core.store_faults
+  tried_count done_at_once None entry core = refl
+  tried_count done_at_once (Some other) entry core = refl
+  tried_count done_late standing entry core = refl
+  tried_count done_never standing entry core = refl
 
-  made_good : (b c : Bool) (entry : Entry) (core : Core) → low ≤ core.store_faults → core.store_faults ≤ last_count → (b ≡ true → Rose low core.store_faults) →
+  made_good : (b : Bool) (c : Effect) (entry : Entry) (core : Core) → low ≤ core.store_faults → core.store_faults ≤ last_count → (b ≡ true → Rose low core.store_faults) →
       Created (made_at b c entry core)
   made_good true c entry core on bound rose =
       let same = tried_count c core.standing entry core in
@@ -127,7 +128,7 @@ module _ (low : ℕ) where
 
   create_good : (call : Call) (entry : Entry) (core : Core) → low ≤ core.store_faults → core.store_faults ≤ last_count → Created (create_at_end call entry core)
   create_good call entry core on bound =
-      made_good (may_fail call core.store_faults) call.at_once entry (begun call core) (begun_on call core on bound) (begun_bound call core) (λ may. begun_rose call core on may)
+      made_good (may_fail call core.store_faults) call.effect entry (begun call core) (begun_on call core on bound) (begun_bound call core) (λ may. begun_rose call core on may)
 
   settle_made_good : (get : Call) (fence : Entry) (m : Made) (core : Core) → (m ≡ failed → Rose low core.store_faults) → low ≤ core.store_faults → core.store_faults ≤ last_count →
       Good trouble_told low (settle_made get low fence m core)
@@ -263,18 +264,19 @@ asked_good : (fate : Fate) (core : Core) → core.store_faults ≤ last_count �
 asked_good fate core bound =
     asking_good trouble_told fate.unasked no_memory core (λ c. gives (Ok tt) c) refl bound (record { says = omega arith; on = omega arith; bound = bound })
 
-file_by_good : (low : ℕ) (b c d : Bool) (key bytes : List ℕ) (core : Core) → low ≤ core.store_faults → core.store_faults ≤ last_count → (b ≡ true → Rose low core.store_faults) →
+file_by_good : (low : ℕ) (b : Bool) (c : Effect) (d : Bool) (key bytes : List ℕ) (core : Core) → low ≤ core.store_faults → core.store_faults ≤ last_count → (b ≡ true → Rose low core.store_faults) →
     Good trouble_told low (file_by b c d low key bytes core)
-file_by_good low true true false key bytes core on bound rose = record { says = failed_here low core (rose refl); on = on; bound = bound }
-file_by_good low true true true key bytes core on bound rose = record { says = failed_here low core (rose refl); on = on; bound = bound }
-file_by_good low true false d key bytes core on bound rose = record { says = failed_here low core (rose refl); on = on; bound = bound }
+file_by_good low true done_at_once false key bytes core on bound rose = record { says = failed_here low core (rose refl); on = on; bound = bound }
+file_by_good low true done_at_once true key bytes core on bound rose = record { says = failed_here low core (rose refl); on = on; bound = bound }
+file_by_good low true done_late d key bytes core on bound rose = record { says = failed_here low core (rose refl); on = on; bound = bound }
+file_by_good low true done_never d key bytes core on bound rose = record { says = failed_here low core (rose refl); on = on; bound = bound }
 file_by_good low false c true key bytes core on bound rose = record { says = on; on = on; bound = bound }
 file_by_good low false c false key bytes core on bound rose = record { says = on; on = on; bound = bound }
 
 file_good : (call : Call) (key bytes : List ℕ) (core : Core) → core.store_faults ≤ last_count → Good trouble_told core.store_faults (file_made call key bytes core)
 file_good call key bytes core bound =
     or_short_good core.store_faults trouble_told call.short no_memory call core _ refl (omega arith) bound
-    (file_by_good core.store_faults (may_fail call core.store_faults) call.at_once (is_some (file_at (begun call core).files key)) key bytes (begun call core)
+    (file_by_good core.store_faults (may_fail call core.store_faults) call.effect (is_some (file_at (begun call core).files key)) key bytes (begun call core)
     (begun_on core.store_faults call core (omega arith) bound) (begun_bound core.store_faults call core) (λ may. begun_rose core.store_faults call core (omega arith) may))
 
 got_file_good : (low : ℕ) (b : Bool) (core : Core) → low ≤ core.store_faults → core.store_faults ≤ last_count → (b ≡ true → Rose low core.store_faults) →
