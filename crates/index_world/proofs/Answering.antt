@@ -1,5 +1,5 @@
 -- What a life and a world answer over every store, sound or not, by the journal's own answers.
-use Rattle.std.proofs.Common.{◌≡◌, ◌+◌, ◌<◌, ◌≤◌, ◌^◌, ℕ, List, Option, Some, None, Result, Ok, Err, refl, sym, ap, subst, ◌∙◌, inl, inr, arith}
+use Rattle.std.proofs.Common.{◌≡◌, ◌⊎◌, ◌+◌, ◌<◌, ◌≤◌, ◌^◌, ℕ, List, Option, Some, None, Result, Ok, Err, refl, sym, ap, subst, ◌∙◌, inl, inr, arith}
 use Rattle.std.specs.Prelude.{IsSome, IfErr, MatchResult, ⊤}
 use Rattle.std.specs.Result.{IsErrAnd}
 use Rattle.std.proofs.Math.Nat.{le_refl}
@@ -21,10 +21,14 @@ use Rattle.meta_store.specs.State.{after}
 use Rattle.meta_store.specs.declared.config.Config.{Config}
 use Rattle.object_store.proofs.Told.{told_map, told_then}
 use Rattle.object_store.specs.Store.{State, WhereTold}
-use Rattle.index_world.specs.Answering.{answer_in, AppendedOwn, Appends, AppendsNot, IsUnfitAt, SettlesNot, Tells}
+use Rattle.index_world.specs.Answering.{answer_in, AppendsNot, IsUnfitAt, SettlesNot, Tells}
 use Rattle.index_world.specs.Config.{reads}
 use Rattle.index_world.specs.Index.{max_entries}
-use Rattle.index_world.specs.Life.{Makes, TookIn, TookNone}
+use Rattle.index_world.specs.Life.{AppendedOffer, Appends, MadeOf, Makes, MakesNot, TookIn, TookNone}
+use Rattle.index_world.specs.Owning.{act_in, offer_in}
+use Rattle.index_world.specs.declared.own.Outcome.{Outcome}
+use Rattle.index_world.specs.declared.own.Outcome.TheVariants as outcomes
+use Rattle.index_world.specs.declared.own.Own.{Own}
 use Rattle.index_world.specs.Taking.{IsFaultBetween, IsNotTaken, IsUnfit, IsUnprepared, IsWant, of_journal}
 use Rattle.index_world.specs.World.{Keeping}
 use Rattle.index_world.specs.declared.life.Life.{Life}
@@ -199,9 +203,14 @@ pub makes_unprepared : (a : Option State) (answer : Answer) (act : meta.State �
 makes_unprepared a answer act moment next revision state error is same h = still a (AppendsNot error act moment next state) (λ s. unprepared answer act moment next revision state s error is same h)
 
 -- no memory was found ahead of the call
-pub makes_short : (a : Option State) (act : meta.State → Act) (life : Life) (r : Result (Option Entry) WorldError) (Is : WorldError → Type 0) → IsErrAnd r Is → ((error : WorldError) → Is error → IsWant error) → WhereTold a a (λ was now. Makes act r life now)
-makes_short a act life (Ok made) Is h want = absurd h
-makes_short a act life (Err error) Is h want = still a (AppendsNot error act life.moment life.journal.next life.meta.state) (λ s. want_appends act life.moment life.journal.next life.meta.state s error (want error h))
+pub makes_short : (a : Option State) (own : Own) (life : Life) (r : Result Outcome WorldError) (Is : WorldError → Type 0) → IsErrAnd r Is → ((error : WorldError) → Is error → IsWant error) → WhereTold a a (λ was now. Makes own r life now)
+makes_short a own life (Ok made) Is h want = absurd h
+makes_short a own life (Err error) Is h want =
+    still a (MakesNot own error life) (λ s. want_appends (act_in own life.moment life.doomed.numbers.items) life.moment life.journal.next life.meta.state s error (want error h))
+
+-- there was nothing to do
+pub makes_nothing : (a : Option State) (own : Own) (rows : ℕ) (life : Life) → rows ≡ 0 → offer_in own life.moment life.doomed.numbers.items life.meta.state ≡ None → WhereTold a a (λ was now. MadeOf own rows life now)
+makes_nothing a own rows life zero none = still a (MadeOf own rows life) (λ s. inl (zero, none))
 
 pub short_no_fault : {A : Type 0} (before now : ℕ) (r : Result A WorldError) (Is : WorldError → Type 0) → IsErrAnd r Is → ((error : WorldError) → Is error → IsWant error) → IfErr r (IsFaultBetween before now)
 short_no_fault before now (Ok a) Is h want = absurd h
@@ -215,16 +224,20 @@ answer_here reading act moment x state here read is same =
     (ap (λ (r : Said). answer_to r state (at moment x)) (read state.config) ∙ ap (λ (y : Act). answer_in state (at moment y)) is)
 
 -- it was made
-pub makes_own : (a b : Option State) (act : meta.State → Act) (m moment next later : ℕ) (before state : meta.State) (entry : Entry) → entry ≡ at moment (act before) → CanSpell entry → later ≡ next + 1 →
-    state ≡ after (reading_of reads before.config entry.act) entry before → WhereTold a b (journal_says.Appends next entry (Ok m)) → WhereTold a b (λ was now. AppendedOwn act moment later state now)
-makes_own a b act m moment next later before state entry same can is behind w =
-    told_map a b (λ o n s. record {
-      before = before;
-      number = next;
-      next_is = is;
-      stands = subst (HasEntry n next) same (tried_stands next entry o n can s.1);
-      state_is = behind ∙ ap (λ (e : Entry). after (reading_of reads before.config e.act) e before) same;
-    }) w
+pub makes_own : (a b : Option State) (own : Own) (m rows moment : ℕ) (doomed : List ℕ) (next later : ℕ) (before state : meta.State) (entry : Entry) → entry ≡ at moment (act_in own moment doomed before) → CanSpell entry → later ≡ next + 1 →
+    state ≡ after (reading_of reads before.config entry.act) entry before → offer_in own moment doomed before ≡ Some (record { act = act_in own moment doomed before; answer = rows }) → WhereTold a b (journal_says.Appends next entry (Ok m)) →
+    WhereTold a b (λ was now. ((rows ≡ 0) × (offer_in own moment doomed state ≡ None)) ⊎ AppendedOffer own rows moment doomed later state now)
+makes_own a b own m rows moment doomed next later before state entry same can is behind offered w =
+    told_map a b (λ o n s. inr (record {
+      is = record {
+        before = before;
+        number = next;
+        next_is = is;
+        stands = subst (HasEntry n next) same (tried_stands next entry o n can s.1);
+        state_is = behind ∙ ap (λ (e : Entry). after (reading_of reads before.config e.act) e before) same;
+      };
+      offered = offered;
+    })) w
 
 pub makes_adopted : (a b : Option State) (f entry : Entry) (next here : ℕ) → here ≡ next → WhereTold a b (journal_says.Appends next entry (Err (journal.Adopted f))) → WhereTold a b (λ was now. HasEntry now here f)
 makes_adopted a b f entry next here same w = told_map a b (λ o n s. subst (λ (k : ℕ). HasEntry n k f) (sym same) s.1) w
@@ -267,24 +280,24 @@ of_question (Ok a) Is e Of h same of = absurd h
 of_question (Err error) Is e Of h same of = subst Of (sym (same error h)) of
 
 -- it did not settle
-pub unsettled : (a b : Option State) (act : meta.State → Act) (moment next : ℕ) (state : meta.State) (k r : Result ⊤ WorldError) (Is : WorldError → Type 0) (e : WorldError) → k ≡ Err e → IsErrAnd r Is → ((error : WorldError) → Is error → error ≡ e) →
-    WhereTold a b (λ was now. IfErr k (λ error. SettlesNot error next state now)) → WhereTold a b (λ was now. Appends r act moment next state now)
-unsettled a b act moment next state k (Ok done) Is e was h same w = absurd h
-unsettled a b act moment next state k (Err error) Is e was h same w =
-    told_map a b (λ o n s. subst (λ (y : WorldError). AppendsNot y act moment next state n) (sym (same error h))
-    (not_settled act moment next state n e (subst (λ (x : Result ⊤ WorldError). IfErr x (λ y. SettlesNot y next state n)) was s))) w
+pub unsettled : (a b : Option State) (own : Own) (life : Life) (k : Result ⊤ WorldError) (r : Result ℕ WorldError) (Is : WorldError → Type 0) (e : WorldError) → k ≡ Err e → IsErrAnd r Is → ((error : WorldError) → Is error → error ≡ e) →
+    WhereTold a b (λ was now. IfErr k (λ error. SettlesNot error life.journal.next life.meta.state now)) → WhereTold a b (λ was now. Appends own r life now)
+unsettled a b own life k (Ok done) Is e was h same w = absurd h
+unsettled a b own life k (Err error) Is e was h same w =
+    told_map a b (λ o n s. subst (λ (y : WorldError). MakesNot own y life n) (sym (same error h))
+    (not_settled (act_in own life.moment life.doomed.numbers.items) life.moment life.journal.next life.meta.state n e (subst (λ (x : Result ⊤ WorldError). IfErr x (λ y. SettlesNot y life.journal.next life.meta.state n)) was s))) w
 
 -- it settled, and made its entry or did not
-pub settled_makes : (a m b : Option State) (First : State → State → Type 0) (act : meta.State → Act) (life : Life) (k : Result (Option Entry) WorldError) (e : WorldError) (r : Result ⊤ WorldError) (Is : WorldError → Type 0) → k ≡ Err e → IsErrAnd r Is →
-    ((error : WorldError) → Is error → error ≡ e) → WhereTold a m First → WhereTold m b (λ was now. Makes act k life now) → WhereTold a b (λ was now. Appends r act life.moment life.journal.next life.meta.state now)
-settled_makes a m b First act life k e (Ok done) Is was h same v w = absurd h
-settled_makes a m b First act life k e (Err error) Is was h same v w =
-    told_then a m b (λ o t n f s. subst (λ (y : WorldError). AppendsNot y act life.moment life.journal.next life.meta.state n) (sym (same error h))
-    (subst (λ (x : Result (Option Entry) WorldError). Makes act x life n) was s)) v w
+pub settled_makes : (a m b : Option State) (First : State → State → Type 0) (own : Own) (life : Life) (k : Result Outcome WorldError) (e : WorldError) (r : Result ℕ WorldError) (Is : WorldError → Type 0) → k ≡ Err e → IsErrAnd r Is →
+    ((error : WorldError) → Is error → error ≡ e) → WhereTold a m First → WhereTold m b (λ was now. Makes own k life now) → WhereTold a b (λ was now. Appends own r life now)
+settled_makes a m b First own life k e (Ok done) Is was h same v w = absurd h
+settled_makes a m b First own life k e (Err error) Is was h same v w =
+    told_then a m b (λ o t n f s. subst (λ (y : WorldError). MakesNot own y life n) (sym (same error h))
+    (subst (λ (x : Result Outcome WorldError). Makes own x life n) was s)) v w
 
-pub settled_made : (a m b : Option State) (First : State → State → Type 0) (act : meta.State → Act) (life : Life) (k : Result (Option Entry) WorldError) → k ≡ Ok None → WhereTold a m First → WhereTold m b (λ was now. Makes act k life now) →
-    WhereTold a b (λ was now. AppendedOwn act life.moment life.journal.next life.meta.state now)
-settled_made a m b First act life k was v w = told_then a m b (λ o t n f s. subst (λ (x : Result (Option Entry) WorldError). Makes act x life n) was s) v w
+pub settled_made : (a m b : Option State) (First : State → State → Type 0) (own : Own) (life : Life) (rows : ℕ) (k : Result Outcome WorldError) → k ≡ Ok (outcomes.Done rows) → WhereTold a m First → WhereTold m b (λ was now. Makes own k life now) →
+    WhereTold a b (λ was now. MadeOf own rows life now)
+settled_made a m b First own life rows k was v w = told_then a m b (λ o t n f s. subst (λ (x : Result Outcome WorldError). Makes own x life n) was s) v w
 
 -- what stood there was not taken in
 adopted_unfit : (f : Entry) (mid new : Life) (act : meta.State → Act) (error : WorldError) (now : State) → TookNone mid f error new → HasEntry now mid.journal.next f → AppendsNot error act new.moment new.journal.next new.meta.state now
@@ -306,19 +319,19 @@ adopted_unfit f mid new act error now took stands = by error took.unfit
     by errors.IndexExists h = absurd h
     by (errors.BadConfig bad) h = absurd h
 
-pub adopts_unfit : (a m b : Option State) (First : State → State → Type 0) (act : meta.State → Act) (f : Entry) (mid new : Life) (k : Result (Option Entry) WorldError) (r : Result ⊤ WorldError) (Is : WorldError → Type 0) (e : WorldError) → k ≡ Ok (Some f) →
-    IsErrAnd r Is → ((error : WorldError) → Is error → error ≡ e) → TookNone mid f e new → WhereTold a m First → WhereTold m b (λ was now. Makes act k mid now) →
-    WhereTold a b (λ was now. Appends r act new.moment new.journal.next new.meta.state now)
-adopts_unfit a m b First act f mid new k (Ok done) Is e was h same took v w = absurd h
-adopts_unfit a m b First act f mid new k (Err error) Is e was h same took v w =
-    told_then a m b (λ o t n g s. subst (λ (y : WorldError). AppendsNot y act new.moment new.journal.next new.meta.state n) (sym (same error h))
-    (adopted_unfit f mid new act e n took (subst (λ (x : Result (Option Entry) WorldError). Makes act x mid n) was s))) v w
+pub adopts_unfit : (a m b : Option State) (First : State → State → Type 0) (own : Own) (f : Entry) (mid new : Life) (k : Result Outcome WorldError) (r : Result ℕ WorldError) (Is : WorldError → Type 0) (e : WorldError) → k ≡ Ok (outcomes.Given f) →
+    IsErrAnd r Is → ((error : WorldError) → Is error → error ≡ e) → TookNone mid f e new → WhereTold a m First → WhereTold m b (λ was now. Makes own k mid now) →
+    WhereTold a b (λ was now. Appends own r new now)
+adopts_unfit a m b First own f mid new k (Ok done) Is e was h same took v w = absurd h
+adopts_unfit a m b First own f mid new k (Err error) Is e was h same took v w =
+    told_then a m b (λ o t n g s. subst (λ (y : WorldError). MakesNot own y new n) (sym (same error h))
+    (adopted_unfit f mid new (act_in own new.moment new.doomed.numbers.items) e n took (subst (λ (x : Result Outcome WorldError). Makes own x mid n) was s))) v w
 
 -- a second one stood behind it
-pub behind_given : (a m b : Option State) (First : State → State → Type 0) (act : meta.State → Act) (f : Entry) (life : Life) (key : List ℕ) (k : Result (Option Entry) WorldError) → k ≡ Ok (Some f) → key ≡ meta_key life.journal.next → WhereTold a m First →
-    WhereTold m b (λ was now. Makes act k life now) → WhereTold a b (λ was now. AppendsNot (errors.Foreign key) act life.moment life.journal.next life.meta.state now)
-behind_given a m b First act f life key k was is v w =
-    told_then a m b (λ o t n g s. let there : HasEntry n life.journal.next f = subst (λ (x : Result (Option Entry) WorldError). Makes act x life n) was s in (is, subst (λ (x : Option (List ℕ)). IsSome x) (sym there.stands) refl)) v w
+pub behind_given : (a m b : Option State) (First : State → State → Type 0) (own : Own) (f : Entry) (life : Life) (key : List ℕ) (k : Result Outcome WorldError) → k ≡ Ok (outcomes.Given f) → key ≡ meta_key life.journal.next → WhereTold a m First →
+    WhereTold m b (λ was now. Makes own k life now) → WhereTold a b (λ was now. MakesNot own (errors.Foreign key) life now)
+behind_given a m b First own f life key k was is v w =
+    told_then a m b (λ o t n g s. let there : HasEntry n life.journal.next f = subst (λ (x : Result Outcome WorldError). Makes own x life n) was s in (is, subst (λ (x : Option (List ℕ)). IsSome x) (sym there.stands) refl)) v w
 
 -- two calls of the store, one behind the other
 pub first_then : (a m b : Option State) (First Then : State → State → Type 0) → WhereTold a m First → WhereTold m b Then → WhereTold a b (λ was now. ⊤)
@@ -326,7 +339,7 @@ first_then a m b First Then v w = told_then a m b (λ o t n f s. tt) v w
 
 -- ---- a fault of a transaction
 
-pub fault_then : {A : Type 0} (before low now : ℕ) (k : Result A WorldError) (r : Result ⊤ WorldError) (Is : WorldError → Type 0) (e : WorldError) → k ≡ Err e → IsErrAnd r Is → ((error : WorldError) → Is error → error ≡ e) → before ≤ low →
+pub fault_then : {A B : Type 0} (before low now : ℕ) (k : Result A WorldError) (r : Result B WorldError) (Is : WorldError → Type 0) (e : WorldError) → k ≡ Err e → IsErrAnd r Is → ((error : WorldError) → Is error → error ≡ e) → before ≤ low →
     (before ≤ low → IfErr k (IsFaultBetween before now)) → IfErr r (IsFaultBetween before now)
 fault_then before low now k r Is e was h same le fault = of_question r Is e (IsFaultBetween before now) h same (subst (λ x. IfErr x (IsFaultBetween before now)) was (fault le))
 

@@ -22,13 +22,16 @@ use Rattle.index_world.specs.declared.own.Own.TheVariants as owns
 use Rattle.index_world.specs.declared.world_error.WorldError.{WorldError}
 use Rattle.index_world.specs.declared.world_error.WorldError.TheVariants as errors
 use Rattle.index_world.specs.Calls.{Made, made, exists, Making, made_behind, begun, risen, Unmade, troubled, faulted, store_fault, is_foreign, no_memory, store_failed, entry_of, may_append}
-use Rattle.index_world.specs.Core.{Core, journal_of, IsUnusedIn, HasStagedIn, KeepsBut}
-use Rattle.index_world.specs.Gate.{IsTrouble, IsUnmade, Says}
+use Rattle.index_world.specs.Core.{Core, journal_of, IsUnusedIn, HasStagedIn, KeepsBut, Upkeep, upkeep_of}
+use Rattle.index_world.specs.Gate.{IsTrouble, IsUnmade, SaysWith}
 use Rattle.index_world.specs.Index.{has_staged, HasStaged, IsUnused}
-use Rattle.index_world.specs.Life.{LifeIs, StandsBy, TookIn, TookNone, SettledSure, SettledIn, Settling, CreatedOwn, CreatesBy, Creating, OwnMade, Appending}
+use Rattle.index_world.specs.Life.{LifeIs, StandsBy, TookIn, TookNone, SettledSure, SettledIn, Settling, CreatesBy, CreatesNothing, Creating, OffersNothing, OwnDone, OwnMade, Appending}
 use Rattle.index_world.specs.Onward.{Onward}
-use Rattle.index_world.specs.Owning.{own_act, MayOwn}
-use Rattle.index_world.specs.Steps.{Counted, MadeLaw, AdoptedLaw, Ends, greatest, Transacted}
+use Rattle.index_world.specs.Collecting.{Offer}
+use Rattle.index_world.specs.Owning.{own_offer, MayOwn}
+use Rattle.index_world.specs.declared.own.Outcome.{Outcome}
+use Rattle.index_world.specs.declared.own.Outcome.TheVariants as outcomes
+use Rattle.index_world.specs.Steps.{Counted, noting, noted_behind, MadeLaw, AdoptedLaw, Ends, greatest, Transacted}
 use Rattle.index_world.specs.Taking.{IsWant}
 use Rattle.index_world.specs.Unsure.{is_unsure}
 use Rattle.index_world.specs.World.{IsWorld, IsTimely}
@@ -37,24 +40,21 @@ use Rattle.index_world.proofs.JournalCalls.{quiet}
 use Rattle.index_world.proofs.Journals.{once, one-journal}
 use Rattle.index_world.proofs.Lives.{want_trouble, knows_of, life_on, life_taken, stands_by, allowed_last, answers_allowed}
 use Rattle.index_world.proofs.StoreKeys.{true_is_false, none_some}
-use Rattle.index_world.proofs.Transacting.{Last, last_ok, last_fault, last_taken, last_no_memory, last_not, transacted_ok, transacted_fault, transacted_no_memory, transacted_not, adopted_no_memory, adopted_ends, adopted_then, settled_then, not_transacted, timely_more}
+use Rattle.index_world.proofs.Transacting.{Last, LastOffer, last_offers, last_nothing, last_ok, last_fault, last_taken, last_no_memory, last_not, transacted_nothing, transacted_ok, transacted_fault, transacted_no_memory, transacted_not, adopted_no_memory, adopted_ends, adopted_then, settled_then, not_transacted, timely_more}
+use Rattle.index_world.proofs.Transactions.{nothing_answer}
 use Rattle.index_world.proofs.Worlds.{journal_is_history, world-lands, world-same, onward-refl}
 
 -- ---- at a result
 
-pub appending_at : (old : State) (core : Core) (log : Log) (own : Own) (r r' : Result ⊤ WorldError) (told : Option State) (now : ℕ) (life : Life) → r ≡ r' → Appending old core log own r told now life → Appending old core log own r' told now life
-appending_at old core log own r r' told now life e s = subst (λ (x : Result ⊤ WorldError). Appending old core log own x told now life) e s
-
-pub none_of : (o : Option Entry) → ((x : Entry) → o ≡ Some x → ⊥) → o ≡ None
-none_of None h = refl
-none_of (Some x) h = absurd (h x refl)
+pub appending_at : (old : State) (core : Core) (log : Log) (own : Own) (r r' : Result ℕ WorldError) (told : Option State) (now : ℕ) (life : Life) → r ≡ r' → Appending old core log own r told now life → Appending old core log own r' told now life
+appending_at old core log own r r' told now life e s = subst (λ (x : Result ℕ WorldError). Appending old core log own x told now life) e s
 
 pub settling_at : (old : State) (core : Core) (log : Log) (r r' : Result ⊤ WorldError) (told : Option State) (now : ℕ) (life : Life) → r ≡ r' → Settling old core log r told now life → Settling old core log r' told now life
 settling_at old core log r r' told now life e s = subst (λ (x : Result ⊤ WorldError). Settling old core log x told now life) e s
 
-pub creating_at : (old : State) (core : Core) (log : Log) (act : Act) (settled : Bool) (before : ℕ) (r r' : Result (Option Entry) WorldError) (told : Option State) (now : ℕ) (life : Life) → r ≡ r' →
-    Creating old core log act settled before r told now life → Creating old core log act settled before r' told now life
-creating_at old core log act settled before r r' told now life e c = subst (λ (x : Result (Option Entry) WorldError). Creating old core log act settled before x told now life) e c
+pub creating_at : (old : State) (core : Core) (log : Log) (own : Own) (settled : Bool) (before : ℕ) (r r' : Result Outcome WorldError) (told : Option State) (now : ℕ) (life : Life) → r ≡ r' →
+    Creating old core log own settled before r told now life → Creating old core log own settled before r' told now life
+creating_at old core log own settled before r r' told now life e c = subst (λ (x : Result Outcome WorldError). Creating old core log own settled before x told now life) e c
 
 -- ---- what was staged stays staged
 
@@ -86,16 +86,20 @@ made_stood old new core log entry now w m =
 
 -- it stands at the end of this core, over which nothing stood unread before
 pub record Stood (new : State) (own : Own) (core after : Core) : Type 0 where
-  pub history : after.history ≡ core.history ++ entry_of (own_act own core) core ∷ []
+  pub offer : Offer ℕ
+  pub offered : own_offer own core ≡ Some offer
+  pub history : after.history ≡ core.history ++ entry_of offer.act core ∷ []
   pub none : core.standing ≡ None
-  pub fresh : (number : ℕ) (delta : List Part) (facts : RowFacts) → own_act own core ≡ acts.Stage number delta facts → IsUnusedIn after number × HasStagedIn after number delta facts
+  pub fresh : (number : ℕ) (delta : List Part) (facts : RowFacts) → offer.act ≡ acts.Stage number delta facts → IsUnusedIn after number × HasStagedIn after number delta facts
 
-stood : (old new : State) (core after : Core) (log : Log) (own : Own) (now : ℕ) → IsWorld old core log → IsWorld new after log → after.history ≡ core.history ++ entry_of (own_act own core) core ∷ [] →
-    MadeLaw old new core log (entry_of (own_act own core) core) now → Stood new own core after
-stood old new core after log own now w v h m =
+stood : (old new : State) (core after : Core) (log : Log) (own : Own) (offer : Offer ℕ) (now : ℕ) → own_offer own core ≡ Some offer → IsWorld old core log → IsWorld new after log → after.history ≡ core.history ++ entry_of offer.act core ∷ [] →
+    MadeLaw old new core log (entry_of offer.act core) now → Stood new own core after
+stood old new core after log own offer now o w v h m =
     record {
+      offer = offer;
+      offered = o;
       history = h;
-      none = made_stood old new core log (entry_of (own_act own core) core) now w m;
+      none = made_stood old new core log (entry_of offer.act core) now w m;
       fresh = λ number delta facts p.
           let f = m.fresh number delta facts p in (
             unused-in new after number v.stands_for (subst (λ es. IsUnused new es number) (sym same) f.0),
@@ -103,14 +107,16 @@ stood old new core after log own now w v h m =
           );
     }
   where
-    same : journal_of after ≡ core.history ++ entry_of (own_act own core) core ∷ []
-    same = one-journal once new 0 (journal_of after) (core.history ++ entry_of (own_act own core) core ∷ []) v.stands_for.journal
-        (subst (λ es. IsJournal new (es ++ entry_of (own_act own core) core ∷ [])) m.history m.taken.world.stands_for.journal)
+    same : journal_of after ≡ core.history ++ entry_of offer.act core ∷ []
+    same = one-journal once new 0 (journal_of after) (core.history ++ entry_of offer.act core ∷ []) v.stands_for.journal
+        (subst (λ es. IsJournal new (es ++ entry_of offer.act core ∷ [])) m.history m.taken.world.stands_for.journal)
 
-own_made : (old mid new : State) (core between after : Core) (log : Log) (own : Own) → Onward old mid core between log → Stood new own between after → OwnMade own core tt after
+own_made : (old mid new : State) (core between after : Core) (log : Log) (own : Own) → Onward old mid core between log → Stood new own between after → OwnMade own core after
 own_made old mid new core between after log own o s =
     record {
       before = between;
+      offer = s.offer;
+      offered = s.offered;
       history = s.history;
       was = λ number h. subst (λ es. has_staged es number ≡ true) (journal_is_history between s.none) (staged_onward old mid core between log number o h);
       fresh = s.fresh;
@@ -119,6 +125,8 @@ own_made old mid new core between after log own o s =
 -- what the entry needs stays
 pub owned_on : (own : Own) (log : Log) (core after : Core) → KeepsBut None core after → MayOwn own log core → MayOwn own log after
 owned_on (owns.Stage delta facts) log core after k may = tt
+owned_on owns.MarkStale log core after k may = tt
+owned_on owns.Remove log core after k may = tt
 owned_on (owns.Publish number) log core after k may =
     record {
       config = may.config;
@@ -141,94 +149,126 @@ foreign_is error core after e h =
     subst (λ (x : WorldError). IsTrouble x (faulted (is_foreign (meta_key (length after.history))))) (sym e)
     (ap (λ es. faulted (is_foreign (meta_key (length es)))) (h ∙ append-nil core.history))
 
-none_more : (life : Life) (core : Core) (doubt : Bool) → LifeIs life core.history core.moment doubt → LifeIs life (core.history ++ []) (greatest core.moment []) doubt
-none_more life core doubt k = knows_of life core.history (core.history ++ []) core.moment core.moment doubt doubt (sym (append-nil core.history)) refl refl k
+none_more : (life : Life) (core : Core) (doubt : Bool) → LifeIs life core.history core.moment doubt (upkeep_of core) → LifeIs life (core.history ++ []) (greatest core.moment []) doubt (upkeep_of core)
+none_more life core doubt k = knows_of life core.history (core.history ++ []) core.moment core.moment doubt doubt (sym (append-nil core.history)) refl refl refl k
 
-one_more : (life : Life) (core : Core) (entry : Entry) → entry.moment ≡ core.moment → LifeIs life (core.history ++ entry ∷ []) core.moment false → LifeIs life (core.history ++ entry ∷ []) (greatest core.moment (entry ∷ [])) false
-one_more life core entry e k = knows_of life (core.history ++ entry ∷ []) (core.history ++ entry ∷ []) core.moment (max core.moment entry.moment) false false refl (omega (arith, e)) refl k
+one_more : (life : Life) (core : Core) (entry : Entry) → entry.moment ≡ core.moment → LifeIs life (core.history ++ entry ∷ []) core.moment false (noting core.moment (upkeep_of core) entry) →
+    LifeIs life (core.history ++ entry ∷ []) (greatest core.moment (entry ∷ [])) false (noting core.moment (upkeep_of core) entry)
+one_more life core entry e k = knows_of life (core.history ++ entry ∷ []) (core.history ++ entry ∷ []) core.moment (max core.moment entry.moment) false false refl (omega (arith, e)) refl refl k
 
 -- ---- the last create of a transaction
 
--- the answer of the code is that of the core
-abbrev LastSays : State → Own → Core → Result ⊤ WorldError → Result ⊤ Unmade → Core → Type 0
-LastSays new own core (Ok done) (Ok d) after = Stood new own core after
-LastSays new own core (Ok done) (Err u) after = ⊥
-LastSays new own core (Err error) (Ok d) after = ⊥
-LastSays new own core (Err error) (Err u) after = IsUnmade error u
+-- what was done at this core: its own entry stands behind it, or it offered none
+abbrev pub DoneAt : State → Own → Core → ℕ → ℕ → Core → Type 0
+DoneAt new own core rows answered after = (rows ≡ answered) × ((own_offer own core ≡ None) ⊎ Stood new own core after)
 
-record Lasts (old new : State) (core : Core) (log : Log) (own : Own) (before : ℕ) (r : Result ⊤ WorldError) (now : ℕ) (life : Life) : Type 0 where
-  answer : Core → Result ⊤ Unmade
+record Lasts (old new : State) (core : Core) (log : Log) (own : Own) (before : ℕ) (r : Result ℕ WorldError) (now : ℕ) (life : Life) : Type 0 where
+  answer : Core → Result ℕ Unmade
   more : List Entry
   doubt : Bool
-  did : Last old new core log (own_act own core) before answer more doubt now
-  knows : LifeIs life (core.history ++ more) (greatest core.moment more) doubt
-  says : LastSays new own core r (answer did.after) did.after
+  did : LastOffer old new core log (own_offer own) before answer more doubt now
+  knows : LifeIs life (core.history ++ more) (greatest core.moment more) doubt (noted_behind core.moment (upkeep_of core) more)
+  says : SaysWith IsUnmade (DoneAt new own core) r (answer did.after) did.after
 
 module _ (old new : State) (core : Core) (log : Log) (own : Own) (settled : Bool) (before now : ℕ) (w : IsWorld old core log) (t : IsTimely core) (c : Counted core now) (sure : core.unsure ≡ false) (life : Life) where
-  last_made : CreatedOwn old new core log (own_act own core) now life → Lasts old new core log own before (Ok tt) now life
-  last_made d =
-      let l = last_ok old new core log (own_act own core) before now w t c d.can d.may d.step in
+  sure_life : LifeIs life core.history core.moment false (upkeep_of core) → LifeIs life (core.history ++ []) (greatest core.moment []) core.unsure (upkeep_of core)
+  sure_life k = none_more life core core.unsure (knows_of life core.history core.history core.moment core.moment false core.unsure refl refl (sym sure) refl k)
+
+  nothing_at : (n : CreatesNothing old new core now life) (short : Bool) → own_offer own core ≡ None → LastOffer old new core log (own_offer own) before (λ after. nothing_answer short) [] core.unsure now
+  nothing_at n short o =
+      subst (λ (k : ℕ). LastOffer old new core log (own_offer own) before (λ after. nothing_answer short) [] core.unsure k) (sym n.faults)
+      (subst (λ (s : State). LastOffer old s core log (own_offer own) before (λ after. nothing_answer short) [] core.unsure core.store_faults) (sym n.same) (last_nothing old core log (own_offer own) before short w t o))
+
+  last_made : (count : ℕ) (o : Option (Offer ℕ)) → own_offer own core ≡ o → CreatesBy old new core log o settled before now life (Ok (outcomes.Done count)) → Lasts old new core log own before (Ok count) now life
+  last_made count None o d =
+      record { answer = λ after. Ok 0; more = []; doubt = core.unsure; did = nothing_at d.1 false o; knows = sure_life d.1.knows; says = (d.0, inl o) }
+  last_made count (Some offer) o d =
+      let l = last_offers old new core log (own_offer own) offer before (λ after. Ok tt) (entry_of offer.act core ∷ []) false now o (last_ok old new core log offer.act before now w t c d.1.can d.1.may d.1.step) in
       record {
-        answer = λ after. Ok tt;
-        more = entry_of (own_act own core) core ∷ [];
+        answer = λ after. Ok offer.answer;
+        more = entry_of offer.act core ∷ [];
         doubt = false;
         did = l;
-        knows = one_more life core (entry_of (own_act own core) core) refl d.knows;
-        says = stood old new core l.after log own now w l.onward.world l.ends.history d.step;
+        knows = one_more life core (entry_of offer.act core) refl d.1.knows;
+        says = (d.0, inr (stood old new core l.after log own offer now o w l.onward.world l.ends.history d.1.step));
       }
 
-  last_failed : (error : WorldError) → settled ≡ true → CreatesBy old new core log (own_act own core) settled before now life (Err error) → Lasts old new core log own before (Err error) now life
-  last_failed error again (inl d) =
+  last_failed : (error : WorldError) (o : Option (Offer ℕ)) → settled ≡ true → own_offer own core ≡ o → CreatesBy old new core log o settled before now life (Err error) → Lasts old new core log own before (Err error) now life
+  last_failed error None again o d =
+      record { answer = λ after. Err (troubled no_memory); more = []; doubt = core.unsure; did = nothing_at d.1 true o; knows = sure_life d.1.knows; says = want_trouble error d.0 }
+  last_failed error (Some offer) again o (inl d) =
       record {
         answer = λ after. Err d.unmade;
         more = [];
         doubt = core.unsure;
-        did = subst (λ (n : ℕ). Last old new core log (own_act own core) before (λ after. Err d.unmade) [] core.unsure n) (sym d.faults)
-            (subst (λ (s : State). Last old s core log (own_act own core) before (λ after. Err d.unmade) [] core.unsure core.store_faults) (sym d.same) (last_not old core log (own_act own core) before d.unmade w t d.may));
-        knows = none_more life core core.unsure (knows_of life core.history core.history core.moment core.moment false core.unsure refl refl (sym sure) d.knows);
+        did = last_offers old new core log (own_offer own) offer before (λ after. Err d.unmade) [] core.unsure now o
+            (subst (λ (n : ℕ). Last old new core log offer.act before (λ after. Err d.unmade) [] core.unsure n) (sym d.faults)
+            (subst (λ (s : State). Last old s core log offer.act before (λ after. Err d.unmade) [] core.unsure core.store_faults) (sym d.same) (last_not old core log offer.act before d.unmade w t d.may)));
+        knows = sure_life d.knows;
         says = d.is;
       }
-  last_failed error again (inr (inl d)) =
+  last_failed error (Some offer) again o (inr (inl d)) =
       record {
         answer = λ after. Err (troubled no_memory);
         more = [];
         doubt = core.unsure;
-        did = last_no_memory old new core log (own_act own core) before now w t c d.landed;
-        knows = none_more life core core.unsure (knows_of life core.history core.history core.moment core.moment false core.unsure refl refl (sym sure) d.knows);
+        did = last_offers old new core log (own_offer own) offer before (λ after. Err (troubled no_memory)) [] core.unsure now o (last_no_memory old new core log offer.act before now w t c d.landed);
+        knows = sure_life d.knows;
         says = want_trouble error d.is;
       }
-  last_failed error again (inr (inr (inl d))) =
-      let l = last_fault old new core log (own_act own core) before now w t c d.may d.step in
-      record { answer = λ after. Err (troubled (store_failed before after)); more = []; doubt = true; did = l; knows = none_more life core true d.knows; says = fault_is error before now before l.after d.is refl l.ends.faults }
-  last_failed error again (inr (inr (inr d))) =
-      let l = last_taken old new core log (own_act own core) before now w t c d.may d.step in
+  last_failed error (Some offer) again o (inr (inr (inl d))) =
+      let l = last_offers old new core log (own_offer own) offer before (λ after. Err (troubled (store_failed before after))) [] true now o (last_fault old new core log offer.act before now w t c d.may d.step) in
+      record {
+        answer = λ after. Err (troubled (store_failed before after));
+        more = [];
+        doubt = true;
+        did = l;
+        knows = none_more life core true d.knows;
+        says = fault_is error before now before l.after d.is refl l.ends.faults;
+      }
+  last_failed error (Some offer) again o (inr (inr (inr d))) =
+      let l = last_offers old new core log (own_offer own) offer before (λ after. Err (troubled (faulted (is_foreign (meta_key (length after.history)))))) [] core.unsure now o (last_taken old new core log offer.act before now w t c d.may d.step) in
       record {
         answer = λ after. Err (troubled (faulted (is_foreign (meta_key (length after.history)))));
         more = [];
         doubt = core.unsure;
         did = l;
-        knows = none_more life core core.unsure (knows_of life core.history core.history core.moment core.moment false core.unsure refl refl (sym sure) d.knows);
+        knows = sure_life d.knows;
         says = foreign_is error core l.after d.is l.ends.history;
       }
 
+-- where an entry is given, the number wasn't settled
+given_first : (old new : State) (core : Core) (log : Log) (o : Option (Offer ℕ)) (settled : Bool) (before count : ℕ) (life : Life) (f : Entry) → CreatesBy old new core log o settled before count life (Ok (outcomes.Given f)) → settled ≡ false
+given_first old new core log None settled before count life f d = absurd d
+given_first old new core log (Some offer) settled before count life f d = d.first
+
 -- ---- behind what was taken in
 
-then_says : (old mid new : State) (core between after : Core) (log : Log) (own : Own) (r : Result ⊤ WorldError) (answer : Result ⊤ Unmade) → Onward old mid core between log → LastSays new own between r answer after → Says IsUnmade (OwnMade own core) r answer after
-then_says old mid new core between after log own (Ok done) (Ok d) o s = own_made old mid new core between after log own o s
-then_says old mid new core between after log own (Ok done) (Err u) o s = absurd s
-then_says old mid new core between after log own (Err error) (Ok d) o s = absurd s
+done_then : (old mid new : State) (core between after : Core) (log : Log) (own : Own) (rows answered : ℕ) → Onward old mid core between log → DoneAt new own between rows answered after → OwnDone own core rows answered after
+done_then old mid new core between after log own rows answered o d = (d.0, by d.1)
+  where
+    by : (own_offer own between ≡ None) ⊎ Stood new own between after → OffersNothing own ⊎ OwnMade own core after
+    by (inl none) = inl (between, none)
+    by (inr s) = inr (own_made old mid new core between after log own o s)
+
+then_says : (old mid new : State) (core between after : Core) (log : Log) (own : Own) (r : Result ℕ WorldError) (answer : Result ℕ Unmade) → Onward old mid core between log → SaysWith IsUnmade (DoneAt new own between) r answer after → SaysWith IsUnmade (OwnDone own core) r answer after
+then_says old mid new core between after log own (Ok rows) (Ok answered) o s = done_then old mid new core between after log own rows answered o s
+then_says old mid new core between after log own (Ok rows) (Err u) o s = absurd s
+then_says old mid new core between after log own (Err error) (Ok answered) o s = absurd s
 then_says old mid new core between after log own (Err error) (Err u) o s = s
 
-then_knows : (life : Life) (core between : Core) (f : Entry) (more : List Entry) (doubt : Bool) → between.history ≡ core.history ++ f ∷ [] → between.moment ≡ max core.moment f.moment → LifeIs life (between.history ++ more) (greatest between.moment more) doubt →
-    LifeIs life (core.history ++ f ∷ more) (greatest core.moment (f ∷ more)) doubt
-then_knows life core between f more doubt h m k =
+then_knows : (life : Life) (core between : Core) (f : Entry) (more : List Entry) (doubt : Bool) → between.history ≡ core.history ++ f ∷ [] → between.moment ≡ max core.moment f.moment → upkeep_of between ≡ noting core.moment (upkeep_of core) f →
+    LifeIs life (between.history ++ more) (greatest between.moment more) doubt (noted_behind between.moment (upkeep_of between) more) →
+    LifeIs life (core.history ++ f ∷ more) (greatest core.moment (f ∷ more)) doubt (noted_behind core.moment (upkeep_of core) (f ∷ more))
+then_knows life core between f more doubt h m n k =
     knows_of life (between.history ++ more) (core.history ++ f ∷ more) (greatest between.moment more) (greatest (max core.moment f.moment) more) doubt doubt
-    (ap (λ es. es ++ more) h ∙ append_assoc core.history (f ∷ []) more) (ap (λ (x : ℕ). greatest x more) m) refl k
+    (ap (λ es. es ++ more) h ∙ append_assoc core.history (f ∷ []) more) (ap (λ (x : ℕ). greatest x more) m) refl
+    (ap (λ (x : ℕ). noted_behind x (upkeep_of between) more) m ∙ ap (λ (u : Upkeep). noted_behind (max core.moment f.moment) u more) n) k
 
 module _ (old : State) (core : Core) (log : Log) (own : Own) (before count : ℕ) (life : Life) (b : StandsBy old core log count life) (at : before ≡ core.store_faults) (owned : MayOwn own log core) where
   -- a transaction ended so
-  ends_so : (new : State) (told : Option State) (now : ℕ) (life' : Life) (r : Result ⊤ WorldError) (answer : Core → Result ⊤ Unmade) (more : List Entry) (doubt : Bool) → told ≡ Some new → Counted core now →
-      (t : Transacted old new core log (own_act own) answer more doubt now) → Says IsUnmade (OwnMade own core) r (answer t.after) t.after → LifeIs life' (core.history ++ more) (greatest core.moment more) doubt →
+  ends_so : (new : State) (told : Option State) (now : ℕ) (life' : Life) (r : Result ℕ WorldError) (answer : Core → Result ℕ Unmade) (more : List Entry) (doubt : Bool) → told ≡ Some new → Counted core now →
+      (t : Transacted old new core log (own_offer own) answer more doubt now) → SaysWith IsUnmade (OwnDone own core) r (answer t.after) t.after → LifeIs life' (core.history ++ more) (greatest core.moment more) doubt (noted_behind core.moment (upkeep_of core) more) →
       Appending old core log own r told now life'
   ends_so new told now life' r answer more doubt tells c t says k =
       record {
@@ -244,91 +284,108 @@ module _ (old : State) (core : Core) (log : Log) (own : Own) (before count : ℕ
       }
 
   -- settling failed
-  pub appending_unsettled : (told : Option State) (now : ℕ) (life' : Life) (x : WorldError) (r : Result ⊤ WorldError) (Is : WorldError → Type 0) → Settling old core log (Err x) told now life' → IsErrAnd r Is → ((error : WorldError) → Is error → error ≡ x) →
+  pub appending_unsettled : (told : Option State) (now : ℕ) (life' : Life) (x : WorldError) (r : Result ℕ WorldError) (Is : WorldError → Type 0) → Settling old core log (Err x) told now life' → IsErrAnd r Is → ((error : WorldError) → Is error → error ≡ x) →
       Appending old core log own r told now life'
   appending_unsettled told now life' x (Ok done) Is s h same = absurd h
   appending_unsettled told now life' x (Err error) Is s h same =
       let d = s.did in
       ends_so s.new told now life' (Err error) (λ after. Err (troubled (d.trouble after))) [] true s.tells s.counted
-      (not_transacted old s.new core log (own_act own) d.trouble now b.timely d.doubt d.step)
+      (not_transacted old s.new core log (own_offer own) d.trouble now b.timely d.doubt d.step)
       (subst (λ (e : WorldError). IsTrouble e (d.trouble d.step.after)) (sym (same error h)) d.is)
-      (none_more life' core true (knows_of life' d.step.after.history core.history d.step.after.moment core.moment d.step.after.unsure true d.step.history d.step.moment d.step.unsure d.stands.knows))
+      (none_more life' core true (knows_of life' d.step.after.history core.history d.step.after.moment core.moment d.step.after.unsure true d.step.history d.step.moment d.step.unsure d.step.upkeep d.stands.knows))
 
   -- an entry was taken in, and behind it the last create ended so
-  then_ends : (mid new : State) (between : Core) (f : Entry) (told : Option State) (n now : ℕ) (life' : Life) (r : Result ⊤ WorldError) → told ≡ Some new → Counted core now → Onward old mid core between log →
-      between.history ≡ core.history ++ f ∷ [] → between.moment ≡ max core.moment f.moment → (l : Lasts mid new between log own core.store_faults r now life') →
-      ((answer : Core → Result ⊤ Unmade) (more : List Entry) (doubt : Bool) (k : Last mid new between log (own_act own between) core.store_faults answer more doubt now) →
-      (t : Transacted old new core log (own_act own) answer (f ∷ more) doubt now) × (t.after ≡ k.after)) → Appending old core log own r told now life'
-  then_ends mid new between f told n now life' r tells c o h m l join =
+  then_ends : (mid new : State) (between : Core) (f : Entry) (told : Option State) (n now : ℕ) (life' : Life) (r : Result ℕ WorldError) → told ≡ Some new → Counted core now → Onward old mid core between log →
+      between.history ≡ core.history ++ f ∷ [] → between.moment ≡ max core.moment f.moment → upkeep_of between ≡ noting core.moment (upkeep_of core) f → (l : Lasts mid new between log own core.store_faults r now life') →
+      ((answer : Core → Result ℕ Unmade) (more : List Entry) (doubt : Bool) (k : LastOffer mid new between log (own_offer own) core.store_faults answer more doubt now) →
+      (t : Transacted old new core log (own_offer own) answer (f ∷ more) doubt now) × (t.after ≡ k.after)) → Appending old core log own r told now life'
+  then_ends mid new between f told n now life' r tells c o h m u l join =
       let j = join l.answer l.more l.doubt l.did in
       ends_so new told now life' r l.answer (f ∷ l.more) l.doubt tells c j.0
-      (subst (λ (a : Core). Says IsUnmade (OwnMade own core) r (l.answer a) a) (sym j.1) (then_says old mid new core between l.did.after log own r (l.answer l.did.after) o l.says))
-      (then_knows life' core between f l.more l.doubt h m l.knows)
+      (subst (λ (a : Core). SaysWith IsUnmade (OwnDone own core) r (l.answer a) a) (sym j.1) (then_says old mid new core between l.did.after log own r (l.answer l.did.after) o l.says))
+      (then_knows life' core between f l.more l.doubt h m u l.knows)
 
   faults_on : (n now : ℕ) (between : Core) → Counted core n → between.store_faults ≡ n → Counted between now → Counted core now
   faults_on n now between a e c = record { later = let x = a.later in let y = c.later in omega (arith, x, y, e); within = c.within }
 
-  at_start : (old' new : State) (between : Core) (r : Result ⊤ WorldError) (now : ℕ) (life' : Life) → Lasts old' new between log own before r now life' → Lasts old' new between log own core.store_faults r now life'
+  at_start : (old' new : State) (between : Core) (r : Result ℕ WorldError) (now : ℕ) (life' : Life) → Lasts old' new between log own before r now life' → Lasts old' new between log own core.store_faults r now life'
   at_start old' new between r now life' l = subst (λ (n : ℕ). Lasts old' new between log own n r now life') at l
 
   module _ (told told' : Option State) (n now : ℕ) (life' life'' : Life) (s : Settling old core log (Ok tt) told n life') where
     -- nothing was unsure
-    module _ (x : Result (Option Entry) WorldError) (k : (o : State) (c : Core) (l : Log) → told ≡ Some o → StandsBy o c l n life' → MayOwn own l c → Creating o c l (own_act own c) life'.journal.settled before x told' now life'') where
-      first_of : SettledSure old s.new core log n life' → Creating old core log (own_act own core) life'.journal.settled before x told' now life''
+    module _ (x : Result Outcome WorldError) (k : (o : State) (c : Core) (l : Log) → told ≡ Some o → StandsBy o c l n life' → MayOwn own l c → Creating o c l own life'.journal.settled before x told' now life'') where
+      first_of : SettledSure old s.new core log n life' → Creating old core log own life'.journal.settled before x told' now life''
       first_of d = k old core log (s.tells ∙ ap Some d.same) (subst (λ (o : State). StandsBy o core log n life') d.same d.stands) owned
 
-      next_of : (d : SettledIn old s.new core log n life') → Creating s.new d.step.after log (own_act own d.step.after) life'.journal.settled before x told' now life''
+      next_of : (d : SettledIn old s.new core log n life') → Creating s.new d.step.after log own life'.journal.settled before x told' now life''
       next_of d = k s.new d.step.after log s.tells d.stands (owned_on own log core d.step.after (keeps_all old s.new core d.step.after log b.world.stands_for d.step.onward) owned)
 
-    settled_ends_by : (d : SettledIn old s.new core log n life') (new : State) (r : Result ⊤ WorldError) → told' ≡ Some new → Counted d.step.after now → Lasts s.new new d.step.after log own before r now life'' → Appending old core log own r told' now life''
-    settled_ends_by d new r tells c l =
-        then_ends s.new new d.step.after d.entry told' n now life'' r tells (faults_on n now d.step.after s.counted d.step.faults c) d.step.onward d.step.history d.step.moment (at_start s.new new d.step.after r now life'' l)
-        (λ answer more doubt k. (settled_then old s.new new core log (own_act own) d.entry n now answer more doubt d.doubt d.step k, refl))
+    -- there was nothing to do
+    nothing_done : (d : SettledSure old s.new core log n life') (new : State) → own_offer own core ≡ None → CreatesNothing old new core now life'' → (short : Bool) → Transacted old new core log (own_offer own) (λ after. nothing_answer short) [] core.unsure now
+    nothing_done d new o x short =
+        subst (λ (m : ℕ). Transacted old new core log (own_offer own) (λ after. nothing_answer short) [] core.unsure m) (sym x.faults)
+        (subst (λ (p : State). Transacted old p core log (own_offer own) (λ after. nothing_answer short) [] core.unsure core.store_faults) (sym x.same) (transacted_nothing old core log (own_offer own) short b.world b.timely d.sure o))
 
-    -- the own entry was made
-    pub appending_made : ((o : State) (c : Core) (l : Log) → told ≡ Some o → StandsBy o c l n life' → MayOwn own l c → Creating o c l (own_act own c) life'.journal.settled before (Ok None) told' now life'') → Appending old core log own (Ok tt) told' now life''
-    appending_made k = by s.did
+    unsure_life : (d : SettledSure old s.new core log n life') → LifeIs life'' core.history core.moment false (upkeep_of core) → LifeIs life'' (core.history ++ []) (greatest core.moment []) core.unsure (upkeep_of core)
+    unsure_life d k = none_more life'' core core.unsure (knows_of life'' core.history core.history core.moment core.moment false core.unsure refl refl (sym d.sure) refl k)
+
+    settled_ends_by : (d : SettledIn old s.new core log n life') (new : State) (r : Result ℕ WorldError) → told' ≡ Some new → Counted d.step.after now → Lasts s.new new d.step.after log own before r now life'' → Appending old core log own r told' now life''
+    settled_ends_by d new r tells c l =
+        then_ends s.new new d.step.after d.entry told' n now life'' r tells (faults_on n now d.step.after s.counted d.step.faults c) d.step.onward d.step.history d.step.moment d.step.upkeep (at_start s.new new d.step.after r now life'' l)
+        (λ answer more doubt k. (settled_then old s.new new core log (own_offer own) d.entry n now answer more doubt d.doubt d.step k, refl))
+
+    -- the own entry was made, if one was offered
+    pub appending_made : (rows : ℕ) → ((o : State) (c : Core) (l : Log) → told ≡ Some o → StandsBy o c l n life' → MayOwn own l c → Creating o c l own life'.journal.settled before (Ok (outcomes.Done rows)) told' now life'') → Appending old core log own (Ok rows) told' now life''
+    appending_made rows k = by s.did
       where
-        by : SettledSure old s.new core log n life' ⊎ SettledIn old s.new core log n life' → Appending old core log own (Ok tt) told' now life''
-        by (inl d) =
-            let c = first_of (Ok None) k d in
-            let t = transacted_ok old c.new core log (own_act own) now b.world b.timely c.counted d.sure c.did.can c.did.may c.did.step in
-            ends_so c.new told' now life'' (Ok tt) (λ after. Ok tt) (entry_of (own_act own core) core ∷ []) false c.tells c.counted t
-            (own_made old old c.new core core t.after log own (onward-refl old core log b.world) (stood old c.new core t.after log own now b.world t.onward.world t.ends.history c.did.step))
-            (one_more life'' core (entry_of (own_act own core) core) refl c.did.knows)
+        calm : (d : SettledSure old s.new core log n life') (new : State) → told' ≡ Some new → Counted core now → (o : Option (Offer ℕ)) → own_offer own core ≡ o →
+            CreatesBy old new core log o life'.journal.settled before now life'' (Ok (outcomes.Done rows)) → Appending old core log own (Ok rows) told' now life''
+        calm d new tells c None o x =
+            ends_so new told' now life'' (Ok rows) (λ after. Ok 0) [] core.unsure tells c (nothing_done d new o x.1 false) (x.0, inl (core, o)) (unsure_life d x.1.knows)
+        calm d new tells c (Some offer) o x =
+            let t = transacted_ok old new core log (own_offer own) offer o now b.world b.timely c d.sure x.1.can x.1.may x.1.step in
+            ends_so new told' now life'' (Ok rows) (λ after. Ok offer.answer) (entry_of offer.act core ∷ []) false tells c t
+            (x.0, inr (own_made old old new core core t.after log own (onward-refl old core log b.world) (stood old new core t.after log own offer now o b.world t.onward.world t.ends.history x.1.step)))
+            (one_more life'' core (entry_of offer.act core) refl x.1.knows)
+
+        by : SettledSure old s.new core log n life' ⊎ SettledIn old s.new core log n life' → Appending old core log own (Ok rows) told' now life''
+        by (inl d) = let c = first_of (Ok (outcomes.Done rows)) k d in calm d c.new c.tells c.counted (own_offer own core) refl c.did
         by (inr d) =
-            let c = next_of (Ok None) k d in
-            settled_ends_by d c.new (Ok tt) c.tells c.counted (last_made s.new c.new d.step.after log own life'.journal.settled before now d.stands.world d.stands.timely c.counted d.step.unsure life'' c.did)
+            let c = next_of (Ok (outcomes.Done rows)) k d in
+            settled_ends_by d c.new (Ok rows) c.tells c.counted
+            (last_made s.new c.new d.step.after log own life'.journal.settled before now d.stands.world d.stands.timely c.counted d.step.unsure life'' rows (own_offer own d.step.after) refl c.did)
 
     -- it was not
-    pub appending_failed : (error : WorldError) → ((o : State) (c : Core) (l : Log) → told ≡ Some o → StandsBy o c l n life' → MayOwn own l c → Creating o c l (own_act own c) life'.journal.settled before (Err error) told' now life'') → Appending old core log own (Err error) told' now life''
+    pub appending_failed : (error : WorldError) → ((o : State) (c : Core) (l : Log) → told ≡ Some o → StandsBy o c l n life' → MayOwn own l c → Creating o c l own life'.journal.settled before (Err error) told' now life'') → Appending old core log own (Err error) told' now life''
     appending_failed error k = by s.did
       where
-        calm : (d : SettledSure old s.new core log n life') (new : State) → told' ≡ Some new → Counted core now →
-            CreatesBy old new core log (own_act own core) life'.journal.settled before now life'' (Err error) → Appending old core log own (Err error) told' now life''
-        calm d new tells c (inl x) =
+        calm : (d : SettledSure old s.new core log n life') (new : State) → told' ≡ Some new → Counted core now → (o : Option (Offer ℕ)) → own_offer own core ≡ o →
+            CreatesBy old new core log o life'.journal.settled before now life'' (Err error) → Appending old core log own (Err error) told' now life''
+        calm d new tells c None o x =
+            ends_so new told' now life'' (Err error) (λ after. Err (troubled no_memory)) [] core.unsure tells c (nothing_done d new o x.1 true) (want_trouble error x.0) (unsure_life d x.1.knows)
+        calm d new tells c (Some offer) o (inl x) =
             ends_so new told' now life'' (Err error) (λ after. Err x.unmade) [] core.unsure tells c
-            (subst (λ (m : ℕ). Transacted old new core log (own_act own) (λ after. Err x.unmade) [] core.unsure m) (sym x.faults)
-            (subst (λ (o : State). Transacted old o core log (own_act own) (λ after. Err x.unmade) [] core.unsure core.store_faults) (sym x.same) (transacted_not old core log (own_act own) x.unmade b.world b.timely d.sure x.may)))
-            x.is (none_more life'' core core.unsure (knows_of life'' core.history core.history core.moment core.moment false core.unsure refl refl (sym d.sure) x.knows))
-        calm d new tells c (inr (inl x)) =
-            ends_so new told' now life'' (Err error) (λ after. Err (troubled no_memory)) [] core.unsure tells c (transacted_no_memory old new core log (own_act own) now b.world b.timely c d.sure x.landed)
-            (want_trouble error x.is) (none_more life'' core core.unsure (knows_of life'' core.history core.history core.moment core.moment false core.unsure refl refl (sym d.sure) x.knows))
-        calm d new tells c (inr (inr (inl x))) =
-            let t = transacted_fault old new core log (own_act own) now b.world b.timely c d.sure x.may x.step in
+            (subst (λ (m : ℕ). Transacted old new core log (own_offer own) (λ after. Err x.unmade) [] core.unsure m) (sym x.faults)
+            (subst (λ (p : State). Transacted old p core log (own_offer own) (λ after. Err x.unmade) [] core.unsure core.store_faults) (sym x.same) (transacted_not old core log (own_offer own) offer x.unmade o b.world b.timely d.sure x.may)))
+            x.is (unsure_life d x.knows)
+        calm d new tells c (Some offer) o (inr (inl x)) =
+            ends_so new told' now life'' (Err error) (λ after. Err (troubled no_memory)) [] core.unsure tells c (transacted_no_memory old new core log (own_offer own) offer o now b.world b.timely c d.sure x.landed)
+            (want_trouble error x.is) (unsure_life d x.knows)
+        calm d new tells c (Some offer) o (inr (inr (inl x))) =
+            let t = transacted_fault old new core log (own_offer own) offer o now b.world b.timely c d.sure x.may x.step in
             ends_so new told' now life'' (Err error) (λ after. Err (troubled (store_failed core.store_faults after))) [] true tells c t
             (fault_is error before now core.store_faults t.after x.is at t.ends.faults) (none_more life'' core true x.knows)
-        calm d new tells c (inr (inr (inr x))) = absurd (true_is_false (sym x.again ∙ d.first))
+        calm d new tells c (Some offer) o (inr (inr (inr x))) = absurd (true_is_false (sym x.again ∙ d.first))
 
         by : SettledSure old s.new core log n life' ⊎ SettledIn old s.new core log n life' → Appending old core log own (Err error) told' now life''
-        by (inl d) = let c = first_of (Err error) k d in calm d c.new c.tells c.counted c.did
+        by (inl d) = let c = first_of (Err error) k d in calm d c.new c.tells c.counted (own_offer own core) refl c.did
         by (inr d) =
             let c = next_of (Err error) k d in
             settled_ends_by d c.new (Err error) c.tells c.counted
-            (last_failed s.new c.new d.step.after log own life'.journal.settled before now d.stands.world d.stands.timely c.counted d.step.unsure life'' error d.again c.did)
+            (last_failed s.new c.new d.step.after log own life'.journal.settled before now d.stands.world d.stands.timely c.counted d.step.unsure life'' error (own_offer own d.step.after) d.again refl c.did)
 
-    pub appending_failed_by : (x : WorldError) → ((o : State) (c : Core) (l : Log) → told ≡ Some o → StandsBy o c l n life' → MayOwn own l c → Creating o c l (own_act own c) life'.journal.settled before (Err x) told' now life'') →
-        (r : Result ⊤ WorldError) (Is : WorldError → Type 0) → IsErrAnd r Is → ((error : WorldError) → Is error → error ≡ x) → Appending old core log own r told' now life''
+    pub appending_failed_by : (x : WorldError) → ((o : State) (c : Core) (l : Log) → told ≡ Some o → StandsBy o c l n life' → MayOwn own l c → Creating o c l own life'.journal.settled before (Err x) told' now life'') →
+        (r : Result ℕ WorldError) (Is : WorldError → Type 0) → IsErrAnd r Is → ((error : WorldError) → Is error → error ≡ x) → Appending old core log own r told' now life''
     appending_failed_by x k (Ok done) Is h same = absurd h
     appending_failed_by x k (Err error) Is h same = subst (λ (e : WorldError). Appending old core log own (Err e) told' now life'') (sym (same error h)) (appending_failed x k)
 
@@ -338,76 +395,90 @@ module _ (old : State) (core : Core) (log : Log) (own : Own) (before count : ℕ
     pub tells : told ≡ Some new
     pub counted : Counted core now
     pub sure : core.unsure ≡ false
-    pub may : may_append (own_act own core) core ≡ Ok tt
-    pub step : AdoptedLaw old new core log (entry_of (own_act own core) core) f core.store_faults now
+    pub offer : Offer ℕ
+    pub offered : own_offer own core ≡ Some offer
+    pub may : may_append offer.act core ≡ Ok tt
+    pub step : AdoptedLaw old new core log (entry_of offer.act core) f core.store_faults now
     pub can : CanSpell f
-    pub knows : LifeIs life' core.history core.moment true
+    pub knows : LifeIs life' core.history core.moment true (upkeep_of core)
 
   pub adopting : (told told' : Option State) (n now : ℕ) (life' life'' : Life) (s : Settling old core log (Ok tt) told n life') (f : Entry) →
-      ((o : State) (c : Core) (l : Log) → told ≡ Some o → StandsBy o c l n life' → MayOwn own l c → Creating o c l (own_act own c) life'.journal.settled before (Ok (Some f)) told' now life'') → Adopting told' now f life''
+      ((o : State) (c : Core) (l : Log) → told ≡ Some o → StandsBy o c l n life' → MayOwn own l c → Creating o c l own life'.journal.settled before (Ok (outcomes.Given f)) told' now life'') → Adopting told' now f life''
   adopting told told' n now life' life'' s f k = by s.did
     where
-      by : SettledSure old s.new core log n life' ⊎ SettledIn old s.new core log n life' → Adopting told' now f life''
-      by (inl d) =
-          let c = first_of told told' n now life' life'' s (Ok (Some f)) k d in
+      calm : (d : SettledSure old s.new core log n life') (new : State) → told' ≡ Some new → Counted core now → (o : Option (Offer ℕ)) → own_offer own core ≡ o →
+          CreatesBy old new core log o life'.journal.settled before now life'' (Ok (outcomes.Given f)) → Adopting told' now f life''
+      calm d new tells c None o x = absurd x
+      calm d new tells c (Some offer) o x =
           record {
-            new = c.new;
-            tells = c.tells;
-            counted = c.counted;
+            new = new;
+            tells = tells;
+            counted = c;
             sure = d.sure;
-            may = c.did.may;
-            step = subst (λ (m : ℕ). AdoptedLaw old c.new core log (entry_of (own_act own core) core) f m now) at c.did.step;
-            can = c.did.can;
-            knows = c.did.knows;
+            offer = offer;
+            offered = o;
+            may = x.may;
+            step = subst (λ (m : ℕ). AdoptedLaw old new core log (entry_of offer.act core) f m now) at x.step;
+            can = x.can;
+            knows = x.knows;
           }
-      by (inr d) = let c = next_of told told' n now life' life'' s (Ok (Some f)) k d in absurd (true_is_false (sym d.again ∙ c.did.first))
+
+      by : SettledSure old s.new core log n life' ⊎ SettledIn old s.new core log n life' → Adopting told' now f life''
+      by (inl d) = let c = first_of told told' n now life' life'' s (Ok (outcomes.Given f)) k d in calm d c.new c.tells c.counted (own_offer own core) refl c.did
+      by (inr d) =
+          let c = next_of told told' n now life' life'' s (Ok (outcomes.Given f)) k d in
+          absurd (true_is_false (sym d.again ∙ given_first s.new c.new d.step.after log (own_offer own d.step.after) life'.journal.settled before now life'' f c.did))
 
   -- no memory was found to take it in
   pub appending_short : (told : Option State) (now : ℕ) (f : Entry) (life' life'' : Life) (x : WorldError) → Adopting told now f life' → TookNone life' f x life'' →
-      (r : Result ⊤ WorldError) (Is : WorldError → Type 0) → IsErrAnd r Is → ((error : WorldError) → Is error → error ≡ x) → Appending old core log own r told now life''
+      (r : Result ℕ WorldError) (Is : WorldError → Type 0) → IsErrAnd r Is → ((error : WorldError) → Is error → error ≡ x) → Appending old core log own r told now life''
   appending_short told now f life' life'' x a took (Ok done) Is h same = absurd h
   appending_short told now f life' life'' x a took (Err error) Is h same =
       ends_so a.new told now life'' (Err error) (λ after. Err (troubled no_memory)) [] true a.tells a.counted
-      (adopted_no_memory old a.new core log (own_act own) now b.world b.timely a.counted a.sure f a.may a.step)
+      (adopted_no_memory old a.new core log (own_offer own) a.offer a.offered now b.world b.timely a.counted a.sure f a.may a.step)
       (want_trouble error (subst IsWant (sym (same error h)) (took.want (answers_allowed life'.meta.state core.history f a.knows.meta (allowed_last a.new a.step.after log core.history f a.step.onward.world a.step.history)))))
       (none_more life'' core true
-      (life_on life' life'' core.history core.moment true true a.knows (ap (λ (j : Numbered). j.next) took.journal) took.meta took.moment (ap (λ (j : Numbered). is_unsure j.place) took.journal ∙ a.knows.unsure)))
+      (life_on life' life'' core.history core.moment true true a.knows (ap (λ (j : Numbered). j.next) took.journal) took.meta took.moment took.upkeep (ap (λ (j : Numbered). is_unsure j.place) took.journal ∙ a.knows.unsure)))
 
   -- it was taken in, and the own entry is created once more
   module _ (told told' : Option State) (n now : ℕ) (f : Entry) (life' life'' last : Life) (a : Adopting told n f life') (took : TookIn life' f life'') where
     ends_taken : Ends core a.step.after (f ∷ []) false n
-    ends_taken = adopted_ends old a.new core log (entry_of (own_act own core) core) f core.store_faults n a.step
+    ends_taken = adopted_ends old a.new core log (entry_of a.offer.act core) f core.store_faults n a.step
 
     stands : StandsBy a.new a.step.after log n life''
     stands =
-        stands_by a.new core a.step.after log n life'' (f ∷ []) false b.opened a.counted.within a.step.onward.world (timely_more core a.step.after f n b.timely a.can ends_taken) ends_taken
+        stands_by a.new core a.step.after log n life'' (f ∷ []) false b.opened a.counted.within a.step.onward.world (timely_more core a.step.after f n b.timely a.can ends_taken a.step.onward.world) ends_taken
         (life_taken life' life'' core.history core.moment true f a.knows took a.can.moment)
 
     again : life''.journal.settled ≡ true
     again = ap (λ (j : Numbered). j.settled) took.journal
 
-    module _ (x : Result (Option Entry) WorldError) (k : (o : State) (c : Core) (l : Log) → told ≡ Some o → StandsBy o c l n life'' → MayOwn own l c → Creating o c l (own_act own c) life''.journal.settled before x told' now last) where
-      second : Creating a.new a.step.after log (own_act own a.step.after) life''.journal.settled before x told' now last
+    module _ (x : Result Outcome WorldError) (k : (o : State) (c : Core) (l : Log) → told ≡ Some o → StandsBy o c l n life'' → MayOwn own l c → Creating o c l own life''.journal.settled before x told' now last) where
+      second : Creating a.new a.step.after log own life''.journal.settled before x told' now last
       second = k a.new a.step.after log a.tells stands (owned_on own log core a.step.after (keeps_all old a.new core a.step.after log b.world.stands_for a.step.onward) owned)
 
-    adopted_ends_by : (new : State) (r : Result ⊤ WorldError) → told' ≡ Some new → Counted a.step.after now → Lasts a.new new a.step.after log own before r now last → Appending old core log own r told' now last
+    adopted_ends_by : (new : State) (r : Result ℕ WorldError) → told' ≡ Some new → Counted a.step.after now → Lasts a.new new a.step.after log own before r now last → Appending old core log own r told' now last
     adopted_ends_by new r tells c l =
-        then_ends a.new new a.step.after f told' n now last r tells (faults_on n now a.step.after a.counted a.step.faults c) a.step.onward a.step.history a.step.moment (at_start a.new new a.step.after r now last l)
-        (λ answer more doubt k. (adopted_then old a.new new core log (own_act own) f n now answer more doubt a.sure a.may a.step k, refl))
+        then_ends a.new new a.step.after f told' n now last r tells (faults_on n now a.step.after a.counted a.step.faults c) a.step.onward a.step.history a.step.moment a.step.upkeep (at_start a.new new a.step.after r now last l)
+        (λ answer more doubt k. (adopted_then old a.new new core log (own_offer own) a.offer f n now answer more doubt a.offered a.sure a.may a.step k, refl))
 
-    pub second_made : ((o : State) (c : Core) (l : Log) → told ≡ Some o → StandsBy o c l n life'' → MayOwn own l c → Creating o c l (own_act own c) life''.journal.settled before (Ok None) told' now last) → Appending old core log own (Ok tt) told' now last
-    second_made k =
-        let c = second (Ok None) k in
-        adopted_ends_by c.new (Ok tt) c.tells c.counted (last_made a.new c.new a.step.after log own life''.journal.settled before now stands.world stands.timely c.counted a.step.sure last c.did)
+    pub second_made : (rows : ℕ) → ((o : State) (c : Core) (l : Log) → told ≡ Some o → StandsBy o c l n life'' → MayOwn own l c → Creating o c l own life''.journal.settled before (Ok (outcomes.Done rows)) told' now last) → Appending old core log own (Ok rows) told' now last
+    second_made rows k =
+        let c = second (Ok (outcomes.Done rows)) k in
+        adopted_ends_by c.new (Ok rows) c.tells c.counted
+        (last_made a.new c.new a.step.after log own life''.journal.settled before now stands.world stands.timely c.counted a.step.sure last rows (own_offer own a.step.after) refl c.did)
 
-    pub second_failed : (x : WorldError) → ((o : State) (c : Core) (l : Log) → told ≡ Some o → StandsBy o c l n life'' → MayOwn own l c → Creating o c l (own_act own c) life''.journal.settled before (Err x) told' now last) →
-        (r : Result ⊤ WorldError) (Is : WorldError → Type 0) → IsErrAnd r Is → ((error : WorldError) → Is error → error ≡ x) → Appending old core log own r told' now last
+    pub second_failed : (x : WorldError) → ((o : State) (c : Core) (l : Log) → told ≡ Some o → StandsBy o c l n life'' → MayOwn own l c → Creating o c l own life''.journal.settled before (Err x) told' now last) →
+        (r : Result ℕ WorldError) (Is : WorldError → Type 0) → IsErrAnd r Is → ((error : WorldError) → Is error → error ≡ x) → Appending old core log own r told' now last
     second_failed x k (Ok done) Is h same = absurd h
     second_failed x k (Err error) Is h same =
         let c = second (Err x) k in
         subst (λ (e : WorldError). Appending old core log own (Err e) told' now last) (sym (same error h))
-        (adopted_ends_by c.new (Err x) c.tells c.counted (last_failed a.new c.new a.step.after log own life''.journal.settled before now stands.world stands.timely c.counted a.step.sure last x again c.did))
+        (adopted_ends_by c.new (Err x) c.tells c.counted
+        (last_failed a.new c.new a.step.after log own life''.journal.settled before now stands.world stands.timely c.counted a.step.sure last x (own_offer own a.step.after) again refl c.did))
 
     -- no second entry is given
-    pub second_given : (e : Entry) → ((o : State) (c : Core) (l : Log) → told ≡ Some o → StandsBy o c l n life'' → MayOwn own l c → Creating o c l (own_act own c) life''.journal.settled before (Ok (Some e)) told' now last) → ⊥
-    second_given e k = let c = second (Ok (Some e)) k in true_is_false (sym again ∙ c.did.first)
+    pub second_given : (e : Entry) → ((o : State) (c : Core) (l : Log) → told ≡ Some o → StandsBy o c l n life'' → MayOwn own l c → Creating o c l own life''.journal.settled before (Ok (outcomes.Given e)) told' now last) → ⊥
+    second_given e k =
+        let c = second (Ok (outcomes.Given e)) k in
+        true_is_false (sym again ∙ given_first a.new c.new a.step.after log (own_offer own a.step.after) life''.journal.settled before now last e c.did)

@@ -109,21 +109,6 @@ pub asked_least : (frozen : Bool) (moment clock : ℕ) → moment ≤ asked_mome
 asked_least true moment clock = omega arith
 asked_least false moment clock = omega arith
 
-asked_below : (frozen : Bool) (moment clock limit : ℕ) → moment < limit → clock < limit → asked_moment frozen moment clock < limit
+pub asked_below : (frozen : Bool) (moment clock limit : ℕ) → moment < limit → clock < limit → asked_moment frozen moment clock < limit
 asked_below true moment clock limit m c = m
 asked_below false moment clock limit m c = omega (arith, m, c)
-
-pub timely_asked : (core : Core) → IsTimely core → IsTimely (asked_clock core)
-timely_asked core t =
-    let a = t.greatest in let b = asked_least core.frozen core.moment core.clock in
-    record { greatest = omega (arith, a, b); moment = asked_below core.frozen core.moment core.clock (2 ^ 62) t.moment t.clock; clock = t.clock; room = t.room }
-
-pub timely_taken : (core : Core) (entry : Entry) → IsTimely core → CanSpell entry → IsTimely (taken_in entry core)
-timely_taken core entry t can =
-    let a = t.greatest in let b = t.moment in let c = can.moment in
-    record {
-      greatest = subst (λ h. moment_of h ≤ max core.moment entry.moment) (sym (history-snoc core.history entry)) (omega (arith, a));
-      moment = omega (arith, b, c);
-      clock = t.clock;
-      room = λ e. absurd (true_is_false (sym e));
-    }

@@ -30,6 +30,7 @@ use Rattle.index_world.specs.Onward.{Onward}
 use Rattle.index_world.specs.Releases.{MayFree, IsDoomed}
 use Rattle.index_world.specs.Standing.{StandsFor}
 use Rattle.index_world.specs.World.{IsWorld, GoesFor}
+use Rattle.index_world.proofs.Timely.{free_later}
 use Rattle.index_world.proofs.Deleting.{index-deleted}
 use Rattle.index_world.proofs.InCore.{fewer, keeps_by, stored-in, stored-of}
 use Rattle.index_world.proofs.Indexing.{keeps-trans, held-fewer}
@@ -79,17 +80,6 @@ files_less kept core key s other out = by (bytes_eq key other) refl
         file_at-left core.files key other apart ∙ s.files other out ∙ sym (get-kept kept.objects key other apart)
 
 -- ---- what may be deleted
-
--- it stays so in a later core of the same history
-free-on : (core after : Core) (n : ℕ) → after.history ≡ core.history → after.marks ≡ core.marks → after.moment ≡ core.moment → MayFree core n → MayFree after n
-free-on core after n h m t f =
-    record {
-      config = f.config;
-      configured = ap configuration h ∙ f.configured;
-      staged = ap (λ (es : List Entry). has_staged es n) h ∙ f.staged;
-      free = subst (λ (es : List Entry). IsDoomed f.config.deletion_grace (history es) after.marks after.moment n) (sym h)
-          (subst (λ ms. IsDoomed f.config.deletion_grace (history core.history) ms after.moment n) (sym m) (subst (λ k. IsDoomed f.config.deletion_grace (history core.history) core.marks k n) (sym t) f.free));
-    }
 
 given_unread : (es : List Entry) (unread : Option Entry) (n : ℕ) → Legal reads (history (with_unread es unread)) → IsGivenUp es n → IsGivenUp (with_unread es unread) n
 given_unread es None n l g = g
@@ -168,7 +158,7 @@ module _ (old new : State) (core : Core) (log : Log) (n now : ℕ) (w : IsWorld 
       record { world = d.world; others = keeps-trans All (But n) old mid new (journal_of core) (journal_of between) (journal_of after) o.held d.others; live = λ until m l. d.live until m (o.live until m l) }
 
   begun_free : (call : Call) → MayFree (begun call core) n
-  begun_free call = let s = same-landed call.lands (record core { store_faults = risen core.store_faults call.rises }) in free-on core (begun call core) n s.history s.marks s.moment f
+  begun_free call = let s = same-landed call.lands (record core { store_faults = risen core.store_faults call.rises }) in free_later core (begun call core) n s.history s.marks (let e = s.moment in omega (arith, e)) f
 
   delete_done : OneEntry → LandsThen (Deletes (split_key n) (Ok tt)) old new → DeletesAs new core log n (Ok tt) now
   delete_done once t =
@@ -182,6 +172,7 @@ module _ (old new : State) (core : Core) (log : Log) (n now : ℕ) (w : IsWorld 
         faults = b.faults;
         moment = b.moment;
         clock = b.clock;
+        upkeep = b.upkeep;
         unsure = b.unsure;
         gone = λ ok. file_at-gone mid.files (split_key n);
       }
@@ -230,6 +221,7 @@ module _ (old new : State) (core : Core) (log : Log) (n now : ℕ) (w : IsWorld 
             faults = b.faults;
             moment = b.moment;
             clock = b.clock;
+            upkeep = b.upkeep;
             unsure = b.unsure;
             gone = λ ok. absurd (true_is_false (sym ok));
           }
@@ -246,6 +238,7 @@ module _ (old new : State) (core : Core) (log : Log) (n now : ℕ) (w : IsWorld 
             faults = b.faults;
             moment = b.moment;
             clock = b.clock;
+            upkeep = b.upkeep;
             unsure = b.unsure;
             gone = λ ok. absurd (true_is_false (sym ok));
           }

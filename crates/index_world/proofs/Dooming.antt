@@ -1,5 +1,5 @@
 -- What the collector deletes may be deleted, and its deletes are the core's.
-use Rattle.std.proofs.Common.{◌≡◌, ℕ, ◌+◌, ◌<◌, ◌≤◌, ◌==◌, ◌&&◌, Bool, true, false, not, List, [], ◌∷◌, map, Option, Some, None, Result, Ok, Err, refl, sym, ap, ◌∙◌, subst, inl, inr, arith, append-nil, nat_le, nat_lt, eq-eqb}
+use Rattle.std.proofs.Common.{◌≡◌, ℕ, ◌+◌, ◌<◌, ◌≤◌, ◌==◌, ◌&&◌, Bool, true, false, not, List, [], ◌∷◌, ◌++◌, map, Option, Some, None, Result, Ok, Err, refl, sym, ap, ◌∙◌, subst, inl, inr, arith, append-nil, nat_le, nat_lt, eq-eqb}
 use Rattle.std.proofs.lemmas.Bool.{leb-true, leb-false, ltb-true}
 use Rattle.std.proofs.lemmas.List.Folds.{list_any-append}
 use Rattle.std.specs.List.{AllByRecursion, list_any}
@@ -215,13 +215,14 @@ module _ (once : OneEntry) (old new : State) (core : Core) (log : Log) (config :
             faults = d.faults;
             moment = d.moment;
             clock = d.clock;
+            upkeep = λ j. record { marks = (d.upkeep j).marks; doomed = (d.upkeep j).doomed ++ row.number ∷ [] };
             unsure = d.unsure;
           }
-      by (Err x) d = record { call = d.call; after = d.after; did = ap (λ o. doom_next o d.call core) e ∙ ap (dooming row.number) d.did; world = d.world; goes_on = d.goes_on; history = d.history; faults = d.faults; moment = d.moment; clock = d.clock; unsure = d.unsure }
+      by (Err x) d = record { call = d.call; after = d.after; did = ap (λ o. doom_next o d.call core) e ∙ ap (dooming row.number) d.did; world = d.world; goes_on = d.goes_on; history = d.history; faults = d.faults; moment = d.moment; clock = d.clock; upkeep = d.upkeep; unsure = d.unsure }
 
   pub sweeps_as : (number : ℕ) (answer : Result (Unit {0}) Failed) → is_swept core number ≡ true → (IsErr answer → Rose core.store_faults now) → LandsThen (Deletes (split_key number) answer) old new → SweepsAs new core log number answer now
   sweeps_as number answer e rose t = by answer (world_deletes once old new core log number answer now w (swept_is_free core config is legal number e) later within rose t)
     where
       by : (a : Result (Unit {0}) Failed) → DeletesAs new core log number a now → SweepsAs new core log number a now
-      by (Ok done) d = record { call = d.call; after = d.after; did = ap (λ b. sweep_if b d.call number core) e ∙ ap (answers true) d.did; world = d.world; goes_on = d.goes_on; history = d.history; faults = d.faults; moment = d.moment; clock = d.clock; unsure = d.unsure }
-      by (Err x) d = record { call = d.call; after = d.after; did = ap (λ b. sweep_if b d.call number core) e ∙ ap (answers true) d.did; world = d.world; goes_on = d.goes_on; history = d.history; faults = d.faults; moment = d.moment; clock = d.clock; unsure = d.unsure }
+      by (Ok done) d = record { call = d.call; after = d.after; did = ap (λ b. sweep_if b d.call number core) e ∙ ap (answers true) d.did; world = d.world; goes_on = d.goes_on; history = d.history; faults = d.faults; moment = d.moment; clock = d.clock; upkeep = d.upkeep; unsure = d.unsure }
+      by (Err x) d = record { call = d.call; after = d.after; did = ap (λ b. sweep_if b d.call number core) e ∙ ap (answers true) d.did; world = d.world; goes_on = d.goes_on; history = d.history; faults = d.faults; moment = d.moment; clock = d.clock; upkeep = d.upkeep; unsure = d.unsure }

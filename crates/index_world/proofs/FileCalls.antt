@@ -12,7 +12,7 @@ use Rattle.object_store.specs.declared.store.CreateError.TheVariants as creates
 use Rattle.source_log.specs.Log.{Log}
 use Rattle.index_world.specs.Calls.{Effect, done_at_once, done_late, done_never, Call, Fate, calm_call, Gives, gives, Trouble, no_memory, Unread, not_read, no_index, store_failed, begun, file_by, file_made, upload_made, sought_by, file_sought, hindered, or_short, with_file, taken_in, with_standing, reborn, read_journal, unless_empty, load_by, loaded, may_fail, risen}
 use Rattle.index_world.specs.Calls as calls
-use Rattle.index_world.specs.Core.{Core, late_file, file_at, last_count, with_unread, journal_of, clock_of}
+use Rattle.index_world.specs.Core.{Core, late_file, file_at, last_count, with_unread, journal_of, clock_of, upkeep_of, no_upkeep}
 use Rattle.index_world.specs.Index.{OneEntry, IsUnused, IsStored, is_meta}
 use Rattle.index_world.specs.Standing.{StandsFor}
 use Rattle.index_world.specs.World.{IsWorld}
@@ -45,6 +45,7 @@ pub record UploadLaw (old new : State) (core : Core) (log : Log) (n : ℕ) (byte
   pub faults : after.store_faults ≡ now
   pub moment : after.moment ≡ core.moment
   pub clock : clock_of after ≡ clock_of core
+  pub upkeep : upkeep_of after ≡ upkeep_of core
   pub unsure : after.unsure ≡ core.unsure
 
 filed-on : (old mid new : State) (core between after : Core) (log : Log) (n : ℕ) → Onward old mid core between log → Filed mid new between after log n → Filed old new core after log n
@@ -69,6 +70,7 @@ upload_is_made once old new core log n bytes now w c u t = (
     faults = b.faults;
     moment = b.moment;
     clock = b.clock;
+    upkeep = b.upkeep;
     unsure = b.unsure;
   },
   subst (λ k. IsStored k (journal_of mid) n bytes) (sym t.2.1) file.1,
@@ -122,6 +124,7 @@ upload_failed once old new core log n bytes now w c rose u t = by t.2
           faults = b.faults;
           moment = b.moment;
           clock = b.clock;
+          upkeep = b.upkeep;
           unsure = b.unsure;
         }
     by (inr (inl d)) =
@@ -135,6 +138,7 @@ upload_failed once old new core log n bytes now w c rose u t = by t.2
           faults = b.faults;
           moment = b.moment;
           clock = b.clock;
+          upkeep = b.upkeep;
           unsure = b.unsure;
         }
     by (inr (inr is)) =
@@ -147,6 +151,7 @@ upload_failed once old new core log n bytes now w c rose u t = by t.2
           faults = b.faults;
           moment = b.moment;
           clock = b.clock;
+          upkeep = b.upkeep;
           unsure = b.unsure;
         }
 
@@ -168,6 +173,7 @@ upload_short once old new core log n bytes now w c t =
       faults = b.faults;
       moment = b.moment;
       clock = b.clock;
+      upkeep = b.upkeep;
       unsure = b.unsure;
     }
   where
@@ -223,6 +229,7 @@ pub record LoadLaw (old new : State) (core : Core) (log : Log) (read : List Entr
   pub faults : after.store_faults ≡ now
   pub moment : after.moment ≡ moment_of (told read)
   pub clock : clock_of after ≡ clock_of core
+  pub upkeep : upkeep_of after ≡ no_upkeep
   pub unsure : after.unsure ≡ false
 
 abbrev pub load_answer : List Entry → Result ⊤ Unread
@@ -248,6 +255,7 @@ load_law once old mid new core log read now w c t j u =
       faults = last.faults;
       moment = last.moment ∙ ap (λ es. moment_of (told es)) same;
       clock = last.clock ∙ s.3 ∙ b.clock;
+      upkeep = last.upkeep;
       unsure = last.unsure;
     }
   where
@@ -296,6 +304,7 @@ pub record UnreadLaw (old new : State) (core : Core) (log : Log) (answer : Core 
   pub faults : after.store_faults ≡ now
   pub moment : after.moment ≡ core.moment
   pub clock : clock_of after ≡ clock_of core
+  pub upkeep : upkeep_of after ≡ upkeep_of core
   pub unsure : after.unsure ≡ core.unsure
 
 -- the first call failed, or one behind it: what landed is all that was done
@@ -311,6 +320,7 @@ load_failed_law once old new core log now w c rose t =
       faults = last.faults;
       moment = last.moment ∙ b.moment;
       clock = last.clock ∙ b.clock;
+      upkeep = last.upkeep ∙ b.upkeep;
       unsure = last.unsure ∙ b.unsure;
     }
   where
@@ -343,6 +353,7 @@ load_short_law once old mid new core log now w c t u =
       faults = last.faults;
       moment = last.moment ∙ b.moment;
       clock = last.clock ∙ b.clock;
+      upkeep = last.upkeep ∙ b.upkeep;
       unsure = last.unsure ∙ b.unsure;
     }
   where

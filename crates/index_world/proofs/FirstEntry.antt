@@ -22,18 +22,20 @@ use Rattle.index_world.specs.declared.world_error.WorldError.{WorldError}
 use Rattle.index_world.specs.declared.world_error.WorldError.TheVariants as errors
 use Rattle.index_world.specs.Calls.{Call, Fate, Gives, gives, no_memory, faulted, store_fault, store_failed, Unread, not_read, no_index, or_short, asked_clock, asked_moment, entry_of, taken_in}
 use Rattle.index_world.specs.Config.{settings_of}
-use Rattle.index_world.specs.Core.{Core, last_count, with_unread, clock_of}
+use Rattle.index_world.specs.Core.{Core, last_count, with_unread, clock_of, Upkeep, upkeep_of, no_upkeep}
 use Rattle.index_world.specs.Created.{create_at, Leaves, IsToldBy, MayBegin, Begins, MakesFirst, TriesFirst, FirstLanded, CreatesNot, CreatesLife, Uncreated, not_created, index_exists, bad_config, first_making, with_first, created_by, created_from, created, IsUncreated, CreatesAs, CreatesWorld, CreatesNone}
 use Rattle.index_world.specs.Index.{MayEnter}
 use Rattle.index_world.specs.Life.{LifeIs}
+use Rattle.index_world.specs.Releases.{MayFree}
+use Rattle.std.specs.List.{AllByRecursion}
 use Rattle.index_world.specs.Onward.{Reread}
-use Rattle.index_world.specs.Steps.{Counted, quiet, MadeLaw, FailedLaw, ExistsLaw, Ends}
+use Rattle.index_world.specs.Steps.{Counted, noting, quiet, MadeLaw, FailedLaw, ExistsLaw, Ends}
 use Rattle.index_world.specs.World.{IsWorld, IsTimely}
 use Rattle.index_world.proofs.FileCalls.{LoadLaw, UnreadLaw, load_law, load_failed_law, load_short_law}
 use Rattle.index_world.proofs.Gates.{kept_by}
 use Rattle.index_world.proofs.Asking.{asked_least}
 use Rattle.index_world.proofs.InCore.{keeps_reread}
-use Rattle.index_world.proofs.JournalCalls.{calm_get, made_law, failed_law, exists_law}
+use Rattle.index_world.proofs.JournalCalls.{calm_get, noted_same, made_law, failed_law, exists_law}
 use Rattle.index_world.proofs.JournalLaws.{spells_own}
 use Rattle.index_world.proofs.Journals.{once}
 use Rattle.index_world.proofs.Lives.{knows_of}
@@ -191,7 +193,7 @@ module _ (old new : State) (core : Core) (log : Log) (text : List ℕ) (now : �
     -- it was made
     module _ (moment : ℕ) (at : moment ≡ core.clock) (tried : MakesFirst text moment mid new) where
       m : MadeLaw mid new asked log first now
-      m = made_law once mid new asked log first now world counts can (λ numbers is. cc is) (λ free. may) (spells_own first) (tries_at 0 (length asked.history) (create_at text moment) first (Ok tt) mid new at_start (first_is moment at) tried)
+      m = made_law once mid new asked log first now world counts can (λ config is numbers e. cc e) (λ free. may) (spells_own first) (tries_at 0 (length asked.history) (create_at text moment) first (Ok tt) mid new at_start (first_is moment at) tried)
 
       abbrev after : Core
       after = taken_in first m.after
@@ -199,8 +201,14 @@ module _ (old new : State) (core : Core) (log : Log) (text : List ℕ) (now : �
       whole : after.history ≡ create_at text core.clock ∷ []
       whole = ap (λ (es : List Entry). es ++ first ∷ []) (m.history ∙ l.history) ∙ ap (λ (e : Entry). e ∷ []) (sym (first_is core.clock refl))
 
+      noted : upkeep_of after ≡ noting asked.moment (upkeep_of asked) first
+      noted = noted_same asked m.after first m.moment m.upkeep
+
+      none_noted : upkeep_of after ≡ no_upkeep
+      none_noted = noted ∙ ap (λ (k : Upkeep). noting asked.moment k first) l.upkeep
+
       ends : Ends asked after (first ∷ []) false now
-      ends = ends_taken asked after first now (ap (λ (es : List Entry). es ++ first ∷ []) m.history) m.faults (ap (λ (n : ℕ). max n asked.moment) m.moment) m.clock refl
+      ends = ends_taken asked after first now (ap (λ (es : List Entry). es ++ first ∷ []) m.history) m.faults (ap (λ (n : ℕ). max n asked.moment) m.moment) m.clock noted refl
 
       timely_before : IsTimely asked
       timely_before =
@@ -209,6 +217,7 @@ module _ (old new : State) (core : Core) (log : Log) (text : List ℕ) (now : �
             moment = omega (arith, time, low);
             clock = omega (arith, clocks, low);
             room = λ u. absurd (true_is_false (sym (sym l.unsure ∙ u)));
+            doomed = subst (λ (ns : List ℕ). AllByRecursion (MayFree asked) ns) (sym (ap (λ (k : Upkeep). k.doomed) l.upkeep)) tt;
           }
 
       made_by : Reread old new core after log
@@ -230,9 +239,9 @@ module _ (old new : State) (core : Core) (log : Log) (text : List ℕ) (now : �
       moment_is : after.moment ≡ moment
       moment_is = let e = m.moment in let t = time in omega (arith, e, t, at)
 
-      world_made : {has : ℕ} (told' : Option State) (clock : Option ℕ) (life : Life) → told' ≡ Some new → clock ≡ Some core.clock → LifeIs life (create_at text moment ∷ []) moment false → CreatesWorld text core log (kept_by has told' now clock life false)
+      world_made : {has : ℕ} (told' : Option State) (clock : Option ℕ) (life : Life) → told' ≡ Some new → clock ≡ Some core.clock → LifeIs life (create_at text moment ∷ []) moment false no_upkeep → CreatesWorld text core log (kept_by has told' now clock life false)
       world_made told' clock life tells ticks k =
-          let knows = knows_of life (create_at text moment ∷ []) after.history moment after.moment false false (ap (λ (n : ℕ). create_at text n ∷ []) at ∙ sym whole) (sym moment_is) refl k in
+          let knows = knows_of life (create_at text moment ∷ []) after.history moment after.moment false false (ap (λ (n : ℕ). create_at text n ∷ []) at ∙ sym whole) (sym moment_is) refl (sym none_noted) k in
           record {
             after = after;
             creates = creates;
@@ -240,7 +249,7 @@ module _ (old new : State) (core : Core) (log : Log) (text : List ℕ) (now : �
               kept = new;
               told = tells;
               world = m.taken.world;
-              timely = timely_more asked after first now timely_before can ends;
+              timely = timely_more asked after first now timely_before can ends m.taken.world;
               store_faults = sym m.faults;
               clock = ticks ∙ ap (λ (x : ℕ × Bool). Some x.0) (sym clock_same);
               moment = knows.moment;
@@ -248,6 +257,8 @@ module _ (old new : State) (core : Core) (log : Log) (text : List ℕ) (now : �
               next = knows.next;
               unsure = knows.unsure;
               frozen = sym awake ∙ ap (λ (x : ℕ × Bool). x.1) (sym clock_same);
+              marks = knows.marks;
+              doomed = knows.doomed;
               opened = let e = ap length whole in omega (arith, e);
             };
             none = none;
@@ -272,7 +283,7 @@ module _ (old new : State) (core : Core) (log : Log) (text : List ℕ) (now : �
         IsUncreated error (not_created (faulted (store_fault core.store_faults now))) → CreatesNone text core log error told' now
     tried_none error told' moment tells at tried still rose says =
         let rises : Rose asked.store_faults now = subst (λ (n : ℕ). Rose n now) (sym (l.faults ∙ still)) rose in
-        let f : FailedLaw mid new asked log first now = failed_law once mid new asked log first now world counts rises can (λ numbers is. cc is) (λ free. may) (spells_own first) (tries_at 0 (length asked.history) (create_at text moment) first create_failed mid new at_start (first_is moment at) tried) in
+        let f : FailedLaw mid new asked log first now = failed_law once mid new asked log first now world counts rises can (λ config is numbers e. cc e) (λ free. may) (spells_own first) (tries_at 0 (length asked.history) (create_at text moment) first create_failed mid new at_start (first_is moment at) tried) in
         none_by error told' (fate_with l.fate f.call) (not_created (store_failed core.store_faults f.after)) f.after l.more tells (did_with f.call f.short ∙ ap (first_making core.store_faults first) f.did)
         (Reread-then old mid new core asked f.after log onward f.onward) (f.history ∙ l.grown) f.faults
         (subst (λ (n : ℕ). IsUncreated error (not_created (faulted (store_fault core.store_faults n)))) (sym f.faults) says) (f.history ∙ l.history ∙ sym none)

@@ -20,6 +20,8 @@ use Rattle.index_world.proofs.InCore.{unused-of}
 use Rattle.index_world.proofs.Journals.{once}
 use Rattle.index_world.proofs.StoreKeys.{split_outside}
 use Rattle.index_world.proofs.WholeFiles.{Fetches, fetches-within, whole_upload, whole_fetched, uploaded_in_hand}
+use Rattle.meta_journal.specs.declared.entry.Act.{Act}
+use Rattle.meta_journal.specs.declared.entry.Act.TheVariants as acts
 use Rattle.meta_store.specs.History.{history, last_number, last_opstamp}
 use Rattle.meta_store.specs.State as meta
 use Rattle.source_checkpoint.specs.declared.delta.Part.{Part}
@@ -32,22 +34,23 @@ use Rattle.index_world.specs.declared.life.Life.{Life}
 use Rattle.index_world.specs.declared.own.Own.{Own}
 use Rattle.index_world.specs.declared.own.Own.TheVariants as owns
 use Rattle.index_world.specs.declared.world_error.WorldError.{WorldError}
-use Rattle.index_world.specs.Calls.{Call, Fate, Grace, calm_call, file_sought, sought_unless, fetched_from, Unfetched, absent, hindered, is_expired, gives, Gives, Trouble, no_memory, appended, looked, asked, asked_and_looked, asked_clock, asked_moment, entry_of, upload_made, faulted, store_fault, store_failed}
+use Rattle.index_world.specs.Calls.{Call, Fate, Grace, calm_call, file_sought, sought_unless, fetched_from, Unfetched, absent, hindered, is_expired, gives, Gives, Trouble, no_memory, Unmade, troubled, Made, made, exists, failed, adopted_made, and_then, appended, asking, create_at_end, first_unless, get_at_end, last_create, may_append, or_short, settled, transact, troubled_by, looked, asked, asked_and_looked, asked_clock, asked_moment, entry_of, upload_made, faulted, store_fault, store_failed}
 use Rattle.index_world.specs.Config.{reads}
-use Rattle.index_world.specs.Core.{Core, last_count, file_at, journal_of, HasStagedIn, IsUnusedIn}
+use Rattle.index_world.specs.Core.{Core, last_count, file_at, journal_of, HasStagedIn, IsUnusedIn, taken_at, is_in, Upkeep, upkeep_of}
 use Rattle.index_world.specs.CallsMade.{Ask, made_of}
 use Rattle.index_world.specs.DirectLaws.{AnyNumber, Anything}
-use Rattle.index_world.specs.Gate.{Acts, Does, Says, NoneBetween, IsTrouble, IsUnfetched, IsUnmade, WasStaged, IsStagedIn, WasUploaded, IsMoment, IsPieceGiven}
-use Rattle.index_world.specs.Life.{LifeIs, StandsBy, SettledSure, SettledIn, Settling, OwnMade, Appending}
-use Rattle.index_world.specs.Owning.{own_act}
-use Rattle.index_world.specs.Steps.{Counted, greatest}
+use Rattle.index_world.specs.Gate.{Acts, ActsWith, Does, Says, SaysWith, NoneBetween, IsTrouble, IsUnfetched, IsUnmade, WasStaged, IsStagedIn, WasUploaded, IsMoment, IsPieceGiven}
+use Rattle.index_world.specs.Life.{LifeIs, StandsBy, SettledSure, SettledIn, Settling, OffersNothing, OwnDone, OwnMade, Appending}
+use Rattle.index_world.specs.Collecting.{Offer, adopted_offer, answered_by, appended_if, last_offer, offer_unless, transact_if}
+use Rattle.index_world.specs.Owning.{own_offer}
+use Rattle.index_world.specs.Steps.{Counted, greatest, noted_behind}
 use Rattle.index_world.specs.Taking.{IsWant, of_create, of_get}
 use Rattle.index_world.specs.Unsure.{is_unsure}
 use Rattle.index_world.specs.World.{IsWorld, IsTimely, Keeping, WorldStands}
-use Rattle.index_world.proofs.Asking.{timely_asked}
+use Rattle.index_world.proofs.Timely.{frees_later, timely_asked}
 use Rattle.index_world.proofs.Lives.{Told, told_of, want_trouble, knows_of}
 use Rattle.index_world.proofs.Numbers.{history-snoc, revision_is, staged_le}
-use Rattle.index_world.proofs.WholeCalls.{Whole, Looks, looks_sure, looks_settled, looks_unsettled, whole_appended, whole_asked, whole_looked, whole_asked_and_looked, world_asked, copied}
+use Rattle.index_world.proofs.WholeCalls.{went_on_asked, Whole, Looks, looks_sure, looks_settled, looks_unsettled, whole_asked, whole_looked, whole_asked_and_looked, world_asked, copied}
 use Rattle.index_world.proofs.Worlds.{world-same, world-frozen}
 
 -- ---- what a world keeps
@@ -64,11 +67,13 @@ kept_by given told count clock life frozen =
       next = life.journal.next;
       unsure = is_unsure life.journal.place;
       frozen = frozen;
+      marks = life.marks.items;
+      doomed = life.doomed.numbers.items;
     }
 
 pub stands_of : {had : ℕ} (told : Option State) (count : ℕ) (clock : Option ℕ) (life : Life) (frozen : Bool) (core : Core) (log : Log) → count ≤ last_count → (s : WorldStands (kept_by had told count clock life frozen) core log) → StandsBy s.kept core log count life
 stands_of told count clock life frozen core log within s =
-    record { world = s.world; timely = s.timely; faults = s.store_faults; within = within; knows = record { next = s.next; unsure = s.unsure; moment = s.moment; meta = s.meta }; opened = s.opened }
+    record { world = s.world; timely = s.timely; faults = s.store_faults; within = within; knows = record { next = s.next; unsure = s.unsure; moment = s.moment; meta = s.meta; marks = s.marks; doomed = s.doomed }; opened = s.opened }
 
 -- the world asks its clock where its core does
 asked_alike : (w : Keeping) (core : Core) (log : Log) → WorldStands w core log → asked_moment w.frozen w.moment core.clock ≡ (asked_clock core).moment
@@ -90,6 +95,8 @@ world_asks w w' core log s e =
       next = s.next;
       unsure = s.unsure;
       frozen = s.frozen;
+      marks = s.marks;
+      doomed = s.doomed;
       opened = s.opened;
     })
 
@@ -101,7 +108,7 @@ world_freezes w w' core log e s =
       kept = s.kept;
       told = s.told;
       world = world-frozen s.kept core log s.world;
-      timely = record { greatest = s.timely.greatest; moment = s.timely.moment; clock = s.timely.clock; room = s.timely.room };
+      timely = record { greatest = s.timely.greatest; moment = s.timely.moment; clock = s.timely.clock; room = s.timely.room; doomed = frees_later core (record core { frozen = true }) refl refl (omega arith) refl s.timely.doomed };
       store_faults = s.store_faults;
       clock = s.clock;
       moment = s.moment;
@@ -109,6 +116,8 @@ world_freezes w w' core log e s =
       next = s.next;
       unsure = s.unsure;
       frozen = refl;
+      marks = s.marks;
+      doomed = s.doomed;
       opened = s.opened;
     })
 
@@ -119,7 +128,7 @@ clocked w core log given moment s low e =
       kept = s.kept;
       told = s.told;
       world = world-same s.kept core log core.store_faults core.moment moment core.unsure s.world;
-      timely = record { greatest = s.timely.greatest; moment = s.timely.moment; clock = low; room = s.timely.room };
+      timely = record { greatest = s.timely.greatest; moment = s.timely.moment; clock = low; room = s.timely.room; doomed = frees_later core (record core { clock = moment }) refl refl (omega arith) refl s.timely.doomed };
       store_faults = s.store_faults;
       clock = ap Some e;
       moment = s.moment;
@@ -127,6 +136,8 @@ clocked w core log given moment s low e =
       next = s.next;
       unsure = s.unsure;
       frozen = s.frozen;
+      marks = s.marks;
+      doomed = s.doomed;
       opened = s.opened;
     }
 
@@ -136,7 +147,7 @@ frozen_asks core e = ap (λ (f : Bool). record core { moment = asked_moment f co
 -- ---- from a whole call
 
 pub world_by : {has : ℕ} (new : State) (start after : Core) (log : Log) (more : List Entry) (doubt : Bool) (now : ℕ) (told : Option State) (clock : Option ℕ) (life : Life) (frozen : Bool) {E : Type 0} (call : Fate → Core → Gives E ⊤) (one : Option ℕ) (core : Core) (answer : Core → Result ⊤ E) →
-    (u : Whole call one new core start log answer more doubt now) → told ≡ Some new → clock ≡ Some start.clock → frozen ≡ start.frozen → LifeIs life (start.history ++ more) (greatest start.moment more) doubt → WorldStands (kept_by has told now clock life frozen) u.after log
+    (u : Whole call one new core start log answer more doubt now) → told ≡ Some new → clock ≡ Some start.clock → frozen ≡ start.frozen → LifeIs life (start.history ++ more) (greatest start.moment more) doubt (noted_behind start.moment (upkeep_of start) more) → WorldStands (kept_by has told now clock life frozen) u.after log
 world_by new start after log more doubt now told clock life frozen call one core answer u t c f k =
     record {
       kept = new;
@@ -150,11 +161,13 @@ world_by new start after log more doubt now told clock life frozen call one core
       next = k.next ∙ ap length (sym u.ends.history);
       unsure = k.unsure ∙ sym u.ends.unsure;
       frozen = f ∙ ap (λ (k : ℕ × Bool). k.1) (sym u.ends.clock);
+      marks = λ n. k.marks n ∙ ap (λ (x : Upkeep). taken_at x.marks n) (sym u.ends.upkeep);
+      doomed = λ n. k.doomed n ∙ ap (λ (x : Upkeep). is_in x.doomed n) (sym u.ends.upkeep);
       opened = u.stands.opened;
     }
 
 pub does_by : {has : ℕ} {E A : Type 0} (call : Fate → Core → Gives E ⊤) (one : Option ℕ) (is : WorldError → E → Type 0) (holds : A → Core → Type 0) (r : Result A WorldError) (core start : Core) (log : Log) (new : State) (answer : Core → Result ⊤ E) (more : List Entry) (doubt : Bool) (now : ℕ)
-    (told : Option State) (clock : Option ℕ) (life : Life) (frozen : Bool) → (u : Whole call one new core start log answer more doubt now) → told ≡ Some new → clock ≡ Some start.clock → frozen ≡ start.frozen → LifeIs life (start.history ++ more) (greatest start.moment more) doubt →
+    (told : Option State) (clock : Option ℕ) (life : Life) (frozen : Bool) → (u : Whole call one new core start log answer more doubt now) → told ≡ Some new → clock ≡ Some start.clock → frozen ≡ start.frozen → LifeIs life (start.history ++ more) (greatest start.moment more) doubt (noted_behind start.moment (upkeep_of start) more) →
     Says is holds r (answer u.after) u.after → Acts WorldStands one call is holds r core log (kept_by has told now clock life frozen)
 does_by call one is holds r core start log new answer more doubt now told clock life frozen u t c f k says =
     record {
@@ -169,63 +182,179 @@ does_by call one is holds r core start log new answer more doubt now told clock 
 
 -- ---- a transaction
 
-pub says_on : {A B E : Type 0} (is : WorldError → E → Type 0) (P : A → Core → Type 0) (Q : B → Core → Type 0) (answer : Result ⊤ E) (after : Core) (a : A) (b : B) → Says is P (Ok a) answer after → (P a after → Q b after) → Says is Q (Ok b) answer after
-says_on is P Q (Ok done) after a b s f = f s
+pub says_on : {A B C E : Type 0} (is : WorldError → E → Type 0) (P : A → C → Core → Type 0) (Q : B → C → Core → Type 0) (answer : Result C E) (after : Core) (a : A) (b : B) → SaysWith is P (Ok a) answer after → ((c : C) → P a c after → Q b c after) →
+    SaysWith is Q (Ok b) answer after
+says_on is P Q (Ok c) after a b s f = f c s
 says_on is P Q (Err e) after a b s f = absurd s
 
-pub says_err : {A B E : Type 0} (is : WorldError → E → Type 0) (P : A → Core → Type 0) (Q : B → Core → Type 0) (answer : Result ⊤ E) (after : Core) (x : WorldError) (r : Result B WorldError) (Is : WorldError → Type 0) → Says is P (Err x) answer after →
-    IsErrAnd r Is → ((error : WorldError) → Is error → error ≡ x) → Says is Q r answer after
+pub says_err : {A B C E : Type 0} (is : WorldError → E → Type 0) (P : A → C → Core → Type 0) (Q : B → C → Core → Type 0) (answer : Result C E) (after : Core) (x : WorldError) (r : Result B WorldError) (Is : WorldError → Type 0) → SaysWith is P (Err x) answer after →
+    IsErrAnd r Is → ((error : WorldError) → Is error → error ≡ x) → SaysWith is Q r answer after
 says_err is P Q answer after x (Ok b) Is s h same = absurd h
 says_err is P Q (Ok done) after x (Err error) Is s h same = absurd s
 says_err is P Q (Err e) after x (Err error) Is s h same = subst (λ (y : WorldError). is y e) (sym (same error h)) s
+
+-- a transaction, whose call is the core's for what it offers
+abbrev pub own_call : Own → Fate → Core → Gives Unmade ℕ
+own_call own fate core = appended_if fate 0 (own_offer own) core
 
 module _ {had : ℕ} (told told' : Option State) (n now : ℕ) (clock : Option ℕ) (life life' : Life) (frozen : Bool) (core : Core) (log : Log) (s : WorldStands (kept_by had told n clock life frozen) (asked_clock core) log) (own : Own) where
   w : IsWorld s.kept core log
   w = world-same s.kept (asked_clock core) log core.store_faults core.moment core.clock core.unsure s.world
 
-  pub appends_ok : {has : ℕ} {A : Type 0} (Q : A → Core → Type 0) (a : A) → (x : Appending s.kept (asked_clock core) log own (Ok tt) told' now life') →
-      ((after : Core) → LifeIs life' after.history after.moment after.unsure → OwnMade own (asked_clock core) tt after → Q a after) →
-      Acts WorldStands None (λ fate c. appended fate (own_act own) c) IsUnmade Q (Ok a) core log (kept_by has told' now clock life' frozen)
-  appends_ok Q a x holds =
-      does_by (λ fate c. appended fate (own_act own) c) None IsUnmade Q (Ok a) core (asked_clock core) log x.new x.answer x.more x.doubt now told' clock life' frozen
-      (whole_appended s.kept x.new core log (own_act own) x.answer x.more x.doubt now w s.opened (record { later = x.counted.later; within = x.counted.within }) x.did) x.tells s.clock s.frozen
-      (life_behind' x)
-      (says_on IsUnmade (OwnMade own (asked_clock core)) Q (x.answer x.did.after) x.did.after tt a x.says (holds x.did.after x.stands.knows))
-    where
-      life_behind' : (x : Appending s.kept (asked_clock core) log own (Ok tt) told' now life') → LifeIs life' (core.history ++ x.more) (greatest (asked_clock core).moment x.more) x.doubt
-      life_behind' x =
-          knows_of life' x.did.after.history (core.history ++ x.more) x.did.after.moment (greatest (asked_clock core).moment x.more) x.did.after.unsure x.doubt x.did.ends.history x.did.ends.moment x.did.ends.unsure x.stands.knows
+  -- what was done, as a whole
+  pub appended_whole : {has : ℕ} {A : Type 0} (Q : A → ℕ → Core → Type 0) (given : Result A WorldError) (r : Result ℕ WorldError) → (x : Appending s.kept (asked_clock core) log own r told' now life') →
+      SaysWith IsUnmade Q given (x.answer x.did.after) x.did.after → ActsWith WorldStands None (own_call own) IsUnmade Q given core log (kept_by has told' now clock life' frozen)
+  appended_whole Q given r x says =
+      let c : Counted core now = record { later = x.counted.later; within = x.counted.within } in
+      record {
+        fate = record { unasked = false; first = x.did.first; second = x.did.second; third = x.did.third };
+        answer = x.answer x.did.after;
+        after = x.did.after;
+        did = x.did.did;
+        says = says;
+        goes_on = went_on_asked s.kept x.new core x.did.after log x.more x.doubt now w c x.did.onward x.did.ends;
+        stands = record {
+          kept = x.new;
+          told = x.tells;
+          world = x.stands.world;
+          timely = x.stands.timely;
+          store_faults = x.stands.faults;
+          clock = s.clock ∙ ap (λ (k : ℕ × Bool). Some k.0) (sym x.did.ends.clock);
+          moment = x.stands.knows.moment;
+          meta = x.stands.knows.meta;
+          next = x.stands.knows.next;
+          unsure = x.stands.knows.unsure;
+          frozen = s.frozen ∙ ap (λ (k : ℕ × Bool). k.1) (sym x.did.ends.clock);
+          marks = x.stands.knows.marks;
+          doomed = x.stands.knows.doomed;
+          opened = x.stands.opened;
+        };
+      }
 
-  pub appends_err : {has : ℕ} {A : Type 0} (Q : A → Core → Type 0) (e : WorldError) (r : Result A WorldError) (Is : WorldError → Type 0) → (x : Appending s.kept (asked_clock core) log own (Err e) told' now life') → IsErrAnd r Is → ((error : WorldError) → Is error → error ≡ e) →
-      Acts WorldStands None (λ fate c. appended fate (own_act own) c) IsUnmade Q r core log (kept_by has told' now clock life' frozen)
-  appends_err Q e r Is x h same =
-      does_by (λ fate c. appended fate (own_act own) c) None IsUnmade Q r core (asked_clock core) log x.new x.answer x.more x.doubt now told' clock life' frozen
-      (whole_appended s.kept x.new core log (own_act own) x.answer x.more x.doubt now w s.opened (record { later = x.counted.later; within = x.counted.within }) x.did) x.tells s.clock s.frozen
-      (knows_of life' x.did.after.history (core.history ++ x.more) x.did.after.moment (greatest (asked_clock core).moment x.more) x.did.after.unsure x.doubt x.did.ends.history x.did.ends.moment x.did.ends.unsure x.stands.knows)
-      (says_err IsUnmade (OwnMade own (asked_clock core)) Q (x.answer x.did.after) x.did.after e r Is x.says h same)
+  pub appends_ok : {has : ℕ} {A : Type 0} (Q : A → ℕ → Core → Type 0) (a : A) (rows : ℕ) → (x : Appending s.kept (asked_clock core) log own (Ok rows) told' now life') →
+      ((answered : ℕ) (after : Core) → LifeIs life' after.history after.moment after.unsure (upkeep_of after) → OwnDone own (asked_clock core) rows answered after → Q a answered after) →
+      ActsWith WorldStands None (own_call own) IsUnmade Q (Ok a) core log (kept_by has told' now clock life' frozen)
+  appends_ok {has} Q a rows x holds =
+      appended_whole {has = has} Q (Ok a) (Ok rows) x (says_on IsUnmade (OwnDone own (asked_clock core)) Q (x.answer x.did.after) x.did.after rows a x.says (λ answered d. holds answered x.did.after x.stands.knows d))
+
+  pub appends_err : {has : ℕ} {A : Type 0} (Q : A → ℕ → Core → Type 0) (e : WorldError) (r : Result A WorldError) (Is : WorldError → Type 0) → (x : Appending s.kept (asked_clock core) log own (Err e) told' now life') → IsErrAnd r Is → ((error : WorldError) → Is error → error ≡ e) →
+      ActsWith WorldStands None (own_call own) IsUnmade Q r core log (kept_by has told' now clock life' frozen)
+  appends_err {has} Q e r Is x h same =
+      appended_whole {has = has} Q r (Err e) x (says_err IsUnmade (OwnDone own (asked_clock core)) Q (x.answer x.did.after) x.did.after e r Is x.says h same)
+
+-- ---- of an act that there always is
+
+abbrev pub forgotten : {B E : Type 0} → Result B E → Result ⊤ E
+forgotten (Ok b) = Ok tt
+forgotten (Err e) = Err e
+
+abbrev pub forgets : {B E : Type 0} → Gives E B → Gives E ⊤
+forgets given = gives (forgotten given.answer) given.core
+
+abbrev pub always : (Core → Act) → Core → Option (Offer ℕ)
+always act core = Some (record { act = act core; answer = 0 })
+
+answers_forgotten : (r : Result ⊤ Unmade) (core : Core) → forgets {B = ℕ} (answered_by 0 r core) ≡ gives r core
+answers_forgotten (Ok done) core = refl
+answers_forgotten (Err e) core = refl
+
+last_always : (call : Call) (before : ℕ) (act : Core → Act) (core : Core) → forgets {B = ℕ} (last_offer call before 0 (always act core) core) ≡ last_create call before (act core) core
+last_always call before act core = answers_forgotten (last_create call before (act core) core).answer (last_create call before (act core) core).core
+
+then_always : (r : Result ⊤ Trouble) (core : Core) (call : Call) (before : ℕ) (act : Core → Act) →
+    forgets {B = ℕ} (and_then (troubled_by r core) (λ c. last_offer call before 0 (always act c) c)) ≡ and_then (troubled_by r core) (λ c. last_create call before (act c) c)
+then_always (Ok done) core call before act = last_always call before act core
+then_always (Err e) core call before act = refl
+
+made_always : (get again : Call) (before : ℕ) (act : Core → Act) (entry : Entry) (answer : Made) (start core : Core) →
+    forgets {B = ℕ} (adopted_offer get again before 0 (always act) (record { act = act start; answer = 0 }) entry answer core) ≡ adopted_made get again before act entry answer core
+made_always get again before act entry made start core = refl
+made_always get again before act entry (exists other) start core = then_always (get_at_end get other before core).answer (get_at_end get other before core).core again before act
+made_always get again before act entry failed start core = refl
+
+unless_always : (r : Result ⊤ Unmade) (first second third : Call) (act : Core → Act) (core : Core) →
+    forgets {B = ℕ} (offer_unless r first second third 0 (always act) (record { act = act core; answer = 0 }) core) ≡ first_unless r first second third act core
+unless_always (Err e) first second third act core = refl
+unless_always (Ok done) first second third act core =
+    made_always second third core.store_faults act (entry_of (act core) core) (create_at_end first (entry_of (act core) core) core).answer core (create_at_end first (entry_of (act core) core) core).core
+
+short_always : (short : Bool) (first second third : Call) (act : Core → Act) (core : Core) →
+    forgets {B = ℕ} (or_short short (troubled no_memory) first core (offer_unless (may_append (act core) core) first second third 0 (always act) (record { act = act core; answer = 0 }) core))
+    ≡ or_short short (troubled no_memory) first core (first_unless (may_append (act core) core) first second third act core)
+short_always true first second third act core = refl
+short_always false first second third act core = unless_always (may_append (act core) core) first second third act core
+
+transact_always : (unsure : Bool) (first second third : Call) (act : Core → Act) (core : Core) → forgets {B = ℕ} (transact_if unsure first second third 0 (always act) core) ≡ transact unsure first second third act core
+transact_always true first second third act core = then_always (settled first second core).answer (settled first second core).core third core.store_faults act
+transact_always false first second third act core = short_always first.short first second third act core
+
+-- A TRANSACTION of an act that there always is, is the one that offers it.
+pub appended_always : (fate : Fate) (act : Core → Act) (core : Core) → forgets {B = ℕ} (appended_if fate 0 (always act) core) ≡ appended fate act core
+appended_always fate act core = by fate.unasked
+  where
+    by : (unasked : Bool) → forgets {B = ℕ} (asking unasked (troubled no_memory) core (λ c. transact_if c.unsure fate.first fate.second fate.third 0 (always act) c)) ≡ asking unasked (troubled no_memory) core (λ c. transact c.unsure fate.first fate.second fate.third act c)
+    by true = refl
+    by false = transact_always (asked_clock core).unsure fate.first fate.second fate.third act (asked_clock core)
+
+says_forgotten : {A : Type 0} (Q : A → Core → Type 0) (r : Result A WorldError) (answer : Result ℕ Unmade) (after : Core) → SaysWith IsUnmade (λ a rows c. Q a c) r answer after → Says IsUnmade Q r (forgotten answer) after
+says_forgotten Q (Ok a) (Ok rows) after h = h
+says_forgotten Q (Ok a) (Err e) after h = h
+says_forgotten Q (Err error) (Ok rows) after h = h
+says_forgotten Q (Err error) (Err e) after h = h
+
+pub acts_always : {W A : Type 0} (Stands : W → Core → Log → Type 0) (act : Core → Act) (Q : A → Core → Type 0) (r : Result A WorldError) (core : Core) (log : Log) (new : W) →
+    ActsWith Stands None (λ fate c. appended_if fate 0 (always act) c) IsUnmade (λ a rows c. Q a c) r core log new → Acts Stands None (λ fate c. appended fate act c) IsUnmade Q r core log new
+acts_always Stands act Q r core log new d =
+    record {
+      fate = d.fate;
+      answer = forgotten d.answer;
+      after = d.after;
+      did = sym (appended_always d.fate act core) ∙ ap forgets d.did;
+      says = says_forgotten Q r d.answer d.after d.says;
+      goes_on = d.goes_on;
+      stands = d.stands;
+    }
 
 -- the number of entries that a life took in
-pub life_revision : (life : Life) (entries : List Entry) (time : ℕ) (doubt : Bool) → LifeIs life entries time doubt → life.meta.state.revision ≡ length entries
+pub life_revision : {upkeep : Upkeep} (life : Life) (entries : List Entry) (time : ℕ) (doubt : Bool) → LifeIs life entries time doubt upkeep → life.meta.state.revision ≡ length entries
 life_revision life entries time doubt k = ap (λ (m : meta.State). m.revision) k.meta ∙ revision_is entries
 
-pub life_opstamp : (life : Life) (entries : List Entry) (time : ℕ) (doubt : Bool) → LifeIs life entries time doubt → life.meta.state.last_opstamp ≡ last_opstamp (history entries)
+pub life_opstamp : {upkeep : Upkeep} (life : Life) (entries : List Entry) (time : ℕ) (doubt : Bool) → LifeIs life entries time doubt upkeep → life.meta.state.last_opstamp ≡ last_opstamp (history entries)
 life_opstamp life entries time doubt k = ap (λ (m : meta.State). m.last_opstamp) k.meta
 
-pub staged_holds : (delta : List Part) (facts : RowFacts) (d : Bor (List Part)) (f : Bor RowFacts) (core after : Core) (life : Life) (number opstamp : ℕ) → d.now ≡ delta → f.now ≡ facts → LifeIs life after.history after.moment after.unsure → OwnMade (owns.Stage d f) (asked_clock core) tt after →
-    number ≡ life.meta.state.last_number → opstamp ≡ life.meta.state.last_opstamp → WasStaged core delta facts (record { number = number; opstamp = opstamp }) after
-staged_holds delta facts d f core after life number opstamp ed ef k m n o =
+-- a Stage is always offered
+staged_made : (d : Bor (List Part)) (f : Bor RowFacts) (core after : Core) (rows answered : ℕ) → OwnDone (owns.Stage d f) core rows answered after → OwnMade (owns.Stage d f) core after
+staged_made d f core after rows answered done = by done.1
+  where
+    by : OffersNothing (owns.Stage d f) ⊎ OwnMade (owns.Stage d f) core after → OwnMade (owns.Stage d f) core after
+    by (inl none) = let bad : ◌≡◌ {A = Option (Offer ℕ)} (own_offer (owns.Stage d f) none.0) None = none.1 in cc bad
+    by (inr m) = m
+
+pub staged_holds : (delta : List Part) (facts : RowFacts) (d : Bor (List Part)) (f : Bor RowFacts) (core after : Core) (life : Life) (number opstamp rows answered : ℕ) → d.now ≡ delta → f.now ≡ facts → LifeIs life after.history after.moment after.unsure (upkeep_of after) →
+    OwnDone (owns.Stage d f) (asked_clock core) rows answered after → number ≡ life.meta.state.last_number → opstamp ≡ life.meta.state.last_opstamp → WasStaged core delta facts (record { number = number; opstamp = opstamp }) after
+staged_holds delta facts d f core after life number opstamp rows answered ed ef k done n o =
     record {
       number = n ∙ ap (λ (x : meta.State). x.last_number) k.meta;
       apart = λ x h. let low = staged_le (history m.before.history) x (m.was x h) in omega (arith, low, number_is);
       opstamp = o ∙ life_opstamp life after.history after.moment after.unsure k;
-      in_hand = subst (λ (x : ℕ). IsStagedIn delta facts after x) (sym number_is) (let h = m.fresh (last_number (history m.before.history) + 1) d.now f.now refl in
+      in_hand = subst (λ (x : ℕ). IsStagedIn delta facts after x) (sym number_is) (let h = m.fresh (last_number (history m.before.history) + 1) d.now f.now (ap (λ (x : Offer ℕ). x.act) offer_is) in
           record { unused = h.0; staged = subst (λ (y : List Part). HasStagedIn after (last_number (history m.before.history) + 1) y facts) ed (subst (λ (y : RowFacts). HasStagedIn after (last_number (history m.before.history) + 1) d.now y) ef h.1) });
     }
   where
+    m : OwnMade (owns.Stage d f) (asked_clock core) after
+    m = staged_made d f (asked_clock core) after rows answered done
+
+    offer_is : m.offer ≡ record { act = acts.Stage (last_number (history m.before.history) + 1) d.now f.now; answer = 0 }
+    offer_is =
+        let same : ◌≡◌ {A = Option (Offer ℕ)} (Some (record { act = acts.Stage (last_number (history m.before.history) + 1) d.now f.now; answer = 0 })) (Some m.offer) = m.offered in
+        let is : ◌≡◌ {A = Offer ℕ} (record { act = acts.Stage (last_number (history m.before.history) + 1) d.now f.now; answer = 0 }) m.offer = cc same in
+        sym is
+
     number_is : number ≡ last_number (history m.before.history) + 1
     number_is =
         let e : last_number (history after.history) ≡ max (last_number (history m.before.history)) (last_number (history m.before.history) + 1) =
-        ap (λ es. last_number (history es)) m.history ∙ ap last_number (history-snoc m.before.history (entry_of (own_act (owns.Stage d f) m.before) m.before)) in
+        ap (λ es. last_number (history es)) (m.history ∙ ap (λ (x : Offer ℕ). m.before.history ++ entry_of x.act m.before ∷ []) offer_is)
+        ∙ ap last_number (history-snoc m.before.history (entry_of (acts.Stage (last_number (history m.before.history) + 1) d.now f.now) m.before)) in
         let a : number ≡ last_number (history after.history) = n ∙ ap (λ (x : meta.State). x.last_number) k.meta in
         omega (arith, e, a)
 
@@ -245,7 +374,7 @@ record Looked (old : State) (core : Core) (log : Log) (short : Bool) (told : Opt
   more : List Entry
   doubt : Bool
   looks : Looks old new core log (behind_short short) more doubt now
-  knows : LifeIs life (core.history ++ more) (greatest core.moment more) doubt
+  knows : LifeIs life (core.history ++ more) (greatest core.moment more) doubt (noted_behind core.moment (upkeep_of core) more)
 
 -- settling was Ok, and then the copy was given or found no memory
 looked_of : (old : State) (core : Core) (log : Log) (short : Bool) (told : Option State) (now : ℕ) (life : Life) (count : ℕ) (start : Life) → StandsBy old core log count start → Settling old core log (Ok tt) told now life → Looked old core log short told now life
@@ -260,7 +389,7 @@ looked_of old core log short told now life count start b s = by s.did
           more = [];
           doubt = core.unsure;
           looks = subst (λ (n : ℕ). Looks old old core log (behind_short short) [] core.unsure n) (sym d.stands.faults) (looks_by short (looks_sure old core log short b.world b.timely d.sure));
-          knows = knows_of life core.history (core.history ++ []) core.moment core.moment core.unsure core.unsure (sym (append-nil core.history)) refl refl d.stands.knows;
+          knows = knows_of life core.history (core.history ++ []) core.moment core.moment core.unsure core.unsure (sym (append-nil core.history)) refl refl refl d.stands.knows;
         }
       where
         looks_by : (short : Bool) → Looks old old core log (copied short) [] core.unsure core.store_faults → Looks old old core log (behind_short short) [] core.unsure core.store_faults
@@ -276,7 +405,7 @@ looked_of old core log short told now life count start b s = by s.did
           more = d.entry ∷ [];
           doubt = false;
           looks = looks_by short (looks_settled old s.new core log d.entry now short b.timely d.can d.step);
-          knows = knows_of life d.step.after.history (core.history ++ d.entry ∷ []) d.step.after.moment (max core.moment d.entry.moment) d.step.after.unsure false d.step.history d.step.moment d.step.unsure d.stands.knows;
+          knows = knows_of life d.step.after.history (core.history ++ d.entry ∷ []) d.step.after.moment (max core.moment d.entry.moment) d.step.after.unsure false d.step.history d.step.moment d.step.unsure d.step.upkeep d.stands.knows;
         }
       where
         looks_by : (short : Bool) → Looks old s.new core log (copied short) (d.entry ∷ []) false now → Looks old s.new core log (behind_short short) (d.entry ∷ []) false now
@@ -301,16 +430,16 @@ module _ {had has : ℕ} (call : Fate → Core → Gives Trouble ⊤) (told told
       let l = looks_unsettled s.kept x.new start log d.trouble now s.timely d.doubt d.step in
       let u = wholes x.new (λ after. Err (d.trouble after)) [] true now x.counted l in
       does_by call None IsTrouble Q (Err error) core start log x.new (λ after. Err (d.trouble after)) [] true now told' clock life' frozen u.0 x.tells s.clock s.frozen
-      (knows_of life' d.step.after.history (start.history ++ []) d.step.after.moment start.moment d.step.after.unsure true (d.step.history ∙ sym (append-nil start.history)) d.step.moment d.step.unsure d.stands.knows)
+      (knows_of life' d.step.after.history (start.history ++ []) d.step.after.moment start.moment d.step.after.unsure true (d.step.history ∙ sym (append-nil start.history)) d.step.moment d.step.unsure d.step.upkeep d.stands.knows)
       (subst (λ (y : WorldError). IsTrouble y (d.trouble u.0.after)) (sym (same error h)) (subst (λ (a : Core). IsTrouble e (d.trouble a)) (sym u.1) d.is))
 
-  pub looks_ok : {A : Type 0} (Q : A → Core → Type 0) (a : A) → Settling s.kept start log (Ok tt) told' now life' → ((after : Core) → LifeIs life' after.history after.moment after.unsure → Q a after) →
+  pub looks_ok : {A : Type 0} (Q : A → Core → Type 0) (a : A) → Settling s.kept start log (Ok tt) told' now life' → ((after : Core) → LifeIs life' after.history after.moment after.unsure (upkeep_of after) → Q a after) →
       Acts WorldStands None call IsTrouble Q (Ok a) core log (kept_by has told' now clock life' frozen)
   looks_ok Q a x holds =
       let l = looked_of s.kept start log false told' now life' n life (stands_of told n clock life frozen start log within s) x in
       let u = (wholes l.new (behind_short false) l.more l.doubt now l.counted l.looks).0 in
       does_by call None IsTrouble Q (Ok a) core start log l.new (behind_short false) l.more l.doubt now told' clock life' frozen u l.tells s.clock s.frozen l.knows
-      (holds u.after (knows_of life' (start.history ++ l.more) u.after.history (greatest start.moment l.more) u.after.moment l.doubt u.after.unsure (sym u.ends.history) (sym u.ends.moment) (sym u.ends.unsure) l.knows))
+      (holds u.after (knows_of life' (start.history ++ l.more) u.after.history (greatest start.moment l.more) u.after.moment l.doubt u.after.unsure (sym u.ends.history) (sym u.ends.moment) (sym u.ends.unsure) (sym u.ends.upkeep) l.knows))
 
   pub looks_wants : {A : Type 0} (Q : A → Core → Type 0) (r : Result A WorldError) (Is : WorldError → Type 0) → Settling s.kept start log (Ok tt) told' now life' → IsErrAnd r Is → ((error : WorldError) → Is error → IsWant error) →
       Acts WorldStands None call IsTrouble Q r core log (kept_by has told' now clock life' frozen)
@@ -347,8 +476,8 @@ asks_alone w w' core log s e m same =
 
 -- ---- files
 
-same_life : (life : Life) (core : Core) → LifeIs life core.history core.moment core.unsure → LifeIs life (core.history ++ []) (greatest core.moment []) core.unsure
-same_life life core k = knows_of life core.history (core.history ++ []) core.moment core.moment core.unsure core.unsure (sym (append-nil core.history)) refl refl k
+same_life : (life : Life) (core : Core) → LifeIs life core.history core.moment core.unsure (upkeep_of core) → LifeIs life (core.history ++ []) (greatest core.moment []) core.unsure (upkeep_of core)
+same_life life core k = knows_of life core.history (core.history ++ []) core.moment core.moment core.unsure core.unsure (sym (append-nil core.history)) refl refl refl k
 
 landed_then : (old new mid : State) → HasLanded old mid → new ≡ mid → HasLanded old new
 landed_then old new mid l e = (l.0, e ∙ l.1)
@@ -366,8 +495,8 @@ uploads {had} {has} told told' n now clock life frozen core log s number key byt
     unused : IsUnused s.kept (journal_of core) number
     unused = unused-of s.kept core number s.world.stands_for u
 
-    knows : LifeIs life core.history core.moment core.unsure
-    knows = record { next = s.next; unsure = s.unsure; moment = s.moment; meta = s.meta }
+    knows : LifeIs life core.history core.moment core.unsure (upkeep_of core)
+    knows = record { next = s.next; unsure = s.unsure; moment = s.moment; meta = s.meta; marks = s.marks; doomed = s.doomed }
 
     lands : (answer : Result ⊤ CreateError) (new : State) → LandsThen (Creates key bytes answer) s.kept new → LandsThen (Creates (split_key number) bytes answer) s.kept new
     lands answer new l = subst (λ (k : List ℕ). LandsThen (Creates k bytes answer) s.kept new) ek l
@@ -447,8 +576,8 @@ fetches {had} {has} grace told told' n now clock life frozen core log s low numb
     counted : Counted (asked_clock core) now
     counted = record { later = let a = cause.later in let f = s.store_faults in omega (arith, a, f); within = within }
 
-    knows : LifeIs life core.history (asked_clock core).moment core.unsure
-    knows = record { next = s.next; unsure = s.unsure; moment = s.moment; meta = s.meta }
+    knows : LifeIs life core.history (asked_clock core).moment core.unsure (upkeep_of core)
+    knows = record { next = s.next; unsure = s.unsure; moment = s.moment; meta = s.meta; marks = s.marks; doomed = s.doomed }
 
     ends_by : (r : Result Piece WorldError) (new : State) (a : Core → Result ⊤ Unfetched) → told' ≡ Some new → (f : Fetches grace number s.kept new core log a now) → Says IsUnfetched (IsPieceGiven number from len) r (a f.after) f.after → IsFetch grace number from len core log (kept_by has told' now clock life frozen) r
     ends_by r new a tells f says =

@@ -11,7 +11,7 @@ use Rattle.object_store.specs.Store.{State, landed, with_object, with_late, HasL
 use Rattle.object_store.specs.declared.store.CreateError.TheVariants as creates
 use Rattle.source_log.specs.Log.{Log}
 use Rattle.index_world.specs.Calls.{Call, Effect, done_at_once, done_late, done_never, exists, failed, Making, made_behind, made_at, create_at_end, tried, begun, risen, may_fail, taken_in, got_at, get_at_end, gives, store_failed}
-use Rattle.index_world.specs.Core.{Core, late_entry, last_count, clock_of}
+use Rattle.index_world.specs.Core.{Core, late_entry, last_count, clock_of, Upkeep, upkeep_of}
 use Rattle.index_world.specs.Index.{OneEntry, MayEnter, IsUnused, HasStaged}
 use Rattle.index_world.specs.World.{IsWorld}
 use Rattle.index_world.specs.Onward.{Onward, Landing}
@@ -19,9 +19,10 @@ use Rattle.index_world.proofs.StoreKeys.{true_is_false}
 use Rattle.index_world.proofs.Journals.{journal-end, stand-of}
 use Rattle.index_world.proofs.Indexing.{longer}
 use Rattle.index_world.proofs.Landing.{journal_none, journal_some, standing_number}
-use Rattle.index_world.proofs.Living.{NoRemove, live-on}
+use Rattle.index_world.proofs.Living.{Releases, releases-on, live-on}
 use Rattle.index_world.proofs.Worlds.{Onward-trans, world-lands, world-same, onward-same}
 use Rattle.index_world.proofs.WorldCalls.{Entered, world-enters, world-tried, world-taken}
+use Rattle.index_world.specs.Steps.{noting}
 pub use Rattle.index_world.specs.Steps.{Counted, quiet, MadeLaw, AdoptedLaw, FailedLaw, ExistsLaw}
 
 -- ---- counts
@@ -47,6 +48,7 @@ pub record Begun (old mid : State) (core after : Core) (log : Log) (now : ℕ) :
   pub faults : after.store_faults ≡ now
   pub moment : after.moment ≡ core.moment
   pub clock : clock_of after ≡ clock_of core
+  pub upkeep : upkeep_of after ≡ upkeep_of core
   pub unsure : after.unsure ≡ core.unsure
   pub enters : after.standing ≡ None → (entry : Entry) → (core.standing ≡ None → MayEnter old core.history log entry) → MayEnter mid core.history log entry
 
@@ -60,6 +62,7 @@ world-begins once old mid core log now call w c rises at =
       faults = l.same.store_faults ∙ ap (risen core.store_faults) rises ∙ risen_is core now c;
       moment = l.same.moment;
       clock = l.same.clock;
+      upkeep = λ j. record { marks = l.same.marks j; doomed = l.same.doomed j };
       unsure = l.same.unsure;
       enters = λ none entry may. l.enters none entry (may (l.was none));
     })
@@ -69,6 +72,10 @@ world-begins once old mid core log now call w c rises at =
 
     l : Landing old (landed call.lands old) counted (begun call core) log
     l = world-lands once old counted log call.lands (world-same old core log (risen core.store_faults call.rises) core.moment core.clock core.unsure w)
+
+-- what is noted of an entry that is taken in behind what landed
+pub noted_same : (core mid : Core) (entry : Entry) → mid.moment ≡ core.moment → upkeep_of mid ≡ upkeep_of core → noting mid.moment (upkeep_of mid) entry ≡ noting core.moment (upkeep_of core) entry
+noted_same core mid entry m u = ap (λ n. noting n (upkeep_of mid) entry) m ∙ ap (λ k. noting core.moment k entry) u
 
 -- ---- what stands at the end
 
@@ -108,7 +115,7 @@ entry_stands once kept core log f w h = by (something_stands kept core log w (ap
 
 -- ---- the create was Ok
 
-pub made_law : OneEntry → (old new : State) (core : Core) (log : Log) (entry : Entry) (now : ℕ) → IsWorld old core log → Counted core now → CanSpell entry → NoRemove entry →
+pub made_law : OneEntry → (old new : State) (core : Core) (log : Log) (entry : Entry) (now : ℕ) → IsWorld old core log → Counted core now → CanSpell entry → Releases core entry →
     (core.standing ≡ None → MayEnter old core.history log entry) → Spells (spelling entry) entry → LandsThen (Creates (meta_key (length core.history)) (spelling entry) (Ok tt)) old new →
     MadeLaw old new core log entry now
 made_law once old new core log entry now w c can keeps may spells t =
@@ -124,6 +131,7 @@ made_law once old new core log entry now w c can keeps may spells t =
       faults = b.faults;
       moment = b.moment;
       clock = b.clock;
+      upkeep = b.upkeep;
       fresh = λ number delta facts p. subst (λ k. IsUnused k (core.history ++ entry ∷ []) number × HasStaged (core.history ++ entry ∷ []) number delta facts) (sym is)
           (subst (λ es. IsUnused (with_object t.0 (meta_key (length mid.history)) (spelling entry)) (es ++ entry ∷ []) number × HasStaged (es ++ entry ∷ []) number delta facts) b.history (entered.fresh number delta facts p));
     }
@@ -141,7 +149,7 @@ made_law once old new core log entry now w c can keeps may spells t =
     none = nothing_stands t.0 mid log b.onward.world (ap (λ es. numbered t.0 (length es)) b.history ∙ t.2.0)
 
     entered : Entered t.0 (with_object t.0 (meta_key (length mid.history)) (spelling entry)) mid log entry mid.unsure
-    entered = world-enters t.0 mid log entry (spelling entry) mid.unsure b.onward.world none spells keeps (subst (λ es. MayEnter t.0 es log entry) (sym b.history) (b.enters none entry may))
+    entered = world-enters t.0 mid log entry (spelling entry) mid.unsure b.onward.world none spells (releases-on core mid entry b.history (ap (λ (u : Upkeep). u.marks) b.upkeep) keeps) (subst (λ es. MayEnter t.0 es log entry) (sym b.history) (b.enters none entry may))
 
     is : new ≡ with_object t.0 (meta_key (length mid.history)) (spelling entry)
     is = t.2.1 ∙ ap (λ es. with_object t.0 (meta_key (length es)) (spelling entry)) (sym b.history)
@@ -182,10 +190,12 @@ adopted_law once old new core log tried_entry entry before now w c t h =
       mid_faults = b.faults;
       mid_moment = b.moment;
       mid_clock = b.clock;
+      mid_upkeep = b.upkeep;
       history = ap (λ es. es ++ entry ∷ []) b.history;
       faults = still_counted mid.store_faults now b.faults c.within;
       moment = ap (λ m. max m entry.moment) b.moment;
       clock = b.clock;
+      upkeep = noted_same core mid entry b.moment b.upkeep;
     }
   where
     mid : Core
@@ -206,7 +216,7 @@ has_failed core = record { answer = failed; core = core }
 
 -- ---- the create failed
 
-pub failed_law : OneEntry → (old new : State) (core : Core) (log : Log) (entry : Entry) (now : ℕ) → IsWorld old core log → Counted core now → Rose core.store_faults now → CanSpell entry → NoRemove entry →
+pub failed_law : OneEntry → (old new : State) (core : Core) (log : Log) (entry : Entry) (now : ℕ) → IsWorld old core log → Counted core now → Rose core.store_faults now → CanSpell entry → Releases core entry →
     (core.standing ≡ None → MayEnter old core.history log entry) → Spells (spelling entry) entry → LandsThen (Creates (meta_key (length core.history)) (spelling entry) (Err creates.Failed)) old new →
     FailedLaw old new core log entry now
 failed_law once old new core log entry now w c rose can keeps may spells t = by t.2
@@ -227,7 +237,7 @@ failed_law once old new core log entry now w c rose can keeps may spells t = by 
         ⊎ ((new ≡ with_late t.0 (meta_key (length core.history)) (spelling entry)) ⊎ (new ≡ t.0)) → FailedLaw old new core log entry now
     by (inl d) =
         let none : mid.standing ≡ None = nothing_stands t.0 mid log b.onward.world (ap (λ es. numbered t.0 (length es)) b.history ∙ d.0) in
-        let entered = world-enters t.0 mid log entry (spelling entry) true b.onward.world none spells keeps (subst (λ es. MayEnter t.0 es log entry) (sym b.history) (b.enters none entry may)) in
+        let entered = world-enters t.0 mid log entry (spelling entry) true b.onward.world none spells (releases-on core mid entry b.history (ap (λ (u : Upkeep). u.marks) b.upkeep) keeps) (subst (λ es. MayEnter t.0 es log entry) (sym b.history) (b.enters none entry may)) in
         let is : new ≡ with_object t.0 (meta_key (length mid.history)) (spelling entry) = d.1 ∙ ap (λ es. with_object t.0 (meta_key (length es)) (spelling entry)) (sym b.history) in
         record {
           call = call done_at_once;
@@ -239,11 +249,12 @@ failed_law once old new core log entry now w c rose can keeps may spells t = by 
           faults = b.faults;
           moment = b.moment;
           clock = b.clock;
+          upkeep = b.upkeep;
           unsure = refl;
         }
     by (inr (inl d)) =
         let is : new ≡ with_late t.0 (meta_key (length mid.history)) (spelling entry) = d ∙ ap (λ es. with_late t.0 (meta_key (length es)) (spelling entry)) (sym b.history) in
-        let onward = world-tried t.0 mid log entry (spelling entry) b.onward.world can spells keeps (λ none. subst (λ es. MayEnter t.0 es log entry) (sym b.history) (b.enters none entry may)) in
+        let onward = world-tried t.0 mid log entry (spelling entry) b.onward.world can spells (releases-on core mid entry b.history (ap (λ (u : Upkeep). u.marks) b.upkeep) keeps) (λ none. subst (λ es. MayEnter t.0 es log entry) (sym b.history) (b.enters none entry may)) in
         record {
           call = call done_late;
           short = refl;
@@ -254,6 +265,7 @@ failed_law once old new core log entry now w c rose can keeps may spells t = by 
           faults = b.faults;
           moment = b.moment;
           clock = b.clock;
+          upkeep = b.upkeep;
           unsure = refl;
         }
     by (inr (inr is)) =
@@ -269,6 +281,7 @@ failed_law once old new core log entry now w c rose can keeps may spells t = by 
           faults = b.faults;
           moment = b.moment;
           clock = b.clock;
+          upkeep = b.upkeep;
           unsure = refl;
         }
 
@@ -288,6 +301,7 @@ exists_law once old new core log entry now w c t h =
       faults = b.faults;
       moment = b.moment;
       clock = b.clock;
+      upkeep = b.upkeep;
       unsure = b.unsure;
     }
   where
@@ -314,6 +328,7 @@ pub record GetFailedLaw (old new : State) (core : Core) (log : Log) (entry : Ent
   pub faults : after.store_faults ≡ now
   pub moment : after.moment ≡ core.moment
   pub clock : clock_of after ≡ clock_of core
+  pub upkeep : upkeep_of after ≡ upkeep_of core
   pub unsure : after.unsure ≡ true
 
 pub get_failed_law : OneEntry → (old new : State) (core : Core) (log : Log) (entry : Entry) (before now : ℕ) → IsWorld old core log → Counted core now → Rose core.store_faults now →
@@ -332,6 +347,7 @@ get_failed_law once old new core log entry before now w c rose t h =
       faults = ap (λ n. risen n (now - core.store_faults)) e.faults ∙ risen_is core now c;
       moment = e.moment;
       clock = e.clock;
+      upkeep = e.upkeep;
       unsure = refl;
     }
   where

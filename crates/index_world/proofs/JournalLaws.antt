@@ -19,10 +19,10 @@ use Rattle.index_world.specs.Index.{MayEnter}
 use Rattle.index_world.specs.World.{IsWorld, IsTimely}
 use Rattle.index_world.proofs.Journals.{once, stand-of}
 use Rattle.index_world.proofs.Numbers.{history-snoc}
-use Rattle.index_world.proofs.Living.{NoRemove}
+use Rattle.index_world.proofs.Living.{Releases}
 use Rattle.index_world.proofs.Landing.{journal_some}
 use Rattle.index_world.proofs.Asking.{fence_enters}
-use Rattle.index_world.proofs.JournalCalls.{Counted, Begun, quiet, failing, calm_get, world-begins, made_law, adopted_law, failed_law, exists_law, get_failed_law, MadeLaw, AdoptedLaw, FailedLaw, ExistsLaw, GetFailedLaw, something_stands, last_entry, still_counted, Unread}
+use Rattle.index_world.proofs.JournalCalls.{Counted, Begun, noted_same, quiet, failing, calm_get, world-begins, made_law, adopted_law, failed_law, exists_law, get_failed_law, MadeLaw, AdoptedLaw, FailedLaw, ExistsLaw, GetFailedLaw, something_stands, last_entry, still_counted, Unread}
 use Rattle.index_world.proofs.Transactions.{settled_made, settled_made_short, settled_adopted, settled_failed, settled_get_failed, settled_short, settled_by}
 pub use Rattle.index_world.specs.Steps.{Settled, Unsettled}
 
@@ -57,7 +57,7 @@ corrupt_never old new core log now key w c t corrupt = by (something_stands new 
 
 -- ---- what an append answered
 
-module _ (old new : State) (core : Core) (log : Log) (act : Act) (now : ℕ) (w : IsWorld old core log) (c : Counted core now) (can : CanSpell (entry_of act core)) (keeps : NoRemove (entry_of act core))
+module _ (old new : State) (core : Core) (log : Log) (act : Act) (now : ℕ) (w : IsWorld old core log) (c : Counted core now) (can : CanSpell (entry_of act core)) (keeps : Releases core (entry_of act core))
     (may : core.standing ≡ None → MayEnter old core.history log (entry_of act core)) where
   pub appends_made : (m : ℕ) → Appends (length core.history) (entry_of act core) (Ok m) old new → MadeLaw old new core log (entry_of act core) now
   appends_made m a = made_law once old new core log (entry_of act core) now w c can keeps may (spells_own (entry_of act core)) a.1
@@ -96,8 +96,8 @@ module _ (old new : State) (core : Core) (log : Log) (now : ℕ) (w : IsWorld ol
   can_fence : CanSpell (fence_of core)
   can_fence = record { moment = t.moment; act = tt }
 
-  keeps_fence : NoRemove (fence_of core)
-  keeps_fence numbers is = cc is
+  keeps_fence : Releases core (fence_of core)
+  keeps_fence config is numbers e = cc e
 
   may_fence : core.standing ≡ None → MayEnter old core.history log (fence_of core)
   may_fence none = fence_enters old core log (legal_history old core log w) some t unsure
@@ -117,6 +117,7 @@ module _ (old new : State) (core : Core) (log : Log) (now : ℕ) (w : IsWorld ol
         faults = m.faults;
         moment = ap (λ n. max n core.moment) m.moment;
         clock = m.clock;
+        upkeep = noted_same core m.after (fence_of core) m.moment m.upkeep;
         unsure = refl;
       }
 
@@ -132,6 +133,7 @@ module _ (old new : State) (core : Core) (log : Log) (now : ℕ) (w : IsWorld ol
         faults = a.faults;
         moment = a.moment;
         clock = a.clock;
+        upkeep = a.upkeep;
         unsure = a.sure;
       }
 
@@ -154,6 +156,7 @@ module _ (old new : State) (core : Core) (log : Log) (now : ℕ) (w : IsWorld ol
         faults = m.faults;
         moment = m.moment;
         clock = m.clock;
+        upkeep = m.upkeep;
         unsure = refl;
       }
   settles_short f (inr read) =
@@ -168,6 +171,7 @@ module _ (old new : State) (core : Core) (log : Log) (now : ℕ) (w : IsWorld ol
         faults = still_counted a.mid.store_faults now a.mid_faults c.within;
         moment = a.mid_moment;
         clock = a.mid_clock;
+        upkeep = a.mid_upkeep;
         unsure = or_yes a.mid.unsure;
       }
 
@@ -185,6 +189,7 @@ module _ (old new : State) (core : Core) (log : Log) (now : ℕ) (w : IsWorld ol
         faults = f.faults;
         moment = f.moment;
         clock = f.clock;
+        upkeep = f.upkeep;
         unsure = f.unsure;
       }
   settles_fault x y rose (inr got) =
@@ -199,6 +204,7 @@ module _ (old new : State) (core : Core) (log : Log) (now : ℕ) (w : IsWorld ol
         faults = g.faults;
         moment = g.moment;
         clock = g.clock;
+        upkeep = g.upkeep;
         unsure = g.unsure;
       }
 
@@ -218,5 +224,6 @@ module _ (old new : State) (core : Core) (log : Log) (now : ℕ) (w : IsWorld ol
         faults = b.faults;
         moment = b.moment;
         clock = b.clock;
+        upkeep = b.upkeep;
         unsure = b.unsure ∙ unsure;
       }

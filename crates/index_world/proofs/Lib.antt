@@ -8,6 +8,7 @@ pub mod Asking
 pub mod Answering
 pub mod Following
 pub mod Configured
+pub mod Timely
 pub mod Removed
 pub mod Rows
 pub mod Deleting
@@ -34,11 +35,17 @@ pub mod JournalLaws
 pub mod WholeCalls
 pub mod WholeFiles
 pub mod Lives
+pub mod Halves
+pub mod NextDoomed
+pub mod RowNumbers
+pub mod Markings
 pub mod Settling
 pub mod Creating
 pub mod Appending
 pub mod Gates
+pub mod RowCalls
 pub mod Sweeping
+pub mod DoomCalls
 pub mod Fronts
 pub mod Preparing
 pub mod Reading
@@ -49,3 +56,6 @@ pub mod FirstCalls
 pub mod FetchLaws
 pub mod Agreement
 pub mod AskedLaws
+pub mod SweepPages
+pub mod Swept
+pub mod SweepLists

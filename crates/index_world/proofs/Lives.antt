@@ -20,16 +20,18 @@ use Rattle.source_log.specs.Log.{Log}
 use Rattle.index_world.specs.declared.life.Life.{Life}
 use Rattle.index_world.specs.declared.world_error.WorldError.{WorldError}
 use Rattle.index_world.specs.declared.world_error.WorldError.TheVariants as errors
-use Rattle.index_world.specs.Calls.{no_memory}
+use Rattle.index_world.specs.Calls.{no_memory, marks_of}
 use Rattle.index_world.specs.Config.{reads}
-use Rattle.index_world.specs.Core.{Core, last_count}
+use Rattle.index_world.specs.Core.{Core, last_count, Marking, taken_at, is_in, Upkeep, upkeep_of}
+use Rattle.index_world.specs.declared.doom_list.Doomed.{Doomed}
 use Rattle.index_world.specs.Gate.{IsTrouble}
 use Rattle.index_world.specs.Index.{IsAllowed}
-use Rattle.index_world.specs.Life.{LifeIs, StandsBy, TookIn, reading_in}
-use Rattle.index_world.specs.Steps.{Ends, greatest}
+use Rattle.index_world.specs.Life.{LifeIs, SameUpkeep, StandsBy, TookIn, reading_in}
+use Rattle.index_world.specs.Steps.{Ends, greatest, noting, noted_behind}
 use Rattle.index_world.specs.Taking.{IsWant}
 use Rattle.index_world.specs.Unsure.{is_unsure}
 use Rattle.index_world.specs.World.{IsWorld, IsTimely}
+use Rattle.index_world.proofs.Lasting.{taken-append}
 use Rattle.index_world.proofs.StoreKeys.{none_some}
 use Rattle.index_world.proofs.Numbers.{history-snoc}
 use Rattle.index_world.proofs.JournalLaws.{legal_history}
@@ -68,40 +70,64 @@ doubt_of Given h = refl
 
 -- ---- what a life knows
 
-pub knows_of : (life : Life) (entries es : List Entry) (time t : ℕ) (doubt d : Bool) → entries ≡ es → time ≡ t → doubt ≡ d → LifeIs life entries time doubt → LifeIs life es t d
-knows_of life entries es time t doubt d e m u k =
-    record { next = k.next ∙ ap length e; unsure = k.unsure ∙ u; moment = k.moment ∙ m; meta = k.meta ∙ ap (λ (x : List Entry). state_of reads (history x)) e }
+pub knows_of : {upkeep kept : Upkeep} (life : Life) (entries es : List Entry) (time t : ℕ) (doubt d : Bool) → entries ≡ es → time ≡ t → doubt ≡ d → upkeep ≡ kept → LifeIs life entries time doubt upkeep → LifeIs life es t d kept
+knows_of life entries es time t doubt d e m u n k =
+    record {
+      next = k.next ∙ ap length e;
+      unsure = k.unsure ∙ u;
+      moment = k.moment ∙ m;
+      meta = k.meta ∙ ap (λ (x : List Entry). state_of reads (history x)) e;
+      marks = λ number. k.marks number ∙ ap (λ (x : Upkeep). taken_at x.marks number) n;
+      doomed = λ number. k.doomed number ∙ ap (λ (x : Upkeep). is_in x.doomed number) n;
+    }
 
 -- the same but for the place
-pub life_on : (life new : Life) (entries : List Entry) (time : ℕ) (doubt d : Bool) → LifeIs life entries time doubt → new.journal.next ≡ life.journal.next → new.meta.state ≡ life.meta.state → new.moment ≡ life.moment →
-    is_unsure new.journal.place ≡ d → LifeIs new entries time d
-life_on life new entries time doubt d k n m t u = record { next = n ∙ k.next; unsure = u; moment = t ∙ k.moment; meta = m ∙ k.meta }
+pub life_on : {upkeep : Upkeep} (life new : Life) (entries : List Entry) (time : ℕ) (doubt d : Bool) → LifeIs life entries time doubt upkeep → new.journal.next ≡ life.journal.next → new.meta.state ≡ life.meta.state → new.moment ≡ life.moment → SameUpkeep life new →
+    is_unsure new.journal.place ≡ d → LifeIs new entries time d upkeep
+life_on life new entries time doubt d k n m t s u =
+    record {
+      next = n ∙ k.next;
+      unsure = u;
+      moment = t ∙ k.moment;
+      meta = m ∙ k.meta;
+      marks = λ number. ap (λ (x : List Marking). taken_at x number) s.0 ∙ k.marks number;
+      doomed = λ number. ap (λ (x : Doomed). is_in x.numbers.items number) s.1 ∙ k.doomed number;
+    }
+
+-- what is noted of an entry that is taken in at a moment
+abbrev pub Notes : Life → Life → Entry → (moment : ℕ) → Type 0
+Notes life new entry moment = (new.marks.items ≡ life.marks.items ++ marks_of entry.act moment) × (new.doomed ≡ life.doomed)
 
 -- an entry more
-pub life_more : (life new : Life) (entries : List Entry) (time t : ℕ) (doubt : Bool) (entry : Entry) → LifeIs life entries time doubt → new.journal.next ≡ life.journal.next + 1 → new.journal.place ≡ Sure →
-    new.meta.state ≡ after (reading_in life.meta.state entry.act) entry life.meta.state → new.moment ≡ t → LifeIs new (entries ++ entry ∷ []) t false
-life_more life new entries time t doubt entry k n p m same =
+pub life_more : {upkeep : Upkeep} (life new : Life) (entries : List Entry) (time t : ℕ) (doubt : Bool) (entry : Entry) → LifeIs life entries time doubt upkeep → new.journal.next ≡ life.journal.next + 1 → new.journal.place ≡ Sure →
+    new.meta.state ≡ after (reading_in life.meta.state entry.act) entry life.meta.state → new.moment ≡ t → Notes life new entry (max time entry.moment) → LifeIs new (entries ++ entry ∷ []) t false (noting time upkeep entry)
+life_more {upkeep} life new entries time t doubt entry k n p m same noted =
     record {
       next = let b = k.next in let l = length-append entries (entry ∷ []) in omega (arith, n, b, l);
       unsure = ap is_unsure p;
       moment = same;
       meta = m ∙ ap (λ (s : meta.State). after (reading_in s entry.act) entry s) k.meta ∙ ap (state_of reads) (sym (history-snoc entries entry));
+      marks = λ number.
+          ap (λ (x : List Marking). taken_at x number) noted.0 ∙ taken-append life.marks.items (marks_of entry.act (max time entry.moment)) number
+          ∙ ap (λ (x : ℕ). max x (taken_at (marks_of entry.act (max time entry.moment)) number)) (k.marks number) ∙ sym (taken-append upkeep.marks (marks_of entry.act (max time entry.moment)) number);
+      doomed = λ number. ap (λ (x : Doomed). is_in x.numbers.items number) noted.1 ∙ k.doomed number;
     }
 
-pub life_taken : (mid new : Life) (entries : List Entry) (time : ℕ) (doubt : Bool) (entry : Entry) → LifeIs mid entries time doubt → TookIn mid entry new → entry.moment < 2 ^ 62 → LifeIs new (entries ++ entry ∷ []) (max time entry.moment) false
+pub life_taken : {upkeep : Upkeep} (mid new : Life) (entries : List Entry) (time : ℕ) (doubt : Bool) (entry : Entry) → LifeIs mid entries time doubt upkeep → TookIn mid entry new → entry.moment < 2 ^ 62 →
+    LifeIs new (entries ++ entry ∷ []) (max time entry.moment) false (noting time upkeep entry)
 life_taken mid new entries time doubt entry k t low =
     life_more mid new entries time (max time entry.moment) doubt entry k (ap (λ (j : Numbered). j.next) t.journal) (ap (λ (j : Numbered). j.place) t.journal) t.meta
-    (t.moment low ∙ ap (λ (m : ℕ). max m entry.moment) k.moment)
+    (t.moment low ∙ ap (λ (m : ℕ). max m entry.moment) k.moment) (t.marks low ∙ ap (λ (m : ℕ). mid.marks.items ++ marks_of entry.act (max m entry.moment)) k.moment, t.doomed)
 
 pub stands_by : (new : State) (core after : Core) (log : Log) (count : ℕ) (life : Life) (more : List Entry) (doubt : Bool) → 0 < length core.history → count ≤ last_count → IsWorld new after log → IsTimely after → Ends core after more doubt count →
-    LifeIs life (core.history ++ more) (greatest core.moment more) doubt → StandsBy new after log count life
+    LifeIs life (core.history ++ more) (greatest core.moment more) doubt (noted_behind core.moment (upkeep_of core) more) → StandsBy new after log count life
 stands_by new core after log count life more doubt some within w t e k =
     record {
       world = w;
       timely = t;
       faults = sym e.faults;
       within = within;
-      knows = knows_of life (core.history ++ more) after.history (greatest core.moment more) after.moment doubt after.unsure (sym e.history) (sym e.moment) (sym e.unsure) k;
+      knows = knows_of life (core.history ++ more) after.history (greatest core.moment more) after.moment doubt after.unsure (sym e.history) (sym e.moment) (sym e.unsure) (sym e.upkeep) k;
       opened = let l = ap length e.history in let a = length-append core.history more in omega (arith, some, l, a);
     }
 

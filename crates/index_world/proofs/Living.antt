@@ -35,12 +35,9 @@ use Rattle.index_world.proofs.Lasting.{taken-lasts, reborn-removes}
 use Rattle.index_world.proofs.StoreChanges.{All-each, All-snoc}
 use Rattle.index_world.proofs.StoreKeys.{meta_begins, meta_key-injective}
 
--- an entry of one's own that may be left pending: it removes nothing
-abbrev pub NoRemove : Entry → Type 0
-NoRemove entry = (numbers : List ℕ) → entry.act ≡ Remove numbers → ⊥
-
-no_remove : (core : Core) (entry : Entry) → NoRemove entry → (grace : ℕ) → RemovesReleased grace core entry
-no_remove core entry none grace numbers is = absurd (none numbers is)
+-- an entry of one's own that may be left pending: it removes released rows alone
+abbrev pub Releases : Core → Entry → Type 0
+Releases core entry = (config : IndexConfig) → configuration core.history ≡ Some config → RemovesReleased config.deletion_grace core entry
 
 -- ---- a later core of the same history
 
@@ -55,6 +52,9 @@ pub released-on : (core after : Core) (grace : ℕ) (entry : Entry) → after.hi
 released-on core after grace entry h m r numbers is =
     subst (λ (es : List Entry). AllByRecursion (λ n. (row : Row) → row_at (rows (history es)) n ≡ Some row → release_of grace after.marks row ≤ entry.moment) numbers) (sym h)
     (subst (λ ms. AllByRecursion (λ n. (row : Row) → row_at (rows (history core.history)) n ≡ Some row → release_of grace ms row ≤ entry.moment) numbers) (sym m) (r numbers is))
+
+pub releases-on : (core after : Core) (entry : Entry) → after.history ≡ core.history → after.marks ≡ core.marks → Releases core entry → Releases after entry
+releases-on core after entry h m r config is = released-on core after config.deletion_grace entry h m (r config (ap configuration (sym h) ∙ is))
 
 late-on : (core after : Core) (grace : ℕ) → after.history ≡ core.history → after.marks ≡ core.marks → (late : Late) → IsLateReleased grace core late → IsLateReleased grace after late
 late-on core after grace h m (late_entry number entry bytes) r = λ at. released-on core after grace entry h m (r (at ∙ ap length h))
@@ -89,21 +89,21 @@ live-on core after l until number k =
 
 -- ---- an entry of one's own is left pending
 
-pub removes-stands : (core : Core) (entry : Entry) (unsure : Bool) → NoRemove entry → RemovesInTime core → RemovesInTime (record core { standing = Some entry; unsure = unsure })
+pub removes-stands : (core : Core) (entry : Entry) (unsure : Bool) → Releases core entry → RemovesInTime core → RemovesInTime (record core { standing = Some entry; unsure = unsure })
 removes-stands core entry unsure may r config is =
     let after : Core = record core { standing = Some entry; unsure = unsure } in
     record {
-      standing = λ other e. let same : entry ≡ other = cc e in subst (λ x. RemovesReleased config.deletion_grace after x) same (released-on core after config.deletion_grace entry refl refl (no_remove core entry may config.deletion_grace));
+      standing = λ other e. let same : entry ≡ other = cc e in subst (λ x. RemovesReleased config.deletion_grace after x) same (released-on core after config.deletion_grace entry refl refl (may config is));
       late = lates-on core after config.deletion_grace refl refl core.late (r config is).late;
     }
 
-pub removes-late : (core : Core) (entry : Entry) (bytes : List ℕ) → NoRemove entry → RemovesInTime core → RemovesInTime (record core { late = core.late ++ late_entry (length core.history) entry bytes ∷ []; unsure = true })
+pub removes-late : (core : Core) (entry : Entry) (bytes : List ℕ) → Releases core entry → RemovesInTime core → RemovesInTime (record core { late = core.late ++ late_entry (length core.history) entry bytes ∷ []; unsure = true })
 removes-late core entry bytes may r config is =
     let after : Core = record core { late = core.late ++ late_entry (length core.history) entry bytes ∷ []; unsure = true } in
     let a = r config is in
     record {
       standing = λ other e. released-on core after config.deletion_grace other refl refl (a.standing other e);
-      late = All-snoc (IsLateReleased config.deletion_grace after) core.late (late_entry (length core.history) entry bytes) (lates-on core after config.deletion_grace refl refl core.late a.late) (λ at. released-on core after config.deletion_grace entry refl refl (no_remove core entry may config.deletion_grace));
+      late = All-snoc (IsLateReleased config.deletion_grace after) core.late (late_entry (length core.history) entry bytes) (lates-on core after config.deletion_grace refl refl core.late a.late) (λ at. released-on core after config.deletion_grace entry refl refl (may config is));
     }
 
 pub removes-file : (core : Core) (key bytes : List ℕ) → RemovesInTime core → RemovesInTime (record core { late = core.late ++ late_file key bytes ∷ [] })

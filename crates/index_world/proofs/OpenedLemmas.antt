@@ -17,7 +17,8 @@ use Rattle.object_store.proofs.Landings.{HasLanded-trans}
 use Rattle.object_store.specs.Store.{State, WhereTold}
 use Rattle.index_world.specs.Config.{reads}
 use Rattle.index_world.specs.Opened.{all_found, bad_at, before_rest, entries_from, first_refused, found_by, found_of, ObjectsFrom, Finds, OpensIndex, OpensNot, OpensAnew}
-use Rattle.index_world.specs.Life.{FindsLife, OpensTo}
+use Rattle.index_world.specs.Core.{Marking, taken_at, is_in}
+use Rattle.index_world.specs.Life.{FindsLife, NotesNothing, OpensTo}
 use Rattle.index_world.specs.Taking.{IsRefusedAt, of_journal}
 use Rattle.index_world.specs.Unsure.{is_unsure}
 use Rattle.index_world.specs.World.{Keeping}
@@ -154,8 +155,8 @@ pub opens_refused : (es : List Entry) (n now : ℕ) (error : WorldError) → 0 <
 opens_refused es n now error some r old new l = refused_error es n now error some r old new l
 
 pub opens_life : (es : List Entry) (n now : ℕ) (life : Life) → 0 < length es → first_refused Start es ≡ None → life.journal ≡ loaded (length es) → life.meta.state ≡ state_of reads (history es) →
-    (AreTimely es → life.moment ≡ moment_of (history es)) → (old new : State) → LoadsEntries (Ok es) old new → OpensTo n now (Ok life) old new
-opens_life es n now life some none j m time old new l =
+    (AreTimely es → life.moment ≡ moment_of (history es)) → NotesNothing life → (old new : State) → LoadsEntries (Ok es) old new → OpensTo n now (Ok life) old new
+opens_life es n now life some none j m time nothing old new l =
     record {
       entries = es;
       finds = found_some es old new some (subst (λ (o : Option ℕ). Finds (found_by es o) old new) none (finds_loaded es old new l));
@@ -164,6 +165,8 @@ opens_life es n now life some none j m time old new l =
         unsure = ap (λ (x : Numbered). is_unsure x.place) j;
         moment = time (journal_timely l.mid es l.journal);
         meta = m;
+        marks = λ n. ap (λ (ms : List Marking). taken_at ms n) nothing.0;
+        doomed = λ n. ap (λ (ns : List ℕ). is_in ns n) nothing.1;
       };
     }
 
@@ -171,7 +174,7 @@ opens_life es n now life some none j m time old new l =
 
 pub opens_world : {has : ℕ} (told : Option State) (now : ℕ) (clock : Option ℕ) (life : Life) (frozen : Bool) (old new : State) → FindsLife life old new → OpensIndex (kept_by has told now clock life frozen) old new
 opens_world told now clock life frozen old new f =
-    record { entries = f.entries; finds = f.finds; next = f.knows.next; meta = f.knows.meta; moment = f.knows.moment; unsure = f.knows.unsure }
+    record { entries = f.entries; finds = f.finds; next = f.knows.next; meta = f.knows.meta; moment = f.knows.moment; unsure = f.knows.unsure; marks = f.knows.marks; doomed = f.knows.doomed }
 
 -- the world from which it was opened
 pub told_from : (w w' : Keeping) (new : Option State) (Says : ℕ → State → State → Type 0) → w ≡ w' → WhereTold w.told new (Says w.store_faults) → WhereTold w'.told new (Says w'.store_faults)

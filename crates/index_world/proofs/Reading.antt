@@ -17,8 +17,8 @@ use Rattle.index_world.specs.declared.world_error.WorldError.{WorldError}
 use Rattle.index_world.specs.declared.world_error.WorldError.TheVariants as errors
 use Rattle.index_world.specs.Calls.{Unread, not_read, no_index, no_memory, faulted, store_fault, store_failed, gives}
 use Rattle.index_world.specs.Config.{reads}
-use Rattle.index_world.specs.Core.{Core, last_count}
-use Rattle.index_world.specs.Life.{Opening, StandsBy}
+use Rattle.index_world.specs.Core.{Core, last_count, Marking, taken_at, is_in, Upkeep}
+use Rattle.index_world.specs.Life.{NotesNothing, Opening, StandsBy}
 use Rattle.index_world.specs.Loading.{IsUnread, LoadsWorld, LoadsNone, LoadsAnew}
 use Rattle.index_world.specs.Steps.{Counted}
 use Rattle.index_world.specs.Taking.{IsWant, of_journal}
@@ -64,7 +64,7 @@ module _ (old : State) (core : Core) (log : Log) (n now : ℕ) (told told' : Opt
           says = says;
           world = u.onward.world;
           faults = sym u.faults;
-          same = λ some. record { history = u.history; moment = u.moment; clock = u.clock; unsure = u.unsure };
+          same = λ some. record { history = u.history; moment = u.moment; clock = u.clock; upkeep = u.upkeep; unsure = u.unsure };
         };
       }
 
@@ -118,8 +118,8 @@ module _ (old : State) (core : Core) (log : Log) (n now : ℕ) (told told' : Opt
     opening_short error want =
         none_by t.new (λ after. not_read no_memory) error t.is (load_short_law once old t.says.mid t.new core log now w counted t.says.before t.says.behind) (want_unread error want)
 
-    pub opening_ok : (life : Life) → core.clock < 2 ^ 62 → 0 < length read → life.journal ≡ loaded (length read) → life.meta.state ≡ state_of reads (history read) → life.moment ≡ moment_of (history read) → Opening core log (Ok life) told' now
-    opening_ok life clock some j m time =
+    pub opening_ok : (life : Life) → core.clock < 2 ^ 62 → 0 < length read → life.journal ≡ loaded (length read) → life.meta.state ≡ state_of reads (history read) → life.moment ≡ moment_of (history read) → NotesNothing life → Opening core log (Ok life) told' now
+    opening_ok life clock some j m time nothing =
         record {
           new = t.new;
           tells = t.is;
@@ -136,6 +136,8 @@ module _ (old : State) (core : Core) (log : Log) (n now : ℕ) (told told' : Opt
                 unsure = ap (λ (x : Numbered). is_unsure x.place) j ∙ sym law.unsure;
                 moment = time ∙ sym law.moment;
                 meta = m ∙ ap (λ (es : List Entry). state_of reads (history es)) (sym law.history);
+                marks = λ number. ap (λ (ms : List Marking). taken_at ms number) nothing.0 ∙ ap (λ (x : Upkeep). taken_at x.marks number) (sym law.upkeep);
+                doomed = λ number. ap (λ (ns : List ℕ). is_in ns number) nothing.1 ∙ ap (λ (x : Upkeep). is_in x.doomed number) (sym law.upkeep);
               };
               opened = r.stands.opened;
             };
@@ -176,6 +178,8 @@ loads_world core log life told now clock o c awake = record { after = o.did.afte
           next = s.knows.next;
           unsure = s.knows.unsure;
           frozen = f;
+          marks = s.knows.marks;
+          doomed = s.knows.doomed;
           opened = s.opened;
         }
 
@@ -203,6 +207,8 @@ loads_anew_ok core log life told now clock frozen o c f =
         next = s.knows.next;
         unsure = s.knows.unsure;
         frozen = f ∙ ap (λ (k : ℕ × Bool). k.1) (sym o.did.clock);
+        marks = s.knows.marks;
+        doomed = s.knows.doomed;
         opened = s.opened;
       };
     }
@@ -213,7 +219,7 @@ loads_anew_err core log life told told' n now clock frozen x s o (Ok done) Is h 
 loads_anew_err core log life told told' n now clock frozen x s o (Err error) Is h same =
     let d = o.did in
     let k = d.same s.opened in
-    let ends = ends_same core d.after core.unsure now k.history (sym d.faults) k.moment k.clock k.unsure in
+    let ends = ends_same core d.after core.unsure now k.history (sym d.faults) k.moment k.clock k.upkeep k.unsure in
     record {
       answer = Err d.unread;
       after = d.after;
@@ -231,6 +237,8 @@ loads_anew_err core log life told told' n now clock frozen x s o (Err error) Is 
         next = s.next ∙ ap length (sym k.history);
         unsure = s.unsure ∙ sym k.unsure;
         frozen = s.frozen ∙ ap (λ (x : ℕ × Bool). x.1) (sym k.clock);
+        marks = λ number. s.marks number ∙ ap (λ (x : Upkeep). taken_at x.marks number) (sym k.upkeep);
+        doomed = λ number. s.doomed number ∙ ap (λ (x : Upkeep). is_in x.doomed number) (sym k.upkeep);
         opened = let l = ap length k.history in let some = s.opened in omega (arith, l, some);
       };
     }

@@ -14,7 +14,7 @@ use Rattle.source_log.specs.Log.{Log}
 use Rattle.index_world.specs.declared.life.Life.{Life}
 use Rattle.index_world.specs.declared.world_error.WorldError.{WorldError}
 use Rattle.index_world.specs.Calls.{no_memory, store_failed, faulted, store_fault, Trouble}
-use Rattle.index_world.specs.Core.{Core, last_count}
+use Rattle.index_world.specs.Core.{Core, last_count, upkeep_of}
 use Rattle.index_world.specs.Life.{LifeIs, StandsBy, TookIn, TookNone, Settling}
 use Rattle.index_world.specs.Steps.{Counted, Settled, Unsettled}
 use Rattle.index_world.specs.Taking.{of_journal}
@@ -44,7 +44,7 @@ module _ (old : State) (core : Core) (log : Log) (count now : ℕ) (life : Life)
   counted = record { later = let f = b.faults in omega (arith, later, f); within = within }
 
   -- nothing was unsure
-  pub settling_sure : (new : Life) → life.journal.place ≡ Sure → told' ≡ told → now ≡ count → LifeIs new core.history core.moment false → new.journal.settled ≡ false → Settling old core log (Ok tt) told' now new
+  pub settling_sure : (new : Life) → life.journal.place ≡ Sure → told' ≡ told → now ≡ count → LifeIs new core.history core.moment false (upkeep_of core) → new.journal.settled ≡ false → Settling old core log (Ok tt) told' now new
   settling_sure new sure same still k first =
       record {
         new = old;
@@ -58,7 +58,7 @@ module _ (old : State) (core : Core) (log : Log) (count now : ℕ) (life : Life)
             timely = b.timely;
             faults = still ∙ b.faults;
             within = within;
-            knows = knows_of new core.history core.history core.moment core.moment false core.unsure refl refl (sym doubt) k;
+            knows = knows_of new core.history core.history core.moment core.moment false core.unsure refl refl (sym doubt) refl k;
             opened = b.opened;
           };
           first = first;
@@ -80,18 +80,18 @@ module _ (old : State) (core : Core) (log : Log) (count now : ℕ) (life : Life)
     can_settle f new (inr read) = read.1.can
 
     -- no entry was taken in
-    unsettled : (new : State) (trouble : Core → Trouble) (u : Unsettled old new core log trouble now) (life' : Life) → LifeIs life' core.history core.moment true → StandsBy new u.after log now life'
+    unsettled : (new : State) (trouble : Core → Trouble) (u : Unsettled old new core log trouble now) (life' : Life) → LifeIs life' core.history core.moment true (upkeep_of core) → StandsBy new u.after log now life'
     unsettled new trouble u life' k =
         record {
           world = u.onward.world;
           timely = timely_unsettled old new core log trouble now b.timely doubt u;
           faults = sym u.faults;
           within = within;
-          knows = knows_of life' core.history u.after.history core.moment u.after.moment true u.after.unsure (sym u.history) (sym u.moment) (sym u.unsure) k;
+          knows = knows_of life' core.history u.after.history core.moment u.after.moment true u.after.unsure (sym u.history) (sym u.moment) (sym u.unsure) (sym u.upkeep) k;
           opened = let l = ap length u.history in let o = b.opened in omega (arith, l, o);
         }
 
-    taken_by : (f : Entry) (mid new : Life) (t : Told told' (λ s. SettlesAt (length core.history) core.moment (Ok f) old s)) → LifeIs mid core.history core.moment true → TookIn mid f new → Settling old core log (Ok tt) told' now new
+    taken_by : (f : Entry) (mid new : Life) (t : Told told' (λ s. SettlesAt (length core.history) core.moment (Ok f) old s)) → LifeIs mid core.history core.moment true (upkeep_of core) → TookIn mid f new → Settling old core log (Ok tt) told' now new
     taken_by f mid new t k took =
         record {
           new = t.new;
@@ -102,7 +102,7 @@ module _ (old : State) (core : Core) (log : Log) (count now : ℕ) (life : Life)
             entry = f;
             can = can;
             step = s;
-            stands = stands_by t.new core s.after log now new (f ∷ []) false b.opened within s.onward.world (timely_more core s.after f now b.timely can (settled_ends old t.new core log f now s)) (settled_ends old t.new core log f now s)
+            stands = stands_by t.new core s.after log now new (f ∷ []) false b.opened within s.onward.world (timely_more core s.after f now b.timely can (settled_ends old t.new core log f now s) s.onward.world) (settled_ends old t.new core log f now s)
                 (life_taken mid new core.history core.moment true f k took can.moment);
             again = ap (λ (j : Numbered). j.settled) took.journal;
           });
@@ -114,7 +114,7 @@ module _ (old : State) (core : Core) (log : Log) (count now : ℕ) (life : Life)
         s : Settled old t.new core log f now
         s = settles_ok old t.new core log now b.world b.timely counted b.opened doubt f t.says
 
-    short_by : (f : Entry) (mid new : Life) (error : WorldError) (t : Told told' (λ s. SettlesAt (length core.history) core.moment (Ok f) old s)) → LifeIs mid core.history core.moment true → TookNone mid f error new → Settling old core log (Err error) told' now new
+    short_by : (f : Entry) (mid new : Life) (error : WorldError) (t : Told told' (λ s. SettlesAt (length core.history) core.moment (Ok f) old s)) → LifeIs mid core.history core.moment true (upkeep_of core) → TookNone mid f error new → Settling old core log (Err error) told' now new
     short_by f mid new error t k took =
         record {
           new = t.new;
@@ -125,7 +125,7 @@ module _ (old : State) (core : Core) (log : Log) (count now : ℕ) (life : Life)
             trouble = λ after. no_memory;
             step = u;
             is = want_trouble error (took.want (answers_allowed mid.meta.state core.history f k.meta (allowed_last t.new s.after log core.history f s.onward.world s.history)));
-            stands = unsettled t.new (λ after. no_memory) u new (life_on mid new core.history core.moment true true k (ap (λ (j : Numbered). j.next) took.journal) took.meta took.moment (ap (λ (j : Numbered). is_unsure j.place) took.journal ∙ k.unsure));
+            stands = unsettled t.new (λ after. no_memory) u new (life_on mid new core.history core.moment true true k (ap (λ (j : Numbered). j.next) took.journal) took.meta took.moment took.upkeep (ap (λ (j : Numbered). is_unsure j.place) took.journal ∙ k.unsure));
           };
         }
       where
@@ -136,7 +136,7 @@ module _ (old : State) (core : Core) (log : Log) (count now : ℕ) (life : Life)
         u = settles_short old t.new core log now b.world b.timely counted b.opened doubt f t.says
 
     -- an entry was given, and taken in if there was memory
-    pub settling_given : (mid new : Life) (f : Entry) (r : Result ⊤ WorldError) → WhereTold told told' (λ a s. Settles life.journal.next life.moment (Ok (Some f)) a s) → LifeIs mid core.history core.moment true →
+    pub settling_given : (mid new : Life) (f : Entry) (r : Result ⊤ WorldError) → WhereTold told told' (λ a s. Settles life.journal.next life.moment (Ok (Some f)) a s) → LifeIs mid core.history core.moment true (upkeep_of core) →
         MatchResult r (λ done. TookIn mid f new) (λ error. TookNone mid f error new) → Settling old core log r told' now new
     settling_given mid new f r w k took =
         by r took (let t = told_of told told' old (λ a s. Settles life.journal.next life.moment (Ok (Some f)) a s) e w in record { new = t.new; is = t.is; says = settles_at (Ok f) t.new t.says })
@@ -147,7 +147,7 @@ module _ (old : State) (core : Core) (log : Log) (count now : ℕ) (life : Life)
 
     -- settling failed
     pub settling_failed : (new : Life) (number before : ℕ) (x : JournalError) (error : WorldError) → error ≡ of_journal number before x → before ≡ core.store_faults → FaultIs count now x → WhereTold told told' (λ a s. Settles life.journal.next life.moment (Err x) a s) →
-        LifeIs new core.history core.moment true → Settling old core log (Err error) told' now new
+        LifeIs new core.history core.moment true (upkeep_of core) → Settling old core log (Err error) told' now new
     settling_failed new number before x error is at fault w k =
         subst (λ (y : WorldError). Settling old core log (Err y) told' now new) (sym is) (by x fault (let t = told_of told told' old (λ a s. Settles life.journal.next life.moment (Err x) a s) e w in record { new = t.new; is = t.is; says = settles_at (Err x) t.new t.says }))
       where

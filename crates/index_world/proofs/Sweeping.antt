@@ -20,7 +20,7 @@ use Rattle.index_world.specs.Collected.{SweepsAs, SweepsFile, deleted_gives}
 use Rattle.index_world.specs.Collecting.{is_swept, sweep_call, sweep_if}
 use Rattle.index_world.specs.Config.{reads}
 use Rattle.index_world.specs.Configuration.{configuration, index_of}
-use Rattle.index_world.specs.Core.{Core, last_count, IsOther}
+use Rattle.index_world.specs.Core.{Core, last_count, IsOther, taken_at, is_in, Upkeep}
 use Rattle.index_world.specs.DirectLaws.{AnyNumber, Anything, stays_as_is}
 use Rattle.index_world.specs.Gate.{ActsWith, DoesWith, NoneBetween, SaysWith, IsGiven, IsTrouble}
 use Rattle.index_world.specs.World.{Keeping, WorldStands}
@@ -68,7 +68,7 @@ sweeps {had} {has} told told' n now clock life frozen core log s number key befo
     by : Told told' (LandsThen (Deletes key answer) s.kept) → ActsWith WorldStands None (sweep_call number) IsTrouble IsGiven r core log (kept_by has told' now clock life frozen)
     by t =
         let d : SweepsAs t.new core log number answer now = sweeps_as once s.kept t.new core log configured.0 now s.world configured.1 later within number answer swept rose (subst (λ (k : List ℕ). LandsThen (Deletes k answer) s.kept t.new) ek t.says) in
-        let ends : Ends core d.after [] core.unsure now = ends_same core d.after core.unsure now d.history d.faults d.moment d.clock d.unsure in
+        let ends : Ends core d.after [] core.unsure now = ends_same core d.after core.unsure now d.history d.faults d.moment d.clock d.upkeep d.unsure in
         record {
           fate = one_call d.call;
           answer = deleted_gives true answer core.store_faults d.after;
@@ -88,6 +88,8 @@ sweeps {had} {has} told told' n now clock life frozen core log s number key befo
             next = s.next ∙ ap length (sym d.history);
             unsure = s.unsure ∙ sym d.unsure;
             frozen = s.frozen ∙ ap (λ (k : ℕ × Bool). k.1) (sym d.clock);
+            marks = λ n. s.marks n ∙ ap (λ (x : Upkeep). taken_at x.marks n) (sym d.upkeep);
+            doomed = λ n. s.doomed n ∙ ap (λ (x : Upkeep). is_in x.doomed n) (sym d.upkeep);
             opened = let l = ap length d.history in let some = s.opened in omega (arith, some, l);
           };
         }

@@ -1,12 +1,13 @@
 -- The world's calls, put together from what their calls of the journal did.
 use Rattle.std.proofs.Common.{◌≡◌, ℕ, ◌-◌, List, [], refl, ap, ◌∙◌, true, false, length}
-use Rattle.std.specs.Prelude.{Ok, Err, ⊤}
+use Rattle.std.specs.Prelude.{Bool, Option, Some, None, Result, Ok, Err, ⊤}
 use Rattle.meta_journal.specs.Places.{meta_key}
 use Rattle.meta_journal.specs.declared.entry.Act.{Act}
 use Rattle.meta_journal.specs.declared.entry.Entry.{Entry}
 use Rattle.object_store.specs.Store.{State}
 use Rattle.source_log.specs.Log.{Log}
-use Rattle.index_world.specs.Calls.{Call, Gives, gives, Trouble, faulted, no_memory, Unmade, troubled, is_foreign, store_failed, begun, taken_in, create_at_end, fence_of, settle_with, settle_making, settled, unless_short, entry_of, may_append, last_unless, last_making, last_create, adopted_making, first_unless, transact, and_then, as_unmade, or_short}
+use Rattle.index_world.specs.Calls.{Call, Gives, gives, Trouble, faulted, no_memory, Unmade, troubled, is_foreign, store_failed, begun, taken_in, create_at_end, fence_of, settle_with, settle_making, settled, unless_short, entry_of, may_append, last_unless, last_making, last_create, and_then, as_unmade, or_short}
+use Rattle.index_world.specs.Collecting.{Offer, answered_by, first_offer, last_offer, making_offer, nothing, offer_unless, transact_if}
 use Rattle.index_world.specs.Core.{Core}
 use Rattle.index_world.proofs.JournalCalls.{quiet, failing, calm_get, MadeLaw, AdoptedLaw, FailedLaw, ExistsLaw, GetFailedLaw}
 
@@ -77,58 +78,80 @@ pub last_foreign : (old new : State) (core : Core) (log : Log) (act : Act) (befo
 last_foreign old new core log act before now may x =
     last_by act core (quiet x.places (now - core.store_faults) false) before refl may ∙ ap (last_making before (entry_of act core)) x.did
 
+-- ---- of what is offered
+
+-- the count of what was made
+abbrev pub with_count : ℕ → Result ⊤ Unmade → Result ℕ Unmade
+with_count n (Ok done) = Ok n
+with_count n (Err e) = Err e
+
+pub counted_is : (n : ℕ) (r : Result ⊤ Unmade) (core : Core) → answered_by n r core ≡ gives (with_count n r) core
+counted_is n (Ok done) core = refl
+counted_is n (Err e) core = refl
+
+-- nothing is offered
+abbrev pub nothing_answer : Bool → Result ℕ Unmade
+nothing_answer true = Err (troubled no_memory)
+nothing_answer false = Ok 0
+
+pub nothing_is : (short : Bool) (core : Core) → nothing short 0 core ≡ gives (nothing_answer short) core
+nothing_is true core = refl
+nothing_is false core = refl
+
 -- ---- a transaction where nothing is unsure
 
-pub first_by : (act : Core → Act) (core : Core) (first second third : Call) → core.unsure ≡ false → first.short ≡ false → may_append (act core) core ≡ Ok tt →
-    transact core.unsure first second third act core ≡ adopted_making second third core.store_faults act (entry_of (act core) core) (create_at_end first (entry_of (act core) core) core)
-first_by act core first second third sure long may =
-    ap (λ u. transact u first second third act core) sure
-    ∙ ap (λ s. or_short s (troubled no_memory) first core (first_unless (may_append (act core) core) first second third act core)) long
-    ∙ ap (λ m. first_unless m first second third act core) may
+pub first_nothing : (offered : Core → Option (Offer ℕ)) (core : Core) (first second third : Call) → core.unsure ≡ false → offered core ≡ None → transact_if core.unsure first second third 0 offered core ≡ nothing first.short 0 core
+first_nothing offered core first second third sure o = ap (λ u. transact_if u first second third 0 offered core) sure ∙ ap (λ x. first_offer x first second third 0 offered core) o
 
-pub first_refused : (act : Core → Act) (core : Core) (first second third : Call) (e : Unmade) → core.unsure ≡ false → first.short ≡ false → may_append (act core) core ≡ Err e →
-    transact core.unsure first second third act core ≡ gives (Err e) core
-first_refused act core first second third e sure long may =
-    ap (λ u. transact u first second third act core) sure
-    ∙ ap (λ s. or_short s (troubled no_memory) first core (first_unless (may_append (act core) core) first second third act core)) long
-    ∙ ap (λ m. first_unless m first second third act core) may
+module _ (offered : Core → Option (Offer ℕ)) (offer : Offer ℕ) (core : Core) (o : offered core ≡ Some offer) (sure : core.unsure ≡ false) where
+  first_start : (first second third : Call) → transact_if core.unsure first second third 0 offered core ≡ or_short first.short (troubled no_memory) first core (offer_unless (may_append offer.act core) first second third 0 offered offer core)
+  first_start first second third = ap (λ u. transact_if u first second third 0 offered core) sure ∙ ap (λ x. first_offer x first second third 0 offered core) o
 
-pub first_made : (old new : State) (core : Core) (log : Log) (act : Core → Act) (second third : Call) (now : ℕ) → core.unsure ≡ false → may_append (act core) core ≡ Ok tt →
-    (m : MadeLaw old new core log (entry_of (act core) core) now) →
-    transact core.unsure (quiet m.places (now - core.store_faults) false) second third act core ≡ gives (Ok tt) (taken_in (entry_of (act core) core) m.after)
-first_made old new core log act second third now sure may m =
-    first_by act core (quiet m.places (now - core.store_faults) false) second third sure refl may
-    ∙ ap (adopted_making second third core.store_faults act (entry_of (act core) core)) m.did
+  pub first_by : (first second third : Call) → first.short ≡ false → may_append offer.act core ≡ Ok tt →
+      transact_if core.unsure first second third 0 offered core ≡ making_offer second third core.store_faults 0 offered offer (entry_of offer.act core) (create_at_end first (entry_of offer.act core) core)
+  first_by first second third long may =
+      first_start first second third
+      ∙ ap (λ s. or_short s (troubled no_memory) first core (offer_unless (may_append offer.act core) first second third 0 offered offer core)) long
+      ∙ ap (λ m. offer_unless m first second third 0 offered offer core) may
 
-pub first_failed : (old new : State) (core : Core) (log : Log) (act : Core → Act) (second third : Call) (now : ℕ) → core.unsure ≡ false → may_append (act core) core ≡ Ok tt →
-    (f : FailedLaw old new core log (entry_of (act core) core) now) →
-    transact core.unsure f.call second third act core ≡ gives (Err (troubled (store_failed core.store_faults f.after))) f.after
-first_failed old new core log act second third now sure may f =
-    first_by act core f.call second third sure f.short may ∙ ap (adopted_making second third core.store_faults act (entry_of (act core) core)) f.did
+  pub first_refused : (first second third : Call) (e : Unmade) → first.short ≡ false → may_append offer.act core ≡ Err e → transact_if core.unsure first second third 0 offered core ≡ gives (Err e) core
+  first_refused first second third e long may =
+      first_start first second third
+      ∙ ap (λ s. or_short s (troubled no_memory) first core (offer_unless (may_append offer.act core) first second third 0 offered offer core)) long
+      ∙ ap (λ m. offer_unless m first second third 0 offered offer core) may
 
--- it is adopted, and the entry is made anew and created once more
-pub first_adopted : (old new : State) (core : Core) (log : Log) (act : Core → Act) (entry : Entry) (third : Call) (now : ℕ) → core.unsure ≡ false → may_append (act core) core ≡ Ok tt →
-    (a : AdoptedLaw old new core log (entry_of (act core) core) entry core.store_faults now) →
-    transact core.unsure (quiet a.places (now - core.store_faults) false) calm_get third act core ≡ last_create third core.store_faults (act a.after) a.after
-first_adopted old new core log act entry third now sure may a =
-    first_by act core (quiet a.places (now - core.store_faults) false) calm_get third sure refl may
-    ∙ ap (adopted_making calm_get third core.store_faults act (entry_of (act core) core)) a.did
-    ∙ ap (λ (g : Gives Trouble ⊤). and_then (as_unmade g) (λ c. last_create third core.store_faults (act c) c)) a.got
+  pub first_made : (old new : State) (log : Log) (second third : Call) (now : ℕ) → may_append offer.act core ≡ Ok tt → (m : MadeLaw old new core log (entry_of offer.act core) now) →
+      transact_if core.unsure (quiet m.places (now - core.store_faults) false) second third 0 offered core ≡ gives (Ok offer.answer) (taken_in (entry_of offer.act core) m.after)
+  first_made old new log second third now may m =
+      first_by (quiet m.places (now - core.store_faults) false) second third refl may ∙ ap (making_offer second third core.store_faults 0 offered offer (entry_of offer.act core)) m.did
 
-pub first_short : (core : Core) (act : Core → Act) (second third : Call) (places : List ℕ) (rises : ℕ) → core.unsure ≡ false →
-    transact core.unsure (quiet places rises true) second third act core ≡ gives (Err (troubled no_memory)) (begun (quiet places rises true) core)
-first_short core act second third places rises sure = ap (λ u. transact u (quiet places rises true) second third act core) sure
+  pub first_failed : (old new : State) (log : Log) (second third : Call) (now : ℕ) → may_append offer.act core ≡ Ok tt → (f : FailedLaw old new core log (entry_of offer.act core) now) →
+      transact_if core.unsure f.call second third 0 offered core ≡ gives (Err (troubled (store_failed core.store_faults f.after))) f.after
+  first_failed old new log second third now may f =
+      first_by f.call second third f.short may ∙ ap (making_offer second third core.store_faults 0 offered offer (entry_of offer.act core)) f.did
+
+  -- it is adopted, and what the state offers then is created once more
+  pub first_adopted : (old new : State) (log : Log) (entry : Entry) (third : Call) (now : ℕ) → may_append offer.act core ≡ Ok tt → (a : AdoptedLaw old new core log (entry_of offer.act core) entry core.store_faults now) →
+      transact_if core.unsure (quiet a.places (now - core.store_faults) false) calm_get third 0 offered core ≡ last_offer third core.store_faults 0 (offered a.after) a.after
+  first_adopted old new log entry third now may a =
+      first_by (quiet a.places (now - core.store_faults) false) calm_get third refl may
+      ∙ ap (making_offer calm_get third core.store_faults 0 offered offer (entry_of offer.act core)) a.did
+      ∙ ap (λ (g : Gives Trouble ⊤). and_then (as_unmade g) (λ c. last_offer third core.store_faults 0 (offered c) c)) a.got
+
+  pub first_short : (second third : Call) (places : List ℕ) (rises : ℕ) →
+      transact_if core.unsure (quiet places rises true) second third 0 offered core ≡ gives (Err (troubled no_memory)) (begun (quiet places rises true) core)
+  first_short second third places rises = first_start (quiet places rises true) second third
 
 -- ---- a transaction that settles first
 
-pub after_settling : (act : Core → Act) (core after : Core) (first second third : Call) → core.unsure ≡ true → settled first second core ≡ gives (Ok tt) after →
-    transact core.unsure first second third act core ≡ last_create third core.store_faults (act after) after
-after_settling act core after first second third unsure s =
-    ap (λ u. transact u first second third act core) unsure
-    ∙ ap (λ (g : Gives Trouble ⊤). and_then (as_unmade g) (λ c. last_create third core.store_faults (act c) c)) s
+pub after_settling : (offered : Core → Option (Offer ℕ)) (core after : Core) (first second third : Call) → core.unsure ≡ true → settled first second core ≡ gives (Ok tt) after →
+    transact_if core.unsure first second third 0 offered core ≡ last_offer third core.store_faults 0 (offered after) after
+after_settling offered core after first second third unsure s =
+    ap (λ u. transact_if u first second third 0 offered core) unsure
+    ∙ ap (λ (g : Gives Trouble ⊤). and_then (as_unmade g) (λ c. last_offer third core.store_faults 0 (offered c) c)) s
 
-pub not_settled : (act : Core → Act) (core after : Core) (first second third : Call) (trouble : Trouble) → core.unsure ≡ true → settled first second core ≡ gives (Err trouble) after →
-    transact core.unsure first second third act core ≡ gives (Err (troubled trouble)) after
-not_settled act core after first second third trouble unsure s =
-    ap (λ u. transact u first second third act core) unsure
-    ∙ ap (λ (g : Gives Trouble ⊤). and_then (as_unmade g) (λ c. last_create third core.store_faults (act c) c)) s
+pub not_settled : (offered : Core → Option (Offer ℕ)) (core after : Core) (first second third : Call) (trouble : Trouble) → core.unsure ≡ true → settled first second core ≡ gives (Err trouble) after →
+    transact_if core.unsure first second third 0 offered core ≡ gives (Err (troubled trouble)) after
+not_settled offered core after first second third trouble unsure s =
+    ap (λ u. transact_if u first second third 0 offered core) unsure
+    ∙ ap (λ (g : Gives Trouble ⊤). and_then (as_unmade g) (λ c. last_offer third core.store_faults 0 (offered c) c)) s

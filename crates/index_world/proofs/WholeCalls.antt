@@ -13,7 +13,8 @@ use Rattle.index_world.specs.Config.{reads}
 use Rattle.index_world.specs.Core.{Core, IsOther, KeepsBut}
 use Rattle.index_world.specs.World.{IsWorld, IsTimely, Keeping, WorldStands, GoesFor, GoesOn}
 use Rattle.index_world.specs.Onward.{Onward}
-use Rattle.index_world.proofs.Asking.{timely_asked, asked_least}
+use Rattle.index_world.proofs.Timely.{timely_asked}
+use Rattle.index_world.proofs.Asking.{asked_least}
 use Rattle.index_world.proofs.Worlds.{world-same, onward-refl}
 use Rattle.index_world.proofs.InCore.{goes-on, goes_both, moment_goes}
 use Rattle.index_world.proofs.JournalCalls.{Counted, quiet, calm_get}
@@ -35,6 +36,8 @@ keeping_of kept core =
       next = length core.history;
       unsure = core.unsure;
       frozen = core.frozen;
+      marks = core.marks;
+      doomed = core.doomed;
     }
 
 -- A whole call did this: it is the core's call with some fate, its answer is this one, and the world stands behind it.
@@ -66,6 +69,8 @@ stands_behind new start after log more doubt now some w t e =
       next = refl;
       unsure = refl;
       frozen = refl;
+      marks = λ n. refl;
+      doomed = λ n. refl;
       opened = let l = ap length e.history in let a = length-append start.history more in omega (arith, some, l, a);
     }
 
@@ -94,20 +99,6 @@ went_on_asked old new core after log more doubt now w c o e =
     goes_both (IsOther None) (IsOther None) (IsOther None) core (asked_clock core) after (λ n other. (other, other)) (goes_asked (IsOther None) core)
     (went_on old new (asked_clock core) after log more doubt now (world_asked old core log w) (counted_asked core now c) o e)
 
--- ---- a transaction
-
-abbrev pub whole_appended : (old new : State) (core : Core) (log : Log) (act : Core → Act) (answer : Core → Result ⊤ Unmade) (more : List Entry) (doubt : Bool) (now : ℕ) →
-    IsWorld old core log → 0 < length core.history → Counted core now → Transacted old new (asked_clock core) log act answer more doubt now → Whole (λ fate c. appended fate act c) None new core (asked_clock core) log answer more doubt now
-whole_appended old new core log act answer more doubt now w some c t =
-    record {
-      fate = record { unasked = false; first = t.first; second = t.second; third = t.third };
-      after = t.after;
-      did = t.did;
-      goes_on = went_on_asked old new core t.after log more doubt now w c t.onward t.ends;
-      ends = t.ends;
-      stands = stands_behind new (asked_clock core) t.after log more doubt now some t.onward.world t.timely t.ends;
-    }
-
 -- ---- a call that only asks the clock
 
 abbrev pub whole_asked : (kept : State) (core : Core) (log : Log) → IsWorld kept core log → 0 < length core.history → IsTimely core → Whole asked None kept core (asked_clock core) log (λ after. Ok tt) [] core.unsure core.store_faults
@@ -122,7 +113,7 @@ whole_asked kept core log w some t =
     }
   where
     same_history : (c : Core) → Ends c c [] c.unsure c.store_faults
-    same_history c = ends_same c c c.unsure c.store_faults refl refl refl refl refl
+    same_history c = ends_same c c c.unsure c.store_faults refl refl refl refl refl refl
 
 -- ---- settling, and what is copied behind it
 
@@ -158,7 +149,7 @@ looks_sure kept core log short w t sure =
       after = core;
       did = ap (copying short) (settled_sure core calm_get calm_get sure refl) ∙ copied_is short core;
       onward = onward-refl kept core log w;
-      ends = ends_same core core core.unsure core.store_faults refl refl refl refl refl;
+      ends = ends_same core core core.unsure core.store_faults refl refl refl refl refl refl;
       timely = t;
     }
 
@@ -173,7 +164,7 @@ looks_settled old new core log f now short t can s =
       did = ap (copying short) s.did ∙ copied_is short s.after;
       onward = s.onward;
       ends = settled_ends old new core log f now s;
-      timely = timely_more core s.after f now t can (settled_ends old new core log f now s);
+      timely = timely_more core s.after f now t can (settled_ends old new core log f now s) s.onward.world;
     }
 
 abbrev pub fails_by : (Core → Trouble) → Core → Result ⊤ Trouble

@@ -15,12 +15,14 @@ use Rattle.meta_store.specs.History.History.{Start, ◌▸◌}
 use Rattle.object_store.specs.Store.{State, HasLanded}
 use Rattle.source_log.specs.Log.{Log}
 use Rattle.index_world.specs.Calls.{Call, Fate, Grace, gives, Trouble, asked_clock, Unfetched, file_sought, sought_unless, fetched_from, loaded, upload_made}
-use Rattle.index_world.specs.Core.{Core, KeepsBut, IsUploadedIn, journal_of}
+use Rattle.std.specs.List.{AllByRecursion}
+use Rattle.index_world.specs.Core.{Core, KeepsBut, IsUploadedIn, journal_of, Upkeep}
+use Rattle.index_world.specs.Releases.{MayFree}
 use Rattle.index_world.specs.Index.{IsIndexOf, IsStored}
 use Rattle.index_world.specs.World.{IsWorld, IsTimely, WorldStands}
+use Rattle.index_world.proofs.Timely.{timely_asked}
 use Rattle.index_world.proofs.StoreKeys.{true_is_false, meta_begins}
 use Rattle.index_world.proofs.Journals.{stand-of, Stand-at}
-use Rattle.index_world.proofs.Asking.{timely_asked}
 use Rattle.index_world.proofs.InCore.{file-goes-on, stored-in, keeps_reread}
 use Rattle.index_world.proofs.JournalCalls.{Counted, Begun}
 use Rattle.index_world.proofs.JournalLaws.{appends_short}
@@ -31,7 +33,7 @@ use Rattle.index_world.proofs.WholeCalls.{Whole, keeping_of, stands_behind, went
 -- ---- an upload
 
 pub upload_ends : (old new : State) (core : Core) (log : Log) (n : ℕ) (bytes : List ℕ) (answer : Core → Result ⊤ Trouble) (now : ℕ) (u : UploadLaw old new core log n bytes answer now) → Ends core u.after [] core.unsure now
-upload_ends old new core log n bytes answer now u = ends_same core u.after core.unsure now u.history u.faults u.moment u.clock u.unsure
+upload_ends old new core log n bytes answer now u = ends_same core u.after core.unsure now u.history u.faults u.moment u.clock u.upkeep u.unsure
 
 abbrev pub whole_upload : (old new : State) (core : Core) (log : Log) (n : ℕ) (bytes : List ℕ) (answer : Core → Result ⊤ Trouble) (now : ℕ) →
     IsWorld old core log → 0 < length core.history → IsTimely core → Counted core now → UploadLaw old new core log n bytes answer now →
@@ -91,7 +93,7 @@ whole_fetched grace number old new core log answer now w some t c f =
     b = f.begun
 
     ends : Ends (asked_clock core) f.after [] core.unsure now
-    ends = ends_same (asked_clock core) f.after core.unsure now b.history b.faults b.moment b.clock b.unsure
+    ends = ends_same (asked_clock core) f.after core.unsure now b.history b.faults b.moment b.clock b.upkeep b.unsure
 
 -- ---- reading the journal
 
@@ -142,6 +144,7 @@ whole_loaded old mid new core log read now w clock some l j =
           moment = let m = l.moment in let low = journal_moments mid read j in omega (arith, m, low);
           clock = let e = ap (λ (c : ℕ × Bool). c.0) l.clock in omega (arith, e, clock);
           room = λ u. absurd (true_is_false (sym (sym l.unsure ∙ u)));
+          doomed = subst (λ (ns : List ℕ). AllByRecursion (MayFree l.after) ns) (sym (ap (λ (k : Upkeep). k.doomed) l.upkeep)) tt;
         };
         store_faults = refl;
         clock = refl;
@@ -150,6 +153,8 @@ whole_loaded old mid new core log read now w clock some l j =
         next = refl;
         unsure = refl;
         frozen = refl;
+        marks = λ n. refl;
+        doomed = λ n. refl;
         opened = let e = ap length l.history in omega (arith, e, some);
       };
     }

@@ -27,7 +27,7 @@ use Rattle.index_world.proofs.StoreChanges.{All-snoc, All-each}
 use Rattle.index_world.proofs.Indexing.{longer, journal_other, index-enters, index-tried, index-dead}
 use Rattle.index_world.proofs.StoreCalls.{file-stands, file-late}
 use Rattle.index_world.proofs.Landing.{files_more, files_same, journal_some}
-use Rattle.index_world.proofs.Living.{NoRemove, removes-on, removes-stands, removes-late, removes-file, removes-taken, live-on, live-taken}
+use Rattle.index_world.proofs.Living.{Releases, removes-on, removes-stands, removes-late, removes-file, removes-taken, live-on, live-taken}
 use Rattle.index_world.proofs.Numbers.{history-snoc}
 use Rattle.index_world.proofs.Taken.{taken_held}
 use Rattle.index_world.proofs.Worlds.{held-refl, journal_is_history, taken_on}
@@ -39,7 +39,7 @@ pub record Entered (old new : State) (core : Core) (log : Log) (entry : Entry) (
   pub fresh : (number : ℕ) (delta : List Part) (facts : RowFacts) → entry.act ≡ Stage number delta facts →
       IsUnused new (core.history ++ entry ∷ []) number × HasStaged (core.history ++ entry ∷ []) number delta facts
 
-pub world-enters : (kept : State) (core : Core) (log : Log) (entry : Entry) (bytes : List ℕ) (unsure : Bool) → IsWorld kept core log → core.standing ≡ None → Spells bytes entry → NoRemove entry → MayEnter kept core.history log entry →
+pub world-enters : (kept : State) (core : Core) (log : Log) (entry : Entry) (bytes : List ℕ) (unsure : Bool) → IsWorld kept core log → core.standing ≡ None → Spells bytes entry → Releases core entry → MayEnter kept core.history log entry →
     Entered kept (with_object kept (meta_key (length core.history)) bytes) core log entry unsure
 world-enters kept core log entry bytes unsure w none spells keeps may =
     record {
@@ -79,7 +79,7 @@ still_tried kept core log entry bytes w spells may (Some u) some =
     index-dead kept (journal_of core) log (length core.history) bytes w.index
     (let e : length (journal_of core) ≡ length (core.history ++ u ∷ []) = ap (λ o. length (with_unread core.history o)) some in omega (arith, e, longer core.history u))
 
-pub world-tried : (kept : State) (core : Core) (log : Log) (entry : Entry) (bytes : List ℕ) → IsWorld kept core log → CanSpell entry → Spells bytes entry → NoRemove entry →
+pub world-tried : (kept : State) (core : Core) (log : Log) (entry : Entry) (bytes : List ℕ) → IsWorld kept core log → CanSpell entry → Spells bytes entry → Releases core entry →
     (core.standing ≡ None → MayEnter kept core.history log entry) →
     Onward kept (with_late kept (meta_key (length core.history)) bytes) core (record core { late = core.late ++ late_entry (length core.history) entry bytes ∷ []; unsure = true }) log
 world-tried kept core log entry bytes w can spells keeps may =

@@ -1,9 +1,13 @@
 -- What the calls of a world answer over every store, sound or not: by what the store holds and counts, and what the world keeps.
-use Rattle.std.specs.Prelude.{◌≡◌, ◌⊎◌, ◌+◌, ◌≤◌, ℕ, Bool, false, List, [], ◌∷◌, length, map, Some, Result, Ok, Err, IfErr, IfOk, IfSome, IsErr, IsOk, IsSome, ⊤}
+use Rattle.std.specs.Prelude.{◌≡◌, ◌⊎◌, ◌+◌, ◌≤◌, ℕ, ◌<◌, ◌==◌, ◌&&◌, ◌||◌, Bool, true, false, not, List, [], ◌∷◌, length, map, find, Contains, Option, Some, None, is_some, Result, Ok, Err, IfErr, IfOk, IfSome, IsErr, IsOk, IsSome, ⊤}
+use Rattle.std.specs.FinMap.{get}
+use Rattle.std.specs.List.{AllByRecursion}
+use Rattle.byte_fields.specs.declared.calls.Failed.{Failed}
+use Rattle.index_config.specs.declared.config.IndexConfig.{IndexConfig}
 use Rattle.meta_journal.specs.Journal.{IsCorrupt}
 use Rattle.meta_journal.specs.Places.{meta_key, split_key, numbered, HasEntry, Stand}
 use Rattle.meta_journal.specs.declared.entry.Act.{Act}
-use Rattle.meta_journal.specs.declared.entry.Act.TheVariants.{Stage, Publish}
+use Rattle.meta_journal.specs.declared.entry.Act.TheVariants.{Stage, Publish, MarkStaged, Remove}
 use Rattle.meta_journal.specs.declared.entry.Entry.{Entry}
 use Rattle.meta_store.specs.Answers.{Answer, answer_to}
 use Rattle.meta_store.specs.History.{at}
@@ -12,22 +16,26 @@ use Rattle.meta_store.specs.Readings.{reading_of}
 use Rattle.meta_store.specs.State.{after}
 use Rattle.meta_store.specs.State as meta
 use Rattle.meta_store.specs.declared.planning.Choice.{Choice}
-use Rattle.object_store.specs.Store.{State, WhereTold}
+use Rattle.object_store.specs.Store.{State, WhereTold, HasLanded, LandsThen, Deletes, is_behind}
 use Rattle.object_store.specs.declared.store.Piece.{Piece}
 use Rattle.source_checkpoint.specs.declared.delta.Part.{Part}
+use Rattle.split_states.specs.Due.{stale_rows}
 use Rattle.split_states.specs.declared.facts.RowFacts.{RowFacts}
+use Rattle.split_states.specs.declared.rows.Row.{Row}
 use Rattle.index_world.specs.Asked.{FetchesFile, IsFetch, IsInTime, IsUpload, UploadsFile}
 use Rattle.index_world.specs.Calls.{asked_moment}
 use Rattle.index_world.specs.Collected.{SweepsFile}
-use Rattle.index_world.specs.Collecting.{is_swept_by}
+use Rattle.index_world.specs.Collecting.{doomed_rows, is_past, is_swept_by, may_go_by}
 use Rattle.index_world.specs.Config.{reads}
-use Rattle.index_world.specs.Configuration.{index_of}
+use Rattle.index_world.specs.Core.{is_in}
+use Rattle.index_world.specs.Configuration.{config_or, index_of}
 use Rattle.index_world.specs.Index.{max_entries}
 use Rattle.index_world.specs.Taking.{IsFaultBetween}
 use Rattle.index_world.specs.World.{Keeping}
 use Rattle.index_world.specs.declared.tokens.Marks.{Marks}
 use Rattle.index_world.specs.declared.tokens.Plan.{Plan}
 use Rattle.index_world.specs.declared.tokens.Staged.{Staged}
+use Rattle.index_world.specs.declared.tokens.SweepPage.{SweepPage}
 use Rattle.index_world.specs.declared.tokens.Uploaded.{Uploaded}
 use Rattle.index_world.specs.declared.world_error.WorldError.{WorldError}
 use Rattle.index_world.specs.declared.world_error.WorldError.TheVariants as errors
@@ -40,6 +48,10 @@ pub data Answered : Type 0 where
   upload_answered : (number : ℕ) → (content : List ℕ) → Result Uploaded WorldError → Answered
   publish_answered : (number : ℕ) → Result ℕ WorldError → Answered
   plan_answered : Choice → Result Plan WorldError → Answered
+  mark_stale_answered : Result ℕ WorldError → Answered
+  doom_answered : Result (Option ℕ) WorldError → Answered
+  remove_answered : Result ℕ WorldError → Answered
+  list_answered : (behind : Option (List ℕ)) → Result SweepPage WorldError → Answered
   sweep_answered : (number : ℕ) → Result Bool WorldError → Answered
   fetch_answered : (number planned_at from len : ℕ) → Result Piece WorldError → Answered
 
@@ -121,10 +133,6 @@ AppendsNot errors.NoIndex act moment next state now = ⊥
 AppendsNot errors.IndexExists act moment next state now = ⊥
 AppendsNot (errors.BadConfig bad) act moment next state now = ⊥
 
-abbrev pub Appends : Result ⊤ WorldError → (meta.State → Act) → (moment next : ℕ) → meta.State → State → Type 0
-Appends (Ok done) act moment next state now = AppendedOwn act moment next state now
-Appends (Err error) act moment next state now = AppendsNot error act moment next state now
-
 -- ---- what each call answers, by what is kept behind it: nothing is unsure where something is given
 
 abbrev pub SaysMarks : Result Marks WorldError → Keeping → State → Type 0
@@ -173,6 +181,85 @@ Tells result old new Says = IfErr result (IsFaultBetween old.store_faults new.st
 abbrev pub Followed : Keeping → Keeping → Type 0
 Followed old new = WhereTold old.told new.told (λ was now. Follows old.next old.meta new.next new.meta now)
 
+-- ---- the collector's calls
+
+-- The last object is the own entry of this moment, of the rows that the state before it had, and so many they were.
+pub record AppendedRows (rows_of : meta.State → List ℕ) (act : List ℕ → Act) (count moment next : ℕ) (state : meta.State) (now : State) : Type 0 where
+  pub before : meta.State
+  pub number : ℕ
+  pub next_is : next ≡ number + 1
+  pub some : 0 < count
+  pub count_is : count ≡ length (rows_of before)
+  pub stands : HasEntry now number (at moment (act (rows_of before)))
+  pub state_is : state ≡ behind before (at moment (act (rows_of before)))
+
+-- An entry of the rows that the state has, or none where it has none.
+abbrev pub SaysRows : (rows_of : meta.State → List ℕ) → (act : List ℕ → Act) → Result ℕ WorldError → Keeping → State → Type 0
+SaysRows rows_of act (Ok count) world now =
+    (((count ≡ 0) × (rows_of world.meta ≡ [])) ⊎ AppendedRows rows_of act count world.moment world.next world.meta now) × (world.unsure ≡ false)
+SaysRows rows_of act (Err error) world now = AppendsNot error (λ state. act (rows_of state)) world.moment world.next world.meta now
+
+abbrev pub kept_config : Keeping → IndexConfig
+kept_config world = config_or (index_of world.meta.config)
+
+abbrev pub stale_in : Keeping → meta.State → List ℕ
+stale_in world state = stale_rows world.moment (kept_config world).staged_grace state.rows
+
+abbrev pub doomed_in : Keeping → meta.State → List ℕ
+doomed_in world state = doomed_rows world.doomed state.rows
+
+-- the least row that may go, by what is kept and this moment
+abbrev pub next_in : Keeping → (moment : ℕ) → Option Row
+next_in world moment = find (may_go_by (kept_config world).deletion_grace world.marks world.doomed moment) world.meta.rows
+
+-- the delete of that row's file
+abbrev pub DeletesRow : Option Row → (number : ℕ) → Result (Unit {0}) Failed → State → State → Type 0
+DeletesRow None number answer was now = ⊥
+DeletesRow (Some row) number answer was now = (row.number ≡ number) × LandsThen (Deletes (split_key number) answer) was now
+
+-- By what was kept before: the file of the least row that may go is deleted, and that is doomed; or there is no such row, and nothing was done.
+abbrev pub SaysDoomed : Result (Option ℕ) WorldError → Keeping → Keeping → State → State → Type 0
+SaysDoomed (Ok None) old new was now = (next_in old new.moment ≡ None) × (now ≡ was) × (new.doomed ≡ old.doomed)
+SaysDoomed (Ok (Some number)) old new was now =
+    DeletesRow (next_in old new.moment) number (Ok tt) was now × ((n : ℕ) → is_in new.doomed n ≡ (is_in old.doomed n || (number == n)))
+SaysDoomed (Err (errors.StoreFault before after)) old new was now =
+    ((number : ℕ) × (e : Failed) × DeletesRow (next_in old new.moment) number (Err e) was now) × (new.doomed ≡ old.doomed)
+SaysDoomed (Err (errors.Memory e)) old new was now = (now ≡ was) × (new.doomed ≡ old.doomed)
+SaysDoomed (Err (errors.Refused refusal)) old new was now = ⊥
+SaysDoomed (Err (errors.Missing key)) old new was now = ⊥
+SaysDoomed (Err (errors.Corrupt key)) old new was now = ⊥
+SaysDoomed (Err (errors.Foreign key)) old new was now = ⊥
+SaysDoomed (Err errors.Full) old new was now = ⊥
+SaysDoomed (Err (errors.Expired planned_at reached)) old new was now = ⊥
+SaysDoomed (Err errors.NoIndex) old new was now = ⊥
+SaysDoomed (Err errors.IndexExists) old new was now = ⊥
+SaysDoomed (Err (errors.BadConfig bad)) old new was now = ⊥
+
+-- a number that was staged, whose row is gone by what is kept, and whose file stands between two keys
+abbrev pub is_left_in : Keeping → State → (behind next : Option (List ℕ)) → ℕ → Bool
+is_left_in world now behind next number =
+    is_swept_by world.meta.last_number world.meta.rows number
+    && (is_some (get now.objects (split_key number)) && (is_behind behind (split_key number) && not (is_past next (split_key number))))
+
+pub record ListsPage (world : Keeping) (now : State) (behind : Option (List ℕ)) (page : SweepPage) : Type 0 where
+  pub only : AllByRecursion (λ n. is_left_in world now behind page.next n ≡ true) page.numbers.items
+  pub all : (n : ℕ) → is_left_in world now behind page.next n ≡ true → Contains page.numbers.items n
+  pub goes_on : IfSome page.next (λ key. (is_behind behind key ≡ true) × IsSome (get now.objects key))
+
+abbrev pub SaysListed : (behind : Option (List ℕ)) → Result SweepPage WorldError → Keeping → State → State → Type 0
+SaysListed behind (Ok page) world was now = HasLanded was now × ListsPage world now behind page
+SaysListed behind (Err (errors.StoreFault before after)) world was now = HasLanded was now
+SaysListed behind (Err (errors.Memory e)) world was now = HasLanded was now
+SaysListed behind (Err (errors.Refused refusal)) world was now = ⊥
+SaysListed behind (Err (errors.Missing key)) world was now = ⊥
+SaysListed behind (Err (errors.Corrupt key)) world was now = ⊥
+SaysListed behind (Err (errors.Foreign key)) world was now = ⊥
+SaysListed behind (Err errors.Full) world was now = ⊥
+SaysListed behind (Err (errors.Expired planned_at reached)) world was now = ⊥
+SaysListed behind (Err errors.NoIndex) world was now = ⊥
+SaysListed behind (Err errors.IndexExists) world was now = ⊥
+SaysListed behind (Err (errors.BadConfig bad)) world was now = ⊥
+
 -- A WORLD'S ANSWER: a call of a world that kept the one and keeps the other answered so.
 abbrev pub IsAnswer : Answered → Keeping → Keeping → Type 0
 IsAnswer (marks_answered result) old new = Tells result old new (λ was now. SaysMarks result new now) × Followed old new
@@ -181,6 +268,10 @@ IsAnswer (stage_answered delta facts result) old new = Tells result old new (λ 
 IsAnswer (upload_answered number content result) old new = IsUpload (split_key number) number result × Tells result old new (UploadsFile (split_key number) content result)
 IsAnswer (publish_answered number result) old new = Tells result old new (λ was now. SaysPublished number result new now) × Followed old new
 IsAnswer (plan_answered choice result) old new = Tells result old new (λ was now. SaysPlanned choice result new now) × Followed old new
+IsAnswer (mark_stale_answered result) old new = Tells result old new (λ was now. SaysRows (stale_in new) MarkStaged result new now) × Followed old new
+IsAnswer (remove_answered result) old new = Tells result old new (λ was now. SaysRows (doomed_in new) Remove result new now) × Followed old new
+IsAnswer (doom_answered result) old new = (new.meta ≡ old.meta) × Tells result old new (λ was now. SaysDoomed result old new was now)
+IsAnswer (list_answered behind result) old new = (new.meta ≡ old.meta) × Tells result old new (λ was now. SaysListed behind result new was now)
 IsAnswer (sweep_answered number result) old new =
     IfOk result (λ swept. swept ≡ is_swept_by old.meta.last_number old.meta.rows number) × Tells result old new (SweepsFile (split_key number) result)
 IsAnswer (fetch_answered number planned_at from len result) old new =

@@ -1,5 +1,5 @@
 -- The calls that a gate records as its own.
-use Rattle.std.specs.Prelude.{◌≡◌, ◌⊎◌, ℕ, List, [], ◌∷◌, Result, Ok, Err}
+use Rattle.std.specs.Prelude.{◌≡◌, ◌⊎◌, ℕ, List, [], ◌∷◌, Option, Result, Ok, Err}
 use Rattle.meta_journal.specs.declared.entry.Entry.{Entry}
 use Rattle.meta_store.specs.declared.planning.Choice.{Choice}
 use Rattle.source_checkpoint.specs.declared.delta.Part.{Part}
@@ -20,6 +20,7 @@ pub data Ask : Type 0 where
   of_mark_stale : Ask
   of_doom : Ask
   of_remove : Ask
+  of_sweep_list : (behind : Option (List ℕ)) → Ask
   of_sweep : (number : ℕ) → Ask
 
 -- a call, and what is seen of the index behind it: its history, the moment and the count of faults

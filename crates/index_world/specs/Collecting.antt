@@ -1,6 +1,6 @@
--- The calls of the collector, as functions of the core and a fate. No world makes them yet.
-use Rattle.std.specs.Prelude.{◌&&◌, ℕ, Bool, true, false, not, List, [], ◌∷◌, ◌++◌, length, filter, find, nat_le, nat_lt, ◌+◌, Option, Some, None, is_some, Result, Ok, Err, ⊤}
-use Rattle.std.specs.List.{list_any}
+-- The calls of the collector, as functions of the core and a fate.
+use Rattle.std.specs.Prelude.{◌≡◌, ◌&&◌, ℕ, Bool, true, false, not, List, [], ◌∷◌, ◌++◌, length, filter, find, nat_le, nat_lt, ◌+◌, Option, Some, None, is_some, Contains, IfSome, IsSome, Result, Ok, Err, ⊤}
+use Rattle.std.specs.List.{AllByRecursion}
 use Rattle.std.specs.Prelude.{◌==◌}
 use Rattle.index_config.specs.declared.config.IndexConfig.{IndexConfig}
 use Rattle.meta_journal.specs.Places.{split_key}
@@ -9,12 +9,14 @@ use Rattle.meta_journal.specs.declared.entry.Act.TheVariants.{MarkStaged, Remove
 use Rattle.meta_journal.specs.declared.entry.Entry.{Entry}
 use Rattle.meta_store.specs.History.{history, last_number}
 use Rattle.meta_store.specs.Rows.{rows}
+use Rattle.object_store.specs.Store.{is_behind}
 use Rattle.split_states.specs.Due.{is_marked, stale_rows}
 use Rattle.split_states.specs.Rows.{row_at, row_numbers}
 use Rattle.split_states.specs.declared.rows.Row.{Row}
-use Rattle.index_world.specs.Calls.{Call, Fate, Gives, gives, Trouble, no_memory, Unmade, troubled, store_failed, Made, made, exists, failed, Making, create_at_end, get_at_end, taken_in, settled, may_append, entry_of, last_create, or_short, and_then, as_unmade, asking, file_deleted}
+use Rattle.index_world.specs.Calls.{Call, Fate, Gives, gives, Trouble, no_memory, Unmade, troubled, store_failed, Made, made, exists, failed, Making, create_at_end, get_at_end, taken_in, settled, may_append, entry_of, last_create, or_short, and_then, as_unmade, asking, file_deleted, file_got}
 use Rattle.index_world.specs.Configuration.{configuration, config_or}
-use Rattle.index_world.specs.Core.{Core, release_of}
+use Rattle.index_world.specs.declared.tokens.SweepPage.{SweepPage}
+use Rattle.index_world.specs.Core.{Core, Marking, file_at, is_in, release_of}
 
 -- ---- an entry of one's own where the state leaves one
 
@@ -89,11 +91,14 @@ removal_of [] = None
 removal_of (n ∷ numbers) = Some (record { act = Remove (n ∷ numbers); answer = length (n ∷ numbers) })
 
 abbrev pub is_doomed : Core → ℕ → Bool
-is_doomed core number = list_any (λ n. n == number) core.doomed
+is_doomed core number = is_in core.doomed number
 
 -- all rows that are marked and were doomed by this life, and no others
+abbrev pub doomed_rows : (doomed : List ℕ) → List Row → List ℕ
+doomed_rows doomed list = row_numbers (filter (λ row. is_marked row.state && is_in doomed row.number) list)
+
 abbrev pub removal_offer : Core → Option (Offer ℕ)
-removal_offer core = removal_of (row_numbers (filter (λ row. is_marked row.state && is_doomed core row.number) (rows (history core.history))))
+removal_offer core = removal_of (doomed_rows core.doomed (rows (history core.history)))
 
 -- the count of rows that were marked or removed; 0 where nothing was appended
 abbrev pub mark_stale_call : Fate → Core → Gives Unmade ℕ
@@ -105,8 +110,11 @@ remove_call fate core = appended_if fate 0 removal_offer core
 -- ---- what it deletes
 
 -- marked, released at this moment, and not doomed yet
+abbrev pub may_go_by : (grace : ℕ) → List Marking → (doomed : List ℕ) → (moment : ℕ) → Row → Bool
+may_go_by grace marks doomed moment row = is_marked row.state && (not (is_in doomed row.number) && nat_le (release_of grace marks row) moment)
+
 abbrev pub may_go : Core → Row → Bool
-may_go core row = is_marked row.state && (not (is_doomed core row.number) && nat_le (release_of (config_taken core).deletion_grace core.marks row) core.moment)
+may_go core row = may_go_by (config_taken core).deletion_grace core.marks core.doomed core.moment row
 
 -- the least such row
 abbrev pub next_doomed : Core → Option Row
@@ -145,3 +153,26 @@ sweep_if true call number core = answers true (file_deleted call (split_key numb
 -- The file of such a number is deleted; of another one nothing is done. It neither asks the clock nor settles.
 abbrev pub sweep_call : ℕ → Fate → Core → Gives Trouble Bool
 sweep_call number fate core = sweep_if (is_swept core number) fate.first number core
+
+-- ---- what it looks for
+
+-- One listing of the store. It neither asks the clock nor settles.
+abbrev pub list_call : Fate → Core → Gives Trouble ⊤
+list_call fate core = file_got fate.first core
+
+-- behind the last key of a page, where it has one
+abbrev pub is_past : Option (List ℕ) → List ℕ → Bool
+is_past None key = false
+is_past (Some last) key = is_behind (Some last) key
+
+-- a number whose row is gone, whose file stands behind the one key and not behind the other
+abbrev pub is_left : Core → (behind next : Option (List ℕ)) → ℕ → Bool
+is_left core behind next number =
+    is_swept core number && (is_some (file_at core.files (split_key number)) && (is_behind behind (split_key number) && not (is_past next (split_key number))))
+
+-- A page of a sweep: each of its numbers is such a one, and it has all of them. Where it is not the last one, it ends with a key that stands
+-- behind the one that it began with.
+pub record IsSweepPage (behind : Option (List ℕ)) (page : SweepPage) (core : Core) : Type 0 where
+  pub only : AllByRecursion (λ n. is_left core behind page.next n ≡ true) page.numbers.items
+  pub all : (n : ℕ) → is_left core behind page.next n ≡ true → Contains page.numbers.items n
+  pub goes_on : IfSome page.next (λ key. (is_behind behind key ≡ true) × IsSome (file_at core.files key))

@@ -1,6 +1,6 @@
 -- What one life of a world knows of its store and its clock, whatever its actors do.
 use Rattle.std.specs.Prelude.{◌≡◌, ◌⊎◌, ◌<◌, ◌≤◌, ◌==◌, ℕ, ◌+◌, ◌-◌, ◌^◌, max, Bool, true, false, List, [], ◌∷◌, ◌++◌, Option, Some, None, bytes_eq, if◌then◌else◌}
-use Rattle.std.specs.List.{AllByRecursion}
+use Rattle.std.specs.List.{AllByRecursion, list_any}
 use Rattle.index_config.specs.declared.config.IndexConfig.{IndexConfig}
 use Rattle.meta_journal.specs.Places.{meta_key, split_key}
 use Rattle.meta_journal.specs.declared.entry.Entry.{Entry}
@@ -14,6 +14,7 @@ use Rattle.split_states.specs.declared.rows.Row.{Row}
 use Rattle.split_states.specs.declared.rows.RowState.TheVariants.{Published, Marked}
 use Rattle.index_world.specs.Configuration.{configuration, StaysConfigured}
 use Rattle.index_world.specs.Index.{has_staged, HasStaged, IsGivenUp}
+pub use Rattle.index_world.specs.declared.marking.Marking.{Marking}
 
 -- an object outside the journal
 pub record File : Type 0 where
@@ -41,11 +42,6 @@ late_bytes (late_entry number entry bytes) = bytes
 late_bytes (late_dead key bytes) = bytes
 late_bytes (late_file key bytes) = bytes
 
--- a row that was marked: its number, and the greatest moment where its marking was taken in
-pub record Marking : Type 0 where
-  pub number : ℕ
-  pub moment : ℕ
-
 pub record Core : Type 0 where
   pub history : List Entry  -- as it was taken in
   pub store_faults : ℕ
@@ -59,6 +55,9 @@ pub record Core : Type 0 where
   pub marks : List Marking  -- what this life marked
   pub doomed : List ℕ  -- the numbers whose files this life deleted while they had a row
 
+abbrev pub is_in : List ℕ → ℕ → Bool
+is_in numbers number = list_any (λ n. n == number) numbers
+
 -- a count stands still at its type's end
 abbrev pub last_count : ℕ
 last_count = 2 ^ 64 - 1
@@ -66,6 +65,18 @@ last_count = 2 ^ 64 - 1
 -- what a life knows of its clock
 abbrev pub clock_of : Core → ℕ × Bool
 clock_of core = (core.clock, core.frozen)
+
+-- what a life noted: which marking it took in when, and whose files it deleted while they had a row
+pub record Upkeep : Type 0 where
+  pub marks : List Marking
+  pub doomed : List ℕ
+
+abbrev pub upkeep_of : Core → Upkeep
+upkeep_of core = record { marks = core.marks; doomed = core.doomed }
+
+-- it noted nothing yet
+abbrev pub no_upkeep : Upkeep
+no_upkeep = record { marks = []; doomed = [] }
 
 -- these entries, and the one that stands unread behind them
 abbrev pub with_unread : List Entry → Option Entry → List Entry

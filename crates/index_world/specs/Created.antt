@@ -17,7 +17,7 @@ use Rattle.object_store.specs.Store.{State, HasLanded}
 use Rattle.source_log.specs.Log.{Log}
 use Rattle.index_world.specs.Calls.{Call, Fate, Gives, gives, Made, made, exists, failed, Making, create_at_end, taken_in, Trouble, faulted, no_memory, store_fault, store_failed, Unread, not_read, no_index, loaded, or_short, asked_clock, entry_of}
 use Rattle.index_world.specs.Config.{reads}
-use Rattle.index_world.specs.Core.{Core, KeepsBut, journal_of}
+use Rattle.index_world.specs.Core.{Core, KeepsBut, journal_of, no_upkeep, taken_at, is_in}
 use Rattle.index_world.specs.Life.{LifeIs}
 use Rattle.index_world.specs.Taking.{of_journal}
 use Rattle.index_world.specs.World.{IsWorld, Keeping, WorldStands}
@@ -104,6 +104,8 @@ pub record CreatesIndex (text : List ℕ) (clock : Option ℕ) (world : Keeping)
   pub clock_is : world.clock ≡ clock
   pub unsure : world.unsure ≡ false
   pub frozen : world.frozen ≡ false
+  pub marks : (n : ℕ) → taken_at world.marks n ≡ 0
+  pub doomed : (n : ℕ) → is_in world.doomed n ≡ false
 
 -- the same of a life
 pub record CreatesLife (text : List ℕ) (clock : Option ℕ) (life : Life) (old new : State) : Type 0 where
@@ -111,7 +113,7 @@ pub record CreatesLife (text : List ℕ) (clock : Option ℕ) (life : Life) (old
   pub asked : IsToldBy clock moment
   pub below : moment < 2 ^ 62
   pub begins : Begins text (MakesFirst text moment) old new
-  pub knows : LifeIs life (create_at text moment ∷ []) moment false
+  pub knows : LifeIs life (create_at text moment ∷ []) moment false no_upkeep
 
 abbrev pub CreatesTo : (text : List ℕ) (clock : Option ℕ) (before now : ℕ) → Result Life WorldError → State → State → Type 0
 CreatesTo text clock before now (Ok life) old new = CreatesLife text clock life old new

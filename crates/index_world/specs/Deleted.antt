@@ -5,7 +5,7 @@ use Rattle.meta_journal.specs.Places.{split_key}
 use Rattle.object_store.specs.Store.{State}
 use Rattle.source_log.specs.Log.{Log}
 use Rattle.index_world.specs.Calls.{Call, Trouble, gives, store_failed, file_deleted}
-use Rattle.index_world.specs.Core.{Core, file_at, clock_of}
+use Rattle.index_world.specs.Core.{Core, file_at, clock_of, upkeep_of}
 use Rattle.index_world.specs.World.{IsWorld, GoesOn}
 
 abbrev pub deleted_answer : Result (Unit {0}) Failed → (before : ℕ) → Core → Result ⊤ Trouble
@@ -24,5 +24,6 @@ pub record DeletesAs (new : State) (core : Core) (log : Log) (number : ℕ) (ans
   pub faults : after.store_faults ≡ now
   pub moment : after.moment ≡ core.moment
   pub clock : clock_of after ≡ clock_of core
+  pub upkeep : upkeep_of after ≡ upkeep_of core
   pub unsure : after.unsure ≡ core.unsure
   pub gone : IsOk answer → file_at after.files (split_key number) ≡ None

@@ -31,3 +31,4 @@ pub mod Releases
 pub mod Deleted
 pub mod Collecting
 pub mod Collected
+pub mod Swept

@@ -19,10 +19,11 @@ pub record Reread (old new : State) (core after : Core) (log : Log) : Type 0 whe
   pub world : IsWorld new after log
   pub held : KeepsHeld old new (journal_of core) (journal_of after)
 
--- what landings leave of a core: its history, its marks, and all that isn't in the store
+-- what landings leave of a core: its history, what it noted, and all that isn't in the store
 pub record SameLife (core after : Core) : Type 0 where
   pub history : after.history ≡ core.history
   pub marks : after.marks ≡ core.marks
+  pub doomed : after.doomed ≡ core.doomed
   pub store_faults : after.store_faults ≡ core.store_faults
   pub moment : after.moment ≡ core.moment
   pub clock : clock_of after ≡ clock_of core

@@ -14,6 +14,7 @@ use Rattle.meta_store.specs.Readings.{config_of, reading_of}
 use Rattle.meta_store.specs.State.{state_of}
 use Rattle.object_store.specs.Store.{State, HasLanded}
 use Rattle.index_world.specs.Config.{reads}
+use Rattle.index_world.specs.Core.{taken_at, is_in}
 use Rattle.index_world.specs.World.{Keeping}
 use Rattle.index_world.specs.declared.world_error.WorldError.{WorldError}
 use Rattle.index_world.specs.declared.world_error.WorldError.TheVariants as errors
@@ -89,6 +90,8 @@ pub record OpensIndex (world : Keeping) (old new : State) : Type 0 where
   pub meta : world.meta ≡ state_of reads (history entries)
   pub moment : world.moment ≡ moment_of (history entries)
   pub unsure : world.unsure ≡ false
+  pub marks : (n : ℕ) → taken_at world.marks n ≡ 0
+  pub doomed : (n : ℕ) → is_in world.doomed n ≡ false
 
 -- None was, by the error: with these counts of faults at the start and now. A fault comes only where the count rose or stands
 -- at its end, and no key is missing.

@@ -9,6 +9,8 @@ use Rattle.object_store.specs.declared.store.CreateError.{CreateError}
 use Rattle.object_store.specs.declared.store.CreateError.TheVariants as creates
 use Rattle.object_store.specs.declared.store.GetError.{GetError}
 use Rattle.object_store.specs.declared.store.GetError.TheVariants as gets
+use Rattle.object_store.specs.declared.store.ListError.{ListError}
+use Rattle.object_store.specs.declared.store.ListError.TheVariants as lists
 use Rattle.index_world.specs.Index.{max_entries}
 use Rattle.index_world.specs.declared.world_error.WorldError.{WorldError}
 use Rattle.index_world.specs.declared.world_error.WorldError.TheVariants as errors
@@ -94,6 +96,10 @@ abbrev pub of_get : (key : List ℕ) (before after : ℕ) → GetError → World
 of_get key before after gets.Absent = errors.Missing key
 of_get key before after gets.Failed = errors.StoreFault before after
 of_get key before after (gets.Memory e) = errors.Memory e
+
+abbrev pub of_list : (before after : ℕ) → ListError → WorldError
+of_list before after lists.Failed = errors.StoreFault before after
+of_list before after (lists.Memory e) = errors.Memory e
 
 -- a fault of the store tells both counts, and comes only where the count rose or stands at its end; all other errors come freely
 abbrev pub IsFaultBetween : (before now : ℕ) → WorldError → Type 0

@@ -1,14 +1,15 @@
 -- What holds of a store and of the core that stands for it, from one call of the world to the next.
 use Rattle.std.specs.Prelude.{◌≡◌, ◌≤◌, ◌<◌, ◌^◌, ℕ, Bool, true, List, ◌++◌, length, Option, Some}
+use Rattle.std.specs.List.{AllByRecursion}
 use Rattle.meta_journal.specs.declared.entry.Entry.{Entry}
 use Rattle.meta_store.specs.History.{history, moment_of}
 use Rattle.object_store.specs.Store.{State}
 use Rattle.source_log.specs.Log.{Log}
 use Rattle.meta_store.specs.State as meta
 use Rattle.index_world.specs.Config.{reads}
-use Rattle.index_world.specs.Core.{Core, KeepsFor, IsOther, IsPlannedIn, journal_of}
+use Rattle.index_world.specs.Core.{Core, KeepsFor, IsOther, IsPlannedIn, Marking, journal_of, taken_at, is_in}
 use Rattle.index_world.specs.Index.{IsIndexOf, IsTaken, max_entries}
-use Rattle.index_world.specs.Releases.{RemovesInTime}
+use Rattle.index_world.specs.Releases.{MayFree, RemovesInTime}
 use Rattle.index_world.specs.Standing.{StandsFor}
 
 -- THE WORLD'S INVARIANT: the core stands for the store, and the store is an index whose journal is the core's
@@ -27,9 +28,12 @@ pub record IsTimely (core : Core) : Type 0 where
   pub moment : core.moment < 2 ^ 62
   pub clock : core.clock < 2 ^ 62
   pub room : core.unsure ≡ true → length core.history < max_entries
+  -- what this life doomed may be deleted: its row is marked and released, or gone
+  pub doomed : AllByRecursion (MayFree core) core.doomed
 
 -- what a world keeps: what its store tells, counts and gave, what its clock tells, its moment, its state, the number behind the
--- entries that it took in, whether that one is unsure, and whether the clock is asked no more
+-- entries that it took in, whether that one is unsure, whether the clock is asked no more, which markings this life took in when, and which
+-- files it deleted whose rows stood
 pub record Keeping : Type 0 where
   pub told : Option State
   pub store_faults : ℕ
@@ -40,6 +44,8 @@ pub record Keeping : Type 0 where
   pub next : ℕ
   pub unsure : Bool
   pub frozen : Bool
+  pub marks : List Marking
+  pub doomed : List ℕ
 
 -- a world that keeps this stands for the core, over the log
 pub record WorldStands (keeping : Keeping) (core : Core) (log : Log) : Type 0 where
@@ -54,6 +60,9 @@ pub record WorldStands (keeping : Keeping) (core : Core) (log : Log) : Type 0 wh
   pub next : keeping.next ≡ length core.history
   pub unsure : keeping.unsure ≡ core.unsure
   pub frozen : keeping.frozen ≡ core.frozen
+  -- when this life took in which marking, and what it doomed, in whatever order they are kept
+  pub marks : (n : ℕ) → taken_at keeping.marks n ≡ taken_at core.marks n
+  pub doomed : (n : ℕ) → is_in keeping.doomed n ≡ is_in core.doomed n
   -- an index that was opened has an entry
   pub opened : 0 < length core.history
 

@@ -4,12 +4,12 @@ ghost use Rattle.std.specs.Prelude.{◌≡◌, refl};
 
 use crate::gate::Gate;
 use crate::steady::SteadyClock;
-use crate::tokens::{Marks, Plan, Staged, Uploaded};
+use crate::tokens::{Marks, Plan, Staged, SweepPage, Uploaded};
 use crate::world::World;
 use crate::world_error::WorldError;
 use index_config::IndexConfig;
 use meta_store::Choice;
-use object_store::{ObjectStore, Piece};
+use object_store::{Key, ObjectStore, Piece};
 use source_checkpoint::Delta;
 use split_states::RowFacts;
 use std::alloc::Global;
@@ -118,8 +118,24 @@ impl<S: ObjectStore, C: SteadyClock> Gate for Direct<S, C> {
         self.world.upload(alloc, staged, content)
     }
 
-    fn sweep(&mut self, _alloc: Global, number: u64) -> Result<bool, WorldError> {
-        self.world.sweep(number)
+    fn mark_stale(&mut self, alloc: Global) -> Result<u32, WorldError> {
+        self.world.mark_stale(alloc)
+    }
+
+    fn doom(&mut self, _alloc: Global) -> Result<Option<u64>, WorldError> {
+        self.world.doom()
+    }
+
+    fn remove(&mut self, alloc: Global) -> Result<u32, WorldError> {
+        self.world.remove(alloc)
+    }
+
+    fn sweep_list(&mut self, alloc: Global, behind: Option<&Key>) -> Result<SweepPage, WorldError> {
+        self.world.sweep_list(alloc, behind)
+    }
+
+    fn sweep_delete(&mut self, _alloc: Global, number: u64) -> Result<bool, WorldError> {
+        self.world.sweep_delete(number)
     }
 
     fn publish(&mut self, alloc: Global, uploaded: Uploaded) -> Result<u64, WorldError> {

@@ -11,11 +11,13 @@ ghost use Rattle.meta_store.specs.Readings.{reading_of};
 ghost use Rattle.meta_store.specs.State.{state_of};
 ghost use Rattle.object_store.specs.Store.{WhereTold};
 ghost use Rattle.index_world.specs.Config.{reads};
+ghost use Rattle.index_world.specs.Core.{no_upkeep};
 ghost use Rattle.index_world.specs.Created.{create_at, of_first, AppendsFirst, CreatesTo, IsBadText, IsOfCreate};
 ghost use Rattle.index_world.specs.Life.{LifeIs};
 ghost use Rattle.index_world.specs.Taking.{IsFaultBetween};
 
 use crate::config::reading_of_text;
+use crate::doom_list::Doomed;
 use crate::life::Life;
 use crate::steady::SteadyClock;
 use crate::taking::{prepare, world_error};
@@ -69,7 +71,7 @@ fn append_first<S: ObjectStore>(
     requires read { reading ≡ reading_of reads None entry.act }
     requires allowed { IsOk (answer_to reading (state_of reads Start) entry) }
     requires early { before ≤ S.fault_count store.old }
-    ensures knows { IfOk result (λ life. LifeIs life (entry ∷ []) entry.moment false) }
+    ensures knows { IfOk result (λ life. LifeIs life (entry ∷ []) entry.moment false no_upkeep) }
     ensures faults { IfErr result (IsFaultBetween before (S.fault_count store.new)) }
     ensures later { S.fault_count store.old ≤ S.fault_count store.new }
     ensures kinds { IfErr result (λ error. (text : List ℕ) → IsOfCreate text error) }
@@ -94,6 +96,8 @@ fn append_first<S: ObjectStore>(
                 journal,
                 meta,
                 moment,
+                marks: Vec::new(alloc),
+                doomed: Doomed::vacant(alloc),
             })
         }
         Err(error) => {

@@ -1,28 +1,29 @@
 //! What the actors of an index ask of its world.
 
 ghost use Rattle.std.specs.Prelude.{◌≡◌, ◌<◌, ◌^◌, ◌++◌, ℕ, List, [], IfOk, length, slice_get, None, Some, Option};
+ghost use Rattle.std.specs.Option.{option_copied};
 ghost use Rattle.doc_value.specs.Documents.{IsSchema};
 ghost use Rattle.index_config.specs.declared.config.IndexConfig as configs;
 ghost use Rattle.meta_journal.specs.Spelling.{CanSpellFacts};
 ghost use Rattle.source_log.specs.Log.{Log};
 ghost use Rattle.meta_journal.specs.Places.{split_key};
 ghost use Rattle.object_store.specs.Store.{State, WhereTold};
-ghost use Rattle.index_world.specs.Answering.{Answered, marks_answered, moment_answered, stage_answered, upload_answered, publish_answered, plan_answered, fetch_answered, sweep_answered};
+ghost use Rattle.index_world.specs.Answering.{Answered, marks_answered, moment_answered, stage_answered, upload_answered, publish_answered, plan_answered, fetch_answered, mark_stale_answered, doom_answered, remove_answered, list_answered, sweep_answered};
 ghost use Rattle.index_world.specs.Asked.{Behind, FetchesFile, IsFetch, IsUpload, UploadsFile};
 ghost use Rattle.index_world.specs.Calls.{asked, looked, asked_and_looked, fetched_from, upload_made};
-ghost use Rattle.index_world.specs.CallsMade.{CallMade, of_checkpoints, of_moment, of_stage, of_upload, of_publish, of_plan, of_fetch, of_sweep};
+ghost use Rattle.index_world.specs.CallsMade.{CallMade, of_checkpoints, of_moment, of_stage, of_upload, of_publish, of_plan, of_fetch, of_mark_stale, of_doom, of_remove, of_sweep_list, of_sweep};
 ghost use Rattle.index_world.specs.Core.{Core, IsConfigured, IsUnusedIn, Nobody};
 ghost use Rattle.index_world.specs.Collected.{SweepsFile};
-ghost use Rattle.index_world.specs.Collecting.{sweep_call};
+ghost use Rattle.index_world.specs.Collecting.{doom_call, IsSweepPage, list_call, mark_stale_call, remove_call, sweep_call};
 ghost use Rattle.index_world.specs.Gate.{Does, DoesWith, IsGiven, fetched_more, grace_of, IsSoundCore, IsTrouble, IsUnmade, IsUnfetched, AreMarks, IsMoment, stage_call, WasStaged, WasUploaded, publish_call, IsPublishable, IsRevision, IsPlan, IsPieceGiven};
 ghost use Rattle.index_world.specs.World.{GoesFor};
 ghost use Rattle.meta_store.specs.declared.planning.PlanRow.{PlanRow};
 
-use crate::tokens::{Marks, Plan, Staged, Uploaded};
+use crate::tokens::{Marks, Plan, Staged, SweepPage, Uploaded};
 use crate::world_error::WorldError;
 use index_config::IndexConfig;
 use meta_store::Choice;
-use object_store::Piece;
+use object_store::{Key, Piece};
 use source_checkpoint::Delta;
 use split_states::RowFacts;
 use std::alloc::Global;
@@ -121,9 +122,43 @@ pub trait Gate {
             Does Stands Between Owns Adds (Some staged.number) (of_upload staged.number content.now) (λ fate c. upload_made fate staged.number content.now c) IsTrouble
             (WasUploaded staged.number content.now) result core log self.old self.new };
 
+    /// Marks all rows that have been staged for the grace of the configuration, and says how many: 0, without an entry, where there is none.
+    fn mark_stale(&mut self, alloc: Global) -> Result<u32, WorldError>
+        ensures later { since self.old self.new }
+        ensures answered { Answers self.old (mark_stale_answered result) self.new }
+        ensures same { bytes_fetched self.new ≡ bytes_fetched self.old }
+        ensures step { (core : Core) (log : Log) → Stands self.old core log →
+            DoesWith Stands Between Owns Adds None of_mark_stale mark_stale_call IsUnmade IsGiven result core log self.old self.new };
+
+    /// Deletes the file of the least row that is marked, released and not doomed yet, and gives its number, behind which it is
+    /// doomed. None, without a call of the store, where there is no such row; a delete that failed may be tried again.
+    fn doom(&mut self, alloc: Global) -> Result<Option<u64>, WorldError>
+        ensures later { since self.old self.new }
+        ensures answered { Answers self.old (doom_answered result) self.new }
+        ensures same { bytes_fetched self.new ≡ bytes_fetched self.old }
+        ensures step { (core : Core) (log : Log) → Stands self.old core log →
+            DoesWith Stands Between Owns Adds None of_doom doom_call IsTrouble IsGiven result core log self.old self.new };
+
+    /// Removes all marked rows that were doomed, and says how many: 0, without an entry, where there is none.
+    fn remove(&mut self, alloc: Global) -> Result<u32, WorldError>
+        ensures later { since self.old self.new }
+        ensures answered { Answers self.old (remove_answered result) self.new }
+        ensures same { bytes_fetched self.new ≡ bytes_fetched self.old }
+        ensures step { (core : Core) (log : Log) → Stands self.old core log →
+            DoesWith Stands Between Owns Adds None of_remove remove_call IsUnmade IsGiven result core log self.old self.new };
+
+    /// A page of the numbers that were staged, whose row is gone and whose file stands: those of one listing of the store behind a
+    /// key, from the first file on where there is none.
+    fn sweep_list(&mut self, alloc: Global, behind: Option<&Key>) -> Result<SweepPage, WorldError>
+        ensures later { since self.old self.new }
+        ensures answered { Answers self.old (list_answered (option_copied behind.entry) result) self.new }
+        ensures same { bytes_fetched self.new ≡ bytes_fetched self.old }
+        ensures step { (core : Core) (log : Log) → Stands self.old core log →
+            Does Stands Between Owns Adds None (of_sweep_list (option_copied behind.entry)) list_call IsTrouble (IsSweepPage (option_copied behind.entry)) result core log self.old self.new };
+
     /// Deletes the file of a number that was staged and whose row is gone, and says whether it is such a number: of another one nothing
     /// is done, and no call of the store is made.
-    fn sweep(&mut self, alloc: Global, number: u64) -> Result<bool, WorldError>
+    fn sweep_delete(&mut self, alloc: Global, number: u64) -> Result<bool, WorldError>
         ensures later { since self.old self.new }
         ensures answered { Answers self.old (sweep_answered number result) self.new }
         // What any store that tells had done to it.

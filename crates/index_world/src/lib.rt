@@ -3,10 +3,14 @@
 
 mod config;
 mod direct;
+mod doom_list;
 mod first_entry;
 mod gate;
 pub mod laws;
 mod life;
+mod listing;
+mod marking;
+mod next_doomed;
 mod own;
 mod steady;
 mod taking;
@@ -18,7 +22,7 @@ mod world_error;
 pub use direct::Direct;
 pub use gate::Gate;
 pub use steady::SteadyClock;
-pub use tokens::{Marks, Plan, Staged, Uploaded};
+pub use tokens::{Marks, Plan, Staged, SweepPage, Uploaded};
 pub use words::{put_fault, put_number, put_refusal, put_word};
 pub use world::{Unopened, World};
 pub use world_error::WorldError;

@@ -4,9 +4,10 @@ ghost use Rattle.std.specs.Prelude.{◌≡◌, ◌≤◌, ◌<◌, ◌^◌, IsSo
 ghost use Rattle.std.specs.Option.{ForSome};
 ghost use Rattle.doc_value.specs.Documents.{IsSchema};
 
-use crate::config::reading_of;
-use crate::own::{Own, act_of};
-use crate::taking::{admit, moment_of, prepare, world_error};
+use crate::doom_list::Doomed;
+use crate::marking::{Marking, note};
+use crate::own::{Offer, Outcome, Own, act_of};
+use crate::taking::{admit, moment_of, prepare, read_with_room, world_error};
 use crate::world_error::WorldError;
 use index_config::IndexConfig;
 use meta_journal::{Entry, Journal, JournalError, meta_key};
@@ -15,12 +16,15 @@ use object_store::ObjectStore;
 use std::alloc::Global;
 use std::mem;
 
-/// The journal, the state behind the entries that were taken in, and the greatest moment.
+/// The journal, the state behind the entries that were taken in, the greatest moment, which markings were taken in when, and
+/// whose files were deleted while they had a row.
 #[derive(Drop)]
 pub struct Life {
     pub journal: Journal,
     pub meta: Meta,
     pub moment: u64,
+    pub marks: Vec<Marking>,
+    pub doomed: Doomed,
     ghost timely: { moment < 2 ^ 62 },
     ghost in_step: { meta.state.revision ≡ journal.next },
     // An index that was opened has a configuration.
@@ -30,18 +34,19 @@ pub struct Life {
 }
 
 impl Life {
-    ghost use Rattle.std.specs.Prelude.{◌≡◌, ◌≤◌, OnOk, IfOk, IfErr, IsOk, MatchResult, Option, Some};
+    ghost use Rattle.std.specs.Prelude.{◌≡◌, ◌≤◌, ◌+◌, OnOk, IfOk, IfErr, IsOk, MatchResult, Option, Some, length, vec_len, vec_capacity};
     ghost use Rattle.meta_store.specs.Readings as read;
     ghost use Rattle.meta_store.specs.declared.config.Config.{Config};
     ghost use Rattle.index_world.specs.Config.{reads};
     ghost use Rattle.meta_journal.specs.declared.place.Place.TheVariants.{Sure, Given};
     ghost use Rattle.object_store.specs.Store.{State, WhereTold};
     ghost use Rattle.source_log.specs.Log.{Log};
-    ghost use Rattle.index_world.specs.Answering.{Appends, Follows, KeepsEntries, SettlesNot, answer_in};
+    ghost use Rattle.index_world.specs.Answering.{Follows, KeepsEntries, SettlesNot, answer_in};
+    ghost use Rattle.index_world.specs.Calls.{marked_by};
     ghost use Rattle.index_world.specs.Configuration.{index_of};
     ghost use Rattle.index_world.specs.Core.{Core};
-    ghost use Rattle.index_world.specs.Life.{TookIn, TookNone, StandsBy, Settling, Creating, Appending, Makes};
-    ghost use Rattle.index_world.specs.Owning.{CanOwn, MayOwn, act_in, own_act};
+    ghost use Rattle.index_world.specs.Life.{TookIn, TookNone, StandsBy, Settling, Creating, Appending, Appends, Makes};
+    ghost use Rattle.index_world.specs.Owning.{CanOwn, MayOwn};
     ghost use Rattle.index_world.specs.PlaceMade.{IsPlaceMade};
     ghost use Rattle.index_world.specs.Taking.{IsFaultBetween};
 
@@ -63,7 +68,7 @@ impl Life {
         ensures taken { MatchResult result (λ done. TookIn self.old entry self.new) (λ error. TookNone self.old entry error self.new) }
         ensures allowed { OnOk result (IsOk (answer_in self.old.meta.state entry)) }
     {
-        match reading_of(alloc, &entry) {
+        match read_with_room(alloc, &mut self.marks, &entry) {
             Ok(reading) => self.take_read(entry, reading),
             Err(refused) => {
                 mem::drop(entry);
@@ -75,6 +80,7 @@ impl Life {
     // Takes in the entry that the journal gave at its next number, whose readings these are.
     fn take_read(&mut self, entry: Entry, reading: Reading) -> Result<(), WorldError>
         requires given { self.old.journal.place ≡ Given }
+        requires room { vec_len self.old.marks + length (marked_by entry.act) ≤ vec_capacity self.old.marks }
         requires read { (config : Option Config) → reading ≡ read.reading_of reads config entry.act }
         ensures place { OnOk result (self.new.journal.place ≡ Sure) }
         ensures taken { MatchResult result (λ done. TookIn self.old entry self.new) (λ error. TookNone self.old entry error self.new) }
@@ -86,8 +92,9 @@ impl Life {
         match admit(&mut self.meta, reading, &entry, self.journal.next()) {
             Ok(handed) => {
                 self.journal.step_over();
-                self.meta.apply(entry, handed);
                 self.moment = self.moment.max(moment);
+                note(&mut self.marks, &entry.act, self.moment);
+                self.meta.apply(entry, handed);
                 Ok(())
             }
             Err(error) => {
@@ -124,31 +131,34 @@ impl Life {
         }
     }
 
-    // Creates an entry of one's own, made of the state as it is. Gives the entry that stands there where one does.
+    // Creates an entry of one's own, made of the state as it is, where there is one. Gives the entry that stands there where one does.
     fn create<S: ObjectStore>(
         &mut self,
         alloc: Global,
         store: &mut S,
         own: Own,
         before: u64,
-    ) -> Result<Option<Entry>, WorldError>
+    ) -> Result<Outcome, WorldError>
         requires sure { self.old.journal.place ≡ Sure }
         requires can { CanOwn own }
-        ensures place { IfOk result (λ given. IsPlaceMade given self.new.journal.place) }
+        ensures place { IfOk result (λ outcome. IsPlaceMade outcome self.new.journal.place) }
         ensures step { (old : State) (core : Core) (log : Log) → S.told store.old ≡ Some old → StandsBy old core log (S.fault_count store.old) self.old →
-            MayOwn own.entry log core → Creating old core log (own_act own.entry core) self.old.journal.settled before result (S.told store.new) (S.fault_count store.new) self.new }
+            MayOwn own.entry log core → Creating old core log own.entry self.old.journal.settled before result (S.told store.new) (S.fault_count store.new) self.new }
         // Over all stores, whatever the state is.
         ensures later { S.fault_count store.old ≤ S.fault_count store.new }
         ensures faults { before ≤ S.fault_count store.old → IfErr result (IsFaultBetween before (S.fault_count store.new)) }
-        ensures answers { WhereTold (S.told store.old) (S.told store.new) (λ was now. Makes (act_in own.entry) result self.new now) }
+        ensures answers { WhereTold (S.told store.old) (S.told store.new) (λ was now. Makes own.entry result self.new now) }
         ensures followed { WhereTold (S.told store.old) (S.told store.new) (λ was now. Follows self.old.journal.next self.old.meta.state self.new.journal.next self.new.meta.state now) }
         ensures keeps { WhereTold (S.told store.old) (S.told store.new) KeepsEntries }
     {
+        let Some(Offer { act, count }) = act_of(alloc, own, self)? else {
+            return Ok(Outcome::Done(0));
+        };
         let entry = Entry {
             moment: self.moment,
-            act: act_of(alloc, own, &self.meta)?,
+            act,
         };
-        let reading = match reading_of(alloc, &entry) {
+        let reading = match read_with_room(alloc, &mut self.marks, &entry) {
             Ok(reading) => reading,
             Err(refused) => {
                 mem::drop(entry);
@@ -167,48 +177,53 @@ impl Life {
         let _count = store.faults();
         match answer {
             Ok(_) => {
+                note(&mut self.marks, &entry.act, self.moment);
                 self.meta.apply(entry, handed);
-                Ok(None)
+                Ok(Outcome::Done(count))
             }
             Err(error) => {
                 mem::drop(handed);
                 mem::drop(entry);
                 match error {
-                    JournalError::Adopted { entry } => Ok(Some(entry)),
+                    JournalError::Adopted { entry } => Ok(Outcome::Given(entry)),
                     error => Err(world_error(error, self.journal.next(), before)),
                 }
             }
         }
     }
 
-    /// One transaction: it settles and appends. Where an entry stands at the number already, that one is taken in, and the
-    /// own one is made anew and created once more.
+    /// One transaction: it settles and appends, where there is something to append, and says how many rows were given up or removed. Where an
+    /// entry stands at the number already, that one is taken in, and the own one is made anew and created once more.
     pub fn append<S: ObjectStore>(
         &mut self,
         alloc: Global,
         store: &mut S,
         own: Own,
         before: u64,
-    ) -> Result<(), WorldError>
+    ) -> Result<u32, WorldError>
         requires { CanOwn own }
         ensures place { OnOk result (self.new.journal.place ≡ Sure) }
         ensures step { (old : State) (core : Core) (log : Log) → S.told store.old ≡ Some old → StandsBy old core log (S.fault_count store.old) self.old →
             before ≡ core.store_faults → MayOwn own.entry log core → Appending old core log own.entry result (S.told store.new) (S.fault_count store.new) self.new }
         // Over all stores, whatever the state is.
         ensures faults { before ≤ S.fault_count store.old → IfErr result (IsFaultBetween before (S.fault_count store.new)) }
-        ensures answers { WhereTold (S.told store.old) (S.told store.new) (λ was now. Appends result (act_in own.entry) self.new.moment self.new.journal.next self.new.meta.state now) }
+        ensures answers { WhereTold (S.told store.old) (S.told store.new) (λ was now. Appends own.entry result self.new now) }
         ensures followed { WhereTold (S.told store.old) (S.told store.new) (λ was now. Follows self.old.journal.next self.old.meta.state self.new.journal.next self.new.meta.state now) }
     {
         self.settle(alloc, store, before)?;
-        let Some(entry) = self.create(alloc, store, own, before)? else {
-            return Ok(());
+        let entry = match self.create(alloc, store, own, before)? {
+            Outcome::Done(count) => return Ok(count),
+            Outcome::Given(entry) => entry,
         };
         self.take_in(alloc, entry)?;
-        let Some(_) = self.create(alloc, store, own, before)? else {
-            return Ok(());
-        };
-        Err(WorldError::Foreign {
-            key: meta_key(self.journal.next()),
-        })
+        match self.create(alloc, store, own, before)? {
+            Outcome::Done(count) => Ok(count),
+            Outcome::Given(entry) => {
+                mem::drop(entry);
+                Err(WorldError::Foreign {
+                    key: meta_key(self.journal.next()),
+                })
+            }
+        }
     }
 }

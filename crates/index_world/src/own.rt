@@ -1,20 +1,42 @@
 //! Entries of a caller's own.
 
-ghost use Rattle.std.specs.Prelude.{◌≡◌, IfOk};
-ghost use Rattle.meta_journal.specs.Spelling.{CanSpellPart, CanSpellAct, AreAll};
-ghost use Rattle.index_world.specs.Owning.{CanOwn, act_in};
+ghost use Rattle.std.specs.Prelude.{◌≡◌, ◌++◌, ◌∷◌, [], true, filter, IfOk, IfSome, OnOk};
+ghost use Rattle.meta_journal.specs.Spelling.{CanSpellPart, CanSpellAct, AreAll, IsNumber};
+ghost use Rattle.split_states.specs.Rows.{rising};
+ghost use Rattle.index_world.specs.Collecting.{doomed_rows, marks_offer, removal_of};
+ghost use Rattle.index_world.specs.Core.{is_in};
+ghost use Rattle.index_world.specs.Owning.{CanOwn, offer_in, offer_of};
 
-use meta_journal::Act;
-use meta_store::Meta;
+use crate::doom_list::Doomed;
+use crate::life::Life;
+use crate::next_doomed::greatest_number;
+use meta_journal::{Act, Entry};
 use source_checkpoint::{Delta, Part, Partition};
-use split_states::RowFacts;
+use split_states::{Numbers, RowFacts, Rows};
 use std::alloc::{AllocError, Global};
+use std::mem;
 
 /// An entry of a caller's own, which is made anew of each state.
 #[derive(Clone, Copy)]
 pub enum Own<'a> {
     Stage(&'a Delta, &'a RowFacts),
     Publish(u64),
+    MarkStale,
+    Remove,
+}
+
+/// An act, and how many rows it gives up or removes.
+#[derive(Drop)]
+pub struct Offer {
+    pub act: Act,
+    pub count: u32,
+}
+
+/// What a create of an own entry came to: it was made, with this count, or there was nothing to do; or this entry stands at its number.
+#[derive(Drop)]
+pub enum Outcome {
+    Done(u32),
+    Given(Entry),
 }
 
 // A part by its name and its numbers, which fit their type.
@@ -49,23 +71,121 @@ fn copied_delta(alloc: Global, delta: &Delta) -> Result<Delta, AllocError>
     Ok(copy)
 }
 
-/// The act that a caller's own entry is in a state.
-pub fn act_of(alloc: Global, own: Own, meta: &Meta) -> Result<Act, AllocError>
+// The numbers again, each of which fits its type.
+fn fitting(numbers: Numbers) -> Numbers
+    ensures same { result ≡ numbers }
+    ensures fit { AreAll IsNumber result }
+{
+    for number in numbers.as_slice() {
+        let _number = *number;
+    }
+    let _count = numbers.len();
+    numbers
+}
+
+// What an entry of these rows is, where there is one.
+fn offer_to_mark(numbers: Numbers) -> Result<Option<Offer>, AllocError>
+    requires { rising numbers ≡ true }
+    ensures can { IfOk result (λ offer. IfSome offer (λ o. CanSpellAct o.act)) }
+    ensures same { IfOk result (λ offer. offer_of offer ≡ marks_offer numbers) }
+{
+    if numbers.is_empty() {
+        mem::drop(numbers);
+        return Ok(None);
+    }
+    let numbers = fitting(numbers);
+    match u32::try_from(numbers.len()) {
+        Ok(count) => Ok(Some(Offer {
+            act: Act::MarkStaged { numbers },
+            count,
+        })),
+        Err(_) => {
+            mem::drop(numbers);
+            Err(AllocError)
+        }
+    }
+}
+
+// The same of rows that are removed.
+fn offer_to_remove(numbers: Numbers) -> Result<Option<Offer>, AllocError>
+    requires { rising numbers ≡ true }
+    ensures can { IfOk result (λ offer. IfSome offer (λ o. CanSpellAct o.act)) }
+    ensures same { IfOk result (λ offer. offer_of offer ≡ removal_of numbers) }
+{
+    if numbers.is_empty() {
+        mem::drop(numbers);
+        return Ok(None);
+    }
+    let numbers = fitting(numbers);
+    match u32::try_from(numbers.len()) {
+        Ok(count) => Ok(Some(Offer {
+            act: Act::Remove { numbers },
+            count,
+        })),
+        Err(_) => {
+            mem::drop(numbers);
+            Err(AllocError)
+        }
+    }
+}
+
+// A number more where it was doomed.
+fn add_doomed(numbers: &mut Numbers, doomed: &Doomed, number: u64) -> Result<(), AllocError>
+    ensures { OnOk result (numbers.new ≡ numbers.old ++ filter (λ n. is_in doomed.now.numbers.items n) (number ∷ [])) }
+{
+    if doomed.contains(number) {
+        numbers.push(number)?;
+    }
+    Ok(())
+}
+
+// The numbers of the marked rows that were doomed.
+fn doomed_numbers(alloc: Global, rows: &Rows, doomed: &Doomed) -> Result<Numbers, AllocError>
+    ensures same { IfOk result (λ numbers. numbers ≡ doomed_rows doomed.now.numbers.items rows.now.list) }
+    ensures rise { IfOk result (λ numbers. rising numbers ≡ true) }
+{
+    let last = greatest_number(rows.as_slice());
+    let mut numbers = Numbers::vacant(alloc);
+    let mut from = 0;
+    'rows: while let Some(number) = rows.next_marked(from) {
+        add_doomed(&mut numbers, doomed, number)?;
+        if number >= last {
+            return Ok(numbers);
+        }
+        from = number + 1;
+    }
+    Ok(numbers)
+}
+
+/// The act that a caller's own entry is as a life stands, and none where there is nothing to do.
+pub fn act_of(alloc: Global, own: Own, life: &Life) -> Result<Option<Offer>, AllocError>
     requires { CanOwn own }
-    ensures can { IfOk result CanSpellAct }
-    ensures same { IfOk result (λ act. act ≡ act_in own.entry meta.now.state) }
+    ensures can { IfOk result (λ offer. IfSome offer (λ o. CanSpellAct o.act)) }
+    ensures same { IfOk result (λ offer. offer_of offer ≡ offer_in own.entry life.now.moment life.now.doomed.numbers.items life.now.meta.state) }
 {
     match own {
         Own::Stage(delta, facts) => {
-            let number = meta.next_number();
+            let number = life.meta.next_number();
             let delta = copied_delta(alloc, delta)?;
             let facts = facts.copy(alloc)?;
-            Ok(Act::Stage {
+            let act = Act::Stage {
                 number,
                 delta,
                 facts,
-            })
+            };
+            Ok(Some(Offer { act, count: 0 }))
         }
-        Own::Publish(number) => Ok(Act::Publish { number }),
+        Own::Publish(number) => Ok(Some(Offer {
+            act: Act::Publish { number },
+            count: 0,
+        })),
+        Own::MarkStale => {
+            let grace = life.config().staged_grace;
+            let rows = life.meta.rows();
+            // Their numbers rise.
+            let _rows = rows.as_slice();
+            offer_to_mark(rows.stale(alloc, life.moment, grace)?)
+        }
+        Own::Remove => offer_to_remove(doomed_numbers(alloc, life.meta.rows(), &life.doomed)?),
     }
 }

@@ -1,6 +1,6 @@
 //! Taking entries in.
 
-ghost use Rattle.std.specs.Prelude.{◌≡◌, ◌<◌, ◌≤◌, ◌^◌, OnOk, IfOk, IfErr, IsOk, IsSome, None, Some, vec_len};
+ghost use Rattle.std.specs.Prelude.{◌≡◌, ◌<◌, ◌≤◌, ◌+◌, ◌^◌, [], OnOk, IfOk, IfErr, IsOk, IsSome, None, Some, Option, length, vec_len, vec_capacity};
 ghost use Rattle.std.specs.List.{AllByRecursion};
 ghost use Rattle.index_world.specs.Index.{max_entries};
 ghost use Rattle.meta_journal.specs.declared.place.Place.TheVariants.{Sure};
@@ -8,24 +8,29 @@ ghost use Rattle.meta_store.specs.Answers.{answer_to};
 ghost use Rattle.meta_store.specs.History.{history};
 ghost use Rattle.meta_store.specs.History as told;
 ghost use Rattle.meta_store.specs.History.History.{Start};
+ghost use Rattle.meta_store.specs.Readings as readings;
 ghost use Rattle.meta_store.specs.Room.{HasRoom};
 ghost use Rattle.meta_store.specs.State.{Legal, after};
 ghost use Rattle.meta_store.specs.State as spec;
+ghost use Rattle.meta_store.specs.declared.config.Config.{Config};
 ghost use Rattle.object_store.specs.Store.{State, WhereTold};
 ghost use Rattle.source_log.specs.Log.{Log};
+ghost use Rattle.index_world.specs.Calls.{marked_by};
 ghost use Rattle.index_world.specs.Config.{reads};
 ghost use Rattle.index_world.specs.Core.{Core};
 ghost use Rattle.index_world.specs.Life.{Opening, OpensTo};
 ghost use Rattle.index_world.specs.Opened.{first_refused};
-ghost use Rattle.index_world.specs.Taking.{IsFaultBetween, IsNoFault, IsRefusedAt, IsUnfit, IsUnprepared, IsWant, of_create, of_get, of_journal};
+ghost use Rattle.index_world.specs.Taking.{IsFaultBetween, IsNoFault, IsRefusedAt, IsUnfit, IsUnprepared, IsWant, of_create, of_get, of_journal, of_list};
 ghost use Rattle.index_world.specs.World.{IsWorld};
 
 use crate::config::reading_of;
+use crate::doom_list::Doomed;
 use crate::life::Life;
+use crate::marking::{Marking, reserve};
 use crate::world_error::WorldError;
 use meta_journal::{Entry, Journal, JournalError, meta_key};
 use meta_store::{Meta, Reading};
-use object_store::{CreateError, GetError, Key, ObjectStore};
+use object_store::{CreateError, GetError, Key, ListError, ObjectStore};
 use std::alloc::{AllocError, Global};
 use std::mem;
 
@@ -73,6 +78,30 @@ pub fn get_error(error: GetError, key: Key, before: u64, after: u64) -> WorldErr
         GetError::Failed => WorldError::StoreFault { before, after },
         GetError::Memory(refused) => WorldError::Memory(refused),
     }
+}
+
+/// What the store's error in a listing is to the world.
+pub fn list_error(error: ListError, before: u64, after: u64) -> WorldError
+    ensures { result ≡ of_list before after error }
+{
+    match error {
+        ListError::Failed => WorldError::StoreFault { before, after },
+        ListError::Memory(refused) => WorldError::Memory(refused),
+    }
+}
+
+/// What is read of an entry, once there is room for its markings.
+pub fn read_with_room(
+    alloc: Global,
+    marks: &mut Vec<Marking>,
+    entry: &Entry,
+) -> Result<Reading, AllocError>
+    ensures same { marks.new.items ≡ marks.old.items }
+    ensures room { OnOk result (vec_len marks.new + length (marked_by entry.now.act) ≤ vec_capacity marks.new) }
+    ensures value { IfOk result (λ reading. (config : Option Config) → reading ≡ readings.reading_of reads config entry.now.act) }
+{
+    reserve(marks, &entry.act)?;
+    reading_of(alloc, entry)
 }
 
 /// Makes the room for an entry of the journal with this number, and hands its readings back. Where the state refuses the entry it is no entry of
@@ -256,6 +285,8 @@ pub fn open<S: ObjectStore>(alloc: Global, store: &mut S) -> Result<Life, WorldE
                     journal,
                     meta,
                     moment,
+                    marks: Vec::new(alloc),
+                    doomed: Doomed::vacant(alloc),
                 }),
                 Err(error) => {
                     mem::drop(journal);

@@ -4,6 +4,7 @@ ghost use Rattle.std.specs.Prelude.{◌≡◌};
 ghost use Rattle.source_checkpoint.specs.Checkpoints.{checkpoint_at};
 
 use meta_store::PlanRows;
+use object_store::Key;
 use source_checkpoint::{Checkpoint, Partition};
 
 /// A row that was staged, whose file isn't uploaded yet.
@@ -39,6 +40,14 @@ impl Marks {
         }
         0
     }
+}
+
+/// Numbers that were staged, whose row is gone and whose file stands: of the files behind a key all up to `next`, where that is
+/// given, and else all.
+#[derive(Drop)]
+pub struct SweepPage {
+    pub numbers: Vec<u64>,
+    pub next: Option<Key>,
 }
 
 /// The rows to work on, and the revision and the moment at which they were planned. `upto` is the last opstamp.

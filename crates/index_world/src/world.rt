@@ -2,6 +2,8 @@
 
 ghost use Rattle.std.specs.Prelude.{◌≡◌, ◌<◌, ◌^◌, ℕ, List, IfOk, IfErr, IsOk, MatchResult, None, Some, length, slice_get, max, true, false, IfSome, nat_le, ◌+◌};
 ghost use Rattle.std.specs.Borrow.{Lends, sem};
+ghost use Rattle.std.specs.List.{AllByRecursion};
+ghost use Rattle.std.specs.Option.{option_copied};
 ghost use Rattle.index_world.specs.contracts.world.World.{the_row};
 ghost use Rattle.doc_value.specs.Documents.{IsSchema};
 ghost use Rattle.index_config.specs.declared.config.IndexConfig as configs;
@@ -9,7 +11,7 @@ ghost use Rattle.meta_journal.specs.Spelling.{CanSpellFacts};
 ghost use Rattle.object_store.specs.Store.{State, WhereTold};
 ghost use Rattle.source_log.specs.Log.{Log};
 ghost use Rattle.meta_journal.specs.Places.{split_key};
-ghost use Rattle.index_world.specs.Answering.{IsAnswer, marks_answered, moment_answered, stage_answered, publish_answered, plan_answered};
+ghost use Rattle.index_world.specs.Answering.{IsAnswer, marks_answered, moment_answered, SaysListed, stage_answered, publish_answered, plan_answered, mark_stale_answered, doom_answered, remove_answered};
 ghost use Rattle.index_world.specs.Asked.{FetchesFile, given_behind, IsFetch, IsInTime, IsUpload, UploadsFile};
 ghost use Rattle.index_world.specs.Calls.{asked, asked_moment, looked, asked_and_looked, fetched_from, upload_made};
 ghost use Rattle.index_world.specs.Configuration.{index_of};
@@ -17,7 +19,7 @@ ghost use Rattle.index_world.specs.Core.{Core, IsConfigured, IsUnusedIn};
 ghost use Rattle.index_world.specs.Created.{CreatesIndex, CreatesNot, CreatesWorld, CreatesNone, IsOfCreate};
 ghost use Rattle.index_config.specs.Answer.{config_answer};
 ghost use Rattle.index_world.specs.Collected.{SweepsFile};
-ghost use Rattle.index_world.specs.Collecting.{is_swept_by, sweep_call};
+ghost use Rattle.index_world.specs.Collecting.{is_swept_by, doom_call, IsSweepPage, list_call, mark_stale_call, remove_call, sweep_call};
 ghost use Rattle.index_world.specs.Gate.{Acts, ActsWith, IsGiven, grace_of, IsTrouble, IsUnmade, IsUnfetched, AreMarks, IsMoment, stage_call, WasStaged, WasUploaded, publish_call, IsPublishable, IsRevision, IsPlan, IsPieceGiven};
 ghost use Rattle.index_world.specs.Loading.{LoadsWorld, LoadsNone, LoadsAnew};
 ghost use Rattle.index_world.specs.Taking.{IsFaultBetween};
@@ -27,15 +29,17 @@ ghost use Rattle.meta_store.specs.declared.planning.PlanRow.{PlanRow};
 
 use crate::first_entry::create;
 use crate::life::Life;
+use crate::listing::{PAGE, is_swept, swept_page};
+use crate::next_doomed::next_doomed;
 use crate::own::Own;
 use crate::steady::SteadyClock;
-use crate::taking::{create_error, get_error, open};
-use crate::tokens::{Marks, Plan, Staged, Uploaded};
+use crate::taking::{create_error, get_error, list_error, open};
+use crate::tokens::{Marks, Plan, Staged, SweepPage, Uploaded};
 use crate::world_error::WorldError;
 use index_config::IndexConfig;
-use meta_journal::split_key;
+use meta_journal::{split_key, split_prefix};
 use meta_store::{Choice, Meta};
-use object_store::{ObjectStore, Piece};
+use object_store::{Key, ObjectStore, Piece};
 use source_checkpoint::{Checkpoint, Delta};
 use split_states::RowFacts;
 use std::alloc::{AllocError, Global};
@@ -70,6 +74,8 @@ impl<S: ObjectStore, C: SteadyClock> Model for World<S, C> {
       next = w.life.journal.next;
       unsure = is_unsure w.life.journal.place;
       frozen = w.frozen;
+      marks = w.life.marks.items;
+      doomed = w.life.doomed.numbers.items;
     } };
 }
 
@@ -95,11 +101,17 @@ fn copied_checkpoints(
     Ok(copy)
 }
 
-// Whether a number was staged and its row is gone.
-fn is_swept(meta: &Meta, number: u64) -> bool
-    ensures { result ≡ is_swept_by meta.now.state.last_number meta.now.state.rows number }
+// The moment behind the asking of a clock, which a frozen world doesn't ask.
+fn asked_of<C: SteadyClock>(clock: &mut C, frozen: bool, moment: u64) -> u64
+    ensures asks { IfSome (C.told clock.old) (λ told. result ≡ asked_moment frozen moment told) }
+    ensures same { C.told clock.new ≡ C.told clock.old }
+    ensures below { moment < 2 ^ 62 → result < 2 ^ 62 }
 {
-    0 < number && number < meta.next_number() && meta.rows().get(number).is_none()
+    if frozen {
+        moment
+    } else {
+        moment.max(clock.ask())
+    }
 }
 
 impl<S: ObjectStore, C: SteadyClock> World<S, C> {
@@ -234,10 +246,10 @@ impl<S: ObjectStore, C: SteadyClock> World<S, C> {
         ensures meta { self.new.meta ≡ self.old.meta }
         ensures next { self.new.next ≡ self.old.next }
         ensures unsure { self.new.unsure ≡ self.old.unsure }
+        ensures marks { self.new.marks ≡ self.old.marks }
+        ensures doomed { self.new.doomed ≡ self.old.doomed }
     {
-        if !self.frozen {
-            self.life.moment = self.life.moment.max(self.clock.ask());
-        }
+        self.life.moment = asked_of(&mut self.clock, self.frozen, self.life.moment);
     }
 
     /// The checkpoints, the last opstamp and the revision.
@@ -322,9 +334,35 @@ impl<S: ObjectStore, C: SteadyClock> World<S, C> {
         }
     }
 
+    /// A page of the numbers that were staged, whose row is gone and whose file stands: those of one listing of the store behind a
+    /// key, from the first file on where there is none.
+    pub fn sweep_list(
+        &mut self,
+        alloc: Global,
+        behind: Option<&Key>,
+    ) -> Result<SweepPage, WorldError>
+        ensures step { (core : Core) (log : Log) → WorldStands self.old core log →
+            Acts WorldStands None list_call IsTrouble (IsSweepPage (option_copied behind.entry)) result core log self.new }
+        // Over all stores: no number that has a row, and a fault has its counts before and behind, of which the second rose.
+        ensures kinds { IfOk result (λ page. AllByRecursion (λ n. is_swept_by self.old.meta.last_number self.old.meta.rows n ≡ true) page.numbers.items) }
+        ensures faults { IfErr result (IsFaultBetween self.old.store_faults self.new.store_faults) }
+        // What any store that tells has.
+        ensures answers { WhereTold self.old.told self.new.told (SaysListed (option_copied behind.entry) result self.new) }
+        // And nothing else changes.
+        ensures same { self.new ≡ record self.old { told = self.new.told; store_faults = self.new.store_faults; given = self.new.given } }
+    {
+        let before = self.store.faults();
+        let listing = self.store.list(alloc, &split_prefix(), behind, PAGE);
+        let after = self.store.faults();
+        match listing {
+            Ok(keys) => Ok(swept_page(alloc, &self.life.meta, keys.as_slice())?),
+            Err(error) => Err(list_error(error, before, after)),
+        }
+    }
+
     /// Deletes the file of a number that was staged and whose row is gone, and says whether it is such a number: of another one nothing
     /// is done, and no call of the store is made.
-    pub fn sweep(&mut self, number: u64) -> Result<bool, WorldError>
+    pub fn sweep_delete(&mut self, number: u64) -> Result<bool, WorldError>
         ensures step { (core : Core) (log : Log) → WorldStands self.old core log →
             ActsWith WorldStands None (sweep_call number) IsTrouble IsGiven result core log self.new }
         // Over all stores: which numbers these are, and a fault has its counts before and behind, of which the second rose.
@@ -344,6 +382,58 @@ impl<S: ObjectStore, C: SteadyClock> World<S, C> {
         let after = self.store.faults();
         match answer {
             Ok(()) => Ok(true),
+            Err(_) => Err(WorldError::StoreFault { before, after }),
+        }
+    }
+
+    /// Marks all rows that have been staged for the grace of the configuration, and says how many. Where there is none nothing is
+    /// appended.
+    pub fn mark_stale(&mut self, alloc: Global) -> Result<u32, WorldError>
+        ensures step { (core : Core) (log : Log) → WorldStands self.old core log →
+            ActsWith WorldStands None mark_stale_call IsUnmade IsGiven result core log self.new }
+        // Over every store, sound or not.
+        ensures answers { IsAnswer (mark_stale_answered result) self.old self.new }
+    {
+        let before = self.store.faults();
+        self.ask();
+        self.life
+            .append(alloc, &mut self.store, Own::MarkStale, before)
+    }
+
+    /// Removes all marked rows that this life doomed, and says how many. Where there is none nothing is appended.
+    pub fn remove(&mut self, alloc: Global) -> Result<u32, WorldError>
+        ensures step { (core : Core) (log : Log) → WorldStands self.old core log →
+            ActsWith WorldStands None remove_call IsUnmade IsGiven result core log self.new }
+        // Over every store, sound or not.
+        ensures answers { IsAnswer (remove_answered result) self.old self.new }
+    {
+        let before = self.store.faults();
+        self.ask();
+        self.life
+            .append(alloc, &mut self.store, Own::Remove, before)
+    }
+
+    /// Deletes the file of the least row that is marked, released and not doomed yet, and gives its number, behind which it is
+    /// doomed. None, without a call of the store, where there is no such row; a delete that failed may be tried again.
+    pub fn doom(&mut self) -> Result<Option<u64>, WorldError>
+        ensures step { (core : Core) (log : Log) → WorldStands self.old core log →
+            ActsWith WorldStands None doom_call IsTrouble IsGiven result core log self.new }
+        // Over every store, sound or not.
+        ensures answers { IsAnswer (doom_answered result) self.old self.new }
+    {
+        self.life.doomed.reserve()?;
+        self.life.moment = asked_of(&mut self.clock, self.frozen, self.life.moment);
+        let Some(number) = next_doomed(&self.life) else {
+            return Ok(None);
+        };
+        let before = self.store.faults();
+        let answer = self.store.delete(&split_key(number));
+        let after = self.store.faults();
+        match answer {
+            Ok(()) => {
+                self.life.doomed.insert(number);
+                Ok(Some(number))
+            }
             Err(_) => Err(WorldError::StoreFault { before, after }),
         }
     }

@@ -1,11 +1,11 @@
 -- The digits of a number, and the keys made of them.
-use Rattle.std.proofs.Common.{◌≡◌, ℕ, zero, suc, ◌+◌, ◌-◌, ◌/◌, ◌%◌, ◌^◌, ◌<◌, ◌≤◌, true, List, [], ◌∷◌, ◌++◌, length, set, take, drop, refl, ap, sym, ◌∙◌, arith}
+use Rattle.std.proofs.Common.{◌≡◌, ℕ, zero, suc, ◌+◌, ◌-◌, ◌*◌, ◌/◌, ◌%◌, ◌^◌, ◌<◌, ◌≤◌, true, List, [], ◌∷◌, ◌++◌, length, get_or, set, drop, refl, ap, sym, subst, ◌∙◌, arith}
 use Rattle.std.specs.List.{AllByRecursion}
-use Rattle.std.specs.Prelude.{IsTrue, All}
+use Rattle.std.specs.Prelude.{IsTrue}
 use Rattle.std.proofs.lemmas.Bool.Decides.{nat_tests}
 use Rattle.std.proofs.lemmas.List.{length-append, append-nil, drop-set}
 use Rattle.std.proofs.lemmas.List.Elements.{All-from_recursion}
-use Rattle.std.proofs.Math.Nat.{div-div-eq-div-mul, pow-suc}
+use Rattle.std.proofs.Math.Nat.{div-div-eq-div-mul, div-le_self, pow-suc}
 use Rattle.object_store.specs.Key.{is_key_byte, IsKey}
 use Rattle.meta_journal.specs.Places.{digits, meta_prefix, split_prefix, meta_key, split_key}
 
@@ -58,3 +58,45 @@ pub rest_more : (at n rest : ℕ) → 0 < at → at ≤ 20 → rest ≡ n / 10 ^
 rest_more at n rest pos le is =
     let k : 20 - (at - 1) ≡ suc (20 - at) = omega arith in
     ap (λ (r : ℕ). r / 10) is ∙ div-div-eq-div-mul n (10 ^ (20 - at)) 10 ∙ ap (λ (m : ℕ). n / m) (sym (ap (λ (j : ℕ). 10 ^ j) k ∙ pow-suc 10 (20 - at)))
+
+-- ---- the number back from its digits
+
+digit_at : (k i n : ℕ) → i < k → get_or (digits k n) i 0 ≡ n / 10 ^ (k - (i + 1)) % 10 + 48
+digit_at (suc k) zero n lt = let e : k ≡ suc k - (zero + 1) = omega arith in ap (λ (j : ℕ). n / 10 ^ j % 10 + 48) e
+digit_at (suc k) (suc i) n lt =
+    let e : k - (i + 1) ≡ suc k - (suc i + 1) = omega arith in
+    digit_at k i n (omega arith) ∙ ap (λ (j : ℕ). n / 10 ^ j % 10 + 48) e
+digit_at zero i n lt = absurd (omega arith)
+
+-- a digit of a number, and how the number behind it follows
+pub record Digit (n k number digit : ℕ) : Type 0 where
+  pub low : 48 ≤ digit
+  pub more : number * 10 + (digit - 48) ≡ n / 10 ^ k
+  pub small : number * 10 + (digit - 48) ≤ n
+
+pub next_digit : (text : List ℕ) (i n number : ℕ) → i < length text → text ≡ digits (length text) n → number ≡ n / 10 ^ (length text - i) → Digit n (length text - (i + 1)) number (get_or text i 0)
+next_digit text i n number lt is before = record {
+  low = omega (arith, digit);
+  more = more;
+  small = omega (arith, more, div-le_self n (10 ^ k));
+}
+  where
+    k : ℕ
+    k = length text - (i + 1)
+
+    digit : get_or text i 0 ≡ n / 10 ^ k % 10 + 48
+    digit = ap (λ (l : List ℕ). get_or l i 0) is ∙ digit_at (length text) i n lt
+
+    up : length text - i ≡ suc k
+    up = omega arith
+
+    tenth : n / 10 ^ k / 10 ≡ number
+    tenth = div-div-eq-div-mul n (10 ^ k) 10 ∙ ap (λ (m : ℕ). n / m) (sym (pow-suc 10 k)) ∙ ap (λ (j : ℕ). n / 10 ^ j) (sym up) ∙ sym before
+
+    more : number * 10 + (get_or text i 0 - 48) ≡ n / 10 ^ k
+    more = omega (arith, digit, tenth)
+
+-- the end of a split file's key
+pub split_digits : (key : List ℕ) (n : ℕ) → key ≡ split_key n → (drop 7 key ≡ digits (length (drop 7 key)) n) × (length (drop 7 key) ≡ 20)
+unfolding split_key
+split_digits key n is = subst (λ (k : List ℕ). (drop 7 k ≡ digits (length (drop 7 k)) n) × (length (drop 7 k) ≡ 20)) (sym is) (refl, refl)

@@ -1,8 +1,8 @@
 -- What is read as an entry is spelled so, and what is spelled so is read.
-use Rattle.std.proofs.Common.{◌≡◌, ℕ, suc, ◌+◌, ◌-◌, ◌^◌, ◌≤◌, ◌<◌, Bool, true, false, cond, not, eqb, ltb, leb, ◌&&◌, List, [], ◌∷◌, ◌++◌, length, get_or, drop, Result, Ok, Err, refl, sym, ap, subst, ◌∙◌, arith, inl, inr, ◌⊎◌}
+use Rattle.std.proofs.Common.{◌≡◌, ℕ, ◌+◌, ◌^◌, ◌≤◌, ◌<◌, Bool, true, false, cond, not, eqb, leb, ◌&&◌, List, [], ◌∷◌, ◌++◌, length, get_or, drop, Result, Ok, Err, refl, sym, ap, subst, ◌∙◌, arith, inl, inr, ◌⊎◌}
 use Rattle.std.specs.Prelude.{IfOk, nat_lt}
 use Rattle.std.proofs.lemmas.Bool.Decides.{nat_tests}
-use Rattle.std.proofs.lemmas.Bool.{lt-ltb, leb-false, ltb-true, eqb-true, eqb-false, eq-eqb}
+use Rattle.std.proofs.lemmas.Bool.{lt-ltb, leb-false, ltb-true, eqb-true, eq-eqb}
 use Rattle.std.proofs.lemmas.List.{length-append, append-nil, drop_all}
 use Rattle.byte_fields.specs.declared.field_error.FieldError.TheVariants.{Short, TooLarge}
 use Rattle.byte_fields.specs.Spelling.{varint, byte_string, SpelledAt}
@@ -11,11 +11,11 @@ use Rattle.meta_journal.specs.declared.entry.Act.{Act}
 use Rattle.meta_journal.specs.declared.entry.Act.TheVariants as acts
 use Rattle.meta_journal.specs.declared.entry.Entry.{Entry}
 use Rattle.meta_journal.specs.declared.entry_error.EntryError.{EntryError}
-use Rattle.meta_journal.specs.declared.entry_error.EntryError.TheVariants.{Memory, BadMagic, BadVersion, BadKind, Field, Trailing}
+use Rattle.meta_journal.specs.declared.entry_error.EntryError.TheVariants.{BadMagic, BadVersion, BadKind, Field, Trailing}
 use Rattle.meta_journal.specs.declared.reading.Kind.{Kind}
 use Rattle.meta_journal.specs.declared.reading.Kind.TheVariants as kinds
-use Rattle.meta_journal.specs.Spelling.{counted, part_spelled, facts_spelled, range_spelled, kind_number, payload, header, spelled_in, spelling, Spells, IsNumber, IsString, IsText, AreAll, AreRowNumbers, CanSpellPart, CanSpellFacts, CanSpellRange, CanSpellAct, CanSpell}
-use Rattle.meta_journal.specs.Reading.{◌>>=◌, field, Reads, both, made, number_at, string_at, utf8_at, counted_at, part_at, facts_at, range_at, row_numbers_at, begins, kind_of, kind_at, moment_at, act_at, entry_of}
+use Rattle.meta_journal.specs.Spelling.{counted, part_spelled, facts_spelled, range_spelled, kind_number, payload, header, spelled_in, Spells, IsNumber, IsString, IsText, AreAll, AreRowNumbers, CanSpellPart, CanSpellFacts, CanSpellRange, CanSpellAct, CanSpell}
+use Rattle.meta_journal.specs.Reading.{◌>>=◌, Reads, both, number_at, string_at, utf8_at, counted_at, part_at, facts_at, range_at, row_numbers_at, begins, kind_of, kind_at, moment_at, act_at, entry_of}
 use Rattle.meta_journal.proofs.Exact.{bind_ok, ok_is, guard_ok, guard_else_ok, IsExact, Takes, behind, number_exact, string_exact, utf8_exact, both_exact, made_takes, made_again, where_exact}
 use Rattle.meta_journal.proofs.FieldLaws.{plain_exact, part_exact, facts_exact, range_exact, row_numbers_exact}
 

@@ -1,13 +1,10 @@
 -- Readers that read exactly what is spelled, and how they are put together.
-use Rattle.std.proofs.Common.{◌≡◌, ℕ, ℤ, zero, suc, ◌+◌, ◌-◌, ◌^◌, ◌≤◌, ◌<◌, Bool, true, false, cond, List, [], ◌∷◌, ◌++◌, length, take, drop, Option, Some, None, Result, Ok, Err, refl, sym, ap, subst, ◌∙◌, append_assoc, arith}
+use Rattle.std.proofs.Common.{◌≡◌, ℕ, zero, suc, ◌+◌, ◌≤◌, Bool, true, false, cond, List, [], ◌∷◌, ◌++◌, length, drop, Option, Some, None, Result, Ok, Err, refl, sym, ap, subst, ◌∙◌, append_assoc, arith}
 use Rattle.std.specs.List.{AllByRecursion}
-use Rattle.std.specs.Str.{IsUtf8}
-use Rattle.std.specs.Prelude.{slice_get}
-use Rattle.std.proofs.lemmas.Bool.{lt-ltb, ltb-true}
 use Rattle.std.proofs.lemmas.List.{length-append, append-nil, drop-drop, drop_at}
 use Rattle.byte_fields.specs.declared.field_error.FieldError.{FieldError}
 use Rattle.byte_fields.specs.declared.field_error.FieldError.TheVariants.{NotText}
-use Rattle.byte_fields.specs.Spelling.{varint, zigzag, signed, byte_string, flag, SpelledAt}
+use Rattle.byte_fields.specs.Spelling.{varint, signed, byte_string, flag, SpelledAt}
 use Rattle.byte_fields.specs.Reading.{bytes_at, text_at, varint_at, signed_at, flag_at}
 use Rattle.byte_fields.proofs.Taken.{IsBytes, varint_takes, varint_again, bytes_takes, bytes_again, SpelledAt-then}
 use Rattle.byte_fields.proofs.Taken as taken
@@ -16,7 +13,7 @@ use Rattle.std.specs.Str.{is_utf8}
 use Rattle.meta_journal.specs.declared.entry_error.EntryError.{EntryError}
 use Rattle.meta_journal.specs.declared.entry_error.EntryError.TheVariants.{Field}
 use Rattle.meta_journal.specs.Spelling.{each_spelled, counted, optional, IsNumber, IsTime, IsText, IsString, IsIfGiven, AreAll}
-use Rattle.meta_journal.specs.Reading.{◌>>=◌, Reader, field, both, made, where_is, members, number_at, string_at, utf8_at, time_at, bit_at, counted_at, given, optional_at}
+use Rattle.meta_journal.specs.Reading.{◌>>=◌, Reader, field, both, made, where_is, members, number_at, string_at, utf8_at, time_at, bit_at, given, optional_at}
 
 pub bind_ok : {A B : Type 0} (r : Result A EntryError) (f : A → Result B EntryError) (y : B) → (r >>= f) ≡ Ok y → (x : A) × (r ≡ Ok x) × (f x ≡ Ok y)
 bind_ok (Ok x) f y e = (x, refl, e)

@@ -1,7 +1,5 @@
 -- What an entry is made of is read as it is spelled.
-use Rattle.std.proofs.Common.{◌≡◌, ℕ, ℤ, zero, suc, ◌+◌, ◌-◌, ◌^◌, ◌≤◌, ◌<◌, Bool, true, false, cond, ltb, List, [], ◌∷◌, ◌++◌, length, take, drop, Option, Some, None, Result, Ok, Err, refl, sym, ap, subst, ◌∙◌, append_assoc, arith}
-use Rattle.std.specs.List.{AllByRecursion}
-use Rattle.std.specs.Str.{IsUtf8}
+use Rattle.std.proofs.Common.{◌≡◌, ℕ, ◌+◌, ◌-◌, ◌≤◌, ◌<◌, Bool, true, false, ltb, List, [], ◌∷◌, ◌++◌, length, take, drop, Option, Some, None, Ok, refl, sym, ap, subst, ◌∙◌, append_assoc, arith}
 use Rattle.std.specs.Prelude.{slice_get, nat_lt}
 use Rattle.std.specs.Ordering.{nat_cmp, is_lt}
 use Rattle.std.specs.declared.cmp.Ordering.{Ordering}
@@ -13,17 +11,13 @@ use Rattle.byte_fields.specs.declared.field_error.FieldError.TheVariants.{Short,
 use Rattle.byte_fields.specs.Spelling.{varint, signed, byte_string, flag, SpelledAt}
 use Rattle.byte_fields.proofs.Taken.{IsBytes, SpelledAt-then, SpelledAt-piece}
 use Rattle.source_checkpoint.specs.Names.{IsPartition}
-use Rattle.source_checkpoint.specs.declared.delta.Part.{Part}
 use Rattle.doc_value.specs.declared.facts.Tags.{Tags}
 use Rattle.doc_value.specs.declared.facts.Tags.TheVariants.{Many, Listed}
 use Rattle.doc_value.specs.declared.facts.FieldTags.{FieldTags}
-use Rattle.doc_value.specs.declared.facts.TimeRange.{TimeRange}
-use Rattle.split_states.specs.declared.facts.RowFacts.{RowFacts}
 use Rattle.split_states.specs.declared.facts.Times.{Times}
-use Rattle.meta_journal.specs.declared.entry_error.EntryError.{EntryError}
 use Rattle.meta_journal.specs.declared.entry_error.EntryError.TheVariants.{Field}
-use Rattle.meta_journal.specs.Spelling.{each_spelled, counted, optional, part_spelled, times_spelled, tags_spelled, field_spelled, facts_spelled, range_spelled, IsNumber, IsTime, IsText, IsString, IsIfGiven, IsBehind, RisesFrom, Rises, AreAll, IsTermBelow, AreRowNumbers, CanSpellPart, CanSpellTimes, CanSpellTags, CanSpellField, IsFieldBelow, CanSpellFacts, CanSpellRange}
-use Rattle.meta_journal.specs.Reading.{◌>>=◌, Reader, field, both, made, where_is, members, is_last, last_of, number_at, string_at, utf8_at, time_at, bit_at, counted_at, optional_at, is_partition, partition_at, part_at, times_at, term_at, tags_by, tags_at, field_number_at, field_tags_at, digest_at, facts_at, range_at, rising_at, row_numbers_at}
+use Rattle.meta_journal.specs.Spelling.{counted, optional, part_spelled, times_spelled, tags_spelled, field_spelled, facts_spelled, range_spelled, IsNumber, IsTime, IsText, IsString, IsIfGiven, IsBehind, RisesFrom, Rises, AreAll, IsTermBelow, AreRowNumbers, CanSpellPart, CanSpellTimes, CanSpellTags, CanSpellField, IsFieldBelow, CanSpellFacts, CanSpellRange}
+use Rattle.meta_journal.specs.Reading.{◌>>=◌, Reader, both, where_is, members, is_last, last_of, number_at, string_at, utf8_at, time_at, bit_at, counted_at, optional_at, is_partition, partition_at, part_at, times_at, term_at, tags_by, tags_at, field_number_at, field_tags_at, digest_at, facts_at, range_at, rising_at, row_numbers_at}
 use Rattle.meta_journal.proofs.Names.{partition_passes, partition_is, name_is_text}
 use Rattle.meta_journal.proofs.Exact.{bind_ok, ok_is, guard_ok, Takes, Again, IsExact, behind, number_exact, string_exact, utf8_exact, time_exact, bit_takes, bit_again, both_exact, made_exact, where_exact, optional_exact, Chain, counted_exact}
 

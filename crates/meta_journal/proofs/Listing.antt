@@ -9,7 +9,7 @@ use Rattle.std.specs.Cmp.{tied_itself}
 use Rattle.std.specs.Cmp.Lexicographic.{slice_cmp, nat_list_cmp_total}
 use Rattle.std.specs.FinMap as finmap
 use Rattle.std.specs.FinMap.Entries.{is_sorted, below_all}
-use Rattle.object_store.specs.Store.{Objects, State, is_behind, is_wanted}
+use Rattle.object_store.specs.Store.{Objects, State, is_behind, is_wanted, listed}
 use Rattle.object_store.proofs.States.{tied}
 use Rattle.meta_journal.specs.Places.{meta_prefix, meta_key, numbered, BeginsWith}
 use Rattle.meta_journal.specs.Journal.{max_entries}
@@ -148,21 +148,32 @@ rising_filter : (p : Key → Bool) (ks : List Key) → Rising ks → Rising (fil
 rising_filter p [] h = tt
 rising_filter p (k ∷ ks) h = rising_step k (filter p ks) (p k) (below_filter k p ks h.0) (rising_filter p ks h.1)
 
+-- ---- the keys of a listing
+
+pub listed_rises : (prefix : Key) (after : Option Key) (m : Objects) → Rising (listed prefix after m)
+listed_rises prefix after m = rising_filter (is_wanted prefix after) (finmap.keys m) (keys_in_order m)
+
+pub listed_has : (prefix : Key) (after : Option Key) (m : Objects) (key : Key) → IsSome (finmap.get m key) → BeginsWith prefix key → is_behind after key ≡ true → Has (listed prefix after m) key
+listed_has prefix after m key some begins behind =
+    let wanted : is_wanted prefix after key ≡ true = rw (begins, behind) refl in
+    has_filter (is_wanted prefix after) (finmap.keys m) key (stands_has m key some) wanted
+
+pub listed_stands : (prefix : Key) (after : Option Key) (m : Objects) (key : Key) → Has (listed prefix after m) key → IsSome (finmap.get m key) × BeginsWith prefix key × (is_behind after key ≡ true)
+listed_stands prefix after m key h =
+    let p = filter_has (is_wanted prefix after) (finmap.keys m) key h in
+    let q = both_true (starts_with nat_eq key prefix) (is_behind after key) p.1 in
+    (has_stands m key p.0, q.0, q.1)
+
 -- ---- the keys of the journal behind so many entries
 
 pub behind_rises : (start : ℕ) (s : State) → Rising (keys_behind start s)
-behind_rises start s = rising_filter (is_wanted meta_prefix (last_key start)) (finmap.keys s.objects) (keys_in_order s.objects)
+behind_rises start s = listed_rises meta_prefix (last_key start) s.objects
 
 pub behind_has : (start : ℕ) (s : State) (key : Key) → IsSome (finmap.get s.objects key) → BeginsWith meta_prefix key → is_behind (last_key start) key ≡ true → Has (keys_behind start s) key
-behind_has start s key some prefix behind =
-    let wanted : is_wanted meta_prefix (last_key start) key ≡ true = rw (prefix, behind) refl in
-    has_filter (is_wanted meta_prefix (last_key start)) (finmap.keys s.objects) key (stands_has s.objects key some) wanted
+behind_has start s key some prefix behind = listed_has meta_prefix (last_key start) s.objects key some prefix behind
 
 pub behind_stands : (start : ℕ) (s : State) (key : Key) → Has (keys_behind start s) key → IsSome (finmap.get s.objects key) × BeginsWith meta_prefix key × (is_behind (last_key start) key ≡ true)
-behind_stands start s key h =
-    let p = filter_has (is_wanted meta_prefix (last_key start)) (finmap.keys s.objects) key h in
-    let q = both_true (starts_with nat_eq key meta_prefix) (is_behind (last_key start) key) p.1 in
-    (has_stands s.objects key p.0, q.0, q.1)
+behind_stands start s key h = listed_stands meta_prefix (last_key start) s.objects key h
 
 pub meta_begins : (n : ℕ) → BeginsWith meta_prefix (meta_key n)
 unfolding meta_key

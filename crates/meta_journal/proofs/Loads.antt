@@ -1,16 +1,14 @@
 -- The objects of a journal, read one after another.
-use Rattle.std.proofs.Common.{◌≡◌, ℕ, suc, ◌+◌, ◌<◌, ◌≤◌, List, [], ◌∷◌, ◌++◌, length, Option, Some, None, Result, Ok, Err, refl, sym, ap, subst, ◌∙◌, arith, add-zero, zero-add}
+use Rattle.std.proofs.Common.{◌≡◌, ℕ, ◌+◌, ◌<◌, List, [], ◌∷◌, ◌++◌, length, Option, Some, None, Result, Ok, Err, refl, sym, ap, subst, ◌∙◌, arith, add-zero, zero-add}
 use Rattle.std.specs.Prelude.{IsSome, IfOk}
-use Rattle.std.specs.FinMap as finmap
-use Rattle.std.proofs.lemmas.List.{length-append}
 use Rattle.object_store.specs.Store.{State, HasLanded}
 use Rattle.object_store.proofs.Landings.{HasLanded-refl, HasLanded-trans, Lands-from}
 use Rattle.meta_journal.specs.declared.entry.Entry.{Entry}
 use Rattle.meta_journal.specs.declared.journal_error.JournalError.{JournalError}
 use Rattle.meta_journal.specs.declared.journal_error.JournalError.TheVariants.{Memory, Adopted, StoreFault, Foreign, Corrupt, Full, Missing}
-use Rattle.meta_journal.specs.Places.{meta_prefix, meta_key, numbered, HasEntry, Stand, StandFrom, BeginsWith}
-use Rattle.meta_journal.specs.Journal.{ReadsEntry, IsMissing, IsCorrupt}
-use Rattle.meta_journal.specs.Loading.{IsCounted, IsLoaded, Counts, ReadsAll, LoadsEntries}
+use Rattle.meta_journal.specs.Places.{meta_key, numbered, HasEntry, Stand, StandFrom}
+use Rattle.meta_journal.specs.Journal.{ReadsEntry, IsCorrupt}
+use Rattle.meta_journal.specs.Loading.{IsCounted, Counts, ReadsAll, LoadsEntries}
 use Rattle.meta_journal.proofs.Pages.{stays}
 
 abbrev pub AllStand : ℕ → State → Type 0

@@ -1,6 +1,6 @@
 -- The test on the name of a partition.
-use Rattle.std.proofs.Common.{◌≡◌, ℕ, ◌+◌, ◌^◌, ◌<◌, ◌≤◌, Bool, true, false, cond, List, [], ◌∷◌, length, get_or, Result, Ok, Err, refl, sym, ap, subst, ◌∙◌, arith, inl, inr, ◌⊎◌, lit<}
-use Rattle.std.specs.Prelude.{IsTrue, All, ◌&&◌, nat_lt, nat_le, slice_index}
+use Rattle.std.proofs.Common.{◌≡◌, ℕ, ◌^◌, ◌<◌, Bool, true, false, List, [], ◌∷◌, length, get_or, Ok, Err, refl, arith, inl, inr, lit<}
+use Rattle.std.specs.Prelude.{IsTrue, ◌&&◌, slice_index}
 use Rattle.std.specs.List.{AllByRecursion, list_all}
 use Rattle.std.specs.Str.{IsUtf8}
 use Rattle.std.proofs.lemmas.Str.{IsUtf8-from_ascii}
@@ -8,13 +8,11 @@ use Rattle.std.proofs.lemmas.Bool.Decides.{nat_tests}
 use Rattle.std.proofs.lemmas.Bool.{cases_lt, lt-ltb, le-leb, leb-true, ltb-true}
 use Rattle.std.proofs.lemmas.List.{get_or_past}
 use Rattle.std.proofs.lemmas.List.Elements.{All-from_recursion, All-get_or, recursion_from_All}
-use Rattle.byte_fields.specs.declared.field_error.FieldError.{FieldError}
 use Rattle.byte_fields.specs.declared.field_error.FieldError.TheVariants.{NotText}
 use Rattle.byte_fields.specs.Reading.{text_at}
 use Rattle.source_checkpoint.specs.Names.{is_name_byte, IsPartition, IsBadNameAt}
-use Rattle.meta_journal.specs.declared.entry_error.EntryError.{EntryError}
 use Rattle.meta_journal.specs.declared.entry_error.EntryError.TheVariants.{Field}
-use Rattle.meta_journal.specs.Reading.{◌>>=◌, field, is_partition, partition_at}
+use Rattle.meta_journal.specs.Reading.{is_partition, partition_at}
 
 abbrev IsNameByte : ℕ → Type 0
 IsNameByte b = IsTrue (is_name_byte b)

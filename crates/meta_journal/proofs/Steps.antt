@@ -1,8 +1,8 @@
 -- Reading members one after another.
-use Rattle.std.proofs.Common.{◌≡◌, ℕ, zero, suc, ◌+◌, ◌-◌, ◌<◌, ◌≤◌, List, [], ◌∷◌, ◌++◌, Result, Ok, Err, refl, sym, ap, subst, ◌∙◌, arith}
+use Rattle.std.proofs.Common.{◌≡◌, ℕ, suc, ◌+◌, ◌-◌, ◌<◌, List, [], ◌∷◌, ◌++◌, Result, Ok, Err, refl, sym, ◌∙◌, arith}
 use Rattle.meta_journal.specs.declared.entry_error.EntryError.{EntryError}
 use Rattle.meta_journal.specs.declared.entry_error.EntryError.TheVariants.{Memory, BadMagic, BadVersion, BadKind, Field, Trailing}
-use Rattle.meta_journal.specs.Reading.{◌>>=◌, Reader, Reads, members}
+use Rattle.meta_journal.specs.Reading.{Reader, Reads, members}
 
 -- a fault of a part is the fault of the whole
 pub fault_of : {A B : Type 0} (e : EntryError) (part : Result A EntryError) (whole : Result B EntryError) → ((f : EntryError) → part ≡ Err f → whole ≡ Err f) → Reads (Err e) part → Reads (Err e) whole

@@ -1,5 +1,5 @@
 -- What the calls of a journal answer, and what they leave.
-use Rattle.std.specs.Prelude.{◌≡◌, ◌⊎◌, ◌<◌, ◌≤◌, ℕ, ◌+◌, Bool, List, true, false, Option, Some, None, Result, Ok, Err, IsSome, ⊤}
+use Rattle.std.specs.Prelude.{◌≡◌, ◌⊎◌, ℕ, ◌+◌, Bool, List, true, false, Option, Some, None, Result, Ok, Err, IsSome, ⊤}
 use Rattle.byte_fields.specs.Causes.{Rose}
 use Rattle.object_store.specs.Store.{State, HasLanded, LandsThen, Creates}
 use Rattle.object_store.specs.declared.store.CreateError.{CreateError}

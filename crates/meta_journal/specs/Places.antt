@@ -1,5 +1,5 @@
 -- The objects of a journal.
-use Rattle.std.specs.Prelude.{◌≡◌, ℕ, zero, suc, ◌+◌, ◌<◌, ◌/◌, ◌%◌, ◌^◌, List, [], ◌∷◌, ◌++◌, length, Option, Some, None, IsTrue, IsSome, nat_eq, codes}
+use Rattle.std.specs.Prelude.{◌≡◌, ℕ, zero, suc, ◌+◌, ◌/◌, ◌%◌, ◌^◌, List, [], ◌∷◌, ◌++◌, Option, Some, None, IsTrue, nat_eq, codes}
 use Rattle.std.specs.List.{starts_with}
 use Rattle.std.specs.FinMap as finmap
 use Rattle.object_store.specs.Store.{State}

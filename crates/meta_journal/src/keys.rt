@@ -1,7 +1,7 @@
 //! The keys of numbered objects.
 
-ghost use Rattle.std.specs.Prelude.{◌≡◌};
-ghost use Rattle.meta_journal.specs.Places.{digits, meta_key, meta_prefix, split_key};
+ghost use Rattle.std.specs.Prelude.{◌≡◌, ◌<◌, ◌^◌, ℕ, length, IfSome, Some};
+ghost use Rattle.meta_journal.specs.Places.{digits, meta_key, meta_prefix, split_key, split_prefix};
 
 use object_store::Key;
 
@@ -38,9 +38,41 @@ pub fn split_key(number: u64) -> Key
     Key::of(&text)
 }
 
+// The number that decimal digits spell, where it is below 2 ^ 64.
+fn number_of(text: &[u8]) -> Option<u64>
+    ensures { (n : ℕ) → n < 2 ^ 64 → n < 10 ^ length text.now → text.now ≡ digits (length text.now) n → result ≡ Some n }
+{
+    let mut number = 0u64;
+    for byte in text {
+        let digit = byte.checked_sub(b'0')?;
+        number = number.checked_mul(10)?.checked_add(u64::from(digit))?;
+    }
+    Some(number)
+}
+
+/// The number of a split file's key: none where no split file with a number below 2 ^ 64 has the key.
+pub fn split_number(key: &Key) -> Option<u64>
+    ensures only { IfSome result (λ n. key.now ≡ split_key n) }
+    ensures all { (n : ℕ) → n < 2 ^ 64 → key.now ≡ split_key n → result ≡ Some n }
+{
+    let number = number_of(key.as_bytes().get(7..)?)?;
+    if split_key(number).is_same(key) {
+        Some(number)
+    } else {
+        None
+    }
+}
+
 /// What the keys of the journal begin with: `meta/`.
 pub fn meta_prefix() -> Key
     ensures { result ≡ meta_prefix }
 {
     Key::of(b"meta/")
+}
+
+/// What the keys of split files begin with: `splits/`.
+pub fn split_prefix() -> Key
+    ensures { result ≡ split_prefix }
+{
+    Key::of(b"splits/")
 }

@@ -1,6 +1,6 @@
 -- The parts of a node behind each of its lines.
 use Rattle.std.proofs.Common.{◌≡◌, ℕ, zero, suc, ◌<◌, ◌^◌, List, [], ◌∷◌, ◌++◌, length, get_or, refl, sym, ap, ◌∙◌, subst, arith, Bool, true, false, map, inl, inr, take, drop, ◌≤◌}
-use Rattle.std.proofs.lemmas.List.{append-nil, take_at}
+use Rattle.std.proofs.lemmas.List.{take_at}
 use Rattle.std.proofs.lemmas.Bool.{lt-ltb, le-ltb}
 use Rattle.std.specs.List.{AllZip}
 use Rattle.std.specs.Prelude.{◌||◌, if◌then◌else◌, nat_lt, slice_set, Option, Some, None, Result, Ok, Err, IfOk, IsErr, ⊤}
@@ -13,8 +13,8 @@ use Rattle.index_world.specs.declared.world_error.WorldError.{WorldError}
 use Rattle.index_world.specs.Calls as calls
 use Rattle.index_world.specs.Calls.{Fate, Fault, Trouble, faulted, no_memory, not_read, Unread, Gives, gives, loaded, calm_fate, asked_and_looked}
 use Rattle.root_search.specs.Requests.{asked_of}
-use Rattle.index_world.specs.Core.{Core, IsOther, IsStoredIn, IsUploadedIn, journal_of, KeepsBut}
-use Rattle.index_world.proofs.InCore.{shown_keeps}
+use Rattle.index_world.specs.Core.{Core, IsOther, journal_of, KeepsBut}
+use Rattle.index_world.proofs.InCore.{shown_keeps, moment_goes}
 use Rattle.index_world.specs.Index.{has_staged}
 use Rattle.index_world.specs.World.{Keeping, WorldStands, GoesOn}
 use Rattle.indexing_run.proofs.Holding.{indexer_stays}
@@ -77,27 +77,7 @@ module _ {S L : Type 0} (told : L → Option Log) (count : L → ℕ) (since : L
 -- ---- an indexer changes
 
 pub clock_on : (core : Core) (clock : ℕ) → GoesOn None core (record core { clock = clock })
-clock_on core clock =
-    record {
-      grown = ([], sym (append-nil core.history));
-      faults = omega arith;
-      moment = omega arith;
-      keeps = record {
-        configured = λ config e. e;
-        unused = λ n other u. record { staged = u.staged; unpublished = u.unpublished; absent = u.absent; not_late = u.not_late };
-        stored = stored_then;
-        published = λ n p. p;
-        uploaded = uploaded_then;
-        staged = λ n delta facts h. h;
-      };
-    }
-  where
-    stored_then : (n : ℕ) (bytes : List ℕ) → IsStoredIn core n bytes → IsStoredIn (record core { clock = clock }) n bytes
-    stored_then n bytes u = record { staged = u.staged; file = u.file; not_late = u.not_late }
-
-    uploaded_then : (n : ℕ) (bytes : List ℕ) → IsUploadedIn core n bytes → IsUploadedIn (record core { clock = clock }) n bytes
-    uploaded_then n bytes (inl u) = inl (stored_then n bytes u)
-    uploaded_then n bytes (inr g) = inr g
+clock_on core clock = moment_goes (IsOther None) core core.moment clock (omega arith)
 
 staged_of : {L : Type 0} (told : L → Option Log) (count : L → ℕ) (reader : Reader L) (indexer : Indexer) (core : Core) (log : Log) (n : ℕ) →
     IndexerStands told count reader indexer core log → number_held indexer.place ≡ Some n → has_staged (journal_of core) n ≡ true
@@ -469,28 +449,6 @@ pub stands_along : {S L : Type 0} (told : L → Option Log) (count : L → ℕ) 
 stands_along {S} {L} told count since firsts a b node e stands =
     subst (λ (d : DriveNode S L). NodeStands told count since firsts d node) (sym e) stands
 
--- a world whose clock was set
-pub clocked : (world : Keeping) (core : Core) (log : Log) (given moment : ℕ) → WorldStands world core log → moment < 2 ^ 62 → given ≡ moment →
-    WorldStands (record world { clock = Some given }) (record core { clock = moment }) log
-clocked world core log given moment w low e =
-    record {
-      kept = w.kept;
-      told = w.told;
-      store_faults = w.store_faults;
-      moment = w.moment;
-      meta = w.meta;
-      next = w.next;
-      unsure = w.unsure;
-      frozen = w.frozen;
-      opened = w.opened;
-      world = record {
-        stands_for = record { journal = w.world.stands_for.journal; files = w.world.stands_for.files; late = w.world.stands_for.late; called = w.world.stands_for.called };
-        index = w.world.index;
-      };
-      timely = record { greatest = w.timely.greatest; moment = w.timely.moment; clock = low; room = w.timely.room };
-      clock = ap Some e;
-    }
-
 -- ---- an idle indexer and a client without a request stand over every core
 
 idle_over : {L : Type 0} (told : L → Option Log) (count : L → ℕ) (reader : Reader L) (indexer : Indexer) (core after : Core) (log : Log) →
@@ -523,7 +481,7 @@ without_over searcher client core after log keeps s =
       request = by searcher.request s.request;
     }
   where
-    by : (kept : KeptRequest) → IsRequest kept searching.no_request core log → IsRequest kept searching.no_request after log
+    by : (kept : KeptRequest) → IsRequest searcher.footers kept searching.no_request core log → IsRequest searcher.footers kept searching.no_request after log
     by requests.Vacant p = p
     by (requests.Opened text) p = p
     by (requests.Planned search) p = absurd (cc p.1)

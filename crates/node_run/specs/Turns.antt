@@ -270,6 +270,7 @@ opened_core o =
       standing = None;
       late = o.late;
       marks = [];
+      doomed = [];
     }
 
 abbrev pub opened_node : Opening → Node

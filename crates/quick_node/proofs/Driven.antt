@@ -7,8 +7,8 @@ use Rattle.meta_journal.specs.declared.entry.Entry.{Entry}
 use Rattle.meta_store.specs.History.{moment_of, history as told_by}
 use Rattle.object_store.specs.Store.{State}
 use Rattle.source_log.specs.Log.{IsLog}
-use Rattle.index_world.specs.Calls.{Unread}
-use Rattle.index_world.specs.Core.{with_unread, journal_of, last_count}
+use Rattle.index_world.specs.Calls.{Fate, Unread, gives, loaded}
+use Rattle.index_world.specs.Core.{Core, with_unread, journal_of, last_count}
 use Rattle.index_world.specs.World.{IsWorld}
 use Rattle.index_world.proofs.Opening.{index_opens}
 use Rattle.node_run.specs.Calm.{log_counts}
@@ -19,15 +19,18 @@ use Rattle.node_run.specs.Telling.{MayTell}
 use Rattle.node_run.specs.Turns.{opened_node}
 use Rattle.quick_node.specs.Faults.{AreBetween, store_told, log_told}
 use Rattle.quick_node.specs.Ending.{EndsSo, ended_status, last_line}
-use Rattle.quick_node.specs.Serve.{IsPrefixOf, Before, After, End, out_of_memory, end_told, status_of, reading_status, WroteLine, Wrote, HasEnd, IsFresh, Opens, Answers, Lives, IsShown, AnswersFrom, EntersAs, Drives, ShowsAfter}
+use Rattle.quick_node.specs.Serve.{IsPrefixOf, Before, After, End, out_of_memory, end_told, status_of, reading_status, WroteLine, Wrote, HasEnd, IsFresh, Opens, Answers, Lives, BeginsAlong, Along, IsShown, AnswersFrom, EntersAs, Drives, ShowsAfter}
 use Rattle.quick_node.specs.declared.error_line.End.{End as Ended}
 use Rattle.quick_node.proofs.Catching.{lives_catch}
 use Rattle.quick_node.proofs.Calmed.{reader_counts, lives_calm}
 use Rattle.quick_node.proofs.Exact.{exact_status}
 use Rattle.quick_node.proofs.Living.{opens_moves, lives_follow}
 use Rattle.quick_node.proofs.LongerLog.{index_longer}
-use Rattle.quick_node.proofs.Onces.{configured_on, holds_once, holds_at}
+use Rattle.quick_node.proofs.Onces.{configured_on, holds_once, covers_at, are_left}
+use Rattle.quick_node.specs.Once.{Reaches}
 use Rattle.quick_node.proofs.Faulting.{none_told}
+use Rattle.quick_node.proofs.Files.{Few, Takes, loaded_few}
+use Rattle.quick_node.proofs.Reached.{reaches, reaches_itself}
 use Rattle.quick_node.proofs.Sources.{lives_between}
 use Rattle.quick_node.proofs.Telling.{lives_told}
 use Rattle.quick_node.proofs.UpToLast.{Met, printed_on, silent_short, most_on}
@@ -43,6 +46,9 @@ module _ (history : List Entry) (before : Before) (fresh : Node) (is : IsFresh b
 
   pub new_unmarked : fresh.core.marks ≡ []
   new_unmarked = ap (λ n. n.core.marks) is.is
+
+  pub new_undoomed : fresh.core.doomed ≡ []
+  new_undoomed = ap (λ n. n.core.doomed) is.is
 
   -- all but the core is that of fresh readers
   pub opened_is : (answer : Result ⊤ Unread) (node : Node) → Opens fresh answer node → node ≡ fresh_node node.core before.log before.log_faults
@@ -88,6 +94,30 @@ begins history before e =
       world = o.world;
     }
 
+-- what opening makes of it leaves its files
+module _ (history : List Entry) (before : Before) (fresh : Node) (is : IsFresh before history fresh) (is_log : IsLog before.log) (world : IsWorld before.kept fresh.core before.log) where
+  log_is : before.log ≡ fresh.log
+  log_is = sym (ap (λ n. n.log) is.is)
+
+  itself : Reaches fresh.core fresh.core fresh.log
+  itself = subst (λ l. Reaches fresh.core fresh.core l) log_is (reaches_itself before.kept fresh.core before.log is_log world)
+
+  pub unread_along : Along fresh [] [] fresh
+  unread_along = record { entry = itself; behind = inl (record { no_lines = refl; no_outcomes = refl; reaches = itself }) }
+
+  pub begins_along : (fate : Fate) (answer : Result ⊤ Unread) (kept : State) (core : Core) → loaded fate fresh.core ≡ gives answer core → IsWorld kept core before.log → BeginsAlong fresh (record fresh { core = core })
+  begins_along fate answer kept core did after =
+      record {
+        entry = itself;
+        reaches = subst (λ l. Reaches fresh.core core l) log_is
+            (reaches before.kept kept fresh.core core before.log world after (subst (λ g. Takes Few fresh.core g.core) did (loaded_few fate fresh.core)) is_log);
+      }
+
+  pub unopened_along : (fate : Fate) (answer : Result ⊤ Unread) (kept : State) (core : Core) → loaded fate fresh.core ≡ gives answer core → IsWorld kept core before.log → Along fresh [] [] (record fresh { core = core })
+  unopened_along fate answer kept core did after =
+      let b = begins_along fate answer kept core did after in
+      record { entry = b.entry; behind = inl (record { no_lines = refl; no_outcomes = refl; reaches = b.reaches }) }
+
 -- ---- logs that were never read
 
 module _ {L : Type 0} (count : L → ℕ) (since : L → L → Type 0) (itself : (log : L) → since log log) where
@@ -114,9 +144,9 @@ module _ (history : List Entry) (before : Before) (after : After) (fresh last : 
   shown = record { store_count = store_count; log_count = log_count; stands = world.stands_for }
 
   drives_with : (status : ℕ) (end : End) (lines : List Line) (outcomes : List Outcome) (text : List ℕ) → status ≡ status_of end → HasEnd before after lines end →
-      after.written ≡ before.written ++ text → Wrote before.write_faults after.write_faults end outcomes text → Lives before end fresh lines outcomes last →
+      after.written ≡ before.written ++ text → Wrote before.write_faults after.write_faults end outcomes text → Lives before end fresh lines outcomes last → Along fresh lines outcomes last →
       AllByRecursion MayTell outcomes → (end ≡ out_of_memory → (text ≡ printed outcomes) ⊎ Answers fresh lines outcomes last) → Drives history before after status
-  drives_with status end lines outcomes text status_is ends written wrote lives tell all = record {
+  drives_with status end lines outcomes text status_is ends written wrote lives along tell all = record {
     end = end;
     status_is = status_is;
     lines = lines;
@@ -129,7 +159,8 @@ module _ (history : List Entry) (before : Before) (after : After) (fresh last : 
     index = world.index;
     goes_on = follows.0;
     once = holds_once after.kept (journal_of last.core) before.log is_log world.index;
-    always = λ revision. holds_at after.kept revision (journal_of last.core) before.log is_log world.index;
+    always = λ revision. covers_at revision (journal_of last.core) before.log is_log world.index.stands.legal;
+    left = are_left after.kept (journal_of last.core) before.log world.index;
     configured = configured_on history (journal_of last.core) follows.0 world.index.stands.legal;
     searches = follows.1;
     faults = told;
@@ -144,6 +175,7 @@ module _ (history : List Entry) (before : Before) (after : After) (fresh last : 
     is_fresh = is;
     last = last;
     lives = lives;
+    along = along;
     printed_all = all;
     shown = shown;
     calm = λ calm late. lives_calm history before after fresh last is shown calm late end lines outcomes ends lives;
@@ -166,11 +198,11 @@ module _ (history : List Entry) (before : Before) (after : After) (fresh last : 
       ((status ≡ ended_status e) × WroteLine write after.write_faults (last_line e) piece) ⊎ ((status ≡ 11) × (piece ≡ [])) → Drives history before after status
   drives_of e left read write status text piece m same ra low wa written (inl w) =
       drives_with status m.end m.lines m.outcomes (text ++ piece) (w.0 ∙ m.status_is) (m.ends after same ra wa) (written ∙ append_assoc before.written text piece)
-      (m.wrote before.write_faults after.write_faults piece (earlier before.write_faults write after.write_faults (last_line e) piece low w.1)) m.lives m.tell
+      (m.wrote before.write_faults after.write_faults piece (earlier before.write_faults write after.write_faults (last_line e) piece low w.1)) m.lives m.along m.tell
       (λ short. printed_on m.outcomes text piece (Answers fresh m.lines m.outcomes last) m.printed_all (silent_short e write after.write_faults piece (m.status_is ∙ ap status_of short) w.1))
   drives_of e left read write status text piece m same ra low wa written (inr w) =
       drives_with status out_of_memory m.lines m.outcomes (text ++ piece) w.0 m.reads (written ∙ append_assoc before.written text piece)
-      (most_on m.outcomes text piece m.front w.1) m.short m.tell (λ short. printed_on m.outcomes text piece (Answers fresh m.lines m.outcomes last) m.printed_all w.1)
+      (most_on m.outcomes text piece m.front w.1) m.short m.along m.tell (λ short. printed_on m.outcomes text piece (Answers fresh m.lines m.outcomes last) m.printed_all w.1)
 
 -- the objects behind the call tell it
 module _ {S L R W : Type 0} (told : S → Option State) (count : S → ℕ) (log_count : L → ℕ) (since : L → L → Type 0) (left : R → Option (List ℕ)) (read_count : R → ℕ) (taken : W → Option (List ℕ)) (write_count : W → ℕ) where

@@ -1,6 +1,7 @@
 -- What the call did before its last line, and that line, are what the clause of `create` says.
 use Rattle.std.proofs.Common.{◌≡◌, ◌⊎◌, ℕ, ◌<◌, ◌≤◌, Bool, true, false, List, [], ◌∷◌, ◌++◌, length, map, sum, refl, sym, ap, ◌∙◌, subst, inl, inr, append_assoc, append-nil, arith, IsOk}
 use Rattle.std.proofs.lemmas.Bool.Decides.{nat_tests}
+use Rattle.std.specs.FinMap.{get}
 use Rattle.std.specs.Prelude.{Option, Some, Result, Ok, Err, min, nat_lt, if◌then◌else◌}
 use Rattle.byte_fields.specs.Causes.{Rose}
 use Rattle.index_config.specs.Answer.{config_answer}
@@ -20,7 +21,8 @@ use Rattle.quick_node.specs.Ending.{EndsSo, ended_status, last_line}
 use Rattle.quick_node.specs.Reading.{max_config}
 use Rattle.quick_node.specs.Serve.{IsPrefixOf, Before, After, WroteLine, StoodStill, IsCalm, ShowsAfter}
 use Rattle.quick_node.specs.declared.error_line.End.{End as Ended}
-use Rattle.quick_node.proofs.Onces.{holds_once, holds_at}
+use Rattle.quick_node.specs.Once.{AreStanding}
+use Rattle.quick_node.proofs.Onces.{holds_once, covers_at, are_left}
 use Rattle.quick_node.specs.declared.error_line.End.TheVariants as ended
 
 -- ---- counts
@@ -190,7 +192,12 @@ creates_so history before moment after told content content' mid status end is_l
       index = index;
       goes_on = u.goes_on;
       once = holds_once after.kept u.exit before.log is_log index;
-      always = λ revision. holds_at after.kept revision u.exit before.log is_log index;
+      always = λ revision. covers_at revision u.exit before.log is_log index.stands.legal;
+      along = λ revision le. record {
+        files = subst (λ (s : State). AreStanding (get s.objects) revision u.exit before.log) kept (u.along revision le);
+        covers = covers_at revision u.exit before.log is_log index.stands.legal;
+      };
+      left = are_left after.kept u.exit before.log index;
       end = end;
       said = u.said;
       ends = ends;

@@ -1,6 +1,6 @@
 -- What the making of an index leaves, in the words of the command.
 use Rattle.std.proofs.Common.{◌≡◌, ℕ, ◌<◌, ◌≤◌, false, List, [], ◌∷◌, ◌++◌, length, refl, sym, ap, ◌∙◌, subst, inl, inr, append_assoc, append-nil, arith}
-use Rattle.std.specs.Prelude.{Option, Some, None, slice_get}
+use Rattle.std.specs.Prelude.{Option, Some, None, Result, Ok, Err, ⊤, slice_get}
 use Rattle.meta_journal.specs.Loading.{IsLoaded}
 use Rattle.meta_journal.specs.Places.{numbered, IsJournal}
 use Rattle.meta_journal.specs.declared.entry.Entry.{Entry}
@@ -10,7 +10,7 @@ use Rattle.byte_fields.specs.Causes.{Rose}
 use Rattle.object_store.specs.Store.{State, HasLanded, landed, land_one}
 use Rattle.source_log.specs.Log.{Log}
 use Rattle.index_world.specs.Core.{Core, with_unread, journal_of}
-use Rattle.index_world.specs.Created.{Uncreated, Leaves, CreatesNot, CreatesNone, CreatesWorld}
+use Rattle.index_world.specs.Created.{Uncreated, Leaves, CreatesAs, CreatesNot, CreatesNone, CreatesWorld}
 use Rattle.index_world.specs.Index.{IsIndexOf}
 use Rattle.index_world.specs.Taking.{IsFaultBetween}
 use Rattle.index_world.specs.World.{IsWorld, Keeping}
@@ -24,6 +24,8 @@ use Rattle.quick_node.specs.Reading.{max_config}
 use Rattle.quick_node.specs.Serve.{IsPrefixOf, Before}
 use Rattle.quick_node.specs.declared.error_line.End.{End as Ended}
 use Rattle.quick_node.specs.declared.error_line.End.TheVariants as ended
+use Rattle.quick_node.proofs.Files.{Few, Takes, created_few}
+use Rattle.quick_node.proofs.Reached.{stood_kept, landed_stand}
 
 -- ---- where nothing is late nothing lands
 
@@ -69,10 +71,14 @@ module _ (history : List Entry) (before : Before) (moment : ℕ) (i : IsIndexOf 
   -- the core of the store at entry
   abbrev pub first_core : Core
   first_core =
-      record { history = history; store_faults = before.store_faults; moment = moment_of (told_by history); clock = moment; frozen = false; files = o.files; unsure = false; standing = None; late = o.late; marks = [] }
+      record { history = history; store_faults = before.store_faults; moment = moment_of (told_by history); clock = moment; frozen = false; files = o.files; unsure = false; standing = None; late = o.late; marks = []; doomed = [] }
 
   pub first_world : IsWorld before.kept first_core before.log
   first_world = o.world
+
+  -- the making leaves its files
+  creating : (answer : Result ⊤ Uncreated) (after : Core) → CreatesAs before.input first_core after answer → Takes Few first_core after
+  creating answer after c = subst (λ g. Takes Few first_core g.core) c.did (created_few c.fate before.input first_core)
 
   -- ---- it was made
 
@@ -101,6 +107,7 @@ module _ (history : List Entry) (before : Before) (moment : ℕ) (i : IsIndexOf 
         exit = journal_of l.after;
         index = l.stands.world.index;
         goes_on = (journal_of l.after, ap (λ (es : List Entry). es ++ journal_of l.after) (sym l.none));
+        along = stood_kept before.kept l.stands.kept first_core l.after before.log first_world l.stands.world (creating (Ok tt) l.after l.creates);
         said = says.0;
         written = says.1;
         ends = said_so l.stands.kept (journal_of l.after) store read low written says.0 end short (record { vacant = l.none; config = l.config; sole = l.sole }) at says.2;
@@ -151,6 +158,7 @@ module _ (history : List Entry) (before : Before) (moment : ℕ) (i : IsIndexOf 
           exit = journal_of l.after;
           index = l.world.index;
           goes_on = unread_on history l.after.history l.creates.grown.0 l.after.standing l.creates.grown.1;
+          along = stood_kept before.kept l.kept first_core l.after before.log first_world l.world (creating (Err l.why) l.after l.creates);
           said = [];
           written = still ∙ ap Some (sym (append-nil before.written));
           ends = (short, why_not error l.kept new same l n f, refl);
@@ -161,4 +169,4 @@ module _ (history : List Entry) (before : Before) (moment : ℕ) (i : IsIndexOf 
   pub untouched : (told : Option State) (content : Option (List ℕ)) (store read written : ℕ) (end : Ended) → told ≡ Some before.kept → content ≡ Some before.written →
       EndsCreate history before moment before.kept (counts_at store read written) history [] end → CreatesUpTo history before moment told content (counts_at store read written) end
   untouched told content store read written end tells still ends =
-      record { kept = before.kept; tells = tells; exit = history; index = i; goes_on = ([], sym (append-nil history)); said = []; written = still ∙ ap Some (sym (append-nil before.written)); ends = ends }
+      record { kept = before.kept; tells = tells; exit = history; index = i; goes_on = ([], sym (append-nil history)); along = landed_stand before.kept before.kept history history before.log i i ([], refl); said = []; written = still ∙ ap Some (sym (append-nil before.written)); ends = ends }

@@ -22,7 +22,8 @@ use Rattle.quick_node.specs.declared.lines.Next.TheVariants as next
 use Rattle.quick_node.specs.Pieces.{ComesLine, Comes}
 use Rattle.quick_node.specs.Reading.{raw_lines, Fit, fits, falls_or_unknown, too_many_clients, fit_if, fit_of, with_client_name, names_in, last_moment, max_clients, Ending, all_read, bad_line, clients_over, line_over, input_over, stopped, IsBad, Reads}
 use Rattle.quick_node.specs.Running.{AreNamed, HasAnswered, HasRead, IsGoing, Does, IsNotTaken, WroteFront, EndsLine, TakesLine, IsRunEnd, Counts, Runs, done_behind, GoesOrEnds, RunsOrShort}
-use Rattle.quick_node.specs.Serve.{by_reading, read_failed, write_failed, out_of_memory}
+use Rattle.quick_node.specs.Once.{Reaches}
+use Rattle.quick_node.specs.Serve.{TurnsAlong, by_reading, read_failed, write_failed, out_of_memory}
 use Rattle.quick_node.proofs.Clocks.{turn_ticks}
 use Rattle.quick_node.proofs.Fitted.{accepts_as, line_fits}
 use Rattle.quick_node.proofs.Names.{turn_named, names_go_on, moments_go_on}
@@ -97,6 +98,16 @@ rose_earlier a b c d g r h = omega (arith, g, r, h)
 
 -- ---- a run that goes on
 
+-- a line more leaves its files
+along_on : (node mid last : Node) (lines : List Line) (line : Line) (outcomes : List Outcome) (outcome : Outcome) → TurnsAlong node lines outcomes mid → Turn mid line (Some outcome) last →
+    Reaches mid.core last.core mid.log → TurnsAlong node (lines ++ line ∷ []) (outcomes ++ outcome ∷ []) last
+along_on node mid last [] line [] outcome ran turn reaches =
+    (last, subst (λ n. Turn n line (Some outcome) last) ran turn, subst (λ n. Reaches n.core last.core n.log) ran reaches, refl)
+along_on node mid last [] line (o ∷ os) outcome ran turn reaches = absurd ran
+along_on node mid last (l ∷ lines) line [] outcome ran turn reaches = absurd ran
+along_on node mid last (l ∷ lines) line (o ∷ os) outcome ran turn reaches =
+    (ran.0, ran.1, ran.2, along_on ran.0 mid last lines line os outcome ran.3 turn reaches)
+
 pub begins : (Stands : Node → Type 0) (input : List ℕ) (begun : Node) (held : List ℕ) (content left : Option (List ℕ)) → begun.core.clock ≡ 0 → begun.clients ≡ [] →
     Stands begun → left ≡ Some input → content ≡ Some held → IsGoing Stands (length begun.indexers) input begun held content left [] 0 0
 begins Stands input begun held content left clock clients stands told written =
@@ -105,6 +116,7 @@ begins Stands input begun held content left clock clients stands told written =
       outcomes = [];
       mid = begun;
       turns = refl;
+      along = refl;
       tell = tt;
       has = none_answered begun clock clients;
       stands = stands;
@@ -132,6 +144,7 @@ module _ (Stands : Node → Type 0) (readers : ℕ) (input : List ℕ) (begun : 
         ends = (live, reads);
         last = going.mid;
         did = going.turns;
+        along = inl going.along;
         tell = going.tell;
         stands = stands;
         text = printed going.outcomes;
@@ -151,6 +164,7 @@ module _ (Stands : Node → Type 0) (readers : ℕ) (input : List ℕ) (begun : 
         ends = reads_stopped readers input going.lines taken rest going.read;
         last = going.mid;
         did = inl going.turns;
+        along = inl going.along;
         tell = going.tell;
         stands = stands;
         text = printed going.outcomes;
@@ -175,6 +189,7 @@ module _ (Stands : Node → Type 0) (readers : ℕ) (input : List ℕ) (begun : 
         );
         last = going.mid;
         did = going.turns;
+        along = inl going.along;
         tell = going.tell;
         stands = going.stands;
         text = printed going.outcomes;
@@ -241,6 +256,7 @@ module _ (Stands : Node → Type 0) (readers : ℕ) (input : List ℕ) (begun : 
           outcomes = going.outcomes ++ t.0 ∷ [];
           mid = d.last;
           turns = turns_go_on begun going.mid d.last going.lines d.line going.outcomes t.0 going.turns d.turn;
+          along = along_on begun going.mid d.last going.lines d.line going.outcomes t.0 going.along d.turn d.reaches;
           tell = All-snoc MayTell going.outcomes t.0 going.tell d.tells;
           has = answered_more readers going.lines going.mid d.line t.0 d.last going.has (line_is_fit Stands' d.line d.spells d.taken) d.turn;
           stands = d.stands;
@@ -290,6 +306,7 @@ module _ (Stands : Node → Type 0) (readers : ℕ) (input : List ℕ) (begun : 
             );
             last = d.last;
             did = turns_go_on begun going.mid d.last going.lines d.line going.outcomes outcome going.turns d.turn;
+            along = inl (along_on begun going.mid d.last going.lines d.line going.outcomes outcome going.along d.turn d.reaches);
             tell = All-snoc MayTell going.outcomes outcome going.tell d.tells;
             stands = d.stands;
             text = printed going.outcomes ++ w.0;
@@ -329,6 +346,7 @@ module _ (Stands : Node → Type 0) (readers : ℕ) (input : List ℕ) (begun : 
               read = reads_stopped readers input (going.lines ++ d.line ∷ []) taken' (hand' ++ behind') (read_more Stands' d.line d.spells d.taken);
               turn = d.turn;
             });
+            along = inr (going.mid, going.along, (d.line, d.turn, d.reaches));
             tell = going.tell;
             stands = d.stands;
             text = printed going.outcomes;
@@ -345,6 +363,7 @@ module _ (Stands : Node → Type 0) (readers : ℕ) (input : List ℕ) (begun : 
             ends = reads_stopped readers input (going.lines ++ d.line ∷ []) taken' (hand' ++ behind') (read_more Stands' d.line d.spells d.taken);
             last = d.last;
             did = inl (turns_go_on begun going.mid d.last going.lines d.line going.outcomes outcome going.turns d.turn);
+            along = inl (along_on begun going.mid d.last going.lines d.line going.outcomes outcome going.along d.turn d.reaches);
             tell = All-snoc MayTell going.outcomes outcome going.tell d.tells;
             stands = d.stands;
             text = printed going.outcomes;

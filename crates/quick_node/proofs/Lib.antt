@@ -18,6 +18,8 @@ pub mod Short
 pub mod LongerLog
 pub mod UpToLast
 pub mod Onces
+pub mod Files
+pub mod Reached
 pub mod Driven
 pub mod Bytes
 mod Caused

@@ -1,36 +1,36 @@
 -- An index over a log is one over each log that extends it: what its rows take of a log stands within its checkpoints.
-use Rattle.std.proofs.Common.{◌≡◌, ◌⊎◌, ℕ, ◌+◌, ◌-◌, ◌≤◌, ◌&&◌, Bool, true, false, List, [], ◌∷◌, ◌++◌, length, map, filter, flat_map, take, drop, All, refl, sym, ap, ap₂, ◌∙◌, subst, inl, inr, cond, not, arith, nat_le, nat_lt, bytes_eq}
+use Rattle.std.proofs.Common.{◌≡◌, ◌⊎◌, ℕ, ◌+◌, ◌-◌, ◌≤◌, ◌&&◌, Bool, true, false, List, [], ◌∷◌, ◌++◌, length, map, filter, flat_map, take, drop, refl, sym, ap, ap₂, ◌∙◌, subst, inl, inr, cond, not, arith, nat_le, nat_lt, bytes_eq}
 use Rattle.std.proofs.lemmas.Bool.Decides.{nat_tests}
 use Rattle.std.proofs.lemmas.List.{length-append, take-append-le, drop-append-le, length-drop}
-use Rattle.std.proofs.lemmas.List.Elements.{All-head, All-tail, All-cons, All-nil, recursion_from_All, All-from_recursion}
-use Rattle.std.proofs.lemmas.List.Sorted.{All-permutation, IsPermutation-sym}
 use Rattle.std.specs.List.{AllByRecursion}
-use Rattle.std.specs.Prelude.{Some}
+use Rattle.std.specs.Prelude.{Option, Some}
 use Rattle.meta_journal.specs.declared.entry.Act.{Act}
 use Rattle.meta_journal.specs.declared.entry.Act.TheVariants.{Fence, Create, Stage, Publish, Replace, Raise, Task, MarkStaged, Remove, Retire}
 use Rattle.meta_journal.specs.declared.entry.Entry.{Entry}
-use Rattle.delete_tasks.specs.Ledger.{Ledger}
 use Rattle.delete_tasks.specs.Removed.{lies_in, erased_by}
 use Rattle.delete_tasks.specs.Removes.{DeleteTask as KeptTask}
+use Rattle.meta_store.proofs.Numbers.{found_of, old_rows, shown_row}
+use Rattle.meta_store.proofs.RowLists.{the_row}
+use Rattle.meta_store.proofs.Within.{placed}
 use Rattle.meta_store.specs.Contents.{is_kept}
 use Rattle.meta_store.specs.History.{history, delta_of}
-use Rattle.meta_store.specs.Laws.{Once, shown, published_spans, of_partition, Covers, CoversInOrder, all_ranges}
 use Rattle.meta_store.specs.Ledgers.{ledger}
+use Rattle.meta_store.specs.Left.{is_covered}
+use Rattle.meta_store.specs.Numbers.{Comes, EndsWithin, IsPlaced, is_shown}
 use Rattle.meta_store.specs.Rows.{rows}
-use Rattle.meta_store.proofs.Sound.{sound}
 use Rattle.object_store.specs.Store.{State}
-use Rattle.source_checkpoint.specs.Deltas.{Partition, range_of}
+use Rattle.source_checkpoint.specs.Deltas.{range_of, raised}
 use Rattle.source_checkpoint.specs.declared.delta.Part.{Part}
 use Rattle.source_checkpoint.specs.declared.span.Span.{Span}
-use Rattle.source_checkpoint.proofs.Ranges.{partition_itself}
 use Rattle.source_log.specs.Log.{Log, IsLog, IsFront, Extends, records_of}
-use Rattle.split_states.specs.Rows.{is_published}
+use Rattle.split_states.specs.Answers.{IsIn}
+use Rattle.split_states.specs.Rows.{row_at, row_spans, joined_spans}
 use Rattle.split_states.specs.declared.rows.Row.{Row}
 use Rattle.split_states.specs.declared.rows.RowState.TheVariants.{Published}
 use Rattle.index_config.specs.declared.config.IndexConfig.{IndexConfig}
 use Rattle.index_world.specs.Config.{reads}
-use Rattle.index_world.specs.Index.{ranges_of, IsRowSound, IsRowKept, Stands, MayPublish, HasFile, MayEnter, MayLand, IsBelowEnd, IsLateEntry, IsIndexOf}
-use Rattle.index_world.specs.Seen.{meaning, accepted_from, accepted_records, accepted_part, accepted_in, record_count, contents, place_of}
+use Rattle.index_world.specs.Index.{ranges_of, IsRowSound, IsFileLeft, IsRowKept, Stands, MayPublish, MayReplace, LeavesContents, HasFile, MayEnter, MayLand, IsBelowEnd, IsLateEntry, IsIndexOf}
+use Rattle.index_world.specs.Seen.{meaning, accepted_from, accepted_records, accepted_part, accepted_in, record_count, contents, replaced, place_of}
 use Rattle.index_world.specs.SplitFile.{file_of, facts_of, AreSplit}
 use Rattle.split_bundle.specs.declared.placed.Placed.{Placed}
 use Rattle.indexing_run.proofs.Slices.{part_of, part_more, part_none}
@@ -115,18 +115,18 @@ module _ (log longer : Log) (is : IsLog log) (was : IsLog longer) (extends : Ext
       by true e = ap (λ l. cond (q x) (x ∷ l) l) e
       by false e = e
 
-  kept_longer : (config : IndexConfig) (tasks : List KeptTask) (s : Span) → Within (range_of s) → filter (is_kept meaning tasks s) (accepted_records config log) ≡ filter (is_kept meaning tasks s) (accepted_records config longer)
+  kept_longer : (config : IndexConfig) (tasks : List KeptTask) (s : Span) → Within (range_of s) → filter (is_kept (meaning config) tasks s) (accepted_records config log) ≡ filter (is_kept (meaning config) tasks s) (accepted_records config longer)
   kept_longer config tasks s h =
-      filter_both (λ x. lies_in (range_of s) (place_of x)) (λ x. not (erased_by (meaning.matches x) tasks s)) (accepted_records config log)
-      ∙ ap (filter (λ x. not (erased_by (meaning.matches x) tasks s))) (part_longer config log longer (range_of s) is was extends h)
-      ∙ sym (filter_both (λ x. lies_in (range_of s) (place_of x)) (λ x. not (erased_by (meaning.matches x) tasks s)) (accepted_records config longer))
+      filter_both (λ x. lies_in (range_of s) (place_of x)) (λ x. not (erased_by ((meaning config).matches x) tasks s)) (accepted_records config log)
+      ∙ ap (filter (λ x. not (erased_by ((meaning config).matches x) tasks s))) (part_longer config log longer (range_of s) is was extends h)
+      ∙ sym (filter_both (λ x. lies_in (range_of s) (place_of x)) (λ x. not (erased_by ((meaning config).matches x) tasks s)) (accepted_records config longer))
 
   spans_longer : (config : IndexConfig) (tasks : List KeptTask) (spans : List Span) → AllByRecursion (λ s. Within (range_of s)) spans →
-      flat_map (λ s. filter (is_kept meaning tasks s) (accepted_records config log)) spans ≡ flat_map (λ s. filter (is_kept meaning tasks s) (accepted_records config longer)) spans
+      flat_map (λ s. filter (is_kept (meaning config) tasks s) (accepted_records config log)) spans ≡ flat_map (λ s. filter (is_kept (meaning config) tasks s) (accepted_records config longer)) spans
   spans_longer config tasks [] h = refl
   spans_longer config tasks (s ∷ spans) h =
-      ap (λ l. l ++ flat_map (λ t. filter (is_kept meaning tasks t) (accepted_records config log)) spans) (kept_longer config tasks s h.0)
-      ∙ ap (λ l. filter (is_kept meaning tasks s) (accepted_records config longer) ++ l) (spans_longer config tasks spans h.1)
+      ap (λ l. l ++ flat_map (λ t. filter (is_kept (meaning config) tasks t) (accepted_records config log)) spans) (kept_longer config tasks s h.0)
+      ∙ ap (λ l. filter (is_kept (meaning config) tasks s) (accepted_records config longer) ++ l) (spans_longer config tasks spans h.1)
 
   ranges_within : (spans : List Span) → AllByRecursion (λ s. Within (range_of s)) spans → AllByRecursion Within (map range_of spans)
   ranges_within [] h = tt
@@ -142,146 +142,164 @@ module _ (log longer : Log) (is : IsLog log) (was : IsLog longer) (extends : Ext
       e : contents config tasks row log ≡ contents config tasks row longer
       e = spans_longer config tasks row.spans within
 
+  left_longer : (kept : State) (config : IndexConfig) (tasks : List KeptTask) (row : Row) → AllByRecursion (λ s. Within (range_of s)) row.spans → IsFileLeft kept config tasks log row → IsFileLeft kept config tasks longer row
+  left_longer kept config tasks row within (inl gone) = inl gone
+  left_longer kept config tasks row within (inr file) = inr (file ∙ ap (λ xs. Some (file_of config xs)) (spans_longer config tasks row.spans within))
+
+  -- what a replacement holds
+  replaced_longer : (config : IndexConfig) (tasks : List KeptTask) (upto : ℕ) (spans : List Span) → AllByRecursion (λ s. Within (range_of s)) spans → replaced config tasks upto spans log ≡ replaced config tasks upto spans longer
+  replaced_longer config tasks upto [] h = refl
+  replaced_longer config tasks upto (s ∷ spans) h =
+      ap₂ ◌++◌ (ap (filter (λ x. not (is_covered (meaning config) tasks upto s x))) (kept_longer config tasks s h.0)) (replaced_longer config tasks upto spans h.1)
+
   -- ---- a late entry
 
-  publish_longer : (kept : State) (entries : List Entry) (number : ℕ) → MayPublish kept entries log number → MayPublish kept entries longer number
-  publish_longer kept entries number m = record {
-    config = m.config;
-    configured = m.configured;
-    ends = within_longer (delta_of (history entries) number) m.ends;
-    file = m.file ∙ ap (λ xs. Some (file_of m.config xs)) e;
-    facts = λ row found. m.facts row found ∙ ap (λ xs. facts_of m.config xs (record_count (delta_of (history entries) number) - length xs)) e;
-    split = subst (AreSplit m.config) e m.split;
-    not_late = m.not_late;
-  }
-    where
-      e : accepted_in m.config log (delta_of (history entries) number) ≡ accepted_in m.config longer (delta_of (history entries) number)
-      e = in_longer m.config (delta_of (history entries) number) m.ends
+  abbrev RowWithin : List Entry → Row → Type 0
+  RowWithin entries row = is_shown (history entries) row.number ≡ true → AllByRecursion (λ s. Within (range_of s)) row.spans
 
-  file_longer : (kept : State) (entries : List Entry) (act : Act) → HasFile kept entries log act → HasFile kept entries longer act
-  file_longer kept entries Fence f = f
-  file_longer kept entries (Create text) f = f
-  file_longer kept entries (Stage number delta facts) f = f
-  file_longer kept entries (Publish number) f = publish_longer kept entries number f
-  file_longer kept entries (Replace new old upto) f = f
-  file_longer kept entries (Raise number upto) f = f
-  file_longer kept entries (Task opstamp text fields times) f = f
-  file_longer kept entries (MarkStaged numbers) f = f
-  file_longer kept entries (Remove numbers) f = f
-  file_longer kept entries (Retire numbers) f = f
+  module _ (kept : State) (entries : List Entry) (placed_rows : AllByRecursion (IsPlaced reads (history entries)) (rows (history entries))) (ends : AllByRecursion (RowWithin entries) (rows (history entries))) where
+    -- a row that is published
+    published_within : (n : ℕ) (row : Row) → row_at (rows (history entries)) n ≡ Some row → row.state ≡ Published → AllByRecursion (λ s. Within (range_of s)) row.spans
+    published_within n row found state =
+        let p = found_of (IsPlaced reads (history entries)) (rows (history entries)) n row found placed_rows in
+        let e = found_of (RowWithin entries) (rows (history entries)) n row found ends in
+        e.0 (p.0.published state)
 
-  enters_longer : (kept : State) (entries : List Entry) (entry : Entry) → MayEnter kept entries log entry → MayEnter kept entries longer entry
-  enters_longer kept entries entry m = record { can = m.can; legal = m.legal; room = m.room; file = file_longer kept entries entry.act m.file }
+    both_within : (xs ys : List Span) → AllByRecursion (λ s. Within (range_of s)) xs → AllByRecursion (λ s. Within (range_of s)) ys → AllByRecursion (λ s. Within (range_of s)) (xs ++ ys)
+    both_within [] ys h k = k
+    both_within (x ∷ xs) ys h k = (h.0, both_within xs ys h.1 k)
 
-  late_longer : (kept : State) (entries : List Entry) (object : List ℕ × List ℕ) → IsLateEntry kept entries log object → IsLateEntry kept entries longer object
-  late_longer kept entries object late meta = by (late meta)
-    where
-      by : IsBelowEnd entries object ⊎ MayLand kept entries log object → IsBelowEnd entries object ⊎ MayLand kept entries longer object
-      by (inl below) = inl below
-      by (inr m) = inr (record { key = m.key; entry = m.entry; spelled = m.spelled; enters = enters_longer kept entries m.entry m.enters })
+    joined_within : (old : List ℕ) → AllByRecursion (IsIn Published (rows (history entries))) old → AllByRecursion (λ s. Within (range_of s)) (joined_spans (rows (history entries)) old)
+    joined_within [] p = tt
+    joined_within (n ∷ old) p =
+        let r = the_row (row_at (rows (history entries)) n) _ p.0 in
+        both_within (row_spans (row_at (rows (history entries)) n)) (joined_spans (rows (history entries)) old)
+        (subst (λ (o : Option Row). AllByRecursion (λ s. Within (range_of s)) (row_spans o)) (sym r.1) (published_within n r.0 r.1 r.2.0)) (joined_within old p.1)
 
-  lates_longer : (kept : State) (entries : List Entry) (lates : List (List ℕ × List ℕ)) → AllByRecursion (IsLateEntry kept entries log) lates →
-      AllByRecursion (IsLateEntry kept entries longer) lates
-  lates_longer kept entries [] h = tt
-  lates_longer kept entries (late ∷ lates) h = (late_longer kept entries late h.0, lates_longer kept entries lates h.1)
+    raised_within : (upto : ℕ) (spans : List Span) → AllByRecursion (λ s. Within (range_of s)) spans → AllByRecursion (λ s. Within (range_of s)) (map (raised upto) spans)
+    raised_within upto [] h = tt
+    raised_within upto (s ∷ spans) h = (h.0, raised_within upto spans h.1)
 
--- ---- spans end within the checkpoints
+    publish_longer : (number : ℕ) → MayPublish kept entries log number → MayPublish kept entries longer number
+    publish_longer number m = record {
+      config = m.config;
+      configured = m.configured;
+      ends = within_longer (delta_of (history entries) number) m.ends;
+      file = m.file ∙ ap (λ xs. Some (file_of m.config xs)) e;
+      facts = λ row found. m.facts row found ∙ ap (λ xs. facts_of m.config xs (record_count (delta_of (history entries) number) - length xs)) e;
+      split = subst (AreSplit m.config) e m.split;
+      not_late = m.not_late;
+    }
+      where
+        e : accepted_in m.config log (delta_of (history entries) number) ≡ accepted_in m.config longer (delta_of (history entries) number)
+        e = in_longer m.config (delta_of (history entries) number) m.ends
 
-covers_high : (low high : ℕ) (ranges : List Part) → Covers low high ranges → low ≤ high
-covers_high low high [] c = omega (arith, c)
-covers_high low high (r ∷ ranges) c = let h = covers_high r.to high ranges c.2 in omega (arith, c.0, c.1, h)
+    replace_longer : (new : ℕ) (old : List ℕ) (upto : ℕ) → AllByRecursion (IsIn Published (rows (history entries))) old → MayReplace kept entries log new old upto → MayReplace kept entries longer new old upto
+    replace_longer new old upto shown m = record {
+      config = m.config;
+      configured = m.configured;
+      file = m.file ∙ ap (λ xs. Some (file_of m.config xs)) e;
+      facts = λ row found. m.facts row found ∙ ap₂ (λ xs ys. facts_of m.config xs (record_count (map range_of spans) - length ys)) e (in_longer m.config (map range_of spans) (ranges_within spans within));
+      split = subst (AreSplit m.config) e m.split;
+      not_late = m.not_late;
+    }
+      where
+        spans : List Span
+        spans = joined_spans (rows (history entries)) old
 
-covers_within : (low high : ℕ) (ranges : List Part) → Covers low high ranges → All (λ r. r.to ≤ high) ranges
-covers_within low high [] c = All-nil (λ r. r.to ≤ high)
-covers_within low high (r ∷ ranges) c = All-cons (λ r. r.to ≤ high) r ranges (covers_high r.to high ranges c.2) (covers_within r.to high ranges c.2)
+        within : AllByRecursion (λ s. Within (range_of s)) (joined_spans (rows (history entries)) old)
+        within = joined_within old shown
 
-module _ (checkpoints : Partition → ℕ) where
-  abbrev Ends : Part → Type 0
-  Ends part = part.to ≤ checkpoints part.partition
+        e : replaced m.config (ledger reads (history entries)).tasks upto (joined_spans (rows (history entries)) old) log
+            ≡ replaced m.config (ledger reads (history entries)).tasks upto (joined_spans (rows (history entries)) old) longer
+        e = replaced_longer m.config (ledger reads (history entries)).tasks upto (joined_spans (rows (history entries)) old) within
 
-  each_ends : (ranges : List Part) → ((p : Partition) → All (λ r. r.to ≤ checkpoints p) (of_partition p ranges)) → AllByRecursion Ends ranges
-  each_ends [] h = tt
-  each_ends (r ∷ ranges) h = (
-    All-head (λ q. q.to ≤ checkpoints r.partition) r (of_partition r.partition ranges)
-        (subst (λ b. All (λ q. q.to ≤ checkpoints r.partition) (cond b (r ∷ of_partition r.partition ranges) (of_partition r.partition ranges))) (partition_itself r.partition r.partition refl) (h r.partition)),
-    each_ends ranges (λ p. without p (bytes_eq r.partition p) (h p)),
-  )
-    where
-      without : (p : Partition) (b : Bool) → All (λ q. q.to ≤ checkpoints p) (cond b (r ∷ of_partition p ranges) (of_partition p ranges)) → All (λ q. q.to ≤ checkpoints p) (of_partition p ranges)
-      without p true a = All-tail (λ q. q.to ≤ checkpoints p) r (of_partition p ranges) a
-      without p false a = a
+    raise_longer : (number upto : ℕ) (shown : (row : Row) × (row_at (rows (history entries)) number ≡ Some row) × (row.state ≡ Published)) → LeavesContents entries log number upto → LeavesContents entries longer number upto
+    raise_longer number upto shown leaves config row configured found =
+        sym (spans_longer config tasks (map (raised upto) row.spans) (raised_within upto row.spans within)) ∙ leaves config row configured found ∙ spans_longer config tasks row.spans within
+      where
+        tasks : List KeptTask
+        tasks = (ledger reads (history entries)).tasks
 
-  front_ends : (spans : List Span) (behind : List Part) → AllByRecursion Ends (map range_of spans ++ behind) → AllByRecursion (λ s. Ends (range_of s)) spans
-  front_ends [] behind h = tt
-  front_ends (s ∷ spans) behind h = (h.0, front_ends spans behind h.1)
+        same : shown.0 ≡ row
+        same = some_same (sym shown.1 ∙ found)
+          where
+            some_same : {a b : Row} → Some a ≡ Some b → a ≡ b
+            some_same e = cc
 
-  shown_first : (spans more : List Span) → AllByRecursion (λ s. Ends (range_of s)) (spans ++ more) → AllByRecursion (λ s. Ends (range_of s)) spans
-  shown_first [] more h = tt
-  shown_first (s ∷ spans) more h = (h.0, shown_first spans more h.1)
+        within : AllByRecursion (λ s. Within (range_of s)) row.spans
+        within = published_within number row found (subst (λ (r : Row). r.state ≡ Published) same shown.2)
 
-  shown_later : (spans more : List Span) → AllByRecursion (λ s. Ends (range_of s)) (spans ++ more) → AllByRecursion (λ s. Ends (range_of s)) more
-  shown_later [] more h = h
-  shown_later (s ∷ spans) more h = shown_later spans more h.1
+    file_longer : (moment : ℕ) (act : Act) → Comes reads (history entries) moment act → HasFile kept entries log act → HasFile kept entries longer act
+    file_longer moment Fence may f = f
+    file_longer moment (Create text) may f = f
+    file_longer moment (Stage number delta facts) may f = f
+    file_longer moment (Publish number) may f = publish_longer number f
+    file_longer moment (Replace new old upto) may f = replace_longer new old upto (old_rows reads (history entries) moment new old upto may) f
+    file_longer moment (Raise number upto) may f = raise_longer number upto (shown_row reads (history entries) moment number upto may) f
+    file_longer moment (Task opstamp text fields times) may f = f
+    file_longer moment (MarkStaged numbers) may f = f
+    file_longer moment (Remove numbers) may f = f
+    file_longer moment (Retire numbers) may f = f
 
-  rows_end : (all : List Row) → AllByRecursion (λ s. Ends (range_of s)) (published_spans all) →
-      AllByRecursion (λ row. row.state ≡ Published → AllByRecursion (λ s. Ends (range_of s)) row.spans) all
-  rows_end [] h = tt
-  rows_end (row ∷ all) h = (
-    λ published. subst (λ b. AllByRecursion (λ s. Ends (range_of s)) (cond b row.spans [])) (ap is_published published) (shown_first (shown row) (published_spans all) h),
-    rows_end all (shown_later (shown row) (published_spans all) h),
-  )
+    enters_longer : (entry : Entry) → MayEnter kept entries log entry → MayEnter kept entries longer entry
+    enters_longer entry m = record { can = m.can; legal = m.legal; room = m.room; file = file_longer entry.moment entry.act m.legal.1 m.file }
+
+    late_longer : (object : List ℕ × List ℕ) → IsLateEntry kept entries log object → IsLateEntry kept entries longer object
+    late_longer object late meta = by (late meta)
+      where
+        by : IsBelowEnd entries object ⊎ MayLand kept entries log object → IsBelowEnd entries object ⊎ MayLand kept entries longer object
+        by (inl below) = inl below
+        by (inr m) = inr (record { key = m.key; entry = m.entry; spelled = m.spelled; enters = enters_longer m.entry m.enters })
+
+    lates_longer : (lates : List (List ℕ × List ℕ)) → AllByRecursion (IsLateEntry kept entries log) lates → AllByRecursion (IsLateEntry kept entries longer) lates
+    lates_longer [] h = tt
+    lates_longer (late ∷ lates) h = (late_longer late h.0, lates_longer lates h.1)
+
+    rows_longer : (config : IndexConfig) (tasks : List KeptTask) (all : List Row) → AllByRecursion (IsPlaced reads (history entries)) all → AllByRecursion (RowWithin entries) all → AllByRecursion (IsRowKept kept config tasks log (history entries)) all →
+        AllByRecursion (IsRowKept kept config tasks longer (history entries)) all
+    rows_longer config tasks [] p e h = tt
+    rows_longer config tasks (row ∷ all) p e h = (
+      record {
+        published = λ state. sound_longer kept config tasks row (e.0 (p.0.published state)) (h.0.published state);
+        marked = λ state shown. left_longer kept config tasks row (e.0 shown) (h.0.marked state shown);
+        fresh = h.0.fresh;
+      },
+      rows_longer config tasks all p.1 e.1 h.1,
+    )
 
 -- ---- the index
 
-module _ (kept : State) (entries : List Entry) (log longer : Log) (is : IsLog log) (was : IsLog longer) (extends : Extends log longer) where
-  stands_longer : Stands kept entries log → Stands kept entries longer
-  stands_longer s = record {
+module _ (kept : State) (entries : List Entry) (log longer : Log) (is : IsLog log) (was : IsLog longer) (extends : Extends log longer) (index : IsIndexOf kept entries log) where
+  s : Stands kept entries log
+  s = index.stands
+
+  spans_in : (spans : List Span) → AllByRecursion (EndsWithin (ledger reads (history entries)).checkpoints) spans → AllByRecursion (λ span. Within log longer is was extends (range_of span)) spans
+  spans_in [] h = tt
+  spans_in (span ∷ spans) h = (let a = s.checkpoints span.partition in let b = h.0 in omega (arith, a, b), spans_in spans h.1)
+
+  all_placed : AllByRecursion (IsPlaced reads (history entries)) (rows (history entries))
+  all_placed = placed reads (history entries) s.legal
+
+  rows_in : (all : List Row) → AllByRecursion (IsPlaced reads (history entries)) all → AllByRecursion (RowWithin log longer is was extends entries) all
+  rows_in [] h = tt
+  rows_in (row ∷ all) h = (λ shown. spans_in row.spans (h.0.within shown), rows_in all h.1)
+
+  all_in : AllByRecursion (RowWithin log longer is was extends entries) (rows (history entries))
+  all_in = rows_in (rows (history entries)) all_placed
+
+  stands_longer : Stands kept entries longer
+  stands_longer = record {
     journal = s.journal;
-    built = s.built;
     legal = s.legal;
     within = s.within;
     no_other = s.no_other;
     checkpoints = λ name. let a = s.checkpoints name in let b = few_more log longer is was extends name in omega (arith, a, b);
-    rows = λ config is_config. rows_longer config (rows (history entries)) ended (s.rows config is_config);
+    rows = λ config is_config.
+        rows_longer log longer is was extends kept entries all_placed all_in config (ledger reads (history entries)).tasks (rows (history entries)) all_placed all_in (s.rows config is_config);
     split_keys = s.split_keys;
     late_keys = s.late_keys;
   }
-    where
-      l : Ledger
-      l = ledger reads (history entries)
 
-      once : Once reads (history entries)
-      once = (sound reads (history entries) s.legal).once
-
-      ranges_end : AllByRecursion (Ends l.checkpoints) (all_ranges l)
-      ranges_end =
-          each_ends l.checkpoints (all_ranges l)
-          (λ p. let c : CoversInOrder (l.checkpoints p) (of_partition p (all_ranges l)) = once.covers p in
-          All-permutation (λ r. r.to ≤ l.checkpoints p) c.in_order (of_partition p (all_ranges l)) c.same (covers_within 0 (l.checkpoints p) c.in_order c.covers))
-
-      P : Span → Type 0
-      P span = Ends l.checkpoints (range_of span)
-
-      shown_end : AllByRecursion P (published_spans (rows (history entries)))
-      shown_end =
-          recursion_from_All P (published_spans (rows (history entries)))
-          (All-permutation P l.spans (published_spans (rows (history entries))) (IsPermutation-sym (published_spans (rows (history entries))) l.spans once.each_once)
-          (All-from_recursion P l.spans (front_ends l.checkpoints l.spans l.retired ranges_end)))
-
-      ended : AllByRecursion (λ row. row.state ≡ Published → AllByRecursion P row.spans) (rows (history entries))
-      ended = rows_end l.checkpoints (rows (history entries)) shown_end
-
-      within_log : (spans : List Span) → AllByRecursion P spans → AllByRecursion (λ span. Within log longer is was extends (range_of span)) spans
-      within_log [] h = tt
-      within_log (span ∷ spans) h = (let a = s.checkpoints span.partition in omega (arith, h.0, a), within_log spans h.1)
-
-      rows_longer : (config : IndexConfig) (all : List Row) → AllByRecursion (λ row. row.state ≡ Published → AllByRecursion P row.spans) all → AllByRecursion (IsRowKept kept config l.tasks log) all →
-          AllByRecursion (IsRowKept kept config l.tasks longer) all
-      rows_longer config [] e h = tt
-      rows_longer config (row ∷ all) e h = (
-        λ published. sound_longer log longer is was extends kept config l.tasks row (within_log row.spans (e.0 published)) (h.0 published),
-        rows_longer config all e.1 h.1,
-      )
-
-  pub index_longer : IsIndexOf kept entries log → IsIndexOf kept entries longer
-  index_longer i = record { stands = stands_longer i.stands; late_entries = lates_longer log longer is was extends kept entries kept.late i.late_entries }
+  pub index_longer : IsIndexOf kept entries longer
+  index_longer = record { stands = stands_longer; late_entries = lates_longer log longer is was extends kept entries all_placed all_in kept.late index.late_entries }

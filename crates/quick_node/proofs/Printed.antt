@@ -18,7 +18,8 @@ use Rattle.quick_node.specs.declared.error_line.End.TheVariants as ended
 use Rattle.quick_node.specs.declared.reporting.Report.{Report}
 use Rattle.quick_node.proofs.Founded.{no_rise, line_of, silent}
 use Rattle.quick_node.proofs.Founding.{nothing_landed}
-use Rattle.quick_node.proofs.Onces.{holds_once, holds_at}
+use Rattle.quick_node.proofs.Onces.{holds_once, covers_at, are_left}
+use Rattle.quick_node.proofs.Reached.{landed_stand}
 
 -- ---- the last line is written behind what was written
 
@@ -184,7 +185,12 @@ reports_so asked history before after told content content' mid status end is_lo
       goes_on = u.goes_on;
       same = stays history u.exit before after.kept first index landed;
       once = holds_once after.kept u.exit before.log is_log index;
-      always = λ revision. holds_at after.kept revision u.exit before.log is_log index;
+      always = λ revision. covers_at revision u.exit before.log is_log index.stands.legal;
+      along = λ revision le. record {
+        files = landed_stand before.kept after.kept history u.exit before.log first index landed revision le;
+        covers = covers_at revision u.exit before.log is_log index.stands.legal;
+      };
+      left = are_left after.kept u.exit before.log index;
       end = end;
       said = u.said;
       ends = ends;

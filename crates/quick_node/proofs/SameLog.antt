@@ -64,7 +64,7 @@ by_log : (b : Bool) (luck : Luck) (node : Node) (line : Line) → (turn_by b luc
 by_log true luck node line = quiet_log line node
 by_log false luck node line = or_quiet_log luck.short line (full_turn luck node line) ∙ full_log luck node line
 
-turn_log : (node : Node) (line : Line) (said : Option Outcome) (last : Node) → Turn node line said last → last.log ≡ node.log
+pub turn_log : (node : Node) (line : Line) (said : Option Outcome) (last : Node) → Turn node line said last → last.log ≡ node.log
 turn_log node line said last turn = ap (λ t. t.node.log) (sym turn.is) ∙ by_log turn.luck.early turn.luck node line
 
 turns_log : (node last : Node) (lines : List Line) (outcomes : List Outcome) → Turns node lines outcomes last → last.log ≡ node.log

@@ -12,7 +12,7 @@ use Rattle.quick_node.specs.Serve.{Opens}
 
 -- the core knows of no call of its own
 abbrev IsNew : Core → Type 0
-IsNew core = (core.moment ≡ moment_of (history core.history)) × (core.unsure ≡ false) × (core.marks ≡ [])
+IsNew core = (core.moment ≡ moment_of (history core.history)) × (core.unsure ≡ false) × (core.marks ≡ []) × (core.doomed ≡ [])
 
 entry_new : (standing : Option Entry) (b : Bool) (entry : Entry) (core : Core) → IsNew core → IsNew (entry_lands standing b entry core)
 entry_new None true entry core new = new
@@ -42,7 +42,8 @@ begun_new call core new = landed_new call.lands _ new
 
 reborn_new : (core : Core) → IsNew core → reborn core ≡ core
 reborn_new core new =
-    ap (λ m. record core { moment = m; unsure = false; marks = [] }) (sym new.0) ∙ ap (λ u. record core { unsure = u; marks = [] }) (sym new.1) ∙ ap (λ ms. record core { marks = ms }) (sym new.2)
+    ap (λ m. record core { moment = m; unsure = false; marks = []; doomed = [] }) (sym new.0) ∙ ap (λ u. record core { unsure = u; marks = []; doomed = [] }) (sym new.1)
+    ∙ ap (λ ms. record core { marks = ms; doomed = [] }) (sym new.2) ∙ ap (λ ns. record core { doomed = ns }) (sym new.3)
 
 -- a journal that was read and has no entry changed nothing
 read_new : (standing : Option Entry) (core : Core) → IsNew core → length (reborn (with_standing standing core)).history ≡ 0 → reborn (with_standing standing core) ≡ core
@@ -70,14 +71,14 @@ load_failed false false second before core last why new e =
 abbrev short_of : Fate → Fate
 short_of fate = record fate { first = record (fate.first) { short = true } }
 
-pub opens_short : (fresh last : Node) (why : Unread) → fresh.core.moment ≡ moment_of (history fresh.core.history) → fresh.core.unsure ≡ false → fresh.core.marks ≡ [] → Opens fresh (Err why) last →
+pub opens_short : (fresh last : Node) (why : Unread) → fresh.core.moment ≡ moment_of (history fresh.core.history) → fresh.core.unsure ≡ false → fresh.core.marks ≡ [] → fresh.core.doomed ≡ [] → Opens fresh (Err why) last →
     Opens fresh (Err (not_read no_memory)) last
-opens_short fresh last why moment unsure marks o = record {
+opens_short fresh last why moment unsure marks doomed o = record {
   fate = short_of o.fate;
   core = o.core;
   did = ap (gives (Err (not_read no_memory)))
       (load_failed (o.fate.first.short || o.fate.second.short)
       (may_fail o.fate.first fresh.core.store_faults || may_fail o.fate.second (begun o.fate.first fresh.core).store_faults)
-      o.fate.second fresh.core.store_faults (begun o.fate.first fresh.core) o.core why (begun_new o.fate.first fresh.core (moment, unsure, marks)) o.did);
+      o.fate.second fresh.core.store_faults (begun o.fate.first fresh.core) o.core why (begun_new o.fate.first fresh.core (moment, unsure, marks, doomed)) o.did);
   is = o.is;
 }

@@ -11,6 +11,7 @@ use Rattle.node_run.specs.Node.{Node, Line, Outcome}
 use Rattle.node_run.specs.Standing.{NodeStands, accepts_of, DoesLine, IsSaid}
 use Rattle.quick_node.specs.declared.error_line.End.{End as Ended}
 use Rattle.quick_node.specs.Running.{Does, TakesLine}
+use Rattle.quick_node.proofs.Reached.{line_reaches}
 
 false_is_true : false ≡ true → ⊥
 false_is_true e = cc
@@ -21,13 +22,13 @@ pub short_takes : (Stands : Node → Type 0) (text : List ℕ) (number : ℕ) (n
 short_takes Stands text number node held content before after (Ok x) e same did = absurd (false_is_true e)
 short_takes Stands text number node held content before after (Err refused) e same did = (same, did)
 
-module _ {S L : Type 0} (told : L → Option Log) (count : L → ℕ) (since : L → L → Type 0) (firsts : List L) (node : Node) (line : Line) (new : DriveNode S L)
+module _ {S L : Type 0} (told : L → Option Log) (count : L → ℕ) (since : L → L → Type 0) (firsts : List L) (node : Node) (line : Line) (old new : DriveNode S L) (was : NodeStands told count since firsts old node)
     (text : List ℕ) (spells : Spells text line) (taken : accepts_of node line ≡ accepts.Yes) where
   abbrev Behind : Node → Type 0
   Behind n = NodeStands told count since firsts new n
 
   pub did_line : (result : Result OutLine AllocError) → (d : DoesLine told count since firsts node line result new) → Does Behind text node d.outcome
-  did_line result d = record { line = line; spells = spells; taken = taken; last = d.last; turn = d.turn; tells = d.tells; stands = d.stands }
+  did_line result d = record { line = line; spells = spells; taken = taken; last = d.last; turn = d.turn; reaches = line_reaches told count since firsts old new node d.last line d.outcome was d.stands d.turn; tells = d.tells; stands = d.stands }
 
   -- what was said, with its line feed
   said_by : (out : OutLine) (outcome : Option Outcome) → IsSaid (Ok out) outcome → (o : Outcome) × (outcome ≡ Some o) × (out.bytes ≡ outcome_text o)

@@ -18,11 +18,12 @@ use Rattle.quick_node.specs.Serve.{Before, After, Shows, ShowsAfter, EntersAs, D
 use Rattle.quick_node.specs.declared.error_line.End.TheVariants as ended
 use Rattle.quick_node.specs.declared.reporting.Report.{Report}
 use Rattle.quick_node.proofs.Calmed.{reader_counts}
-use Rattle.quick_node.proofs.Driven.{begins, returned}
+use Rattle.quick_node.proofs.Driven.{unread_along, begins, returned}
 use Rattle.quick_node.proofs.Finding.{some_moment}
 use Rattle.quick_node.proofs.Founded.{created_after}
 use Rattle.quick_node.proofs.LongerLog.{index_longer}
 use Rattle.quick_node.proofs.Printed.{reported_after}
+use Rattle.quick_node.proofs.Reached.{landed_stand}
 use Rattle.quick_node.proofs.UpToLast.{met_unread, silent_short}
 
 -- ---- the status
@@ -80,7 +81,7 @@ module _ {S L R W : Type 0} (told : S → Option State) (count : S → ℕ) (log
       let b = begins history before enters in
       let counts : log_counts b.fresh.indexers ≡ before.log_faults = ap (λ n. log_counts n.indexers) b.is.is ∙ reader_counts before.log_faults in
       returned told count log_count since left read_count taken write_count history before b.fresh b.fresh b.is enters.is_log ended.Memory (left input) (read_count input) (write_count output) []
-      (met_unread before b.fresh (left input) (read_count input) (write_count output)) store' store_faults log_faults status logs input output' before.kept kept (ap count same ∙ sym reported) b.world
+      (met_unread before b.fresh (unread_along history before b.fresh b.is enters.is_log b.world) (left input) (read_count input) (write_count output)) store' store_faults log_faults status logs input output' before.kept kept (ap count same ∙ sym reported) b.world
       (ap (λ n. n.core.store_faults) b.is.is ∙ sym shows.store_faults ∙ sym reported) lasts
       (gives (log_counts b.fresh.indexers) (sym counts)) sums refl (omega arith) low counted
       (writes (before.written ++ []) nothing)
@@ -99,6 +100,7 @@ module _ {S L R W : Type 0} (told : S → Option State) (count : S → ℕ) (log
         exit = history;
         index = index;
         goes_on = ([], sym (append-nil history));
+        along = landed_stand before.kept before.kept history history before.log index index ([], refl);
         said = [];
         written = nothing;
         ends = (refl, refl);

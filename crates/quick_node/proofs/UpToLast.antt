@@ -17,7 +17,7 @@ use Rattle.index_world.specs.Saying.{words}
 use Rattle.quick_node.specs.Ending.{ended_status, is_silent, cause_words, last_line, EndsSo}
 use Rattle.quick_node.specs.Reading.{Ending, stopped, ReadsFrom, Reads, raw_lines}
 use Rattle.quick_node.specs.Running.{Counts, IsRunEnd, HasRunEnd, HasRun, HasWritten, Runs}
-use Rattle.quick_node.specs.Serve.{CutShort, WroteMost, Before, After, End, by_reading, no_index, opening_failed, read_failed, write_failed, out_of_memory, status_of, error_line, error_of, WroteLine, Wrote, HasEnd, Opens, Answers, Unopened, Lives}
+use Rattle.quick_node.specs.Serve.{CutShort, WroteMost, Before, After, End, by_reading, no_index, opening_failed, read_failed, write_failed, out_of_memory, status_of, error_line, error_of, WroteLine, Wrote, HasEnd, Opens, Answers, Unopened, Lives, BeginsAlong, Along}
 use Rattle.quick_node.specs.declared.error_line.End.{End as Ended}
 use Rattle.quick_node.specs.declared.error_line.End.TheVariants as ended
 use Rattle.quick_node.proofs.Driving.{run_ends, run_lives}
@@ -32,6 +32,7 @@ pub record Met (before : Before) (fresh : Node) (e : Ended) (left : Option (List
   pub ends : (after : After) → after.left ≡ left → read ≤ after.read_faults → write ≤ after.write_faults → HasEnd before after lines end
   pub wrote : (low high : ℕ) (piece : List ℕ) → WroteLine low high (last_line e) piece → Wrote low high end outcomes (text ++ piece)
   pub lives : Lives before end fresh lines outcomes last
+  pub along : Along fresh lines outcomes last
   pub tell : AllByRecursion MayTell outcomes
   pub printed_all : (text ≡ printed outcomes) ⊎ Answers fresh lines outcomes last
   -- and the same where there is no memory for the last line
@@ -157,7 +158,7 @@ run_front read_failed outcomes text w = inl w
 run_front write_failed outcomes text w = inr w
 run_front out_of_memory outcomes text w = w
 
-module _ (before : Before) (fresh opened : Node) (opens : Opens fresh (Ok tt) opened) where
+module _ (before : Before) (fresh opened : Node) (opens : Opens fresh (Ok tt) opened) (begun : BeginsAlong fresh opened) where
   answered : (lines : List Line) (outcomes : List Outcome) (last : Node) → Turns opened lines outcomes last → Lives before out_of_memory fresh lines outcomes last
   answered lines outcomes last turns = run_lives before fresh opened opens out_of_memory lines outcomes last (inl turns)
 
@@ -186,6 +187,7 @@ module _ (before : Before) (fresh opened : Node) (opens : Opens fresh (Ok tt) op
     ends = λ after same ra wa. run_ends before after counts r.lines r.end rb ra wb wa (subst (λ l. HasRunEnd (length before.log_faults) before.input l counts r.lines r.end) (sym same) r.ends);
     wrote = λ low high piece l. run_wrote r.end r.outcomes r.text r.wrote low high piece (subst (λ line. WroteLine low high line piece) (run_line e r.end r.is) l);
     lives = run_lives before fresh opened opens r.end r.lines r.outcomes r.last r.did;
+    along = record { entry = begun.entry; behind = inr (record { opened = opened; opens = opens; reaches = begun.reaches; turns = r.along }) };
     tell = r.tell;
     printed_all = run_printed r.lines r.outcomes r.last r.text r.printed_all;
     reads = run_stops (length before.log_faults) before.input left counts r.lines r.end r.ends;
@@ -203,6 +205,7 @@ module _ (before : Before) (fresh opened : Node) (opens : Opens fresh (Ok tt) op
     ends = λ after same ra wa. none;
     wrote = λ low high piece l. inl (silent low high piece l);
     lives = lives;
+    along = record { entry = begun.entry; behind = inl (record { no_lines = refl; no_outcomes = refl; reaches = begun.reaches }) };
     tell = tt;
     printed_all = inl refl;
     reads = none;
@@ -219,8 +222,8 @@ module _ (before : Before) (fresh opened : Node) (opens : Opens fresh (Ok tt) op
 -- ---- a store that wasn't opened
 
 -- for want of memory, before anything was done
-pub met_unread : (before : Before) (fresh : Node) (left : Option (List ℕ)) (read write : ℕ) → Met before fresh ended.Memory left read write [] fresh
-met_unread before fresh left read write = record {
+pub met_unread : (before : Before) (fresh : Node) → Along fresh [] [] fresh → (left : Option (List ℕ)) (read write : ℕ) → Met before fresh ended.Memory left read write [] fresh
+met_unread before fresh along left read write = record {
   end = out_of_memory;
   lines = [];
   outcomes = [];
@@ -228,6 +231,7 @@ met_unread before fresh left read write = record {
   ends = λ after same ra wa. none;
   wrote = λ low high piece l. inl (silent low high piece l);
   lives = inl (refl, refl, refl);
+  along = along;
   tell = tt;
   printed_all = inl refl;
   reads = none;
@@ -238,12 +242,12 @@ met_unread before fresh left read write = record {
     none : Reads (length before.log_faults) before.input [] stopped
     none = none_from (length before.log_faults) (length before.input) 0 [] (raw_lines before.input)
 
-module _ (before : Before) (fresh last : Node) (moment : fresh.core.moment ≡ moment_of (history fresh.core.history)) (unsure : fresh.core.unsure ≡ false) (marks : fresh.core.marks ≡ []) (left : Option (List ℕ)) (read write : ℕ) where
+module _ (before : Before) (fresh last : Node) (moment : fresh.core.moment ≡ moment_of (history fresh.core.history)) (unsure : fresh.core.unsure ≡ false) (marks : fresh.core.marks ≡ []) (doomed : fresh.core.doomed ≡ []) (along : Along fresh [] [] last) (left : Option (List ℕ)) (read write : ℕ) where
   unopened : (why : Unread) → Opens fresh (Err why) last → Unopened fresh [] [] why last
   unopened why opens = record { no_lines = refl; no_outcomes = refl; opens = opens }
 
   unopened_short : (why : Unread) → Opens fresh (Err why) last → Lives before out_of_memory fresh [] [] last
-  unopened_short why opens = inr (inl (unopened (not_read no_memory) (opens_short fresh last why moment unsure marks opens)))
+  unopened_short why opens = inr (inl (unopened (not_read no_memory) (opens_short fresh last why moment unsure marks doomed opens)))
 
   none_read : Reads (length before.log_faults) before.input [] stopped
   none_read = none_from (length before.log_faults) (length before.input) 0 [] (raw_lines before.input)
@@ -258,6 +262,7 @@ module _ (before : Before) (fresh last : Node) (moment : fresh.core.moment ≡ m
     ends = λ after same ra wa. none_read;
     wrote = λ low high piece l. inl (silent low high piece l);
     lives = unopened_short why opens;
+    along = along;
     tell = tt;
     printed_all = inl refl;
     reads = none_read;
@@ -273,6 +278,7 @@ module _ (before : Before) (fresh last : Node) (moment : fresh.core.moment ≡ m
     ends = λ after same ra wa. refl;
     wrote = λ low high piece l. record { last = piece; is = refl; wrote = subst (λ line. WroteLine low high line piece) (fault_line a b) l };
     lives = unopened (not_read (faulted (store_fault a b))) (subst (λ w. Opens fresh (Err w) last) is opens);
+    along = along;
     tell = tt;
     printed_all = inl refl;
     reads = none_read;
@@ -292,6 +298,7 @@ module _ (before : Before) (fresh last : Node) (moment : fresh.core.moment ≡ m
     ends = λ after same ra wa. refl;
     wrote = λ low high piece l. record { last = piece; is = refl; wrote = subst (λ line. WroteLine low high line piece) none_line l };
     lives = unopened calls.no_index (subst (λ w. Opens fresh (Err w) last) is opens);
+    along = along;
     tell = tt;
     printed_all = inl refl;
     reads = none_read;

@@ -1,5 +1,6 @@
 -- The clause of the top call for the command `create`.
 use Rattle.std.specs.Prelude.{◌≡◌, ◌⊎◌, ℕ, ◌<◌, ◌≤◌, List, [], ◌∷◌, ◌++◌, length, codes, nat_lt, if◌then◌else◌, Option, Some, Result, Ok, Err, IsOk, ⊤}
+use Rattle.std.specs.FinMap.{get}
 use Rattle.byte_fields.specs.Causes.{Rose}
 use Rattle.index_config.specs.Answer.{config_answer}
 use Rattle.index_config.specs.declared.config.IndexConfig.{IndexConfig}
@@ -12,7 +13,7 @@ use Rattle.index_world.specs.Taking.{IsFaultBetween}
 use Rattle.index_world.specs.declared.world_error.WorldError.{WorldError}
 use Rattle.index_world.specs.declared.world_error.WorldError.TheVariants as errors
 use Rattle.quick_node.specs.Ending.{ended_status, last_line}
-use Rattle.quick_node.specs.Once.{HoldsOnce, HoldsAt}
+use Rattle.quick_node.specs.Once.{HoldsOnce, AreStanding, HoldsAt, CoversAt, AreLeft}
 use Rattle.quick_node.specs.Reading.{max_config}
 use Rattle.quick_node.specs.Serve.{IsPrefixOf, Before, After, WroteLine, IsCalm}
 use Rattle.quick_node.specs.declared.creating.Whole.{Whole}
@@ -97,6 +98,7 @@ pub record CreatesUpTo (history : List Entry) (before : Before) (moment : ℕ) (
   pub exit : List Entry
   pub index : IsIndexOf kept exit before.log
   pub goes_on : IsPrefixOf history exit
+  pub along : (revision : ℕ) → length history ≤ revision → AreStanding (get kept.objects) revision exit before.log
   pub said : List ℕ
   pub written : content ≡ Some (before.written ++ said)
   pub ends : EndsCreate history before moment kept counts exit said end
@@ -154,8 +156,12 @@ pub record Creates (history : List Entry) (before : Before) (moment : ℕ) (afte
   pub goes_on : IsPrefixOf history exit
   -- each accepted record below the checkpoints that is not removed stands once in the published files, and nothing else does
   pub once : HoldsOnce after.kept exit before.log
-  -- so it was at each revision of the journal
-  pub always : (revision : ℕ) → HoldsAt after.kept revision exit before.log
+  -- at each revision of the journal the rows that were published then held each such record once, and nothing else
+  pub always : (revision : ℕ) → CoversAt revision exit before.log
+  -- each row that was published at a revision that the call reached, from the end of the journal at entry on, has its file
+  pub along : (revision : ℕ) → length history ≤ revision → HoldsAt (get after.kept.objects) revision exit before.log
+  -- of all revisions each row that is published still has its file, and each that is marked has its file or none
+  pub left : (revision : ℕ) → AreLeft after.kept revision exit before.log
   -- why it ended, and what was written by then
   pub end : Ended
   pub said : List ℕ

@@ -1,5 +1,6 @@
 -- The clause of the top call for the reports on an index, `splits` and `describe`.
-use Rattle.std.specs.Prelude.{◌≡◌, ◌⊎◌, ℕ, ◌<◌, List, [], ◌∷◌, ◌++◌, length, codes, Option, Some, ⊤}
+use Rattle.std.specs.Prelude.{◌≡◌, ◌⊎◌, ℕ, ◌<◌, ◌≤◌, List, [], ◌∷◌, ◌++◌, length, codes, Option, Some, ⊤}
+use Rattle.std.specs.FinMap.{get}
 use Rattle.byte_fields.specs.Causes.{Rose}
 use Rattle.index_report.specs.Reports.{splits_text, describe_text}
 use Rattle.meta_journal.specs.declared.entry.Entry.{Entry}
@@ -13,7 +14,7 @@ use Rattle.index_world.specs.Taking.{IsFaultBetween}
 use Rattle.index_world.specs.declared.world_error.WorldError.{WorldError}
 use Rattle.index_world.specs.declared.world_error.WorldError.TheVariants as errors
 use Rattle.quick_node.specs.Ending.{ended_status, last_line}
-use Rattle.quick_node.specs.Once.{HoldsOnce, HoldsAt}
+use Rattle.quick_node.specs.Once.{HoldsOnce, HoldsAt, CoversAt, AreLeft}
 use Rattle.quick_node.specs.Serve.{IsPrefixOf, Before, After, WroteLine, IsCalm}
 use Rattle.quick_node.specs.declared.error_line.End.{End as Ended}
 use Rattle.quick_node.specs.declared.error_line.End.TheVariants as ended
@@ -159,8 +160,12 @@ pub record Reports (asked : Report) (history : List Entry) (before : Before) (af
   pub same : before.kept.late ≡ [] → (after.kept ≡ before.kept) × (exit ≡ history)
   -- each accepted record below the checkpoints that is not removed stands once in the published files, and nothing else does
   pub once : HoldsOnce after.kept exit before.log
-  -- so it was at each revision of the journal
-  pub always : (revision : ℕ) → HoldsAt after.kept revision exit before.log
+  -- at each revision of the journal the rows that were published then held each such record once, and nothing else
+  pub always : (revision : ℕ) → CoversAt revision exit before.log
+  -- each row that was published at a revision that the call reached, from the end of the journal at entry on, has its file
+  pub along : (revision : ℕ) → length history ≤ revision → HoldsAt (get after.kept.objects) revision exit before.log
+  -- of all revisions each row that is published still has its file, and each that is marked has its file or none
+  pub left : (revision : ℕ) → AreLeft after.kept revision exit before.log
   -- why it ended, and what was written by then
   pub end : Ended
   pub said : List ℕ

@@ -14,7 +14,8 @@ use Rattle.node_run.specs.Turns.{Turn, Turns}
 use Rattle.quick_node.specs.declared.error_line.End.{End as Ended}
 use Rattle.quick_node.specs.declared.error_line.End.TheVariants as ended
 use Rattle.quick_node.specs.Reading.{raw_lines, fits, fit_of, names_in, last_moment, max_clients, Within, all_read, bad_line, clients_over, line_over, input_over, stopped, Reads, FailsBehind}
-use Rattle.quick_node.specs.Serve.{CutShort, WroteMost, End, by_reading, no_index, opening_failed, read_failed, write_failed, out_of_memory}
+use Rattle.quick_node.specs.Once.{Reaches}
+use Rattle.quick_node.specs.Serve.{CutShort, WroteMost, TurnsAlong, RunAlong, End, by_reading, no_index, opening_failed, read_failed, write_failed, out_of_memory}
 
 -- ---- one line
 
@@ -25,6 +26,7 @@ pub record Does (Stands : Node → Type 0) (text : List ℕ) (node : Node) (said
   pub taken : accepts_of node line ≡ accepts.Yes
   pub last : Node
   pub turn : Turn node line said last
+  pub reaches : Reaches node.core last.core node.log
   pub tells : LineMayTell said
   pub stands : Stands last
 
@@ -137,6 +139,7 @@ pub record Runs (Stands : Node → Type 0) (readers : ℕ) (input : List ℕ) (n
   pub ends : HasRunEnd readers input left counts lines end
   pub last : Node
   pub did : HasRun readers input end node lines outcomes last
+  pub along : RunAlong node lines outcomes last
   pub tell : AllByRecursion MayTell outcomes
   pub stands : Stands last
   pub text : List ℕ
@@ -183,6 +186,7 @@ pub record IsGoing (Stands : Node → Type 0) (readers : ℕ) (input : List ℕ)
   pub outcomes : List Outcome
   pub mid : Node
   pub turns : Turns begun lines outcomes mid
+  pub along : TurnsAlong begun lines outcomes mid
   pub tell : AllByRecursion MayTell outcomes
   pub has : HasAnswered readers lines mid
   pub stands : Stands mid

@@ -30,7 +30,7 @@ use Rattle.node_run.specs.Telling.{MayTell}
 use Rattle.node_run.specs.Turns.{Turn, Turns, turns, opened_node}
 use Rattle.quick_node.specs.CaughtUp.{unseen, CatchesUp}
 use Rattle.quick_node.specs.Faults.{Interval, AreBetween, store_told, log_told}
-use Rattle.quick_node.specs.Once.{HoldsOnce, HoldsAt}
+use Rattle.quick_node.specs.Once.{HoldsOnce, CoversAt, AreLeft, Reaches}
 use Rattle.quick_node.specs.Reading.{Ending, all_read, bad_line, clients_over, line_over, input_over, stopped, Reads, FailsBehind, max_clients, max_line, max_input}
 
 abbrev pub IsPrefixOf : {X : Type 0} → List X → List X → Type 0
@@ -202,6 +202,45 @@ Lives before out_of_memory fresh lines outcomes last =
     ((lines ≡ []) × (outcomes ≡ []) × (last ≡ fresh)) ⊎ (Unopened fresh lines outcomes (not_read no_memory) last
     ⊎ (Answers fresh lines outcomes last ⊎ RanShort before fresh lines outcomes last))
 
+-- ---- the files along the way
+
+-- From this node the lines are answered by these outcomes, and that node stands behind them. Each line leaves its files.
+abbrev pub TurnsAlong : Node → List Line → List Outcome → Node → Type 0
+TurnsAlong node [] [] last = last ≡ node
+TurnsAlong node [] (outcome ∷ outcomes) last = ⊥
+TurnsAlong node (line ∷ lines) [] last = ⊥
+TurnsAlong node (line ∷ lines) (outcome ∷ outcomes) last =
+    (mid : Node) × Turn node line (Some outcome) mid × Reaches node.core mid.core node.log × TurnsAlong mid lines outcomes last
+
+-- the same, and maybe a line more for which there was no memory
+abbrev pub RunAlong : Node → List Line → List Outcome → Node → Type 0
+RunAlong node lines outcomes last =
+    TurnsAlong node lines outcomes last
+    ⊎ ((mid : Node) × TurnsAlong node lines outcomes mid × ((line : Line) × Turn mid line None last × Reaches mid.core last.core mid.log))
+
+-- the opening left its files, and so did each line
+pub record AnswersAlong (fresh : Node) (lines : List Line) (outcomes : List Outcome) (last : Node) : Type 0 where
+  pub opened : Node
+  pub opens : Opens fresh (Ok tt) opened
+  pub reaches : Reaches fresh.core opened.core fresh.log
+  pub turns : RunAlong opened lines outcomes last
+
+-- or no line was answered, and what was done leaves its files
+pub record NoneAlong (fresh : Node) (lines : List Line) (outcomes : List Outcome) (last : Node) : Type 0 where
+  pub no_lines : lines ≡ []
+  pub no_outcomes : outcomes ≡ []
+  pub reaches : Reaches fresh.core last.core fresh.log
+
+-- the files stand at entry, and the opening left its own
+pub record BeginsAlong (fresh opened : Node) : Type 0 where
+  pub entry : Reaches fresh.core fresh.core fresh.log
+  pub reaches : Reaches fresh.core opened.core fresh.log
+
+-- THE FILES STAND at entry, and behind the opening and each line.
+pub record Along (fresh : Node) (lines : List Line) (outcomes : List Outcome) (last : Node) : Type 0 where
+  pub entry : Reaches fresh.core fresh.core fresh.log
+  pub behind : NoneAlong fresh lines outcomes last ⊎ AnswersAlong fresh lines outcomes last
+
 -- the fault of the store that the last line tells
 abbrev pub end_told : End → List Interval
 end_told (by_reading ending) = []
@@ -301,8 +340,10 @@ pub record Drives (history : List Entry) (before : Before) (after : After) (stat
   pub goes_on : IsPrefixOf history exit
   -- each accepted record below the checkpoints that is not removed stands once in the published files, and nothing else does
   pub once : HoldsOnce after.kept exit before.log
-  -- so it was at each revision of the journal
-  pub always : (revision : ℕ) → HoldsAt after.kept revision exit before.log
+  -- at each revision of the journal the rows that were published then held each such record once, and nothing else
+  pub always : (revision : ℕ) → CoversAt revision exit before.log
+  -- behind the call each of these rows that is published still has its file, and each that is marked has its file or none
+  pub left : (revision : ℕ) → AreLeft after.kept revision exit before.log
   -- the configuration that the journal at entry names is that of each revision behind it
   pub configured : (config : IndexConfig) → configuration history ≡ Some config → (revision : ℕ) → length history ≤ revision → configuration (take revision exit) ≡ Some config
   -- each reply with hits is right, whatever failed
@@ -324,6 +365,9 @@ pub record Drives (history : List Entry) (before : Before) (after : After) (stat
   pub is_fresh : IsFresh before history fresh
   pub last : Node
   pub lives : Lives before end fresh lines outcomes last
+  -- at entry each published row had its file; and behind the opening and behind each line the rows that were published at each
+  -- revision that this reached have their files in the store as it is then
+  pub along : Along fresh lines outcomes last
   -- where memory ran out, the lines of all outcomes were written, or no line was begun behind the last of them
   pub printed_all : end ≡ out_of_memory → (text ≡ printed outcomes) ⊎ Answers fresh lines outcomes last
   pub shown : IsShown after last

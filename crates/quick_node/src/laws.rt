@@ -12,7 +12,7 @@ ghost use Rattle.index_world.specs.Index.{IsIndexOf};
 ghost use Rattle.index_world.specs.Opened.{ObjectsFrom};
 ghost use Rattle.node_run.specs.Node.{Node, Line, Outcome};
 ghost use Rattle.node_run.specs.Turns.{Turn, turns};
-ghost use Rattle.quick_node.specs.Once.{HoldsOnce, HoldsAt};
+ghost use Rattle.quick_node.specs.Once.{HoldsOnce, CoversAt, AreLeft};
 ghost use Rattle.quick_node.specs.Opening.{Outside, EndsBy, DriveFinds, ReportFinds, TellsFound};
 ghost use Rattle.quick_node.specs.Reading.{Ending, stopped, Reads};
 ghost use Rattle.quick_node.specs.Running.{Counts, HasRun, HasRunEnd};
@@ -26,9 +26,11 @@ pub fn an_index_holds_each_record_once()
     ensures { (kept : State) (entries : List Entry) (log : Log) → IsLog log → IsIndexOf kept entries log → HoldsOnce kept entries log }
 {}
 
-/// So do those of each revision: the rows that were published then have their files still.
+/// So did the rows that were published at each revision, whose files stand still where the rows are published, and stand or are gone
+/// where they are marked.
 pub fn an_index_held_each_record_once_at_each_revision()
-    ensures { (kept : State) (revision : ℕ) (entries : List Entry) (log : Log) → IsLog log → IsIndexOf kept entries log → HoldsAt kept revision entries log }
+    ensures { (kept : State) (revision : ℕ) (entries : List Entry) (log : Log) → IsLog log → IsIndexOf kept entries log →
+        CoversAt revision entries log × AreLeft kept revision entries log }
 {}
 
 /// A store whose one object is a Create of a readable configuration, with nothing late, is such an index over every log.

@@ -17,7 +17,7 @@ ghost use Rattle.quick_node.specs.Creating.{CreatesAt};
 ghost use Rattle.quick_node.specs.Ending.{EndsSo, ended_status};
 ghost use Rattle.quick_node.specs.Opening.{Outside, outside_of, IsFound, DriveFinds, CreateFinds, ReportFinds, EndsBy};
 ghost use Rattle.quick_node.specs.Reporting.{Reports};
-ghost use Rattle.quick_node.specs.Serve.{Before, LogsShow, StreamsShow, Shows, Returns, EntersAs, IsFresh, Opens, Drives, WroteWords};
+ghost use Rattle.quick_node.specs.Serve.{Before, LogsShow, StreamsShow, Shows, Returns, EntersAs, IsFresh, Opens, BeginsAlong, Drives, WroteWords};
 
 use crate::creating::create_index;
 use crate::error_line::{End, NO_MEMORY, print_end, status_of};
@@ -119,7 +119,7 @@ fn drive_node<Rt: Threads + Sync, S: ObjectStore, L: SourceLog, R: Source, W: Si
     input: &mut R,
     output: &mut W,
 ) -> (Finished<S>, Logs<L>)
-    ensures drives { (history : List Entry) (before : Before) (firsts : List L) (fresh opened : Node) → IsFresh before history fresh → Opens fresh (Ok tt) opened →
+    ensures drives { (history : List Entry) (before : Before) (firsts : List L) (fresh opened : Node) → IsFresh before history fresh → Opens fresh (Ok tt) opened → BeginsAlong fresh opened →
         NodeStands L.told L.fault_count L.since firsts node opened →
         StreamsShow R.left R.fault_count W.content W.fault_count input.old output.old before →
         Returns S.told S.fault_count L.fault_count L.since R.left R.fault_count W.content W.fault_count result.0.store result.0.store_faults result.0.log_faults
@@ -147,7 +147,7 @@ fn drive_world<Rt: Threads + Sync, S: ObjectStore, L: SourceLog, R: Source, W: S
     input: &mut R,
     output: &mut W,
 ) -> (Finished<S>, Logs<L>)
-    ensures drives { (history : List Entry) (before : Before) (fresh opened : Node) → IsFresh before history fresh → Opens fresh (Ok tt) opened →
+    ensures drives { (history : List Entry) (before : Before) (fresh opened : Node) → IsFresh before history fresh → Opens fresh (Ok tt) opened → BeginsAlong fresh opened →
         WorldStands world opened.core before.log → IsLog before.log → LogsShow L.told L.fault_count logs.items before →
         StreamsShow R.left R.fault_count W.content W.fault_count input.old output.old before →
         Returns S.told S.fault_count L.fault_count L.since R.left R.fault_count W.content W.fault_count result.0.store result.0.store_faults result.0.log_faults

@@ -6,8 +6,8 @@ use Rattle.std.proofs.lemmas.List.{map-append, take_more}
 use Rattle.std.proofs.lemmas.List.Sums.{sum_by_more}
 use Rattle.lru.proofs.CallerLemmas.{Contains-lookup, Contains-remove_entry}
 use Rattle.meta_store.specs.declared.planning.PlanRow.{PlanRow}
-use Rattle.index_world.specs.Core.{Core, IsShownIn, IsStoredIn}
-use Rattle.index_world.proofs.InCore.{planned_is_shown, shown_same}
+use Rattle.index_world.specs.Core.{Core, IsStoredIn}
+use Rattle.index_world.proofs.InCore.{stored_is_shown}
 use Rattle.leaf_search.specs.FileRanges.{total}
 use Rattle.leaf_search.specs.declared.file_ranges.FileRange.{FileRange}
 use Rattle.split_bundle.specs.declared.footer.Footer.{Footer}
@@ -38,22 +38,26 @@ total_more rs i r lt is = omega (arith, sum_by_more (λ (x : FileRange). x.len) 
 key_is : (number k : ℕ) → nat_eq number k ≡ true → k ≡ number
 key_is number k e = sym (eqb-true number k e)
 
--- what stands under a number that was shown is its file
-pub same_bytes : (core : Core) (number : ℕ) (one other : List ℕ) → IsShownIn core number one → IsStoredIn core number other → one ≡ other
-same_bytes core number one other shown up = sym (planned_is_shown core (core.moment + 1) number other one (omega arith) (λ early. up) shown)
+-- where a file stands, a footer that is kept under its number is its own
+pub kept_footer : (footers : Footers) (core : Core) (number : ℕ) (bytes : List ℕ) → AreKept footers core → IsStoredIn core number bytes → (footer : Footer) → Contains (entries footers) (number, footer) → IsFooterIn bytes footer
+kept_footer footers core number bytes kept up footer among =
+    let k = kept number footer among in
+    subst (λ (bs : List ℕ). IsFooterIn bs footer) (sym (stored_is_shown core number bytes k.bytes up k.shown)) k.footer_is
 
--- a footer that is found is the file's
-pub known_footer : (footers : Footers) (core : Core) (number : ℕ) (bytes : List ℕ) (known : Option Footer) → AreKept footers core → IsShownIn core number bytes → known ≡ lookup (nat_eq number) (entries footers) → IsKnown bytes known
-known_footer footers core number bytes None kept up found = tt
-known_footer footers core number bytes (Some footer) kept up found =
+-- a footer that is found is the file's, where all that are kept under its number are
+pub known_footer : (footers : Footers) (number : ℕ) (bytes : List ℕ) (known : Option Footer) → ((footer : Footer) → Contains (entries footers) (number, footer) → IsFooterIn bytes footer) → known ≡ lookup (nat_eq number) (entries footers) → IsKnown bytes known
+known_footer footers number bytes None kept found = tt
+known_footer footers number bytes (Some footer) kept found =
     let there = Contains-lookup (nat_eq number) (entries footers) footer (sym found) in
-    let k = kept there.0 footer there.1 in
-    let same : there.0 ≡ number = key_is number there.0 there.2 in
-    subst (λ (bs : List ℕ). IsFooterIn bs footer) (shown_same core number k.bytes bytes (subst (λ (n : ℕ). IsShownIn core n k.bytes) same k.shown) up) k.footer_is
+    kept footer (subst (λ (n : ℕ). Contains (entries footers) (n, footer)) (key_is number there.0 there.2) there.1)
+
+-- what is kept behind a removal was kept before
+pub was_kept : (old new : Footers) (number n : ℕ) (footer : Footer) → entries new ≡ remove_entry (nat_eq number) (entries old) → Contains (entries new) (n, footer) → Contains (entries old) (n, footer)
+was_kept old new number n footer left among = Contains-remove_entry (nat_eq number) (entries old) (n, footer) (subst (λ (es : List (ℕ × Footer)). Contains es (n, footer)) left among)
 
 -- one that is taken out is kept no more
 pub fewer_kept : (old new : Footers) (core : Core) (number : ℕ) → entries new ≡ remove_entry (nat_eq number) (entries old) → AreKept old core → AreKept new core
-fewer_kept old new core number left kept = λ n f among. kept n f (Contains-remove_entry (nat_eq number) (entries old) (n, f) (subst (λ (es : List (ℕ × Footer)). Contains es (n, f)) left among))
+fewer_kept old new core number left kept = λ n f among. kept n f (was_kept old new number n f left among)
 
 -- one more is kept
 pub more_kept : (old new : Footers) (core : Core) (number : ℕ) (footer : Footer) → KeepsMore (entries old) (entries new) number footer → IsKept core number footer → AreKept old core → AreKept new core

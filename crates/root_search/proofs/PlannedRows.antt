@@ -1,12 +1,14 @@
 -- A search that is planned, and one more of its files.
-use Rattle.std.proofs.Common.{◌≡◌, ℕ, zero, suc, ◌+◌, ◌<◌, ◌≤◌, Bool, true, false, cond, List, [], ◌∷◌, ◌++◌, map, length, take, drop, refl, sym, ap, ap₂, ◌∙◌, subst, arith, Option, Some, None, Ok, slice_get, option_map, add-one, drop-cons}
+use Rattle.std.proofs.Common.{◌≡◌, ◌⊎◌, inl, inr, ℕ, zero, suc, ◌+◌, ◌<◌, ◌≤◌, Bool, true, false, cond, List, [], ◌∷◌, ◌++◌, map, length, take, drop, refl, sym, ap, ap₂, ◌∙◌, subst, arith, Option, Some, None, Ok, Contains, nat_eq, slice_get, option_map, add-one, drop-cons}
 use Rattle.std.specs.List.{AllByRecursion, AllZip}
+use Rattle.std.specs.Map.{remove_entry}
 use Rattle.std.proofs.lemmas.Bool.{and_parts}
 use Rattle.std.proofs.lemmas.List.{take_all, take_more, length-map, map-append}
 use Rattle.std.proofs.lemmas.Option.{slice_get-map, slice_get_within, get_or_from_slice_get}
 use Rattle.doc_value.specs.declared.facts.TimeRange.{TimeRange}
 use Rattle.doc_value.specs.declared.schema.Schema.{Schema}
 use Rattle.query_ast.specs.Sought.{Sought, view}
+use Rattle.meta_store.proofs.RowLists.{AllOf-both}
 use Rattle.meta_store.specs.Contents.{published_rows}
 use Rattle.meta_store.specs.History.{history, last_opstamp}
 use Rattle.meta_store.specs.Planning.{is_searched, planned_as, planned_row, rows_for, searched}
@@ -17,7 +19,7 @@ use Rattle.meta_store.specs.declared.planning.Choice.{Choice}
 use Rattle.meta_store.specs.declared.planning.Choice.TheVariants as choices
 use Rattle.meta_store.specs.declared.planning.PlanRow.{PlanRow}
 use Rattle.source_log.specs.Log.{Log}
-use Rattle.split_states.specs.Rows.{is_published}
+use Rattle.split_states.specs.Rows.{is_published, row_at}
 use Rattle.split_states.specs.declared.facts.RowFacts.{RowFacts}
 use Rattle.split_states.specs.declared.rows.Row.{Row}
 use Rattle.split_form.specs.Facts.{facts_of}
@@ -31,6 +33,8 @@ use Rattle.index_world.specs.Gate.{IsSoundCore, IsPlan, grace_of}
 use Rattle.index_world.specs.SplitFile.{AreSplit, file_of}
 use Rattle.index_world.specs.World.{GoesFor}
 use Rattle.index_world.proofs.Indexing.{All-get}
+use Rattle.index_world.proofs.StoreChanges.{All-each}
+use Rattle.split_bundle.specs.declared.footer.Footer.{Footer}
 use Rattle.split_bundle.specs.declared.placed.Placed.{Placed}
 use Rattle.search_api.specs.Resolved.{Search}
 use Rattle.leaf_search.specs.Answers.{IsAsked}
@@ -41,16 +45,19 @@ use Rattle.root_search.specs.LeafAsks.{Asks}
 use Rattle.root_search.specs.ReadSearches.{IsChoiceOf, IsRead}
 use Rattle.root_search.specs.declared.leaf_asks.LeafAsk.{LeafAsk}
 use Rattle.root_search.specs.declared.reads.ReadSearch.{ReadSearch}
-use Rattle.root_search.specs.SplitParts.{HasNeeded}
+use Rattle.root_search.specs.Footers.{KeepsMore, entries}
+use Rattle.root_search.specs.SplitParts.{HasNeeded, IsFooterIn}
+use Rattle.root_search.specs.declared.footers.Footers.{Footers}
 use Rattle.root_search.specs.declared.outcome.SearchStep.TheVariants as steps
 use Rattle.root_search.specs.declared.planned.Planned.{Planned as GivenPlan}
 use Rattle.root_search.specs.declared.searcher.Request.TheVariants as given
 use Rattle.root_search.specs.declared.searcher.Searcher.{Searcher}
 use Rattle.root_search.specs.declared.split_parts.SplitPart.{SplitPart}
-use Rattle.root_search.specs.Searching.{IsInHand, history_at, rows_at, documents_at, IsPlanned, IsAtWork, Ends}
+use Rattle.root_search.specs.Searching.{AreKnown, IsInHand, IsKnownOf, history_at, published_at, rows_at, documents_at, IsPlanned, IsAtWork, Ends}
 use Rattle.root_search.specs.Steps.{Plan, Client, config_at, config_in, grace_at, planned_numbers, with_plan}
+use Rattle.root_search.proofs.Kept.{was_kept}
 use Rattle.root_search.proofs.Zipped.{zip_last}
-use Rattle.root_search.proofs.Stands.{rows_seen, config_seen, planned_goes_on, sound_in_hand, config_is, configured_is}
+use Rattle.root_search.proofs.Stands.{rows_seen, config_seen, planned_goes_on, sound_in_hand, sound_known, config_is, configured_is}
 
 -- ---- the rows of a plan
 
@@ -93,8 +100,9 @@ plan_ends searcher client search read held count config after log s configured p
             unfetched = sym (ap (λ (n : ℕ). map (λ (row : PlanRow). row.number) (drop n held.plan.rows)) first ∙ (ap (map (λ (row : PlanRow). row.number)) chosen ∙ numbers_are list));
             parts = subst (λ (n : ℕ). AllZip (HasNeeded (config_at (length after.history) after).schema held.ask.request) held.parts (map (documents_at (length after.history) after log) (take n (rows_at (length after.history) search after)))) (sym first)
                 (subst (λ (parts : List SplitPart). AllZip (HasNeeded (config_at (length after.history) after).schema held.ask.request) parts []) (sym none) tt);
-            in_hand = sound_in_hand after log (grace_at (config_in after) after.moment).until s;
+            in_hand = sound_in_hand after log s;
           },
+          sound_known searcher.footers after log s w.footers,
         );
       };
     }
@@ -146,6 +154,11 @@ searched_each P s q t (row ∷ rs) all = by (is_published row.state) (is_searche
     by false true e f a more = let wrong : true ≡ false = sym (and_parts (is_published row.state) _ f).0 ∙ e in absurd (cc)
     by false false e f a more = more a
 
+-- and so of one of these
+planned_each : (P : Row → Type 0) (plan : Plan) (core : Core) (place : ℕ) (row : Row) → AllByRecursion P (published_at plan.revision core) → slice_get (rows_at plan.revision plan.search core) place ≡ Some row → P row
+planned_each P plan core place row all there =
+    All-get P (rows_at plan.revision plan.search core) place row (searched_each P (config_at plan.revision core).schema plan.search.query plan.search.times (rows (history_at plan.revision core)) all) there
+
 pub next_row : (held : GivenPlan) (plan : Plan) (core : Core) (log : Log) (row : PlanRow) → IsPlanned held plan core log → slice_get held.plan.rows held.next ≡ Some row → IsNext held plan core log row.number row.size
 next_row held plan core log row p found =
     record {
@@ -167,8 +180,7 @@ next_row held plan core log row p found =
     m = mapped planned_row (slice_get list held.next) row (sym (slice_get-map planned_row list held.next) ∙ (ap (λ l. slice_get l held.next) (sym p.rows) ∙ found))
 
     i : IsInHand plan.revision plan.grace.until core log m.0
-    i = All-get (IsInHand plan.revision plan.grace.until core log) list held.next m.0
-        (searched_each (IsInHand plan.revision plan.grace.until core log) (config_at plan.revision core).schema plan.search.query plan.search.times (rows (history_at plan.revision core)) p.in_hand.each) m.1
+    i = planned_each (IsInHand plan.revision plan.grace.until core log) plan core held.next m.0 p.in_hand.each m.1
 
     number : m.0.number ≡ row.number
     number = ap (λ (r : PlanRow). r.number) m.2
@@ -191,6 +203,46 @@ file_of_next held plan core log row p next found same = (
     size = next.long ∙ ap (λ (l : List ℕ). length l) same;
   },
 )
+
+-- ---- the footers that are kept
+
+-- a footer that is kept under the number of the next row is that of its file
+pub next_footer : (footers : Footers) (held : GivenPlan) (plan : Plan) (core : Core) (log : Log) (number size : ℕ) (bytes : List ℕ) → AreKnown footers plan.revision core log → (next : IsNext held plan core log number size)
+    → file_of (config_at plan.revision core) (documents_at plan.revision core log next.row) ≡ bytes → (footer : Footer) → Contains (entries footers) (number, footer) → IsFooterIn bytes footer
+next_footer footers held plan core log number size bytes known next same footer among =
+    subst (λ (file : List ℕ). IsFooterIn file footer) same
+    (planned_each (IsKnownOf footers plan.revision core log) plan core held.next next.row known next.stands footer (subst (λ (n : ℕ). Contains (entries footers) (n, footer)) (sym next.same) among))
+
+-- so it is where one is taken out
+pub fewer_known : (old new : Footers) (revision : ℕ) (core : Core) (log : Log) (number : ℕ) → entries new ≡ remove_entry (nat_eq number) (entries old) → AreKnown old revision core log → AreKnown new revision core log
+fewer_known old new revision core log number left known =
+    All-each (IsKnownOf old revision core log) (IsKnownOf new revision core log) (published_at revision core) (λ row k footer among. k footer (was_kept old new number row.number footer left among)) known
+
+same_found : (o : Option Row) (one other : Row) → o ≡ Some one → o ≡ Some other → one ≡ other
+same_found o one other e f = cc
+
+module _ (old new : Footers) (held : GivenPlan) (plan : Plan) (core : Core) (log : Log) (number size : ℕ) (footer : Footer) (p : IsPlanned held plan core log) (next : IsNext held plan core log number size) where
+  abbrev list : List Row
+  list = rows (history_at plan.revision core)
+
+  abbrev OfOne : Row → Type 0
+  OfOne row = IsInHand plan.revision plan.grace.until core log row
+
+  abbrev file : Row → List ℕ
+  file row = file_of (config_at plan.revision core) (documents_at plan.revision core log row)
+
+  either_known : IsFooterIn (file next.row) footer → (row : Row) → OfOne row → IsKnownOf old plan.revision core log row → (f : Footer) → Contains (entries old) (row.number, f) ⊎ ((row.number ≡ number) × (f ≡ footer)) → IsFooterIn (file row) f
+  either_known is row i k f (inl before) = k f before
+  either_known is row i k f (inr this) =
+      let here : OfOne next.row = planned_each OfOne plan core held.next next.row p.in_hand.each next.stands in
+      let same : next.row ≡ row = same_found (row_at list number) next.row row (ap (row_at list) (sym next.same) ∙ here.found) (ap (row_at list) (sym this.0) ∙ i.found) in
+      subst (λ (x : Footer). IsFooterIn (file row) x) (sym this.1) (subst (λ (x : Row). IsFooterIn (file x) footer) same is)
+
+  -- and where that of the next row's file is kept
+  pub more_known : KeepsMore (entries old) (entries new) number footer → IsFooterIn (file next.row) footer → AreKnown old plan.revision core log → AreKnown new plan.revision core log
+  more_known more is known =
+      All-each (λ row. OfOne row × IsKnownOf old plan.revision core log row) (IsKnownOf new plan.revision core log) (published_at plan.revision core) (λ row b f among. either_known is row b.0 b.1 f (more row.number f among))
+      (AllOf-both OfOne (IsKnownOf old plan.revision core log) (published_at plan.revision core) p.in_hand.each known)
 
 -- ---- how many rows there are
 

@@ -1,5 +1,5 @@
 -- A searcher goes on to stand for its client, and what its files hold is what is visible.
-use Rattle.std.proofs.Common.{◌≡◌, ℕ, ◌≤◌, List, map, flat_map, length, take, sym, ap, ◌∙◌, subst, arith, Option, Some, IsPermutation}
+use Rattle.std.proofs.Common.{◌≡◌, ℕ, ◌+◌, ◌≤◌, Contains, List, map, flat_map, length, take, sym, ap, ◌∙◌, subst, arith, Option, Some, IsPermutation}
 use Rattle.std.specs.List.{AllByRecursion, AllZip}
 use Rattle.std.proofs.lemmas.List.{take-append-le, take_all, length-append}
 use Rattle.meta_journal.specs.declared.entry.Entry.{Entry}
@@ -12,8 +12,9 @@ use Rattle.index_config.specs.declared.config.IndexConfig.{IndexConfig}
 use Rattle.index_world.specs.Config.{reads}
 use Rattle.index_world.specs.Configuration.{configuration, config_or}
 use Rattle.source_log.specs.Log.{Log}
+use Rattle.split_states.specs.Rows.{row_at}
 use Rattle.split_states.specs.declared.rows.Row.{Row}
-use Rattle.index_world.specs.Core.{Core, IsConfigured, IsPlannedIn, IsShownIn, IsStoredIn, Nobody, journal_of}
+use Rattle.index_world.specs.Core.{Core, IsConfigured, IsPlannedIn, IsShownIn, Nobody, journal_of}
 use Rattle.index_world.specs.Gate.{IsSoundCore, grace_of}
 use Rattle.index_world.specs.Seen.{contents, visible}
 use Rattle.index_world.specs.SplitFile.{AreSplit, file_of}
@@ -25,14 +26,17 @@ use Rattle.search_api.specs.Resolved.{Search}
 use Rattle.index_world.proofs.Configured.{configured-take, configured-unread}
 use Rattle.index_world.proofs.InCore.{planned_goes, shown_goes}
 use Rattle.index_world.proofs.StoreChanges.{All-each}
-use Rattle.root_search.specs.SplitParts.{HasNeeded}
+use Rattle.root_search.specs.SplitParts.{HasNeeded, IsFooterIn}
 use Rattle.root_search.specs.declared.planned.Planned.{Planned as GivenPlan}
 use Rattle.root_search.specs.declared.searcher.Request.{Request as GivenRequest}
 use Rattle.root_search.specs.declared.searcher.Request.TheVariants as given
+use Rattle.root_search.specs.Footers.{entries}
 use Rattle.root_search.specs.declared.footers.Footers.{Footers}
+use Rattle.split_bundle.specs.declared.footer.Footer.{Footer}
 use Rattle.root_search.specs.declared.searcher.Searcher.{Searcher}
-use Rattle.root_search.specs.Searching.{AreKept, IsAtWork, IsInHand, AreInHand, published_at, documents_at, IsPlanned, IsRequest, SearcherStands}
+use Rattle.root_search.specs.Searching.{AreKept, AreKnown, IsAtWork, IsInHand, AreInHand, published_at, documents_at, IsPlanned, IsRequest, SearcherStands}
 use Rattle.root_search.specs.Steps.{Plan, Request, Client, config_at, config_in}
+use Rattle.root_search.proofs.Kept.{kept_footer}
 use Rattle.root_search.proofs.Rows.{AreShown, IsHeld, world_shown, world_few, world_legal, world_configured}
 
 -- what a revision shows stays when the history goes on
@@ -52,9 +56,17 @@ published_seen seen = published_rows (rows (history seen))
 abbrev pub rows_seen : List Entry → Search → List Row
 rows_seen seen search = searched (config_seen seen).schema search.query search.times (rows (history seen))
 
+-- a footer that is kept under a row's number is that of its file
+abbrev IsKnownBy : Footers → List Entry → Log → Row → Type 0
+IsKnownBy footers seen log row = (footer : Footer) → Contains (entries footers) (row.number, footer) → IsFooterIn (file_of (config_seen seen) (documents_seen seen log row)) footer
+
+abbrev AreKnownBy : Footers → List Entry → Log → Type 0
+AreKnownBy footers seen log = AllByRecursion (IsKnownBy footers seen log) (published_seen seen)
+
 row_goes_on : (Kept : ℕ → Type 0) (core after : Core) (log : Log) (revision until : ℕ) → GoesFor Kept core after → take revision after.history ≡ take revision core.history → (row : Row) → IsInHand revision until core log row → IsInHand revision until after log row
 row_goes_on Kept core after log revision until g same row i =
     record {
+      found = subst (λ (seen : List Entry). row_at (rows (history seen)) row.number ≡ Some row) (sym same) i.found;
       shown = subst (λ (seen : List Entry). IsShownIn after row.number (file_of (config_seen seen) (documents_seen seen log row))) (sym same)
           (shown_goes Kept core after row.number (file_of (config_at revision core) (documents_at revision core log row)) g i.shown);
       planned = subst (λ (seen : List Entry). IsPlannedIn after until row.number (file_of (config_seen seen) (documents_seen seen log row))) (sym same)
@@ -94,10 +106,15 @@ planned_goes_on Kept given plan core after log g p =
     same : take plan.revision after.history ≡ take plan.revision core.history
     same = same_front Kept core after plan.revision g p.in_hand.within
 
-request_goes_on : (Kept : ℕ → Type 0) (request : GivenRequest) (asked : Request) (core after : Core) (log : Log) → GoesFor Kept core after → IsRequest request asked core log → IsRequest request asked after log
-request_goes_on Kept given.Vacant asked core after log g r = r
-request_goes_on Kept (given.Opened text) asked core after log g r = r
-request_goes_on Kept (given.Planned search) asked core after log g r = (r.0, r.1, planned_goes_on Kept search r.0 core after log g r.2)
+-- the footers that are kept stay those of the files of a revision
+pub known_goes_on : (Kept : ℕ → Type 0) (footers : Footers) (core after : Core) (log : Log) (revision : ℕ) → GoesFor Kept core after → revision ≤ length core.history → AreKnown footers revision core log → AreKnown footers revision after log
+known_goes_on Kept footers core after log revision g within known =
+    subst (λ (seen : List Entry). AreKnownBy footers seen log) (sym (same_front Kept core after revision g within)) known
+
+request_goes_on : (Kept : ℕ → Type 0) (footers : Footers) (request : GivenRequest) (asked : Request) (core after : Core) (log : Log) → GoesFor Kept core after → IsRequest footers request asked core log → IsRequest footers request asked after log
+request_goes_on Kept footers given.Vacant asked core after log g r = r
+request_goes_on Kept footers (given.Opened text) asked core after log g r = r
+request_goes_on Kept footers (given.Planned search) asked core after log g r = (r.0, r.1, planned_goes_on Kept search r.0 core after log g r.2, known_goes_on Kept footers core after log r.0.revision g r.2.in_hand.within r.3)
 
 -- footers that are kept stay those of their splits
 pub footers_go_on : (Kept : ℕ → Type 0) (footers : Footers) (core after : Core) → GoesFor Kept core after → AreKept footers core → AreKept footers after
@@ -108,7 +125,7 @@ footers_go_on Kept footers core after g kept = λ number footer among.
 -- whatever number the world went on about, a searcher stands for its client as before
 pub searcher_goes_on : (Kept : ℕ → Type 0) (searcher : Searcher) (client : Client) (core after : Core) (log : Log) → GoesFor Kept core after → SearcherStands searcher client core log → SearcherStands searcher client after log
 searcher_goes_on Kept searcher client core after log g s =
-    record { name = s.name; front = s.front; footers = footers_go_on Kept searcher.footers core after g s.footers; request = request_goes_on Kept searcher.request client.request core after log g s.request }
+    record { name = s.name; front = s.front; footers = footers_go_on Kept searcher.footers core after g s.footers; request = request_goes_on Kept searcher.footers searcher.request client.request core after log g s.request }
 
 -- and so does one that is at work
 pub work_goes_on : (searcher : Searcher) (client : Client) (core after : Core) → GoesFor Nobody core after → IsAtWork searcher client core → IsAtWork searcher client after
@@ -116,14 +133,25 @@ work_goes_on searcher client core after g w = record { vacant = w.vacant; name =
 
 -- ---- a sound core
 
--- has the files of its published rows in hand
-pub sound_in_hand : (core : Core) (log : Log) (until : ℕ) → IsSoundCore core log → AreInHand (length core.history) until core log
-sound_in_hand core log until s =
+seen_config : (core : Core) (log : Log) → IsSoundCore core log → configuration core.history ≡ Some (config_seen core.history)
+seen_config core log s = let c = world_configured s.kept core log s.world s.opened in c.1 ∙ ap Some (sym (ap config_or c.1))
+
+-- has the files of its published rows
+pub sound_shown : (core : Core) (log : Log) → IsSoundCore core log → AreShown (config_seen core.history) core log
+sound_shown core log s = world_shown s.kept core log (config_seen core.history) s.world (seen_config core log s)
+
+-- the deletion grace behind this moment
+abbrev pub grace_end : Core → ℕ
+grace_end core = core.moment + (config_in core).deletion_grace
+
+-- and up to then has them in hand
+pub sound_in_hand : (core : Core) (log : Log) → IsSoundCore core log → AreInHand (length core.history) (grace_end core) core log
+sound_in_hand core log s =
     record {
       within = omega arith;
-      configured = (c.0, ap configuration all ∙ c.1);
-      each = subst (λ (seen : List Entry). AllByRecursion (IsInHand (length core.history) until core log) (published_seen seen)) (sym all)
-          (All-each (IsHeld (config_seen core.history) core log (history core.history)) (IsInHand (length core.history) until core log) (published_seen core.history) held law.each);
+      configured = (config_seen core.history, ap configuration all ∙ seen_config core log s);
+      each = subst (λ (seen : List Entry). AllByRecursion (IsInHand (length core.history) (grace_end core) core log) (published_seen seen)) (sym all)
+          (All-each (IsHeld (config_seen core.history) core log) (IsInHand (length core.history) (grace_end core) core log) (published_seen core.history) held law.each);
       few = subst (λ (seen : List Entry). length (rows (history seen)) ≤ 100000) (sym all) (world_few s.kept core log s.world);
       shown = subst (λ (seen : List Entry). IsPermutation (flat_map (documents_seen seen log) (published_seen seen)) (visible (config_seen seen) (ledger reads (history seen)) log)) (sym all) law.shown;
     }
@@ -131,20 +159,24 @@ sound_in_hand core log until s =
     all : take (length core.history) core.history ≡ core.history
     all = take_all (length core.history) core.history (omega arith)
 
-    c : (config : IndexConfig) × (configuration core.history ≡ Some config)
-    c = world_configured s.kept core log s.world s.opened
+    law : AreShown (config_seen core.history) core log
+    law = sound_shown core log s
 
-    law : AreShown (config_seen core.history) core log (history core.history)
-    law = world_shown s.kept core log s.world
-
-    held : (row : Row) → IsHeld (config_seen core.history) core log (history core.history) row → IsInHand (length core.history) until core log row
+    held : (row : Row) → IsHeld (config_seen core.history) core log row → IsInHand (length core.history) (grace_end core) core log row
     held row i =
         record {
-          shown = subst (λ (seen : List Entry). IsShownIn core row.number (file_of (config_seen seen) (documents_seen seen log row))) (sym all) (record { published = i.published; stored = i.file });
-          planned = λ early. subst (λ (seen : List Entry). IsStoredIn core row.number (file_of (config_seen seen) (documents_seen seen log row))) (sym all) i.file;
+          found = subst (λ (seen : List Entry). row_at (rows (history seen)) row.number ≡ Some row) (sym all) i.found;
+          shown = subst (λ (seen : List Entry). IsShownIn core row.number (file_of (config_seen seen) (documents_seen seen log row))) (sym all) i.shown;
+          planned = subst (λ (seen : List Entry). IsPlannedIn core (grace_end core) row.number (file_of (config_seen seen) (documents_seen seen log row))) (sym all) i.planned;
           split = subst (λ (seen : List Entry). AreSplit (config_seen seen) (documents_seen seen log row)) (sym all) i.split;
           facts = subst (λ (seen : List Entry). HasFactsOf (config_seen seen).schema (documents_seen seen log row) row) (sym all) i.facts;
         }
+
+-- and the footers that are kept of them are those of their files
+pub sound_known : (footers : Footers) (core : Core) (log : Log) → IsSoundCore core log → AreKept footers core → AreKnown footers (length core.history) core log
+sound_known footers core log s kept =
+    subst (λ (seen : List Entry). AreKnownBy footers seen log) (sym (take_all (length core.history) core.history (omega arith)))
+    (All-each (IsHeld (config_seen core.history) core log) (IsKnownBy footers core.history log) (published_seen core.history) (λ row i. kept_footer footers core row.number _ kept i.file) (sound_shown core log s).each)
 
 same_config : (o : Option IndexConfig) (one other : IndexConfig) → o ≡ Some one → o ≡ Some other → one ≡ other
 same_config o one other e f = cc

@@ -90,7 +90,7 @@ short_core false client step = refl
 
 pub dropped : (searcher : Searcher) (client : Client) (core : Core) (log : Log) → IsAtWork searcher client core → SearcherStands searcher (without_request client) core log
 dropped searcher client core log w =
-    record { name = w.name; front = w.front; footers = w.footers; request = subst (λ r. IsRequest r no_request core log) (sym w.vacant) refl }
+    record { name = w.name; front = w.front; footers = w.footers; request = subst (λ r. IsRequest searcher.footers r no_request core log) (sym w.vacant) refl }
 
 -- a step that finds no memory ends so
 pub ends_short : (r : Result SearchStep AllocError) (searcher : Searcher) (client : Client) (core : Core) (log : Log) → IsErr r → IsAtWork searcher client core → Ends r searcher (without_memory client core) log

@@ -11,6 +11,7 @@ use Rattle.index_config.specs.declared.config.IndexConfig.{IndexConfig}
 use Rattle.index_world.specs.Config.{reads}
 use Rattle.index_world.specs.Configuration.{configuration}
 use Rattle.source_log.specs.Log.{Log}
+use Rattle.split_states.specs.Rows.{row_at}
 use Rattle.split_states.specs.declared.rows.Row.{Row}
 use Rattle.index_world.specs.Calls.{Fault, Trouble, faulted, no_memory}
 use Rattle.index_world.specs.CallsMade.{CallMade}
@@ -56,9 +57,10 @@ rows_at revision search core = searched (config_at revision core).schema search.
 abbrev pub documents_at : ℕ → Core → Log → Row → List Placed
 documents_at revision core log row = contents (config_at revision core) (ledger reads (history_at revision core)).tasks row log
 
--- A published row's file is the split of its documents, of which the row has the facts. It was shown, and as long as the moment is
--- below this one it stands.
+-- A published row is its number's, and its file is the split of its documents, of which the row has the facts. It was shown, and as
+-- long as the moment is below this one it stands.
 pub record IsInHand (revision until : ℕ) (core : Core) (log : Log) (row : Row) : Type 0 where
+  pub found : row_at (rows (history_at revision core)) row.number ≡ Some row
   pub shown : IsShownIn core row.number (file_of (config_at revision core) (documents_at revision core log row))
   pub planned : IsPlannedIn core until row.number (file_of (config_at revision core) (documents_at revision core log row))
   pub split : AreSplit (config_at revision core) (documents_at revision core log row)
@@ -87,12 +89,21 @@ pub record IsPlanned (given : GivenPlan) (plan : Plan) (core : Core) (log : Log)
   pub parts : AllZip (HasNeeded (config_at plan.revision core).schema given.ask.request) given.parts (map (documents_at plan.revision core log) (take given.next (rows_at plan.revision plan.search core)))
   pub in_hand : AreInHand plan.revision plan.grace.until core log
 
-abbrev pub IsRequest : GivenRequest → Request → Core → Log → Type 0
-IsRequest given.Vacant request core log = request ≡ no_request
-IsRequest (given.Opened text) request core log = request ≡ opened text
-IsRequest (given.Planned search) request core log = (plan : Plan) × (request ≡ planned plan) × IsPlanned search plan core log
+-- A footer that is kept under a row's number is that of its file at the revision. It stays so where the file is gone.
+abbrev pub IsKnownOf : Footers → (revision : ℕ) → Core → Log → Row → Type 0
+IsKnownOf footers revision core log row =
+    (footer : Footer) → Contains (entries footers) (row.number, footer) → IsFooterIn (file_of (config_at revision core) (documents_at revision core log row)) footer
 
--- a footer that is kept is that of the split that was shown under its number
+abbrev pub AreKnown : Footers → (revision : ℕ) → Core → Log → Type 0
+AreKnown footers revision core log = AllByRecursion (IsKnownOf footers revision core log) (published_at revision core)
+
+-- a searcher that keeps these footers holds the client's request
+abbrev pub IsRequest : Footers → GivenRequest → Request → Core → Log → Type 0
+IsRequest footers given.Vacant request core log = request ≡ no_request
+IsRequest footers (given.Opened text) request core log = request ≡ opened text
+IsRequest footers (given.Planned search) request core log = (plan : Plan) × (request ≡ planned plan) × IsPlanned search plan core log × AreKnown footers plan.revision core log
+
+-- a footer that is kept is that of a split that was shown under its number
 pub record IsKept (core : Core) (number : ℕ) (footer : Footer) : Type 0 where
   pub bytes : List ℕ
   pub shown : IsShownIn core number bytes
@@ -106,7 +117,7 @@ pub record SearcherStands (searcher : Searcher) (client : Client) (core : Core) 
   pub name : searcher.client ≡ client.name
   pub front : searcher.front ≡ client.front
   pub footers : AreKept searcher.footers core
-  pub request : IsRequest searcher.request client.request core log
+  pub request : IsRequest searcher.footers searcher.request client.request core log
 
 abbrev pub new_client : List ℕ → Client
 new_client name = record { name = name; front = 0; request = no_request }

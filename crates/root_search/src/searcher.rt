@@ -14,7 +14,7 @@ ghost use Rattle.search_api.specs.declared.unanswered.Unanswered.TheVariants as 
 ghost use Rattle.root_search.specs.Drawing.{NeverFetched, StepDraws};
 ghost use Rattle.root_search.specs.ReadSearches.{IsRead};
 ghost use Rattle.root_search.specs.Requests.{asked_of};
-ghost use Rattle.root_search.specs.Searching.{IsPlanned, SearcherStands, new_client, Submits, SearchesAs, IsAtWork, Ends, FaultEnds, IsRefusalOf};
+ghost use Rattle.root_search.specs.Searching.{AreKnown, IsPlanned, SearcherStands, new_client, Submits, SearchesAs, IsAtWork, Ends, FaultEnds, IsRefusalOf};
 ghost use Rattle.root_search.specs.Leaving.{Restarts, StepLeaves, TakesText, Works};
 ghost use Rattle.root_search.specs.StepPlans.{PlansUnlessShort, StepPlans};
 ghost use Rattle.root_search.specs.StepReads.{FetchesRow, IsFetchRefusal, Refuses, SaysOver, StepAnswers, StepReads, refusal_of};
@@ -320,7 +320,7 @@ impl Searcher {
     ) -> Result<SearchStep, AllocError>
         requires { planned.next < length planned.plan.rows }
         ensures step { (search : steps.Plan) (client : steps.Client) (core : Core) (log : Log) → IsLog log → client.request ≡ steps.planned search →
-            IsPlanned planned search core log → G.Stands gate.old core log → IsAtWork self.old client core →
+            IsPlanned planned search core log → AreKnown self.old.footers search.revision core log → G.Stands gate.old core log → IsAtWork self.old client core →
             SearchesAs G.Stands G.Between G.Adds gate.old result self.new gate.new client core log }
         ensures draws { (search : steps.Plan) (client : steps.Client) (core : Core) (log : Log) → IsPlanned planned search core log →
             G.Stands gate.old core log → IsAtWork self.old client core →
@@ -356,7 +356,7 @@ impl Searcher {
         planned: Planned,
     ) -> Result<SearchStep, AllocError>
         ensures step { (search : steps.Plan) (client : steps.Client) (core : Core) (log : Log) → IsLog log → client.request ≡ steps.planned search →
-            IsPlanned planned search core log → G.Stands gate.old core log → IsAtWork self.old client core →
+            IsPlanned planned search core log → AreKnown self.old.footers search.revision core log → G.Stands gate.old core log → IsAtWork self.old client core →
             SearchesAs G.Stands G.Between G.Adds gate.old result self.new gate.new client core log }
         ensures draws { (search : steps.Plan) (client : steps.Client) (core : Core) (log : Log) → IsPlanned planned search core log →
             G.Stands gate.old core log → IsAtWork self.old client core →

@@ -1,4 +1,4 @@
-use Rattle.std.proofs.Common.{◌≡◌, ◌+◌, [], ◌∷◌, refl, sym, ap, ◌∙◌, subst, arith}
+use Rattle.std.proofs.Common.{◌≡◌, ℕ, ◌+◌, List, [], ◌∷◌, refl, sym, ap, ◌∙◌, subst, arith}
 use Rattle.std.specs.Prelude.{Ok, Err}
 use Rattle.meta_journal.specs.Journal.{Numbered, place_appended, next_appended}
 use Rattle.meta_store.specs.Answers.{answer_to}
@@ -7,6 +7,7 @@ use Rattle.meta_store.specs.History.History.{Start}
 use Rattle.meta_store.specs.State.{State, state_of}
 use Rattle.object_store.proofs.Told.{told_map}
 use Rattle.index_world.specs.Config.{reads}
+use Rattle.index_world.specs.Core.{Marking, taken_at, is_in}
 use Rattle.index_world.specs.Taking.{IsFaultBetween}
 use Rattle.index_world.specs.Unsure.{is_unsure}
 use Rattle.index_world.proofs.Configured.{kept_schema, taken_some}
@@ -53,6 +54,8 @@ returns-in-Ok-append-clause-knows g c =
       unsure = ap is_unsure (c.append.ensures.place ∙ ap place_appended said);
       moment = refl;
       meta = first_state c.args.entry c.args.reading c.in-Ok.handed _ _ _ c.apply.ensures c.in-Ok.ensures.handed c.prepare.ensures.same (c.vacant-meta.ensures reads) c.requires.read;
+      marks = λ n. ap (λ (ms : List Marking). taken_at ms n) c.new.ensures.items;
+      doomed = λ n. ap (λ (ns : List ℕ). is_in ns n) c.vacant.ensures;
     }
 
 pub returns-in-Ok-append-clause-answer : goal.returns-in-Ok-append-clause-answer

@@ -39,7 +39,8 @@ returns-in-Ok-state_of-clause-opened g c =
     let some : 0 < length c.in-Ok.entries = some_entry c.in-Ok.entries (λ none. true_is_false (sym (c.is_empty.ensures.1 none) ∙ c.if-is_empty.false)) in
     told_map _ _ (opens_life c.in-Ok.entries (g.S.ObjectStore.fault_count c.args.store.now) (g.S.ObjectStore.fault_count c.load-answer.new.store) _ some (subst (λ (es : List Entry). first_refused Start es ≡ None) c.into_vec.ensures c.in-Ok-state_of.ensures.fit) j
     (c.in-Ok-state_of.ensures.state ∙ ap (λ (es : List Entry). state_of reads (history es)) c.into_vec.ensures)
-    (λ timely. c.in-Ok-state_of.ensures.greatest (subst AreTimely (sym c.into_vec.ensures) timely) ∙ ap (λ (es : List Entry). moment_of (history es)) c.into_vec.ensures))
+    (λ timely. c.in-Ok-state_of.ensures.greatest (subst AreTimely (sym c.into_vec.ensures) timely) ∙ ap (λ (es : List Entry). moment_of (history es)) c.into_vec.ensures)
+    (c.new.ensures.items, c.vacant.ensures))
     (loads_ok_at _ _ _ _ _ said c.load-answer.ensures.answer)
 
 pub returns-in-Err-clause-opened : goal.returns-in-Err-clause-opened
@@ -78,6 +79,7 @@ returns-in-Ok-state_of-clause-step g c old core log e at w clock =
     opening_ok old core log _ _ _ _ e w at c.load-answer.ensures.later (omega (arith, counts, fits)) c.in-Ok.entries l _ clock some j
     (c.in-Ok-state_of.ensures.state ∙ ap (λ (es : List Entry). state_of reads (history es)) c.into_vec.ensures)
     (c.in-Ok-state_of.ensures.greatest (subst AreTimely (sym c.into_vec.ensures) timely) ∙ ap (λ (es : List Entry). moment_of (history es)) c.into_vec.ensures)
+    (c.new.ensures.items, c.vacant.ensures)
 
 pub returns-in-Err-clause-step : goal.returns-in-Err-clause-step
 returns-in-Err-clause-step g c old core log e at w clock =

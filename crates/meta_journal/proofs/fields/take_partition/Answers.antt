@@ -1,5 +1,3 @@
-use Rattle.std.proofs.Common.{sym, subst}
-use Rattle.meta_journal.specs.Reading.{partition_at}
 use Rattle.meta_journal.proofs.Names.{partition_read, partition_refused}
 use Rattle.meta_journal.proofs.fields.take_partition.Goals as goal
 

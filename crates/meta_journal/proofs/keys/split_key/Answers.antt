@@ -1,4 +1,4 @@
-use Rattle.std.proofs.Common.{List, ℕ, ◌∙◌, sym, subst}
+use Rattle.std.proofs.Common.{◌∙◌, sym, subst}
 use Rattle.object_store.specs.Key.{IsKey}
 use Rattle.meta_journal.proofs.Digits.{split_key_is, split_text}
 use Rattle.meta_journal.proofs.keys.split_key.Goals as goal

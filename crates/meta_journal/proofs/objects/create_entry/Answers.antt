@@ -1,4 +1,4 @@
-use Rattle.std.proofs.Common.{Err, ◌∙◌, sym}
+use Rattle.std.proofs.Common.{Err}
 use Rattle.object_store.specs.declared.store.CreateError.TheVariants as creates
 use Rattle.meta_journal.specs.Journal.{Tries}
 use Rattle.meta_journal.proofs.Calls.{told_same, memory_tried}

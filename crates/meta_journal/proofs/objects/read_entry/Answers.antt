@@ -1,5 +1,4 @@
 use Rattle.std.proofs.Common.{◌≡◌, ◌∙◌, List, ℕ, Ok, Err, ap, sym, subst}
-use Rattle.object_store.specs.declared.store.GetError.TheVariants as gets
 use Rattle.object_store.specs.Store.{LandsThen, Gets}
 use Rattle.object_store.proofs.Told.{told_map, told_then}
 use Rattle.meta_journal.specs.declared.journal_error.JournalError.TheVariants.{StoreFault}

@@ -1,5 +1,4 @@
-use Rattle.std.proofs.Common.{◌<◌, ◌-◌, ◌^◌, List, ℕ, length, ap, sym, subst, arith}
-use Rattle.object_store.specs.declared.store.GetError.TheVariants as gets
+use Rattle.std.proofs.Common.{◌<◌, ◌-◌, ◌^◌, List, ℕ, length, subst, arith}
 use Rattle.object_store.proofs.Told.{told_map}
 use Rattle.meta_journal.specs.declared.journal_error.JournalError.TheVariants.{Memory, StoreFault}
 use Rattle.meta_journal.specs.Journal.{DecodesTo}

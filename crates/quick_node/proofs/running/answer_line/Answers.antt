@@ -16,7 +16,7 @@ pub returns-in_err-said-clause-takes : goal.returns-in_err-said-clause-takes
 returns-in_err-said-clause-takes g c firsts mid text number held stands spells taken told =
     let d = c.in_err-said.ensures.does firsts mid stands spells.formed in
     short_takes _ text number mid held (g.W.Sink.content c.args.output.now) (g.W.Sink.fault_count c.args.output.now) (g.W.Sink.fault_count c.args.output.now) _ c.from_residual.ensures.0 told
-    (inr (d.outcome, did_line g.L.SourceLog.told g.L.SourceLog.fault_count g.L.SourceLog.since firsts mid (seen c.args.line.now) c.step.new.self text spells taken _ d))
+    (inr (d.outcome, did_line g.L.SourceLog.told g.L.SourceLog.fault_count g.L.SourceLog.since firsts mid (seen c.args.line.now) c.args.node.now c.step.new.self stands text spells taken _ d))
 
 pub returns-in_err-push-clause-counted : goal.returns-in_err-push-clause-counted
 returns-in_err-push-clause-counted g c = omega arith
@@ -25,14 +25,14 @@ pub returns-in_err-push-clause-takes : goal.returns-in_err-push-clause-takes
 returns-in_err-push-clause-takes g c firsts mid text number held stands spells taken told =
     let d = c.in_ok-said.ensures.does firsts mid stands spells.formed in
     short_takes _ text number mid held (g.W.Sink.content c.args.output.now) (g.W.Sink.fault_count c.args.output.now) (g.W.Sink.fault_count c.args.output.now) _ c.from_residual-in_err-push.ensures.0 told
-    (inr (d.outcome, did_line g.L.SourceLog.told g.L.SourceLog.fault_count g.L.SourceLog.since firsts mid (seen c.args.line.now) c.step.new.self text spells taken _ d))
+    (inr (d.outcome, did_line g.L.SourceLog.told g.L.SourceLog.fault_count g.L.SourceLog.since firsts mid (seen c.args.line.now) c.args.node.now c.step.new.self stands text spells taken _ d))
 
 pub returns-in-Ok-clause-counted : goal.returns-in-Ok-clause-counted
 returns-in-Ok-clause-counted g c = c.write_all.ensures.cause.later
 
 pub returns-in-Ok-clause-takes : goal.returns-in-Ok-clause-takes
 returns-in-Ok-clause-takes g c firsts mid text number held stands spells taken told =
-    let s = said_line g.L.SourceLog.told g.L.SourceLog.fault_count g.L.SourceLog.since firsts mid (seen c.args.line.now) c.step.new.self text spells taken c.in_ok-said.field-0
+    let s = said_line g.L.SourceLog.told g.L.SourceLog.fault_count g.L.SourceLog.since firsts mid (seen c.args.line.now) c.args.node.now c.step.new.self stands text spells taken c.in_ok-said.field-0
     (c.in_ok-said.ensures.does firsts mid stands spells.formed) in
     let w = c.in-Ok.ensures.writes held told in
     (s.0, s.1, w.2 ∙ ap (λ l. Some (held ++ l)) (sym (append-nil w.0) ∙ ap (λ r. w.0 ++ r) (sym w.4) ∙ sym w.3 ∙ c.as_slice.ensures ∙ c.in_ok-push.ensures.ok ∙ s.2))
@@ -42,7 +42,7 @@ returns-clause-counted g c = c.write_all.ensures.cause.later
 
 pub returns-clause-takes : goal.returns-clause-takes
 returns-clause-takes g c firsts mid text number held stands spells taken told =
-    let s = said_line g.L.SourceLog.told g.L.SourceLog.fault_count g.L.SourceLog.since firsts mid (seen c.args.line.now) c.step.new.self text spells taken c.in_ok-said.field-0
+    let s = said_line g.L.SourceLog.told g.L.SourceLog.fault_count g.L.SourceLog.since firsts mid (seen c.args.line.now) c.args.node.now c.step.new.self stands text spells taken c.in_ok-said.field-0
     (c.in_ok-said.ensures.does firsts mid stands spells.formed) in
     let w = c.in-Err.ensures.writes held told in
     (s.0, s.1, (w.0, w.1, w.2, sym s.2 ∙ sym c.in_ok-push.ensures.ok ∙ sym c.as_slice.ensures ∙ w.3), c.in-Err.ensures.cause.failed refl)

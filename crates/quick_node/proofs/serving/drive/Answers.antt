@@ -10,7 +10,7 @@ use Rattle.index_world.specs.Opened.{OpensNot}
 use Rattle.quick_node.specs.Opening.{outside_of}
 use Rattle.quick_node.specs.Serve.{Opens}
 use Rattle.quick_node.specs.declared.error_line.End.TheVariants as ended
-use Rattle.quick_node.proofs.Driven.{new_moment, new_sure, new_unmarked, opened_counts, begins, kept_logs, returned}
+use Rattle.quick_node.proofs.Driven.{new_moment, new_sure, new_unmarked, new_undoomed, opened_counts, begins, begins_along, unopened_along, kept_logs, returned}
 use Rattle.quick_node.proofs.Finding.{opened_found}
 use Rattle.quick_node.proofs.UpToLast.{met_unopened}
 use Rattle.quick_node.specs.Causes.{faults_of}
@@ -30,7 +30,8 @@ returns-in-Ok-clause-drives g c history before shows enters =
     c.in-Ok.ensures.step before.kept fresh.core before.log shows.kept (shows.store_faults ∙ sym count) (ap Some (c.at.ensures ∙ sym clock)) (omega (arith, clock)) (ap (λ n. n.core.frozen) b.is.is) b.world in
     let opened : Node = record fresh { core = l.after } in
     let opens : Opens fresh (Ok tt) opened = record { fate = l.loads.fate; core = l.after; did = l.loads.did; is = refl } in
-    c.drive_world.ensures.drives history before fresh opened b.is opens l.stands enters.is_log shows.logs_show shows.streams_show
+    c.drive_world.ensures.drives history before fresh opened b.is opens
+    (begins_along history before fresh b.is enters.is_log b.world l.loads.fate (Ok tt) l.stands.kept l.after l.loads.did l.stands.world) l.stands enters.is_log shows.logs_show shows.streams_show
 
 pub returns-in-Err-clause-drives : goal.returns-in-Err-clause-drives
 returns-in-Err-clause-drives g c history before shows enters =
@@ -45,7 +46,8 @@ returns-in-Err-clause-drives g c history before shows enters =
     let opens : Opens fresh (Err l.unread) last = record { fate = l.loads.fate; core = l.after; did = l.loads.did; is = refl } in
     returned g.S.ObjectStore.told g.S.ObjectStore.fault_count g.L.SourceLog.fault_count g.L.SourceLog.since g.R.Source.left g.R.Source.fault_count g.W.Sink.content g.W.Sink.fault_count
     history before fresh last b.is enters.is_log (ended.NotOpened c.in-Err.field-0.error) (g.R.Source.left c.args.input.now) (g.R.Source.fault_count c.args.input.now) (g.W.Sink.fault_count c.args.output.now) []
-    (met_unopened before fresh last (new_moment history before fresh b.is) (new_sure history before fresh b.is) (new_unmarked history before fresh b.is) (g.R.Source.left c.args.input.now) (g.R.Source.fault_count c.args.input.now) (g.W.Sink.fault_count c.args.output.now)
+    (met_unopened before fresh last (new_moment history before fresh b.is) (new_sure history before fresh b.is) (new_unmarked history before fresh b.is) (new_undoomed history before fresh b.is)
+    (unopened_along history before fresh b.is enters.is_log b.world l.loads.fate (Err l.unread) l.kept l.after l.loads.did l.world) (g.R.Source.left c.args.input.now) (g.R.Source.fault_count c.args.input.now) (g.W.Sink.fault_count c.args.output.now)
     c.in-Err.field-0.error l.unread l.says opens)
     c.ended.result.0.store c.ended.result.0.store_faults c.ended.result.0.log_faults c.ended.result.0.status c.args.logs.items c.args.input.now c.ended.new.output
     l.kept (ap g.S.ObjectStore.told c.ended.ensures.store ∙ l.tells) (ap g.S.ObjectStore.fault_count c.ended.ensures.store ∙ sym c.ended.ensures.store_faults) l.world (sym (c.ended.ensures.store_faults ∙ l.counts))

@@ -17,7 +17,7 @@ use Rattle.quick_node.proofs.Caused.{run_causes}
 use Rattle.quick_node.proofs.serving.drive_node.Goals as goal
 
 pub returns-clause-drives : goal.returns-clause-drives
-returns-clause-drives g c history before firsts fresh opened is opens stands streams =
+returns-clause-drives g c history before firsts fresh opened is opens begun stands streams =
     let Stands : Node → Type 0 = λ n. NodeStands g.L.SourceLog.told g.L.SourceLog.fault_count g.L.SourceLog.since firsts c.run-end.new.node n in
     let content = g.W.Sink.content c.run-end.new.output in
     let left = g.R.Source.left c.run-end.new.input in
@@ -31,7 +31,7 @@ returns-clause-drives g c history before firsts fresh opened is opens stands str
     let log = run_log (length before.log_faults) before.input r.end opened r.last r.lines r.outcomes r.did ∙ opened_log history before fresh is (Ok tt) opened opens in
     returned g.S.ObjectStore.told g.S.ObjectStore.fault_count g.L.SourceLog.fault_count g.L.SourceLog.since g.R.Source.left g.R.Source.fault_count g.W.Sink.content g.W.Sink.fault_count
     history before fresh r.last is is_log c.run-end.result left (g.R.Source.fault_count c.run-end.new.input) (g.W.Sink.fault_count c.run-end.new.output) r.text
-    (met_run before fresh opened opens Stands content left counts c.run-end.result streams.read_faults streams.write_faults r)
+    (met_run before fresh opened opens begun Stands content left counts c.run-end.result streams.read_faults streams.write_faults r)
     c.ended.result.0.store c.ended.result.0.store_faults c.ended.result.0.log_faults c.ended.result.0.status firsts c.run-end.new.input c.ended.new.output
     given.kept (ap g.S.ObjectStore.told c.ended.ensures.store ∙ given.tells) (ap g.S.ObjectStore.fault_count c.ended.ensures.store ∙ sym c.ended.ensures.store_faults) (subst (λ l. IsWorld given.kept r.last.core l) log given.world)
     (sym (c.ended.ensures.store_faults ∙ given.faults))

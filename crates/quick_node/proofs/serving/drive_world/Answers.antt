@@ -12,21 +12,21 @@ use Rattle.quick_node.proofs.Caused.{run_causes}
 use Rattle.quick_node.proofs.serving.drive_world.Goals as goal
 
 pub returns-in-Ok-clause-drives : goal.returns-in-Ok-clause-drives
-returns-in-Ok-clause-drives g c history before fresh opened is opens world is_log logs streams =
+returns-in-Ok-clause-drives g c history before fresh opened is opens begun world is_log logs streams =
     let same : fresh_node opened.core before.log (map g.L.SourceLog.fault_count c.args.logs.items) ≡ opened =
     ap (fresh_node opened.core before.log) logs.log_faults ∙ sym (opened_is history before fresh is (Ok tt) opened opens) in
-    c.drive_node.ensures.drives history before c.args.logs.items fresh opened is opens
+    c.drive_node.ensures.drives history before c.args.logs.items fresh opened is opens begun
     (subst (λ n. NodeStands g.L.SourceLog.told g.L.SourceLog.fault_count g.L.SourceLog.since c.args.logs.items c.in-Ok.node n) same
     (c.in-Ok.ensures.ok opened.core before.log world (opened_clock history before fresh is (Ok tt) opened opens) is_log logs.log))
     streams
 
 pub returns-in-Err-clause-drives : goal.returns-in-Err-clause-drives
-returns-in-Err-clause-drives g c history before fresh opened is opens world is_log logs streams =
+returns-in-Err-clause-drives g c history before fresh opened is opens begun world is_log logs streams =
     let same = c.in-Err.ensures.err in
     let counts : log_counts opened.indexers ≡ before.log_faults = opened_counts history before fresh is (Ok tt) opened opens in
     returned g.S.ObjectStore.told g.S.ObjectStore.fault_count g.L.SourceLog.fault_count g.L.SourceLog.since g.R.Source.left g.R.Source.fault_count g.W.Sink.content g.W.Sink.fault_count
     history before fresh opened is is_log ended.Memory (g.R.Source.left c.args.input.now) (g.R.Source.fault_count c.args.input.now) (g.W.Sink.fault_count c.args.output.now) []
-    (met_unstarted before fresh opened opens (g.R.Source.left c.args.input.now) (g.R.Source.fault_count c.args.input.now) (g.W.Sink.fault_count c.args.output.now))
+    (met_unstarted before fresh opened opens begun (g.R.Source.left c.args.input.now) (g.R.Source.fault_count c.args.input.now) (g.W.Sink.fault_count c.args.output.now))
     c.ended.result.0.store c.ended.result.0.store_faults c.ended.result.0.log_faults c.ended.result.0.status c.args.logs.items c.args.input.now c.ended.new.output
     world.kept (ap g.S.ObjectStore.told c.ended.ensures.store ∙ c.unload-store.ensures.told ∙ ap (λ w. w.told) same.0 ∙ world.told) (ap g.S.ObjectStore.fault_count c.ended.ensures.store ∙ sym c.ended.ensures.store_faults) world.world
     (sym (c.ended.ensures.store_faults ∙ c.unload-store.ensures.faults ∙ ap (λ w. w.store_faults) same.0 ∙ world.store_faults))

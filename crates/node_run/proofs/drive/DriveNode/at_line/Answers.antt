@@ -3,7 +3,8 @@ use Rattle.std.specs.Prelude.{Some}
 use Rattle.node_run.specs.Node as said
 use Rattle.node_run.specs.Turns.{calm}
 use Rattle.node_run.proofs.Parts.{most_done}
-use Rattle.node_run.proofs.Parts.{clock_parts, stands_along, clocked}
+use Rattle.index_world.proofs.Gates.{clocked}
+use Rattle.node_run.proofs.Parts.{clock_parts, stands_along}
 use Rattle.node_run.proofs.drive.DriveNode.at_line.Goals as goal
 use Rattle.node_run.proofs.drive.DriveNode.at_line.Goals.{then-moment-lt-MOMENT_END, else-moment-lt-MOMENT_END}
 

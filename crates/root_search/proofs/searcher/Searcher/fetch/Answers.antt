@@ -1,21 +1,22 @@
-use Rattle.std.proofs.Common.{◌≡◌, ◌+◌, ℕ, length, nat_eq, refl, sym, ap, subst, ◌∙◌, Ok, false, map, drop, arith}
+use Rattle.std.proofs.Common.{◌≡◌, ◌+◌, ℕ, List, length, nat_eq, refl, sym, ap, subst, ◌∙◌, Ok, false, map, drop, arith}
 use Rattle.std.specs.Map.{lookup}
 use Rattle.index_world.specs.Gate.{grace_of}
 use Rattle.index_world.specs.Core.{IsStoredIn, Nobody}
-use Rattle.index_world.proofs.InCore.{shown_goes}
+use Rattle.index_world.proofs.InCore.{shown_goes, stored_is_shown}
 use Rattle.meta_store.specs.declared.planning.PlanRow.{PlanRow}
 use Rattle.split_bundle.specs.Files.{file_bytes}
 use Rattle.root_search.specs.Fetching.{IsPartFetched, part_calls}
 use Rattle.root_search.specs.Footers.{entries}
+use Rattle.root_search.specs.SplitParts.{IsFooterIn}
 use Rattle.root_search.specs.Searching.{Ends, FaultEnds, documents_at}
 use Rattle.root_search.specs.Steps.{config_at, fetch_by, or_short}
 use Rattle.root_search.specs.declared.outcome.SearchStep.TheVariants.{Fetched}
 use Rattle.root_search.specs.declared.searcher.Searcher.{Searcher}
 use Rattle.root_search.proofs.Fetches.{graced}
 use Rattle.root_search.proofs.Bounds.{fetched_one, no_answer, no_draw, step_draws}
-use Rattle.root_search.proofs.Kept.{fewer_kept, known_footer, more_kept, same_bytes, same_row}
-use Rattle.root_search.proofs.PlannedRows.{file_of_next, next_row, planned_few, one_more}
-use Rattle.root_search.proofs.Stands.{configured_then, footers_go_on, work_goes_on}
+use Rattle.root_search.proofs.Kept.{fewer_kept, kept_footer, known_footer, more_kept, same_row}
+use Rattle.root_search.proofs.PlannedRows.{fewer_known, file_of_next, more_known, next_footer, next_row, planned_few, one_more}
+use Rattle.root_search.proofs.Stands.{configured_then, footers_go_on, known_goes_on, work_goes_on}
 use Rattle.root_search.proofs.Steps.{fault_as, fetched_as, short_as}
 use Rattle.root_search.specs.FetchCalls.{IsNoPart, IsPartRead}
 use Rattle.root_search.specs.StepReads.{IsFetchRefusal, Refuses}
@@ -24,7 +25,7 @@ use Rattle.root_search.proofs.RowReads.{never_corrupt, row_read, row_refused, ro
 use Rattle.root_search.proofs.searcher.Searcher.fetch.Goals as goal
 
 pub returns-in_err-later-in-Ok-clause-step : goal.returns-in_err-later-in-Ok-clause-step
-returns-in_err-later-in-Ok-clause-step g c plan client core log good asked planned stands w =
+returns-in_err-later-in-Ok-clause-step g c plan client core log good asked planned seen stands w =
     let row = c.at.result.now in
     let next = next_row c.args.planned plan core log row planned c.at.ensures in
     let left = map (λ (r : PlanRow). r.number) (drop (c.args.planned.next + 1) c.args.planned.plan.rows) in
@@ -32,7 +33,7 @@ returns-in_err-later-in-Ok-clause-step g c plan client core log good asked plann
     let docs = documents_at plan.revision core log next.row in
     let p = next.split.stands.parts in
     let there = file_of_next c.args.planned plan core log row p next c.at.ensures next.split.stands.bytes_are in
-    let known = known_footer c.args.self.now.footers core row.number (file_bytes p) c.take-known.result w.footers there.0 c.take-known.ensures.found in
+    let known = known_footer c.args.self.now.footers row.number (file_bytes p) c.take-known.result (next_footer c.args.self.now.footers c.args.planned plan core log row.number row.size (file_bytes p) seen next next.split.stands.bytes_are) c.take-known.ensures.found in
     let f = graced _ _ _ _ _ _ _ _ _ _ _ _ _ (sym planned.grace) (c.in-Ok.ensures.step (config_at plan.revision core) docs p core log stands configured there.1 next.split.stands.is_split planned.asked known) in
     let kept = more_kept c.take-known.new.self c.keep.new.self f.after row.number c.in-Ok.part.footer c.keep.ensures (record { bytes = file_bytes p; shown = shown_goes Nobody core f.after row.number (file_bytes p) f.goes_on.always there.0; footer_is = f.says.1.footer })
     (footers_go_on Nobody c.take-known.new.self core f.after f.goes_on.always (fewer_kept c.args.self.now.footers c.take-known.new.self core row.number c.take-known.ensures.left w.footers)) in
@@ -44,7 +45,7 @@ returns-in_err-later-in-Ok-clause-draws g c plan client core log planned stands 
     absurd (no_answer c.from_residual.result (Fetched number) c.from_residual.ensures.0 fetched)
 
 pub returns-in_ok-later-in-Ok-clause-step : goal.returns-in_ok-later-in-Ok-clause-step
-returns-in_ok-later-in-Ok-clause-step g c plan client core log good asked planned stands w =
+returns-in_ok-later-in-Ok-clause-step g c plan client core log good asked planned seen stands w =
     let row = c.at.result.now in
     let next = next_row c.args.planned plan core log row planned c.at.ensures in
     let left = map (λ (r : PlanRow). r.number) (drop (c.args.planned.next + 1) c.args.planned.plan.rows) in
@@ -52,7 +53,7 @@ returns-in_ok-later-in-Ok-clause-step g c plan client core log good asked planne
     let docs = documents_at plan.revision core log next.row in
     let p = next.split.stands.parts in
     let there = file_of_next c.args.planned plan core log row p next c.at.ensures next.split.stands.bytes_are in
-    let known = known_footer c.args.self.now.footers core row.number (file_bytes p) c.take-known.result w.footers there.0 c.take-known.ensures.found in
+    let known = known_footer c.args.self.now.footers row.number (file_bytes p) c.take-known.result (next_footer c.args.self.now.footers c.args.planned plan core log row.number row.size (file_bytes p) seen next next.split.stands.bytes_are) c.take-known.ensures.found in
     let f = graced _ _ _ _ _ _ _ _ _ _ _ _ _ (sym planned.grace) (c.in-Ok.ensures.step (config_at plan.revision core) docs p core log stands configured there.1 next.split.stands.is_split planned.asked known) in
     let kept = more_kept c.take-known.new.self c.keep.new.self f.after row.number c.in-Ok.part.footer c.keep.ensures (record { bytes = file_bytes p; shown = shown_goes Nobody core f.after row.number (file_bytes p) f.goes_on.always there.0; footer_is = f.says.1.footer })
     (footers_go_on Nobody c.take-known.new.self core f.after f.goes_on.always (fewer_kept c.args.self.now.footers c.take-known.new.self core row.number c.take-known.ensures.left w.footers)) in
@@ -69,6 +70,9 @@ returns-in_ok-later-in-Ok-clause-step g c plan client core log good asked planne
           record plan { unfetched = left },
           refl,
           one_more c.args.planned _ plan core f.after log row.number row.size c.in-Ok.part planned next f.goes_on.always c.in_ok-later-in-Ok.ensures.ask c.in_ok-later-in-Ok.ensures.plan (omega (arith, c.in_ok-later-in-Ok.ensures.next, c.requires, many)) c.in_ok-later-in-Ok.ensures.parts f.says.1.needed,
+          known_goes_on Nobody c.keep.new.self core f.after log plan.revision f.goes_on.always planned.in_hand.within
+              (more_known c.take-known.new.self c.keep.new.self c.args.planned plan core log row.number row.size c.in-Ok.part.footer planned next c.keep.ensures (subst (λ (bytes : List ℕ). IsFooterIn bytes c.in-Ok.part.footer) (sym next.split.stands.bytes_are) f.says.1.footer)
+              (fewer_known c.args.self.now.footers c.take-known.new.self plan.revision core log row.number c.take-known.ensures.left seen)),
         );
       };
     })) f.made f.own f.recorded
@@ -79,14 +83,15 @@ returns-in_ok-later-in-Ok-clause-draws g c plan client core log planned stands w
     let next = next_row c.args.planned plan core log row planned c.at.ensures in
     let configured = configured_then core log plan.revision plan.grace.until (g.met.G.Gate.is_sound c.args.gate.now core log stands) planned.in_hand in
     let same : row.number ≡ number = fetched_one row.number number _ refl fetched in
-    let there = file_of_next c.args.planned plan core log row p next c.at.ensures (same_bytes core row.number _ (file_bytes p) next.shown (subst (λ (n : ℕ). IsStoredIn core n (file_bytes p)) (sym same) uploaded)) in
-    let known = known_footer c.args.self.now.footers core row.number (file_bytes p) c.take-known.result w.footers there.0 c.take-known.ensures.found in
+    let stored = subst (λ (n : ℕ). IsStoredIn core n (file_bytes p)) (sym same) uploaded in
+    let there = file_of_next c.args.planned plan core log row p next c.at.ensures (sym (stored_is_shown core row.number (file_bytes p) _ stored next.shown)) in
+    let known = known_footer c.args.self.now.footers row.number (file_bytes p) c.take-known.result (kept_footer c.args.self.now.footers core row.number (file_bytes p) w.footers stored) c.take-known.ensures.found in
     let f = graced _ _ _ _ _ _ _ _ _ _ _ _ _ (sym planned.grace) (c.in-Ok.ensures.step (config_at plan.revision core) documents p core log stands configured there.1 is planned.asked known) in
     step_draws c.args.self.now (config_at plan.revision core).schema plan.search c.args.planned.ask c.take-known.result number documents p c.in-Ok.part.footer f.drawn _ _ is (f.says.1.footer (config_at plan.revision core).schema documents p is refl) planned.asks planned.asked f.says.1.draws f.count
     (c.take-known.ensures.found ∙ ap (λ (n : ℕ). lookup (nat_eq n) (entries c.args.self.now.footers)) same)
 
 pub returns-in-Err-clause-step : goal.returns-in-Err-clause-step
-returns-in-Err-clause-step g c plan client core log good asked planned stands w =
+returns-in-Err-clause-step g c plan client core log good asked planned seen stands w =
     let row = c.at.result.now in
     let next = next_row c.args.planned plan core log row planned c.at.ensures in
     let left = map (λ (r : PlanRow). r.number) (drop (c.args.planned.next + 1) c.args.planned.plan.rows) in
@@ -94,7 +99,7 @@ returns-in-Err-clause-step g c plan client core log good asked planned stands w 
     let docs = documents_at plan.revision core log next.row in
     let p = next.split.stands.parts in
     let there = file_of_next c.args.planned plan core log row p next c.at.ensures next.split.stands.bytes_are in
-    let known = known_footer c.args.self.now.footers core row.number (file_bytes p) c.take-known.result w.footers there.0 c.take-known.ensures.found in
+    let known = known_footer c.args.self.now.footers row.number (file_bytes p) c.take-known.result (next_footer c.args.self.now.footers c.args.planned plan core log row.number row.size (file_bytes p) seen next next.split.stands.bytes_are) c.take-known.ensures.found in
     let f = graced _ _ _ _ _ _ _ _ _ _ _ _ _ (sym planned.grace) (c.in-Err.ensures.step (config_at plan.revision core) docs p core log stands configured there.1 next.split.stands.is_split planned.asked known) in
     let ends = c.refuse_fetch.ensures.step client f.after log (work_goes_on _ client core f.after f.goes_on.always (record { vacant = w.vacant; name = w.name; front = w.front; footers = fewer_kept c.args.self.now.footers c.take-known.new.self core row.number c.take-known.ensures.left w.footers })) in
     fault_as g.G.Gate.Stands g.G.Gate.Between g.G.Gate.Adds c.args.gate.now _ _ _ client core log g.G.Gate.bytes_fetched (IsPartFetched (config_at plan.revision core).schema c.args.planned.ask.request c.take-known.result docs p (part_calls c.take-known.result)) c.in-Err.fault plan row.number left

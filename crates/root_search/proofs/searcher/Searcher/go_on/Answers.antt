@@ -26,13 +26,13 @@ pub answer_over-requires-clause-intervals : goal.answer_over-requires-clause-int
 answer_over-requires-clause-intervals g c = λ lifetimes there. intervals_there c.args.planned.ask.request.aggs c.args.planned.intervals
 
 pub returns-in-Err-clause-step : goal.returns-in-Err-clause-step
-returns-in-Err-clause-step g c plan client core log good asked planned stands w =
+returns-in-Err-clause-step g c plan client core log good asked planned known stands w =
     let over : length c.args.planned.plan.rows ≤ c.args.planned.next = omega (arith, c.len.ensures, c.if-planned-len.false) in
     answered_as g.G.Gate.Stands g.G.Gate.Between g.G.Gate.Adds c.args.gate.now _ _ _ client core log plan true (g.met.G.Gate.none_between core) (g.met.G.Gate.adds_none c.args.gate.now) stands asked (all_fetched c.args.planned plan core log planned over)
     (ends_without (Err c.in-Err.refused) c.args.self.now client (reply_with plan.revision (answer_of plan log core) client core) log refl w)
 
 pub returns-in-Ok-clause-step : goal.returns-in-Ok-clause-step
-returns-in-Ok-clause-step g c plan client core log good asked planned stands w =
+returns-in-Ok-clause-step g c plan client core log good asked planned known stands w =
     let over : length c.args.planned.plan.rows ≤ c.args.planned.next = omega (arith, c.len.ensures, c.if-planned-len.false) in
     let lists = map (documents_at plan.revision core log) (rows_at plan.revision plan.search core) in
     let config = config_then core log c.config.result.now plan.revision plan.grace.until (g.met.G.Gate.is_sound c.args.gate.now core log stands) (c.config.ensures.step core log stands) planned.in_hand in

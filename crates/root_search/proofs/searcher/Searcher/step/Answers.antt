@@ -15,11 +15,11 @@ use Rattle.root_search.proofs.searcher.Searcher.step.Goals as goal
 pub returns-in-Vacant-clause-step : goal.returns-in-Vacant-clause-step
 returns-in-Vacant-clause-step g c client core log good stands s =
     let was : c.args.self.now.request ≡ Vacant = sym c.replace.ensures.value ∙ c.in-Vacant.is in
-    let none : client.request ≡ no_request = subst (λ r. IsRequest r client.request core log) was s.request in
+    let none : client.request ≡ no_request = subst (λ r. IsRequest c.args.self.now.footers r client.request core log) was s.request in
     idle_as g.G.Gate.Stands g.G.Gate.Between g.G.Gate.Adds c.args.gate.now _ _ _ client core log (g.met.G.Gate.none_between core) (g.met.G.Gate.adds_none c.args.gate.now) stands none
     (record {
       says = refl;
-      stands = record { name = s.name; front = s.front; footers = s.footers; request = subst (λ r. IsRequest r client.request core log) (sym c.replace.ensures.after) none };
+      stands = record { name = s.name; front = s.front; footers = s.footers; request = subst (λ r. IsRequest c.args.self.now.footers r client.request core log) (sym c.replace.ensures.after) none };
     })
 
 pub returns-in-Vacant-clause-draws : goal.returns-in-Vacant-clause-draws
@@ -28,25 +28,25 @@ returns-in-Vacant-clause-draws g c plan client core log asked stands s number do
 pub returns-in-Opened-clause-step : goal.returns-in-Opened-clause-step
 returns-in-Opened-clause-step g c client core log good stands s =
     let was : c.args.self.now.request ≡ Opened c.in-Opened.text = sym c.replace.ensures.value ∙ c.in-Opened.is in
-    let asked : client.request ≡ opened c.in-Opened.text = subst (λ r. IsRequest r client.request core log) was s.request in
+    let asked : client.request ≡ opened c.in-Opened.text = subst (λ r. IsRequest c.args.self.now.footers r client.request core log) was s.request in
     c.plan.ensures.step client core log asked stands (record { vacant = c.replace.ensures.after; name = s.name; front = s.front; footers = s.footers })
 
 pub returns-in-Opened-clause-draws : goal.returns-in-Opened-clause-draws
 returns-in-Opened-clause-draws g c plan client core log asked stands s =
     let was : c.args.self.now.request ≡ Opened c.in-Opened.text = sym c.replace.ensures.value ∙ c.in-Opened.is in
-    let other : client.request ≡ opened c.in-Opened.text = subst (λ r. IsRequest r client.request core log) was s.request in
+    let other : client.request ≡ opened c.in-Opened.text = subst (λ r. IsRequest c.args.self.now.footers r client.request core log) was s.request in
     absurd (cc)
 
 pub returns-in-Planned-clause-step : goal.returns-in-Planned-clause-step
 returns-in-Planned-clause-step g c client core log good stands s =
     let was : c.args.self.now.request ≡ Planned c.in-Planned.planned = sym c.replace.ensures.value ∙ c.in-Planned.is in
-    let held = subst (λ r. IsRequest r client.request core log) was s.request in
-    c.go_on.ensures.step held.0 client core log good held.1 held.2 stands (record { vacant = c.replace.ensures.after; name = s.name; front = s.front; footers = s.footers })
+    let held = subst (λ r. IsRequest c.args.self.now.footers r client.request core log) was s.request in
+    c.go_on.ensures.step held.0 client core log good held.1 held.2 held.3 stands (record { vacant = c.replace.ensures.after; name = s.name; front = s.front; footers = s.footers })
 
 pub returns-in-Planned-clause-draws : goal.returns-in-Planned-clause-draws
 returns-in-Planned-clause-draws g c plan client core log asked stands s =
     let was : c.args.self.now.request ≡ Planned c.in-Planned.planned = sym c.replace.ensures.value ∙ c.in-Planned.is in
-    let held = subst (λ r. IsRequest r client.request core log) was s.request in
+    let held = subst (λ r. IsRequest c.args.self.now.footers r client.request core log) was s.request in
     let same = planned_is client.request held.0 plan held.1 asked in
     c.go_on.ensures.draws plan client core log (subst (λ q. IsPlanned c.in-Planned.planned q core log) same held.2) stands (record { vacant = c.replace.ensures.after; name = s.name; front = s.front; footers = s.footers })
 

@@ -1,0 +1,287 @@
+-- What a line leaves: the rows that were published at each revision that it reached have their files behind it.
+use Rattle.std.proofs.Common.{◌≡◌, ◌⊎◌, ℕ, ◌+◌, ◌<◌, ◌≤◌, ◌==◌, Bool, true, false, cond, List, [], ◌∷◌, ◌++◌, length, take, refl, sym, ap, ◌∙◌, subst, inl, inr, append_assoc, arith}
+use Rattle.std.proofs.lemmas.List.{append-nil, length-append, take_all, take_at, take-append-le}
+use Rattle.std.specs.FinMap.{get}
+use Rattle.std.specs.List.{AllByRecursion}
+use Rattle.std.specs.Prelude.{Option, Some, None}
+use Rattle.delete_tasks.specs.Removes.{DeleteTask}
+use Rattle.index_config.specs.declared.config.IndexConfig.{IndexConfig}
+use Rattle.meta_journal.specs.Places.{split_key}
+use Rattle.meta_journal.specs.declared.entry.Act.{Act}
+use Rattle.meta_journal.specs.declared.entry.Act.TheVariants.{Fence, Create, Stage, Publish, Replace, Raise, Task, MarkStaged, Remove, Retire}
+use Rattle.meta_journal.specs.declared.entry.Entry.{Entry}
+use Rattle.meta_store.proofs.Numbers.{history-snoc}
+use Rattle.meta_store.proofs.RowLists.{AllOf-front, AllOf-both}
+use Rattle.meta_store.proofs.Within.{placed}
+use Rattle.meta_store.specs.History.{History, history}
+use Rattle.meta_store.specs.History.History.{◌▸◌}
+use Rattle.meta_store.specs.Ledgers.{ledger}
+use Rattle.meta_store.specs.Numbers.{IsPlaced}
+use Rattle.meta_store.specs.Rows.{rows}
+use Rattle.meta_store.specs.State.{Legal}
+use Rattle.object_store.specs.Store.{State, HasLanded}
+use Rattle.source_log.specs.Log.{Log, IsLog}
+use Rattle.split_states.specs.Rows.{published, change}
+use Rattle.split_states.specs.declared.rows.Row.{Row}
+use Rattle.split_states.specs.declared.rows.RowState.TheVariants.{Published}
+use Rattle.index_world.specs.Config.{reads}
+use Rattle.index_world.specs.Configuration.{configuration, config_or, index_of}
+use Rattle.index_world.specs.Core.{Core, with_unread, journal_of, file_at}
+use Rattle.index_world.specs.Held.{KeepsHeld, Enters, AfterLanding}
+use Rattle.index_world.specs.Index.{IsIndexOf, IsRowKept, IsRowSound, IsTaken}
+use Rattle.index_world.specs.Seen.{contents}
+use Rattle.index_world.specs.World.{IsWorld}
+use Rattle.index_world.proofs.Asking.{Begun, begun_history}
+use Rattle.index_world.proofs.Configured.{configured-more, rows_under}
+use Rattle.index_world.proofs.Indexing.{index-HasLanded}
+use Rattle.index_world.proofs.Journals.{once, one-journal}
+use Rattle.index_world.proofs.Numbers.{revision_is}
+use Rattle.index_world.proofs.StoreKeys.{split_outside}
+use Rattle.index_world.proofs.Taken.{legal_unread, stands_shown}
+use Rattle.node_run.specs.declared.drive.DriveNode.{DriveNode}
+use Rattle.node_run.specs.Node.{Node, Line, Outcome}
+use Rattle.node_run.specs.Standing.{NodeStands}
+use Rattle.node_run.specs.Turns.{Turn}
+use Rattle.split_bundle.specs.declared.placed.Placed.{Placed}
+use Rattle.quick_node.specs.Once.{published as shown_rows, held_at, IsStanding, AreStanding, Reaches}
+use Rattle.quick_node.proofs.Files.{Few, Takes, IsOwn, takes_none, turn_few}
+use Rattle.quick_node.proofs.Onces.{covers_at, each_weaker, published_have}
+use Rattle.quick_node.proofs.SameLog.{turn_log}
+
+-- ---- the rows before an entry of one's own
+
+-- the published rows are sound
+abbrev AreSound : State → IndexConfig → Log → History → Type 0
+AreSound kept config log h = AllByRecursion (λ row. row.state ≡ Published → IsRowSound kept config (ledger reads h).tasks log row) (rows h)
+
+-- what holds of each row behind a change held before it
+before_change : (P : Row → Type 0) (n : ℕ) (f : Row → Row) (list : List Row) → ((row : Row) → P (f row) → P row) → AllByRecursion P (change n f list) → AllByRecursion P list
+before_change P n f [] back all = tt
+before_change P n f (row ∷ list) back all = by (row.number == n) (λ more. before_change P n f list back more) all
+  where
+    by : (b : Bool) → (AllByRecursion P (change n f list) → AllByRecursion P list) → AllByRecursion P (cond b (f row ∷ list) (row ∷ change n f list)) → AllByRecursion P (row ∷ list)
+    by true on a = (back row a.0, a.1)
+    by false on a = (a.0, on a.1)
+
+own_before : (kept : State) (config : IndexConfig) (log : Log) (h : History) (moment : ℕ) (act : Act) → IsOwn act → AreSound kept config log (h ▸ record { moment = moment; act = act }) → AreSound kept config log h
+own_before kept config log h moment Fence own all = absurd own
+own_before kept config log h moment (Create text) own all = all
+own_before kept config log h moment (Stage number delta facts) own all = AllOf-front (λ row. row.state ≡ Published → IsRowSound kept config (ledger reads h).tasks log row) (rows h) _ all
+own_before kept config log h moment (Publish n) own all =
+    before_change (λ row. row.state ≡ Published → IsRowSound kept config (ledger reads h).tasks log row) n published (rows h)
+    (λ row k e. let s = k refl in record { file = s.file; facts = s.facts; split = s.split }) all
+own_before kept config log h moment (Replace new old upto) own all = absurd own
+own_before kept config log h moment (Raise number upto) own all = absurd own
+own_before kept config log h moment (Task opstamp text fields times) own all = absurd own
+own_before kept config log h moment (MarkStaged numbers) own all = absurd own
+own_before kept config log h moment (Remove numbers) own all = absurd own
+own_before kept config log h moment (Retire numbers) own all = absurd own
+
+-- ---- lengths
+
+lower : (a b : ℕ) → (a ≤ b) ⊎ (b < a)
+lower a b = grind arith
+
+unread_longer : (es : List Entry) (unread : Option Entry) → length es ≤ length (with_unread es unread)
+unread_longer es None = omega arith
+unread_longer es (Some entry) = let l = length-append es (entry ∷ []) in omega (arith, l)
+
+unread_short : (es : List Entry) (unread : Option Entry) → length (with_unread es unread) ≤ length es + 1
+unread_short es None = omega arith
+unread_short es (Some entry) = let l = length-append es (entry ∷ []) in omega (arith, l)
+
+take_unread : (r : ℕ) (es : List Entry) (unread : Option Entry) → r ≤ length es → take r (with_unread es unread) ≡ take r es
+take_unread r es None le = refl
+take_unread r es (Some entry) le = take-append-le r es (entry ∷ []) le
+
+-- ---- the files of published rows
+
+-- the rows that these entries leave published have their files, where this stands under their keys
+abbrev Stand : (List ℕ → Option (List ℕ)) → Log → List Entry → Type 0
+Stand stands log es =
+    AllByRecursion (λ row. IsStanding stands (config_or (configuration es)) (contents (config_or (configuration es)) (ledger reads (history es)).tasks row log) row) (shown_rows es)
+
+-- what stands in a store stands there
+abbrev Among : State → (List ℕ → Option (List ℕ)) → Type 0
+Among kept stands = (number : ℕ) (bytes : List ℕ) → get kept.objects (split_key number) ≡ Some bytes → stands (split_key number) ≡ Some bytes
+
+sound_stand : (kept : State) (stands : List ℕ → Option (List ℕ)) (log : Log) (es : List Entry) → Among kept stands → AreSound kept (config_or (configuration es)) log (history es) → Stand stands log es
+sound_stand kept stands log es among all =
+    let config = config_or (configuration es) in
+    let tasks = (ledger reads (history es)).tasks in
+    published_have (λ row. IsStanding stands config (contents config tasks row log) row) (rows (history es))
+    (each_weaker (λ row. row.state ≡ Published → IsRowSound kept config tasks log row) (λ row. row.state ≡ Published → IsStanding stands config (contents config tasks row log) row) (rows (history es))
+    (λ row k e. let s = k e in record { file = among row.number _ s.file; split = s.split }) all)
+
+taken_sound : (kept : State) (log : Log) (es : List Entry) → Legal reads (history es) → IsTaken kept es log → AreSound kept (config_or (configuration es)) log (history es)
+taken_sound kept log es legal taken =
+    let config = config_or (configuration es) in
+    let tasks = (ledger reads (history es)).tasks in
+    each_weaker (IsRowKept kept config tasks log (history es)) (λ row. row.state ≡ Published → IsRowSound kept config tasks log row) (rows (history es)) (λ row k. k.published) (rows_under kept es tasks log legal taken)
+
+-- before an entry of one's own
+sound_before : (kept : State) (log : Log) (es : List Entry) (entry : Entry) → Legal reads (history (es ++ entry ∷ [])) → IsOwn entry.act → 0 < length es → IsTaken kept (es ++ entry ∷ []) log → AreSound kept (config_or (configuration es)) log (history es)
+sound_before kept log es entry legal own some taken =
+    subst (λ (c : IndexConfig). AreSound kept c log (history es)) (sym (ap config_or is))
+    (own_before kept config log (history es) entry.moment entry.act own
+    (subst (λ (h : History). AreSound kept config log h) (history-snoc es entry)
+    (each_weaker (IsRowKept kept config tasks log (history (es ++ entry ∷ []))) (λ row. row.state ≡ Published → IsRowSound kept config tasks log row) (rows (history (es ++ entry ∷ []))) (λ row k. k.published)
+    (taken config (configured-more es entry both.0 both.1 config is)))))
+  where
+    both : Legal reads (history es ▸ entry)
+    both = subst (Legal reads) (history-snoc es entry) legal
+
+    b : Begun (history es)
+    b = begun_history (history es) both.0 (let r = revision_is es in omega (arith, r, some))
+
+    config : IndexConfig
+    config = b.config.settings.index
+
+    is : configuration es ≡ Some config
+    is = ap index_of b.is
+
+    tasks : List DeleteTask
+    tasks = (ledger reads (history (es ++ entry ∷ []))).tasks
+
+-- ---- a line
+
+module _ (old new : State) (core after : Core) (log : Log) (was : IsWorld old core log) (world : IsWorld new after log) (t : Takes Few core after) where
+  legal : Legal reads (history (journal_of after))
+  legal = world.index.stands.legal
+
+  taken_legal : Legal reads (history after.history)
+  taken_legal = legal_unread after.history after.standing legal
+
+  new_files : Among new (file_at after.files)
+  new_files number bytes e = world.stands_for.files (split_key number) (split_outside number) ∙ e
+
+  old_files : Among old (file_at after.files)
+  old_files number bytes e = t.files (split_key number) bytes (was.stands_for.files (split_key number) (split_outside number) ∙ e)
+
+  holds : (revision : ℕ) (es : List Entry) → take revision (journal_of after) ≡ es → Stand (file_at after.files) log es → AreStanding (file_at after.files) revision (journal_of after) log
+  holds revision es e s = subst (Stand (file_at after.files) log) (sym e) s
+
+  whole : Stand (file_at after.files) log (journal_of after)
+  whole = sound_stand new (file_at after.files) log (journal_of after) new_files (taken_sound new log (journal_of after) legal world.index.stands.rows)
+
+  taken : Stand (file_at after.files) log after.history
+  taken = sound_stand new (file_at after.files) log after.history new_files (taken_sound new log after.history taken_legal world.taken)
+
+  first : Stand (file_at after.files) log core.history
+  first =
+      sound_stand old (file_at after.files) log core.history old_files
+      (taken_sound old log core.history (legal_unread core.history core.standing was.index.stands.legal) was.taken)
+
+  -- of an entry that was settled or adopted, before one's own
+  between : (x f : Entry) → after.history ≡ core.history ++ (x ∷ f ∷ []) → IsOwn f.act → Stand (file_at after.files) log (core.history ++ x ∷ [])
+  between x f grown own =
+      let e : after.history ≡ (core.history ++ x ∷ []) ++ f ∷ [] = grown ∙ sym (append_assoc core.history (x ∷ []) (f ∷ [])) in
+      sound_stand new (file_at after.files) log (core.history ++ x ∷ []) new_files
+      (sound_before new log (core.history ++ x ∷ []) f (subst (λ (es : List Entry). Legal reads (history es)) e taken_legal) own (let l = length-append core.history (x ∷ []) in omega (arith, l))
+      (subst (λ (es : List Entry). IsTaken new es log) e world.taken))
+
+  -- before the last entry that was taken in
+  earlier : (revision : ℕ) (more : List Entry) → Few more → after.history ≡ core.history ++ more → length core.history ≤ revision → revision < length after.history →
+      AreStanding (file_at after.files) revision (journal_of after) log
+  earlier revision [] few grown low high = absurd (let l = ap length (grown ∙ append-nil core.history) in omega (arith, l, low, high))
+  earlier revision (x ∷ []) few grown low high =
+      let l = ap length grown ∙ length-append core.history (x ∷ []) in
+      holds revision core.history
+      (take_unread revision after.history after.standing (omega (arith, high)) ∙ ap (take revision) grown ∙ take_at core.history (x ∷ []) revision (omega (arith, l, low, high))) first
+  earlier revision (x ∷ f ∷ []) few grown low high = by (lower revision (length core.history))
+    where
+      long : length after.history ≡ length core.history + 2
+      long = ap length grown ∙ length-append core.history (x ∷ f ∷ [])
+
+      by : (revision ≤ length core.history) ⊎ (length core.history < revision) → AreStanding (file_at after.files) revision (journal_of after) log
+      by (inl le) =
+          holds revision core.history
+          (take_unread revision after.history after.standing (omega (arith, high)) ∙ ap (take revision) grown ∙ take_at core.history (x ∷ f ∷ []) revision (omega (arith, low, le))) first
+      by (inr lt) =
+          let e : after.history ≡ (core.history ++ x ∷ []) ++ f ∷ [] = grown ∙ sym (append_assoc core.history (x ∷ []) (f ∷ [])) in
+          let l = length-append core.history (x ∷ []) in
+          holds revision (core.history ++ x ∷ [])
+          (take_unread revision after.history after.standing (omega (arith, high)) ∙ ap (take revision) e ∙ take_at (core.history ++ x ∷ []) (f ∷ []) revision (omega (arith, l, lt, long, high)))
+          (between x f grown few)
+  earlier revision (x ∷ f ∷ g ∷ more) few grown low high = absurd few
+
+  pub stood : (revision : ℕ) → length core.history ≤ revision → AreStanding (file_at after.files) revision (journal_of after) log
+  stood revision low = by (lower (length (journal_of after)) revision) (lower (length after.history) revision)
+    where
+      by : (length (journal_of after) ≤ revision) ⊎ (revision < length (journal_of after)) → (length after.history ≤ revision) ⊎ (revision < length after.history) → AreStanding (file_at after.files) revision (journal_of after) log
+      by (inl all) some = holds revision (journal_of after) (take_all revision (journal_of after) all) whole
+      by (inr lt) (inr early) = earlier revision t.more t.few t.grown low early
+      by (inr lt) (inl late) =
+          let short = unread_short after.history after.standing in
+          let same : length after.history ≡ revision = omega (arith, short, lt, late) in
+          holds revision after.history (take_unread revision after.history after.standing (omega (arith, same)) ∙ take_all revision after.history late) taken
+
+  pub reaches : IsLog log → Reaches core after log
+  reaches is =
+      record {
+        reached = λ revision le. record {
+          files = stood revision (let l = unread_longer core.history core.standing in omega (arith, l, le));
+          covers = covers_at revision (journal_of after) log is legal;
+        };
+        goes_on = t.journal;
+        stay = λ number bytes e. inl (t.files (split_key number) bytes e);
+      }
+
+  -- the same in the words of the store
+  pub stood_kept : (revision : ℕ) → length (journal_of core) ≤ revision → AreStanding (get new.objects) revision (journal_of after) log
+  stood_kept revision le =
+      let config = config_or (configuration (take revision (journal_of after))) in
+      let held : Row → List Placed = λ row. held_at revision (journal_of after) log row in
+      each_weaker (λ row. IsStanding (file_at after.files) config (held row) row) (λ row. IsStanding (get new.objects) config (held row) row) (shown_rows (take revision (journal_of after)))
+      (λ row i. record { file = sym (world.stands_for.files (split_key row.number) (split_outside row.number)) ∙ i.file; split = i.split })
+      (stood revision (let l = unread_longer core.history core.standing in omega (arith, l, le)))
+
+-- nothing was done
+pub reaches_itself : (kept : State) (core : Core) (log : Log) → IsLog log → IsWorld kept core log → Reaches core core log
+reaches_itself kept core log is world =
+    reaches kept kept core core log world world (takes_none core) is
+
+-- a line of a node of the code
+pub line_reaches : {S L : Type 0} (told : L → Option Log) (count : L → ℕ) (since : L → L → Type 0) (firsts : List L) (old new : DriveNode S L) (node last : Node) (line : Line) (said : Option Outcome) →
+    NodeStands told count since firsts old node → NodeStands told count since firsts new last → Turn node line said last → Reaches node.core last.core node.log
+line_reaches told count since firsts old new node last line said was stands turn =
+    reaches was.world_stands.kept stands.world_stands.kept node.core last.core node.log was.world_stands.world
+    (subst (λ (l : Log). IsWorld stands.world_stands.kept last.core l) (turn_log node line said last turn) stands.world_stands.world) (turn_few node line said last turn) was.is_log
+
+-- ---- landings
+
+module _ (old new : State) (es exit : List Entry) (log : Log) (was : IsIndexOf old es log) (index : IsIndexOf new exit log) where
+  all_stand : (revision : ℕ) → length exit ≤ revision → AreStanding (get new.objects) revision exit log
+  all_stand revision le =
+      subst (Stand (get new.objects) log) (sym (take_all revision exit le))
+      (sound_stand new (get new.objects) log exit (λ number bytes e. e) (taken_sound new log exit index.stands.legal index.stands.rows))
+
+  -- the files of the rows that were published before
+  first_stand : KeepsHeld old new es exit → Stand (get new.objects) log es
+  first_stand held =
+      let config = config_or (configuration es) in
+      let tasks = (ledger reads (history es)).tasks in
+      published_have (λ row. IsStanding (get new.objects) config (contents config tasks row log) row) (rows (history es))
+      (each_weaker (λ row. IsRowKept old config tasks log (history es) row × IsPlaced reads (history es) row) (λ row. row.state ≡ Published → IsStanding (get new.objects) config (contents config tasks row log) row) (rows (history es))
+      (λ row k e.
+      let s = k.0.published e in
+      let stored = held.stored row.number _ tt (stands_shown old es None log was.stands row.number _ (k.1.published e) s.file) in
+      record { file = stored.file; split = s.split })
+      (AllOf-both (IsRowKept old config tasks log (history es)) (IsPlaced reads (history es)) (rows (history es)) (rows_under old es tasks log was.stands.legal was.stands.rows) (placed reads (history es) was.stands.legal)))
+
+  pub landed_stand : HasLanded old new → (revision : ℕ) → length es ≤ revision → AreStanding (get new.objects) revision exit log
+  landed_stand lands revision le = by (index-HasLanded old new es log was lands)
+    where
+      adopted : (entry : Entry) (e : Enters old new es log entry) → (length exit ≤ revision) ⊎ (revision < length exit) → AreStanding (get new.objects) revision exit log
+      adopted entry e (inl all) = all_stand revision all
+      adopted entry e (inr early) =
+          let same : exit ≡ es ++ entry ∷ [] = one-journal once new 0 exit (es ++ entry ∷ []) index.stands.journal e.index.stands.journal in
+          let l = ap length same ∙ length-append es (entry ∷ []) in
+          subst (Stand (get new.objects) log) (sym (ap (take revision) same ∙ take_at es (entry ∷ []) revision (omega (arith, l, le, early))))
+          (first_stand (subst (λ (xs : List Entry). KeepsHeld old new es xs) (sym same) e.held))
+
+      by : AfterLanding old new es log → AreStanding (get new.objects) revision exit log
+      by (inl s) =
+          let same : exit ≡ es = one-journal once new 0 exit es index.stands.journal s.index.stands.journal in
+          all_stand revision (let l = ap length same in omega (arith, l, le))
+      by (inr a) = adopted a.0 a.1 (lower (length exit) revision)

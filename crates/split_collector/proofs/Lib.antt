@@ -1,0 +1,11 @@
+pub mod Ranks
+pub mod Told
+pub mod Running
+pub mod Gone
+pub mod Least
+pub mod Calling
+pub mod Stepping
+pub mod Alone
+pub mod Printing
+pub mod Idling
+pub mod OnePage
