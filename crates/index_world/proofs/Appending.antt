@@ -21,7 +21,7 @@ use Rattle.index_world.specs.declared.own.Own.{Own}
 use Rattle.index_world.specs.declared.own.Own.TheVariants as owns
 use Rattle.index_world.specs.declared.world_error.WorldError.{WorldError}
 use Rattle.index_world.specs.declared.world_error.WorldError.TheVariants as errors
-use Rattle.index_world.specs.Calls.{Made, made, exists, Making, made_behind, begun, risen, Unmade, troubled, faulted, store_fault, is_foreign, no_memory, store_failed, entry_of, may_append}
+use Rattle.index_world.specs.Calls.{done_never, Made, made, exists, Making, made_behind, begun, risen, Unmade, troubled, faulted, store_fault, is_foreign, no_memory, store_failed, entry_of, may_append}
 use Rattle.index_world.specs.Core.{Core, journal_of, IsUnusedIn, HasStagedIn, KeepsBut, Upkeep, upkeep_of}
 use Rattle.index_world.specs.Gate.{IsTrouble, IsUnmade, SaysWith}
 use Rattle.index_world.specs.Index.{has_staged, HasStaged, IsUnused}

@@ -322,7 +322,7 @@ pub record GetFailedLaw (old new : State) (core : Core) (log : Log) (entry : Ent
   pub mid : Core
   pub did : create_at_end (quiet places (core.store_faults - core.store_faults) false) entry core ≡ record { answer = exists other; core = mid }
   pub after : Core
-  pub got : get_at_end (failing [] (now - core.store_faults) false) other before mid ≡ gives (Err (store_failed before after)) after
+  pub got : get_at_end (failing [] (now - core.store_faults) done_never) other before mid ≡ gives (Err (store_failed before after)) after
   pub onward : Onward old new core after log
   pub history : after.history ≡ core.history
   pub faults : after.store_faults ≡ now
@@ -355,7 +355,7 @@ get_failed_law once old new core log entry before now w c rose t h =
     e = exists_law once old new core log entry core.store_faults w (record { later = omega arith; within = let a = c.later in let b = c.within in omega (arith, a, b) }) t h
 
     get_call : Call
-    get_call = failing [] (now - core.store_faults) false
+    get_call = failing [] (now - core.store_faults) done_never
 
     second : Core
     second = begun get_call e.after

@@ -15,7 +15,7 @@ use Rattle.meta_store.specs.State.{Legal, state_of}
 use Rattle.meta_store.specs.declared.refusal.Refusal.{Refusal}
 use Rattle.object_store.specs.Store.{State, HasLanded}
 use Rattle.source_log.specs.Log.{Log}
-use Rattle.index_world.specs.Calls.{Call, gives, Trouble, faulted, no_memory, Unmade, refused, troubled, is_foreign, store_failed, last_create, begun, taken_in, may_append, or_full, full_answer, answer_behind, entry_of}
+use Rattle.index_world.specs.Calls.{done_never, Call, gives, Trouble, faulted, no_memory, Unmade, refused, troubled, is_foreign, store_failed, last_create, begun, taken_in, may_append, or_full, full_answer, answer_behind, entry_of}
 use Rattle.index_world.specs.Collecting.{Offer, answers, last_offer, making_offer}
 use Rattle.index_world.specs.Config.{reads}
 use Rattle.index_world.specs.Core.{Core, clock_of, Upkeep, upkeep_of}
