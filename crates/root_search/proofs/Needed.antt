@@ -177,6 +177,34 @@ lost_last Stands Between Adds bytes_fetched adds config plan place known documen
     then_failed grace row Stands Between Adds bytes_fetched core log old adds (AreShownFetched config.schema r documents p footer listed) (IsPartFetched config.schema r known documents p (needed_calls known)) e result (footer_calls known + length kept + length l.says.1.lists)
     (footer_drawn known p + total b.says.1.held.blocks + total l.says.1.lists) behind new three h w
 
+-- ---- no hit is shown
+
+no_ranges : (asked : ℕ → ℕ → Type 0) → ((at len : ℕ) → asked at len → ⊥) → AreRangesOf asked []
+no_ranges asked none = record { apart = tt; cover = λ at len h. absurd (none at len h); only = λ place h. absurd h }
+
+none_of_each : (part : ℕ → ℕ → ℕ → Type 0) (numbers : List ℕ) (at len : ℕ) → numbers ≡ [] → OfEach part numbers at len → ⊥
+none_of_each part numbers at len e each = subst (λ (ns : List ℕ). Contains ns each.number) e each.among
+
+-- where none are wanted nothing more is needed than the lists and the columns
+pub none_shown_more : (s : Schema) (r : LeafRequest) (documents : List Placed) (p : Parts) (footer : Footer) (listed : List KeptPiece) → r.wanted ≡ 0 → AreShownFetched s r documents p footer listed listed 0 0
+none_shown_more s r documents p footer listed none =
+    record {
+      starts = [];
+      shown = [];
+      are_starts = no_ranges (NeedsStarts (over footer) s documents r) (λ at len h. by at len h);
+      are_shown = no_ranges (NeedsShown s documents p r) (λ at len h. none_of_each (BytesOf p documents) (shown_of s r documents) at len empty h.1);
+      pieces_are = sym (append-nil listed);
+      each = refl;
+      few = omega arith;
+    }
+  where
+    empty : shown_of s r documents ≡ []
+    empty = none_shown s r documents none
+
+    by : (at len : ℕ) → NeedsStarts (over footer) s documents r at len → ⊥
+    by at len (inl h) = none_of_each StartOf (shown_of s r documents) at len empty h.1
+    by at len (inr h) = let few = ap (λ (ns : List ℕ). nat_le (length ns) 256) empty in true_is_false (sym few ∙ h.0)
+
 -- what is named goes by the footer
 pub starts_alike_named : (v w : PartView) (s : Schema) (r : LeafRequest) (documents : List Placed) (named : Result ShownStarts FetchError) → v.footer ≡ w.footer → MatchResult named (AreStartsNamed v s r documents) WantsRoom
     → MatchResult named (AreStartsNamed w s r documents) WantsRoom
