@@ -3,15 +3,16 @@
 
     trials/failing_calls.py PROGRAM [--kill] [--jobs N] [--most N]
 
-A life is five runs of the program over new folders: `create`, a `drive` that indexes six records into three splits, a second
-`drive` that indexes four records that came to the log since, `splits`, and a search of `*`. It is played once with nothing
-failing, to count how often each run makes each call that has to do with files. Then, for each run, each such call and each
-of its times, the life is played anew with just this call answered EIO and not done (with --kill: the process killed as it
-makes the call), and behind it a life without a failure goes on over the same folders to its end.
+A life is five runs of the program over new folders: `create`, a `drive` that leaves a split file behind, whose row is only
+staged, and indexes six records into three splits, a second `drive` that indexes four records that came to the log since and
+lets the collector take what was left, `splits`, and a search of `*`. It is played once with nothing failing, to count how often
+each run makes each call that has to do with files. Then, for each run, each such call and each of its times, the life is played
+anew with just this call answered EIO and not done (with --kill: the process killed as it makes the call), and behind it a life
+without a failure goes on over the same folders to its end.
 
 What has to hold of each: the record numbers that the last search finds are those of the log, each once; a run that was not
-right named a fault (a line with storefault, sourcefault or error, a reply with StoreFault, or a status that is not 0); and no
-file beside the keys is left. It prints a line for each kind of call, and ends with 0 where all held.
+right named a fault (a line with storefault, sourcefault or error, a reply with StoreFault, or a status that is not 0); no
+file beside the keys is left, and no split file but those of the five splits. It prints a line for each kind of call, and ends with 0 where all held.
 """
 import argparse
 import collections
@@ -49,6 +50,8 @@ split_num_docs_target = 2
 
 FIRST, LATER = 6, 10
 STEPS = b"indexer 0\n" * 24
+LEAVES = b"at 4000000000\n" + b"indexer 0\n" * 4 + b"restart indexer 0\n"
+COLLECTS = b"at 4000010000\n" + b"collector\n" * 12 + b"at 4000020000\n" + b"collector\n" * 12
 SEARCH = b'client a {"search":{"query":"*","max_hits":100}}\n' + b"client a\n" * 20
 
 
@@ -74,9 +77,9 @@ class Life:
     def runs(self):
         """Each run's name, its command and its input. The log grows as the second drive is asked for."""
         yield "create", ["create"], CONFIG
-        yield "drive", ["drive"], STEPS
+        yield "drive", ["drive"], LEAVES + STEPS
         self.write(FIRST, LATER)
-        yield "second drive", ["drive"], STEPS
+        yield "second drive", ["drive"], STEPS + COLLECTS
         yield "splits", ["splits"], b""
         yield "search", ["drive"], SEARCH
 
@@ -129,6 +132,7 @@ def played(program, failing, call, time, kill):
         wrong = f"the life behind could not create: {made.stdout!r}"
     for _ in range(3):
         life.run(["drive"], STEPS)
+    life.run(["drive"], COLLECTS.replace(b"at 40000", b"at 40001"))
     behind = life.run(["drive"], SEARCH)
     numbers = numbers_in(behind.stdout)
     if numbers is None or sorted(numbers) != list(range(LATER)):
@@ -136,6 +140,9 @@ def played(program, failing, call, time, kill):
     left = [it for _, _, names in os.walk(life.store) for it in names if it.endswith(".half")]
     if left:
         wrong = f"left beside: {left}"
+    files = os.listdir(f"{life.store}/splits")
+    if len(files) != 5:
+        wrong = f"these split files are left: {files}"
     life.end()
     return failing, call, time, wrong
 

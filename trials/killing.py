@@ -5,10 +5,12 @@ each record is found once.
     trials/killing.py PROGRAM [--kills N] [--records N] [--docs N] [--reports N] [--seed N]
 
 The records lie in four partitions, and each has a number of its own. The program is killed (SIGKILL) so many times, and then
-let to its end. Beside it so many loops ask `describe` and `splits` by turns, from the first run to the last: each report must
-end with status 0, say nothing on standard error, and never show an older revision than the report before it. What `*` finds
-must be as many as there are records, and the numbers that are found, read by pages, each record's own, once. It prints how
-often it was killed, how many reports were written, what stands in the folder, and `each record once`, or what differs.
+let to its end. The collector steps among the indexers, with graces so short that it takes what each killed run left. Beside it
+so many loops ask `describe` and `splits` by turns, from the first run to the last: each report must end with status 0, say
+nothing on standard error, and never show an older revision than the report before it. What `*` finds must be as many as there
+are records, and the numbers that are found, read by pages, each record's own, once. Behind the collector's last step each file
+is that of a published row. It prints how often it was killed, how many reports were written, what the collector did, what
+stands in the folder, and `each record once`, or what differs.
 """
 import argparse
 import collections
@@ -23,6 +25,8 @@ import threading
 import time
 
 PARTITIONS = 4
+# Later than the moment of the system's clock, at which `create` makes the index.
+AFTER_TODAY = 4_000_000_000
 
 CONFIG = b"""index_id = "killing"
 
@@ -43,6 +47,10 @@ default_search_fields = ["body"]
 
 [indexing_settings]
 split_num_docs_target = %d
+
+[upkeep]
+staged_grace_secs = 8
+deletion_grace_secs = 5
 """
 
 
@@ -61,23 +69,49 @@ def line(work, text, rest):
     return said.decode()
 
 
-def indexed(work):
-    """Steps the indexers in turn until all are caught up, or until the program is killed. Returns whether they are."""
+def collected(work, rest, done):
+    """One step of the collector. Returns the first word that it says, or None where the program is killed."""
+    said = line(work, "collector", rest)
+    if said is None:
+        return None
+    word = said.split()[1]
+    if word not in ("nothing", "marked", "doomed", "removed", "swept"):
+        raise SystemExit(f"it says: {said}")
+    done[word] += 1
+    return word
+
+
+def indexed(work, moment, collects):
+    """Steps the indexers in turn, and the collector behind each round, until all are caught up, or until the program is killed.
+    Returns the moment of the last round, or None where it was killed."""
     rest, done = [b""], set()
     try:
         while len(done) < PARTITIONS:
+            moment += 2
+            if line(work, f"at {moment}", rest) is None:
+                return None
             for number in range(PARTITIONS):
                 if number not in done:
                     said = line(work, f"indexer {number}", rest)
                     if said is None:
-                        return False
+                        return None
                     if said.endswith("caughtup"):
                         done.add(number)
                     elif said.split()[2] not in ("checkpoint", "read", "staged", "uploaded", "published", "stale", "lost"):
                         raise SystemExit(f"it says: {said}")
+            if collected(work, rest, collects) is None:
+                return None
     except BrokenPipeError:
-        return False
-    return True
+        return None
+    return moment
+
+
+def all_collected(work, moment, rest, collects):
+    """Lets the collector mark what was left, and behind the grace take it away."""
+    for behind in (100, 200):
+        line(work, f"at {moment + behind}", rest)
+        while collected(work, rest, collects) != "nothing":
+            pass
 
 
 class Reports(threading.Thread):
@@ -134,25 +168,27 @@ def main():
     reports = [Reports(path, folder) for _ in range(asked.reports)]
     for one in reports:
         one.start()
-    killed = 0
+    killed, moment, collects = 0, AFTER_TODAY, collections.Counter()
     for _ in range(asked.kills):
         work = started(path, folder)
         timer = threading.Timer(chance.uniform(0.01, 0.3), work.kill)
         timer.start()
-        indexed(work)
+        moment = (indexed(work, moment, collects) or moment) + 100
         timer.cancel()
         work.kill()
         killed += 1
         work.wait()
     work = started(path, folder)
     begun = time.monotonic()
-    if not indexed(work):
+    moment = indexed(work, moment, collects)
+    if moment is None:
         raise SystemExit("the last run ended early")
     for one in reports:
         one.ended.set()
         one.join()
     wrong = [it for one in reports for it in one.wrong]
     rest = [b""]
+    all_collected(work, moment, rest, collects)
     many = found(work, {"query": "*", "max_hits": 0}, rest)["num_hits"]
     numbers = collections.Counter()
     for low in range(0, asked.records, 5_000):
@@ -161,21 +197,23 @@ def main():
     work.stdin.close()
     work.wait()
     files = len(os.listdir(f"{folder}/store/splits"))
+    rows = subprocess.run([path, f"{folder}/store", f"{folder}/logs", "splits"], capture_output=True, check=False).stdout.decode().splitlines()
+    unread = [it for it in rows if it.split()[1] != "published"] or [f"{files} files of {len(rows)} rows"] * (files != len(rows))
     entries = len(os.listdir(f"{folder}/store/meta"))
     print(
         f"{killed} kills, {asked.records} records, {sum(one.done for one in reports)} reports beside, {files} split files, "
-        f"{entries} journal entries; the last run took {time.monotonic() - begun:.1f} s"
+        f"{entries} journal entries; the last run took {time.monotonic() - begun:.1f} s; the collector: {dict(collects)}"
     )
     beside = [it for kind in ("meta", "splits") for it in os.listdir(f"{folder}/store/{kind}") if not it.isdigit()]
     twice = sorted(it for it, count in numbers.items() if count > 1)
     lost = sorted(set(range(asked.records)) - set(numbers))
     foreign = sorted(set(numbers) - set(range(asked.records)))
     shutil.rmtree(folder)
-    if many == asked.records and not (twice or lost or foreign or wrong or beside):
+    if many == asked.records and not (twice or lost or foreign or wrong or beside or unread):
         print("each record once")
         return 0
     print(f"found {many}; twice {twice[:10]}, lost {lost[:10]}, foreign {foreign[:10]}")
-    print(f"reports that were wrong: {len(wrong)} {wrong[:5]}; left beside: {beside[:5]}")
+    print(f"reports that were wrong: {len(wrong)} {wrong[:5]}; left beside: {beside[:5]}; not collected: {unread[:5]}")
     return 1
 
 

@@ -18,7 +18,6 @@ use Rattle.meta_store.specs.State as meta
 use Rattle.meta_store.specs.Readings.{reading_of}
 use Rattle.meta_store.specs.Said.{Said}
 use Rattle.meta_store.specs.State.{after}
-use Rattle.meta_store.specs.declared.config.Config.{Config}
 use Rattle.object_store.proofs.Told.{told_map, told_then}
 use Rattle.object_store.specs.Store.{State, WhereTold}
 use Rattle.index_world.specs.Answering.{answer_in, AppendsNot, IsUnfitAt, SettlesNot, Tells}
@@ -217,11 +216,11 @@ short_no_fault before now (Ok a) Is h want = absurd h
 short_no_fault before now (Err error) Is h want = want_no_fault before now error (want error h)
 
 -- what the state answers to the own entry, by what was read of its act
-pub answer_here : (reading : Said) (act : meta.State → Act) (moment : ℕ) (x : Act) (state here : meta.State) → ((config : Option Config) → reading ≡ reading_of reads config x) → x ≡ act state → here ≡ state →
+pub answer_here : (reading : Said) (act : meta.State → Act) (moment : ℕ) (x : Act) (state here : meta.State) → reading ≡ reading_of reads state.config x → x ≡ act state → here ≡ state →
     answer_to reading state (at moment x) ≡ answer_in here (at moment (act here))
 answer_here reading act moment x state here read is same =
     subst (λ (s : meta.State). answer_to reading state (at moment x) ≡ answer_in s (at moment (act s))) (sym same)
-    (ap (λ (r : Said). answer_to r state (at moment x)) (read state.config) ∙ ap (λ (y : Act). answer_in state (at moment y)) is)
+    (ap (λ (r : Said). answer_to r state (at moment x)) read ∙ ap (λ (y : Act). answer_in state (at moment y)) is)
 
 -- it was made
 pub makes_own : (a b : Option State) (own : Own) (m rows moment : ℕ) (doomed : List ℕ) (next later : ℕ) (before state : meta.State) (entry : Entry) → entry ≡ at moment (act_in own moment doomed before) → CanSpell entry → later ≡ next + 1 →

@@ -5,7 +5,6 @@ use Rattle.std.specs.Result.{IsErrAnd}
 use Rattle.meta_journal.specs.Journal.{Numbered}
 use Rattle.meta_journal.specs.Places.{meta_key, IsJournal}
 use Rattle.meta_journal.specs.Spelling.{CanSpell}
-use Rattle.meta_journal.specs.declared.entry.Act.{Act}
 use Rattle.meta_journal.specs.declared.entry.Act.TheVariants as acts
 use Rattle.meta_journal.specs.declared.entry.Entry.{Entry}
 use Rattle.meta_store.specs.History.{history, delta_of}
@@ -22,7 +21,7 @@ use Rattle.index_world.specs.declared.own.Own.TheVariants as owns
 use Rattle.index_world.specs.declared.world_error.WorldError.{WorldError}
 use Rattle.index_world.specs.declared.world_error.WorldError.TheVariants as errors
 use Rattle.index_world.specs.Calls.{Made, made, exists, Making, made_behind, begun, risen, Unmade, troubled, faulted, store_fault, is_foreign, no_memory, store_failed, entry_of, may_append}
-use Rattle.index_world.specs.Core.{Core, journal_of, IsUnusedIn, HasStagedIn, KeepsBut, Upkeep, upkeep_of}
+use Rattle.index_world.specs.Core.{Core, journal_of, IsUnusedIn, HasStagedIn, KeepsBut, IsOther, Upkeep, upkeep_of}
 use Rattle.index_world.specs.Gate.{IsTrouble, IsUnmade, SaysWith}
 use Rattle.index_world.specs.Index.{has_staged, HasStaged, IsUnused}
 use Rattle.index_world.specs.Life.{LifeIs, StandsBy, TookIn, TookNone, SettledSure, SettledIn, Settling, CreatesBy, CreatesNothing, Creating, OffersNothing, OwnDone, OwnMade, Appending}
@@ -37,6 +36,11 @@ use Rattle.index_world.specs.Unsure.{is_unsure}
 use Rattle.index_world.specs.World.{IsWorld, IsTimely}
 use Rattle.index_world.proofs.InCore.{unused-in, keeps_all}
 use Rattle.index_world.proofs.JournalCalls.{quiet}
+use Rattle.index_world.proofs.JournalLaws.{legal_history}
+use Rattle.index_world.proofs.Replaced.{replaceable_on, raisable_on}
+use Rattle.index_world.specs.Config.{reads}
+use Rattle.index_world.specs.Replacing.{numbers_of}
+use Rattle.meta_store.specs.State.{Legal}
 use Rattle.index_world.proofs.Journals.{once, one-journal}
 use Rattle.index_world.proofs.Lives.{want_trouble, knows_of, life_on, life_taken, stands_by, allowed_last, answers_allowed}
 use Rattle.index_world.proofs.StoreKeys.{true_is_false, none_some}
@@ -123,11 +127,14 @@ own_made old mid new core between after log own o s =
     }
 
 -- what the entry needs stays
-pub owned_on : (own : Own) (log : Log) (core after : Core) → KeepsBut None core after → MayOwn own log core → MayOwn own log after
-owned_on (owns.Stage delta facts) log core after k may = tt
-owned_on owns.MarkStale log core after k may = tt
-owned_on owns.Remove log core after k may = tt
-owned_on (owns.Publish number) log core after k may =
+pub owned_on : (own : Own) (log : Log) (core after : Core) (more : List Entry) → after.history ≡ core.history ++ more → Legal reads (history after.history) → KeepsBut None core after → MayOwn own log core → MayOwn own log after
+owned_on (owns.Stage delta facts) log core after more grown legal k may = tt
+owned_on (owns.Task ask) log core after more grown legal k may = tt
+owned_on owns.MarkStale log core after more grown legal k may = tt
+owned_on owns.Remove log core after more grown legal k may = tt
+owned_on (owns.Replace plan number upto) log core after more grown legal k may = replaceable_on (IsOther None) core after more grown legal k log number (numbers_of plan.now.rows) upto may
+owned_on (owns.Raise number upto) log core after more grown legal k may = raisable_on (IsOther None) core after more grown legal k number upto may
+owned_on (owns.Publish number) log core after more grown legal k may =
     record {
       config = may.config;
       configured = k.configured may.config may.configured;
@@ -318,7 +325,7 @@ module _ (old : State) (core : Core) (log : Log) (own : Own) (before count : ℕ
       first_of d = k old core log (s.tells ∙ ap Some d.same) (subst (λ (o : State). StandsBy o core log n life') d.same d.stands) owned
 
       next_of : (d : SettledIn old s.new core log n life') → Creating s.new d.step.after log own life'.journal.settled before x told' now life''
-      next_of d = k s.new d.step.after log s.tells d.stands (owned_on own log core d.step.after (keeps_all old s.new core d.step.after log b.world.stands_for d.step.onward) owned)
+      next_of d = k s.new d.step.after log s.tells d.stands (owned_on own log core d.step.after (d.entry ∷ []) d.step.history (legal_history s.new d.step.after log d.step.onward.world) (keeps_all old s.new core d.step.after log b.world.stands_for d.step.onward) owned)
 
     -- there was nothing to do
     nothing_done : (d : SettledSure old s.new core log n life') (new : State) → own_offer own core ≡ None → CreatesNothing old new core now life'' → (short : Bool) → Transacted old new core log (own_offer own) (λ after. nothing_answer short) [] core.unsure now
@@ -455,7 +462,7 @@ module _ (old : State) (core : Core) (log : Log) (own : Own) (before count : ℕ
 
     module _ (x : Result Outcome WorldError) (k : (o : State) (c : Core) (l : Log) → told ≡ Some o → StandsBy o c l n life'' → MayOwn own l c → Creating o c l own life''.journal.settled before x told' now last) where
       second : Creating a.new a.step.after log own life''.journal.settled before x told' now last
-      second = k a.new a.step.after log a.tells stands (owned_on own log core a.step.after (keeps_all old a.new core a.step.after log b.world.stands_for a.step.onward) owned)
+      second = k a.new a.step.after log a.tells stands (owned_on own log core a.step.after (f ∷ []) a.step.history (legal_history a.new a.step.after log a.step.onward.world) (keeps_all old a.new core a.step.after log b.world.stands_for a.step.onward) owned)
 
     adopted_ends_by : (new : State) (r : Result ℕ WorldError) → told' ≡ Some new → Counted a.step.after now → Lasts a.new new a.step.after log own before r now last → Appending old core log own r told' now last
     adopted_ends_by new r tells c l =

@@ -1,13 +1,12 @@
 -- Which entries may enter: the fence of settling, and an entry of one's own.
-use Rattle.std.proofs.Common.{◌≡◌, ℕ, ◌-◌, ◌^◌, ◌<◌, ◌≤◌, List, refl, sym, ap, ◌∙◌, subst, Bool, true, false, length, arith}
+use Rattle.std.proofs.Common.{◌≡◌, ℕ, ◌-◌, ◌<◌, ◌≤◌, List, refl, sym, ap, ◌∙◌, subst, Bool, true, false, length, arith}
 use Rattle.std.specs.List.{AllByRecursion}
-use Rattle.std.specs.Prelude.{Option, Some, None, Result, Ok, Err, IsOk, max}
+use Rattle.std.specs.Prelude.{Option, Some, None, Result, Ok, Err, IsOk}
 use Rattle.index_config.specs.declared.config_error.ConfigError.{ConfigError}
-use Rattle.meta_journal.specs.Spelling.{CanSpell}
 use Rattle.meta_journal.specs.declared.entry.Act.{Act}
 use Rattle.meta_journal.specs.declared.entry.Act.TheVariants.{Fence, Create, Stage, Publish, Replace, Raise, Task, MarkStaged, Remove, Retire}
 use Rattle.meta_journal.specs.declared.entry.Entry.{Entry}
-use Rattle.meta_store.specs.History.{History, history, revision_of, moment_of, delta_of}
+use Rattle.meta_store.specs.History.{History, history, revision_of, delta_of}
 use Rattle.meta_store.specs.History.History.{Start, ◌▸◌}
 use Rattle.meta_store.specs.Readings.{reading_of, config_of, configured}
 use Rattle.meta_store.specs.State.{Legal, MayCome, state_of}
@@ -17,7 +16,7 @@ use Rattle.object_store.specs.Store.{State}
 use Rattle.source_checkpoint.specs.declared.delta.Part.{Part}
 use Rattle.source_log.specs.Log.{Log, records_of}
 use Rattle.split_states.specs.declared.facts.RowFacts.{RowFacts}
-use Rattle.index_world.specs.Calls.{fence_of, taken_in, asked_clock, asked_moment}
+use Rattle.index_world.specs.Calls.{fence_of, asked_moment}
 use Rattle.index_config.specs.declared.config.IndexConfig.{IndexConfig}
 use Rattle.index_world.specs.Config.{reads}
 use Rattle.index_world.specs.Configuration.{configuration}
@@ -27,7 +26,7 @@ use Rattle.index_world.specs.Seen.{accepted_in, record_count}
 use Rattle.index_world.specs.SplitFile.{file_of, facts_of, AreSplit}
 use Rattle.index_world.specs.World.{IsTimely}
 use Rattle.index_world.proofs.StoreKeys.{true_is_false}
-use Rattle.index_world.proofs.Numbers.{history-snoc, revision_is}
+use Rattle.index_world.proofs.Numbers.{revision_is}
 
 -- ---- a history that has begun has a configuration
 

@@ -25,7 +25,6 @@ use Rattle.split_states.specs.declared.rows.Row.{Row}
 use Rattle.split_states.specs.declared.rows.RowState.TheVariants.{Staged}
 use Rattle.meta_store.specs.State.{state_of, after}
 use Rattle.meta_store.specs.State as meta
-use Rattle.meta_store.specs.declared.config.Config.{Config}
 use Rattle.meta_store.specs.Said.{Said}
 use Rattle.index_world.specs.Config.{reads}
 use Rattle.meta_store.specs.declared.refusal.Refusal.{Refusal}
@@ -58,6 +57,8 @@ use Rattle.index_world.proofs.InCore.{stored-of}
 use Rattle.index_world.proofs.JournalCalls.{failed_law}
 use Rattle.index_world.proofs.JournalLaws.{spells_own, appends_made, appends_adopted, appends_foreign, appends_no_corrupt}
 use Rattle.index_world.proofs.Journals.{once}
+use Rattle.index_world.proofs.Replaced.{replace_file, raise_leaves}
+use Rattle.index_world.specs.Replacing.{numbers_of}
 use Rattle.index_world.proofs.Doomed.{doomed-removes}
 use Rattle.index_world.proofs.Living.{Releases}
 use Rattle.index_world.proofs.Lives.{Notes, Told, told_of, life_more}
@@ -85,6 +86,9 @@ removes_act (n ∷ numbers) offer e = let same : ◌≡◌ {A = Option (Offer �
 pub offer_act : (own : Own) (moment : ℕ) (doomed : List ℕ) (state : meta.State) (offer : Offer ℕ) → offer_in own moment doomed state ≡ Some offer → offer.act ≡ act_in own moment doomed state
 offer_act (owns.Stage delta facts) moment doomed state offer e = ap (λ (o : Option (Offer ℕ)). act_or o) (sym e)
 offer_act (owns.Publish number) moment doomed state offer e = ap (λ (o : Option (Offer ℕ)). act_or o) (sym e)
+offer_act (owns.Replace plan number upto) moment doomed state offer e = ap (λ (o : Option (Offer ℕ)). act_or o) (sym e)
+offer_act (owns.Raise number upto) moment doomed state offer e = ap (λ (o : Option (Offer ℕ)). act_or o) (sym e)
+offer_act (owns.Task ask) moment doomed state offer e = ap (λ (o : Option (Offer ℕ)). act_or o) (sym e)
 offer_act owns.MarkStale moment doomed state offer e = marks_act (stale_at moment state) offer e
 offer_act owns.Remove moment doomed state offer e = removes_act (doomed_rows doomed state.rows) offer e
 
@@ -121,6 +125,9 @@ rows_alike a b (x ∷ list) h = by (is_marked x.state && is_in b x.number) refl 
 doomed_alike : (own : Own) (moment : ℕ) (a b : List ℕ) (state : meta.State) → ((n : ℕ) → is_in a n ≡ is_in b n) → offer_in own moment a state ≡ offer_in own moment b state
 doomed_alike (owns.Stage delta facts) moment a b state h = refl
 doomed_alike (owns.Publish number) moment a b state h = refl
+doomed_alike (owns.Replace plan number upto) moment a b state h = refl
+doomed_alike (owns.Raise number upto) moment a b state h = refl
+doomed_alike (owns.Task ask) moment a b state h = refl
 doomed_alike owns.MarkStale moment a b state h = refl
 doomed_alike owns.Remove moment a b state h = ap removal_of (rows_alike a b state.rows h)
 
@@ -133,6 +140,9 @@ own_alike own life core doubt k =
 own_numbers : (own : Own) (moment : ℕ) (doomed : List ℕ) (state : meta.State) → HasNumbers (act_in own moment doomed state)
 own_numbers (owns.Stage delta facts) moment doomed state = tt
 own_numbers (owns.Publish number) moment doomed state = tt
+own_numbers (owns.Replace plan number upto) moment doomed state = tt
+own_numbers (owns.Raise number upto) moment doomed state = tt
+own_numbers (owns.Task ask) moment doomed state = tt
 own_numbers owns.MarkStale moment doomed state = tt
 own_numbers owns.Remove moment doomed state = tt
 
@@ -165,6 +175,9 @@ rows_doomed doomed (x ∷ list) = by (is_marked x.state && is_in doomed x.number
 releases_own : (own : Own) (core : Core) → IsTimely core → Releases core (entry_of (act_in own core.moment core.doomed (state_of reads (history core.history))) core)
 releases_own (owns.Stage delta facts) core t config is numbers e = cc e
 releases_own (owns.Publish number) core t config is numbers e = cc e
+releases_own (owns.Replace plan number upto) core t config is numbers e = cc e
+releases_own (owns.Raise number upto) core t config is numbers e = cc e
+releases_own (owns.Task ask) core t config is numbers e = cc e
 releases_own owns.MarkStale core t config is numbers e = cc e
 releases_own owns.Remove core t config is numbers e =
     doomed-removes config.deletion_grace core (entry_of (Remove (doomed_rows core.doomed (rows (history core.history)))) core) (omega arith)
@@ -194,6 +207,9 @@ pub own_file : (kept : State) (core : Core) (log : Log) (own : Own) → IsWorld 
 own_file kept core log owns.MarkStale w may none allowed = tt
 own_file kept core log owns.Remove w may none allowed = tt
 own_file kept core log (owns.Stage delta facts) w may none allowed = tt
+own_file kept core log (owns.Task ask) w may none allowed = tt
+own_file kept core log (owns.Replace plan number upto) w may none allowed = replace_file kept core log core.moment number (numbers_of plan.now.rows) upto w none may allowed.1
+own_file kept core log (owns.Raise number upto) w may none allowed = raise_leaves kept core log core.moment number upto w none may allowed.1
 own_file kept core log (owns.Publish number) w may none allowed =
     let j = journal_is_history core none in
     made_is_publishable kept core.history log number may.delta may.facts may.bytes may.config (subst (λ es. configuration es ≡ Some may.config) j may.configured) (subst (λ es. HasStaged es number may.delta may.facts) j may.staged) may.made
@@ -214,11 +230,15 @@ may_append_is act core ok below = by (answer_behind core.history (entry_of act c
 pub entry_is : (m n : ℕ) (a b : Act) → m ≡ n → a ≡ b → ◌≡◌ {A = Entry} (record { moment = m; act = a }) (record { moment = n; act = b })
 entry_is m n a b p q = λ j. record { moment = p j; act = q j }
 
-pub answer_same : (reading : Said) (s : meta.State) (entry x : Entry) (core : Core) → ((config : Option Config) → reading ≡ reading_of reads config entry.act) → s ≡ state_of reads (history core.history) → entry ≡ x →
+-- the same was read behind the same state
+pub read_on : (reading : Said) (s t : meta.State) (act : Act) → reading ≡ reading_of reads s.config act → t ≡ s → reading ≡ reading_of reads t.config act
+read_on reading s t act read same = read ∙ ap (λ (x : meta.State). reading_of reads x.config act) (sym same)
+
+pub answer_same : (reading : Said) (s : meta.State) (entry x : Entry) (core : Core) → reading ≡ reading_of reads s.config entry.act → s ≡ state_of reads (history core.history) → entry ≡ x →
     answer_to reading s entry ≡ answer_behind core.history x
 answer_same reading s entry x core read state same =
-    ap (λ (r : Said). answer_to r s entry) (read (config_of reads (history core.history)))
-    ∙ ap (λ (t : meta.State). answer_to (reading_of reads (config_of reads (history core.history)) entry.act) t entry) state
+    ap (λ (r : Said). answer_to r s entry) read
+    ∙ ap (λ (t : meta.State). answer_to (reading_of reads t.config entry.act) t entry) state
     ∙ ap (λ (y : Entry). answer_to (reading_of reads (config_of reads (history core.history)) y.act) (state_of reads (history core.history)) y) same
 
 pub unprepared_same : (a a' : Answer) (n n' : ℕ) (x y : WorldError) → a ≡ a' → n ≡ n' → y ≡ x → IsUnprepared a n x → IsUnprepared a' n' y
@@ -230,12 +250,12 @@ appends_at told told' n entry r r' e w = subst (λ (x : Result ℕ JournalError)
 
 -- it was taken in
 pub life_own : {upkeep : Upkeep} (life new : Life) (entries : List Entry) (time : ℕ) (doubt : Bool) (entry x : Entry) (reading : Said) (s : meta.State) → LifeIs life entries time doubt upkeep → new.journal.next ≡ life.journal.next + 1 → new.journal.place ≡ Sure →
-    s ≡ life.meta.state → new.meta.state ≡ after reading entry s → ((config : Option Config) → reading ≡ reading_of reads config entry.act) → new.moment ≡ life.moment → Notes life new entry life.moment →
+    s ≡ life.meta.state → new.meta.state ≡ after reading entry s → reading ≡ reading_of reads life.meta.state.config entry.act → new.moment ≡ life.moment → Notes life new entry life.moment →
     max time entry.moment ≡ life.moment → entry ≡ x → LifeIs new (entries ++ x ∷ []) time false (noting time upkeep x)
 life_own {upkeep} life new entries time doubt entry x reading s k n p state applied read m noted at same =
     subst (λ (y : Entry). LifeIs new (entries ++ y ∷ []) time false (noting time upkeep y)) same
     (life_more life new entries time time doubt entry k n p
-    (applied ∙ ap (λ (t : meta.State). after reading entry t) state ∙ ap (λ (r : Said). after r entry life.meta.state) (read life.meta.state.config)) (m ∙ k.moment) (subst (Notes life new entry) (sym at) noted))
+    (applied ∙ ap (λ (t : meta.State). after reading entry t) state ∙ ap (λ (r : Said). after r entry life.meta.state) read) (m ∙ k.moment) (subst (Notes life new entry) (sym at) noted))
 
 -- ---- what a create answered
 

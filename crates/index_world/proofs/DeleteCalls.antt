@@ -19,15 +19,14 @@ use Rattle.source_log.specs.Log.{Log}
 use Rattle.split_states.specs.Rows.{row_at}
 use Rattle.split_states.specs.declared.rows.Row.{Row}
 use Rattle.split_states.specs.declared.rows.RowState.TheVariants.{Published, Marked}
-use Rattle.index_world.specs.Calls.{Call, begun, risen, may_fail, deleted_by, without_file}
+use Rattle.index_world.specs.Calls.{Effect, done_at_once, done_never, Call, begun, risen, may_fail, deleted_by, without_file}
 use Rattle.index_world.specs.Config.{reads}
-use Rattle.index_world.specs.Configuration.{configuration}
 use Rattle.index_world.specs.Core.{Core, File, file_at, last_count, journal_of, with_unread, release_of, IsLive, IsPlannedIn, IsOther}
 use Rattle.index_world.specs.Deleted.{DeletesAs}
 use Rattle.index_world.specs.Held.{KeepsFor, All, But}
-use Rattle.index_world.specs.Index.{OneEntry, IsIndexOf, MayEnter, IsGivenUp, has_staged, is_meta}
+use Rattle.index_world.specs.Index.{OneEntry, IsIndexOf, MayEnter, IsGivenUp, is_meta}
 use Rattle.index_world.specs.Onward.{Onward}
-use Rattle.index_world.specs.Releases.{MayFree, IsDoomed}
+use Rattle.index_world.specs.Releases.{MayFree}
 use Rattle.index_world.specs.Standing.{StandsFor}
 use Rattle.index_world.specs.World.{IsWorld, GoesFor}
 use Rattle.index_world.proofs.Timely.{free_later}
@@ -195,24 +194,24 @@ module _ (old new : State) (core : Core) (log : Log) (n now : ℕ) (w : IsWorld 
   delete_failed : OneEntry → (e : Failed) → Rose core.store_faults now → LandsThen (Deletes (split_key n) (Err e)) old new → DeletesAs new core log n (Err e) now
   delete_failed once e rose t = by t.2
     where
-      call : Bool → Call
-      call at_once = failing t.1.0 (now - core.store_faults) at_once
+      call : Effect → Call
+      call effect = failing t.1.0 (now - core.store_faults) effect
 
       mid : Core
-      mid = begun (call true) core
+      mid = begun (call done_at_once) core
 
       b : Begun old t.0 core mid log now
-      b = world-begins once old t.0 core log now (call true) w c refl t.1.1
+      b = world-begins once old t.0 core log now (call done_at_once) w c refl t.1.1
 
-      fails : may_fail (call true) core.store_faults ≡ true
+      fails : may_fail (call done_at_once) core.store_faults ≡ true
       fails = rose_may core now c rose
 
       by : (new ≡ without_object t.0 (split_key n)) ⊎ (new ≡ t.0) → DeletesAs new core log n (Err e) now
       by (inl is) =
           let after : Core = without_file (split_key n) mid in
-          let d = deleted-on t.0 mid after b.onward (subst (λ k. Deleted t.0 k mid after log n) (sym is) (world-deleted t.0 mid log n b.onward.world (begun_free (call true)))) in
+          let d = deleted-on t.0 mid after b.onward (subst (λ k. Deleted t.0 k mid after log n) (sym is) (world-deleted t.0 mid log n b.onward.world (begun_free (call done_at_once)))) in
           record {
-            call = call true;
+            call = call done_at_once;
             after = after;
             did = ap (λ x. deleted_by x true core.store_faults (split_key n) mid) fails;
             world = d.world;
@@ -229,7 +228,7 @@ module _ (old new : State) (core : Core) (log : Log) (n now : ℕ) (w : IsWorld 
           let d : Deleted old new core mid log n = subst (λ k. Deleted old k core mid log n) (sym is)
           (record { world = b.onward.world; others = held-fewer All (But n) old t.0 (journal_of core) (journal_of mid) b.onward.held; live = b.onward.live }) in
           record {
-            call = call false;
+            call = call done_never;
             after = mid;
             did = ap (λ x. deleted_by x false core.store_faults (split_key n) mid) fails;
             world = d.world;

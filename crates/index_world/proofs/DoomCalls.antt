@@ -1,7 +1,7 @@
 -- A doom of a world is the core's.
-use Rattle.std.proofs.Common.{◌≡◌, ◌⊎◌, ℕ, ◌+◌, ◌<◌, ◌≤◌, ◌&&◌, ◌||◌, ◌==◌, List, [], ◌∷◌, ◌++◌, Bool, true, false, not, Option, Some, Result, Ok, Err, length, max, refl, sym, ap, ◌∙◌, subst, inl, inr, arith, nat_le, option_map}
+use Rattle.std.proofs.Common.{◌≡◌, ◌⊎◌, ℕ, ◌+◌, ◌<◌, ◌≤◌, ◌&&◌, ◌||◌, ◌==◌, List, [], ◌∷◌, ◌++◌, Bool, true, false, not, Option, Some, Result, Ok, Err, length, max, refl, sym, ap, ◌∙◌, subst, inl, inr, arith, nat_le}
 use Rattle.std.proofs.lemmas.List.Folds.{list_any-append}
-use Rattle.std.specs.Prelude.{IsErr, IfErr, IfSome, None, find, ⊤}
+use Rattle.std.specs.Prelude.{IsErr, IfSome, None, find}
 use Rattle.std.specs.List.{AllByRecursion}
 use Rattle.std.specs.Result.{IsErrAnd}
 use Rattle.byte_fields.specs.Causes.{Rose, HasCause}
@@ -20,7 +20,7 @@ use Rattle.split_states.specs.Due.{is_marked}
 use Rattle.split_states.specs.declared.rows.Row.{Row}
 use Rattle.index_world.specs.declared.world_error.WorldError.{WorldError}
 use Rattle.index_world.specs.declared.world_error.WorldError.TheVariants as errors
-use Rattle.index_world.specs.Answering.{DeletesRow, next_in, kept_config, SaysDoomed}
+use Rattle.index_world.specs.Answering.{DeletesRow, next_in, SaysDoomed}
 use Rattle.index_world.specs.Calls.{asked_clock, asked_moment, calm_call, calm_fate, faulted, no_memory, store_fault}
 use Rattle.index_world.specs.Collected.{DoomsAs, deleted_gives, doomed_behind}
 use Rattle.index_world.specs.Collecting.{config_taken, doom_call, doom_next, may_go, may_go_by, next_doomed}
@@ -31,7 +31,7 @@ use Rattle.index_world.specs.DirectLaws.{stays_as_is}
 use Rattle.index_world.specs.Gate.{ActsWith, SaysWith, IsGiven, IsTrouble}
 use Rattle.index_world.specs.Index.{max_entries}
 use Rattle.index_world.specs.Releases.{MayFree}
-use Rattle.index_world.specs.Taking.{IsFaultBetween, IsWant}
+use Rattle.index_world.specs.Taking.{IsWant}
 use Rattle.index_world.specs.World.{IsTimely, Keeping, WorldStands}
 use Rattle.index_world.proofs.Asking.{begun_history}
 use Rattle.index_world.proofs.Dooming.{doomed_is_free, dooms_as}

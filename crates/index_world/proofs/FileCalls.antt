@@ -1,7 +1,7 @@
 -- What an upload, a fetch and a load did to the store, in the words of the core.
 use Rattle.std.proofs.Common.{◌≡◌, ◌⊎◌, ℕ, suc, ◌≤◌, ◌-◌, List, [], ◌∷◌, ◌++◌, refl, sym, ap, ◌∙◌, subst, inl, inr, Bool, true, false, length, arith, append-nil}
 use Rattle.std.specs.FinMap.{get}
-use Rattle.std.specs.Prelude.{Option, Some, None, is_some, IsSome, Result, Ok, Err, ⊤, ◌==◌, ◌||◌}
+use Rattle.std.specs.Prelude.{Option, Some, None, is_some, Result, Ok, Err, ⊤, ◌==◌, ◌||◌}
 use Rattle.byte_fields.specs.Causes.{Rose}
 use Rattle.meta_journal.specs.Places.{split_key, IsJournal}
 use Rattle.meta_journal.specs.declared.entry.Entry.{Entry}
@@ -10,7 +10,7 @@ use Rattle.meta_store.specs.History.{history as told}
 use Rattle.object_store.specs.Store.{State, with_object, with_late, HasLanded, LandsThen, Creates}
 use Rattle.object_store.specs.declared.store.CreateError.TheVariants as creates
 use Rattle.source_log.specs.Log.{Log}
-use Rattle.index_world.specs.Calls.{Call, Fate, calm_call, Gives, gives, Trouble, no_memory, Unread, not_read, no_index, store_failed, begun, file_by, file_made, upload_made, sought_by, file_sought, hindered, or_short, with_file, taken_in, with_standing, reborn, read_journal, unless_empty, load_by, loaded, may_fail, risen}
+use Rattle.index_world.specs.Calls.{Effect, done_at_once, done_late, done_never, Call, Fate, calm_call, Gives, gives, Trouble, no_memory, Unread, not_read, no_index, store_failed, begun, file_by, file_made, upload_made, sought_by, file_sought, hindered, or_short, with_file, taken_in, with_standing, reborn, read_journal, unless_empty, load_by, loaded, may_fail, risen}
 use Rattle.index_world.specs.Calls as calls
 use Rattle.index_world.specs.Core.{Core, late_file, file_at, last_count, with_unread, journal_of, clock_of, upkeep_of, no_upkeep}
 use Rattle.index_world.specs.Index.{OneEntry, IsUnused, IsStored, is_meta}
@@ -64,7 +64,7 @@ upload_is_made once old new core log n bytes now w c u t = (
   record {
     call = quiet t.1.0 (now - core.store_faults) false;
     after = with_file (split_key n) bytes mid;
-    did = ap (λ there. file_by false false there core.store_faults (split_key n) bytes mid) (absent_file t.0 mid n b.onward.world.stands_for unused);
+    did = ap (λ there. file_by false done_never there core.store_faults (split_key n) bytes mid) (absent_file t.0 mid n b.onward.world.stands_for unused);
     filed = filed-on old t.0 new core mid (with_file (split_key n) bytes mid) log n b.onward (subst (λ k. Filed t.0 k mid (with_file (split_key n) bytes mid) log n) (sym t.2.1) file.0);
     history = b.history;
     faults = b.faults;
@@ -92,14 +92,14 @@ pub upload_failed : OneEntry → (old new : State) (core : Core) (log : Log) (n 
     LandsThen (Creates (split_key n) bytes (Err creates.Failed)) old new → UploadLaw old new core log n bytes (λ after. Err (store_failed core.store_faults after)) now
 upload_failed once old new core log n bytes now w c rose u t = by t.2
   where
-    call : Bool → Call
-    call at_once = failing t.1.0 (now - core.store_faults) at_once
+    call : Effect → Call
+    call effect = failing t.1.0 (now - core.store_faults) effect
 
     mid : Core
-    mid = begun (call true) core
+    mid = begun (call done_at_once) core
 
     b : Begun old t.0 core mid log now
-    b = world-begins once old t.0 core log now (call true) w c refl t.1.1
+    b = world-begins once old t.0 core log now (call done_at_once) w c refl t.1.1
 
     unused : IsUnused t.0 (journal_of mid) n
     unused = b.onward.held.unused n tt u
@@ -107,17 +107,17 @@ upload_failed once old new core log n bytes now w c rose u t = by t.2
     absent : is_some (file_at mid.files (split_key n)) ≡ false
     absent = absent_file t.0 mid n b.onward.world.stands_for unused
 
-    fails : may_fail (call true) core.store_faults ≡ true
+    fails : may_fail (call done_at_once) core.store_faults ≡ true
     fails = rose_may core now c rose
 
     by : ((get t.0.objects (split_key n) ≡ None) × (new ≡ with_object t.0 (split_key n) bytes))
-        ⊎ ((new ≡ with_late t.0 (split_key n) bytes) ⊎ (IsSome (get t.0.objects (split_key n)) × (new ≡ t.0))) → UploadLaw old new core log n bytes (λ after. Err (store_failed core.store_faults after)) now
+        ⊎ ((new ≡ with_late t.0 (split_key n) bytes) ⊎ (new ≡ t.0)) → UploadLaw old new core log n bytes (λ after. Err (store_failed core.store_faults after)) now
     by (inl d) =
         record {
-          call = call true;
+          call = call done_at_once;
           after = with_file (split_key n) bytes mid;
-          did = ap (λ f. file_by f true (is_some (file_at mid.files (split_key n))) core.store_faults (split_key n) bytes mid) fails
-              ∙ ap (λ there. file_by true true there core.store_faults (split_key n) bytes mid) absent;
+          did = ap (λ f. file_by f done_at_once (is_some (file_at mid.files (split_key n))) core.store_faults (split_key n) bytes mid) fails
+              ∙ ap (λ there. file_by true done_at_once there core.store_faults (split_key n) bytes mid) absent;
           filed = filed-on old t.0 new core mid (with_file (split_key n) bytes mid) log n b.onward
               (subst (λ k. Filed t.0 k mid (with_file (split_key n) bytes mid) log n) (sym d.1) (world-file t.0 mid log n bytes b.onward.world unused).0);
           history = b.history;
@@ -129,10 +129,9 @@ upload_failed once old new core log n bytes now w c rose u t = by t.2
         }
     by (inr (inl d)) =
         record {
-          call = call false;
+          call = call done_late;
           after = calls.with_late (late_file (split_key n) bytes) mid;
-          did = ap (λ f. file_by f false (is_some (file_at mid.files (split_key n))) core.store_faults (split_key n) bytes mid) fails
-              ∙ ap (λ there. file_by true false there core.store_faults (split_key n) bytes mid) absent;
+          did = ap (λ f. file_by f done_late (is_some (file_at mid.files (split_key n))) core.store_faults (split_key n) bytes mid) fails;
           filed = filed-on old t.0 new core mid (calls.with_late (late_file (split_key n) bytes) mid) log n b.onward
               (subst (λ k. Filed t.0 k mid (calls.with_late (late_file (split_key n) bytes) mid) log n) (sym d) (world-file-late t.0 mid log n bytes b.onward.world unused));
           history = b.history;
@@ -142,7 +141,19 @@ upload_failed once old new core log n bytes now w c rose u t = by t.2
           upkeep = b.upkeep;
           unsure = b.unsure;
         }
-    by (inr (inr d)) = absurd (true_is_false (sym d.0 ∙ ap is_some unused.absent))
+    by (inr (inr is)) =
+        record {
+          call = call done_never;
+          after = mid;
+          did = ap (λ f. file_by f done_never (is_some (file_at mid.files (split_key n))) core.store_faults (split_key n) bytes mid) fails;
+          filed = subst (λ k. Filed old k core mid log n) (sym is) (filed-of old t.0 core mid log n b.onward);
+          history = b.history;
+          faults = b.faults;
+          moment = b.moment;
+          clock = b.clock;
+          upkeep = b.upkeep;
+          unsure = b.unsure;
+        }
 
 -- it never meets a file there
 pub upload_never_exists : OneEntry → (old new : State) (core : Core) (log : Log) (n : ℕ) (bytes : List ℕ) → IsWorld old core log → core.store_faults ≤ last_count → IsUnused old (journal_of core) n →
@@ -185,7 +196,7 @@ sought_law once old new core log now key there outside w c t e =
 pub sought_failed_law : OneEntry → (old new : State) (core : Core) (log : Log) (now : ℕ) (key : List ℕ) → IsWorld old core log → Counted core now → Rose core.store_faults now → HasLanded old new →
     (call : Call) × (after : Core) × (file_sought call key core ≡ gives (Err (hindered (store_failed core.store_faults after))) after) × Begun old new core after log now
 sought_failed_law once old new core log now key w c rose t =
-    let call = failing t.0 (now - core.store_faults) false in
+    let call = failing t.0 (now - core.store_faults) done_never in
     let left = begun call core in
     (call, left, ap (λ f. sought_by f (is_some (file_at left.files key)) core.store_faults key left) (rose_may core now c rose), world-begins once old new core log now call w c refl t.1)
 
@@ -314,7 +325,7 @@ load_failed_law once old new core log now w c rose t =
     }
   where
     first : Call
-    first = failing t.0 (now - core.store_faults) false
+    first = failing t.0 (now - core.store_faults) done_never
 
     second : Call
     second = quiet [] 0 false

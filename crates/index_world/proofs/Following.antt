@@ -43,7 +43,7 @@ keeps_created key content (Ok done) old new h = keeps_with old new key content h
 keeps_created key content (Err creates.Exists) old new h = keeps_same old new h.1
 keeps_created key content (Err creates.Failed) old new (inl h) = keeps_with old new key content h.0 h.1
 keeps_created key content (Err creates.Failed) old new (inr (inl h)) = λ k bytes stands. subst (λ (s : State). get s.objects k ≡ Some bytes) (sym h) stands
-keeps_created key content (Err creates.Failed) old new (inr (inr h)) = keeps_same old new h.1
+keeps_created key content (Err creates.Failed) old new (inr (inr h)) = keeps_same old new h
 keeps_created key content (Err (creates.Memory e)) old new h = keeps_same old new h
 
 keeps_tried : (n : ℕ) (e : Entry) (r : Result ⊤ CreateError) (old new : State) → Tries n e r old new → Keeps old new

@@ -14,7 +14,6 @@ use Rattle.meta_store.specs.History.History.{Start, ◌▸◌}
 use Rattle.meta_store.specs.Readings.{config_of, reading_of}
 use Rattle.meta_store.specs.State.{Legal, state_of, after}
 use Rattle.meta_store.specs.State as meta
-use Rattle.meta_store.specs.declared.config.Config.{Config}
 use Rattle.meta_store.specs.Said.{Said}
 use Rattle.object_store.specs.Store.{State}
 use Rattle.index_world.specs.Config.{reads}
@@ -58,16 +57,16 @@ err_behind : (n : ℕ) (answer : Answer) (rest : Option ℕ) → IsErr answer �
 err_behind n (Ok done) rest h = absurd (true_is_false (sym h))
 err_behind n (Err refusal) rest h = refl
 
-answer_here : (reading : Said) (s : meta.State) (e : Entry) (taken : List Entry) → s ≡ state_of reads (history taken) → ((config : Option Config) → reading ≡ reading_of reads config e.act) →
+answer_here : (reading : Said) (s : meta.State) (e : Entry) (taken : List Entry) → s ≡ state_of reads (history taken) → reading ≡ reading_of reads s.config e.act →
     answer_to reading s e ≡ answer_to (reading_of reads (config_of reads (history taken)) e.act) (state_of reads (history taken)) e
-answer_here reading s e taken is read = ap (λ (r : Said). answer_to r s e) (read (config_of reads (history taken))) ∙ ap (λ (x : meta.State). answer_to (reading_of reads (config_of reads (history taken)) e.act) x e) is
+answer_here reading s e taken is read = ap (λ (r : Said). answer_to r s e) read ∙ ap (λ (x : meta.State). answer_to (reading_of reads x.config e.act) x e) is
 
 refused_next : (all left left' : List Entry) (e : Entry) (taken : List Entry) → first_refused Start all ≡ first_refused (history taken) (reverse left) → left ≡ left' ++ e ∷ [] →
     first_refused Start all ≡ first_refused (history taken) (e ∷ reverse left')
 refused_next all left left' e taken r l = r ∙ ap (λ (es : List Entry). first_refused (history taken) (reverse es)) l ∙ ap (first_refused (history taken)) (reverse-append left' (e ∷ []))
 
 -- one of the entries is refused, or memory wants
-pub front_refused : (all left left' : List Entry) (e : Entry) (reading : Said) (s : meta.State) (time number : ℕ) → FrontTaken all left s time → left ≡ left' ++ e ∷ [] → ((config : Option Config) → reading ≡ reading_of reads config e.act) →
+pub front_refused : (all left left' : List Entry) (e : Entry) (reading : Said) (s : meta.State) (time number : ℕ) → FrontTaken all left s time → left ≡ left' ++ e ∷ [] → reading ≡ reading_of reads s.config e.act →
     number ≡ s.revision → (error : WorldError) → IsUnfit (answer_to reading s e) number error → IsRefusedAt (first_refused Start all) error
 front_refused all left left' e reading s time number f l read is (errors.Memory a) u = tt
 front_refused all left left' e reading s time number f l read is (errors.Corrupt key) u = (
@@ -85,13 +84,13 @@ front_refused all left left' e reading s time number f l read is errors.NoIndex 
 front_refused all left left' e reading s time number f l read is errors.IndexExists u = absurd u
 front_refused all left left' e reading s time number f l read is (errors.BadConfig bad) u = absurd u
 
-pub front_more : (all left left' : List Entry) (e : Entry) (reading : Said) (s s' : meta.State) (time time' q : ℕ) → FrontTaken all left s time → left ≡ left' ++ e ∷ [] → s' ≡ after reading e s → ((config : Option Config) → reading ≡ reading_of reads config e.act) →
+pub front_more : (all left left' : List Entry) (e : Entry) (reading : Said) (s s' : meta.State) (time time' q : ℕ) → FrontTaken all left s time → left ≡ left' ++ e ∷ [] → s' ≡ after reading e s → reading ≡ reading_of reads s.config e.act →
     (e.moment < 2 ^ 62 → q ≡ e.moment) → time' ≡ max q time → IsOk (answer_to reading s e) → FrontTaken all left' s' time'
 front_more all left left' e reading s s' time time' q f l applied read low m ok =
     record {
       taken = f.taken ++ e ∷ [];
       parts = p ∙ sym (append_assoc f.taken (e ∷ []) (reverse left'));
-      state_is = applied ∙ ap (λ (r : Said). after r e s) (read s.config) ∙ ap (λ (x : meta.State). after (reading_of reads x.config e.act) e x) f.state_is ∙ ap (state_of reads) (sym (history-snoc f.taken e));
+      state_is = applied ∙ ap (λ (r : Said). after r e s) read ∙ ap (λ (x : meta.State). after (reading_of reads x.config e.act) e x) f.state_is ∙ ap (state_of reads) (sym (history-snoc f.taken e));
       greatest = λ t.
           let g = f.greatest t in
           let a = low (timely_mid f.taken e (reverse left') (subst AreTimely p t)) in
@@ -103,10 +102,10 @@ front_more all left left' e reading s s' time time' q f l applied read low m ok 
     p : all ≡ f.taken ++ e ∷ reverse left'
     p = parts_more all f.taken left left' e f.parts l
 
-pub front_answers : (all left left' : List Entry) (e : Entry) (reading : Said) (s : meta.State) (time : ℕ) → FrontTaken all left s time → left ≡ left' ++ e ∷ [] → ((config : Option Config) → reading ≡ reading_of reads config e.act) → Legal reads (history all) →
+pub front_answers : (all left left' : List Entry) (e : Entry) (reading : Said) (s : meta.State) (time : ℕ) → FrontTaken all left s time → left ≡ left' ++ e ∷ [] → reading ≡ reading_of reads s.config e.act → Legal reads (history all) →
     IsOk (answer_to reading s e)
 front_answers all left left' e reading s time f l read legal =
-    subst (λ (r : Said). IsOk (answer_to r s e)) (sym (read s.config)) (answers_allowed s f.taken e f.state_is allowed)
+    subst (λ (r : Said). IsOk (answer_to r s e)) (sym read) (answers_allowed s f.taken e f.state_is allowed)
   where
     allowed : IsAllowed f.taken e
     allowed = (legal_front (history f.taken ▸ e) (reverse left') (subst (Legal reads) (ap history (parts_more all f.taken left left' e f.parts l) ∙ fold-append ◌▸◌ Start f.taken (e ∷ reverse left')) legal)).1

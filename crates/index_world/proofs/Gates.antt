@@ -42,15 +42,17 @@ use Rattle.index_world.specs.DirectLaws.{AnyNumber, Anything}
 use Rattle.index_world.specs.Gate.{Acts, ActsWith, Does, Says, SaysWith, NoneBetween, IsTrouble, IsUnfetched, IsUnmade, WasStaged, IsStagedIn, WasUploaded, IsMoment, IsPieceGiven}
 use Rattle.index_world.specs.Life.{LifeIs, StandsBy, SettledSure, SettledIn, Settling, OffersNothing, OwnDone, OwnMade, Appending}
 use Rattle.index_world.specs.Collecting.{Offer, adopted_offer, answered_by, appended_if, last_offer, offer_unless, transact_if}
-use Rattle.index_world.specs.Owning.{own_offer}
+use Rattle.index_world.specs.Owning.{MayOwn, own_offer}
 use Rattle.index_world.specs.Steps.{Counted, greatest, noted_behind}
 use Rattle.index_world.specs.Taking.{IsWant, of_create, of_get}
 use Rattle.index_world.specs.Unsure.{is_unsure}
 use Rattle.index_world.specs.World.{IsWorld, IsTimely, Keeping, WorldStands}
+use Rattle.index_world.proofs.Appending.{owned_on}
+use Rattle.index_world.proofs.JournalLaws.{legal_history}
 use Rattle.index_world.proofs.Timely.{frees_later, timely_asked}
 use Rattle.index_world.proofs.Lives.{Told, told_of, want_trouble, knows_of}
 use Rattle.index_world.proofs.Numbers.{history-snoc, revision_is, staged_le}
-use Rattle.index_world.proofs.WholeCalls.{went_on_asked, Whole, Looks, looks_sure, looks_settled, looks_unsettled, whole_asked, whole_looked, whole_asked_and_looked, world_asked, copied}
+use Rattle.index_world.proofs.WholeCalls.{keeps_asked, went_on_asked, Whole, Looks, looks_sure, looks_settled, looks_unsettled, whole_asked, whole_looked, whole_asked_and_looked, world_asked, copied}
 use Rattle.index_world.proofs.Worlds.{world-same, world-frozen}
 
 -- ---- what a world keeps
@@ -99,6 +101,10 @@ world_asks w w' core log s e =
       doomed = s.doomed;
       opened = s.opened;
     })
+
+-- what an own entry needs stays where the clock is asked
+pub owned_asked : (own : Own) (w : Keeping) (core : Core) (log : Log) → WorldStands w core log → MayOwn own log core → MayOwn own log (asked_clock core)
+owned_asked own w core log s may = owned_on own log core (asked_clock core) [] (sym (append-nil core.history)) (legal_history s.kept core log s.world) (keeps_asked core) may
 
 -- the world is frozen
 pub world_freezes : (w w' : Keeping) (core : Core) (log : Log) → w' ≡ record w { frozen = true } → WorldStands w core log → WorldStands w' (record core { frozen = true }) log

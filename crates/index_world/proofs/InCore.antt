@@ -70,11 +70,11 @@ pub shown-of : (kept : State) (core : Core) (n : ℕ) (bytes : List ℕ) → Sta
 shown-of kept core n bytes s f = record { shown = f.shown; left = as_stands (sym (s.files (split_key n) (split_outside n))) f.left; not_late = not_late-of kept core (split_key n) s f.not_late }
 
 -- a file that stands, or whose row was marked or is gone
-uploaded-in : (kept : State) (core : Core) (n : ℕ) (bytes : List ℕ) → StandsFor kept core → IsFound kept (journal_of core) n bytes → IsUploadedIn core n bytes
+pub uploaded-in : (kept : State) (core : Core) (n : ℕ) (bytes : List ℕ) → StandsFor kept core → IsFound kept (journal_of core) n bytes → IsUploadedIn core n bytes
 uploaded-in kept core n bytes s (inl u) = inl (stored-in kept core n bytes s u)
 uploaded-in kept core n bytes s (inr g) = inr g
 
-uploaded-of : (kept : State) (core : Core) (n : ℕ) (bytes : List ℕ) → StandsFor kept core → IsUploadedIn core n bytes → IsFound kept (journal_of core) n bytes
+pub uploaded-of : (kept : State) (core : Core) (n : ℕ) (bytes : List ℕ) → StandsFor kept core → IsUploadedIn core n bytes → IsFound kept (journal_of core) n bytes
 uploaded-of kept core n bytes s (inl u) = inl (stored-of kept core n bytes s u)
 uploaded-of kept core n bytes s (inr g) = inr g
 

@@ -1,5 +1,5 @@
 -- What a call of the journal did to its store, in the words of the core: with some fate it is the core's call.
-use Rattle.std.proofs.Common.{◌≡◌, ◌⊎◌, ℕ, ◌≤◌, ◌+◌, ◌-◌, List, [], ◌∷◌, ◌++◌, refl, sym, ap, ◌∙◌, subst, inl, inr, Bool, true, false, length, arith}
+use Rattle.std.proofs.Common.{◌≡◌, ◌⊎◌, ℕ, ◌≤◌, ◌+◌, ◌-◌, List, [], ◌∷◌, ◌++◌, refl, sym, ap, ◌∙◌, subst, inl, inr, true, false, length, arith}
 use Rattle.std.proofs.lemmas.Bool.Decides.{nat_tests}
 use Rattle.std.specs.FinMap.{get}
 use Rattle.std.specs.Prelude.{Option, Some, None, is_some, IsSome, Ok, Err, max, nat_lt, ◌==◌, ◌||◌}
@@ -10,7 +10,7 @@ use Rattle.meta_journal.specs.declared.entry.Entry.{Entry}
 use Rattle.object_store.specs.Store.{State, landed, with_object, with_late, HasLanded, LandsThen, Creates}
 use Rattle.object_store.specs.declared.store.CreateError.TheVariants as creates
 use Rattle.source_log.specs.Log.{Log}
-use Rattle.index_world.specs.Calls.{Call, exists, failed, Making, made_behind, made_at, create_at_end, tried, begun, risen, may_fail, taken_in, got_at, get_at_end, gives, store_failed}
+use Rattle.index_world.specs.Calls.{Call, Effect, done_at_once, done_late, done_never, exists, failed, Making, made_behind, made_at, create_at_end, tried, begun, risen, may_fail, taken_in, got_at, get_at_end, gives, store_failed}
 use Rattle.index_world.specs.Core.{Core, late_entry, last_count, clock_of, Upkeep, upkeep_of}
 use Rattle.index_world.specs.Index.{OneEntry, MayEnter, IsUnused, HasStaged}
 use Rattle.index_world.specs.World.{IsWorld}
@@ -38,8 +38,8 @@ rose_may core now c rose = rw (risen_is core now c) (by core.store_faults now ro
 
 -- ---- a call begins
 
-abbrev pub failing : List ℕ → ℕ → Bool → Call
-failing places rises at_once = record { lands = places; fails = true; at_once = at_once; rises = rises; short = false }
+abbrev pub failing : List ℕ → ℕ → Effect → Call
+failing places rises effect = record { lands = places; fails = true; effect = effect; rises = rises; short = false }
 
 -- what landed as the call began
 pub record Begun (old mid : State) (core after : Core) (log : Log) (now : ℕ) : Type 0 where
@@ -221,29 +221,29 @@ pub failed_law : OneEntry → (old new : State) (core : Core) (log : Log) (entry
     FailedLaw old new core log entry now
 failed_law once old new core log entry now w c rose can keeps may spells t = by t.2
   where
-    call : Bool → Call
-    call at_once = failing t.1.0 (now - core.store_faults) at_once
+    call : Effect → Call
+    call effect = failing t.1.0 (now - core.store_faults) effect
 
-    fails : (at_once : Bool) → may_fail (call at_once) core.store_faults ≡ true
-    fails at_once = rose_may core now c rose
+    fails : (effect : Effect) → may_fail (call effect) core.store_faults ≡ true
+    fails effect = rose_may core now c rose
 
     mid : Core
-    mid = begun (call true) core
+    mid = begun (call done_at_once) core
 
     b : Begun old t.0 core mid log now
-    b = world-begins once old t.0 core log now (call true) w c refl t.1.1
+    b = world-begins once old t.0 core log now (call done_at_once) w c refl t.1.1
 
     by : ((get t.0.objects (meta_key (length core.history)) ≡ None) × (new ≡ with_object t.0 (meta_key (length core.history)) (spelling entry)))
-        ⊎ ((new ≡ with_late t.0 (meta_key (length core.history)) (spelling entry)) ⊎ (IsSome (get t.0.objects (meta_key (length core.history))) × (new ≡ t.0))) → FailedLaw old new core log entry now
+        ⊎ ((new ≡ with_late t.0 (meta_key (length core.history)) (spelling entry)) ⊎ (new ≡ t.0)) → FailedLaw old new core log entry now
     by (inl d) =
         let none : mid.standing ≡ None = nothing_stands t.0 mid log b.onward.world (ap (λ es. numbered t.0 (length es)) b.history ∙ d.0) in
         let entered = world-enters t.0 mid log entry (spelling entry) true b.onward.world none spells (releases-on core mid entry b.history (ap (λ (u : Upkeep). u.marks) b.upkeep) keeps) (subst (λ es. MayEnter t.0 es log entry) (sym b.history) (b.enters none entry may)) in
         let is : new ≡ with_object t.0 (meta_key (length mid.history)) (spelling entry) = d.1 ∙ ap (λ es. with_object t.0 (meta_key (length es)) (spelling entry)) (sym b.history) in
         record {
-          call = call true;
+          call = call done_at_once;
           short = refl;
           after = record mid { standing = Some entry; unsure = true };
-          did = ap (λ f. made_at f true entry mid) (fails true) ∙ ap (λ o. has_failed (tried true o entry mid)) none;
+          did = ap (λ f. made_at f done_at_once entry mid) (fails done_at_once) ∙ ap (λ o. has_failed (tried done_at_once o entry mid)) none;
           onward = Onward-trans old t.0 new core mid (record mid { standing = Some entry; unsure = true }) log b.onward (subst (λ k. Onward t.0 k mid (record mid { standing = Some entry; unsure = true }) log) (sym is) entered.onward);
           history = b.history;
           faults = b.faults;
@@ -256,10 +256,10 @@ failed_law once old new core log entry now w c rose can keeps may spells t = by 
         let is : new ≡ with_late t.0 (meta_key (length mid.history)) (spelling entry) = d ∙ ap (λ es. with_late t.0 (meta_key (length es)) (spelling entry)) (sym b.history) in
         let onward = world-tried t.0 mid log entry (spelling entry) b.onward.world can spells (releases-on core mid entry b.history (ap (λ (u : Upkeep). u.marks) b.upkeep) keeps) (λ none. subst (λ es. MayEnter t.0 es log entry) (sym b.history) (b.enters none entry may)) in
         record {
-          call = call false;
+          call = call done_late;
           short = refl;
           after = record mid { late = mid.late ++ late_entry (length mid.history) entry (spelling entry) ∷ []; unsure = true };
-          did = ap (λ f. made_at f false entry mid) (fails false);
+          did = ap (λ f. made_at f done_late entry mid) (fails done_late);
           onward = Onward-trans old t.0 new core mid (record mid { late = mid.late ++ late_entry (length mid.history) entry (spelling entry) ∷ []; unsure = true }) log b.onward (subst (λ k. Onward t.0 k mid (record mid { late = mid.late ++ late_entry (length mid.history) entry (spelling entry) ∷ []; unsure = true }) log) (sym is) onward);
           history = b.history;
           faults = b.faults;
@@ -268,15 +268,14 @@ failed_law once old new core log entry now w c rose can keeps may spells t = by 
           upkeep = b.upkeep;
           unsure = refl;
         }
-    by (inr (inr d)) =
-        let u = something_stands t.0 mid log b.onward.world (subst (λ es. IsSome (numbered t.0 (length es))) (sym b.history) d.0) in
+    by (inr (inr is)) =
         record {
-          call = call true;
+          call = call done_never;
           short = refl;
           after = record mid { unsure = true };
-          did = ap (λ f. made_at f true entry mid) (fails true) ∙ ap (λ o. has_failed (tried true o entry mid)) u.is;
+          did = ap (λ f. made_at f done_never entry mid) (fails done_never);
           onward = Onward-trans old t.0 new core mid (record mid { unsure = true }) log b.onward
-              (subst (λ k. Onward t.0 k mid (record mid { unsure = true }) log) (sym d.1)
+              (subst (λ k. Onward t.0 k mid (record mid { unsure = true }) log) (sym is)
               (onward-same t.0 mid log mid.store_faults mid.moment mid.clock true (omega arith) b.onward.world));
           history = b.history;
           faults = b.faults;
@@ -323,7 +322,7 @@ pub record GetFailedLaw (old new : State) (core : Core) (log : Log) (entry : Ent
   pub mid : Core
   pub did : create_at_end (quiet places (core.store_faults - core.store_faults) false) entry core ≡ record { answer = exists other; core = mid }
   pub after : Core
-  pub got : get_at_end (failing [] (now - core.store_faults) false) other before mid ≡ gives (Err (store_failed before after)) after
+  pub got : get_at_end (failing [] (now - core.store_faults) done_never) other before mid ≡ gives (Err (store_failed before after)) after
   pub onward : Onward old new core after log
   pub history : after.history ≡ core.history
   pub faults : after.store_faults ≡ now
@@ -356,7 +355,7 @@ get_failed_law once old new core log entry before now w c rose t h =
     e = exists_law once old new core log entry core.store_faults w (record { later = omega arith; within = let a = c.later in let b = c.within in omega (arith, a, b) }) t h
 
     get_call : Call
-    get_call = failing [] (now - core.store_faults) false
+    get_call = failing [] (now - core.store_faults) done_never
 
     second : Core
     second = begun get_call e.after

@@ -12,7 +12,7 @@ use Rattle.meta_store.specs.History.{history}
 use Rattle.meta_store.specs.State.{Legal}
 use Rattle.object_store.specs.Store.{State, HasLanded}
 use Rattle.source_log.specs.Log.{Log}
-use Rattle.index_world.specs.Calls.{Call, no_memory, store_failed, settle_making, fence_of, entry_of, begun, taken_in}
+use Rattle.index_world.specs.Calls.{done_never, done_at_once, Call, no_memory, store_failed, settle_making, fence_of, entry_of, begun, taken_in}
 use Rattle.index_world.specs.Config.{reads}
 use Rattle.index_world.specs.Core.{Core, with_unread}
 use Rattle.index_world.specs.Index.{MayEnter}
@@ -90,7 +90,7 @@ or_yes false = refl
 
 -- a get that answered, behind which no memory is found
 abbrev pub short_get : Call
-short_get = record { lands = []; fails = false; at_once = true; rises = 0; short = true }
+short_get = record { lands = []; fails = false; effect = done_at_once; rises = 0; short = true }
 
 module _ (old new : State) (core : Core) (log : Log) (now : ℕ) (w : IsWorld old core log) (t : IsTimely core) (c : Counted core now) (some : 0 < length core.history) (unsure : core.unsure ≡ true) where
   can_fence : CanSpell (fence_of core)
@@ -196,7 +196,7 @@ module _ (old new : State) (core : Core) (log : Log) (now : ℕ) (w : IsWorld ol
       let g = get_failed_law once old new core log (fence_of core) core.store_faults now w c rose got.0 got.1 in
       record {
         first = quiet g.places (core.store_faults - core.store_faults) false;
-        second = failing [] (now - core.store_faults) false;
+        second = failing [] (now - core.store_faults) done_never;
         after = g.after;
         did = settled_get_failed old new core log now unsure g;
         onward = g.onward;

@@ -40,6 +40,9 @@ pub mod NextDoomed
 pub mod RowNumbers
 pub mod Markings
 pub mod Settling
+pub mod TaskFields
+pub mod Dropping
+pub mod Replaced
 pub mod Creating
 pub mod Appending
 pub mod Gates

@@ -1,5 +1,5 @@
 -- The greatest moment of the markings of a number, one after the other.
-use Rattle.std.proofs.Common.{◌≡◌, ℕ, List, [], ◌∷◌, fold, max, ap, ◌∙◌, refl, sym, arith}
+use Rattle.std.proofs.Common.{◌≡◌, ℕ, List, [], ◌∷◌, fold, max, arith}
 use Rattle.index_world.specs.Core.{Marking, taken_at}
 use Rattle.index_world.proofs.Lasting.{taken-append}
 

@@ -6,7 +6,7 @@ use Rattle.meta_journal.specs.Spelling.{AreAll, AreRowNumbers, IsNumber, RisesFr
 use Rattle.std.proofs.lemmas.Bool.{leb-true}
 use Rattle.split_states.proofs.Rising.{Order, order_rest, rise_filter}
 use Rattle.split_states.specs.Due.{is_marked}
-use Rattle.split_states.specs.Rows.{rising, rising_from, row_numbers, RowsRise}
+use Rattle.split_states.specs.Rows.{rising, row_numbers, RowsRise}
 use Rattle.split_states.specs.declared.rows.Row.{Row}
 use Rattle.index_world.specs.Collecting.{doomed_rows}
 use Rattle.index_world.specs.Core.{is_in}

@@ -64,7 +64,7 @@ creates-by old mid new entries log entry bytes (Err creates.Exists) spells e (in
 creates-by old mid new entries log entry bytes (Err creates.Exists) spells e (inr adopts) d = subst (λ k. Adopts old k entries log) (sym d.1) adopts
 creates-by old mid new entries log entry bytes (Err creates.Failed) spells e l (inl d) = inl (made old mid new entries log entry bytes spells e l d.0 d.1)
 creates-by old mid new entries log entry bytes (Err creates.Failed) spells e l (inr (inl is)) = inr (was_late old mid new entries log entry bytes spells e l is)
-creates-by old mid new entries log entry bytes (Err creates.Failed) spells e l (inr (inr d)) = inr (subst (λ k. AfterLanding old k entries log) (sym d.1) l)
+creates-by old mid new entries log entry bytes (Err creates.Failed) spells e l (inr (inr is)) = inr (subst (λ k. AfterLanding old k entries log) (sym is) l)
 creates-by old mid new entries log entry bytes (Err (creates.Memory a)) spells e l d = subst (λ k. AfterLanding old k entries log) (sym d) l
 
 pub index-creates : (old new : State) (entries : List Entry) (log : Log) (entry : Entry) (bytes : List ℕ) (answer : Result (Unit {0}) CreateError) → IsIndexOf old entries log → Spells bytes entry →
@@ -164,7 +164,8 @@ uploads-by old mid new entries log n bytes (Ok done) l u d = subst (λ k. AfterU
 uploads-by old mid new entries log n bytes (Err creates.Exists) l u d = true_is_false (sym d.0 ∙ ap is_some (l.held.unused n tt u).absent)
 uploads-by old mid new entries log n bytes (Err creates.Failed) l u (inl d) = subst (λ k. Goes (But n) All old k entries log) (sym d.1) (made-file old mid entries log n bytes l u).0
 uploads-by old mid new entries log n bytes (Err creates.Failed) l u (inr (inl is)) = subst (λ k. Goes (But n) All old k entries log) (sym is) (late-file old mid entries log n bytes l u)
-uploads-by old mid new entries log n bytes (Err creates.Failed) l u (inr (inr d)) = absurd (true_is_false (sym d.0 ∙ ap is_some (l.held.unused n tt u).absent))
+uploads-by old mid new entries log n bytes (Err creates.Failed) l u (inr (inr is)) =
+    subst (λ k. Goes (But n) All old k entries log) (sym is) (record { more = l.more; grown = l.grown; index = l.index; held = held-fewer (But n) All old mid entries l.more l.held })
 uploads-by old mid new entries log n bytes (Err (creates.Memory a)) l u d =
     subst (λ k. AfterUpload (Err (creates.Memory a)) old k entries log n bytes) (sym d)
     (record { more = l.more; grown = l.grown; index = l.index; held = held-fewer (But n) All old mid entries l.more l.held }, l.held.unused n tt u)

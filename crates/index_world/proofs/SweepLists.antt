@@ -18,7 +18,7 @@ use Rattle.object_store.proofs.Told.{told_map}
 use Rattle.source_log.specs.Log.{Log}
 use Rattle.split_states.specs.declared.rows.Row.{Row}
 use Rattle.index_world.specs.Answering.{ListsPage, SaysListed}
-use Rattle.index_world.specs.Calls.{Call, Trouble, begun, faulted, file_got, gives, got_file, no_memory, store_failed, store_fault}
+use Rattle.index_world.specs.Calls.{done_never, Call, Trouble, begun, faulted, file_got, gives, got_file, no_memory, store_failed, store_fault}
 use Rattle.index_world.specs.Collecting.{IsSweepPage, is_swept, is_swept_by, list_call}
 use Rattle.index_world.specs.Config.{reads}
 use Rattle.index_world.specs.Core.{Core, Upkeep, file_at, is_in, last_count, taken_at}
@@ -212,7 +212,7 @@ acts_listed w told' now given core log s prefix behind before after answer r beg
 
     failed_acts : (new : State) → told' ≡ Some new → HasLanded s.kept new → Rose core.store_faults now → Acts WorldStands None list_call IsTrouble (IsSweepPage behind) (Err (errors.StoreFault before after)) core log (record w { told = told'; store_faults = now; given = given })
     failed_acts new t h rose =
-        let call = failing h.0 (now - core.store_faults) false in
+        let call = failing h.0 (now - core.store_faults) done_never in
         let b = world-begins once s.kept new core log now call s.world counted refl h.1 in
         acts_by new call (Err (errors.StoreFault before after)) (Err (store_failed core.store_faults (begun call core))) t b (ap (λ (f : Bool). got_file f core.store_faults (begun call core)) (rose_may core now counted rose))
         (ap (λ (m : ℕ). faulted (store_fault core.store_faults m)) (b.faults ∙ sym ended) ∙ ap (λ (m : ℕ). faulted (store_fault m after)) (sym (at ∙ s.store_faults)))

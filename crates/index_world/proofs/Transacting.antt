@@ -71,7 +71,7 @@ own_enters kept core log act t can numbers file may =
 -- a fault of an append may always have been one of its create
 pub fault_tried : (n : ℕ) (e : Entry) (old new : State) → Faults n e old new → Tries n e create_failed old new
 fault_tried n e old new (inl t) = t
-fault_tried n e old new (inr d) = (new, d.0, inr (inr (d.1, refl)))
+fault_tried n e old new (inr d) = (new, d.0, inr (inr refl))
 
 -- ---- where a call ends
 

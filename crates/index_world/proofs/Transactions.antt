@@ -6,7 +6,7 @@ use Rattle.meta_journal.specs.declared.entry.Act.{Act}
 use Rattle.meta_journal.specs.declared.entry.Entry.{Entry}
 use Rattle.object_store.specs.Store.{State}
 use Rattle.source_log.specs.Log.{Log}
-use Rattle.index_world.specs.Calls.{Call, Gives, gives, Trouble, faulted, no_memory, Unmade, troubled, is_foreign, store_failed, begun, taken_in, create_at_end, fence_of, settle_with, settle_making, settled, unless_short, entry_of, may_append, last_unless, last_making, last_create, and_then, as_unmade, or_short}
+use Rattle.index_world.specs.Calls.{done_never, Call, Gives, gives, Trouble, faulted, no_memory, Unmade, troubled, is_foreign, store_failed, begun, taken_in, create_at_end, fence_of, settle_with, settle_making, settled, unless_short, entry_of, may_append, last_unless, last_making, last_create, and_then, as_unmade, or_short}
 use Rattle.index_world.specs.Collecting.{Offer, answered_by, first_offer, last_offer, making_offer, nothing, offer_unless, transact_if}
 use Rattle.index_world.specs.Core.{Core}
 use Rattle.index_world.proofs.JournalCalls.{quiet, failing, calm_get, MadeLaw, AdoptedLaw, FailedLaw, ExistsLaw, GetFailedLaw}
@@ -45,10 +45,10 @@ settled_failed old new core log now unsure f =
     settled_by core f.call calm_get unsure f.short ∙ ap (settle_making calm_get core.store_faults (fence_of core)) f.did
 
 pub settled_get_failed : (old new : State) (core : Core) (log : Log) (now : ℕ) → core.unsure ≡ true → (g : GetFailedLaw old new core log (fence_of core) core.store_faults now) →
-    settled (quiet g.places (core.store_faults - core.store_faults) false) (failing [] (now - core.store_faults) false) core ≡ gives (Err (store_failed core.store_faults g.after)) g.after
+    settled (quiet g.places (core.store_faults - core.store_faults) false) (failing [] (now - core.store_faults) done_never) core ≡ gives (Err (store_failed core.store_faults g.after)) g.after
 settled_get_failed old new core log now unsure g =
-    settled_by core (quiet g.places (core.store_faults - core.store_faults) false) (failing [] (now - core.store_faults) false) unsure refl
-    ∙ ap (settle_making (failing [] (now - core.store_faults) false) core.store_faults (fence_of core)) g.did ∙ g.got
+    settled_by core (quiet g.places (core.store_faults - core.store_faults) false) (failing [] (now - core.store_faults) done_never) unsure refl
+    ∙ ap (settle_making (failing [] (now - core.store_faults) done_never) core.store_faults (fence_of core)) g.did ∙ g.got
 
 pub settled_short : (core : Core) (places : List ℕ) (rises : ℕ) → core.unsure ≡ true → settled (quiet places rises true) calm_get core ≡ gives (Err no_memory) (begun (quiet places rises true) core)
 settled_short core places rises unsure = ap (λ u. settle_with u (quiet places rises true) calm_get core) unsure

@@ -2,13 +2,12 @@
 use Rattle.std.proofs.Common.{◌≡◌, ℕ, ◌<◌, ◌≤◌, List, [], ◌∷◌, refl, ap, ◌∙◌, Bool, true, false, length, arith}
 use Rattle.std.proofs.lemmas.List.{length-append}
 use Rattle.std.specs.Prelude.{Option, Some, None, Result, Ok, Err, max, ⊤}
-use Rattle.meta_journal.specs.declared.entry.Act.{Act}
 use Rattle.meta_journal.specs.declared.entry.Entry.{Entry}
 use Rattle.meta_store.specs.History.{history}
 use Rattle.meta_store.specs.State.{state_of}
 use Rattle.object_store.specs.Store.{State}
 use Rattle.source_log.specs.Log.{Log}
-use Rattle.index_world.specs.Calls.{Call, Fate, Gives, gives, Trouble, no_memory, Unmade, settled, unless_short, looked, asked, asked_and_looked, appended, asked_clock, and_then}
+use Rattle.index_world.specs.Calls.{Call, Fate, Gives, gives, Trouble, no_memory, settled, unless_short, looked, asked, asked_and_looked, asked_clock, and_then}
 use Rattle.index_world.specs.Config.{reads}
 use Rattle.index_world.specs.Core.{Core, IsOther, KeepsBut}
 use Rattle.index_world.specs.World.{IsWorld, IsTimely, Keeping, WorldStands, GoesFor, GoesOn}
@@ -20,7 +19,7 @@ use Rattle.index_world.proofs.InCore.{goes-on, goes_both, moment_goes}
 use Rattle.index_world.proofs.JournalCalls.{Counted, quiet, calm_get}
 use Rattle.index_world.proofs.JournalLaws.{Settled, Unsettled}
 use Rattle.index_world.proofs.Transactions.{settled_sure}
-use Rattle.index_world.proofs.Transacting.{Ends, greatest, ends_same, timely_more, settled_ends, unsettled_ends, timely_unsettled, Transacted}
+use Rattle.index_world.proofs.Transacting.{Ends, greatest, ends_same, timely_more, settled_ends, unsettled_ends, timely_unsettled}
 use Rattle.meta_journal.specs.Spelling.{CanSpell}
 
 -- what a world that stands for the core keeps

@@ -7,7 +7,7 @@ use Rattle.index_config.specs.declared.config.IndexConfig.{IndexConfig}
 use Rattle.meta_journal.specs.Journal.{IsCorrupt}
 use Rattle.meta_journal.specs.Places.{meta_key, split_key, numbered, HasEntry, Stand}
 use Rattle.meta_journal.specs.declared.entry.Act.{Act}
-use Rattle.meta_journal.specs.declared.entry.Act.TheVariants.{Stage, Publish, MarkStaged, Remove}
+use Rattle.meta_journal.specs.declared.entry.Act.TheVariants.{Stage, Publish, Replace, Raise, Task, MarkStaged, Remove}
 use Rattle.meta_journal.specs.declared.entry.Entry.{Entry}
 use Rattle.meta_store.specs.Answers.{Answer, answer_to}
 use Rattle.meta_store.specs.History.{at}
@@ -32,8 +32,10 @@ use Rattle.index_world.specs.Configuration.{config_or, index_of}
 use Rattle.index_world.specs.Index.{max_entries}
 use Rattle.index_world.specs.Taking.{IsFaultBetween}
 use Rattle.index_world.specs.World.{Keeping}
+use Rattle.index_world.specs.declared.tokens.DeleteAsk.{DeleteAsk}
 use Rattle.index_world.specs.declared.tokens.Marks.{Marks}
 use Rattle.index_world.specs.declared.tokens.Plan.{Plan}
+use Rattle.index_world.specs.declared.tokens.Receipt.{Receipt}
 use Rattle.index_world.specs.declared.tokens.Staged.{Staged}
 use Rattle.index_world.specs.declared.tokens.SweepPage.{SweepPage}
 use Rattle.index_world.specs.declared.tokens.Uploaded.{Uploaded}
@@ -47,6 +49,9 @@ pub data Answered : Type 0 where
   stage_answered : (delta : List Part) → (facts : RowFacts) → Result Staged WorldError → Answered
   upload_answered : (number : ℕ) → (content : List ℕ) → Result Uploaded WorldError → Answered
   publish_answered : (number : ℕ) → Result ℕ WorldError → Answered
+  replace_answered : (new : ℕ) → (old : List ℕ) → (upto : ℕ) → Result ℕ WorldError → Answered
+  raise_answered : (number upto : ℕ) → Result ℕ WorldError → Answered
+  task_answered : (ask : DeleteAsk) → Result Receipt WorldError → Answered
   plan_answered : Choice → Result Plan WorldError → Answered
   mark_stale_answered : Result ℕ WorldError → Answered
   doom_answered : Result (Option ℕ) WorldError → Answered
@@ -96,6 +101,15 @@ stage_in delta facts state = Stage (state.last_number + 1) delta facts
 abbrev pub publish_in : ℕ → meta.State → Act
 publish_in number state = Publish number
 
+abbrev pub replace_in : ℕ → List ℕ → (upto : ℕ) → meta.State → Act
+replace_in new old upto state = Replace new old upto
+
+abbrev pub raise_in : ℕ → (upto : ℕ) → meta.State → Act
+raise_in number upto state = Raise number upto
+
+abbrev pub task_in : DeleteAsk → meta.State → Act
+task_in ask state = Task (state.last_opstamp + 1) ask.text ask.fields ask.times
+
 -- The last object is the own entry of this moment, as the state before it has it, and the state is the one behind it.
 pub record AppendedOwn (act : meta.State → Act) (moment next : ℕ) (state : meta.State) (now : State) : Type 0 where
   pub before : meta.State
@@ -144,9 +158,18 @@ SaysStaged delta facts (Ok staged) world now =
     AppendedOwn (stage_in delta facts) world.moment world.next world.meta now × (staged.number ≡ world.meta.last_number) × (staged.opstamp ≡ world.meta.last_opstamp) × (world.unsure ≡ false)
 SaysStaged delta facts (Err error) world now = AppendsNot error (stage_in delta facts) world.moment world.next world.meta now
 
+-- the own entry, and how many entries were taken in with it
+abbrev pub SaysRevision : (meta.State → Act) → Result ℕ WorldError → Keeping → State → Type 0
+SaysRevision act (Ok revision) world now = AppendedOwn act world.moment world.next world.meta now × (revision ≡ world.meta.revision) × (world.unsure ≡ false)
+SaysRevision act (Err error) world now = AppendsNot error act world.moment world.next world.meta now
+
 abbrev pub SaysPublished : ℕ → Result ℕ WorldError → Keeping → State → Type 0
-SaysPublished number (Ok revision) world now = AppendedOwn (publish_in number) world.moment world.next world.meta now × (revision ≡ world.meta.revision) × (world.unsure ≡ false)
-SaysPublished number (Err error) world now = AppendsNot error (publish_in number) world.moment world.next world.meta now
+SaysPublished number result world now = SaysRevision (publish_in number) result world now
+
+abbrev pub SaysAdded : DeleteAsk → Result Receipt WorldError → Keeping → State → Type 0
+SaysAdded ask (Ok receipt) world now =
+    AppendedOwn (task_in ask) world.moment world.next world.meta now × (receipt.opstamp ≡ world.meta.last_opstamp) × (receipt.revision ≡ world.meta.revision) × (world.unsure ≡ false)
+SaysAdded ask (Err error) world now = AppendsNot error (task_in ask) world.moment world.next world.meta now
 
 -- what a plan says of what is kept
 pub record IsPlanOf (choice : Choice) (plan : Plan) (world : Keeping) : Type 0 where
@@ -267,6 +290,9 @@ IsAnswer (moment_answered result) old new = SaysMoment result old new
 IsAnswer (stage_answered delta facts result) old new = Tells result old new (λ was now. SaysStaged delta facts result new now) × Followed old new
 IsAnswer (upload_answered number content result) old new = IsUpload (split_key number) number result × Tells result old new (UploadsFile (split_key number) content result)
 IsAnswer (publish_answered number result) old new = Tells result old new (λ was now. SaysPublished number result new now) × Followed old new
+IsAnswer (replace_answered number replaced upto result) old new = Tells result old new (λ was now. SaysRevision (replace_in number replaced upto) result new now) × Followed old new
+IsAnswer (raise_answered number upto result) old new = Tells result old new (λ was now. SaysRevision (raise_in number upto) result new now) × Followed old new
+IsAnswer (task_answered ask result) old new = Tells result old new (λ was now. SaysAdded ask result new now) × Followed old new
 IsAnswer (plan_answered choice result) old new = Tells result old new (λ was now. SaysPlanned choice result new now) × Followed old new
 IsAnswer (mark_stale_answered result) old new = Tells result old new (λ was now. SaysRows (stale_in new) MarkStaged result new now) × Followed old new
 IsAnswer (remove_answered result) old new = Tells result old new (λ was now. SaysRows (doomed_in new) Remove result new now) × Followed old new

@@ -15,13 +15,24 @@ use Rattle.index_world.specs.Config.{reads}
 use Rattle.index_world.specs.Index.{max_entries}
 use Rattle.index_world.specs.Core.{file_at, Late, late_entry, late_dead, late_file, Core, Marking, last_count}
 
+-- what becomes of the work of a call that fails: it is done at once, it may be yet, or it never is
+pub data Effect : Type 0 where
+  done_at_once : Effect
+  done_late : Effect
+  done_never : Effect
+
+abbrev pub is_at_once : Effect → Bool
+is_at_once done_at_once = true
+is_at_once done_late = false
+is_at_once done_never = false
+
 -- The fate of one store call: which late creates come to stand before it works, by their places in the list of those that
--- are still late; whether it fails, and if so whether what it makes stands at once; by how much the store's count rises;
+-- are still late; whether it fails, and if so what becomes of its work; by how much the store's count rises;
 -- whether the world finds no memory for it, so that nothing more is done.
 pub record Call : Type 0 where
   pub lands : List ℕ
   pub fails : Bool
-  pub at_once : Bool
+  pub effect : Effect
   pub rises : ℕ
   pub short : Bool
 
@@ -125,23 +136,24 @@ pub record Making : Type 0 where
 abbrev pub with_late : Late → Core → Core
 with_late late core = record core { late = core.late ++ late ∷ [] }
 
--- a create that failed: the entry stands at once, or it is late; where one stands already it may be over
-abbrev pub tried : Bool → Option Entry → Entry → Core → Core
-tried true None entry core = record core { unsure = true; standing = Some entry }
-tried true (Some standing) entry core = record core { unsure = true }
-tried false standing entry core = record (with_late (late_entry (length core.history) entry (spelling entry)) core) { unsure = true }
+-- a create that failed: the entry stands at once where none does, or it is late, or it is over
+abbrev pub tried : Effect → Option Entry → Entry → Core → Core
+tried done_at_once None entry core = record core { unsure = true; standing = Some entry }
+tried done_at_once (Some standing) entry core = record core { unsure = true }
+tried done_late standing entry core = record (with_late (late_entry (length core.history) entry (spelling entry)) core) { unsure = true }
+tried done_never standing entry core = record core { unsure = true }
 
 -- a create that didn't fail
 abbrev pub made_behind : Option Entry → Entry → Core → Making
 made_behind None entry core = record { answer = made; core = record core { standing = Some entry } }
 made_behind (Some standing) entry core = record { answer = exists standing; core = core }
 
-abbrev pub made_at : Bool → Bool → Entry → Core → Making
-made_at true at_once entry core = record { answer = failed; core = tried at_once core.standing entry core }
-made_at false at_once entry core = made_behind core.standing entry core
+abbrev pub made_at : Bool → Effect → Entry → Core → Making
+made_at true effect entry core = record { answer = failed; core = tried effect core.standing entry core }
+made_at false effect entry core = made_behind core.standing entry core
 
 abbrev pub create_at_end : Call → Entry → Core → Making
-create_at_end call entry core = made_at (may_fail call core.store_faults) call.at_once entry (begun call core)
+create_at_end call entry core = made_at (may_fail call core.store_faults) call.effect entry (begun call core)
 
 -- the rows that an entry marks
 abbrev pub marked_by : Act → List ℕ
@@ -215,10 +227,10 @@ taken_unless false unsure entry core = gives (Ok tt) (taken_in entry core)
 -- a get that failed, or gave this entry; the number is unsure where it failed
 abbrev pub got_at : Bool → Call → ℕ → Entry → Core → Gives Trouble ⊤
 got_at true call before entry core = gives (Err (store_failed before core)) (record core { unsure = true })
-got_at false call before entry core = taken_unless call.short (core.unsure || call.at_once) entry core
+got_at false call before entry core = taken_unless call.short (core.unsure || is_at_once call.effect) entry core
 
 -- The get of the object that stands at the end, and the taking in. Where a get that answered finds no memory behind it,
--- `at_once` says whether the number is known to be unsure from then on.
+-- an effect at once says that the number is known to be unsure from then on.
 abbrev pub get_at_end : Call → Entry → ℕ → Core → Gives Trouble ⊤
 get_at_end call entry before core = got_at (may_fail call core.store_faults) call before entry (begun call core)
 
@@ -336,18 +348,19 @@ asked_and_looked fate core = asking fate.unasked no_memory core (λ c. settled_a
 abbrev pub asked : Fate → Core → Gives Trouble ⊤
 asked fate core = asking fate.unasked no_memory core (λ c. gives (Ok tt) c)
 
--- a create outside the journal, by whether it fails, whether what it makes stands at once, and whether the key stands
-abbrev pub file_by : Bool → Bool → Bool → ℕ → List ℕ → List ℕ → Core → Gives Trouble ⊤
-file_by true true false before key bytes core = gives (Err (store_failed before core)) (with_file key bytes core)
-file_by true true true before key bytes core = gives (Err (store_failed before core)) core
-file_by true false stands before key bytes core = gives (Err (store_failed before core)) (with_late (late_file key bytes) core)
-file_by false at_once true before key bytes core = gives (Err (faulted (is_foreign key))) core
-file_by false at_once false before key bytes core = gives (Ok tt) (with_file key bytes core)
+-- a create outside the journal, by whether it fails, what becomes of it then, and whether the key stands
+abbrev pub file_by : Bool → Effect → Bool → ℕ → List ℕ → List ℕ → Core → Gives Trouble ⊤
+file_by true done_at_once false before key bytes core = gives (Err (store_failed before core)) (with_file key bytes core)
+file_by true done_at_once true before key bytes core = gives (Err (store_failed before core)) core
+file_by true done_late stands before key bytes core = gives (Err (store_failed before core)) (with_late (late_file key bytes) core)
+file_by true done_never stands before key bytes core = gives (Err (store_failed before core)) core
+file_by false effect true before key bytes core = gives (Err (faulted (is_foreign key))) core
+file_by false effect false before key bytes core = gives (Ok tt) (with_file key bytes core)
 
 abbrev pub file_made : Call → List ℕ → List ℕ → Core → Gives Trouble ⊤
 file_made call key bytes core =
     or_short call.short no_memory call core
-    (file_by (may_fail call core.store_faults) call.at_once (is_some (file_at (begun call core).files key)) core.store_faults key bytes (begun call core))
+    (file_by (may_fail call core.store_faults) call.effect (is_some (file_at (begun call core).files key)) core.store_faults key bytes (begun call core))
 
 -- an upload doesn't settle, and doesn't ask the clock
 abbrev pub upload_made : Fate → ℕ → List ℕ → Core → Gives Trouble ⊤
@@ -366,7 +379,7 @@ deleted_by false at_once before key core = gives (Ok tt) (without_file key core)
 
 -- The delete of a file needs no memory, and is Ok also where nothing stands.
 abbrev pub file_deleted : Call → List ℕ → Core → Gives Trouble ⊤
-file_deleted call key core = deleted_by (may_fail call core.store_faults) call.at_once core.store_faults key (begun call core)
+file_deleted call key core = deleted_by (may_fail call core.store_faults) (is_at_once call.effect) core.store_faults key (begun call core)
 
 -- ---- fetching a file
 
@@ -448,7 +461,7 @@ loaded fate core =
 -- ---- a calm fate
 
 abbrev pub calm_call : Call
-calm_call = record { lands = []; fails = false; at_once = false; rises = 0; short = false }
+calm_call = record { lands = []; fails = false; effect = done_never; rises = 0; short = false }
 
 abbrev pub calm_fate : Fate
 calm_fate = record { unasked = false; first = calm_call; second = calm_call; third = calm_call }

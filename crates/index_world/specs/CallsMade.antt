@@ -4,6 +4,7 @@ use Rattle.meta_journal.specs.declared.entry.Entry.{Entry}
 use Rattle.meta_store.specs.declared.planning.Choice.{Choice}
 use Rattle.source_checkpoint.specs.declared.delta.Part.{Part}
 use Rattle.split_states.specs.declared.facts.RowFacts.{RowFacts}
+use Rattle.index_world.specs.declared.tokens.DeleteAsk.{DeleteAsk}
 use Rattle.index_world.specs.declared.world_error.WorldError.{WorldError}
 use Rattle.index_world.specs.Core.{Core}
 use Rattle.index_world.specs.Taking.{IsWant}
@@ -15,6 +16,9 @@ pub data Ask : Type 0 where
   of_stage : (delta : List Part) → (facts : RowFacts) → Ask
   of_upload : (number : ℕ) → (bytes : List ℕ) → Ask
   of_publish : (number : ℕ) → Ask
+  of_replace : (new : ℕ) → (old : List ℕ) → (upto : ℕ) → Ask
+  of_raise : (number upto : ℕ) → Ask
+  of_task : (ask : DeleteAsk) → Ask
   of_plan : (choice : Choice) → Ask
   of_fetch : (number from len : ℕ) → Ask
   of_mark_stale : Ask

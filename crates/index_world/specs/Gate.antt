@@ -3,8 +3,9 @@ use Rattle.std.specs.Prelude.{◌≡◌, ◌+◌, ◌-◌, ◌^◌, ◌<◌, tru
 use Rattle.index_config.specs.declared.config.IndexConfig.{IndexConfig}
 use Rattle.object_store.specs.Store.{State, IsPieceOf}
 use Rattle.meta_journal.specs.Places.{split_key}
+use Rattle.meta_journal.specs.Spelling.{AreAll, IsText}
 use Rattle.meta_journal.specs.declared.entry.Act.{Act}
-use Rattle.meta_journal.specs.declared.entry.Act.TheVariants.{Stage, Publish}
+use Rattle.meta_journal.specs.declared.entry.Act.TheVariants.{Stage, Publish, Replace, Raise, Task}
 use Rattle.meta_store.specs.History.{history, last_number, last_opstamp}
 use Rattle.meta_store.specs.Rows.{rows}
 use Rattle.meta_store.specs.State.{checkpoints_of}
@@ -16,8 +17,10 @@ use Rattle.index_world.specs.Config.{reads}
 use Rattle.meta_store.specs.Planning.{rows_for, planned_as}
 use Rattle.meta_store.specs.Readings.{config_of}
 use Rattle.meta_store.specs.declared.planning.Choice.{Choice}
+use Rattle.index_world.specs.declared.tokens.DeleteAsk.{DeleteAsk}
 use Rattle.index_world.specs.declared.tokens.Marks.{Marks}
 use Rattle.index_world.specs.declared.tokens.Plan.{Plan}
+use Rattle.index_world.specs.declared.tokens.Receipt.{Receipt}
 use Rattle.index_world.specs.declared.tokens.Staged.{Staged}
 use Rattle.index_world.specs.declared.tokens.Uploaded.{Uploaded}
 use Rattle.index_world.specs.declared.world_error.WorldError.{WorldError}
@@ -174,6 +177,31 @@ grace_of config plan = record { planned_at = plan.moment; until = plan.moment + 
 
 abbrev pub IsRevision : ℕ → Core → Type 0
 IsRevision revision core = revision ≡ length core.history
+
+-- the rows of these numbers are replaced by one, applied up to a task
+abbrev pub replace_call : ℕ → List ℕ → (upto : ℕ) → Fate → Core → Gives Unmade ⊤
+replace_call new old upto fate core = appended fate (λ c. Replace new old upto) core
+
+-- a row is applied up to a task
+abbrev pub raise_call : ℕ → (upto : ℕ) → Fate → Core → Gives Unmade ⊤
+raise_call number upto fate core = appended fate (λ c. Raise number upto) core
+
+-- the Task of a state: the opstamp behind the last
+abbrev pub task_act : DeleteAsk → Core → Act
+task_act ask core = Task (last_opstamp (history core.history) + 1) ask.text ask.fields ask.times
+
+-- its texts are UTF-8, as the journal spells them
+pub record CanAsk (ask : DeleteAsk) : Type 0 where
+  pub text : IsText ask.text
+  pub fields : AreAll IsText ask.fields
+
+abbrev pub task_call : DeleteAsk → Fate → Core → Gives Unmade ⊤
+task_call ask fate core = appended fate (task_act ask) core
+
+-- the opstamp of the task, and how many entries were taken in with it
+pub record IsReceipt (receipt : Receipt) (core : Core) : Type 0 where
+  pub opstamp : receipt.opstamp ≡ last_opstamp (history core.history)
+  pub revision : receipt.revision ≡ length core.history
 
 pub record IsPlan (choice : Choice) (plan : Plan) (core : Core) : Type 0 where
   pub revision : plan.revision ≡ length core.history

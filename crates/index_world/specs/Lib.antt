@@ -21,6 +21,7 @@ pub mod Life
 pub mod KeepingCode
 pub mod Held
 pub mod Onward
+pub mod Replacing
 pub mod Owning
 pub mod PlaceMade
 pub mod Saying

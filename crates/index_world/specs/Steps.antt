@@ -1,12 +1,12 @@
 -- What the steps of a transaction did to a store and its core: each is the core's own with some fate, and the invariant holds again.
-use Rattle.std.specs.Prelude.{◌≡◌, ◌≤◌, ◌-◌, ℕ, Bool, true, false, List, [], ◌∷◌, ◌++◌, Option, Some, max, Result, Ok, Err, ⊤, ◌||◌}
+use Rattle.std.specs.Prelude.{◌≡◌, ◌≤◌, ◌-◌, ℕ, Bool, true, false, List, [], ◌∷◌, ◌++◌, Option, Some, max, Result, Ok, Err, ◌||◌}
 use Rattle.meta_journal.specs.declared.entry.Act.TheVariants.{Stage}
 use Rattle.meta_journal.specs.declared.entry.Entry.{Entry}
 use Rattle.object_store.specs.Store.{State}
 use Rattle.source_checkpoint.specs.declared.delta.Part.{Part}
 use Rattle.source_log.specs.Log.{Log}
 use Rattle.split_states.specs.declared.facts.RowFacts.{RowFacts}
-use Rattle.index_world.specs.Calls.{Call, made, exists, failed, create_at_end, get_at_end, begun, taken_in, marks_of, gives, Trouble, Unmade, settled}
+use Rattle.index_world.specs.Calls.{done_never, Call, made, exists, failed, create_at_end, get_at_end, begun, taken_in, marks_of, gives, Trouble, Unmade, settled}
 use Rattle.index_world.specs.Collecting.{Offer, transact_if}
 use Rattle.index_world.specs.Core.{Core, last_count, clock_of, Upkeep, upkeep_of}
 use Rattle.index_world.specs.Index.{IsUnused, HasStaged}
@@ -20,7 +20,7 @@ pub record Counted (core : Core) (now : ℕ) : Type 0 where
 
 -- the fate of a call that doesn't fail
 abbrev pub quiet : List ℕ → ℕ → Bool → Call
-quiet places rises short = record { lands = places; fails = false; at_once = false; rises = rises; short = short }
+quiet places rises short = record { lands = places; fails = false; effect = done_never; rises = rises; short = short }
 
 -- what is noted of an entry that is taken in at a moment
 abbrev pub noting : (moment : ℕ) → Upkeep → Entry → Upkeep

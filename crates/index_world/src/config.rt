@@ -1,19 +1,29 @@
 //! What the readers of texts say of an entry.
 
-ghost use Rattle.std.specs.Prelude.{◌≡◌, Option, None, IfOk, IfErr, IsOk};
+ghost use Rattle.std.specs.Prelude.{◌≡◌, ℕ, Option, None, Ok, Err, IfOk, IfErr, IsOk};
+ghost use Rattle.doc_value.specs.Documents.{number_of};
 ghost use Rattle.index_config.specs.Answer.{config_answer};
 ghost use Rattle.index_world.specs.Config as spec;
+ghost use Rattle.index_world.specs.Config.{WantsMemory, same};
 ghost use Rattle.index_world.specs.Created.{IsBadText};
 ghost use Rattle.meta_journal.specs.declared.entry.Act.TheVariants as acts;
 ghost use Rattle.meta_store.specs.Readings as meta;
-ghost use Rattle.meta_store.specs.declared.config.Config.{Config};
+ghost use Rattle.meta_store.specs.Said.{sought_in};
+ghost use Rattle.query_ast.specs.Meaning.{is_text};
+ghost use Rattle.query_ast.specs.Sought.{view};
+ghost use Rattle.query_reader.specs.Resolve.{Gives, Refuses};
+ghost use Rattle.query_reader.specs.declared.refusal.QueryError.TheVariants.{UnknownField};
 
 use crate::world_error::WorldError;
-use index_config::{ConfigError, read_config};
+use byte_fields::Text;
+use doc_value::{Field, Kind, Text as Name};
+use index_config::{ConfigError, IndexConfig, read_config};
 use meta_journal::{Act, Entry};
-use meta_store::{Reading, Settings};
-use query_reader::QueryError;
+use meta_store::{Config, Reading, Settings};
+use query_ast::Query;
+use query_reader::{FieldNumbers, QueryError, read_query};
 use std::alloc::{AllocError, Global};
+use std::mem;
 
 // What a configuration says of its index, or what is wrong with it.
 fn settings_of(alloc: Global, config: &[u8]) -> Result<Result<Settings, ConfigError>, AllocError>
@@ -39,15 +49,162 @@ fn config_said(alloc: Global, act: &Act) -> Result<Result<Settings, ConfigError>
     }
 }
 
-/// What the readers of texts say of an entry. No task is read yet.
-pub fn reading_of(alloc: Global, entry: &Entry) -> Result<Reading, AllocError>
-    ensures { IfOk result (λ reading. (config : Option Config) → reading ≡ meta.reading_of spec.reads config entry.now.act) }
+fn number_of(fields: &[Field], path: &[u8]) -> Option<usize>
+    ensures { result ≡ number_of fields.now path.now }
 {
-    let config = config_said(alloc, &entry.act)?;
-    Ok(Reading {
-        config,
-        query: Err(QueryError::Syntax { at: 0 }),
-    })
+    for (number, field) in fields.iter().enumerate() {
+        if field.path.as_slice() == path {
+            return Some(number);
+        }
+    }
+    None
+}
+
+fn is_text(kind: Kind) -> bool
+    ensures { result ≡ is_text kind }
+{
+    match kind {
+        Kind::Text => true,
+        Kind::TextList => true,
+        Kind::I64 => false,
+        Kind::U64 => false,
+        Kind::Bool => false,
+        Kind::Datetime => false,
+    }
+}
+
+fn has_text(fields: &[Field], number: usize) -> bool
+    ensures { result ≡ spec.has_text fields.now number }
+{
+    match fields.get(number) {
+        Some(field) => is_text(field.kind),
+        None => false,
+    }
+}
+
+// The refusal of a path that no field of texts has.
+fn unknown_field(alloc: Global, path: &[u8]) -> QueryError
+    ensures { Refuses (spec.unknown_path path.now) result }
+{
+    match str::from_utf8(path) {
+        Ok(path) => unknown_name(alloc, path),
+        Err(_) => QueryError::Syntax { at: 0 },
+    }
+}
+
+fn unknown_name(alloc: Global, path: &str) -> QueryError
+    ensures { Refuses {A = ℕ} (Err (UnknownField path.now)) result }
+{
+    match Name::from_str(alloc, path) {
+        Ok(name) => QueryError::UnknownField { name },
+        Err(refused) => QueryError::Memory(refused),
+    }
+}
+
+fn text_number(alloc: Global, fields: &[Field], path: &[u8]) -> Result<usize, QueryError>
+    ensures { Gives same (spec.text_number fields.now path.now) result }
+{
+    match number_of(fields, path) {
+        Some(number) => {
+            if has_text(fields, number) {
+                Ok(number)
+            } else {
+                Err(unknown_field(alloc, path))
+            }
+        }
+        None => Err(unknown_field(alloc, path)),
+    }
+}
+
+// The numbers of the fields of texts that have these paths.
+#[tactic(auto, using(crate::proofs::TaskFields::numbers_none, crate::proofs::TaskFields::numbers_step, crate::proofs::TaskFields::numbers_fail))]
+fn text_numbers(alloc: Global, fields: &[Field], paths: &[Text]) -> Result<FieldNumbers, QueryError>
+    ensures { Gives same (spec.text_numbers fields.now paths.now) result }
+{
+    let mut numbers = FieldNumbers::vacant(alloc);
+    for path in paths {
+        numbers.push(text_number(alloc, fields, path.as_slice())?)?;
+    }
+    Ok(numbers)
+}
+
+fn query_of_text(
+    alloc: Global,
+    config: &IndexConfig,
+    text: &[u8],
+    numbers: &FieldNumbers,
+) -> Result<Query, QueryError>
+    ensures { Gives view (spec.query_with config.now text.now (Ok numbers.now)) result }
+{
+    match str::from_utf8(text) {
+        Ok(text) => read_query(alloc, &config.schema, numbers, text),
+        Err(_) => Err(QueryError::Syntax { at: 0 }),
+    }
+}
+
+// The query of a task under a configuration.
+fn query_of_task(
+    alloc: Global,
+    config: &IndexConfig,
+    text: &[u8],
+    fields: &[Text],
+) -> Result<Query, QueryError>
+    ensures { Gives view (spec.read_query config.now text.now fields.now) result }
+{
+    let numbers = text_numbers(alloc, config.schema.fields.as_slice(), fields)?;
+    query_of_text(alloc, config, text, &numbers)
+}
+
+// What a reader said, unless it found no memory.
+fn unless_short(read: Result<Query, QueryError>) -> Result<Result<Query, QueryError>, AllocError>
+    ensures said { IfOk result (λ said. said ≡ read) }
+    ensures heard { IfOk result (λ said. IfErr said (λ error. WantsMemory error → ⊥)) }
+{
+    match read {
+        Ok(query) => Ok(Ok(query)),
+        Err(QueryError::Memory(refused)) => Err(refused),
+        Err(error) => Ok(Err(error)),
+    }
+}
+
+// Of an act without a query nothing is read, nor before there is a configuration.
+fn query_said(
+    alloc: Global,
+    config: &Option<Config>,
+    act: &Act,
+) -> Result<Result<Query, QueryError>, AllocError>
+    ensures { IfOk result (λ said. sought_in said ≡ meta.query_said spec.reads config.now act.now) }
+{
+    let Some(config) = config else {
+        return Ok(Err(QueryError::Syntax { at: 0 }));
+    };
+    match act {
+        Act::Task { text, fields, .. } => unless_short(query_of_task(
+            alloc,
+            &config.settings.index,
+            text.as_slice(),
+            fields.as_slice(),
+        )),
+        _ => Ok(Err(QueryError::Syntax { at: 0 })),
+    }
+}
+
+/// What the readers of texts say of an entry, under the configuration so far.
+pub fn reading_of(
+    alloc: Global,
+    config: &Option<Config>,
+    entry: &Entry,
+) -> Result<Reading, AllocError>
+    ensures { IfOk result (λ reading. reading ≡ meta.reading_of spec.reads config.now entry.now.act) }
+{
+    let query = query_said(alloc, config, &entry.act)?;
+    match config_said(alloc, &entry.act) {
+        Ok(config) => Ok(Reading { config, query }),
+        Err(refused) => {
+            mem::drop(query);
+            Err(refused)
+        }
+    }
 }
 
 /// What the readers of texts say of the Create of a text, where the text is a configuration.

@@ -4,9 +4,10 @@ ghost use Rattle.std.specs.Prelude.{◌≡◌, refl};
 
 use crate::gate::Gate;
 use crate::steady::SteadyClock;
-use crate::tokens::{Marks, Plan, Staged, SweepPage, Uploaded};
+use crate::tokens::{DeleteAsk, Marks, Plan, Receipt, Staged, SweepPage, Uploaded};
 use crate::world::World;
 use crate::world_error::WorldError;
+use delete_tasks::Task;
 use index_config::IndexConfig;
 use meta_store::Choice;
 use object_store::{Key, ObjectStore, Piece};
@@ -60,6 +61,8 @@ impl<S: ObjectStore, C: SteadyClock> Gate for Direct<S, C> {
 
     ghost configured = { λ direct. config_kept direct.world };
 
+    ghost tasks_kept = { λ direct. direct.world.meta.tasks };
+
     ghost bytes_fetched = { λ direct. direct.fetched };
 
     ghost told = { λ direct. direct.world.told };
@@ -86,6 +89,10 @@ impl<S: ObjectStore, C: SteadyClock> Gate for Direct<S, C> {
 
     fn config(&self) -> &IndexConfig {
         self.world.config()
+    }
+
+    fn tasks(&self, behind: u64) -> &[Task] {
+        self.world.tasks(behind)
     }
 
     fn fetched_bytes(&self) -> u128 {
@@ -140,6 +147,30 @@ impl<S: ObjectStore, C: SteadyClock> Gate for Direct<S, C> {
 
     fn publish(&mut self, alloc: Global, uploaded: Uploaded) -> Result<u64, WorldError> {
         self.world.publish(alloc, uploaded)
+    }
+
+    fn replace(
+        &mut self,
+        alloc: Global,
+        plan: &Plan,
+        uploaded: Uploaded,
+        upto: u64,
+    ) -> Result<u64, WorldError> {
+        self.world.replace(alloc, plan, uploaded, upto)
+    }
+
+    fn raise(
+        &mut self,
+        alloc: Global,
+        plan: &Plan,
+        place: u32,
+        upto: u64,
+    ) -> Result<u64, WorldError> {
+        self.world.raise(alloc, plan, place, upto)
+    }
+
+    fn add_task(&mut self, alloc: Global, ask: &DeleteAsk) -> Result<Receipt, WorldError> {
+        self.world.add_task(alloc, ask)
     }
 
     fn plan(&mut self, alloc: Global, choice: &Choice) -> Result<Plan, WorldError> {

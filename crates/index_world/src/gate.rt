@@ -1,6 +1,6 @@
 //! What the actors of an index ask of its world.
 
-ghost use Rattle.std.specs.Prelude.{◌≡◌, ◌<◌, ◌^◌, ◌++◌, ℕ, List, [], IfOk, length, slice_get, None, Some, Option};
+ghost use Rattle.std.specs.Prelude.{◌≡◌, ◌<◌, ◌^◌, ◌++◌, ℕ, List, [], IfOk, drop, length, slice_get, None, Some, Option};
 ghost use Rattle.std.specs.Option.{option_copied};
 ghost use Rattle.doc_value.specs.Documents.{IsSchema};
 ghost use Rattle.index_config.specs.declared.config.IndexConfig as configs;
@@ -8,19 +8,25 @@ ghost use Rattle.meta_journal.specs.Spelling.{CanSpellFacts};
 ghost use Rattle.source_log.specs.Log.{Log};
 ghost use Rattle.meta_journal.specs.Places.{split_key};
 ghost use Rattle.object_store.specs.Store.{State, WhereTold};
-ghost use Rattle.index_world.specs.Answering.{Answered, marks_answered, moment_answered, stage_answered, upload_answered, publish_answered, plan_answered, fetch_answered, mark_stale_answered, doom_answered, remove_answered, list_answered, sweep_answered};
+ghost use Rattle.index_world.specs.Answering.{Answered, marks_answered, moment_answered, stage_answered, upload_answered, publish_answered, replace_answered, raise_answered, task_answered, plan_answered, fetch_answered, mark_stale_answered, doom_answered, remove_answered, list_answered, sweep_answered};
 ghost use Rattle.index_world.specs.Asked.{Behind, FetchesFile, IsFetch, IsUpload, UploadsFile};
 ghost use Rattle.index_world.specs.Calls.{asked, looked, asked_and_looked, fetched_from, upload_made};
-ghost use Rattle.index_world.specs.CallsMade.{CallMade, of_checkpoints, of_moment, of_stage, of_upload, of_publish, of_plan, of_fetch, of_mark_stale, of_doom, of_remove, of_sweep_list, of_sweep};
+ghost use Rattle.index_world.specs.CallsMade.{CallMade, of_checkpoints, of_moment, of_stage, of_upload, of_publish, of_replace, of_raise, of_task, of_plan, of_fetch, of_mark_stale, of_doom, of_remove, of_sweep_list, of_sweep};
 ghost use Rattle.index_world.specs.Core.{Core, IsConfigured, IsUnusedIn, Nobody};
 ghost use Rattle.index_world.specs.Collected.{SweepsFile};
 ghost use Rattle.index_world.specs.Collecting.{doom_call, IsSweepPage, list_call, mark_stale_call, remove_call, sweep_call};
-ghost use Rattle.index_world.specs.Gate.{Does, DoesWith, IsGiven, fetched_more, grace_of, IsSoundCore, IsTrouble, IsUnmade, IsUnfetched, AreMarks, IsMoment, stage_call, WasStaged, WasUploaded, publish_call, IsPublishable, IsRevision, IsPlan, IsPieceGiven};
+ghost use Rattle.index_world.specs.Gate.{CanAsk, Does, DoesWith, IsGiven, IsReceipt, raise_call, replace_call, task_call, fetched_more, grace_of, IsSoundCore, IsTrouble, IsUnmade, IsUnfetched, AreMarks, IsMoment, stage_call, WasStaged, WasUploaded, publish_call, IsPublishable, IsRevision, IsPlan, IsPieceGiven};
+ghost use Rattle.index_world.specs.Replacing.{IsRaisable, IsReplaceable, numbers_of};
+ghost use Rattle.index_world.specs.Config.{reads};
 ghost use Rattle.index_world.specs.World.{GoesFor};
+ghost use Rattle.delete_tasks.specs.Removes.{DeleteTask};
+ghost use Rattle.meta_store.specs.History.{history};
+ghost use Rattle.meta_store.specs.Ledgers.{ledger};
 ghost use Rattle.meta_store.specs.declared.planning.PlanRow.{PlanRow};
 
-use crate::tokens::{Marks, Plan, Staged, SweepPage, Uploaded};
+use crate::tokens::{DeleteAsk, Marks, Plan, Receipt, Staged, SweepPage, Uploaded};
 use crate::world_error::WorldError;
+use delete_tasks::Task;
 use index_config::IndexConfig;
 use meta_store::Choice;
 use object_store::{Key, Piece};
@@ -52,6 +58,9 @@ pub trait Gate {
     /// The configuration that it keeps.
     ghost configured: { Self → configs.IndexConfig };
 
+    /// The tasks that it keeps.
+    ghost tasks_kept: { Self → List DeleteTask };
+
     /// How many bytes were fetched through it.
     ghost bytes_fetched: { Self → ℕ };
 
@@ -66,6 +75,11 @@ pub trait Gate {
         ensures value { result.now ≡ configured self.now }
         ensures schema { ∥ IsSchema result.now.schema ∥₁ }
         ensures step { (core : Core) (log : Log) → Stands self.now core log → IsConfigured result.now core };
+
+    /// The tasks behind this one, in their order. It is no event.
+    fn tasks(&self, behind: u64) -> &[Task]
+        ensures value { result.now ≡ drop behind (tasks_kept self.now) }
+        ensures step { (core : Core) (log : Log) → Stands self.now core log → result.now ≡ drop behind (ledger reads (history core.history)).tasks };
 
     /// How many bytes were fetched through this gate since it was made, at most 2^128 - 1. It is no event.
     fn fetched_bytes(&self) -> u128
@@ -175,6 +189,49 @@ pub trait Gate {
         ensures same { bytes_fetched self.new ≡ bytes_fetched self.old }
         ensures step { (core : Core) (log : Log) → Stands self.old core log → IsPublishable log core uploaded.number →
             Does Stands Between Owns Adds None (of_publish uploaded.number) (publish_call uploaded.number) IsUnmade IsRevision result core log self.old self.new };
+
+    /// Replaces the rows of a plan by an uploaded file, of their documents without those that tasks up to `upto` cover. Gives the
+    /// revision.
+    fn replace(
+        &mut self,
+        alloc: Global,
+        plan: &Plan,
+        uploaded: Uploaded,
+        upto: u64,
+    ) -> Result<u64, WorldError>
+        requires begun { (log : Log) → Begins self.old log → (core : Core) × Stands self.old core log × IsReplaceable log core uploaded.number (numbers_of plan.now.rows) upto }
+        ensures later { since self.old self.new }
+        ensures answered { Answers self.old (replace_answered uploaded.number (numbers_of plan.now.rows) upto result) self.new }
+        ensures same { bytes_fetched self.new ≡ bytes_fetched self.old }
+        ensures step { (core : Core) (log : Log) → Stands self.old core log → IsReplaceable log core uploaded.number (numbers_of plan.now.rows) upto →
+            Does Stands Between Owns Adds None (of_replace uploaded.number (numbers_of plan.now.rows) upto) (replace_call uploaded.number (numbers_of plan.now.rows) upto) IsUnmade IsRevision result core log self.old self.new };
+
+    /// Leaves the file of a planned row as it is, applied up to the task `upto`: none of its documents is covered up to there. Gives the
+    /// revision.
+    fn raise(
+        &mut self,
+        alloc: Global,
+        plan: &Plan,
+        place: u32,
+        upto: u64,
+    ) -> Result<u64, WorldError>
+        requires within { place < length plan.now.rows }
+        requires begun { (log : Log) (row : PlanRow) → Begins self.old log → slice_get plan.now.rows place ≡ Some row → (core : Core) × Stands self.old core log × IsRaisable core row.number upto }
+        ensures later { since self.old self.new }
+        ensures answered { (row : PlanRow) → slice_get plan.now.rows place ≡ Some row → Answers self.old (raise_answered row.number upto result) self.new }
+        ensures same { bytes_fetched self.new ≡ bytes_fetched self.old }
+        ensures step { (core : Core) (log : Log) (row : PlanRow) → Stands self.old core log → slice_get plan.now.rows place ≡ Some row → IsRaisable core row.number upto →
+            Does Stands Between Owns Adds None (of_raise row.number upto) (raise_call row.number upto) IsUnmade IsRevision result core log self.old self.new };
+
+    /// Adds a task that removes what it matches of all that was taken in before it. Refused as the state answers to that task: where
+    /// its query doesn't read, and where so many tasks stand already.
+    fn add_task(&mut self, alloc: Global, ask: &DeleteAsk) -> Result<Receipt, WorldError>
+        requires { CanAsk ask.now }
+        ensures later { since self.old self.new }
+        ensures answered { Answers self.old (task_answered ask.now result) self.new }
+        ensures same { bytes_fetched self.new ≡ bytes_fetched self.old }
+        ensures step { (core : Core) (log : Log) → Stands self.old core log →
+            Does Stands Between Owns Adds None (of_task ask.now) (task_call ask.now) IsUnmade IsReceipt result core log self.old self.new };
 
     /// Plans rows over the newest state.
     fn plan(&mut self, alloc: Global, choice: &Choice) -> Result<Plan, WorldError>

@@ -1,6 +1,6 @@
 //! What holds of every store that is a sound index. Each law is the contract of a function that does nothing.
 
-ghost use Rattle.std.specs.Prelude.{ℕ, List, length, Result, ◌≡◌, ◌↔◌, []};
+ghost use Rattle.std.specs.Prelude.{ℕ, List, length, map, Result, ◌≡◌, ◌↔◌, []};
 ghost use Rattle.std.specs.FinMap.{empty};
 ghost use Rattle.std.specs.List.{AllByRecursion};
 ghost use Rattle.meta_journal.specs.declared.entry.Entry.{Entry};
@@ -31,13 +31,15 @@ ghost use Rattle.byte_fields.specs.Causes.{Rose};
 ghost use Rattle.index_world.specs.Collected.{DoomsAs, SweepsAs};
 ghost use Rattle.index_world.specs.Collecting.{is_swept, next_doomed};
 ghost use Rattle.index_world.specs.Deleted.{DeletesAs};
-ghost use Rattle.index_world.specs.Core.{Core, last_count, IsPlannedIn, IsShownIn, IsStoredIn};
-ghost use Rattle.index_world.specs.Index.{MayPublish, IsAllowed, HasStaged, IsGivenUp, IsMade, IsStored};
-ghost use Rattle.meta_journal.specs.declared.entry.Act.TheVariants.{Remove};
+ghost use Rattle.index_world.specs.Core.{Core, Nobody, last_count, IsPlannedIn, IsShownIn, IsStoredIn};
+ghost use Rattle.index_world.specs.Index.{LeavesContents, MayPublish, MayReplace, IsAllowed, HasStaged, IsGivenUp, IsMade, IsStored};
+ghost use Rattle.meta_journal.specs.declared.entry.Act.TheVariants.{Raise, Remove, Replace};
 ghost use Rattle.index_world.specs.Releases.{IsDoomed, IsLasting, MayFree, RemovesReleased, MayDoom};
 ghost use Rattle.index_world.specs.Onward.{Landing};
 ghost use Rattle.index_world.specs.Alike.{AreAlike};
-ghost use Rattle.index_world.specs.World.{IsWorld, IsTimely, Keeping, WorldStands};
+ghost use Rattle.index_world.specs.Replacing.{IsRaisable, IsReplaceable};
+ghost use Rattle.meta_store.specs.Left.{HasMarks, mark_of};
+ghost use Rattle.index_world.specs.World.{GoesFor, IsWorld, IsTimely, Keeping, WorldStands};
 ghost use Rattle.index_world.specs.Held.{Still, Enters, AfterLanding, AfterCreate, AfterUpload, AfterDelete, Loads};
 
 /// Late creates that come to stand leave an index, of the same entries or with one that was late.
@@ -180,6 +182,21 @@ pub fn a_configuration_stays()
 pub fn made_file_may_be_published()
     ensures { (kept : State) (entries : List Entry) (log : Log) (number : ℕ) (delta : List Part) (facts : RowFacts) (bytes : List ℕ) →
         (config : IndexConfig) → configuration entries ≡ Some config → HasStaged entries number delta facts → IsMade config log delta facts bytes → IsStored kept entries number bytes → MayPublish kept entries log number }
+{}
+
+/// What a merger and a delete worker know of a planned row's spans begins where the row is published; what a Replace and a Raise need
+/// stays whatever others do, and where nothing stands unread it is what the entry needs of the index.
+pub fn replacing_stays()
+    ensures begins { (entries : List Entry) (number : ℕ) (row : Row) → Legal reads (told entries) → row_at (rows (told entries)) number ≡ Some row → row.state ≡ Published →
+        HasMarks entries number (map mark_of row.spans) }
+    ensures replace { (core after : Core) (log : Log) (new : ℕ) (old : List ℕ) (upto : ℕ) → GoesFor Nobody core after → Legal reads (told after.history) →
+        IsReplaceable log core new old upto → IsReplaceable log after new old upto }
+    ensures raise { (core after : Core) (number upto : ℕ) → GoesFor Nobody core after → Legal reads (told after.history) →
+        IsRaisable core number upto → IsRaisable after number upto }
+    ensures may_replace { (kept : State) (core : Core) (log : Log) (moment new : ℕ) (old : List ℕ) (upto : ℕ) → IsWorld kept core log → core.standing ≡ None → IsReplaceable log core new old upto →
+        IsAllowed core.history (record { moment = moment; act = Replace new old upto }) → MayReplace kept core.history log new old upto }
+    ensures may_raise { (kept : State) (core : Core) (log : Log) (moment number upto : ℕ) → IsWorld kept core log → core.standing ≡ None → IsRaisable core number upto →
+        IsAllowed core.history (record { moment = moment; act = Raise number upto }) → LeavesContents core.history log number upto }
 {}
 
 /// Cores for which one world stands agree on all that is seen of the index: so what a caller needs of one holds of each.

@@ -22,7 +22,7 @@ mod world_error;
 pub use direct::Direct;
 pub use gate::Gate;
 pub use steady::SteadyClock;
-pub use tokens::{Marks, Plan, Staged, SweepPage, Uploaded};
+pub use tokens::{DeleteAsk, Marks, Plan, Receipt, Staged, SweepPage, Uploaded};
 pub use words::{put_fault, put_number, put_refusal, put_word};
 pub use world::{Unopened, World};
 pub use world_error::WorldError;

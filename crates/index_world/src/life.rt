@@ -34,9 +34,8 @@ pub struct Life {
 }
 
 impl Life {
-    ghost use Rattle.std.specs.Prelude.{◌≡◌, ◌≤◌, ◌+◌, OnOk, IfOk, IfErr, IsOk, MatchResult, Option, Some, length, vec_len, vec_capacity};
+    ghost use Rattle.std.specs.Prelude.{◌≡◌, ◌≤◌, ◌+◌, OnOk, IfOk, IfErr, IsOk, MatchResult, Some, length, vec_len, vec_capacity};
     ghost use Rattle.meta_store.specs.Readings as read;
-    ghost use Rattle.meta_store.specs.declared.config.Config.{Config};
     ghost use Rattle.index_world.specs.Config.{reads};
     ghost use Rattle.meta_journal.specs.declared.place.Place.TheVariants.{Sure, Given};
     ghost use Rattle.object_store.specs.Store.{State, WhereTold};
@@ -68,7 +67,7 @@ impl Life {
         ensures taken { MatchResult result (λ done. TookIn self.old entry self.new) (λ error. TookNone self.old entry error self.new) }
         ensures allowed { OnOk result (IsOk (answer_in self.old.meta.state entry)) }
     {
-        match read_with_room(alloc, &mut self.marks, &entry) {
+        match read_with_room(alloc, &self.meta, &mut self.marks, &entry) {
             Ok(reading) => self.take_read(entry, reading),
             Err(refused) => {
                 mem::drop(entry);
@@ -81,7 +80,7 @@ impl Life {
     fn take_read(&mut self, entry: Entry, reading: Reading) -> Result<(), WorldError>
         requires given { self.old.journal.place ≡ Given }
         requires room { vec_len self.old.marks + length (marked_by entry.act) ≤ vec_capacity self.old.marks }
-        requires read { (config : Option Config) → reading ≡ read.reading_of reads config entry.act }
+        requires read { reading ≡ read.reading_of reads self.old.meta.state.config entry.act }
         ensures place { OnOk result (self.new.journal.place ≡ Sure) }
         ensures taken { MatchResult result (λ done. TookIn self.old entry self.new) (λ error. TookNone self.old entry error self.new) }
         ensures allowed { OnOk result (IsOk (answer_in self.old.meta.state entry)) }
@@ -158,7 +157,7 @@ impl Life {
             moment: self.moment,
             act,
         };
-        let reading = match read_with_room(alloc, &mut self.marks, &entry) {
+        let reading = match read_with_room(alloc, &self.meta, &mut self.marks, &entry) {
             Ok(reading) => reading,
             Err(refused) => {
                 mem::drop(entry);

@@ -1,16 +1,23 @@
 //! Entries of a caller's own.
 
-ghost use Rattle.std.specs.Prelude.{◌≡◌, ◌++◌, ◌∷◌, [], true, filter, IfOk, IfSome, OnOk};
-ghost use Rattle.meta_journal.specs.Spelling.{CanSpellPart, CanSpellAct, AreAll, IsNumber};
+ghost use Rattle.std.specs.Prelude.{◌≡◌, ◌++◌, ◌∷◌, [], Some, true, filter, IfOk, IfSome, OnOk};
+ghost use Rattle.meta_journal.specs.Spelling.{CanSpellPart, CanSpellAct, CanSpellRange, AreAll, IsNumber};
+ghost use Rattle.meta_journal.specs.declared.entry.Act.TheVariants as acts;
 ghost use Rattle.split_states.specs.Rows.{rising};
 ghost use Rattle.index_world.specs.Collecting.{doomed_rows, marks_offer, removal_of};
 ghost use Rattle.index_world.specs.Core.{is_in};
+ghost use Rattle.index_world.specs.Gate.{CanAsk};
 ghost use Rattle.index_world.specs.Owning.{CanOwn, offer_in, offer_of};
+ghost use Rattle.index_world.specs.Replacing.{numbers_of};
 
 use crate::doom_list::Doomed;
 use crate::life::Life;
 use crate::next_doomed::greatest_number;
+use crate::tokens::{DeleteAsk, Plan};
+use byte_fields::{Text, Texts};
+use doc_value::TimeRange;
 use meta_journal::{Act, Entry};
+use meta_store::PlanRow;
 use source_checkpoint::{Delta, Part, Partition};
 use split_states::{Numbers, RowFacts, Rows};
 use std::alloc::{AllocError, Global};
@@ -21,6 +28,11 @@ use std::mem;
 pub enum Own<'a> {
     Stage(&'a Delta, &'a RowFacts),
     Publish(u64),
+    /// The rows of a plan, by a new one, up to a task.
+    Replace(&'a Plan, u64, u64),
+    /// A row, up to a task.
+    Raise(u64, u64),
+    Task(&'a DeleteAsk),
     MarkStale,
     Remove,
 }
@@ -129,6 +141,73 @@ fn offer_to_remove(numbers: Numbers) -> Result<Option<Offer>, AllocError>
     }
 }
 
+// The numbers of planned rows, each of which fits its type.
+fn planned_numbers(alloc: Global, rows: &[PlanRow]) -> Result<Numbers, AllocError>
+    ensures same { IfOk result (λ numbers. numbers ≡ numbers_of rows.now) }
+    ensures fit { IfOk result (λ numbers. AreAll IsNumber numbers) }
+{
+    let mut numbers = Numbers::vacant(alloc);
+    for row in rows {
+        numbers.push(row.number)?;
+    }
+    Ok(fitting(numbers))
+}
+
+// What the replacement of planned rows is.
+fn offer_to_replace(
+    alloc: Global,
+    plan: &Plan,
+    new: u64,
+    upto: u64,
+) -> Result<Option<Offer>, AllocError>
+    ensures can { IfOk result (λ offer. IfSome offer (λ o. CanSpellAct o.act)) }
+    ensures same { IfOk result (λ offer. offer_of offer ≡ Some (record { act = acts.Replace new (numbers_of plan.now.rows) upto; answer = 0 })) }
+{
+    let old = planned_numbers(alloc, plan.rows.as_slice())?;
+    Ok(Some(Offer {
+        act: Act::Replace { new, old, upto },
+        count: 0,
+    }))
+}
+
+fn copied_texts(alloc: Global, texts: &[Text]) -> Result<Texts, AllocError>
+    ensures { IfOk result (λ copy. copy ≡ texts.now) }
+{
+    let mut copy = Texts::vacant(alloc);
+    for text in texts {
+        copy.push(Text::from_slice(alloc, text.as_slice())?)?;
+    }
+    Ok(copy)
+}
+
+// The times again, whose ends fit their type.
+fn fitting_times(times: TimeRange) -> TimeRange
+    ensures same { result ≡ times }
+    ensures can { CanSpellRange result }
+{
+    times
+}
+
+// What a delete that is asked for is, as the task with this opstamp.
+fn offer_to_add(alloc: Global, ask: &DeleteAsk, opstamp: u64) -> Result<Option<Offer>, AllocError>
+    requires { CanAsk ask.now }
+    ensures can { IfOk result (λ offer. IfSome offer (λ o. CanSpellAct o.act)) }
+    ensures same { IfOk result (λ offer. offer_of offer ≡ Some (record { act = acts.Task opstamp ask.now.text ask.now.fields ask.now.times; answer = 0 })) }
+{
+    let text = Text::from_slice(alloc, ask.text.as_slice())?;
+    let fields = copied_texts(alloc, ask.fields.as_slice())?;
+    let times = fitting_times(ask.times);
+    Ok(Some(Offer {
+        act: Act::Task {
+            opstamp,
+            text,
+            fields,
+            times,
+        },
+        count: 0,
+    }))
+}
+
 // A number more where it was doomed.
 fn add_doomed(numbers: &mut Numbers, doomed: &Doomed, number: u64) -> Result<(), AllocError>
     ensures { OnOk result (numbers.new ≡ numbers.old ++ filter (λ n. is_in doomed.now.numbers.items n) (number ∷ [])) }
@@ -179,6 +258,12 @@ pub fn act_of(alloc: Global, own: Own, life: &Life) -> Result<Option<Offer>, All
             act: Act::Publish { number },
             count: 0,
         })),
+        Own::Replace(plan, number, upto) => offer_to_replace(alloc, plan, number, upto),
+        Own::Raise(number, upto) => Ok(Some(Offer {
+            act: Act::Raise { number, upto },
+            count: 0,
+        })),
+        Own::Task(ask) => offer_to_add(alloc, ask, life.meta.next_opstamp()),
         Own::MarkStale => {
             let grace = life.config().staged_grace;
             let rows = life.meta.rows();

@@ -1,6 +1,6 @@
 //! Taking entries in.
 
-ghost use Rattle.std.specs.Prelude.{◌≡◌, ◌<◌, ◌≤◌, ◌+◌, ◌^◌, [], OnOk, IfOk, IfErr, IsOk, IsSome, None, Some, Option, length, vec_len, vec_capacity};
+ghost use Rattle.std.specs.Prelude.{◌≡◌, ◌<◌, ◌≤◌, ◌+◌, ◌^◌, [], OnOk, IfOk, IfErr, IsOk, IsSome, None, Some, length, vec_len, vec_capacity};
 ghost use Rattle.std.specs.List.{AllByRecursion};
 ghost use Rattle.index_world.specs.Index.{max_entries};
 ghost use Rattle.meta_journal.specs.declared.place.Place.TheVariants.{Sure};
@@ -12,7 +12,6 @@ ghost use Rattle.meta_store.specs.Readings as readings;
 ghost use Rattle.meta_store.specs.Room.{HasRoom};
 ghost use Rattle.meta_store.specs.State.{Legal, after};
 ghost use Rattle.meta_store.specs.State as spec;
-ghost use Rattle.meta_store.specs.declared.config.Config.{Config};
 ghost use Rattle.object_store.specs.Store.{State, WhereTold};
 ghost use Rattle.source_log.specs.Log.{Log};
 ghost use Rattle.index_world.specs.Calls.{marked_by};
@@ -90,18 +89,19 @@ pub fn list_error(error: ListError, before: u64, after: u64) -> WorldError
     }
 }
 
-/// What is read of an entry, once there is room for its markings.
+/// What is read of an entry behind a state, once there is room for its markings.
 pub fn read_with_room(
     alloc: Global,
+    meta: &Meta,
     marks: &mut Vec<Marking>,
     entry: &Entry,
 ) -> Result<Reading, AllocError>
     ensures same { marks.new.items ≡ marks.old.items }
     ensures room { OnOk result (vec_len marks.new + length (marked_by entry.now.act) ≤ vec_capacity marks.new) }
-    ensures value { IfOk result (λ reading. (config : Option Config) → reading ≡ readings.reading_of reads config entry.now.act) }
+    ensures value { IfOk result (λ reading. reading ≡ readings.reading_of reads meta.now.state.config entry.now.act) }
 {
     reserve(marks, &entry.act)?;
-    reading_of(alloc, entry)
+    reading_of(alloc, meta.config(), entry)
 }
 
 /// Makes the room for an entry of the journal with this number, and hands its readings back. Where the state refuses the entry it is no entry of
@@ -217,7 +217,7 @@ fn take_all(alloc: Global, meta: &mut Meta, entries: Vec<Entry>) -> Result<u64, 
     left.reverse();
     let mut moment = 0;
     'entries: while let Some(entry) = left.pop() {
-        match reading_of(alloc, &entry) {
+        match reading_of(alloc, meta.config(), &entry) {
             Ok(reading) => match take_one(meta, entry, reading) {
                 Ok(of_entry) => moment = of_entry.max(moment),
                 Err(error) => {

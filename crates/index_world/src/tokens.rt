@@ -3,6 +3,8 @@
 ghost use Rattle.std.specs.Prelude.{◌≡◌};
 ghost use Rattle.source_checkpoint.specs.Checkpoints.{checkpoint_at};
 
+use byte_fields::{Text, Texts};
+use doc_value::TimeRange;
 use meta_store::PlanRows;
 use object_store::Key;
 use source_checkpoint::{Checkpoint, Partition};
@@ -57,4 +59,20 @@ pub struct Plan {
     pub moment: u64,
     pub upto: u64,
     pub rows: PlanRows,
+}
+
+/// A delete as it is asked for: the text of its query, the paths of the fields that a clause without a field asks, and the times
+/// within which documents are removed.
+#[derive(Drop)]
+pub struct DeleteAsk {
+    pub text: Text,
+    pub fields: Texts,
+    pub times: TimeRange,
+}
+
+/// A task that was added: its opstamp, and how many entries the state has taken in with it.
+#[derive(Drop)]
+pub struct Receipt {
+    pub opstamp: u64,
+    pub revision: u64,
 }

@@ -1,6 +1,6 @@
 //! One life of a world: its store, journal, state and clock. Each call is one event.
 
-ghost use Rattle.std.specs.Prelude.{◌≡◌, ◌<◌, ◌^◌, ℕ, List, IfOk, IfErr, IsOk, MatchResult, None, Some, length, slice_get, max, true, false, IfSome, nat_le, ◌+◌};
+ghost use Rattle.std.specs.Prelude.{◌≡◌, ◌<◌, ◌^◌, ℕ, List, IfOk, IfErr, IsOk, MatchResult, None, Some, drop, length, slice_get, max, true, false, IfSome, nat_le, ◌+◌};
 ghost use Rattle.std.specs.Borrow.{Lends, sem};
 ghost use Rattle.std.specs.List.{AllByRecursion};
 ghost use Rattle.std.specs.Option.{option_copied};
@@ -11,7 +11,7 @@ ghost use Rattle.meta_journal.specs.Spelling.{CanSpellFacts};
 ghost use Rattle.object_store.specs.Store.{State, WhereTold};
 ghost use Rattle.source_log.specs.Log.{Log};
 ghost use Rattle.meta_journal.specs.Places.{split_key};
-ghost use Rattle.index_world.specs.Answering.{IsAnswer, marks_answered, moment_answered, SaysListed, stage_answered, publish_answered, plan_answered, mark_stale_answered, doom_answered, remove_answered};
+ghost use Rattle.index_world.specs.Answering.{IsAnswer, marks_answered, moment_answered, SaysListed, stage_answered, publish_answered, replace_answered, raise_answered, task_answered, plan_answered, mark_stale_answered, doom_answered, remove_answered};
 ghost use Rattle.index_world.specs.Asked.{FetchesFile, given_behind, IsFetch, IsInTime, IsUpload, UploadsFile};
 ghost use Rattle.index_world.specs.Calls.{asked, asked_moment, looked, asked_and_looked, fetched_from, upload_made};
 ghost use Rattle.index_world.specs.Configuration.{index_of};
@@ -20,7 +20,8 @@ ghost use Rattle.index_world.specs.Created.{CreatesIndex, CreatesNot, CreatesWor
 ghost use Rattle.index_config.specs.Answer.{config_answer};
 ghost use Rattle.index_world.specs.Collected.{SweepsFile};
 ghost use Rattle.index_world.specs.Collecting.{is_swept_by, doom_call, IsSweepPage, list_call, mark_stale_call, remove_call, sweep_call};
-ghost use Rattle.index_world.specs.Gate.{Acts, ActsWith, IsGiven, grace_of, IsTrouble, IsUnmade, IsUnfetched, AreMarks, IsMoment, stage_call, WasStaged, WasUploaded, publish_call, IsPublishable, IsRevision, IsPlan, IsPieceGiven};
+ghost use Rattle.index_world.specs.Gate.{Acts, ActsWith, CanAsk, IsGiven, IsReceipt, raise_call, replace_call, task_call, grace_of, IsTrouble, IsUnmade, IsUnfetched, AreMarks, IsMoment, stage_call, WasStaged, WasUploaded, publish_call, IsPublishable, IsRevision, IsPlan, IsPieceGiven};
+ghost use Rattle.index_world.specs.Replacing.{IsRaisable, IsReplaceable, numbers_of};
 ghost use Rattle.index_world.specs.Loading.{LoadsWorld, LoadsNone, LoadsAnew};
 ghost use Rattle.index_world.specs.Taking.{IsFaultBetween};
 ghost use Rattle.index_world.specs.Opened.{OpensIndex, OpensNot, OpensAnew};
@@ -34,8 +35,9 @@ use crate::next_doomed::next_doomed;
 use crate::own::Own;
 use crate::steady::SteadyClock;
 use crate::taking::{create_error, get_error, list_error, open};
-use crate::tokens::{Marks, Plan, Staged, SweepPage, Uploaded};
+use crate::tokens::{DeleteAsk, Marks, Plan, Receipt, Staged, SweepPage, Uploaded};
 use crate::world_error::WorldError;
+use delete_tasks::Task;
 use index_config::IndexConfig;
 use meta_journal::{split_key, split_prefix};
 use meta_store::{Choice, Meta};
@@ -219,6 +221,15 @@ impl<S: ObjectStore, C: SteadyClock> World<S, C> {
         ensures step { (core : Core) (log : Log) → WorldStands self.now core log → IsConfigured result.now core }
     {
         self.life.config()
+    }
+
+    /// The tasks behind this one, in their order.
+    pub fn tasks(&self, behind: u64) -> &[Task]
+        ensures { result.now ≡ drop behind self.now.meta.tasks }
+    {
+        let tasks = self.life.meta.tasks().as_slice();
+        let from = behind.min(tasks.len() as u64) as usize;
+        &tasks[from..]
     }
 
     // Whether files that were marked behind a plan of this moment may be gone.
@@ -454,6 +465,81 @@ impl<S: ObjectStore, C: SteadyClock> World<S, C> {
             before,
         )?;
         Ok(self.life.meta.revision())
+    }
+
+    /// Replaces the rows of a plan by an uploaded file, of their documents without those that tasks up to `upto` cover. Gives the
+    /// revision.
+    pub fn replace(
+        &mut self,
+        alloc: Global,
+        plan: &Plan,
+        uploaded: Uploaded,
+        upto: u64,
+    ) -> Result<u64, WorldError>
+        ensures step { (core : Core) (log : Log) → WorldStands self.old core log → IsReplaceable log core uploaded.number (numbers_of plan.now.rows) upto →
+            Acts WorldStands None (replace_call uploaded.number (numbers_of plan.now.rows) upto) IsUnmade IsRevision result core log self.new }
+        // Over every store, sound or not.
+        ensures answers { IsAnswer (replace_answered uploaded.number (numbers_of plan.now.rows) upto result) self.old self.new }
+    {
+        let before = self.store.faults();
+        self.ask();
+        self.life.append(
+            alloc,
+            &mut self.store,
+            Own::Replace(plan, uploaded.number, upto),
+            before,
+        )?;
+        Ok(self.life.meta.revision())
+    }
+
+    /// Leaves the file of a planned row as it is, applied up to the task `upto`: none of its documents is covered up to there. Gives the
+    /// revision.
+    pub fn raise(
+        &mut self,
+        alloc: Global,
+        plan: &Plan,
+        place: u32,
+        upto: u64,
+    ) -> Result<u64, WorldError>
+        requires { place < length plan.now.rows }
+        ensures step { (core : Core) (log : Log) (row : PlanRow) → WorldStands self.old core log → slice_get plan.now.rows place ≡ Some row →
+            IsRaisable core row.number upto → Acts WorldStands None (raise_call row.number upto) IsUnmade IsRevision result core log self.new }
+        // Over every store, sound or not.
+        ensures answers { (row : PlanRow) → slice_get plan.now.rows place ≡ Some row → IsAnswer (raise_answered row.number upto result) self.old self.new }
+    {
+        self.raise_row(alloc, plan.rows.at(place as usize).number, upto)
+    }
+
+    // The row of this number is applied up to a task.
+    fn raise_row(&mut self, alloc: Global, number: u64, upto: u64) -> Result<u64, WorldError>
+        ensures step { (core : Core) (log : Log) → WorldStands self.old core log → IsRaisable core number upto →
+            Acts WorldStands None (raise_call number upto) IsUnmade IsRevision result core log self.new }
+        ensures answers { IsAnswer (raise_answered number upto result) self.old self.new }
+    {
+        let before = self.store.faults();
+        self.ask();
+        self.life
+            .append(alloc, &mut self.store, Own::Raise(number, upto), before)?;
+        Ok(self.life.meta.revision())
+    }
+
+    /// Adds a task that removes what it matches of all that was taken in before it. Refused as the state answers to that task: where
+    /// its query doesn't read, and where so many tasks stand already.
+    pub fn add_task(&mut self, alloc: Global, ask: &DeleteAsk) -> Result<Receipt, WorldError>
+        requires { CanAsk ask.now }
+        ensures step { (core : Core) (log : Log) → WorldStands self.old core log →
+            Acts WorldStands None (task_call ask.now) IsUnmade IsReceipt result core log self.new }
+        // Over every store, sound or not.
+        ensures answers { IsAnswer (task_answered ask.now result) self.old self.new }
+    {
+        let before = self.store.faults();
+        self.ask();
+        self.life
+            .append(alloc, &mut self.store, Own::Task(ask), before)?;
+        Ok(Receipt {
+            opstamp: self.life.meta.last_opstamp(),
+            revision: self.life.meta.revision(),
+        })
     }
 
     /// Plans rows over the newest state.

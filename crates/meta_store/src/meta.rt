@@ -343,7 +343,8 @@ impl Meta {
         }
     }
 
-    fn next_opstamp(&self) -> u64
+    /// One more than the opstamp of the last task, from 1.
+    pub fn next_opstamp(&self) -> u64
         ensures { result ≡ self.now.state.last_opstamp + 1 }
     {
         self.tasks.last_opstamp() + 1

@@ -4,7 +4,7 @@ use Rattle.std.specs.Prelude.{◌==◌, decimal, codes}
 use Rattle.byte_fields.specs.ClientName.{IsClientName}
 use Rattle.indexing_run.specs.Outcomes.{words}
 use Rattle.node_run.specs.Lines.{Spells, AreNames}
-use Rattle.node_run.specs.Node.{Line, At, Assign, StepIndexer, RestartIndexer, RestartClient, RestartNode, Open, StepClient}
+use Rattle.node_run.specs.Node.{Line, At, Assign, StepIndexer, RestartIndexer, RestartClient, StepCollector, RestartCollector, RestartNode, Open, StepClient}
 
 abbrev byte_at : ℕ → List ℕ → ℕ
 byte_at k [] = 0
@@ -39,17 +39,14 @@ pub data IsOfClient (rest : List ℕ) : Type 0 where
   opens : (name text : List ℕ) → rest ≡ name ++ 32 ∷ text → IsClientName name → IsOfClient rest
   steps : (name : List ℕ) → rest ≡ name → IsClientName name → IsOfClient rest
 
-pub data IsRestart (rest : List ℕ) : Type 0 where
-  of_node : rest ≡ codes "node" → IsRestart rest
-  of_indexer : (number : ℕ) → rest ≡ codes "indexer " ++ decimal number → number < 2 ^ 64 → IsRestart rest
-  of_client : (name : List ℕ) → rest ≡ codes "client " ++ name → IsClientName name → IsRestart rest
-
 pub at_only : (rest : List ℕ) (line : Line) → Spells (codes "at " ++ rest) line → IsAt rest
 at_only rest (At moment) s = record { moment = moment; digits = ap (drop 3) s.is; below = s.formed }
 at_only rest (Assign i names) s = absurd (differ 1 _ _ refl s.is)
 at_only rest (StepIndexer i) s = absurd (differ 0 _ _ refl s.is)
 at_only rest (RestartIndexer i) s = absurd (differ 0 _ _ refl s.is)
 at_only rest (RestartClient name) s = absurd (differ 0 _ _ refl s.is)
+at_only rest StepCollector s = absurd (differ 0 _ _ refl s.is)
+at_only rest RestartCollector s = absurd (differ 0 _ _ refl s.is)
 at_only rest RestartNode s = absurd (differ 0 _ _ refl s.is)
 at_only rest (Open name text) s = absurd (differ 0 _ _ refl s.is)
 at_only rest (StepClient name) s = absurd (differ 0 _ _ refl s.is)
@@ -60,6 +57,8 @@ assign_only rest (Assign i names) s = record { indexer = i; names = names; text 
 assign_only rest (StepIndexer i) s = absurd (differ 0 _ _ refl s.is)
 assign_only rest (RestartIndexer i) s = absurd (differ 0 _ _ refl s.is)
 assign_only rest (RestartClient name) s = absurd (differ 0 _ _ refl s.is)
+assign_only rest StepCollector s = absurd (differ 0 _ _ refl s.is)
+assign_only rest RestartCollector s = absurd (differ 0 _ _ refl s.is)
 assign_only rest RestartNode s = absurd (differ 0 _ _ refl s.is)
 assign_only rest (Open name text) s = absurd (differ 0 _ _ refl s.is)
 assign_only rest (StepClient name) s = absurd (differ 0 _ _ refl s.is)
@@ -70,6 +69,8 @@ client_only rest (Assign i names) s = absurd (differ 0 _ _ refl s.is)
 client_only rest (StepIndexer i) s = absurd (differ 0 _ _ refl s.is)
 client_only rest (RestartIndexer i) s = absurd (differ 0 _ _ refl s.is)
 client_only rest (RestartClient name) s = absurd (differ 0 _ _ refl s.is)
+client_only rest StepCollector s = absurd (differ 1 _ _ refl s.is)
+client_only rest RestartCollector s = absurd (differ 0 _ _ refl s.is)
 client_only rest RestartNode s = absurd (differ 0 _ _ refl s.is)
 client_only rest (Open name text) s = opens name text (ap (drop 7) s.is) s.formed
 client_only rest (StepClient name) s = steps name (ap (drop 7) s.is) s.formed

@@ -1,18 +1,24 @@
 -- Where nothing is late and no count rises, a schedule is that of the plain node.
-use Rattle.std.proofs.Common.{◌≡◌, ◌⊎◌, ℕ, zero, suc, ◌<◌, ◌≤◌, min, List, [], ◌∷◌, length, map, refl, sym, ap, ◌∙◌, Bool, true, false, subst, inl, inr, arith}
+use Rattle.std.proofs.Common.{◌≡◌, ◌⊎◌, ℕ, zero, suc, ◌^◌, ◌<◌, ◌≤◌, min, List, [], ◌∷◌, length, map, refl, sym, ap, ◌∙◌, Bool, true, false, subst, inl, inr, arith}
 use Rattle.std.proofs.lemmas.List.{length-map}
 use Rattle.std.proofs.lemmas.List.Elements.{All-head, All-tail}
 use Rattle.std.specs.Prelude.{Some, None, ⊤, ◌==◌, All, slice_set}
+use Rattle.meta_journal.specs.declared.entry.Entry.{Entry}
+use Rattle.meta_store.specs.History.{history, last_number}
 use Rattle.index_world.specs.Calls.{Unread, not_read, no_memory, Gives, reborn, unless_empty, loaded}
-use Rattle.index_world.specs.Core.{last_count}
+use Rattle.index_world.specs.Core.{Core, last_count}
 use Rattle.indexing_run.specs.Places.{Indexer}
 use Rattle.indexing_run.specs.Steps.{Stepped, step_indexer}
 use Rattle.root_search.specs.Steps.{Searched, step_client}
+use Rattle.split_collector.specs.Steps.{step_collector}
+use Rattle.split_collector.specs.Steps as collecting
 use Rattle.node_run.specs.Calm.{IsStill, log_counts, IsOfThese}
-use Rattle.node_run.specs.Node.{Node, Line, At, Assign, StepIndexer, RestartIndexer, RestartClient, RestartNode, Open, StepClient, Outcome}
-use Rattle.node_run.specs.Turns.{Luck, calm, Turned, indexer_at, client_named, indexing_luck, searching_luck, said_by_indexer, said_by_client, indexer_stepped, indexer_turn_by, client_stepped, client_turn_by, restart_by, restart_given, full_turn, or_quiet, turn_by, turn, Turns, run_turned, turns, turns_with, with_calm}
+use Rattle.node_run.specs.Node.{Node, Line, At, Assign, StepIndexer, RestartIndexer, RestartClient, StepCollector, RestartCollector, RestartNode, Open, StepClient, Outcome}
+use Rattle.node_run.specs.Turns.{Luck, calm, Turned, indexer_at, client_named, indexing_luck, searching_luck, said_by_indexer, said_by_client, indexer_stepped, indexer_turn_by, client_stepped, client_turn_by, collecting_luck, said_by_collector, collector_stepped, collector_turn_by, restart_by, restart_given, full_turn, or_quiet, turn_by, turn, Turns, run_turned, turns, turns_with, with_calm}
 use Rattle.node_run.proofs.Calming.{Same, Calms}
 use Rattle.node_run.proofs.CalmSteps.{StepCalms, SearchCalms, calm_indexing, calm_searching, loaded_calms, indexer_calms, client_calms}
+use Rattle.node_run.proofs.CollectorCalms.{CollectCalms, calm_collecting, collector_calms}
+use Rattle.node_run.proofs.StagedNumbers.{numbers_grow}
 use Rattle.node_run.proofs.StillCalls.{opened_calm, turn_still}
 use Rattle.node_run.proofs.Moving.{restart_same, turn_later, turns_later}
 use Rattle.node_run.proofs.LogCounts.{NoneFell, none_rose, turn_counted, turns_counted}
@@ -35,6 +41,10 @@ set_same (first ∷ more) (suc i) indexer h e = set_same more i indexer (omega (
     rest : log_counts (slice_set more i indexer) ≡ log_counts more
     rest = cc
 
+-- every number that the core staged can be spelled
+abbrev pub IsSpelled : Core → Type 0
+IsSpelled core = last_number (history core.history) < 2 ^ 64
+
 -- ---- one line
 
 -- a line says nothing, or is that of a calm luck
@@ -49,6 +59,10 @@ module _ (luck : Luck) (node : Node) (s : IsStill node.core) (below : Below node
   client_calm : (name : List ℕ) (step calm_step : Searched) → SearchCalms step calm_step → TurnCalms (client_stepped name node step) (client_stepped name node calm_step)
   client_calm name step calm_step (inl e) = inl (ap (said_by_client name) e)
   client_calm name step calm_step (inr e) = inr (ap (client_stepped name node) e)
+
+  collector_calm : (step calm_step : collecting.Stepped) → CollectCalms step calm_step → TurnCalms (collector_stepped node step) (collector_stepped node calm_step)
+  collector_calm step calm_step (inl e) = inl (ap said_by_collector e)
+  collector_calm step calm_step (inr e) = inr (ap (collector_stepped node) e)
 
   indexer_line_calm : (down : Bool) (i : ℕ) → i < length node.indexers → Same node.core (indexer_turn_by down luck i node).node.core →
       log_counts (indexer_turn_by down luck i node).node.indexers ≡ log_counts node.indexers →
@@ -68,6 +82,12 @@ module _ (luck : Luck) (node : Node) (s : IsStill node.core) (below : Below node
       client_calm name (step_client (searching_luck luck) node.log client node.core) (step_client calm_searching node.log client node.core)
       (client_calms (searching_luck luck) node.log client node.core s same)
 
+  collector_line_calm : (down : Bool) → IsSpelled (collector_turn_by down luck node).node.core → Same node.core (collector_turn_by down luck node).node.core →
+      TurnCalms (collector_turn_by down luck node) (collector_turn_by down calm node)
+  collector_line_calm true small same = inr refl
+  collector_line_calm false small same =
+      collector_calm (step_collector (collecting_luck luck) node.core) (step_collector calm_collecting node.core) (collector_calms (collecting_luck luck) node.core s small same)
+
   restart_calm : (g g' : Gives Unread ⊤) → Calms (not_read no_memory) g g' → TurnCalms (restart_given node g) (restart_given node g')
   restart_calm g g' (inl e) = inl (ap (λ r. (restart_by r g.core node).said) e)
   restart_calm g g' (inr e) = inr (ap (restart_given node) e)
@@ -80,16 +100,18 @@ module _ (luck : Luck) (node : Node) (s : IsStill node.core) (below : Below node
       (restart_calm given (unless_empty (length node.core.history == 0) (reborn node.core))
       (loaded_calms luck.world node.core s (sym (ap (λ c. c.store_faults) (restart_same given.answer given.core node)) ∙ same)))
 
-  full_calms : (line : Line) → IsOfThese (length node.indexers) line → Same node.core (full_turn luck node line).node.core →
+  full_calms : (line : Line) → IsOfThese (length node.indexers) line → IsSpelled (full_turn luck node line).node.core → Same node.core (full_turn luck node line).node.core →
       log_counts (full_turn luck node line).node.indexers ≡ log_counts node.indexers → TurnCalms (full_turn luck node line) (full_turn calm node line)
-  full_calms (At moment) of same counts = inr refl
-  full_calms (Assign i names) of same counts = inr refl
-  full_calms (StepIndexer i) of same counts = indexer_line_calm node.down i of same counts
-  full_calms (RestartIndexer i) of same counts = inr refl
-  full_calms (RestartClient name) of same counts = inr refl
-  full_calms RestartNode of same counts = restart_line_calm same
-  full_calms (Open name text) of same counts = inr refl
-  full_calms (StepClient name) of same counts = client_line_calm node.down name same
+  full_calms (At moment) of small same counts = inr refl
+  full_calms (Assign i names) of small same counts = inr refl
+  full_calms (StepIndexer i) of small same counts = indexer_line_calm node.down i of same counts
+  full_calms (RestartIndexer i) of small same counts = inr refl
+  full_calms (RestartClient name) of small same counts = inr refl
+  full_calms StepCollector of small same counts = collector_line_calm node.down small same
+  full_calms RestartCollector of small same counts = inr refl
+  full_calms RestartNode of small same counts = restart_line_calm same
+  full_calms (Open name text) of small same counts = inr refl
+  full_calms (StepClient name) of small same counts = client_line_calm node.down name same
 
   -- a line that was answered
   abbrev Answered : Turned → Outcome → Node → Type 0
@@ -102,13 +124,14 @@ module _ (luck : Luck) (node : Node) (s : IsStill node.core) (below : Below node
   answered_calm t calm_t outcome last (inl none) e = absurd (none_is_some outcome (sym none ∙ ap (λ r. r.said) e))
   answered_calm t calm_t outcome last (inr same) e = sym same ∙ e
 
-  module _ (line : Line) (outcome : Outcome) (last : Node) (of : IsOfThese (length node.indexers) line) (same : last.core.store_faults ≡ node.core.store_faults)
+  module _ (line : Line) (outcome : Outcome) (last : Node) (of : IsOfThese (length node.indexers) line) (small : IsSpelled last.core)
+      (same : last.core.store_faults ≡ node.core.store_faults)
       (counts : log_counts last.indexers ≡ log_counts node.indexers) where
     quiet_calm : (b : Bool) → Answered (or_quiet b line (full_turn luck node line)) outcome last → Answered (turn node line) outcome last
     quiet_calm true e = absurd (none_is_some outcome (ap (λ r. r.said) e))
     quiet_calm false e =
         answered_calm (full_turn luck node line) (full_turn calm node line) outcome last
-        (full_calms line of (ap (λ r. r.node.core.store_faults) e ∙ same) (ap (λ r. log_counts r.node.indexers) e ∙ counts)) e
+        (full_calms line of (subst (λ (t : Turned). IsSpelled t.node.core) (sym e) small) (ap (λ r. r.node.core.store_faults) e ∙ same) (ap (λ r. log_counts r.node.indexers) e ∙ counts)) e
 
     early_calm : (b : Bool) → Answered (turn_by b luck node line) outcome last → Answered (turn node line) outcome last
     early_calm true e = absurd (none_is_some outcome (ap (λ r. r.said) e))
@@ -121,17 +144,24 @@ pub count_between : (a b c : ℕ) → c ≡ a → a < last_count → min a last_
 count_between a b c e below g h = omega (arith, e, below, g, h)
 
 pub calm_turns : (node last : Node) (lines : List Line) (outcomes : List Outcome) → IsStill node.core → Below node.indexers → All (IsOfThese (length node.indexers)) lines →
-    Turns node lines outcomes last → last.core.store_faults ≡ node.core.store_faults → log_counts last.indexers ≡ log_counts node.indexers →
+    Turns node lines outcomes last → IsSpelled last.core → last.core.store_faults ≡ node.core.store_faults → log_counts last.indexers ≡ log_counts node.indexers →
     outcomes ≡ (turns node lines).outcomes
-calm_turns node last [] [] s below of run same counts = refl
-calm_turns node last [] (o ∷ os) s below of run same counts = absurd run
-calm_turns node last (line ∷ lines) [] s below of run same counts = absurd run
-calm_turns node last (line ∷ lines) (o ∷ os) s below of run same counts =
-    ap (λ rest. o ∷ rest) (calm_turns mid last lines os still below' of' run.2 (same ∙ sym mid_same) (counts ∙ sym mid_counts))
+calm_turns node last [] [] s below of run small same counts = refl
+calm_turns node last [] (o ∷ os) s below of run small same counts = absurd run
+calm_turns node last (line ∷ lines) [] s below of run small same counts = absurd run
+calm_turns node last (line ∷ lines) (o ∷ os) s below of run small same counts =
+    ap (λ rest. o ∷ rest) (calm_turns mid last lines os still below' of' run.2 small (same ∙ sym mid_same) (counts ∙ sym mid_counts))
     ∙ sym (ap (λ t. (run_turned t (λ next. turns_with next (map with_calm lines))).outcomes) calm_turn)
   where
     mid : Node
     mid = run.0
+
+    mid_small : IsSpelled mid.core
+    mid_small =
+        let grown = (turns_later mid last lines os run.2).grows in
+        let grow : last_number (history mid.core.history) ≤ last_number (history last.core.history) =
+        subst (λ (es : List Entry). last_number (history mid.core.history) ≤ last_number (history es)) (sym grown.1) (numbers_grow mid.core.history grown.0) in
+        omega (arith, grow, small)
 
     mid_same : mid.core.store_faults ≡ node.core.store_faults
     mid_same =
@@ -148,7 +178,7 @@ calm_turns node last (line ∷ lines) (o ∷ os) s below of run same counts =
 
     calm_turn : turn node line ≡ record { said = Some o; node = mid }
     calm_turn =
-        early_calm run.1.luck node s below line o mid (All-head (IsOfThese (length node.indexers)) line lines of) mid_same mid_counts run.1.luck.early run.1.is
+        early_calm run.1.luck node s below line o mid (All-head (IsOfThese (length node.indexers)) line lines of) mid_small mid_same mid_counts run.1.luck.early run.1.is
 
     still : IsStill mid.core
     still = subst (λ t. IsStill t.node.core) calm_turn (turn_still node s line)

@@ -5,11 +5,11 @@ use Rattle.std.proofs.lemmas.Bool.{ne_eqb}
 use Rattle.std.specs.Prelude.{Option, None, Result, Ok, Err, ⊤, is_some, slice_get, nat_lt, ◌==◌, ◌&&◌, ◌||◌, nat_le}
 use Rattle.meta_journal.specs.declared.entry.Act.{Act}
 use Rattle.meta_journal.specs.declared.entry.Entry.{Entry}
-use Rattle.index_world.specs.Calls.{Fate, Call, Trouble, no_memory, Unmade, troubled, Gives, gives, risen, may_fail, land_at, all_landed, begun, made_behind, made_at, create_at_end, or_short, unless_short, asked_moment, asked_clock, asking, settle_with, settled_and_copied, and_then, entry_of, may_append, adopted_making, first_unless, transact, appended, looked, asked_and_looked, asked, file_by, file_made, got_file, file_got, Grace, unless_over, fetched, calm_call, calm_fate}
+use Rattle.index_world.specs.Calls.{Fate, Call, Effect, done_never, Trouble, no_memory, Unmade, troubled, Gives, gives, risen, may_fail, land_at, all_landed, begun, made_behind, made_at, create_at_end, or_short, unless_short, asked_moment, asked_clock, asking, settle_with, settled_and_copied, and_then, entry_of, may_append, adopted_making, first_unless, transact, appended, looked, asked_and_looked, asked, file_by, file_made, got_file, file_got, Grace, unless_over, fetched, calm_call, calm_fate}
 use Rattle.index_world.specs.Core.{Core, file_at, last_count}
 use Rattle.node_run.specs.Calm.{IsStill}
 use Rattle.root_search.specs.Steps.{fetched_each, unless_fault}
-use Rattle.node_run.proofs.Moving.{landed_kept, tried_kept, file_by_kept, got_file_same, fetched_moves, each_moves}
+use Rattle.node_run.proofs.CallMoves.{landed_kept, tried_kept, file_by_kept, got_file_same, fetched_moves, each_moves}
 
 -- the count is as it was
 abbrev pub Same : Core → Core → Type 0
@@ -25,7 +25,7 @@ landed_none (place ∷ places) core e =
     let step : land_at (slice_get core.late place) place core ≡ core = ap (λ l. land_at (slice_get l place) place core) e in
     ap (all_landed places) step ∙ landed_none places core e
 
-begun_is : (call : Call) (core : Core) → core.late ≡ [] → begun call core ≡ record core { store_faults = risen core.store_faults call.rises }
+pub begun_is : (call : Call) (core : Core) → core.late ≡ [] → begun call core ≡ record core { store_faults = risen core.store_faults call.rises }
 begun_is call core l = landed_none call.lands (record core { store_faults = risen core.store_faults call.rises }) l
 
 pub begun_still : (call : Call) (core : Core) → core.late ≡ [] → risen core.store_faults call.rises ≡ core.store_faults → begun call core ≡ core
@@ -34,7 +34,7 @@ begun_still call core l r = begun_is call core l ∙ ap (λ n. record core { sto
 pub begun_count : (call : Call) (core : Core) → (begun call core).store_faults ≡ risen core.store_faults call.rises
 begun_count call core = ap (λ k. k.1) (landed_kept call.lands (record core { store_faults = risen core.store_faults call.rises }))
 
-risen_same : (call : Call) (core : Core) → Same core (begun call core) → risen core.store_faults call.rises ≡ core.store_faults
+pub risen_same : (call : Call) (core : Core) → Same core (begun call core) → risen core.store_faults call.rises ≡ core.store_faults
 risen_same call core s = sym (begun_count call core) ∙ s
 
 pub calm_risen : (n : ℕ) → n < last_count → risen n 0 ≡ n
@@ -51,16 +51,16 @@ not_fails call n r below =
 
 -- ---- a create at the end
 
-create_still : (call : Call) (entry : Entry) (core : Core) → IsStill core → risen core.store_faults call.rises ≡ core.store_faults →
+pub create_still : (call : Call) (entry : Entry) (core : Core) → IsStill core → risen core.store_faults call.rises ≡ core.store_faults →
     create_at_end call entry core ≡ made_behind core.standing entry core
 create_still call entry core s r =
-    ap (λ b. made_at b call.at_once entry (begun call core)) (not_fails call core.store_faults r s.below)
-    ∙ ap (λ c. made_at false call.at_once entry c) (begun_still call core s.late r)
+    ap (λ b. made_at b call.effect entry (begun call core)) (not_fails call core.store_faults r s.below)
+    ∙ ap (λ c. made_at false call.effect entry c) (begun_still call core s.late r)
 
-made_count : (b at_once : Bool) (second third : Call) (before : ℕ) (act : Core → Act) (entry : Entry) (core : Core) → core.standing ≡ None →
-    (adopted_making second third before act entry (made_at b at_once entry core)).core.store_faults ≡ core.store_faults
-made_count true at_once second third before act entry core e = ap (λ k. k.1) (tried_kept at_once core.standing entry core)
-made_count false at_once second third before act entry core e =
+made_count : (b : Bool) (effect : Effect) (second third : Call) (before : ℕ) (act : Core → Act) (entry : Entry) (core : Core) → core.standing ≡ None →
+    (adopted_making second third before act entry (made_at b effect entry core)).core.store_faults ≡ core.store_faults
+made_count true effect second third before act entry core e = ap (λ k. k.1) (tried_kept effect core.standing entry core)
+made_count false effect second third before act entry core e =
     subst (λ st. (adopted_making second third before act entry (made_behind st entry core)).core.store_faults ≡ core.store_faults) (sym e) refl
 
 made_by_none : (standing : Option Entry) (second third : Call) (before : ℕ) (act : Core → Act) (entry : Entry) (core : Core) → standing ≡ None →
@@ -83,16 +83,16 @@ first_calms (Ok done) first second third act core s same =
     stands = ap (λ c. c.standing) (begun_is first core s.late) ∙ s.standing
 
     r : risen core.store_faults first.rises ≡ core.store_faults
-    r = risen_same first core (sym (made_count (may_fail first core.store_faults) first.at_once second third core.store_faults act entry (begun first core) stands) ∙ same)
+    r = risen_same first core (sym (made_count (may_fail first core.store_faults) first.effect second third core.store_faults act entry (begun first core) stands) ∙ same)
 
 -- ---- want of memory, and the clock
 
-short_calms : {E A : Type 0} (b : Bool) (e : E) (call : Call) (core : Core) (x y : Gives E A) → (Same core x.core → Calms e x y) →
+pub short_calms : {E A : Type 0} (b : Bool) (e : E) (call : Call) (core : Core) (x y : Gives E A) → (Same core x.core → Calms e x y) →
     Same core (or_short b e call core x).core → Calms e (or_short b e call core x) y
 short_calms true e call core x y h same = inl refl
 short_calms false e call core x y h same = h same
 
-asking_calms : {E A : Type 0} (b : Bool) (e : E) (core : Core) (next next' : Core → Gives E A) →
+pub asking_calms : {E A : Type 0} (b : Bool) (e : E) (core : Core) (next next' : Core → Gives E A) →
     (Same core (next (asked_clock core)).core → Calms e (next (asked_clock core)) (next' (asked_clock core))) →
     Same core (asking b e core next).core → Calms e (asking b e core next) (next' (asked_clock core))
 asking_calms true e core next next' h same = inl refl
@@ -143,18 +143,18 @@ appended_calms fate act core s same =
     (λ c. transact c.unsure calm_call calm_call calm_call act c)
     (λ counted. transact_calms core.unsure fate.first fate.second fate.third act (asked_clock core) s.unsure (asked_still core s) counted) same
 
-file_by_calm : (a b d : Bool) (before : ℕ) (key bytes : List ℕ) (core : Core) → file_by false a d before key bytes core ≡ file_by false b d before key bytes core
+file_by_calm : (a b : Effect) (d : Bool) (before : ℕ) (key bytes : List ℕ) (core : Core) → file_by false a d before key bytes core ≡ file_by false b d before key bytes core
 file_by_calm a b true before key bytes core = refl
 file_by_calm a b false before key bytes core = refl
 
 -- a create outside the journal, in the words of the core that is as it was
 file_still : (call : Call) (key bytes : List ℕ) (core : Core) → IsStill core → risen core.store_faults call.rises ≡ core.store_faults →
-    file_by (may_fail call core.store_faults) call.at_once (is_some (file_at (begun call core).files key)) core.store_faults key bytes (begun call core)
-    ≡ file_by false false (is_some (file_at core.files key)) core.store_faults key bytes core
+    file_by (may_fail call core.store_faults) call.effect (is_some (file_at (begun call core).files key)) core.store_faults key bytes (begun call core)
+    ≡ file_by false done_never (is_some (file_at core.files key)) core.store_faults key bytes core
 file_still call key bytes core s r =
-    ap (λ b. file_by b call.at_once (is_some (file_at (begun call core).files key)) core.store_faults key bytes (begun call core)) (not_fails call core.store_faults r s.below)
-    ∙ ap (λ c. file_by false call.at_once (is_some (file_at c.files key)) core.store_faults key bytes c) (begun_still call core s.late r)
-    ∙ file_by_calm call.at_once false (is_some (file_at core.files key)) core.store_faults key bytes core
+    ap (λ b. file_by b call.effect (is_some (file_at (begun call core).files key)) core.store_faults key bytes (begun call core)) (not_fails call core.store_faults r s.below)
+    ∙ ap (λ c. file_by false call.effect (is_some (file_at c.files key)) core.store_faults key bytes c) (begun_still call core s.late r)
+    ∙ file_by_calm call.effect done_never (is_some (file_at core.files key)) core.store_faults key bytes core
 
 pub file_made_calms : (call : Call) (key bytes : List ℕ) (core : Core) → IsStill core → Same core (file_made call key bytes core).core →
     Calms no_memory (file_made call key bytes core) (file_made calm_call key bytes core)
@@ -164,18 +164,18 @@ file_made_calms call key bytes core s same =
     ∙ sym (file_still calm_call key bytes core s (calm_risen core.store_faults s.below)))) same
   where
     does : Call → Gives Trouble ⊤
-    does c = file_by (may_fail c core.store_faults) c.at_once (is_some (file_at (begun c core).files key)) core.store_faults key bytes (begun c core)
+    does c = file_by (may_fail c core.store_faults) c.effect (is_some (file_at (begun c core).files key)) core.store_faults key bytes (begun c core)
 
     kept : (c : Call) → (does c).core.store_faults ≡ (begun c core).store_faults
-    kept c = ap (λ k. k.1) (file_by_kept (may_fail c core.store_faults) c.at_once (is_some (file_at (begun c core).files key)) core.store_faults key bytes (begun c core))
+    kept c = ap (λ k. k.1) (file_by_kept (may_fail c core.store_faults) c.effect (is_some (file_at (begun c core).files key)) core.store_faults key bytes (begun c core))
 
-got_still : (call : Call) (core : Core) → IsStill core → risen core.store_faults call.rises ≡ core.store_faults →
+pub got_still : (call : Call) (core : Core) → IsStill core → risen core.store_faults call.rises ≡ core.store_faults →
     got_file (may_fail call core.store_faults) core.store_faults (begun call core) ≡ gives (Ok tt) core
 got_still call core s r =
     ap (λ b. got_file b core.store_faults (begun call core)) (not_fails call core.store_faults r s.below)
     ∙ ap (λ c. got_file false core.store_faults c) (begun_still call core s.late r)
 
-file_got_calms : (call : Call) (core : Core) → IsStill core → Same core (file_got call core).core → Calms no_memory (file_got call core) (file_got calm_call core)
+pub file_got_calms : (call : Call) (core : Core) → IsStill core → Same core (file_got call core).core → Calms no_memory (file_got call core) (file_got calm_call core)
 file_got_calms call core s same =
     short_calms call.short no_memory call core (got_file (may_fail call core.store_faults) core.store_faults (begun call core))
     (got_file (may_fail calm_call core.store_faults) core.store_faults (begun calm_call core))
@@ -221,7 +221,7 @@ fetched_twice grace core = ap (got_unless grace calm_call) (clock_twice core)
 no_memory_is_ok : ◌≡◌ {A = Result ⊤ Trouble} (Err no_memory) (Ok tt) → ⊥
 no_memory_is_ok e = cc
 
-count_inside : (a b c : ℕ) → c ≡ a → a < last_count → min a last_count ≤ b → min b last_count ≤ c → b ≡ a
+pub count_inside : (a b c : ℕ) → c ≡ a → a < last_count → min a last_count ≤ b → min b last_count ≤ c → b ≡ a
 count_inside a b c e below g h = omega (arith, e, below, g, h)
 
 abbrev EachCalms : Grace → Fate → List Fate → Core → Type 0

@@ -1,9 +1,13 @@
 pub mod OnLiterals
 pub mod Rows
+pub mod CallMoves
+pub mod CollectorMoves
 pub mod Moving
 pub mod Spelling
 pub mod Calming
 pub mod CalmSteps
+pub mod CollectorCalms
+pub mod StagedNumbers
 pub mod Digits
 pub mod Begins
 pub mod Naming
@@ -14,6 +18,9 @@ pub mod Zips
 pub mod Names
 pub mod Places
 pub mod Refusals
+pub mod CallTells
+pub mod OwnEntries
+pub mod CollectorTells
 pub mod Telling
 pub mod Parts
 pub mod StillCalls

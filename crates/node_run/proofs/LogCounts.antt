@@ -16,8 +16,8 @@ use Rattle.indexing_run.specs.Steps.{Stepped, stepped, log_may_fail, log_called,
 use Rattle.indexing_run.specs.Steps as indexing
 use Rattle.root_search.specs.Steps.{Request, no_request, opened, planned, Client}
 use Rattle.node_run.specs.Calm.{log_counts}
-use Rattle.node_run.specs.Node.{Node, Line, At, Assign, StepIndexer, RestartIndexer, RestartClient, RestartNode, Open, StepClient, Outcome}
-use Rattle.node_run.specs.Turns.{Luck, Turned, made_idle, indexer_at, indexing_luck, assign_at, indexer_turn_by, client_turn_by, client_named, open_by, restart_by, full_turn, quiet, or_quiet, turn_by, Turn, Turns}
+use Rattle.node_run.specs.Node.{Node, Line, At, Assign, StepIndexer, RestartIndexer, RestartClient, StepCollector, RestartCollector, RestartNode, Open, StepClient, Outcome}
+use Rattle.node_run.specs.Turns.{Luck, Turned, made_idle, indexer_at, indexing_luck, assign_at, indexer_turn_by, client_turn_by, client_named, collector_turn_by, open_by, restart_by, full_turn, quiet, or_quiet, turn_by, Turn, Turns}
 use Rattle.node_run.proofs.CalmSteps.{checkpoints_log}
 
 -- ---- one count
@@ -165,6 +165,10 @@ module _ (node : Node) where
   client_counted true luck name = unchanged node.indexers refl
   client_counted false luck name = unchanged node.indexers refl
 
+  collector_counted : (down : Bool) (luck : Luck) → Counted (collector_turn_by down luck node).node
+  collector_counted true luck = unchanged node.indexers refl
+  collector_counted false luck = unchanged node.indexers refl
+
   open_counted : (request : Request) (name text : List ℕ) (client : Client) → Counted (open_by request name text client node).node
   open_counted no_request name text client = unchanged node.indexers refl
   open_counted (opened other) name text client = unchanged node.indexers refl
@@ -182,6 +186,8 @@ module _ (node : Node) where
   full_counted luck (StepIndexer i) = indexer_counted node.down luck i
   full_counted luck (RestartIndexer i) = set_idle i
   full_counted luck (RestartClient name) = unchanged node.indexers refl
+  full_counted luck StepCollector = collector_counted node.down luck
+  full_counted luck RestartCollector = unchanged node.indexers refl
   full_counted luck RestartNode = let given = loaded luck.world node.core in restart_counted given.answer given.core
   full_counted luck (Open name text) = open_counted (client_named name node.clients).request name text (client_named name node.clients)
   full_counted luck (StepClient name) = client_counted node.down luck name
@@ -192,6 +198,8 @@ module _ (node : Node) where
   quiet_counted (StepIndexer i) = set_idle i
   quiet_counted (RestartIndexer i) = set_idle i
   quiet_counted (RestartClient name) = unchanged node.indexers refl
+  quiet_counted StepCollector = unchanged node.indexers refl
+  quiet_counted RestartCollector = unchanged node.indexers refl
   quiet_counted RestartNode = unchanged (map made_idle node.indexers) (idle_same node.indexers)
   quiet_counted (Open name text) = unchanged node.indexers refl
   quiet_counted (StepClient name) = unchanged node.indexers refl

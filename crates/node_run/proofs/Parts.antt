@@ -1,5 +1,5 @@
 -- The parts of a node behind each of its lines.
-use Rattle.std.proofs.Common.{◌≡◌, ℕ, zero, suc, ◌<◌, ◌^◌, List, [], ◌∷◌, ◌++◌, length, get_or, refl, sym, ap, ◌∙◌, subst, arith, Bool, true, false, map, inl, inr, take, drop, ◌≤◌}
+use Rattle.std.proofs.Common.{◌≡◌, ℕ, zero, suc, ◌<◌, List, [], ◌∷◌, ◌++◌, length, get_or, refl, sym, ap, ◌∙◌, subst, arith, Bool, true, false, map, inl, inr, take, drop, ◌≤◌}
 use Rattle.std.proofs.lemmas.List.{take_at}
 use Rattle.std.proofs.lemmas.Bool.{lt-ltb, le-ltb}
 use Rattle.std.specs.List.{AllZip}
@@ -21,7 +21,7 @@ use Rattle.indexing_run.proofs.Holding.{indexer_stays}
 use Rattle.indexing_run.specs.Outcomes.{IndexerOutcome}
 use Rattle.indexing_run.specs.Making.{IsAssigned}
 use Rattle.indexing_run.specs.Places.{Indexer, Place, reading, staged, uploaded, idle, is_idle, number_held}
-use Rattle.node_run.specs.Alone.{SearchesAlone, StepsAlone}
+use Rattle.node_run.specs.Alone.{CollectsAlone, SearchesAlone, StepsAlone}
 use Rattle.node_run.specs.Lines.{AreNames}
 use Rattle.node_run.specs.Seen.{seen}
 use Rattle.node_run.specs.declared.line.Line.{Line as CodeLine}
@@ -43,17 +43,22 @@ use Rattle.search_api.specs.declared.unanswered.Unanswered.{Unanswered}
 use Rattle.search_api.specs.declared.unanswered.Unanswered.TheVariants as reasons
 use Rattle.root_search.specs.declared.outcome.SearchStep.{SearchStep}
 use Rattle.root_search.specs.declared.searcher.Searcher.{Searcher}
+use Rattle.split_collector.specs.Outcomes.{Outcome as CollectorOutcome}
+use Rattle.split_collector.specs.Standing as collects
+use Rattle.split_collector.specs.declared.outcome.CollectorOutcome.{CollectorOutcome as Collected}
 use Rattle.node_run.specs.declared.drive.DriveNode.{DriveNode}
 use Rattle.node_run.specs.declared.out_line.OutLine.{OutLine}
 use Rattle.node_run.specs.Lines.{outcome_text}
 use Rattle.node_run.specs.Named.{NamedAt, names_of, HasPlaces}
-use Rattle.node_run.specs.Node.{Node, Line, At, Assign, StepIndexer, RestartIndexer, RestartClient, RestartNode, Open, StepClient, Outcome, request_busy, assigned, indexer_busy, node_failed, world_fault, no_index}
+use Rattle.node_run.specs.Node.{Node, Line, At, Assign, StepIndexer, RestartIndexer, RestartClient, StepCollector, RestartCollector, RestartNode, Open, StepClient, Outcome, request_busy, assigned, indexer_busy, node_failed, world_fault, no_index}
 use Rattle.node_run.specs.Standing.{PartsStand, NodeStands, DoesMost, DoesLine, HoldApart}
-use Rattle.node_run.specs.Turns.{restart_by, Luck, calm, Turn, Turned, turned, full_turn, quiet, assign_at, with_indexer, indexer_at, made_idle, client_named, with_client, keep_client, stopped, restarted, indexer_stepped, client_stepped, indexer_turn_by, client_turn_by, said_by_indexer, said_by_client, open_by}
+use Rattle.node_run.specs.Turns.{restart_by, Luck, calm, Turn, Turned, turned, full_turn, quiet, assign_at, with_indexer, indexer_at, made_idle, client_named, with_client, keep_client, stopped, restarted, indexer_stepped, client_stepped, indexer_turn_by, client_turn_by, said_by_indexer, said_by_client, collector_stepped, collector_turn_by, said_by_collector, open_by}
 use Rattle.node_run.proofs.Telling.{stands_own}
 use Rattle.node_run.proofs.Names.{with_with, named_set}
 use Rattle.node_run.proofs.Places.{names_with, names_without}
-use Rattle.node_run.proofs.Moving.{indexer_moves, client_moves, loaded_moves}
+use Rattle.node_run.proofs.CallMoves.{loaded_moves}
+use Rattle.node_run.proofs.CollectorMoves.{collector_moves}
+use Rattle.node_run.proofs.Moving.{indexer_moves, client_moves}
 use Rattle.node_run.proofs.Zips.{zip_length, zip_weaker, zip_set, zip_at, zip_right, map_set, map_at, others_apart, zip_step, new_apart, idle_apart, idle_all_apart, same_apart, other_of}
 
 -- ---- what is answered
@@ -236,6 +241,25 @@ module _ {L : Type 0} (told : L → Option Log) (count : L → ℕ) (since : L �
         later = p.later;
       }
 
+  -- ---- the collector took a step
+
+  pub collected_parts : (world' : Keeping) (result : Result Collected AllocError) → (s : CollectsAlone result world' node.core node.log) →
+      PartsStand told count since firsts world' readers searchers places clock down (record node { core = s.after })
+  collected_parts world' result s =
+      record {
+        world_stands = s.world_stands;
+        is_log = p.is_log;
+        moment = p.moment ∙ sym (collector_moves s.luck node.core).ticks ∙ ap (λ step. step.core.clock) s.did;
+        down = p.down;
+        indexers = zip_weaker R (λ reader indexer. IndexerStands told count reader indexer s.after node.log) readers node.indexers
+            (λ reader indexer stands. indexer_stays told count reader indexer node.core s.after node.log None s.goes_on (λ n held. tt) stands) p.indexers;
+        apart = p.apart;
+        clients = zip_weaker C (λ searcher client. SearcherStands searcher client s.after node.log) searchers node.clients
+            (λ searcher client w. searcher_goes_on (IsOther None) searcher client node.core s.after node.log s.goes_on w) p.clients;
+        placed = p.placed;
+        later = p.later;
+      }
+
   -- ---- the clock is set
 
   pub clock_parts : (moment : ℕ) (world' : Keeping) → WorldStands world' (record (node.core) { clock = moment }) node.log →
@@ -318,21 +342,32 @@ searched_name luck log client core = short luck.short where
 
 pub indexer_turns : {L : Type 0} (told : L → Option Log) (count : L → ℕ) (node : Node) (i : ℕ) (new : Reader L) (world' : Keeping) (result : Result Said AllocError) →
     node.down ≡ false → (s : StepsAlone told count result (indexer_at node.indexers i) node.core node.log new world') →
-    full_turn (record { log = s.luck.log; world = s.luck.world; more = []; inner = s.luck.short; early = false; short = false }) node (StepIndexer i)
+    full_turn (record { log = s.luck.log; world = s.luck.world; more = []; ends = []; inner = s.luck.short; early = false; short = false }) node (StepIndexer i)
     ≡ record { said = said_by_indexer i s.outcome; node = record (with_indexer i s.after node) { core = s.behind } }
 indexer_turns told count node i new world' result up s =
-    let luck : Luck = record { log = s.luck.log; world = s.luck.world; more = []; inner = s.luck.short; early = false; short = false } in
+    let luck : Luck = record { log = s.luck.log; world = s.luck.world; more = []; ends = []; inner = s.luck.short; early = false; short = false } in
     ap (λ b. indexer_turn_by b luck i node) up
     ∙ ap (indexer_stepped i node) s.did
 
 pub client_turns : (node : Node) (name : List ℕ) (new : Searcher) (world' : Keeping) (result : Result SearchStep AllocError) → node.down ≡ false →
     (s : SearchesAlone result new world' (client_named name node.clients) node.core node.log) →
-    full_turn (record { log = calm.log; world = s.luck.world; more = s.luck.more; inner = s.luck.short; early = false; short = false }) node (StepClient name)
+    full_turn (record { log = calm.log; world = s.luck.world; more = s.luck.more; ends = []; inner = s.luck.short; early = false; short = false }) node (StepClient name)
     ≡ record { said = said_by_client name s.outcome; node = record (keep_client s.later node) { core = s.after } }
 client_turns node name new world' result up s =
-    let luck : Luck = record { log = calm.log; world = s.luck.world; more = s.luck.more; inner = s.luck.short; early = false; short = false } in
+    let luck : Luck = record { log = calm.log; world = s.luck.world; more = s.luck.more; ends = []; inner = s.luck.short; early = false; short = false } in
     ap (λ b. client_turn_by b luck name node) up
     ∙ ap (client_stepped name node) s.did
+
+abbrev pub collecting_alone : {result : Result Collected AllocError} {world : Keeping} {core : Core} {log : Log} → CollectsAlone result world core log → Luck
+collecting_alone s = record { log = calm.log; world = s.luck.world; more = s.luck.more; ends = s.luck.ends; inner = s.luck.short; early = false; short = false }
+
+pub collector_turns : (node : Node) (world' : Keeping) (result : Result Collected AllocError) → node.down ≡ false → (s : CollectsAlone result world' node.core node.log) →
+    full_turn (collecting_alone s) node StepCollector ≡ record { said = said_by_collector s.outcome; node = record node { core = s.after } }
+collector_turns node world' result up s = ap (λ b. collector_turn_by b (collecting_alone s) node) up ∙ ap (collector_stepped node) s.did
+
+pub collected_some : (given : Collected) (o : Option CollectorOutcome) → collects.Answers (Ok given) o → (x : CollectorOutcome) × (o ≡ Some x) × collects.IsSaid given x
+collected_some given None a = absurd a
+collected_some given (Some x) a = (x, refl, a)
 
 pub said_some : (given : Said) (o : Option IndexerOutcome) → Answers (Ok given) o → (x : IndexerOutcome) × (o ≡ Some x) × IsIndexerSaid given x
 said_some given None a = absurd a
@@ -355,6 +390,11 @@ full_same luck early short node (StepIndexer i) = by node.down where
   by false = refl
 full_same luck early short node (RestartIndexer i) = refl
 full_same luck early short node (RestartClient name) = refl
+full_same luck early short node StepCollector = by node.down where
+  by : (b : Bool) → collector_turn_by b (record luck { early = early; short = short }) node ≡ collector_turn_by b luck node
+  by true = refl
+  by false = refl
+full_same luck early short node RestartCollector = refl
 full_same luck early short node RestartNode = refl
 full_same luck early short node (Open name text) = refl
 full_same luck early short node (StepClient name) = by node.down where
@@ -371,7 +411,7 @@ module _ {S L : Type 0} (told : L → Option Log) (count : L → ℕ) (since : L
         last = d.2;
         turn = turn;
         says = d.4;
-        tells = stands_own told count node old.indexers.items p.world_stands.world.stands_for.called p.indexers line (Some d.1) d.2 turn;
+        tells = stands_own told count node old.gate.world old.indexers.items p.world_stands p.indexers line (Some d.1) d.2 turn;
         stands = d.5;
       }
     where

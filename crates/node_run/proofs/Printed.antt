@@ -5,9 +5,12 @@ use Rattle.std.specs.declared.alloc.AllocError.{AllocError}
 use Rattle.index_world.specs.Saying.{words}
 use Rattle.indexing_run.specs.Standing.{said_words}
 use Rattle.indexing_run.specs.declared.outcome.IndexerOutcome.{IndexerOutcome as Said}
-use Rattle.indexing_run.proofs.Printing.{behind_word, said_started}
+use Rattle.indexing_run.proofs.Printing.{IsStarted, behind_word, error_started, said_started}
+use Rattle.split_collector.specs.Standing.{said_words as collected_words}
+use Rattle.split_collector.specs.declared.outcome.CollectorOutcome.{CollectorOutcome as Collected}
+use Rattle.split_collector.specs.declared.outcome.CollectorOutcome.TheVariants as collected
 use Rattle.node_run.specs.declared.out_line.OutLine.{OutLine}
-use Rattle.node_run.specs.Printing.{said_text}
+use Rattle.node_run.specs.Printing.{collected_text, said_text}
 
 -- ---- a line, or no memory for it
 
@@ -31,3 +34,15 @@ where_up down r P Q is h = subst (λ b. IfOk r (λ out. MatchBool b (P out.bytes
 -- an indexer's words behind its number
 pub indexer_words : (number : ℕ) (outcome : Said) → codes "indexer" ++ 32 ∷ (decimal number ++ 32 ∷ words (said_words outcome)) ≡ said_text number outcome
 indexer_words number outcome = ap (λ text. codes "indexer" ++ 32 ∷ text) (sym (behind_word (decimal number) (said_words outcome) (said_started outcome)))
+
+collected_started : (given : Collected) → IsStarted (collected_words given)
+collected_started (collected.MarkedStale count) = tt
+collected_started (collected.Doomed number) = tt
+collected_started (collected.Removed count) = tt
+collected_started (collected.Swept number) = tt
+collected_started collected.Nothing = tt
+collected_started (collected.Fault error) = error_started error
+
+-- the collector's words behind its name
+pub collector_words : (outcome : Collected) → codes "collector" ++ 32 ∷ words (collected_words outcome) ≡ collected_text outcome
+collector_words outcome = sym (behind_word (codes "collector") (collected_words outcome) (collected_started outcome))

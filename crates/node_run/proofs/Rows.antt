@@ -7,7 +7,7 @@ use Rattle.meta_journal.specs.Places.{split_key}
 use Rattle.meta_journal.specs.Spelling.{spelling}
 use Rattle.meta_journal.specs.declared.entry.Act.TheVariants.{Create, Stage, Publish}
 use Rattle.meta_journal.specs.declared.entry.Entry.{Entry}
-use Rattle.index_world.specs.Calls.{calm_call, calm_fate}
+use Rattle.index_world.specs.Calls.{Effect, done_late, done_never, calm_call, calm_fate}
 use Rattle.doc_value.specs.declared.schema.Kind.TheVariants as kinds
 use Rattle.doc_value.specs.declared.schema.Tokenizer.TheVariants as tokenizers
 use Rattle.index_config.specs.Answer.{config_answer}
@@ -21,7 +21,7 @@ use Rattle.split_bundle.specs.Documents.{total_weight}
 use Rattle.split_bundle.specs.declared.placed.Placed.{Placed}
 use Rattle.node_run.proofs.OnLiterals.{path_on_literals}
 use Rattle.node_run.specs.Lines.{outcome_text}
-use Rattle.node_run.specs.Node.{Node, Line, At, Assign, StepIndexer, RestartIndexer, RestartNode, Open, StepClient}
+use Rattle.node_run.specs.Node.{Node, Line, At, Assign, StepIndexer, RestartIndexer, StepCollector, RestartCollector, RestartNode, Open, StepClient}
 use Rattle.node_run.specs.Turns.{turns, turns_with, opened_node, Fated, Luck, Ran, calm}
 
 -- ---- a configuration
@@ -136,9 +136,15 @@ pub late_reader : lines_said (turns (new_node (log_pairs red_record red_record) 
 unfolding path_on_literals
 late_reader = refl
 
--- a failing call: with AtOnce, with a later landing or none
+-- a call fails, and its create is late or over
+abbrev pub fails_with : Effect → Luck
+fails_with effect = record calm { world = record calm_fate { first = record calm_call { fails = true; effect = effect; rises = 1 } } }
+
 abbrev pub fails_once : Luck
-fails_once = record calm { world = record calm_fate { first = record calm_call { fails = true; rises = 1 } } }
+fails_once = fails_with done_late
+
+abbrev pub fails_for_good : Luck
+fails_for_good = fails_with done_never
 
 -- the first late entry lands as the next call begins
 abbrev pub first_lands : Luck
@@ -159,9 +165,9 @@ pub create_lands_next : lines_said (turns_with (new_node log_a (0 ∷ []))
 unfolding path_on_literals
 create_lands_next = refl
 
--- the same, and it never lands
+-- the same, and it never lands: it is over
 pub create_never_lands : lines_said (turns_with (new_node log_a (0 ∷ []))
-    (calm_lines (At 1000 ∷ i0 ∷ i0 ∷ i0 ∷ i0 ∷ []) ++ with_luck fails_once i0 ∷ calm_lines (i0 ∷ i0 ∷ i0 ∷ i0 ∷ i0 ∷ ask_all ∷ a ∷ a ∷ a ∷ [])))
+    (calm_lines (At 1000 ∷ i0 ∷ i0 ∷ i0 ∷ i0 ∷ []) ++ with_luck fails_for_good i0 ∷ calm_lines (i0 ∷ i0 ∷ i0 ∷ i0 ∷ i0 ∷ ask_all ∷ a ∷ a ∷ a ∷ [])))
     ≡ codes "at 1000" ∷ codes "indexer 0 checkpoint" ∷ codes "indexer 0 read 3" ∷ codes "indexer 0 staged 1" ∷ codes "indexer 0 uploaded 1"
     ∷ codes "indexer 0 storefault 0 1" ∷ codes "indexer 0 checkpoint" ∷ codes "indexer 0 read 3" ∷ codes "indexer 0 staged 2" ∷ codes "indexer 0 uploaded 2" ∷ codes "indexer 0 published 2"
     ∷ codes "a opened" ∷ codes "a planned 5 1" ∷ codes "a fetched 2" ∷ two_hits 5 ∷ []
@@ -255,3 +261,34 @@ pub lands_in_a_second_life : lines_said (turns_with second_life
     ∷ codes "a opened" ∷ codes "a planned 4 1" ∷ codes "a fetched 1" ∷ two_hits 4 ∷ []
 unfolding path_on_literals
 lands_in_a_second_life = refl
+
+-- ---- the collector
+
+-- a row that nobody publishes is marked, its file is deleted, and it is removed
+pub row_collected : lines_said (turns (new_node log_a (0 ∷ []))
+    (At 1000 ∷ i0 ∷ i0 ∷ i0 ∷ i0 ∷ RestartIndexer 0 ∷ StepCollector ∷ At 1200 ∷ StepCollector ∷ StepCollector ∷ At 1300 ∷ StepCollector ∷ StepCollector ∷ StepCollector ∷ RestartCollector ∷ []))
+    ≡ codes "at 1000" ∷ codes "indexer 0 checkpoint" ∷ codes "indexer 0 read 3" ∷ codes "indexer 0 staged 1" ∷ codes "indexer 0 uploaded 1" ∷ codes "indexer 0 restarted"
+    ∷ codes "collector nothing" ∷ codes "at 1200" ∷ codes "collector marked 1" ∷ codes "collector nothing"
+    ∷ codes "at 1300" ∷ codes "collector doomed 1" ∷ codes "collector removed 1" ∷ codes "collector nothing" ∷ codes "collector restarted" ∷ []
+unfolding path_on_literals
+row_collected = refl
+
+-- the first late create lands as the collector lists
+abbrev pub lands_in_a_sweep : Luck
+lands_in_a_sweep = record calm { more = calm_fate ∷ calm_fate ∷ record calm_fate { first = record calm_call { lands = 0 ∷ [] } } ∷ [] }
+
+-- an upload fails, and lands when its row is gone
+pub file_swept : lines_said (turns_with (new_node log_a (0 ∷ []))
+    (calm_lines (At 1000 ∷ i0 ∷ i0 ∷ i0 ∷ [])
+    ++ (with_luck fails_once i0
+    ∷ (calm_lines (At 1200 ∷ StepCollector ∷ At 1300 ∷ StepCollector ∷ StepCollector ∷ []) ++ (with_luck lands_in_a_sweep StepCollector ∷ calm_lines (StepCollector ∷ []))))))
+    ≡ codes "at 1000" ∷ codes "indexer 0 checkpoint" ∷ codes "indexer 0 read 3" ∷ codes "indexer 0 staged 1" ∷ codes "indexer 0 storefault 0 1"
+    ∷ codes "at 1200" ∷ codes "collector marked 1" ∷ codes "at 1300" ∷ codes "collector doomed 1" ∷ codes "collector removed 1" ∷ codes "collector swept 1" ∷ codes "collector nothing" ∷ []
+unfolding path_on_literals
+file_swept = refl
+
+-- a node that is down collects nothing
+pub collector_is_down : lines_said (turns_with (new_node log_a (0 ∷ [])) (with_luck fails_once RestartNode ∷ calm_lines (StepCollector ∷ RestartCollector ∷ RestartNode ∷ StepCollector ∷ [])))
+    ≡ codes "node storefault 0 1" ∷ codes "collector down" ∷ codes "collector restarted" ∷ codes "node restarted 1" ∷ codes "collector nothing" ∷ []
+unfolding path_on_literals
+collector_is_down = refl

@@ -7,7 +7,7 @@ use Rattle.meta_journal.specs.declared.entry.Entry.{Entry}
 use Rattle.meta_journal.specs.Places.{split_key}
 use Rattle.source_checkpoint.specs.declared.ledger.Checkpoint.{Checkpoint}
 use Rattle.source_log.specs.Log.{Log}
-use Rattle.index_world.specs.Calls.{Unmade, begun, calm_call, calm_fate, made_behind, adopted_making, first_unless, transact, appended, entry_of, may_append, unless_short, and_then, settle_with, looked, asked, asked_clock, asked_and_looked, file_by, file_made, Grace, fetched, reborn, unless_empty, loaded}
+use Rattle.index_world.specs.Calls.{done_never, Unmade, begun, calm_call, calm_fate, made_behind, adopted_making, first_unless, transact, appended, entry_of, may_append, unless_short, and_then, settle_with, looked, asked, asked_clock, asked_and_looked, file_by, file_made, Grace, fetched, reborn, unless_empty, loaded}
 use Rattle.index_world.specs.Core.{Core, file_at}
 use Rattle.index_world.specs.Gate.{stage_call, publish_call, stage_act}
 use Rattle.index_world.specs.SplitFile.{file_of}
@@ -17,10 +17,11 @@ use Rattle.indexing_run.specs.Steps.{Stepped, stepped, log_may_fail, log_called,
 use Rattle.root_search.specs.Requests.{asked_of}
 use Rattle.root_search.specs.Steps.{Request, no_request, opened, planned, Plan, Client, config_in, next_step, step_request, step_client}
 use Rattle.node_run.specs.Calm.{IsStill}
-use Rattle.node_run.specs.Node.{Node, Line, At, Assign, StepIndexer, RestartIndexer, RestartClient, RestartNode, Open, StepClient}
-use Rattle.node_run.specs.Turns.{calm, indexer_at, client_named, indexer_turn_by, client_turn_by, turn}
+use Rattle.node_run.specs.Node.{Node, Line, At, Assign, StepIndexer, RestartIndexer, RestartClient, StepCollector, RestartCollector, RestartNode, Open, StepClient}
+use Rattle.node_run.specs.Turns.{calm, indexer_at, client_named, indexer_turn_by, client_turn_by, collector_turn_by, turn}
 use Rattle.node_run.proofs.Calming.{asked_still, calm_risen, fetched_calm}
 use Rattle.node_run.proofs.CalmSteps.{calm_indexing, calm_searching, load_still}
+use Rattle.node_run.proofs.CollectorCalms.{collector_still}
 use Rattle.node_run.proofs.Moving.{checkpoints_same, stage_same, upload_same, publish_same, given_same, plan_same, fetch_same, assign_same, open_same, restart_same}
 
 begun_still : (core : Core) → IsStill core → IsStill (begun calm_call core)
@@ -60,7 +61,7 @@ looked_by_still false core e s = s
 looked_still : (core : Core) → IsStill core → IsStill (looked calm_fate core).core
 looked_still core s = looked_by_still core.unsure core s.unsure s
 
-file_still : (b : Bool) (before : ℕ) (key bytes : List ℕ) (core : Core) → IsStill core → IsStill (file_by false false b before key bytes core).core
+file_still : (b : Bool) (before : ℕ) (key bytes : List ℕ) (core : Core) → IsStill core → IsStill (file_by false done_never b before key bytes core).core
 file_still true before key bytes core s = s
 file_still false before key bytes core s = record { late = s.late; standing = s.standing; unsure = s.unsure; below = s.below }
 
@@ -174,6 +175,10 @@ module _ (node : Node) (s : IsStill node.core) where
   client_turn_still true name = s
   client_turn_still false name = client_still node.log (client_named name node.clients) node.core s
 
+  collector_turn_still : (down : Bool) → IsStill (collector_turn_by down calm node).node.core
+  collector_turn_still true = s
+  collector_turn_still false = collector_still node.core s
+
   -- a line with a calm luck leaves the core still
   pub turn_still : (line : Line) → IsStill (turn node line).node.core
   turn_still (At moment) = record { late = s.late; standing = s.standing; unsure = s.unsure; below = s.below }
@@ -182,6 +187,8 @@ module _ (node : Node) (s : IsStill node.core) where
   turn_still (StepIndexer i) = indexer_turn_still node.down i
   turn_still (RestartIndexer i) = s
   turn_still (RestartClient name) = s
+  turn_still StepCollector = collector_turn_still node.down
+  turn_still RestartCollector = s
   turn_still RestartNode =
       let given = loaded calm_fate node.core in
       handed given.core _ (restart_same given.answer given.core node) (loaded_still node.core s)

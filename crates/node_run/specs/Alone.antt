@@ -15,6 +15,10 @@ use Rattle.root_search.specs.Searching.{SearcherStands, IsAnswer, searched_as}
 use Rattle.root_search.specs.Steps.{Client, Luck, step_client}
 use Rattle.root_search.specs.declared.outcome.SearchStep.{SearchStep}
 use Rattle.root_search.specs.declared.searcher.Searcher.{Searcher}
+use Rattle.split_collector.specs.Outcomes.{Outcome as CollectorOutcome}
+use Rattle.split_collector.specs.Standing as collects
+use Rattle.split_collector.specs.Steps.{Luck as CollectingLuck, step_collector}
+use Rattle.split_collector.specs.declared.outcome.CollectorOutcome.{CollectorOutcome as Collected}
 
 -- it is the client's step with some luck, and what it leaves stands for what that leaves
 pub record SearchesAlone (result : Result SearchStep AllocError) (new : Searcher) (world : Keeping) (client : Client) (core : Core) (log : Log) : Type 0 where
@@ -25,6 +29,16 @@ pub record SearchesAlone (result : Result SearchStep AllocError) (new : Searcher
   pub did : step_client luck log client core ≡ searched_as outcome later after
   pub says : IsAnswer result outcome
   pub searcher : SearcherStands new later after log
+  pub world_stands : WorldStands world after log
+  pub goes_on : GoesOn None core after
+
+-- it is the collector's step with some luck
+pub record CollectsAlone (result : Result Collected AllocError) (world : Keeping) (core : Core) (log : Log) : Type 0 where
+  pub luck : CollectingLuck
+  pub outcome : Option CollectorOutcome
+  pub after : Core
+  pub did : step_collector luck core ≡ record { outcome = outcome; core = after }
+  pub says : collects.Answers result outcome
   pub world_stands : WorldStands world after log
   pub goes_on : GoesOn None core after
 

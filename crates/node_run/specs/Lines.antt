@@ -7,7 +7,8 @@ use Rattle.search_api.specs.Replies.{reply_text}
 use Rattle.root_search.specs.Steps.{step_words}
 use Rattle.root_search.specs.declared.outcome.SearchStep.{SearchStep}
 use Rattle.root_search.specs.declared.outcome.SearchStep.TheVariants.{Idle, Planned, Fetched, Replied}
-use Rattle.node_run.specs.Node.{Line, At, Assign, StepIndexer, RestartIndexer, RestartClient, RestartNode, Open, StepClient, NodeFault, world_fault, no_index, Outcome, at_said, assigned, indexer_busy, indexer_said, indexer_down, indexer_restarted, client_restarted, node_restarted, node_failed, request_opened, request_busy, client_said, client_down}
+use Rattle.split_collector.specs.Outcomes.{outcome_words as collector_words}
+use Rattle.node_run.specs.Node.{Line, At, Assign, StepIndexer, RestartIndexer, RestartClient, StepCollector, RestartCollector, RestartNode, Open, StepClient, NodeFault, world_fault, no_index, Outcome, at_said, assigned, indexer_busy, indexer_said, indexer_down, indexer_restarted, client_restarted, collector_said, collector_down, collector_restarted, node_restarted, node_failed, request_opened, request_busy, client_said, client_down}
 
 abbrev pub line_text : Line → List ℕ
 line_text (At moment) = words (codes "at" ∷ decimal moment ∷ [])
@@ -15,6 +16,8 @@ line_text (Assign indexer partitions) = words (codes "assign" ∷ decimal indexe
 line_text (StepIndexer indexer) = words (codes "indexer" ∷ decimal indexer ∷ [])
 line_text (RestartIndexer indexer) = words (codes "restart" ∷ codes "indexer" ∷ decimal indexer ∷ [])
 line_text (RestartClient client) = words (codes "restart" ∷ codes "client" ∷ client ∷ [])
+line_text StepCollector = words (codes "collector" ∷ [])
+line_text RestartCollector = words (codes "restart" ∷ codes "collector" ∷ [])
 line_text RestartNode = words (codes "restart" ∷ codes "node" ∷ [])
 line_text (Open client text) = words (codes "client" ∷ client ∷ text ∷ [])
 line_text (StepClient client) = words (codes "client" ∷ client ∷ [])
@@ -33,6 +36,8 @@ IsWellFormed (Assign indexer partitions) = (indexer < 2 ^ 64) × AreNames partit
 IsWellFormed (StepIndexer indexer) = indexer < 2 ^ 64
 IsWellFormed (RestartIndexer indexer) = indexer < 2 ^ 64
 IsWellFormed (RestartClient client) = IsClientName client
+IsWellFormed StepCollector = Unit {0}
+IsWellFormed RestartCollector = Unit {0}
 IsWellFormed RestartNode = Unit {0}
 IsWellFormed (Open client text) = IsClientName client
 IsWellFormed (StepClient client) = IsClientName client
@@ -64,6 +69,9 @@ outcome_text (indexer_said indexer outcome) = words (codes "indexer" ∷ decimal
 outcome_text (indexer_down indexer) = words (codes "indexer" ∷ decimal indexer ∷ codes "down" ∷ [])
 outcome_text (indexer_restarted indexer) = words (codes "indexer" ∷ decimal indexer ∷ codes "restarted" ∷ [])
 outcome_text (client_restarted name) = words (name ∷ codes "restarted" ∷ [])
+outcome_text (collector_said outcome) = words (codes "collector" ∷ collector_words outcome)
+outcome_text collector_down = words (codes "collector" ∷ codes "down" ∷ [])
+outcome_text collector_restarted = words (codes "collector" ∷ codes "restarted" ∷ [])
 outcome_text (node_restarted revision) = words (codes "node" ∷ codes "restarted" ∷ decimal revision ∷ [])
 outcome_text (node_failed fault) = words (codes "node" ∷ node_fault_words fault)
 outcome_text (request_opened name) = words (name ∷ codes "opened" ∷ [])

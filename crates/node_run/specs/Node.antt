@@ -6,6 +6,7 @@ use Rattle.index_world.specs.Core.{Core}
 use Rattle.indexing_run.specs.Outcomes.{IndexerOutcome}
 use Rattle.indexing_run.specs.Places.{Indexer}
 use Rattle.root_search.specs.Steps.{Client}
+use Rattle.split_collector.specs.Outcomes.{Outcome as CollectorOutcome}
 use Rattle.root_search.specs.declared.outcome.SearchStep.{SearchStep}
 
 pub record Node : Type 0 where
@@ -21,6 +22,8 @@ pub data Line : Type 0 where
   StepIndexer : (indexer : ℕ) → Line
   RestartIndexer : (indexer : ℕ) → Line
   RestartClient : (client : List ℕ) → Line
+  StepCollector : Line
+  RestartCollector : Line
   RestartNode : Line
   Open : (client : List ℕ) → (text : List ℕ) → Line
   StepClient : (client : List ℕ) → Line
@@ -38,6 +41,9 @@ pub data Outcome : Type 0 where
   indexer_down : (indexer : ℕ) → Outcome
   indexer_restarted : (indexer : ℕ) → Outcome
   client_restarted : (name : List ℕ) → Outcome
+  collector_said : CollectorOutcome → Outcome
+  collector_down : Outcome
+  collector_restarted : Outcome
   node_restarted : (revision : ℕ) → Outcome
   node_failed : NodeFault → Outcome
   request_opened : (name : List ℕ) → Outcome

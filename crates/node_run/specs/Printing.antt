@@ -23,9 +23,13 @@ use Rattle.root_search.specs.StepPlans.{StepPlans}
 use Rattle.root_search.specs.StepReads.{StepAnswers, StepReads}
 use Rattle.root_search.specs.declared.outcome.SearchStep.{SearchStep}
 use Rattle.root_search.specs.declared.searcher.Searcher.{Searcher}
+use Rattle.split_collector.specs.Ending.{CallsTo}
+use Rattle.split_collector.specs.Standing.{said_words as collected_words}
+use Rattle.split_collector.specs.Turns.{ended, to_mark}
+use Rattle.split_collector.specs.declared.outcome.CollectorOutcome.{CollectorOutcome as Collected}
 use Rattle.node_run.specs.declared.drive.DriveNode.{DriveNode}
 use Rattle.node_run.specs.Lines.{outcome_text}
-use Rattle.node_run.specs.Node.{Line, At, Assign, StepIndexer, RestartIndexer, RestartClient, RestartNode, Open, StepClient, at_said, assigned, indexer_busy, indexer_down, indexer_restarted, client_restarted, node_restarted, request_opened, request_busy, client_said, client_down}
+use Rattle.node_run.specs.Node.{Line, At, Assign, StepIndexer, RestartIndexer, RestartClient, StepCollector, RestartCollector, RestartNode, Open, StepClient, at_said, assigned, indexer_busy, indexer_down, indexer_restarted, client_restarted, collector_down, collector_restarted, node_restarted, request_opened, request_busy, client_said, client_down}
 
 -- ---- a world through which one actor acts after the other
 
@@ -78,6 +82,17 @@ pub record PrintsIndexer {L : Type 0} (tells : L → Option Log) (count : L → 
   pub ends : EndsAlone tells count reader (Ok outcome) after old new
   pub printed : out ≡ said_text indexer outcome
 
+-- ---- a step of the collector
+
+abbrev pub collected_text : Collected → List ℕ
+collected_text outcome = words (codes "collector" ∷ collected_words outcome)
+
+-- The collector took a step: its calls came one behind another, and its outcome is told.
+pub record PrintsCollector {S : Type 0} (old new : Direct S ScriptClock) (out : List ℕ) : Type 0 where
+  pub outcome : Collected
+  pub calls : CallsTo told_alone AnswersAlone to_mark (ended (Ok outcome)) old new
+  pub printed : out ≡ collected_text outcome
+
 -- ---- a client's step
 
 -- What a searcher's step through a world alone answers, over every store: where it plans, by what its plan answered; where it fetches of a row, by what each
@@ -113,6 +128,8 @@ PrintsLine tells count (StepIndexer indexer) old new out =
     MatchBool old.down (out ≡ outcome_text (indexer_down indexer)) (PrintsIndexer tells count indexer old.indexers.items new.indexers.items old.gate.world new.gate.world out)
 PrintsLine tells count (RestartIndexer indexer) old new out = out ≡ outcome_text (indexer_restarted indexer)
 PrintsLine tells count (RestartClient name) old new out = out ≡ outcome_text (client_restarted name)
+PrintsLine tells count StepCollector old new out = MatchBool old.down (out ≡ outcome_text collector_down) (PrintsCollector old.gate new.gate out)
+PrintsLine tells count RestartCollector old new out = out ≡ outcome_text collector_restarted
 PrintsLine tells count RestartNode old new out = PrintsRestart old.gate.world new.gate.world new.down out
 PrintsLine tells count (Open name text) old new out = (out ≡ outcome_text (request_opened name)) ⊎ (out ≡ outcome_text (request_busy name))
 PrintsLine tells count (StepClient name) old new out = MatchBool old.down (out ≡ outcome_text (client_down name)) (PrintsSearch name old.clients.items new.clients.items old.gate new.gate out)

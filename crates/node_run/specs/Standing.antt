@@ -18,7 +18,7 @@ use Rattle.node_run.specs.declared.drive.DriveNode.{DriveNode}
 use Rattle.node_run.specs.declared.out_line.OutLine.{OutLine}
 use Rattle.node_run.specs.Lines.{outcome_text}
 use Rattle.node_run.specs.Named.{names_of, HasPlaces}
-use Rattle.node_run.specs.Node.{Node, Line, At, Assign, StepIndexer, RestartIndexer, RestartClient, RestartNode, Open, StepClient, Outcome}
+use Rattle.node_run.specs.Node.{Node, Line, At, Assign, StepIndexer, RestartIndexer, RestartClient, StepCollector, RestartCollector, RestartNode, Open, StepClient, Outcome}
 use Rattle.node_run.specs.Telling.{LineMayTell}
 use Rattle.node_run.specs.Turns.{Luck, Turn, Turned, turned, full_turn, reader_of}
 
@@ -82,6 +82,8 @@ accepts_of node (Assign i names) = accepts_indexer i node
 accepts_of node (StepIndexer i) = accepts_indexer i node
 accepts_of node (RestartIndexer i) = accepts_indexer i node
 accepts_of node (RestartClient name) = accepts_client name node
+accepts_of node StepCollector = accepts.Yes
+accepts_of node RestartCollector = accepts.Yes
 accepts_of node RestartNode = accepts.Yes
 accepts_of node (Open name text) = accepts_client name node
 accepts_of node (StepClient name) = accepts_client name node

@@ -1,5 +1,5 @@
--- Which faults a node over a sound index tells: no key is foreign to it, only an indexer's entry meets a full journal, and only a
--- search comes too late.
+-- Which faults a node over a sound index tells: no key is foreign to it, only an entry of an indexer or of the collector meets a full
+-- journal, only one of an indexer is refused, and only a search comes too late.
 use Rattle.std.specs.Prelude.{Option, Some, None}
 use Rattle.index_world.specs.Calls.{Fault, store_fault, is_foreign, is_full, is_expired}
 use Rattle.indexing_run.specs.Outcomes.{IndexerOutcome}
@@ -10,7 +10,9 @@ use Rattle.search_api.specs.declared.reply.Refusal.{Refusal}
 use Rattle.search_api.specs.declared.reply.Refusal.TheVariants as refusals
 use Rattle.search_api.specs.declared.reply.Said.{Said}
 use Rattle.search_api.specs.declared.reply.Said.TheVariants.{Found, Deleted, Refused}
-use Rattle.node_run.specs.Node.{NodeFault, world_fault, no_index, Outcome, at_said, assigned, indexer_busy, indexer_said, indexer_down, indexer_restarted, client_restarted, node_restarted, node_failed, request_opened, request_busy, client_said, client_down}
+use Rattle.split_collector.specs.Outcomes.{Outcome as CollectorOutcome}
+use Rattle.split_collector.specs.Outcomes as collecting
+use Rattle.node_run.specs.Node.{NodeFault, world_fault, no_index, Outcome, at_said, assigned, indexer_busy, indexer_said, indexer_down, indexer_restarted, client_restarted, collector_said, collector_down, collector_restarted, node_restarted, node_failed, request_opened, request_busy, client_said, client_down}
 
 -- the store failed
 abbrev pub IsOfStore : Fault → Type 0
@@ -37,6 +39,16 @@ IndexerMayTell (indexing.Lost number refusal) = Unit {0}
 IndexerMayTell (indexing.Refused refusal) = Unit {0}
 IndexerMayTell (indexing.SourceFault before after) = Unit {0}
 IndexerMayTell (indexing.Faulted fault) = IsNotForeign fault
+
+-- no key is foreign, and none of its own entries is refused
+abbrev pub CollectorMayTell : CollectorOutcome → Type 0
+CollectorMayTell (collecting.MarkedStale count) = Unit {0}
+CollectorMayTell (collecting.Doomed number) = Unit {0}
+CollectorMayTell (collecting.Removed count) = Unit {0}
+CollectorMayTell (collecting.Swept number) = Unit {0}
+CollectorMayTell collecting.Nothing = Unit {0}
+CollectorMayTell (collecting.Refused refusal) = ⊥
+CollectorMayTell (collecting.Faulted fault) = IsNotForeign fault
 
 -- what a text asks is refused, or what it counts has too many buckets: nothing failed
 abbrev pub IsOfText : Refusal → Type 0
@@ -93,6 +105,9 @@ MayTell (indexer_said indexer outcome) = IndexerMayTell outcome
 MayTell (indexer_down indexer) = Unit {0}
 MayTell (indexer_restarted indexer) = Unit {0}
 MayTell (client_restarted name) = Unit {0}
+MayTell (collector_said outcome) = CollectorMayTell outcome
+MayTell collector_down = Unit {0}
+MayTell collector_restarted = Unit {0}
 MayTell (node_restarted revision) = Unit {0}
 MayTell (node_failed fault) = NodeMayTell fault
 MayTell (request_opened name) = Unit {0}

@@ -12,20 +12,24 @@ use Rattle.indexing_run.specs.Steps as indexing
 use Rattle.root_search.specs.Steps.{Request, no_request, opened, planned, Client, without_request}
 use Rattle.root_search.specs.Steps as searching
 use Rattle.root_search.specs.declared.outcome.SearchStep.{SearchStep}
-use Rattle.node_run.specs.Node.{Node, Line, At, Assign, StepIndexer, RestartIndexer, RestartClient, RestartNode, Open, StepClient, world_fault, no_index, Outcome, at_said, assigned, indexer_busy, indexer_said, indexer_down, indexer_restarted, client_restarted, node_restarted, node_failed, request_opened, request_busy, client_said, client_down}
+use Rattle.split_collector.specs.Outcomes.{Outcome as CollectorOutcome}
+use Rattle.split_collector.specs.Steps as collecting
+use Rattle.node_run.specs.Node.{Node, Line, At, Assign, StepIndexer, RestartIndexer, RestartClient, StepCollector, RestartCollector, RestartNode, Open, StepClient, world_fault, no_index, Outcome, at_said, assigned, indexer_busy, indexer_said, indexer_down, indexer_restarted, client_restarted, collector_said, collector_down, collector_restarted, node_restarted, node_failed, request_opened, request_busy, client_said, client_down}
 
--- The fate of one line: its call of a log, its call of the world, a client's further calls if it makes some, and whether
--- memory is missing: in its actor's own step, before the line does anything, or behind all that it does.
+-- The fate of one line: its call of a log, its call of the world, a client's or the collector's further calls if it makes some, where the
+-- pages end that the collector lists, and whether memory is missing: in its actor's own step, before the line does anything, or behind all
+-- that it does.
 pub record Luck : Type 0 where
   pub log : indexing.LogCall
   pub world : Fate
   pub more : List Fate
+  pub ends : List (List ℕ)
   pub inner : Bool
   pub early : Bool
   pub short : Bool
 
 abbrev pub calm : Luck
-calm = record { log = record { fails = false; rises = 0; short = false }; world = calm_fate; more = []; inner = false; early = false; short = false }
+calm = record { log = record { fails = false; rises = 0; short = false }; world = calm_fate; more = []; ends = []; inner = false; early = false; short = false }
 
 -- What a line says, and the node behind it. Without memory it says nothing.
 pub record Turned : Type 0 where
@@ -120,6 +124,23 @@ client_turn_by false luck name node =
 abbrev pub client_turn : Luck → List ℕ → Node → Turned
 client_turn luck name node = client_turn_by node.down luck name node
 
+abbrev pub collecting_luck : Luck → collecting.Luck
+collecting_luck luck = record { world = luck.world; more = luck.more; ends = luck.ends; short = luck.inner }
+
+abbrev pub said_by_collector : Option CollectorOutcome → Option Outcome
+said_by_collector None = None
+said_by_collector (Some outcome) = Some (collector_said outcome)
+
+abbrev pub collector_stepped : Node → collecting.Stepped → Turned
+collector_stepped node step = record { said = said_by_collector step.outcome; node = record node { core = step.core } }
+
+abbrev pub collector_turn_by : Bool → Luck → Node → Turned
+collector_turn_by true luck node = turned collector_down node
+collector_turn_by false luck node = collector_stepped node (collecting.step_collector (collecting_luck luck) node.core)
+
+abbrev pub collector_turn : Luck → Node → Turned
+collector_turn luck node = collector_turn_by node.down luck node
+
 abbrev pub open_by : Request → List ℕ → List ℕ → Client → Node → Turned
 open_by no_request name text client node = turned (request_opened name) (keep_client (record client { request = opened text }) node)
 open_by (opened other) name text client node = turned (request_busy name) node
@@ -158,6 +179,8 @@ full_turn luck node (Assign i names) = assign_turn i names (indexer_at node.inde
 full_turn luck node (StepIndexer i) = indexer_turn luck i node
 full_turn luck node (RestartIndexer i) = turned (indexer_restarted i) (with_indexer i (made_idle (indexer_at node.indexers i)) node)
 full_turn luck node (RestartClient name) = turned (client_restarted name) (keep_client (without_request (client_named name node.clients)) node)
+full_turn luck node StepCollector = collector_turn luck node
+full_turn luck node RestartCollector = turned collector_restarted node
 full_turn luck node RestartNode = restart_turn luck node
 full_turn luck node (Open name text) = open_turn name text (client_named name node.clients) node
 full_turn luck node (StepClient name) = client_turn luck name node
@@ -178,6 +201,8 @@ quiet (Assign i names) node = with_indexer i (made_idle (indexer_at node.indexer
 quiet (StepIndexer i) node = with_indexer i (made_idle (indexer_at node.indexers i)) node
 quiet (RestartIndexer i) node = with_indexer i (made_idle (indexer_at node.indexers i)) node
 quiet (RestartClient name) node = drop_request name node
+quiet StepCollector node = node
+quiet RestartCollector node = node
 quiet RestartNode node = stopped node.core node
 quiet (Open name text) node = drop_request name node
 quiet (StepClient name) node = drop_request name node

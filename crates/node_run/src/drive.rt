@@ -12,7 +12,9 @@ ghost use Rattle.indexing_run.specs.Places.{Indexer as Actor, is_idle};
 ghost use Rattle.indexing_run.specs.Standing.{IndexerStands};
 ghost use Rattle.root_search.specs.Searching.{SearcherStands};
 ghost use Rattle.root_search.specs.Steps.{Client as Asker, without_request};
-ghost use Rattle.node_run.specs.Alone.{SearchesAlone, StepsAlone};
+ghost use Rattle.split_collector.specs.Ending.{CallsTo};
+ghost use Rattle.split_collector.specs.Turns.{ended, to_mark};
+ghost use Rattle.node_run.specs.Alone.{CollectsAlone, SearchesAlone, StepsAlone};
 ghost use Rattle.node_run.specs.Calm.{log_counts};
 ghost use Rattle.node_run.specs.Fitting.{IsNumbered, IsYes};
 ghost use Rattle.node_run.specs.Lines.{IsWellFormed, AreNames, outcome_text};
@@ -20,7 +22,7 @@ ghost use Rattle.node_run.specs.Logs.{logs_in};
 ghost use Rattle.node_run.specs.Named.{place_in, names_of, HasPlaces, IsKnown};
 ghost use Rattle.node_run.specs.Node.{Node};
 ghost use Rattle.node_run.specs.Node as said;
-ghost use Rattle.node_run.specs.Printing.{fault_text, EndsAlone, TellsSearch, HasMore, PrintsLine};
+ghost use Rattle.node_run.specs.Printing.{AnswersAlone, fault_text, EndsAlone, told_alone, TellsSearch, HasMore, PrintsLine};
 ghost use Rattle.node_run.specs.Seen.{seen};
 ghost use Rattle.node_run.specs.Standing.{NodeStands, IsFresh, fresh_node, accepts_of, accepts_client, accepts_indexer, DoesLine, DoesMost, LetGo, GivesLogs, GivesStore};
 ghost use Rattle.node_run.specs.Turns.{made_idle, quiet, stopped};
@@ -36,6 +38,7 @@ use indexing_run::{Indexer, IndexerOutcome};
 use object_store::ObjectStore;
 use root_search::{SearchStep, Searcher};
 use source_log::{Partitions, SourceLog};
+use split_collector::{Collector, CollectorOutcome};
 use std::alloc::{AllocError, Global};
 use std::collections::BTreeMap;
 use std::mem;
@@ -50,6 +53,7 @@ const MOMENT_END: u64 = 1 << 62;
 pub struct DriveNode<S: ObjectStore, L: SourceLog> {
     gate: Direct<S, ScriptClock>,
     indexers: Vec<Indexer<L>>,
+    collector: Collector,
     clients: Vec<Searcher>,
     // The place of each client among the searchers.
     places: BTreeMap<Name, usize>,
@@ -88,6 +92,18 @@ fn step_indexer<S: ObjectStore, L: SourceLog>(
     ensures ends { EndsAlone L.told L.fault_count indexer.old result indexer.new gate.old.world gate.new.world }
 {
     indexer.step(alloc, gate)
+}
+
+fn step_collector<S: ObjectStore>(
+    alloc: Global,
+    gate: &mut Direct<S, ScriptClock>,
+    collector: &mut Collector,
+) -> Result<CollectorOutcome, AllocError>
+    ensures step { (core : Core) (log : Log) → WorldStands gate.old.world core log → CollectsAlone result gate.new.world core log }
+    // Whatever the world is.
+    ensures tells { CallsTo told_alone AnswersAlone to_mark (ended result) gate.old gate.new }
+{
+    collector.step(alloc, gate)
 }
 
 fn step_searcher<Rt: Threads + Sync, S: ObjectStore>(
@@ -261,6 +277,7 @@ impl<S: ObjectStore, L: SourceLog> DriveNode<S, L> {
         Ok(DriveNode {
             gate: Direct::over(world),
             indexers,
+            collector: Collector::start(),
             clients: Vec::new(alloc),
             places: BTreeMap::new(alloc),
             moment: 0,
@@ -280,6 +297,7 @@ impl<S: ObjectStore, L: SourceLog> DriveNode<S, L> {
         let DriveNode {
             gate,
             indexers,
+            collector: _,
             clients: _,
             places: _,
             moment: _,
@@ -342,6 +360,8 @@ impl<S: ObjectStore, L: SourceLog> DriveNode<S, L> {
             Line::Indexer { indexer } => self.accepts_indexer(*indexer),
             Line::RestartIndexer { indexer } => self.accepts_indexer(*indexer),
             Line::RestartClient { client } => self.accepts_client(client),
+            Line::Collector => Accepts::Yes,
+            Line::RestartCollector => Accepts::Yes,
             Line::RestartNode => Accepts::Yes,
             Line::Open { client, .. } => self.accepts_client(client),
             Line::Client { client } => self.accepts_client(client),
@@ -392,6 +412,33 @@ impl<S: ObjectStore, L: SourceLog> DriveNode<S, L> {
         let line = OutLine::indexer(alloc, number, &outcome);
         mem::drop(outcome);
         line
+    }
+
+    fn collector_line(&mut self, alloc: Global) -> Result<OutLine, AllocError>
+        ensures count { vec_len self.new.indexers ≡ vec_len self.old.indexers }
+        ensures does { (firsts : List L) (node : Node) → NodeStands L.told L.fault_count L.since firsts self.old node →
+            DoesMost L.told L.fault_count L.since firsts node said.StepCollector result self.new }
+        // Whatever the node is.
+        ensures prints { IfOk result (λ out. PrintsLine L.told L.fault_count said.StepCollector self.old self.new out.bytes) }
+    {
+        if self.down {
+            return OutLine::collector_down(alloc);
+        }
+        let outcome = step_collector(alloc, &mut self.gate, &mut self.collector)?;
+        let line = OutLine::collector(alloc, &outcome);
+        mem::drop(outcome);
+        line
+    }
+
+    fn restart_collector(&mut self, alloc: Global) -> Result<OutLine, AllocError>
+        ensures count { vec_len self.new.indexers ≡ vec_len self.old.indexers }
+        ensures does { (firsts : List L) (node : Node) → NodeStands L.told L.fault_count L.since firsts self.old node →
+            DoesMost L.told L.fault_count L.since firsts node said.RestartCollector result self.new }
+        // Whatever the node is.
+        ensures prints { IfOk result (λ out. PrintsLine L.told L.fault_count said.RestartCollector self.old self.new out.bytes) }
+    {
+        self.collector.restart();
+        OutLine::collector_restarted(alloc)
     }
 
     fn client_line<Rt: Threads + Sync>(
@@ -513,6 +560,8 @@ impl<S: ObjectStore, L: SourceLog> DriveNode<S, L> {
             Line::Indexer { indexer } => self.indexer_line(alloc, *indexer),
             Line::RestartIndexer { indexer } => self.restart_indexer(alloc, *indexer),
             Line::RestartClient { client } => self.restart_client(alloc, client),
+            Line::Collector => self.collector_line(alloc),
+            Line::RestartCollector => self.restart_collector(alloc),
             Line::RestartNode => self.restart_node(alloc),
             Line::Open { client, text } => {
                 let text = Text::from_slice(alloc, text.as_slice())?;
@@ -548,6 +597,8 @@ impl<S: ObjectStore, L: SourceLog> DriveNode<S, L> {
             Line::Indexer { indexer } => self.quiet_indexer(*indexer),
             Line::RestartIndexer { indexer } => self.quiet_indexer(*indexer),
             Line::RestartClient { client } => self.quiet_client(client),
+            Line::Collector => {}
+            Line::RestartCollector => {}
             Line::RestartNode => self.stop(),
             Line::Open { client, .. } => self.quiet_client(client),
             Line::Client { client } => self.quiet_client(client),

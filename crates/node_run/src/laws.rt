@@ -1,7 +1,8 @@
 //! What holds of each node, whatever lands and fails. Each law is the contract of a function that does nothing.
 
-ghost use Rattle.std.specs.Prelude.{◌≡◌, ◌⊎◌, ℕ, ◌≤◌, ◌<◌, min, Bool, false, List, [], ◌∷◌, ◌++◌, length, All, Option, Some, None};
+ghost use Rattle.std.specs.Prelude.{◌≡◌, ◌⊎◌, ℕ, ◌^◌, ◌≤◌, ◌<◌, min, Bool, false, List, [], ◌∷◌, ◌++◌, length, All, Option, Some, None};
 ghost use Rattle.meta_journal.specs.declared.entry.Entry.{Entry};
+ghost use Rattle.meta_store.specs.History.{history, last_number};
 ghost use Rattle.source_log.specs.Log.{Log};
 ghost use Rattle.index_world.specs.Core.{Core, last_count};
 ghost use Rattle.indexing_run.specs.Places.{Indexer};
@@ -9,10 +10,12 @@ ghost use Rattle.indexing_run.specs.Steps.{step_indexer};
 ghost use Rattle.indexing_run.specs.Steps as indexing;
 ghost use Rattle.root_search.specs.Steps.{Client, step_client};
 ghost use Rattle.root_search.specs.Steps as searching;
+ghost use Rattle.split_collector.specs.Steps.{step_collector};
+ghost use Rattle.split_collector.specs.Steps as collecting;
 ghost use Rattle.node_run.specs.Lines.{Spells};
 ghost use Rattle.node_run.specs.Node.{Node, Line, Outcome};
 ghost use Rattle.node_run.specs.Calm.{IsStill, log_counts, IsOfThese};
-ghost use Rattle.node_run.specs.Turns.{Turn, Turns, turns, calm, indexing_luck, searching_luck};
+ghost use Rattle.node_run.specs.Turns.{Turn, Turns, turns, calm, collecting_luck, indexing_luck, searching_luck};
 
 /// A line adds to the history at its end, whatever it says.
 pub fn line_adds_to_the_history()
@@ -60,10 +63,18 @@ pub fn a_still_count_makes_a_search_step_calm()
         ⊎ (step_client luck log client core ≡ step_client (searching_luck calm) log client core) }
 {}
 
+/// So is a step of the collector, wherever its pages end, over numbers that a key can spell.
+pub fn a_still_count_makes_a_collector_step_calm()
+    ensures { (luck : collecting.Luck) (core : Core) → IsStill core → last_number (history (step_collector luck core).core.history) < 2 ^ 64 →
+        (step_collector luck core).core.store_faults ≡ core.store_faults →
+        ((step_collector luck core).outcome ≡ None)
+        ⊎ (step_collector luck core ≡ step_collector (collecting_luck calm) core) }
+{}
+
 /// Where nothing is late and no count rises, a schedule is answered as with a calm luck.
 pub fn still_counts_make_a_schedule_calm()
     ensures { (node last : Node) (lines : List Line) (outcomes : List Outcome) → IsStill node.core →
         All (λ n. n < last_count) (log_counts node.indexers) → All (IsOfThese (length node.indexers)) lines → Turns node lines outcomes last →
-        last.core.store_faults ≡ node.core.store_faults → log_counts last.indexers ≡ log_counts node.indexers →
+        last_number (history last.core.history) < 2 ^ 64 → last.core.store_faults ≡ node.core.store_faults → log_counts last.indexers ≡ log_counts node.indexers →
         outcomes ≡ (turns node lines).outcomes }
 {}

@@ -42,6 +42,9 @@ pub enum Line {
     RestartClient {
         client: Client,
     },
+    /// A step of the collector.
+    Collector,
+    RestartCollector,
     RestartNode,
     /// A client's request, the rest of the line as it stands.
     Open {
@@ -175,6 +178,9 @@ fn restart_line(rest: &[u8]) -> Result<Line, LineError>
     if rest == b"node".as_slice() {
         return Ok(Line::RestartNode);
     }
+    if rest == b"collector".as_slice() {
+        return Ok(Line::RestartCollector);
+    }
     if let Some(number) = behind(rest, b"indexer ") {
         return Ok(Line::RestartIndexer {
             indexer: number_of(number)?,
@@ -208,6 +214,9 @@ pub fn read_line(alloc: Global, bytes: &[u8]) -> Result<Line, LineError>
     }
     if let Some(rest) = behind(bytes, b"client ") {
         return client_line(alloc, rest);
+    }
+    if bytes == b"collector".as_slice() {
+        return Ok(Line::Collector);
     }
     Err(LineError::BadLine)
 }

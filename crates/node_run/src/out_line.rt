@@ -5,14 +5,17 @@ ghost use Rattle.index_world.specs.Calls.{Fault, faulted, not_read, no_index};
 ghost use Rattle.index_world.specs.Loading.{IsUnread};
 ghost use Rattle.indexing_run.specs.Outcomes as indexing;
 ghost use Rattle.indexing_run.specs.Standing.{IsSaid};
+ghost use Rattle.split_collector.specs.Outcomes as collecting;
+ghost use Rattle.split_collector.specs.Standing.{IsSaid as IsCollected};
 ghost use Rattle.node_run.specs.Lines.{outcome_text};
 ghost use Rattle.node_run.specs.Node as said;
-ghost use Rattle.node_run.specs.Printing.{fault_text, said_text};
+ghost use Rattle.node_run.specs.Printing.{collected_text, fault_text, said_text};
 
 use byte_fields::{Bytes, Client};
 use index_world::{WorldError, put_fault, put_number, put_word};
 use indexing_run::IndexerOutcome;
 use root_search::SearchStep;
+use split_collector::CollectorOutcome;
 use std::alloc::{AllocError, Global};
 
 /// The printed answer to a line, without a line feed.
@@ -38,6 +41,16 @@ fn of_indexer(alloc: Global, number: u64, text: &[u8]) -> Result<OutLine, AllocE
     let mut bytes = Bytes::vacant(alloc);
     put_word(&mut bytes, b"indexer")?;
     put_number(alloc, &mut bytes, number)?;
+    put_word(&mut bytes, text)?;
+    Ok(OutLine { bytes })
+}
+
+// `collector` and a text.
+fn of_collector(alloc: Global, text: &[u8]) -> Result<OutLine, AllocError>
+    ensures { IfOk result (λ out. out.bytes ≡ codes "collector" ++ 32 ∷ text.now) }
+{
+    let mut bytes = Bytes::vacant(alloc);
+    put_word(&mut bytes, b"collector")?;
     put_word(&mut bytes, text)?;
     Ok(OutLine { bytes })
 }
@@ -129,6 +142,28 @@ impl OutLine {
             SearchStep::Replied(_) => Ok(OutLine { bytes: words }),
             _ => named(alloc, client, words.as_slice()),
         }
+    }
+
+    pub fn collector(alloc: Global, outcome: &CollectorOutcome) -> Result<OutLine, AllocError>
+        ensures said { (answer : collecting.Outcome) → IsCollected outcome.now answer →
+            IfOk result (λ out. out.bytes ≡ outcome_text (said.collector_said answer)) }
+        // Whatever the outcome is.
+        ensures exact { IfOk result (λ out. out.bytes ≡ collected_text outcome.now) }
+    {
+        let words = split_collector::print_outcome(alloc, outcome)?;
+        of_collector(alloc, words.as_slice())
+    }
+
+    pub fn collector_down(alloc: Global) -> Result<OutLine, AllocError>
+        ensures { IfOk result (λ out. out.bytes ≡ outcome_text said.collector_down) }
+    {
+        of_collector(alloc, b"down")
+    }
+
+    pub fn collector_restarted(alloc: Global) -> Result<OutLine, AllocError>
+        ensures { IfOk result (λ out. out.bytes ≡ outcome_text said.collector_restarted) }
+    {
+        of_collector(alloc, b"restarted")
     }
 
     pub fn node_restarted(alloc: Global, revision: u64) -> Result<OutLine, AllocError>

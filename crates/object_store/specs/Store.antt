@@ -74,10 +74,9 @@ with_late s key content = record { objects = s.objects; late = s.late ++ (key, c
 abbrev pub Creates : List ℕ → List ℕ → Result (Unit {0}) CreateError → State → State → Type 0
 Creates key content (Ok done) old new = (map.get old.objects key ≡ None) × (new ≡ with_object old key content)
 Creates key content (Err creates.Exists) old new = IsSome (map.get old.objects key) × (new ≡ old)
--- it takes effect at once, or later, or never; an object that stands keeps its bytes
+-- it takes effect at once where the key is absent, or may yet, or never will
 Creates key content (Err creates.Failed) old new =
-    ((map.get old.objects key ≡ None) × (new ≡ with_object old key content))
-    ⊎ ((new ≡ with_late old key content) ⊎ (IsSome (map.get old.objects key) × (new ≡ old)))
+    ((map.get old.objects key ≡ None) × (new ≡ with_object old key content)) ⊎ ((new ≡ with_late old key content) ⊎ (new ≡ old))
 Creates key content (Err (creates.Memory e)) old new = new ≡ old
 
 -- the bytes from a place on, as many as there are up to a number, and the whole size

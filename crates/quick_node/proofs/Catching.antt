@@ -30,11 +30,13 @@ use Rattle.indexing_run.specs.Places.{Batch, Held, Place, idle, reading, staged,
 use Rattle.indexing_run.specs.Steps.{Stepped, Taken, with_record, taken_from, start_of, read_limit, batch_after, queue_after, is_empty, marks_at, fresh_batch, partitions_for, log_may_fail, log_called, checkpoints_by, take_checkpoints, idle_by, idle_unless, read_by, read_given, step_read, stage_by, step_stage, batch_facts, upload_by, publish_by, publish_refused, step_batch, step_place, step_indexer}
 use Rattle.indexing_run.specs.Steps as indexing
 use Rattle.indexing_run.proofs.Reading.{target_ranges}
-use Rattle.node_run.specs.Node.{Node, Line, At, Assign, StepIndexer, RestartIndexer, RestartClient, RestartNode, Open, StepClient, Outcome, indexer_said, assigned}
+use Rattle.node_run.specs.Node.{Node, Line, At, Assign, StepIndexer, RestartIndexer, RestartClient, StepCollector, RestartCollector, RestartNode, Open, StepClient, Outcome, indexer_said, assigned}
 use Rattle.root_search.specs.Steps.{Request, no_request, opened, planned, Client}
 use Rattle.root_search.specs.declared.outcome.SearchStep.{SearchStep}
-use Rattle.node_run.proofs.Moving.{Grows, turn_later, turns_later}
-use Rattle.node_run.specs.Turns.{reader_of, said_by_client, Luck, Turned, turned, indexer_at, with_indexer, made_idle, indexing_luck, said_by_indexer, assign_at, indexer_turn_by, client_turn_by, client_named, open_by, restart_by, full_turn, quiet, or_quiet, turn_by, Turn, Turns}
+use Rattle.split_collector.specs.Outcomes.{Outcome as CollectorOutcome}
+use Rattle.node_run.proofs.CallMoves.{Grows}
+use Rattle.node_run.proofs.Moving.{turn_later, turns_later}
+use Rattle.node_run.specs.Turns.{reader_of, said_by_client, said_by_collector, Luck, Turned, turned, indexer_at, with_indexer, made_idle, indexing_luck, said_by_indexer, assign_at, indexer_turn_by, client_turn_by, client_named, collector_turn_by, open_by, restart_by, full_turn, quiet, or_quiet, turn_by, Turn, Turns}
 use Rattle.quick_node.specs.CaughtUp.{IfHere, Seen, unseen, after_said, after_line, AreEnds, SaidAtEnds, LineAtEnds, CatchesUp}
 use Rattle.quick_node.specs.Serve.{IsPrefixOf, Before, End, by_reading, no_index, opening_failed, read_failed, write_failed, out_of_memory, IsFresh, Answers, Unopened, RanShort, Lives}
 use Rattle.quick_node.proofs.Living.{opens_moves}
@@ -569,6 +571,15 @@ module _ (exit : List Entry) (log : Log) (i : ℕ) (seen : Seen) where
     client_did true luck name = said_did (StepClient name) _ _ (λ p. record { says = tt; log_is = log_is; watches = w })
     client_did false luck name = searched_did name _ _ log_is w
 
+    collected_did : (said : Option CollectorOutcome) (new : Node) → new.log ≡ log → Watches exit log i seen new.indexers →
+        TurnDid StepCollector (record { said = said_by_collector said; node = new })
+    collected_did None new l v = unsaid_did StepCollector new
+    collected_did (Some o) new l v = said_did StepCollector _ new (λ p. record { says = tt; log_is = l; watches = v })
+
+    collector_did : (down : Bool) (luck : Luck) → TurnDid StepCollector (collector_turn_by down luck node)
+    collector_did true luck = said_did StepCollector _ node (λ p. record { says = tt; log_is = log_is; watches = w })
+    collector_did false luck = collected_did _ _ log_is w
+
     restart_did : (r : Result ⊤ Unread) (core : Core) → TurnDid RestartNode (restart_by r core node)
     restart_did (Ok done) core = said_did RestartNode _ _ (λ p. record { says = tt; log_is = log_is; watches = idle_watches node.indexers w })
     restart_did (Err (not_read (faulted fault))) core = said_did RestartNode _ _ (λ p. record { says = tt; log_is = log_is; watches = idle_watches node.indexers w })
@@ -581,6 +592,8 @@ module _ (exit : List Entry) (log : Log) (i : ℕ) (seen : Seen) where
     full_did luck (StepIndexer j) = indexer_did node.down luck j
     full_did luck (RestartIndexer j) = said_did (RestartIndexer j) _ _ (λ p. record { says = tt; log_is = log_is; watches = idled_watches j (j == i) refl })
     full_did luck (RestartClient name) = said_did (RestartClient name) _ _ (λ p. record { says = tt; log_is = log_is; watches = w })
+    full_did luck StepCollector = collector_did node.down luck
+    full_did luck RestartCollector = said_did RestartCollector _ node (λ p. record { says = tt; log_is = log_is; watches = w })
     full_did luck RestartNode = let given = calls.loaded luck.world node.core in restart_did given.answer given.core
     full_did luck (Open name text) = open_did (client_named name node.clients).request name text (client_named name node.clients)
     full_did luck (StepClient name) = client_did node.down luck name

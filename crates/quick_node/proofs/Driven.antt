@@ -24,12 +24,14 @@ use Rattle.quick_node.specs.declared.error_line.End.{End as Ended}
 use Rattle.quick_node.proofs.Catching.{lives_catch}
 use Rattle.quick_node.proofs.Calmed.{reader_counts, lives_calm}
 use Rattle.quick_node.proofs.Exact.{exact_status}
+use Rattle.quick_node.proofs.Expiring.{lives_expire}
+use Rattle.quick_node.proofs.Gathered.{along_collects}
 use Rattle.quick_node.proofs.Living.{opens_moves, lives_follow}
 use Rattle.quick_node.proofs.LongerLog.{index_longer}
 use Rattle.quick_node.proofs.Onces.{configured_on, holds_once, covers_at, are_left}
 use Rattle.quick_node.specs.Once.{Reaches}
 use Rattle.quick_node.proofs.Faulting.{none_told}
-use Rattle.quick_node.proofs.Files.{Few, Takes, loaded_few}
+use Rattle.quick_node.proofs.Files.{Few, Takes, leaves_of, loaded_few}
 use Rattle.quick_node.proofs.Reached.{reaches, reaches_itself}
 use Rattle.quick_node.proofs.Sources.{lives_between}
 use Rattle.quick_node.proofs.Telling.{lives_told}
@@ -110,7 +112,7 @@ module _ (history : List Entry) (before : Before) (fresh : Node) (is : IsFresh b
       record {
         entry = itself;
         reaches = subst (λ l. Reaches fresh.core core l) log_is
-            (reaches before.kept kept fresh.core core before.log world after (subst (λ g. Takes Few fresh.core g.core) did (loaded_few fate fresh.core)) is_log);
+            (reaches before.kept kept fresh.core core before.log world after (leaves_of (subst (λ g. Takes Few fresh.core g.core) did (loaded_few fate fresh.core))) is_log);
       }
 
   pub unopened_along : (fate : Fate) (answer : Result ⊤ Unread) (kept : State) (core : Core) → loaded fate fresh.core ≡ gives answer core → IsWorld kept core before.log → Along fresh [] [] (record fresh { core = core })
@@ -170,6 +172,8 @@ module _ (history : List Entry) (before : Before) (after : After) (fresh last : 
         subst (λ ns. AreBetween (slice_index before.log_faults i) (flat_map (log_told i) outcomes) (slice_index ns i)) log_count
         (lives_between history before fresh is i within bound end lines outcomes last lives);
     catch_up = λ i within. lives_catch history (journal_of last.core) before fresh is i within end lines outcomes last lives (unread_front last.core.history last.core.standing);
+    expires = λ config configured. lives_expire history (journal_of last.core) follows.0 world.index.stands.legal config configured before fresh is end lines outcomes last lives (unread_front last.core.history last.core.standing);
+    collects = along_collects (journal_of last.core) world.index.stands.legal history fresh last (ap (λ n. n.core.history) is.is) lines outcomes (unread_front last.core.history last.core.standing) along;
     tell = tell;
     fresh = fresh;
     is_fresh = is;

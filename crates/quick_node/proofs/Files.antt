@@ -1,5 +1,6 @@
--- Whatever lands and fails, no line deletes a file, and it takes in at most an entry that stood there and one of its own.
-use Rattle.std.proofs.Common.{◌≡◌, ℕ, List, [], ◌∷◌, ◌++◌, refl, sym, ap, ap₂, ◌∙◌, Bool, true, false, append_assoc, subst}
+-- Whatever lands and fails, a call of the world takes in at most an entry that stood there and one of its own, and no step of an indexer or
+-- of a client deletes a file.
+use Rattle.std.proofs.Common.{◌≡◌, ◌⊎◌, ℕ, List, [], ◌∷◌, ◌++◌, refl, sym, ap, ap₂, ◌∙◌, Bool, true, false, append_assoc, subst, inl}
 use Rattle.std.proofs.lemmas.List.{append-nil}
 use Rattle.std.specs.Prelude.{Option, Some, None, Result, Ok, Err, ⊤, if◌then◌else◌, ◌==◌, ◌||◌, slice_get, length, is_some, nat_le, bytes_eq}
 use Rattle.index_config.specs.Answer.{config_answer}
@@ -9,9 +10,15 @@ use Rattle.meta_journal.specs.declared.entry.Act.{Act}
 use Rattle.meta_journal.specs.declared.entry.Act.TheVariants.{Fence, Create, Stage, Publish, Replace, Raise, Task, MarkStaged, Remove, Retire}
 use Rattle.meta_journal.specs.declared.entry.Entry.{Entry}
 use Rattle.meta_journal.specs.Places.{split_key}
+use Rattle.meta_store.specs.History.{history}
+use Rattle.meta_store.specs.Numbers.{IsGivenUp}
+use Rattle.meta_store.specs.Rows.{rows}
+use Rattle.split_states.specs.Rows.{row_at}
+use Rattle.split_states.specs.declared.rows.Row.{Row}
+use Rattle.split_states.specs.declared.rows.RowState.TheVariants.{Published}
 use Rattle.source_checkpoint.specs.declared.ledger.Checkpoint.{Checkpoint}
 use Rattle.source_log.specs.Log.{Log}
-use Rattle.index_world.specs.Calls.{Fate, Call, Trouble, faulted, no_memory, Unmade, Unread, not_read, Gives, Made, made, exists, failed, risen, may_fail, entry_lands, file_lands, land_at, all_landed, begun, tried, made_behind, made_at, create_at_end, taken_in, or_short, unless_short, asked_clock, asking, and_then_by, taken_unless, got_at, get_at_end, settle_made, settle_with, settled, fence_of, entry_of, may_append, last_made, last_unless, last_create, troubled_by, as_unmade, adopted_made, first_unless, transact, appended, looked, asked_and_looked, asked, file_by, file_made, got_file, file_got, Grace, unless_over, fetched, with_standing, read_journal, unless_empty, load_by, loaded}
+use Rattle.index_world.specs.Calls.{Effect, done_at_once, done_late, done_never, is_at_once, Fate, Call, Trouble, faulted, no_memory, Unmade, Unread, not_read, Gives, Made, made, exists, failed, risen, may_fail, entry_lands, file_lands, land_at, all_landed, begun, tried, made_behind, made_at, create_at_end, taken_in, or_short, unless_short, asked_clock, asking, and_then_by, taken_unless, got_at, get_at_end, settle_made, settle_with, settled, fence_of, entry_of, may_append, last_made, last_unless, last_create, troubled_by, as_unmade, adopted_made, first_unless, transact, appended, looked, asked_and_looked, asked, file_by, file_made, got_file, file_got, Grace, unless_over, fetched, with_standing, read_journal, unless_empty, load_by, loaded}
 use Rattle.index_world.specs.Calls as calls
 use Rattle.index_world.specs.Created.{first_made, created_by, created_behind, created}
 use Rattle.index_world.specs.Core.{Core, File, Late, late_entry, late_dead, late_file, file_at, with_unread, journal_of}
@@ -24,9 +31,8 @@ use Rattle.indexing_run.specs.Steps as indexing
 use Rattle.root_search.specs.Requests.{asked_of}
 use Rattle.root_search.specs.Steps.{Request, no_request, opened, planned, Plan, Client, fetched_each, unless_fault, config_in, next_step, step_request, step_client}
 use Rattle.root_search.specs.Steps as searching
-use Rattle.node_run.specs.Node.{Node, Line, At, Assign, StepIndexer, RestartIndexer, RestartClient, RestartNode, Open, StepClient, Outcome}
-use Rattle.node_run.specs.Turns.{Luck, Turned, indexer_at, indexing_luck, searching_luck, indexer_turn_by, client_turn_by, client_named, full_turn, quiet, or_quiet, turn_by, Turn}
-use Rattle.node_run.proofs.Moving.{got_file_same, checkpoints_same, stage_same, upload_same, publish_same, given_same, plan_same, fetch_same, assign_same, open_same, restart_same}
+use Rattle.node_run.proofs.CallMoves.{got_file_same}
+use Rattle.node_run.proofs.Moving.{checkpoints_same, stage_same, upload_same, publish_same, given_same, plan_same, fetch_same}
 
 -- ---- files that stay
 
@@ -53,12 +59,12 @@ IsOwn (Publish number) = ⊤
 IsOwn (Replace new old upto) = ⊥
 IsOwn (Raise number upto) = ⊥
 IsOwn (Task opstamp text fields times) = ⊥
-IsOwn (MarkStaged numbers) = ⊥
-IsOwn (Remove numbers) = ⊥
+IsOwn (MarkStaged numbers) = ⊤
+IsOwn (Remove numbers) = ⊤
 IsOwn (Retire numbers) = ⊥
 
 -- at most one entry
-abbrev One : List Entry → Type 0
+abbrev pub One : List Entry → Type 0
 One [] = ⊤
 One (entry ∷ []) = ⊤
 One (entry ∷ other ∷ entries) = ⊥
@@ -74,7 +80,7 @@ abbrev pub Few : List Entry → Type 0
 Few [] = ⊤
 Few (entry ∷ entries) = Own entries
 
-one_few : (es : List Entry) → One es → Few es
+pub one_few : (es : List Entry) → One es → Few es
 one_few [] o = tt
 one_few (x ∷ []) o = tt
 one_few (x ∷ y ∷ es) o = absurd o
@@ -95,17 +101,17 @@ joined (x ∷ y ∷ xs) ys o w = absurd o
 abbrev pub Grown : Core → Core → Type 0
 Grown a b = (more : List Entry) × (journal_of b ≡ journal_of a ++ more)
 
-same_journal : (a b : Core) → journal_of b ≡ journal_of a → Grown a b
+pub same_journal : (a b : Core) → journal_of b ≡ journal_of a → Grown a b
 same_journal a b e = ([], e ∙ sym (append-nil (journal_of a)))
 
-grown_on : (a b c : Core) → Grown a b → Grown b c → Grown a c
+pub grown_on : (a b c : Core) → Grown a b → Grown b c → Grown a c
 grown_on a b c g h = (g.0 ++ h.0, h.1 ∙ ap (λ l. l ++ h.0) g.1 ∙ append_assoc (journal_of a) g.0 h.0)
 
 -- the files stay, and nothing is taken in
-record Still (a b : Core) : Type 0 where
-  files : Stay a.files b.files
-  history : b.history ≡ a.history
-  journal : Grown a b
+pub record Still (a b : Core) : Type 0 where
+  pub files : Stay a.files b.files
+  pub history : b.history ≡ a.history
+  pub journal : Grown a b
 
 -- the files stay, and these entries are taken in
 pub record Takes (P : List Entry → Type 0) (a b : Core) : Type 0 where
@@ -115,8 +121,26 @@ pub record Takes (P : List Entry → Type 0) (a b : Core) : Type 0 where
   pub few : P more
   pub journal : Grown a b
 
+-- ---- where a file may be deleted
+
+-- From one core to another a number was freed: its row is marked or gone behind it, and was not published before.
+pub record Freed (a b : Core) (number : ℕ) : Type 0 where
+  pub unpublished : (row : Row) → row_at (rows (history a.history)) number ≡ Some row → row.state ≡ Published → ⊥
+  pub given_up : IsGivenUp b.history number
+
+-- these entries are taken in, and the files stay, but for those of numbers that were freed
+pub record Leaves (a b : Core) : Type 0 where
+  pub files : (key bytes : List ℕ) → file_at a.files key ≡ Some bytes → (file_at b.files key ≡ Some bytes) ⊎ ((number : ℕ) × (key ≡ split_key number) × Freed a b number)
+  pub more : List Entry
+  pub grown : b.history ≡ a.history ++ more
+  pub few : Few more
+  pub journal : Grown a b
+
+pub leaves_of : {a b : Core} → Takes Few a b → Leaves a b
+leaves_of t = record { files = λ key bytes e. inl (t.files key bytes e); more = t.more; grown = t.grown; few = t.few; journal = t.journal }
+
 -- what a call changes beside the files, the history and what stands unread
-unmoved : (a b : Core) → b.files ≡ a.files → b.history ≡ a.history → b.standing ≡ a.standing → Still a b
+pub unmoved : (a b : Core) → b.files ≡ a.files → b.history ≡ a.history → b.standing ≡ a.standing → Still a b
 unmoved a b files history standing =
     record {
       files = λ key bytes e. subst (λ (fs : List File). file_at fs key ≡ Some bytes) (sym files) e;
@@ -124,19 +148,19 @@ unmoved a b files history standing =
       journal = same_journal a b (ap₂ with_unread history standing);
     }
 
-still : (core : Core) → Still core core
+pub still : (core : Core) → Still core core
 still core = unmoved core core refl refl refl
 
 still_on : {a b c : Core} → Still a b → Still b c → Still a c
 still_on {a} {b} {c} s t = record { files = λ key bytes e. t.files key bytes (s.files key bytes e); history = t.history ∙ s.history; journal = grown_on a b c s.journal t.journal }
 
-none : (P : List Entry → Type 0) {a b : Core} → P [] → Still a b → Takes P a b
+pub none : (P : List Entry → Type 0) {a b : Core} → P [] → Still a b → Takes P a b
 none P {a} nil s = record { files = s.files; more = []; grown = s.history ∙ sym (append-nil a.history); few = nil; journal = s.journal }
 
 pub takes_none : (core : Core) → Takes Few core core
 takes_none core = none Few tt (still core)
 
-behind : {P : List Entry → Type 0} {a b c : Core} → Still a b → Takes P b c → Takes P a c
+pub behind : {P : List Entry → Type 0} {a b c : Core} → Still a b → Takes P b c → Takes P a c
 behind {P} {a} {b} {c} s t =
     record {
       files = λ key bytes e. t.files key bytes (s.files key bytes e);
@@ -146,17 +170,17 @@ behind {P} {a} {b} {c} s t =
       journal = grown_on a b c s.journal t.journal;
     }
 
-before : {P : List Entry → Type 0} {a b c : Core} → Takes P a b → Still b c → Takes P a c
+pub before : {P : List Entry → Type 0} {a b c : Core} → Takes P a b → Still b c → Takes P a c
 before {P} {a} {b} {c} t s =
     record { files = λ key bytes e. s.files key bytes (t.files key bytes e); more = t.more; grown = s.history ∙ t.grown; few = t.few; journal = grown_on a b c t.journal s.journal }
 
-same : {P : List Entry → Type 0} {a b c : Core} → Takes P a b → c ≡ b → Takes P a c
+pub same : {P : List Entry → Type 0} {a b c : Core} → Takes P a b → c ≡ b → Takes P a c
 same {P} {a} t e = subst (Takes P a) (sym e) t
 
-weaker : (P Q : List Entry → Type 0) {a b : Core} → ((es : List Entry) → P es → Q es) → Takes P a b → Takes Q a b
+pub weaker : (P Q : List Entry → Type 0) {a b : Core} → ((es : List Entry) → P es → Q es) → Takes P a b → Takes Q a b
 weaker P Q f t = record { files = t.files; more = t.more; grown = t.grown; few = f t.more t.few; journal = t.journal }
 
-and_own : {a b c : Core} → Takes One a b → Takes Own b c → Takes Few a c
+pub and_own : {a b c : Core} → Takes One a b → Takes Own b c → Takes Few a c
 and_own {a} {b} {c} t u =
     record {
       files = λ key bytes e. u.files key bytes (t.files key bytes e);
@@ -167,7 +191,7 @@ and_own {a} {b} {c} t u =
     }
 
 -- an entry came to stand unread where none did
-comes : (core : Core) (entry : Entry) → core.standing ≡ None → (after : Core) → after.files ≡ core.files → after.history ≡ core.history → after.standing ≡ Some entry → Still core after
+pub comes : (core : Core) (entry : Entry) → core.standing ≡ None → (after : Core) → after.files ≡ core.files → after.history ≡ core.history → after.standing ≡ Some entry → Still core after
 comes core entry none after files history standing =
     record {
       files = λ key bytes e. subst (λ (fs : List File). file_at fs key ≡ Some bytes) (sym files) e;
@@ -197,7 +221,7 @@ landed_still [] core = still core
 landed_still (place ∷ places) core =
     still_on (land_still (slice_get core.late place) place core) (landed_still places (land_at (slice_get core.late place) place core))
 
-begun_still : (call : Call) (core : Core) → Still core (begun call core)
+pub begun_still : (call : Call) (core : Core) → Still core (begun call core)
 begun_still call core =
     still_on (unmoved core (record core { store_faults = risen core.store_faults call.rises }) refl refl refl) (landed_still call.lands (record core { store_faults = risen core.store_faults call.rises }))
 
@@ -221,29 +245,30 @@ landed_some [] one core s = s
 landed_some (place ∷ places) one core s =
     landed_some places one (land_at (slice_get core.late place) place core) (land_some (slice_get core.late place) place one core s)
 
-begun_some : (call : Call) (one : Entry) (core : Core) → core.standing ≡ Some one → (begun call core).standing ≡ Some one
+pub begun_some : (call : Call) (one : Entry) (core : Core) → core.standing ≡ Some one → (begun call core).standing ≡ Some one
 begun_some call one core s = landed_some call.lands one (record core { store_faults = risen core.store_faults call.rises }) s
 
 -- ---- creates and gets at the end
 
-tried_still : (b : Bool) (standing : Option Entry) (entry : Entry) (core : Core) → core.standing ≡ standing → Still core (tried b standing entry core)
-tried_still true None entry core q = comes core entry q _ refl refl refl
-tried_still true (Some other) entry core q = unmoved _ _ refl refl refl
-tried_still false standing entry core q = unmoved _ _ refl refl refl
+tried_still : (b : Effect) (standing : Option Entry) (entry : Entry) (core : Core) → core.standing ≡ standing → Still core (tried b standing entry core)
+tried_still done_at_once None entry core q = comes core entry q _ refl refl refl
+tried_still done_at_once (Some other) entry core q = unmoved _ _ refl refl refl
+tried_still done_late standing entry core q = unmoved _ _ refl refl refl
+tried_still done_never standing entry core q = unmoved _ _ refl refl refl
 
 behind_still : (standing : Option Entry) (entry : Entry) (core : Core) → core.standing ≡ standing → Still core (made_behind standing entry core).core
 behind_still None entry core q = comes core entry q _ refl refl refl
 behind_still (Some other) entry core q = still core
 
-made_still : (b c : Bool) (entry : Entry) (core : Core) → Still core (made_at b c entry core).core
+made_still : (b : Bool) (c : Effect) (entry : Entry) (core : Core) → Still core (made_at b c entry core).core
 made_still true c entry core = tried_still c core.standing entry core refl
 made_still false c entry core = behind_still core.standing entry core refl
 
-create_still : (call : Call) (entry : Entry) (core : Core) → Still core (create_at_end call entry core).core
-create_still call entry core = still_on (begun_still call core) (made_still (may_fail call core.store_faults) call.at_once entry (begun call core))
+pub create_still : (call : Call) (entry : Entry) (core : Core) → Still core (create_at_end call entry core).core
+create_still call entry core = still_on (begun_still call core) (made_still (may_fail call core.store_faults) call.effect entry (begun call core))
 
 -- what stands behind a create: this entry where it was made, and else the one that it met
-abbrev Fits : Made → Entry → Core → Type 0
+abbrev pub Fits : Made → Entry → Core → Type 0
 Fits made entry core = core.standing ≡ Some entry
 Fits (exists other) entry core = core.standing ≡ Some other
 Fits failed entry core = ⊤
@@ -252,20 +277,20 @@ behind_fits : (standing : Option Entry) (entry : Entry) (core : Core) → core.s
 behind_fits None entry core q = refl
 behind_fits (Some other) entry core q = q
 
-made_fits : (b c : Bool) (entry : Entry) (core : Core) → Fits (made_at b c entry core).answer entry (made_at b c entry core).core
+made_fits : (b : Bool) (c : Effect) (entry : Entry) (core : Core) → Fits (made_at b c entry core).answer entry (made_at b c entry core).core
 made_fits true c entry core = tt
 made_fits false c entry core = behind_fits core.standing entry core refl
 
-create_fits : (call : Call) (entry : Entry) (core : Core) → Fits (create_at_end call entry core).answer entry (create_at_end call entry core).core
-create_fits call entry core = made_fits (may_fail call core.store_faults) call.at_once entry (begun call core)
+pub create_fits : (call : Call) (entry : Entry) (core : Core) → Fits (create_at_end call entry core).answer entry (create_at_end call entry core).core
+create_fits call entry core = made_fits (may_fail call core.store_faults) call.effect entry (begun call core)
 
-taken_journal : (entry : Entry) (core : Core) → core.standing ≡ Some entry → Grown core (taken_in entry core)
+pub taken_journal : (entry : Entry) (core : Core) → core.standing ≡ Some entry → Grown core (taken_in entry core)
 taken_journal entry core s = same_journal core (taken_in entry core) (sym (ap (with_unread core.history) s))
 
 taken_one : (entry : Entry) (core : Core) → core.standing ≡ Some entry → Takes One core (taken_in entry core)
 taken_one entry core s = record { files = λ key bytes e. e; more = entry ∷ []; grown = refl; few = tt; journal = taken_journal entry core s }
 
-taken_own : (entry : Entry) (core : Core) → core.standing ≡ Some entry → IsOwn entry.act → Takes Own core (taken_in entry core)
+pub taken_own : (entry : Entry) (core : Core) → core.standing ≡ Some entry → IsOwn entry.act → Takes Own core (taken_in entry core)
 taken_own entry core s own = record { files = λ key bytes e. e; more = entry ∷ []; grown = refl; few = own; journal = taken_journal entry core s }
 
 taken_unless_one : (b unsure : Bool) (entry : Entry) (core : Core) → core.standing ≡ Some entry → Takes One core (taken_unless b unsure entry core).core
@@ -289,9 +314,9 @@ then_own (Err e) next t u = weaker One Few one_few t
 
 got_one : (b : Bool) (call : Call) (count : ℕ) (entry : Entry) (core : Core) → core.standing ≡ Some entry → Takes One core (got_at b call count entry core).core
 got_one true call count entry core s = none One tt (unmoved _ _ refl refl refl)
-got_one false call count entry core s = taken_unless_one call.short (core.unsure || call.at_once) entry core s
+got_one false call count entry core s = taken_unless_one call.short (core.unsure || is_at_once call.effect) entry core s
 
-get_one : (call : Call) (entry : Entry) (count : ℕ) (core : Core) → core.standing ≡ Some entry → Takes One core (get_at_end call entry count core).core
+pub get_one : (call : Call) (entry : Entry) (count : ℕ) (core : Core) → core.standing ≡ Some entry → Takes One core (get_at_end call entry count core).core
 get_one call entry count core s = behind (begun_still call core) (got_one (may_fail call core.store_faults) call count entry (begun call core) (begun_some call entry core s))
 
 -- ---- settling and appending
@@ -310,7 +335,7 @@ settle_one false first second core = none One tt (unless_short_still first.short
 settle_one true first second core =
     or_short_takes One tt first.short _ _ core _ (behind (create_still first (fence_of core) core) (settle_made_one second _ _ _ _ (create_fits first (fence_of core) core)))
 
-settled_one : (first second : Call) (core : Core) → Takes One core (settled first second core).core
+pub settled_one : (first second : Call) (core : Core) → Takes One core (settled first second core).core
 settled_one first second core = settle_one core.unsure first second core
 
 last_made_own : (count : ℕ) (entry : Entry) (m : Made) (core : Core) → IsOwn entry.act → Fits m entry core → Takes Own core (last_made count entry m core).core
@@ -322,7 +347,7 @@ last_unless_own : (r : Result ⊤ Unmade) (call : Call) (count : ℕ) (act : Act
 last_unless_own (Err e) call count act core own = none Own tt (still core)
 last_unless_own (Ok done) call count act core own = behind (create_still call (entry_of act core) core) (last_made_own count _ _ _ own (create_fits call (entry_of act core) core))
 
-last_own : (call : Call) (count : ℕ) (act : Act) (core : Core) → IsOwn act → Takes Own core (last_create call count act core).core
+pub last_own : (call : Call) (count : ℕ) (act : Act) (core : Core) → IsOwn act → Takes Own core (last_create call count act core).core
 last_own call count act core own = or_short_takes Own tt call.short _ _ core _ (last_unless_own (may_append act core) call count act core own)
 
 troubled_still : {A : Type 0} (r : Result A Trouble) (core : Core) → Still core (troubled_by r core).core
@@ -364,24 +389,25 @@ asked_and_looked_one fate core = asking_takes One tt fate.unasked _ core _ (λ c
 asked_few : (fate : Fate) (core : Core) → Takes Few core (asked fate core).core
 asked_few fate core = asking_takes Few tt fate.unasked _ core _ (λ c. none Few tt (still c))
 
-file_by_still : (b c d : Bool) (count : ℕ) (key bytes : List ℕ) (core : Core) → Still core (file_by b c d count key bytes core).core
-file_by_still true true true count key bytes core = still core
-file_by_still true true false count key bytes core = file_still false key bytes core
-file_by_still true false d count key bytes core = unmoved _ _ refl refl refl
+file_by_still : (b : Bool) (c : Effect) (d : Bool) (count : ℕ) (key bytes : List ℕ) (core : Core) → Still core (file_by b c d count key bytes core).core
+file_by_still true done_at_once true count key bytes core = still core
+file_by_still true done_at_once false count key bytes core = file_still false key bytes core
+file_by_still true done_late d count key bytes core = unmoved _ _ refl refl refl
+file_by_still true done_never d count key bytes core = still core
 file_by_still false c true count key bytes core = still core
 file_by_still false c false count key bytes core = file_still false key bytes core
 
 file_made_few : (call : Call) (key bytes : List ℕ) (core : Core) → Takes Few core (file_made call key bytes core).core
 file_made_few call key bytes core =
     or_short_takes Few tt call.short _ _ core _
-    (none Few tt (still_on (begun_still call core) (file_by_still (may_fail call core.store_faults) call.at_once _ core.store_faults key bytes (begun call core))))
+    (none Few tt (still_on (begun_still call core) (file_by_still (may_fail call core.store_faults) call.effect _ core.store_faults key bytes (begun call core))))
 
 -- a fetch takes nothing in
 asking_still : {E A : Type 0} (b : Bool) (e : E) (core : Core) (next : Core → Gives E A) → ((c : Core) → Still c (next c).core) → Still core (asking b e core next).core
 asking_still true e core next t = still core
 asking_still false e core next t = still_on (unmoved _ _ refl refl refl) (t (asked_clock core))
 
-got_still : (b : Bool) (count : ℕ) (call : Call) (core : Core) → Still core (or_short b no_memory call core (got_file (may_fail call core.store_faults) count (begun call core))).core
+pub got_still : (b : Bool) (count : ℕ) (call : Call) (core : Core) → Still core (or_short b no_memory call core (got_file (may_fail call core.store_faults) count (begun call core))).core
 got_still true count call core = begun_still call core
 got_still false count call core = still_same (begun_still call core) (got_file_same (may_fail call core.store_faults) count (begun call core))
   where
@@ -499,7 +525,7 @@ module _ (luck : indexing.Luck) (log : Log) (core : Core) where
   place_few indexer (staged held) = upload_few indexer held
   place_few indexer (uploaded held) = publish_few indexer held
 
-  indexer_few : (indexer : Indexer) → Takes Few core (step_indexer luck log indexer core).core
+  pub indexer_few : (indexer : Indexer) → Takes Few core (step_indexer luck log indexer core).core
   indexer_few indexer = same (place_few indexer indexer.place) (indexer_short_same luck.short _)
 
 -- ---- a client's step
@@ -520,47 +546,5 @@ module _ (luck : searching.Luck) (log : Log) (client : Client) (core : Core) whe
       same (weaker One Few one_few (asked_and_looked_one luck.world core)) (plan_same given.answer (asked_of (config_in given.core) text) client given.core)
   request_few (planned plan) = next_few plan plan.unfetched
 
-  client_few : Takes Few core (step_client luck log client core).core
+  pub client_few : Takes Few core (step_client luck log client core).core
   client_few = same (request_few client.request) (client_short_same luck.short client _)
-
--- ---- a line
-
-indexer_turn_few : (down : Bool) (luck : Luck) (i : ℕ) (node : Node) → Takes Few node.core (indexer_turn_by down luck i node).node.core
-indexer_turn_few true luck i node = none Few tt (still node.core)
-indexer_turn_few false luck i node = indexer_few (indexing_luck luck) node.log node.core (indexer_at node.indexers i)
-
-client_turn_few : (down : Bool) (luck : Luck) (name : List ℕ) (node : Node) → Takes Few node.core (client_turn_by down luck name node).node.core
-client_turn_few true luck name node = none Few tt (still node.core)
-client_turn_few false luck name node = client_few (searching_luck luck) node.log (client_named name node.clients) node.core
-
-full_few : (luck : Luck) (node : Node) (line : Line) → Takes Few node.core (full_turn luck node line).node.core
-full_few luck node (At moment) = none Few tt (unmoved _ _ refl refl refl)
-full_few luck node (Assign i names) = same (none Few tt (still node.core)) (assign_same (indexer_at node.indexers i).place i names (indexer_at node.indexers i) node)
-full_few luck node (StepIndexer i) = indexer_turn_few node.down luck i node
-full_few luck node (RestartIndexer i) = none Few tt (still node.core)
-full_few luck node (RestartClient name) = none Few tt (still node.core)
-full_few luck node RestartNode = same (loaded_few luck.world node.core) (restart_same _ _ node)
-full_few luck node (Open name text) = same (none Few tt (still node.core)) (open_same (client_named name node.clients).request name text (client_named name node.clients) node)
-full_few luck node (StepClient name) = client_turn_few node.down luck name node
-
-quiet_same : (line : Line) (node : Node) → (quiet line node).core ≡ node.core
-quiet_same (At moment) node = refl
-quiet_same (Assign i names) node = refl
-quiet_same (StepIndexer i) node = refl
-quiet_same (RestartIndexer i) node = refl
-quiet_same (RestartClient name) node = refl
-quiet_same RestartNode node = refl
-quiet_same (Open name text) node = refl
-quiet_same (StepClient name) node = refl
-
-or_quiet_same : (b : Bool) (line : Line) (turn : Turned) → (or_quiet b line turn).node.core ≡ turn.node.core
-or_quiet_same true line turn = quiet_same line turn.node
-or_quiet_same false line turn = refl
-
-turn_by_few : (b : Bool) (luck : Luck) (node : Node) (line : Line) → Takes Few node.core (turn_by b luck node line).node.core
-turn_by_few true luck node line = same (none Few tt (still node.core)) (quiet_same line node)
-turn_by_few false luck node line = same (full_few luck node line) (or_quiet_same luck.short line (full_turn luck node line))
-
--- THE FILES STAY behind each line.
-pub turn_few : (node : Node) (line : Line) (said : Option Outcome) (last : Node) → Turn node line said last → Takes Few node.core last.core
-turn_few node line said last turn = subst (λ t. Takes Few node.core t.node.core) turn.is (turn_by_few turn.luck.early turn.luck node line)

@@ -24,7 +24,7 @@ use Rattle.quick_node.specs.Reading.{max_config}
 use Rattle.quick_node.specs.Serve.{IsPrefixOf, Before}
 use Rattle.quick_node.specs.declared.error_line.End.{End as Ended}
 use Rattle.quick_node.specs.declared.error_line.End.TheVariants as ended
-use Rattle.quick_node.proofs.Files.{Few, Takes, created_few}
+use Rattle.quick_node.proofs.Files.{Few, Takes, created_few, leaves_of}
 use Rattle.quick_node.proofs.Reached.{stood_kept, landed_stand}
 
 -- ---- where nothing is late nothing lands
@@ -107,7 +107,7 @@ module _ (history : List Entry) (before : Before) (moment : ℕ) (i : IsIndexOf 
         exit = journal_of l.after;
         index = l.stands.world.index;
         goes_on = (journal_of l.after, ap (λ (es : List Entry). es ++ journal_of l.after) (sym l.none));
-        along = stood_kept before.kept l.stands.kept first_core l.after before.log first_world l.stands.world (creating (Ok tt) l.after l.creates);
+        along = stood_kept before.kept l.stands.kept first_core l.after before.log first_world l.stands.world (leaves_of (creating (Ok tt) l.after l.creates));
         said = says.0;
         written = says.1;
         ends = said_so l.stands.kept (journal_of l.after) store read low written says.0 end short (record { vacant = l.none; config = l.config; sole = l.sole }) at says.2;
@@ -158,7 +158,7 @@ module _ (history : List Entry) (before : Before) (moment : ℕ) (i : IsIndexOf 
           exit = journal_of l.after;
           index = l.world.index;
           goes_on = unread_on history l.after.history l.creates.grown.0 l.after.standing l.creates.grown.1;
-          along = stood_kept before.kept l.kept first_core l.after before.log first_world l.world (creating (Err l.why) l.after l.creates);
+          along = stood_kept before.kept l.kept first_core l.after before.log first_world l.world (leaves_of (creating (Err l.why) l.after l.creates));
           said = [];
           written = still ∙ ap Some (sym (append-nil before.written));
           ends = (short, why_not error l.kept new same l n f, refl);

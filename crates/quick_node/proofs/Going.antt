@@ -8,7 +8,7 @@ use Rattle.byte_fields.specs.Causes.{Rose}
 use Rattle.node_run.specs.declared.drive.Accepts.TheVariants as accepts
 use Rattle.node_run.specs.Calm.{log_counts}
 use Rattle.node_run.specs.Lines.{Spells, outcome_text, printed}
-use Rattle.node_run.specs.Node.{Node, Line, At, Assign, StepIndexer, RestartIndexer, RestartClient, RestartNode, Open, StepClient, Outcome}
+use Rattle.node_run.specs.Node.{Node, Line, At, Assign, StepIndexer, RestartIndexer, RestartClient, StepCollector, RestartCollector, RestartNode, Open, StepClient, Outcome}
 use Rattle.node_run.specs.Standing.{accepts_of}
 use Rattle.node_run.specs.Telling.{MayTell}
 use Rattle.node_run.specs.Turns.{Turn}
@@ -22,6 +22,7 @@ use Rattle.quick_node.specs.declared.lines.Next.TheVariants as next
 use Rattle.quick_node.specs.Pieces.{ComesLine, Comes}
 use Rattle.quick_node.specs.Reading.{raw_lines, Fit, fits, falls_or_unknown, too_many_clients, fit_if, fit_of, with_client_name, names_in, last_moment, max_clients, Ending, all_read, bad_line, clients_over, line_over, input_over, stopped, IsBad, Reads}
 use Rattle.quick_node.specs.Running.{AreNamed, HasAnswered, HasRead, IsGoing, Does, IsNotTaken, WroteFront, EndsLine, TakesLine, IsRunEnd, Counts, Runs, done_behind, GoesOrEnds, RunsOrShort}
+use Rattle.quick_node.specs.Collects.{LineCollects}
 use Rattle.quick_node.specs.Once.{Reaches}
 use Rattle.quick_node.specs.Serve.{TurnsAlong, by_reading, read_failed, write_failed, out_of_memory}
 use Rattle.quick_node.proofs.Clocks.{turn_ticks}
@@ -63,6 +64,8 @@ few_more readers lines (Assign i parts) few f = few
 few_more readers lines (StepIndexer i) few f = few
 few_more readers lines (RestartIndexer i) few f = few
 few_more readers lines (RestartClient name) few f = leb-true (length (with_client_name name (names_in [] lines))) max_clients (room_left _ f)
+few_more readers lines StepCollector few f = few
+few_more readers lines RestartCollector few f = few
 few_more readers lines RestartNode few f = few
 few_more readers lines (Open name text) few f = leb-true (length (with_client_name name (names_in [] lines))) max_clients (room_left _ f)
 few_more readers lines (StepClient name) few f = leb-true (length (with_client_name name (names_in [] lines))) max_clients (room_left _ f)
@@ -100,13 +103,18 @@ rose_earlier a b c d g r h = omega (arith, g, r, h)
 
 -- a line more leaves its files
 along_on : (node mid last : Node) (lines : List Line) (line : Line) (outcomes : List Outcome) (outcome : Outcome) → TurnsAlong node lines outcomes mid → Turn mid line (Some outcome) last →
-    Reaches mid.core last.core mid.log → TurnsAlong node (lines ++ line ∷ []) (outcomes ++ outcome ∷ []) last
-along_on node mid last [] line [] outcome ran turn reaches =
-    (last, subst (λ n. Turn n line (Some outcome) last) ran turn, subst (λ n. Reaches n.core last.core n.log) ran reaches, refl)
-along_on node mid last [] line (o ∷ os) outcome ran turn reaches = absurd ran
-along_on node mid last (l ∷ lines) line [] outcome ran turn reaches = absurd ran
-along_on node mid last (l ∷ lines) line (o ∷ os) outcome ran turn reaches =
-    (ran.0, ran.1, ran.2, along_on ran.0 mid last lines line os outcome ran.3 turn reaches)
+    Reaches mid.core last.core mid.log → LineCollects mid.core.history last.core.history (Some outcome) → TurnsAlong node (lines ++ line ∷ []) (outcomes ++ outcome ∷ []) last
+along_on node mid last [] line [] outcome ran turn reaches collects = (
+  last,
+  subst (λ n. Turn n line (Some outcome) last) ran turn,
+  subst (λ n. Reaches n.core last.core n.log) ran reaches,
+  subst (λ (n : Node). LineCollects n.core.history last.core.history (Some outcome)) ran collects,
+  refl,
+)
+along_on node mid last [] line (o ∷ os) outcome ran turn reaches collects = absurd ran
+along_on node mid last (l ∷ lines) line [] outcome ran turn reaches collects = absurd ran
+along_on node mid last (l ∷ lines) line (o ∷ os) outcome ran turn reaches collects =
+    (ran.0, ran.1, ran.2, ran.3, along_on ran.0 mid last lines line os outcome ran.4 turn reaches collects)
 
 pub begins : (Stands : Node → Type 0) (input : List ℕ) (begun : Node) (held : List ℕ) (content left : Option (List ℕ)) → begun.core.clock ≡ 0 → begun.clients ≡ [] →
     Stands begun → left ≡ Some input → content ≡ Some held → IsGoing Stands (length begun.indexers) input begun held content left [] 0 0
@@ -256,7 +264,7 @@ module _ (Stands : Node → Type 0) (readers : ℕ) (input : List ℕ) (begun : 
           outcomes = going.outcomes ++ t.0 ∷ [];
           mid = d.last;
           turns = turns_go_on begun going.mid d.last going.lines d.line going.outcomes t.0 going.turns d.turn;
-          along = along_on begun going.mid d.last going.lines d.line going.outcomes t.0 going.along d.turn d.reaches;
+          along = along_on begun going.mid d.last going.lines d.line going.outcomes t.0 going.along d.turn d.reaches d.collects;
           tell = All-snoc MayTell going.outcomes t.0 going.tell d.tells;
           has = answered_more readers going.lines going.mid d.line t.0 d.last going.has (line_is_fit Stands' d.line d.spells d.taken) d.turn;
           stands = d.stands;
@@ -306,7 +314,7 @@ module _ (Stands : Node → Type 0) (readers : ℕ) (input : List ℕ) (begun : 
             );
             last = d.last;
             did = turns_go_on begun going.mid d.last going.lines d.line going.outcomes outcome going.turns d.turn;
-            along = inl (along_on begun going.mid d.last going.lines d.line going.outcomes outcome going.along d.turn d.reaches);
+            along = inl (along_on begun going.mid d.last going.lines d.line going.outcomes outcome going.along d.turn d.reaches d.collects);
             tell = All-snoc MayTell going.outcomes outcome going.tell d.tells;
             stands = d.stands;
             text = printed going.outcomes ++ w.0;
@@ -363,7 +371,7 @@ module _ (Stands : Node → Type 0) (readers : ℕ) (input : List ℕ) (begun : 
             ends = reads_stopped readers input (going.lines ++ d.line ∷ []) taken' (hand' ++ behind') (read_more Stands' d.line d.spells d.taken);
             last = d.last;
             did = inl (turns_go_on begun going.mid d.last going.lines d.line going.outcomes outcome going.turns d.turn);
-            along = inl (along_on begun going.mid d.last going.lines d.line going.outcomes outcome going.along d.turn d.reaches);
+            along = inl (along_on begun going.mid d.last going.lines d.line going.outcomes outcome going.along d.turn d.reaches d.collects);
             tell = All-snoc MayTell going.outcomes outcome going.tell d.tells;
             stands = d.stands;
             text = printed going.outcomes;

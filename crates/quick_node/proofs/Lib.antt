@@ -19,14 +19,22 @@ pub mod LongerLog
 pub mod UpToLast
 pub mod Onces
 pub mod Files
+mod EntryRows
+mod CollectorKeeps
+mod Collected
+mod Leaving
 pub mod Reached
 pub mod Driven
 pub mod Bytes
 mod Caused
 mod NewIndex
+mod FaultCalls
+mod CollectorFaults
 mod Faulting
 mod Telling
 mod Catching
+mod Gathered
+mod Expiring
 mod Sources
 pub mod Founding
 pub mod Founded

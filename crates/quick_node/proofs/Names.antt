@@ -9,9 +9,9 @@ use Rattle.index_world.specs.Calls as calls
 use Rattle.index_world.specs.Core.{Core}
 use Rattle.indexing_run.specs.Places.{Place, idle, reading, staged, uploaded}
 use Rattle.root_search.specs.Steps.{Request, no_request, opened, planned, Plan, Client, step_client, without_request}
-use Rattle.node_run.specs.Node.{Node, Line, At, Assign, StepIndexer, RestartIndexer, RestartClient, RestartNode, Open, StepClient, Outcome}
+use Rattle.node_run.specs.Node.{Node, Line, At, Assign, StepIndexer, RestartIndexer, RestartClient, StepCollector, RestartCollector, RestartNode, Open, StepClient, Outcome}
 use Rattle.node_run.specs.Turns as turning
-use Rattle.node_run.specs.Turns.{Turn, Turned, client_named, with_client, assign_at, indexer_at, indexer_turn_by, client_turn_by, searching_luck, open_by, restart_by, full_turn, or_quiet, turn_by}
+use Rattle.node_run.specs.Turns.{Turn, Turned, client_named, with_client, assign_at, indexer_at, indexer_turn_by, client_turn_by, collector_turn_by, searching_luck, open_by, restart_by, full_turn, or_quiet, turn_by}
 use Rattle.node_run.specs.Standing.{is_known}
 use Rattle.node_run.proofs.Names.{named_name, kept_by_request}
 use Rattle.node_run.proofs.Parts.{searched_name}
@@ -121,6 +121,10 @@ module _ (names : List (List ℕ)) (node : Node) (are : AreNamed names node.clie
   indexer_named true luck i = are
   indexer_named false luck i = are
 
+  collector_named : (down : Bool) (luck : turning.Luck) → AreNamed names (collector_turn_by down luck node).node.clients
+  collector_named true luck = are
+  collector_named false luck = are
+
   client_turn_named : (down : Bool) (luck : turning.Luck) (name : List ℕ) → AreNamed (with_client_name name names) (client_turn_by down luck name node).node.clients
   client_turn_named true luck name = kept_named names node.clients are name (client_named name node.clients) (named_name name node.clients)
   client_turn_named false luck name =
@@ -160,6 +164,8 @@ module _ (names : List (List ℕ)) (node : Node) (are : AreNamed names node.clie
   full_named luck (RestartIndexer i) = are
   full_named luck (RestartClient name) =
       kept_named names node.clients are name (without_request (client_named name node.clients)) (named_name name node.clients)
+  full_named luck StepCollector = collector_named node.down luck
+  full_named luck RestartCollector = are
   full_named luck RestartNode = let given = loaded luck.world node.core in restart_named given.answer given.core
   full_named luck (Open name text) = open_named (client_named name node.clients).request name text refl
   full_named luck (StepClient name) = client_turn_named node.down luck name
@@ -190,6 +196,8 @@ names_go_on names (Assign i parts ∷ lines) line = names_go_on names lines line
 names_go_on names (StepIndexer i ∷ lines) line = names_go_on names lines line
 names_go_on names (RestartIndexer i ∷ lines) line = names_go_on names lines line
 names_go_on names (RestartClient name ∷ lines) line = names_go_on (with_client_name name names) lines line
+names_go_on names (StepCollector ∷ lines) line = names_go_on names lines line
+names_go_on names (RestartCollector ∷ lines) line = names_go_on names lines line
 names_go_on names (RestartNode ∷ lines) line = names_go_on names lines line
 names_go_on names (Open name text ∷ lines) line = names_go_on (with_client_name name names) lines line
 names_go_on names (StepClient name ∷ lines) line = names_go_on (with_client_name name names) lines line
@@ -201,6 +209,8 @@ moments_go_on moment (Assign i parts ∷ lines) line = moments_go_on moment line
 moments_go_on moment (StepIndexer i ∷ lines) line = moments_go_on moment lines line
 moments_go_on moment (RestartIndexer i ∷ lines) line = moments_go_on moment lines line
 moments_go_on moment (RestartClient name ∷ lines) line = moments_go_on moment lines line
+moments_go_on moment (StepCollector ∷ lines) line = moments_go_on moment lines line
+moments_go_on moment (RestartCollector ∷ lines) line = moments_go_on moment lines line
 moments_go_on moment (RestartNode ∷ lines) line = moments_go_on moment lines line
 moments_go_on moment (Open name text ∷ lines) line = moments_go_on moment lines line
 moments_go_on moment (StepClient name ∷ lines) line = moments_go_on moment lines line

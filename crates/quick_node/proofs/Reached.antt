@@ -10,42 +10,50 @@ use Rattle.meta_journal.specs.Places.{split_key}
 use Rattle.meta_journal.specs.declared.entry.Act.{Act}
 use Rattle.meta_journal.specs.declared.entry.Act.TheVariants.{Fence, Create, Stage, Publish, Replace, Raise, Task, MarkStaged, Remove, Retire}
 use Rattle.meta_journal.specs.declared.entry.Entry.{Entry}
-use Rattle.meta_store.proofs.Numbers.{history-snoc}
+use Rattle.meta_store.proofs.GivenUp.{GivenUp-more}
+use Rattle.meta_store.proofs.Numbers.{each_found, history-snoc, row_below, staged_le}
 use Rattle.meta_store.proofs.RowLists.{AllOf-front, AllOf-both}
+use Rattle.meta_store.proofs.Sound.{sound}
 use Rattle.meta_store.proofs.Within.{placed}
 use Rattle.meta_store.specs.History.{History, history}
 use Rattle.meta_store.specs.History.History.{◌▸◌}
 use Rattle.meta_store.specs.Ledgers.{ledger}
-use Rattle.meta_store.specs.Numbers.{IsPlaced}
+use Rattle.meta_store.specs.Numbers.{Comes, IsGivenUp, IsPlaced}
 use Rattle.meta_store.specs.Rows.{rows}
 use Rattle.meta_store.specs.State.{Legal}
 use Rattle.object_store.specs.Store.{State, HasLanded}
 use Rattle.source_log.specs.Log.{Log, IsLog}
-use Rattle.split_states.specs.Rows.{published, change}
+use Rattle.split_states.specs.Rows.{published, change, row_at}
 use Rattle.split_states.specs.declared.rows.Row.{Row}
 use Rattle.split_states.specs.declared.rows.RowState.TheVariants.{Published}
 use Rattle.index_world.specs.Config.{reads}
 use Rattle.index_world.specs.Configuration.{configuration, config_or, index_of}
-use Rattle.index_world.specs.Core.{Core, with_unread, journal_of, file_at}
+use Rattle.index_world.specs.Core.{Core, Late, late_dead, late_entry, late_file, with_unread, journal_of, file_at}
 use Rattle.index_world.specs.Held.{KeepsHeld, Enters, AfterLanding}
-use Rattle.index_world.specs.Index.{IsIndexOf, IsRowKept, IsRowSound, IsTaken}
+use Rattle.index_world.specs.Index.{IsIndexOf, IsRowKept, IsRowSound, IsTaken, max_entries}
 use Rattle.index_world.specs.Seen.{contents}
+use Rattle.index_world.specs.Standing.{IsCalled}
 use Rattle.index_world.specs.World.{IsWorld}
 use Rattle.index_world.proofs.Asking.{Begun, begun_history}
 use Rattle.index_world.proofs.Configured.{configured-more, rows_under}
 use Rattle.index_world.proofs.Indexing.{index-HasLanded}
 use Rattle.index_world.proofs.Journals.{once, one-journal}
 use Rattle.index_world.proofs.Numbers.{revision_is}
-use Rattle.index_world.proofs.StoreKeys.{split_outside}
+use Rattle.index_world.proofs.StoreChanges.{All-each, last_within}
+use Rattle.index_world.proofs.StoreKeys.{split_key-injective, split_outside}
 use Rattle.index_world.proofs.Taken.{legal_unread, stands_shown}
 use Rattle.node_run.specs.declared.drive.DriveNode.{DriveNode}
 use Rattle.node_run.specs.Node.{Node, Line, Outcome}
 use Rattle.node_run.specs.Standing.{NodeStands}
 use Rattle.node_run.specs.Turns.{Turn}
+use Rattle.node_run.proofs.CallTells.{IsLow}
 use Rattle.split_bundle.specs.declared.placed.Placed.{Placed}
-use Rattle.quick_node.specs.Once.{published as shown_rows, held_at, IsStanding, AreStanding, Reaches}
-use Rattle.quick_node.proofs.Files.{Few, Takes, IsOwn, takes_none, turn_few}
+use Rattle.quick_node.specs.Collects.{LineCollects}
+use Rattle.quick_node.specs.Once.{published as shown_rows, held_at, IsGivenUpKey, IsStanding, AreStanding, Reaches}
+use Rattle.quick_node.proofs.Files.{Few, Freed, IsOwn, Leaves, leaves_of, takes_none}
+use Rattle.quick_node.proofs.Leaving.{LineLeaves, turn_leaves}
 use Rattle.quick_node.proofs.Onces.{covers_at, each_weaker, published_have}
+use Rattle.quick_node.proofs.EntryRows.{marks_leave, removes_leave}
 use Rattle.quick_node.proofs.SameLog.{turn_log}
 
 -- ---- the rows before an entry of one's own
@@ -63,19 +71,20 @@ before_change P n f (row ∷ list) back all = by (row.number == n) (λ more. bef
     by true on a = (back row a.0, a.1)
     by false on a = (a.0, on a.1)
 
-own_before : (kept : State) (config : IndexConfig) (log : Log) (h : History) (moment : ℕ) (act : Act) → IsOwn act → AreSound kept config log (h ▸ record { moment = moment; act = act }) → AreSound kept config log h
-own_before kept config log h moment Fence own all = absurd own
-own_before kept config log h moment (Create text) own all = all
-own_before kept config log h moment (Stage number delta facts) own all = AllOf-front (λ row. row.state ≡ Published → IsRowSound kept config (ledger reads h).tasks log row) (rows h) _ all
-own_before kept config log h moment (Publish n) own all =
+own_before : (kept : State) (config : IndexConfig) (log : Log) (h : History) (moment : ℕ) (act : Act) → IsOwn act → Legal reads h → Comes reads h moment act → AreSound kept config log (h ▸ record { moment = moment; act = act }) →
+    AreSound kept config log h
+own_before kept config log h moment Fence own legal may all = absurd own
+own_before kept config log h moment (Create text) own legal may all = all
+own_before kept config log h moment (Stage number delta facts) own legal may all = AllOf-front (λ row. row.state ≡ Published → IsRowSound kept config (ledger reads h).tasks log row) (rows h) _ all
+own_before kept config log h moment (Publish n) own legal may all =
     before_change (λ row. row.state ≡ Published → IsRowSound kept config (ledger reads h).tasks log row) n published (rows h)
     (λ row k e. let s = k refl in record { file = s.file; facts = s.facts; split = s.split }) all
-own_before kept config log h moment (Replace new old upto) own all = absurd own
-own_before kept config log h moment (Raise number upto) own all = absurd own
-own_before kept config log h moment (Task opstamp text fields times) own all = absurd own
-own_before kept config log h moment (MarkStaged numbers) own all = absurd own
-own_before kept config log h moment (Remove numbers) own all = absurd own
-own_before kept config log h moment (Retire numbers) own all = absurd own
+own_before kept config log h moment (Replace new old upto) own legal may all = absurd own
+own_before kept config log h moment (Raise number upto) own legal may all = absurd own
+own_before kept config log h moment (Task opstamp text fields times) own legal may all = absurd own
+own_before kept config log h moment (MarkStaged numbers) own legal may all = marks_leave (λ row. IsRowSound kept config (ledger reads h).tasks log row) h moment legal numbers may all
+own_before kept config log h moment (Remove numbers) own legal may all = removes_leave (λ row. IsRowSound kept config (ledger reads h).tasks log row) h moment legal numbers may all
+own_before kept config log h moment (Retire numbers) own legal may all = absurd own
 
 -- ---- lengths
 
@@ -123,7 +132,7 @@ taken_sound kept log es legal taken =
 sound_before : (kept : State) (log : Log) (es : List Entry) (entry : Entry) → Legal reads (history (es ++ entry ∷ [])) → IsOwn entry.act → 0 < length es → IsTaken kept (es ++ entry ∷ []) log → AreSound kept (config_or (configuration es)) log (history es)
 sound_before kept log es entry legal own some taken =
     subst (λ (c : IndexConfig). AreSound kept c log (history es)) (sym (ap config_or is))
-    (own_before kept config log (history es) entry.moment entry.act own
+    (own_before kept config log (history es) entry.moment entry.act own both.0 both.1.1
     (subst (λ (h : History). AreSound kept config log h) (history-snoc es entry)
     (each_weaker (IsRowKept kept config tasks log (history (es ++ entry ∷ []))) (λ row. row.state ≡ Published → IsRowSound kept config tasks log row) (rows (history (es ++ entry ∷ []))) (λ row k. k.published)
     (taken config (configured-more es entry both.0 both.1 config is)))))
@@ -143,9 +152,24 @@ sound_before kept log es entry legal own some taken =
     tasks : List DeleteTask
     tasks = (ledger reads (history (es ++ entry ∷ []))).tasks
 
+-- a number that was given up is so with what stands unread behind
+given_up_unread : (es : List Entry) (unread : Option Entry) (number : ℕ) → Legal reads (history (with_unread es unread)) → IsGivenUp es number → IsGivenUp (with_unread es unread) number
+given_up_unread es None number legal g = g
+given_up_unread es (Some entry) number legal g =
+    let both : Legal reads (history es ▸ entry) = subst (Legal reads) (history-snoc es entry) legal in GivenUp-more reads es entry number both.0 both.1 g
+
+-- late entries lie at most at the end of the history
+called_low : (entries : List Entry) (lates : List Late) → AllByRecursion (IsCalled entries) lates → AllByRecursion (IsLow (length entries)) lates
+called_low entries lates called = All-each (IsCalled entries) (IsLow (length entries)) lates low called
+  where
+    low : (late : Late) → IsCalled entries late → IsLow (length entries) late
+    low (late_entry number entry bytes) c = c.0
+    low (late_dead key bytes) c = tt
+    low (late_file key bytes) c = tt
+
 -- ---- a line
 
-module _ (old new : State) (core after : Core) (log : Log) (was : IsWorld old core log) (world : IsWorld new after log) (t : Takes Few core after) where
+module _ (old new : State) (core after : Core) (log : Log) (was : IsWorld old core log) (world : IsWorld new after log) (t : Leaves core after) where
   legal : Legal reads (history (journal_of after))
   legal = world.index.stands.legal
 
@@ -155,8 +179,34 @@ module _ (old new : State) (core after : Core) (log : Log) (was : IsWorld old co
   new_files : Among new (file_at after.files)
   new_files number bytes e = world.stands_for.files (split_key number) (split_outside number) ∙ e
 
-  old_files : Among old (file_at after.files)
-  old_files number bytes e = t.files (split_key number) bytes (was.stands_for.files (split_key number) (split_outside number) ∙ e)
+  -- the history before is a front of the whole journal
+  few_entries : length core.history ≤ max_entries
+  few_entries =
+      let a = length-append core.history t.more in
+      let b = ap length t.grown in
+      let c = unread_longer after.history after.standing in
+      omega (arith, a, b, c, world.index.stands.within)
+
+  old_legal : Legal reads (history core.history)
+  old_legal = legal_unread core.history core.standing was.index.stands.legal
+
+  -- a file of a row that was published before stands
+  old_file : (row : Row) → row_at (rows (history core.history)) row.number ≡ Some row → row.state ≡ Published → (bytes : List ℕ) → get old.objects (split_key row.number) ≡ Some bytes →
+      file_at after.files (split_key row.number) ≡ Some bytes
+  old_file row found is bytes e = by (t.files (split_key row.number) bytes (was.stands_for.files (split_key row.number) (split_outside row.number) ∙ e))
+    where
+      low : row.number ≤ max_entries
+      low = let a = row_below reads (history core.history) row.number row old_legal found in let b = last_within core.history old_legal in omega (arith, a, b, few_entries)
+
+      by : (file_at after.files (split_key row.number) ≡ Some bytes) ⊎ ((number : ℕ) × (split_key row.number ≡ split_key number) × Freed core after number) → file_at after.files (split_key row.number) ≡ Some bytes
+      by (inl stands) = stands
+      by (inr f) =
+          let a = staged_le (history after.history) f.0 f.2.given_up.staged in
+          let b = last_within after.history taken_legal in
+          let c = unread_longer after.history after.standing in
+          let few : f.0 ≤ max_entries = omega (arith, a, b, c, world.index.stands.within) in
+          let same : row.number ≡ f.0 = split_key-injective row.number f.0 (omega (arith, low)) (omega (arith, few)) f.1 in
+          absurd (f.2.unpublished row (ap (row_at (rows (history core.history))) (sym same) ∙ found) is)
 
   holds : (revision : ℕ) (es : List Entry) → take revision (journal_of after) ≡ es → Stand (file_at after.files) log es → AreStanding (file_at after.files) revision (journal_of after) log
   holds revision es e s = subst (Stand (file_at after.files) log) (sym e) s
@@ -169,8 +219,14 @@ module _ (old new : State) (core after : Core) (log : Log) (was : IsWorld old co
 
   first : Stand (file_at after.files) log core.history
   first =
-      sound_stand old (file_at after.files) log core.history old_files
-      (taken_sound old log core.history (legal_unread core.history core.standing was.index.stands.legal) was.taken)
+      let config = config_or (configuration core.history) in
+      let tasks = (ledger reads (history core.history)).tasks in
+      published_have (λ row. IsStanding (file_at after.files) config (contents config tasks row log) row) (rows (history core.history))
+      (each_weaker (λ (row : Row). (row_at (rows (history core.history)) row.number ≡ Some row) × (row.state ≡ Published → IsRowSound old config tasks log row))
+      (λ row. row.state ≡ Published → IsStanding (file_at after.files) config (contents config tasks row log) row) (rows (history core.history))
+      (λ row k e. let s = k.1 e in record { file = old_file row k.0 e _ s.file; split = s.split })
+      (AllOf-both (λ (row : Row). row_at (rows (history core.history)) row.number ≡ Some row) (λ row. row.state ≡ Published → IsRowSound old config tasks log row) (rows (history core.history))
+      (each_found (rows (history core.history)) (sound reads (history core.history) old_legal).held.apart) (taken_sound old log core.history old_legal was.taken)))
 
   -- of an entry that was settled or adopted, before one's own
   between : (x f : Entry) → after.history ≡ core.history ++ (x ∷ f ∷ []) → IsOwn f.act → Stand (file_at after.files) log (core.history ++ x ∷ [])
@@ -224,8 +280,12 @@ module _ (old new : State) (core after : Core) (log : Log) (was : IsWorld old co
           covers = covers_at revision (journal_of after) log is legal;
         };
         goes_on = t.journal;
-        stay = λ number bytes e. inl (t.files (split_key number) bytes e);
+        stay = λ key bytes e. by key bytes (t.files key bytes e);
       }
+    where
+      by : (key bytes : List ℕ) → (file_at after.files key ≡ Some bytes) ⊎ ((number : ℕ) × (key ≡ split_key number) × Freed core after number) → (file_at after.files key ≡ Some bytes) ⊎ IsGivenUpKey (journal_of after) key
+      by key bytes (inl stands) = inl stands
+      by key bytes (inr f) = inr (f.0, f.1, given_up_unread after.history after.standing f.0 legal f.2.given_up)
 
   -- the same in the words of the store
   pub stood_kept : (revision : ℕ) → length (journal_of core) ≤ revision → AreStanding (get new.objects) revision (journal_of after) log
@@ -239,14 +299,23 @@ module _ (old new : State) (core after : Core) (log : Log) (was : IsWorld old co
 -- nothing was done
 pub reaches_itself : (kept : State) (core : Core) (log : Log) → IsLog log → IsWorld kept core log → Reaches core core log
 reaches_itself kept core log is world =
-    reaches kept kept core core log world world (takes_none core) is
+    reaches kept kept core core log world world (leaves_of (takes_none core)) is
 
 -- a line of a node of the code
-pub line_reaches : {S L : Type 0} (told : L → Option Log) (count : L → ℕ) (since : L → L → Type 0) (firsts : List L) (old new : DriveNode S L) (node last : Node) (line : Line) (said : Option Outcome) →
-    NodeStands told count since firsts old node → NodeStands told count since firsts new last → Turn node line said last → Reaches node.core last.core node.log
-line_reaches told count since firsts old new node last line said was stands turn =
-    reaches was.world_stands.kept stands.world_stands.kept node.core last.core node.log was.world_stands.world
-    (subst (λ (l : Log). IsWorld stands.world_stands.kept last.core l) (turn_log node line said last turn) stands.world_stands.world) (turn_few node line said last turn) was.is_log
+module _ {S L : Type 0} (told : L → Option Log) (count : L → ℕ) (since : L → L → Type 0) (firsts : List L) (old new : DriveNode S L) (node last : Node) (line : Line) (said : Option Outcome)
+    (was : NodeStands told count since firsts old node) (stands : NodeStands told count since firsts new last) (turn : Turn node line said last) where
+  line_leaves : LineLeaves node.core (record { said = said; node = last })
+  line_leaves =
+      turn_leaves node line said last was.world_stands.opened (called_low node.core.history node.core.late was.world_stands.world.stands_for.called)
+      (legal_unread last.core.history last.core.standing stands.world_stands.world.index.stands.legal) turn
+
+  pub line_reaches : Reaches node.core last.core node.log
+  line_reaches =
+      reaches was.world_stands.kept stands.world_stands.kept node.core last.core node.log was.world_stands.world
+      (subst (λ (l : Log). IsWorld stands.world_stands.kept last.core l) (turn_log node line said last turn) stands.world_stands.world) line_leaves.leaves was.is_log
+
+  pub line_collects : LineCollects node.core.history last.core.history said
+  line_collects = line_leaves.did
 
 -- ---- landings
 

@@ -6,8 +6,8 @@ use Rattle.index_world.specs.Calls as calls
 use Rattle.index_world.specs.Core.{Core}
 use Rattle.indexing_run.specs.Places.{Place, idle, reading, staged, uploaded, Indexer}
 use Rattle.root_search.specs.Steps.{Request, no_request, opened, planned, Client}
-use Rattle.node_run.specs.Node.{Node, Line, At, Assign, StepIndexer, RestartIndexer, RestartClient, RestartNode, Open, StepClient, Outcome}
-use Rattle.node_run.specs.Turns.{Luck, Turned, indexer_at, assign_at, indexer_turn_by, client_turn_by, client_named, open_by, restart_by, full_turn, quiet, or_quiet, turn_by, Turn, Turns}
+use Rattle.node_run.specs.Node.{Node, Line, At, Assign, StepIndexer, RestartIndexer, RestartClient, StepCollector, RestartCollector, RestartNode, Open, StepClient, Outcome}
+use Rattle.node_run.specs.Turns.{Luck, Turned, indexer_at, assign_at, indexer_turn_by, client_turn_by, collector_turn_by, client_named, open_by, restart_by, full_turn, quiet, or_quiet, turn_by, Turn, Turns}
 use Rattle.quick_node.specs.Running.{StopsShort, HasRun}
 use Rattle.quick_node.specs.Serve.{End, by_reading, no_index, opening_failed, read_failed, write_failed, out_of_memory}
 
@@ -36,12 +36,18 @@ client_log : (down : Bool) (luck : Luck) (name : List ℕ) (node : Node) → (cl
 client_log true luck name node = refl
 client_log false luck name node = refl
 
+collector_log : (down : Bool) (luck : Luck) (node : Node) → (collector_turn_by down luck node).node.log ≡ node.log
+collector_log true luck node = refl
+collector_log false luck node = refl
+
 full_log : (luck : Luck) (node : Node) (line : Line) → (full_turn luck node line).node.log ≡ node.log
 full_log luck node (At moment) = refl
 full_log luck node (Assign i names) = assign_log (indexer_at node.indexers i).place i names (indexer_at node.indexers i) node
 full_log luck node (StepIndexer i) = indexer_log node.down luck i node
 full_log luck node (RestartIndexer i) = refl
 full_log luck node (RestartClient name) = refl
+full_log luck node StepCollector = collector_log node.down luck node
+full_log luck node RestartCollector = refl
 full_log luck node RestartNode = let given = loaded luck.world node.core in restart_log given.answer given.core node
 full_log luck node (Open name text) = open_log (client_named name node.clients).request name text (client_named name node.clients) node
 full_log luck node (StepClient name) = client_log node.down luck name node
@@ -52,6 +58,8 @@ quiet_log (Assign i names) node = refl
 quiet_log (StepIndexer i) node = refl
 quiet_log (RestartIndexer i) node = refl
 quiet_log (RestartClient name) node = refl
+quiet_log StepCollector node = refl
+quiet_log RestartCollector node = refl
 quiet_log RestartNode node = refl
 quiet_log (Open name text) node = refl
 quiet_log (StepClient name) node = refl

@@ -28,10 +28,14 @@ use Rattle.search_api.specs.declared.reply.Said.{Said}
 use Rattle.search_api.specs.declared.reply.Said.TheVariants.{Found, Deleted, Refused}
 use Rattle.search_api.specs.declared.unanswered.Unanswered.{Unanswered}
 use Rattle.search_api.specs.declared.unanswered.Unanswered.TheVariants as reasons
-use Rattle.node_run.specs.Node.{Node, Line, At, Assign, StepIndexer, RestartIndexer, RestartClient, RestartNode, Open, StepClient, Outcome, client_said}
+use Rattle.split_collector.specs.Outcomes.{Outcome as CollectorOutcome}
+use Rattle.split_collector.specs.Steps.{step_collector}
+use Rattle.node_run.specs.Node.{Node, Line, At, Assign, StepIndexer, RestartIndexer, RestartClient, StepCollector, RestartCollector, RestartNode, Open, StepClient, Outcome, client_said}
 use Rattle.node_run.specs.Turns as node_turns
-use Rattle.node_run.specs.Turns.{full_turn, turn_with, turn_by, or_quiet, quiet, Turn, Turns, Turned, client_named, with_client, keep_client, said_by_indexer, indexer_stepped, indexer_turn_by, said_by_client, client_turn_by, client_stepped, assign_at, open_by, restart_by, indexer_at, indexing_luck, searching_luck}
-use Rattle.node_run.proofs.Moving.{Grows, same_grows, asked_and_looked_moves, each_moves, plan_same, indexer_moves, client_moves, loaded_moves, turns_later}
+use Rattle.node_run.specs.Turns.{full_turn, turn_with, turn_by, or_quiet, quiet, Turn, Turns, Turned, client_named, with_client, keep_client, said_by_indexer, indexer_stepped, indexer_turn_by, said_by_client, client_turn_by, client_stepped, collecting_luck, said_by_collector, collector_turn_by, assign_at, open_by, restart_by, indexer_at, indexing_luck, searching_luck}
+use Rattle.node_run.proofs.CallMoves.{Grows, same_grows, asked_and_looked_moves, each_moves, loaded_moves}
+use Rattle.node_run.proofs.CollectorMoves.{collector_moves}
+use Rattle.node_run.proofs.Moving.{plan_same, indexer_moves, client_moves, turns_later}
 use Rattle.quick_node.specs.Serve.{IsPrefixOf, Known, known_of, after_outcome, config_then, IfFound, AnswersOne, AnswersFrom}
 
 same-true : (a b : List ℕ) → bytes_eq a b ≡ true → a ≡ b
@@ -461,6 +465,17 @@ module _ (exit : List Entry) (least : ℕ) (knowns : List Known) (node : Node) (
       let step = step_indexer (indexing_luck luck) node.log (indexer_at node.indexers i) node.core in
       indexer_said_goes step.outcome i (indexer_stepped i node step).node refl (indexer_moves (indexing_luck luck) node.log (indexer_at node.indexers i) node.core).later.grows refl
 
+  collector_said_goes : (said : Option CollectorOutcome) (core : Core) → Grows node.core core →
+      TurnGoes exit least knowns node StepCollector (record { said = said_by_collector said; node = record node { core = core } })
+  collector_said_goes None core g = unsaid_goes exit least knowns node StepCollector (record node { core = core })
+  collector_said_goes (Some o) core g = other_goes StepCollector _ (record node { core = core }) refl g refl refl tt
+
+  collector_goes : (down : Bool) (luck : node_turns.Luck) → TurnGoes exit least knowns node StepCollector (collector_turn_by down luck node)
+  collector_goes true luck = other_goes StepCollector _ node refl (same_grows node.core node.core refl) refl refl tt
+  collector_goes false luck =
+      let step = step_collector (collecting_luck luck) node.core in
+      collector_said_goes step.outcome step.core (collector_moves (collecting_luck luck) node.core).later.grows
+
   assign_goes : (place : Place) (i : ℕ) (names : List (List ℕ)) (indexer : Indexer) → TurnGoes exit least knowns node (Assign i names) (assign_at place i names indexer node)
   assign_goes idle i names indexer = other_goes (Assign i names) _ _ refl (same_grows node.core node.core refl) refl refl tt
   assign_goes (reading batch) i names indexer = other_goes (Assign i names) _ node refl (same_grows node.core node.core refl) refl refl tt
@@ -475,6 +490,8 @@ module _ (exit : List Entry) (least : ℕ) (knowns : List Known) (node : Node) (
   full_goes luck (StepIndexer i) l p = indexer_goes node.down luck i
   full_goes luck (RestartIndexer i) l p = other_goes (RestartIndexer i) _ _ refl (same_grows node.core node.core refl) refl refl tt
   full_goes luck (RestartClient name) l p = restarted_goes exit least knowns node name all _ refl tt
+  full_goes luck StepCollector l p = collector_goes node.down luck
+  full_goes luck RestartCollector l p = other_goes RestartCollector _ node refl (same_grows node.core node.core refl) refl refl tt
   full_goes luck RestartNode l p =
       let given = loaded luck.world node.core in restart_goes given.answer given.core (loaded_moves luck.world node.core).later.grows
   full_goes luck (Open name text) l p = opened_goes exit least knowns node name all (client_named name node.clients).request text

@@ -22,9 +22,10 @@ use Rattle.indexing_run.specs.Steps.{LogCall, Stepped, stepped, log_may_fail, lo
 use Rattle.indexing_run.specs.Steps as indexing
 use Rattle.root_search.specs.Steps.{Request, no_request, opened, planned, Client}
 use Rattle.root_search.specs.declared.outcome.SearchStep.{SearchStep}
+use Rattle.split_collector.specs.Outcomes.{Outcome as CollectorOutcome}
 use Rattle.node_run.specs.Calm.{log_counts}
-use Rattle.node_run.specs.Node.{Node, Line, At, Assign, StepIndexer, RestartIndexer, RestartClient, RestartNode, Open, StepClient, Outcome}
-use Rattle.node_run.specs.Turns.{Luck, Turned, made_idle, indexer_at, indexing_luck, said_by_indexer, said_by_client, assign_at, indexer_turn_by, client_turn_by, client_named, open_by, restart_by, full_turn, quiet, or_quiet, turn_by, Turn, Turns}
+use Rattle.node_run.specs.Node.{Node, Line, At, Assign, StepIndexer, RestartIndexer, RestartClient, StepCollector, RestartCollector, RestartNode, Open, StepClient, Outcome}
+use Rattle.node_run.specs.Turns.{Luck, Turned, made_idle, indexer_at, indexing_luck, said_by_indexer, said_by_client, said_by_collector, assign_at, indexer_turn_by, client_turn_by, client_named, collector_turn_by, open_by, restart_by, full_turn, quiet, or_quiet, turn_by, Turn, Turns}
 use Rattle.quick_node.specs.Faults.{Interval, AreBetween, source_told, log_told}
 use Rattle.quick_node.specs.Serve.{Before, End, by_reading, no_index, opening_failed, read_failed, write_failed, out_of_memory, IsFresh, Opens, Answers, Unopened, RanShort, Lives}
 use Rattle.quick_node.proofs.Calmed.{reader_counts}
@@ -289,6 +290,14 @@ module _ (i : ℕ) (node : Node) (within : i < length node.indexers) (bound : co
   client_turn true luck name = quiet_turn _ refl refl refl
   client_turn false luck name = quiet_turn _ (client_quiet name _) refl refl
 
+  collector_quiet : (outcome : Option CollectorOutcome) → by_line i (said_by_collector outcome) ≡ []
+  collector_quiet None = refl
+  collector_quiet (Some outcome) = refl
+
+  collector_turn : (down : Bool) (luck : Luck) → Turns_ (collector_turn_by down luck node)
+  collector_turn true luck = quiet_turn _ refl refl refl
+  collector_turn false luck = quiet_turn _ (collector_quiet _) refl refl
+
   restart_turn : (r : Result ⊤ Unread) (core : Core) → Turns_ (restart_by r core node)
   restart_turn (Ok done) core = quiet_turn _ refl (idle_counts node.indexers i) (idle_long node.indexers)
   restart_turn (Err (not_read (faulted fault))) core = quiet_turn _ refl (idle_counts node.indexers i) (idle_long node.indexers)
@@ -304,6 +313,8 @@ module _ (i : ℕ) (node : Node) (within : i < length node.indexers) (bound : co
   full_tells luck (StepIndexer j) = indexer_turn node.down luck j
   full_tells luck (RestartIndexer j) = quiet_turn _ refl (set_idle j) (set_long node.indexers j _)
   full_tells luck (RestartClient name) = quiet_turn _ refl refl refl
+  full_tells luck StepCollector = collector_turn node.down luck
+  full_tells luck RestartCollector = quiet_turn _ refl refl refl
   full_tells luck RestartNode = let given = loaded luck.world node.core in restart_turn given.answer given.core
   full_tells luck (Open name text) = open_turn (client_named name node.clients).request name text (client_named name node.clients)
   full_tells luck (StepClient name) = client_turn node.down luck name
@@ -314,6 +325,8 @@ module _ (i : ℕ) (node : Node) (within : i < length node.indexers) (bound : co
   quiet_counts (StepIndexer j) = set_idle j
   quiet_counts (RestartIndexer j) = set_idle j
   quiet_counts (RestartClient name) = refl
+  quiet_counts StepCollector = refl
+  quiet_counts RestartCollector = refl
   quiet_counts RestartNode = idle_counts node.indexers i
   quiet_counts (Open name text) = refl
   quiet_counts (StepClient name) = refl
@@ -324,6 +337,8 @@ module _ (i : ℕ) (node : Node) (within : i < length node.indexers) (bound : co
   quiet_long (StepIndexer j) = set_long node.indexers j _
   quiet_long (RestartIndexer j) = set_long node.indexers j _
   quiet_long (RestartClient name) = refl
+  quiet_long StepCollector = refl
+  quiet_long RestartCollector = refl
   quiet_long RestartNode = idle_long node.indexers
   quiet_long (Open name text) = refl
   quiet_long (StepClient name) = refl

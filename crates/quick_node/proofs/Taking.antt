@@ -11,7 +11,7 @@ use Rattle.node_run.specs.Node.{Node, Line, Outcome}
 use Rattle.node_run.specs.Standing.{NodeStands, accepts_of, DoesLine, IsSaid}
 use Rattle.quick_node.specs.declared.error_line.End.{End as Ended}
 use Rattle.quick_node.specs.Running.{Does, TakesLine}
-use Rattle.quick_node.proofs.Reached.{line_reaches}
+use Rattle.quick_node.proofs.Reached.{line_collects, line_reaches}
 
 false_is_true : false ≡ true → ⊥
 false_is_true e = cc
@@ -28,7 +28,18 @@ module _ {S L : Type 0} (told : L → Option Log) (count : L → ℕ) (since : L
   Behind n = NodeStands told count since firsts new n
 
   pub did_line : (result : Result OutLine AllocError) → (d : DoesLine told count since firsts node line result new) → Does Behind text node d.outcome
-  did_line result d = record { line = line; spells = spells; taken = taken; last = d.last; turn = d.turn; reaches = line_reaches told count since firsts old new node d.last line d.outcome was d.stands d.turn; tells = d.tells; stands = d.stands }
+  did_line result d =
+      record {
+        line = line;
+        spells = spells;
+        taken = taken;
+        last = d.last;
+        turn = d.turn;
+        reaches = line_reaches told count since firsts old new node d.last line d.outcome was d.stands d.turn;
+        collects = line_collects told count since firsts old new node d.last line d.outcome was d.stands d.turn;
+        tells = d.tells;
+        stands = d.stands;
+      }
 
   -- what was said, with its line feed
   said_by : (out : OutLine) (outcome : Option Outcome) → IsSaid (Ok out) outcome → (o : Outcome) × (outcome ≡ Some o) × (out.bytes ≡ outcome_text o)

@@ -10,7 +10,9 @@ use Rattle.search_api.specs.declared.reply.Refusal.{Refusal}
 use Rattle.search_api.specs.declared.reply.Refusal.TheVariants.{StoreFault}
 use Rattle.search_api.specs.declared.reply.Said.{Said}
 use Rattle.search_api.specs.declared.reply.Said.TheVariants.{Found, Deleted, Refused}
-use Rattle.node_run.specs.Node.{NodeFault, world_fault, no_index, Outcome, at_said, assigned, indexer_busy, indexer_said, indexer_down, indexer_restarted, client_restarted, node_restarted, node_failed, request_opened, request_busy, client_said, client_down}
+use Rattle.split_collector.specs.Outcomes.{Outcome as CollectorOutcome}
+use Rattle.split_collector.specs.Outcomes as collecting
+use Rattle.node_run.specs.Node.{NodeFault, world_fault, no_index, Outcome, at_said, assigned, indexer_busy, indexer_said, indexer_down, indexer_restarted, client_restarted, collector_said, collector_down, collector_restarted, node_restarted, node_failed, request_opened, request_busy, client_said, client_down}
 
 -- a count of faults before something failed and behind it
 pub record Interval : Type 0 where
@@ -58,6 +60,15 @@ indexer_told (indexing.Refused refusal) = []
 indexer_told (indexing.SourceFault before after) = []
 indexer_told (indexing.Faulted fault) = fault_told fault
 
+abbrev pub collector_told : CollectorOutcome → List Interval
+collector_told (collecting.MarkedStale count) = []
+collector_told (collecting.Doomed number) = []
+collector_told (collecting.Removed count) = []
+collector_told (collecting.Swept number) = []
+collector_told collecting.Nothing = []
+collector_told (collecting.Refused refusal) = []
+collector_told (collecting.Faulted fault) = fault_told fault
+
 abbrev pub node_told : NodeFault → List Interval
 node_told (world_fault fault) = fault_told fault
 node_told no_index = []
@@ -71,6 +82,9 @@ store_told (indexer_said indexer outcome) = indexer_told outcome
 store_told (indexer_down indexer) = []
 store_told (indexer_restarted indexer) = []
 store_told (client_restarted name) = []
+store_told (collector_said outcome) = collector_told outcome
+store_told collector_down = []
+store_told collector_restarted = []
 store_told (node_restarted revision) = []
 store_told (node_failed fault) = node_told fault
 store_told (request_opened name) = []
@@ -102,6 +116,9 @@ log_told i (indexer_said indexer outcome) = if indexer == i then source_told out
 log_told i (indexer_down indexer) = []
 log_told i (indexer_restarted indexer) = []
 log_told i (client_restarted name) = []
+log_told i (collector_said outcome) = []
+log_told i collector_down = []
+log_told i collector_restarted = []
 log_told i (node_restarted revision) = []
 log_told i (node_failed fault) = []
 log_told i (request_opened name) = []

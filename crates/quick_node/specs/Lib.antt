@@ -8,6 +8,8 @@ pub mod Running
 pub mod Causes
 pub mod Faults
 pub mod CaughtUp
+pub mod Collects
+pub mod Expires
 pub mod Creating
 pub mod Reporting
 pub mod Opening

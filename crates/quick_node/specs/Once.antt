@@ -91,11 +91,14 @@ AreLeft kept revision entries log = AllByRecursion (λ row. IsLeft kept entries 
 
 -- ---- from one core to another
 
+-- the key of a split whose row was marked, or is gone
+abbrev pub IsGivenUpKey : List Entry → (key : List ℕ) → Type 0
+IsGivenUpKey entries key = (number : ℕ) × (key ≡ split_key number) × IsGivenUp entries number
+
 -- What a line leaves. The journal goes on. At each revision that the line reached, from the end of the journal before it on, the rows
 -- that were published then have their files in the store as it is behind the line. And a file that stood before the line stands
--- there still, or its number was given up.
+-- there still, or is that of a number which was given up.
 pub record Reaches (before after : Core) (log : Log) : Type 0 where
   pub goes_on : (more : List Entry) × (journal_of after ≡ journal_of before ++ more)
   pub reached : (revision : ℕ) → length (journal_of before) ≤ revision → HoldsAt (file_at after.files) revision (journal_of after) log
-  pub stay : (number : ℕ) (bytes : List ℕ) → file_at before.files (split_key number) ≡ Some bytes →
-      (file_at after.files (split_key number) ≡ Some bytes) ⊎ IsGivenUp (journal_of after) number
+  pub stay : (key bytes : List ℕ) → file_at before.files key ≡ Some bytes → (file_at after.files key ≡ Some bytes) ⊎ IsGivenUpKey (journal_of after) key

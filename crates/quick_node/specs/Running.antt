@@ -13,6 +13,7 @@ use Rattle.node_run.specs.Telling.{MayTell, LineMayTell}
 use Rattle.node_run.specs.Turns.{Turn, Turns}
 use Rattle.quick_node.specs.declared.error_line.End.{End as Ended}
 use Rattle.quick_node.specs.declared.error_line.End.TheVariants as ended
+use Rattle.quick_node.specs.Collects.{LineCollects}
 use Rattle.quick_node.specs.Reading.{raw_lines, fits, fit_of, names_in, last_moment, max_clients, Within, all_read, bad_line, clients_over, line_over, input_over, stopped, Reads, FailsBehind}
 use Rattle.quick_node.specs.Once.{Reaches}
 use Rattle.quick_node.specs.Serve.{CutShort, WroteMost, TurnsAlong, RunAlong, End, by_reading, no_index, opening_failed, read_failed, write_failed, out_of_memory}
@@ -27,6 +28,7 @@ pub record Does (Stands : Node → Type 0) (text : List ℕ) (node : Node) (said
   pub last : Node
   pub turn : Turn node line said last
   pub reaches : Reaches node.core last.core node.log
+  pub collects : LineCollects node.core.history last.core.history said
   pub tells : LineMayTell said
   pub stands : Stands last
 

@@ -29,6 +29,8 @@ use Rattle.node_run.specs.Standing.{GivesLogs, LetGo}
 use Rattle.node_run.specs.Telling.{MayTell}
 use Rattle.node_run.specs.Turns.{Turn, Turns, turns, opened_node}
 use Rattle.quick_node.specs.CaughtUp.{unseen, CatchesUp}
+use Rattle.quick_node.specs.Collects.{LineCollects, CollectsFrom}
+use Rattle.quick_node.specs.Expires.{ExpiresOver}
 use Rattle.quick_node.specs.Faults.{Interval, AreBetween, store_told, log_told}
 use Rattle.quick_node.specs.Once.{HoldsOnce, CoversAt, AreLeft, Reaches}
 use Rattle.quick_node.specs.Reading.{Ending, all_read, bad_line, clients_over, line_over, input_over, stopped, Reads, FailsBehind, max_clients, max_line, max_input}
@@ -204,13 +206,15 @@ Lives before out_of_memory fresh lines outcomes last =
 
 -- ---- the files along the way
 
--- From this node the lines are answered by these outcomes, and that node stands behind them. Each line leaves its files.
+-- From this node the lines are answered by these outcomes, and that node stands behind them. Each line leaves its files, and what the collector says
+-- of one is what it did.
 abbrev pub TurnsAlong : Node → List Line → List Outcome → Node → Type 0
 TurnsAlong node [] [] last = last ≡ node
 TurnsAlong node [] (outcome ∷ outcomes) last = ⊥
 TurnsAlong node (line ∷ lines) [] last = ⊥
 TurnsAlong node (line ∷ lines) (outcome ∷ outcomes) last =
-    (mid : Node) × Turn node line (Some outcome) mid × Reaches node.core mid.core node.log × TurnsAlong mid lines outcomes last
+    (mid : Node) × Turn node line (Some outcome) mid × Reaches node.core mid.core node.log × LineCollects node.core.history mid.core.history (Some outcome)
+    × TurnsAlong mid lines outcomes last
 
 -- the same, and maybe a line more for which there was no memory
 abbrev pub RunAlong : Node → List Line → List Outcome → Node → Type 0
@@ -358,7 +362,12 @@ pub record Drives (history : List Entry) (before : Before) (after : After) (stat
       AreBetween (slice_index before.log_faults i) (flat_map (log_told i) outcomes) (slice_index after.log_faults i)
   -- each indexer says that it caught up exactly where the checkpoints that it saw are the ends of its partitions
   pub catch_up : (i : ℕ) → i < length before.log_faults → CatchesUp exit before.log i (length history) unseen lines outcomes
-  -- no line tells that a key is foreign, and what fails but for the entry of an indexer is the store
+  -- a search is refused as Expired only where the deletion grace had passed behind its plan
+  pub expires : (config : IndexConfig) → configuration history ≡ Some config → AllByRecursion (ExpiresOver config.deletion_grace) outcomes
+  -- what the collector says is what it did, each line behind the journal of those before it
+  pub collects : CollectsFrom exit (length history) outcomes
+  -- no line tells that a key is foreign or that an entry of the collector is refused, and what fails but for the entry of an indexer or of the
+  -- collector is the store
   pub tell : AllByRecursion MayTell outcomes
   -- the node of the store at entry did all this, whatever failed
   pub fresh : Node

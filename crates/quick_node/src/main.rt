@@ -182,6 +182,8 @@ fn main(rt: HostRuntime) -> ExitCode {
 }
 
 #[cfg(test)]
+mod collector_rows;
+#[cfg(test)]
 mod report_rows;
 #[cfg(test)]
 mod script;

@@ -435,10 +435,16 @@ record p0 {"body":"red hen"}
 failcall never 4
 > restart node
 > indexer 0
+> collector
+> restart collector
 > restart node
+> collector
 < node storefault 0 1
 < indexer 0 down
+< collector down
+< collector restarted
 < node restarted 1
+< collector nothing
 run 0
 row a source fails, and is given back with its count
 log

@@ -513,42 +513,6 @@ record p0 {"ts":1000,"body":"red hen"}
 < a planned 3 0
 < {"aggregations":{},"client":"a","hits":[],"num_hits":0,"revision":3}
 run 0
-row a fetch within the grace, and one behind it
-log
-record p0 {"body":"red fox"}
-> at 1000
-> indexer 0
-> indexer 0
-> indexer 0
-> indexer 0
-> indexer 0
-> client a {"search":{"query":"red"}}
-> client a
-> client b {"search":{"query":"red"}}
-> client b
-> at 1099
-> client a
-> at 1100
-> client b
-> client a
-> client b
-< at 1000
-< indexer 0 checkpoint
-< indexer 0 read 1
-< indexer 0 staged 1
-< indexer 0 uploaded 1
-< indexer 0 published 1
-< a opened
-< a planned 3 1
-< b opened
-< b planned 3 1
-< at 1099
-< a fetched 1
-< at 1100
-< {"client":"b","error":{"kind":"Expired","now":1100,"planned_at":1000},"revision":3}
-< {"aggregations":{},"client":"a","hits":[{"body":"red fox"}],"num_hits":1,"revision":3}
-< b idle
-run 0
 row a split file and an object of the journal without their last bytes
 log
 record p0 {"body":"red fox"}

@@ -1,5 +1,6 @@
 //! Rows of the commands, from scripts, and a table of failing store calls.
 
+use crate::collector_rows::COLLECTOR_ROWS;
 use crate::report_rows::REPORT_ROWS;
 use crate::script::ROWS;
 use crate::search_rows::SEARCH_ROWS;
@@ -541,7 +542,12 @@ fn rows_of_reports(rt: HostRuntime) -> Result<(), Fail> {
 
 #[test]
 fn rows_of_searches(rt: HostRuntime) -> Result<(), Fail> {
-    do_rows(&rt, rt.alloc(), SEARCH_ROWS, 26)
+    do_rows(&rt, rt.alloc(), SEARCH_ROWS, 25)
+}
+
+#[test]
+fn rows_of_the_collector(rt: HostRuntime) -> Result<(), Fail> {
+    do_rows(&rt, rt.alloc(), COLLECTOR_ROWS, 5)
 }
 
 const SCHEDULE: &str =

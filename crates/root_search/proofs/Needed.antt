@@ -1,5 +1,5 @@
 -- What is fetched of a split is what is needed.
-use Rattle.std.proofs.Common.{◌≡◌, ◌≤◌, ◌==◌, ◌&&◌, ℕ, zero, suc, ◌+◌, max, Bool, true, false, List, [], ◌++◌, length, refl, ap, sym, ◌∙◌, subst, arith, Option, Some, None, Result, Ok, Err, IsErrAnd, MatchOption, MatchResult, append_assoc, length-append}
+use Rattle.std.proofs.Common.{◌≡◌, ◌≤◌, ◌==◌, ◌&&◌, ℕ, zero, suc, ◌+◌, max, Bool, true, false, List, [], ◌++◌, length, refl, ap, sym, ◌∙◌, subst, arith, Option, Some, None, Result, Ok, Err, IsErrAnd, MatchOption, MatchResult, append_assoc, append-nil, inl, inr, length-append, nat_le}
 use Rattle.std.specs.Prelude.{is_some}
 use Rattle.std.proofs.lemmas.Bool.{eqb-true}
 use Rattle.std.proofs.lemmas.List.{length-map, map-append}
@@ -9,13 +9,15 @@ use Rattle.index_world.specs.Core.{Core, IsConfigured, journal_of}
 use Rattle.index_world.specs.Gate.{grace_of}
 use Rattle.index_world.specs.declared.tokens.Plan.{Plan}
 use Rattle.source_log.specs.Log.{Log}
+use Rattle.index_world.proofs.StoreKeys.{true_is_false}
 use Rattle.index_world.specs.Configuration.{configuration}
 use Rattle.leaf_search.specs.FileRanges.{AreRangesOf, total}
 use Rattle.leaf_search.specs.Answers.{IsAsked}
 use Rattle.leaf_search.specs.Needs.{NeedsBlocks}
-use Rattle.leaf_search.specs.Shown.{AreFew, NeedsShown, NeedsStarts, are_few}
+use Rattle.leaf_search.specs.Shown.{AreFew, BytesOf, NeedsShown, NeedsStarts, OfEach, StartOf, are_few, shown_of}
 use Rattle.leaf_search.specs.declared.file_ranges.FileRange.{FileRange}
 use Rattle.leaf_search.specs.declared.request.LeafRequest.{LeafRequest}
+use Rattle.leaf_search.proofs.ShownParts.{none_shown}
 use Rattle.split_bundle.specs.Files.{Parts, file_bytes}
 use Rattle.split_bundle.specs.Lending.{IsPartOf}
 use Rattle.split_bundle.specs.Splits.{IsSplitOf}
@@ -176,6 +178,34 @@ lost_last Stands Between Adds bytes_fetched adds config plan place known documen
     (lists_held config.schema r documents p footer kept listed (length l.passages) l.drawn b.says.1.held l.says.1) in
     then_failed grace row Stands Between Adds bytes_fetched core log old adds (AreShownFetched config.schema r documents p footer listed) (IsPartFetched config.schema r known documents p (needed_calls known)) e result (footer_calls known + length kept + length l.says.1.lists)
     (footer_drawn known p + total b.says.1.held.blocks + total l.says.1.lists) behind new three h w
+
+-- ---- no hit is shown
+
+no_ranges : (asked : ℕ → ℕ → Type 0) → ((at len : ℕ) → asked at len → ⊥) → AreRangesOf asked []
+no_ranges asked none = record { apart = tt; cover = λ at len h. absurd (none at len h); only = λ place h. absurd h }
+
+none_of_each : (part : ℕ → ℕ → ℕ → Type 0) (numbers : List ℕ) (at len : ℕ) → numbers ≡ [] → OfEach part numbers at len → ⊥
+none_of_each part numbers at len e each = let there = each.among.1 in let none = ap (λ (ns : List ℕ). length ns) e in omega (arith, there, none)
+
+-- where none are wanted nothing more is needed than the lists and the columns
+pub none_shown_more : (s : Schema) (r : LeafRequest) (documents : List Placed) (p : Parts) (footer : Footer) (listed : List KeptPiece) → r.wanted ≡ 0 → AreShownFetched s r documents p footer listed listed 0 0
+none_shown_more s r documents p footer listed none =
+    record {
+      starts = [];
+      shown = [];
+      are_starts = no_ranges (NeedsStarts (over footer) s documents r) (λ at len h. by at len h);
+      are_shown = no_ranges (NeedsShown s documents p r) (λ at len h. none_of_each (BytesOf p documents) (shown_of s r documents) at len empty h.1);
+      pieces_are = sym (append-nil listed);
+      each = refl;
+      few = omega arith;
+    }
+  where
+    empty : shown_of s r documents ≡ []
+    empty = none_shown s r documents none
+
+    by : (at len : ℕ) → NeedsStarts (over footer) s documents r at len → ⊥
+    by at len (inl h) = none_of_each StartOf (shown_of s r documents) at len empty h.1
+    by at len (inr h) = let few = ap (λ (ns : List ℕ). nat_le (length ns) 256) empty in true_is_false (sym few ∙ h.0)
 
 -- what is named goes by the footer
 pub starts_alike_named : (v w : PartView) (s : Schema) (r : LeafRequest) (documents : List Placed) (named : Result ShownStarts FetchError) → v.footer ≡ w.footer → MatchResult named (AreStartsNamed v s r documents) WantsRoom

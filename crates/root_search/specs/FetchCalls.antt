@@ -178,6 +178,6 @@ pub record HasFooterAhead (known : Option Footer) (size : ℕ) (calls : List Fet
   pub calls_are : calls ≡ footer_calls ++ rest
   pub footer_given : IsFooterGiven known size footer footer_calls
 
--- no footer was read of what was given, or one was, and a list behind it was refused
+-- no footer was read of what was given, or one was, and what is read behind it was refused
 abbrev pub IsNoPart : Option Footer → ℕ → List FetchCall → Type 0
 IsNoPart known size calls = IsNoFooter known size calls ⊎ HasFooterAhead known size calls

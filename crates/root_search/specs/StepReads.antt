@@ -81,7 +81,7 @@ IsNoSplit Stands plan place r known gate =
     → IsAsked config.schema r → IsKnown (file_bytes p) known → ⊥
 
 -- The refusal is that of the error which the last call answered. Or it is that the file of the row with a number is corrupt, where all calls gave
--- bytes: no footer is read of these, or a footer is and a list behind it is refused.
+-- bytes: no footer is read of these, or a footer is and what is read behind it is refused.
 abbrev pub IsReadRefusal : {W : Type 0} → (W → Core → Log → Type 0) → Plan → ℕ → LeafRequest → Option Footer → PlanRow → W → List FetchCall → Refusal → Type 0
 IsReadRefusal Stands plan place r known row gate calls refusal =
     ((error : WorldError) × HaveFailed error calls × (refusal_of error ≡ Some refusal))

@@ -374,6 +374,9 @@ fn fetch_shown<G: Gate>(
         FetchesAs (grace_of config plan.now) file.row.number G.Stands G.Between G.Adds G.bytes_fetched (AreShownFetched config.schema request.now documents p footer.now listed) result core log gate.old gate.new }
     ensures reads { ReadsAs G.Stands G.Between G.Owns G.Adds G.bytes_fetched G.told G.Answers plan.now place (AreKeptBehind listed) (λ calls. ⊤) result gate.old gate.new }
 {
+    if request.wanted == 0 {
+        return Ok(listed);
+    }
     let schema = &gate.config().schema;
     let named = starts_of(alloc, schema, request, footer, listed.as_slice())?;
     let mut pieces = listed;

@@ -20,7 +20,7 @@ use Rattle.split_states.specs.declared.rows.Row.{Row}
 use Rattle.index_world.proofs.Configured.{legal_front}
 use Rattle.index_world.proofs.JournalLaws.{legal_history}
 use Rattle.index_world.proofs.Worlds.{same-landed}
-use Rattle.index_world.specs.Calls.{Call, Fate, begun, deleted_by, file_deleted, may_fail, risen}
+use Rattle.index_world.specs.Calls.{Call, Fate, begun, deleted_by, file_deleted, is_at_once, may_fail, risen}
 use Rattle.index_world.specs.Collecting.{answered_by, is_swept, is_swept_by, sweep_call, sweep_if}
 use Rattle.index_world.specs.Config.{reads}
 use Rattle.index_world.specs.Core.{Core, Nobody}
@@ -127,7 +127,7 @@ swept_history false call number core = refl
 swept_history true call number core =
     let given = file_deleted call (split_key number) core in
     ap (λ (c : Core). c.history) (answered_core true given.answer given.core)
-    ∙ deleted_history (may_fail call core.store_faults) call.at_once core.store_faults (split_key number) (begun call core)
+    ∙ deleted_history (may_fail call core.store_faults) (is_at_once call.effect) core.store_faults (split_key number) (begun call core)
     ∙ begun_history call core
 
 -- a number that was to be swept is so where its delete comes to its turn, if a sound index stands behind that

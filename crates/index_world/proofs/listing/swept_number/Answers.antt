@@ -1,4 +1,4 @@
-use Rattle.std.proofs.Common.{◌≡◌, ℕ, false, Option, Some, sym, ap, ◌∙◌, arith}
+use Rattle.std.proofs.Common.{◌≡◌, ℕ, Option, Some, sym, ap, ◌∙◌, arith}
 use Rattle.index_world.specs.Collecting.{is_swept_by}
 use Rattle.index_world.proofs.StoreKeys.{none_some, true_is_false}
 use Rattle.index_world.proofs.Swept.{swept_below}

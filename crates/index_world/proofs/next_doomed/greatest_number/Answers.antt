@@ -1,4 +1,4 @@
-use Rattle.std.proofs.Common.{sym, ap, ◌∙◌}
+use Rattle.std.proofs.Common.{sym}
 use Rattle.index_world.proofs.NextDoomed.{greatest_of}
 use Rattle.index_world.proofs.next_doomed.greatest_number.Goals as goal
 

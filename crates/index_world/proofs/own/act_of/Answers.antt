@@ -1,4 +1,4 @@
-use Rattle.std.proofs.Common.{List, ap, ◌∙◌, subst}
+use Rattle.std.proofs.Common.{ap, ◌∙◌, subst}
 use Rattle.split_states.proofs.Rising.{rise_filter}
 use Rattle.split_states.specs.Due.{is_stale}
 use Rattle.split_states.specs.Rows.{RowsRise, rising}

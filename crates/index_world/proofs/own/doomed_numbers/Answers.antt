@@ -1,4 +1,4 @@
-use Rattle.std.proofs.Common.{◌≡◌, ◌≤◌, ◌++◌, ◌+◌, ℕ, List, sym, ap, ◌∙◌, subst, true, arith}
+use Rattle.std.proofs.Common.{◌≤◌, ◌++◌, ◌+◌, ℕ, List, sym, ap, ◌∙◌, subst, arith}
 use Rattle.std.specs.List.{AllByRecursion}
 use Rattle.split_states.specs.Rows.{RowsRise, rising}
 use Rattle.split_states.specs.declared.rows.Row.{Row}

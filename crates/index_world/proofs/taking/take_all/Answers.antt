@@ -1,4 +1,7 @@
-use Rattle.std.proofs.Common.{◌≡◌, ◌+◌, ap, arith, refl}
+use Rattle.std.proofs.Common.{◌≡◌, ◌+◌, ◌∙◌, Option, ap, arith, refl}
+use Rattle.meta_store.specs.Readings.{reading_of}
+use Rattle.meta_store.specs.declared.config.Config.{Config}
+use Rattle.index_world.specs.Config.{reads}
 use Rattle.meta_store.specs.State.{State}
 use Rattle.index_world.proofs.Configured.{taken_some}
 use Rattle.index_world.proofs.Fronts.{front_start, front_more, front_answers, front_state, front_moment, front_refused, front_none, no_entry_left}
@@ -29,17 +32,17 @@ entries-preserved c =
       few = c.entries.invariant.few;
       early = omega (arith, m, low, early);
       front = front_more _ _ _ c.in-Some.entry c.in-Ok.reading c.entries.meta.state _ _ _ c.in-Ok-take_one.of_entry c.entries.invariant.front c.in-Some.ensures.items
-          c.in-Ok-take_one.ensures.state c.in-Ok.ensures c.in-Ok-take_one.ensures.moment c.max-moment.ensures c.in-Ok-take_one.ensures.allowed;
+          c.in-Ok-take_one.ensures.state (c.in-Ok.ensures ∙ ap (λ (x : Option Config). reading_of reads x c.in-Some.entry.act) c.config.ensures) c.in-Ok-take_one.ensures.moment c.max-moment.ensures c.in-Ok-take_one.ensures.allowed;
       some = λ h. taken_some c.in-Ok.reading c.in-Ok.reading c.entries.meta.state c.entries.meta.state c.take_one.new.meta.state c.in-Some.entry c.in-Ok-take_one.ensures.state refl refl c.in-Ok-take_one.ensures.allowed;
     }
 
 pub returns-in-Err-take_one-clause-want : goal.returns-in-Err-take_one-clause-want
 returns-in-Err-take_one-clause-want c legal =
-    c.in-Err-take_one.ensures.want (front_answers _ _ _ c.in-Some.entry c.in-Ok.reading _ _ c.entries.invariant.front c.in-Some.ensures.items c.in-Ok.ensures legal)
+    c.in-Err-take_one.ensures.want (front_answers _ _ _ c.in-Some.entry c.in-Ok.reading _ _ c.entries.invariant.front c.in-Some.ensures.items (c.in-Ok.ensures ∙ ap (λ (x : Option Config). reading_of reads x c.in-Some.entry.act) c.config.ensures) legal)
 
 pub returns-in-Err-take_one-clause-refused : goal.returns-in-Err-take_one-clause-refused
 returns-in-Err-take_one-clause-refused c =
-    front_refused _ _ _ c.in-Some.entry c.in-Ok.reading _ _ _ c.entries.invariant.front c.in-Some.ensures.items c.in-Ok.ensures refl c.in-Err-take_one.error c.in-Err-take_one.ensures.unfit
+    front_refused _ _ _ c.in-Some.entry c.in-Ok.reading _ _ _ c.entries.invariant.front c.in-Some.ensures.items (c.in-Ok.ensures ∙ ap (λ (x : Option Config). reading_of reads x c.in-Some.entry.act) c.config.ensures) refl c.in-Err-take_one.error c.in-Err-take_one.ensures.unfit
 
 pub returns-clause-fit : goal.returns-clause-fit
 returns-clause-fit c =

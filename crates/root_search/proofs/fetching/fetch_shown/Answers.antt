@@ -1,4 +1,4 @@
-use Rattle.std.proofs.Common.{◌≡◌, ◌+◌, ◌++◌, length, ap, sym, subst, ◌∙◌, arith, List, []}
+use Rattle.std.proofs.Common.{◌≡◌, ◌+◌, ◌++◌, length, ap, sym, subst, ◌∙◌, arith, append-nil, List, []}
 use Rattle.std.specs.Prelude.{⊤}
 use Rattle.index_config.specs.declared.config.IndexConfig.{IndexConfig}
 use Rattle.index_world.specs.Gate.{grace_of}
@@ -13,13 +13,25 @@ use Rattle.root_search.specs.SplitParts.{HoldsListed}
 use Rattle.root_search.specs.declared.split_parts.KeptPiece.{KeptPiece}
 use Rattle.root_search.proofs.CallsMade.{all_of, kept_further, none_called, read_ill, read_well, then_all, then_lost}
 use Rattle.root_search.proofs.Fetches.{all_done, all_short, file_stands, handed_on, made_of, none_made, then_failed, then_given}
-use Rattle.root_search.proofs.Needed.{config_same, shown_kept, starts_kept}
+use Rattle.root_search.proofs.Needed.{config_same, none_shown_more, shown_kept, starts_kept}
 use Rattle.root_search.proofs.Schemas.{few_fields}
 use Rattle.root_search.proofs.Stands.{configured_after}
 use Rattle.root_search.proofs.fetching.fetch_shown.Goals as goal
 
 pub starts_of-requires : goal.starts_of-requires
 starts_of-requires g c = few_fields c.config.result.now.schema c.config.ensures.schema
+
+-- no hit is shown, and nothing more is fetched
+pub returns-then-request-eq0-clause-step : goal.returns-then-request-eq0-clause-step
+returns-then-request-eq0-clause-step g c = λ config documents p core log stands configured file is foot asked holds.
+    all_done (grace_of config c.args.plan.now) file.row.number g.G.Gate.Stands g.G.Gate.Between g.G.Gate.Adds g.G.Gate.bytes_fetched core log c.args.gate.now (AreShownFetched config.schema c.args.request.now documents p c.args.footer.now c.args.listed) c.args.listed 0 0 _
+    (none_made (grace_of config c.args.plan.now) file.row.number g.G.Gate.Stands g.G.Gate.Between g.G.Gate.Adds g.G.Gate.bytes_fetched core log c.args.gate.now (g.met.G.Gate.adds_none c.args.gate.now) stands)
+    (none_shown_more config.schema c.args.request.now documents p c.args.footer.now c.args.listed c.if-request-eq0.true)
+
+pub returns-then-request-eq0-clause-reads : goal.returns-then-request-eq0-clause-reads
+returns-then-request-eq0-clause-reads g c =
+    read_well g.G.Gate.Stands g.G.Gate.Between g.G.Gate.Owns g.G.Gate.Adds g.G.Gate.bytes_fetched g.G.Gate.told g.G.Gate.Answers c.args.plan.now c.args.place (AreKeptBehind c.args.listed) (λ calls. ⊤) c.args.listed [] c.args.gate.now _
+    (none_called g.G.Gate.Stands g.G.Gate.Between g.G.Gate.Owns g.G.Gate.Adds g.G.Gate.bytes_fetched g.G.Gate.told g.G.Gate.Answers c.args.plan.now c.args.place c.args.gate.now) (sym (append-nil c.args.listed))
 
 pub returns-in_err-named-clause-step : goal.returns-in_err-named-clause-step
 returns-in_err-named-clause-step g c = λ config documents p core log stands configured file is foot asked holds.

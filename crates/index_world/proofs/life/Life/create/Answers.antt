@@ -1,7 +1,6 @@
 use Rattle.std.proofs.Common.{refl, sym, ap, ◌∙◌, ◌++◌, subst, arith, ◌≡◌, ℕ, false, true, IsOk, length}
-use Rattle.std.specs.Prelude.{Some, Result, Ok, Err, IfErr, ⊤}
+use Rattle.std.specs.Prelude.{Result, Ok, Err, IfErr, ⊤}
 use Rattle.meta_journal.specs.Journal.{FaultIs, IsTaken, place_appended, next_appended}
-use Rattle.meta_journal.specs.Spelling.{CanSpellAct}
 use Rattle.meta_journal.specs.declared.journal_error.JournalError.{JournalError}
 use Rattle.meta_journal.specs.declared.journal_error.JournalError.TheVariants as journal
 use Rattle.meta_store.specs.Answers.{answer_to}
@@ -14,7 +13,7 @@ use Rattle.index_world.specs.Taking.{IsWant}
 use Rattle.index_world.specs.Answering.{answer_in, behind}
 use Rattle.index_world.specs.Unsure.{is_unsure}
 use Rattle.index_world.proofs.Lives.{life_on}
-use Rattle.index_world.proofs.Creating.{code_can, code_none, code_offered, creating_nothing, creating_wants_by, creating_wants, creating_unprepared, creating_own, creating_gives, creating_failed, may_append_is, entry_is, answer_same, life_own, offered_at, own_alike, unprepared_same, appends_at}
+use Rattle.index_world.proofs.Creating.{code_can, code_none, code_offered, creating_nothing, creating_wants_by, creating_wants, creating_unprepared, creating_own, creating_gives, creating_failed, may_append_is, entry_is, answer_same, life_own, offered_at, own_alike, unprepared_same, appends_at, read_on}
 use Rattle.std.proofs.Math.Nat.{le_refl}
 use Rattle.meta_journal.specs.Journal.{Appends}
 use Rattle.object_store.specs.Store.{WhereTold}
@@ -55,7 +54,7 @@ returns-in-Ok-answer-clause-step g c old core log e b owned =
     let fits = c.faults-count.type_inv in
     let same = entry_is c.args.self.now.moment core.moment c.in-Some.field-0.act c.in-Some.field-0.act b.knows.moment refl in
     let state : c.prepare.new.meta.state ≡ c.args.self.now.meta.state = c.prepare.ensures.same in
-    let answer = answer_same c.in-Ok.reading c.prepare.new.meta.state _ _ core c.in-Ok.ensures.value (state ∙ b.knows.meta) same in
+    let answer = answer_same c.in-Ok.reading c.prepare.new.meta.state _ _ core (read_on _ _ _ _ c.in-Ok.ensures.value state) (state ∙ b.knows.meta) same in
     let revision : c.args.self.now.meta.state.revision ≡ length core.history = c.args.self.now.in_step ∙ b.knows.next in
     creating_own old core log _ _ c.args.self.now b _ _ e c.append-answer.ensures.later (omega (arith, count, fits)) c.args.own (record { act = c.in-Some.field-0.act; answer = c.in-Some.field-0.count }) (sym (own_alike c.args.own c.args.self.now core core.unsure b.knows) ∙ (code_offered c.in_ok-act.field-0 c.in-Some.field-0 (offer_in c.args.own c.args.self.now.moment c.args.self.now.doomed.numbers.items c.args.self.now.meta.state) c.in-Some.is c.in_ok-act.ensures.same)) _ same (code_can c.in_ok-act.field-0 c.in-Some.field-0 c.in-Some.is c.in_ok-act.ensures.can)
     (may_append_is c.in-Some.field-0.act core (subst IsOk answer c.in-Ok-prepare.ensures.allowed) (let low = c.in-Ok-prepare.ensures.below in omega (arith, low, revision))) owned
@@ -72,7 +71,7 @@ returns-in-Adopted-clause-step g c old core log e b owned =
     let fits = c.faults-count.type_inv in
     let same = entry_is c.args.self.now.moment core.moment c.in-Some.field-0.act c.in-Some.field-0.act b.knows.moment refl in
     let state : c.prepare.new.meta.state ≡ c.args.self.now.meta.state = c.prepare.ensures.same in
-    let answer = answer_same c.in-Ok.reading c.prepare.new.meta.state _ _ core c.in-Ok.ensures.value (state ∙ b.knows.meta) same in
+    let answer = answer_same c.in-Ok.reading c.prepare.new.meta.state _ _ core (read_on _ _ _ _ c.in-Ok.ensures.value state) (state ∙ b.knows.meta) same in
     let revision : c.args.self.now.meta.state.revision ≡ length core.history = c.args.self.now.in_step ∙ b.knows.next in
     let place = c.append-answer.ensures.place ∙ ap place_appended said in
     creating_gives old core log _ _ c.args.self.now b _ _ e c.append-answer.ensures.later (omega (arith, count, fits)) c.args.own (record { act = c.in-Some.field-0.act; answer = c.in-Some.field-0.count }) (sym (own_alike c.args.own c.args.self.now core core.unsure b.knows) ∙ (code_offered c.in_ok-act.field-0 c.in-Some.field-0 (offer_in c.args.own c.args.self.now.moment c.args.self.now.doomed.numbers.items c.args.self.now.meta.state) c.in-Some.is c.in_ok-act.ensures.same)) _ same (code_can c.in_ok-act.field-0 c.in-Some.field-0 c.in-Some.is c.in_ok-act.ensures.can)
@@ -93,7 +92,7 @@ returns-in_default-error-clause-step g c old core log e b owned =
     let fits = c.faults-count.type_inv in
     let same = entry_is c.args.self.now.moment core.moment c.in-Some.field-0.act c.in-Some.field-0.act b.knows.moment refl in
     let state : c.prepare.new.meta.state ≡ c.args.self.now.meta.state = c.prepare.ensures.same in
-    let answer = answer_same c.in-Ok.reading c.prepare.new.meta.state _ _ core c.in-Ok.ensures.value (state ∙ b.knows.meta) same in
+    let answer = answer_same c.in-Ok.reading c.prepare.new.meta.state _ _ core (read_on _ _ _ _ c.in-Ok.ensures.value state) (state ∙ b.knows.meta) same in
     let revision : c.args.self.now.meta.state.revision ≡ length core.history = c.args.self.now.in_step ∙ b.knows.next in
     let low = c.in-Ok-prepare.ensures.below in
     let step = c.args.self.now.in_step in
@@ -154,7 +153,7 @@ returns-in-Ok-answer-clause-answers g c =
     makes_own (g.S.ObjectStore.told c.args.store.now) (g.S.ObjectStore.told c.append-answer.new.store) c.args.own c.in-Ok-answer.field-0 c.in-Some.field-0.count c.args.self.now.moment c.args.self.now.doomed.numbers.items c.args.self.now.journal.next c.append-answer.new.self.next before c.apply.new.self.state entry
     (ap (at c.args.self.now.moment) offered.0) (record { moment = c.args.self.now.timely; act = (code_can c.in_ok-act.field-0 c.in-Some.field-0 c.in-Some.is c.in_ok-act.ensures.can) })
     (c.append-answer.ensures.next ∙ ap (next_appended c.args.self.now.journal.next) said)
-    (c.apply.ensures ∙ ap (λ (r : Said). after r entry before) (c.in-Ok-prepare.ensures.handed ∙ c.in-Ok.ensures.value before.config)) offered.1
+    (c.apply.ensures ∙ ap (λ (r : Said). after r entry before) (c.in-Ok-prepare.ensures.handed ∙ read_on _ _ _ _ c.in-Ok.ensures.value c.prepare.ensures.same)) offered.1
     (subst (λ (r : Result ℕ JournalError). WhereTold (g.S.ObjectStore.told c.args.store.now) (g.S.ObjectStore.told c.append-answer.new.store) (Appends c.args.self.now.journal.next entry r)) said c.append-answer.ensures.answer)
 
 pub returns-in-Adopted-clause-later : goal.returns-in-Adopted-clause-later
@@ -214,8 +213,8 @@ returns-in-Ok-answer-clause-followed g c =
     let was = c.args.self.now.meta.state in
     own_follows (g.S.ObjectStore.told c.args.store.now) (g.S.ObjectStore.told c.append-answer.new.store) c.in-Ok-answer.field-0 c.args.self.now.journal.next c.append-answer.new.self.next was c.apply.new.self.state entry
     (record { moment = c.args.self.now.timely; act = (code_can c.in_ok-act.field-0 c.in-Some.field-0 c.in-Some.is c.in_ok-act.ensures.can) }) (c.append-answer.ensures.next ∙ ap (next_appended c.args.self.now.journal.next) said)
-    (subst (λ (s : State). IsOk (answer_in s entry)) c.prepare.ensures.same (subst (λ (r : Said). IsOk (answer_to r before entry)) (c.in-Ok.ensures.value before.config) c.in-Ok-prepare.ensures.allowed))
-    (c.apply.ensures ∙ ap (λ (r : Said). after r entry before) (c.in-Ok-prepare.ensures.handed ∙ c.in-Ok.ensures.value before.config) ∙ ap (λ (s : State). behind s entry) c.prepare.ensures.same)
+    (subst (λ (s : State). IsOk (answer_in s entry)) c.prepare.ensures.same (subst (λ (r : Said). IsOk (answer_to r before entry)) (read_on _ _ _ _ c.in-Ok.ensures.value c.prepare.ensures.same) c.in-Ok-prepare.ensures.allowed))
+    (c.apply.ensures ∙ ap (λ (r : Said). after r entry before) (c.in-Ok-prepare.ensures.handed ∙ read_on _ _ _ _ c.in-Ok.ensures.value c.prepare.ensures.same) ∙ ap (λ (s : State). behind s entry) c.prepare.ensures.same)
     (subst (λ (r : Result ℕ JournalError). WhereTold (g.S.ObjectStore.told c.args.store.now) (g.S.ObjectStore.told c.append-answer.new.store) (Appends c.args.self.now.journal.next entry r)) said c.append-answer.ensures.answer)
 
 pub returns-in-Ok-answer-clause-keeps : goal.returns-in-Ok-answer-clause-keeps

@@ -11,11 +11,11 @@ returns-in-Err-clause-taken c = record {
   meta = c.admit.ensures.same;
   moment = refl;
   upkeep = (refl, refl);
-  want = λ ok. c.in-Err.ensures.want (subst (λ (r : Said). IsOk (answer_to r c.args.self.now.meta.state c.args.entry)) (sym (c.requires.read c.args.self.now.meta.state.config)) ok);
-  unfit = unfit_taken _ _ _ c.args.self.now.journal.next c.in-Err.error (ap (λ (r : Said). answer_to r c.args.self.now.meta.state c.args.entry) (c.requires.read c.args.self.now.meta.state.config)) c.next.ensures c.in-Err.ensures.unfit;
+  want = λ ok. c.in-Err.ensures.want (subst (λ (r : Said). IsOk (answer_to r c.args.self.now.meta.state c.args.entry)) (sym c.requires.read) ok);
+  unfit = unfit_taken _ _ _ c.args.self.now.journal.next c.in-Err.error (ap (λ (r : Said). answer_to r c.args.self.now.meta.state c.args.entry) c.requires.read) c.next.ensures c.in-Err.ensures.unfit;
 }
 
 pub returns-in-Ok-clause-allowed : goal.returns-in-Ok-clause-allowed
 returns-in-Ok-clause-allowed c =
-    subst (λ (r : Said). IsOk (answer_to r c.args.self.now.meta.state c.args.entry)) (c.requires.read c.args.self.now.meta.state.config)
+    subst (λ (r : Said). IsOk (answer_to r c.args.self.now.meta.state c.args.entry)) c.requires.read
     (subst (λ (s : State). IsOk (answer_to c.args.reading s c.args.entry)) c.admit.ensures.same c.in-Ok.ensures.allowed)

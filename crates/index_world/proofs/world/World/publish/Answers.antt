@@ -2,7 +2,7 @@ use Rattle.std.proofs.Common.{sym, ap, ◌∙◌, subst, arith}
 use Rattle.index_world.specs.Calls.{asked_clock}
 use Rattle.index_world.specs.World.{Keeping, WorldStands}
 use Rattle.index_world.specs.declared.own.Own.TheVariants as owns
-use Rattle.index_world.proofs.Appending.{appending_at, owned_on}
+use Rattle.index_world.proofs.Appending.{appending_at}
 use Rattle.std.specs.Prelude.{Result, ℕ}
 use Rattle.index_world.specs.Answering.{SaysPublished}
 use Rattle.index_world.specs.Gate.{IsRevision}
@@ -10,10 +10,9 @@ use Rattle.index_world.specs.Life.{Appends}
 use Rattle.meta_journal.specs.declared.entry.Act.TheVariants as acts
 use Rattle.index_world.specs.declared.world_error.WorldError.{WorldError}
 use Rattle.index_world.proofs.Answering.{tells_failed, tells_ok}
-use Rattle.index_world.proofs.Gates.{kept_by, stands_of, world_asks, acts_always, appends_ok, appends_err, life_revision}
+use Rattle.index_world.proofs.Gates.{kept_by, owned_asked, stands_of, world_asks, acts_always, appends_ok, appends_err, life_revision}
 use Rattle.index_world.proofs.RowCalls.{always_made}
 use Rattle.index_world.proofs.StoreKeys.{none_some}
-use Rattle.index_world.proofs.WholeCalls.{keeps_asked}
 use Rattle.index_world.specs.Unsure.{is_unsure}
 use Rattle.index_world.proofs.Following.{followed_from}
 use Rattle.index_world.proofs.world.World.publish.Goals as goal
@@ -28,7 +27,7 @@ returns-in_err-append-clause-step g c core log s p =
     let fits = c.faults-before.type_inv in
     let b = stands_of _ _ _ c.self-2.inside.life _ (asked_clock core) log (omega (arith, counts, counts2, before, fits)) t in
     let own = owns.Publish c.args.uploaded.number in
-    let x = appending_at _ _ _ _ _ _ _ _ _ c.in_err-append.was (c.append.ensures.step t.kept (asked_clock core) log t.told b (before ∙ counts ∙ s.store_faults) (owned_on own log core (asked_clock core) (keeps_asked core) p)) in
+    let x = appending_at _ _ _ _ _ _ _ _ _ c.in_err-append.was (c.append.ensures.step t.kept (asked_clock core) log t.told b (before ∙ counts ∙ s.store_faults) (owned_asked own _ core log s p)) in
     acts_always WorldStands (λ k. acts.Publish c.args.uploaded.number) IsRevision _ core log _
     (appends_err _ _ _ _ _ c.self-2.inside.life _ _ core log t own (λ revision answered after. IsRevision revision after) c.in_err-append.field-0.0 c.from_residual.result _ x c.from_residual.ensures.1 (λ error is. is))
 
@@ -42,7 +41,7 @@ returns-clause-step g c core log s p =
     let fits = c.faults-before.type_inv in
     let b = stands_of _ _ _ c.self-2.inside.life _ (asked_clock core) log (omega (arith, counts, counts2, before, fits)) t in
     let own = owns.Publish c.args.uploaded.number in
-    let x = appending_at _ _ _ _ _ _ _ _ _ c.in_ok-append.was (c.append.ensures.step t.kept (asked_clock core) log t.told b (before ∙ counts ∙ s.store_faults) (owned_on own log core (asked_clock core) (keeps_asked core) p)) in
+    let x = appending_at _ _ _ _ _ _ _ _ _ c.in_ok-append.was (c.append.ensures.step t.kept (asked_clock core) log t.told b (before ∙ counts ∙ s.store_faults) (owned_asked own _ core log s p)) in
     acts_always WorldStands (λ k. acts.Publish c.args.uploaded.number) IsRevision _ core log _
     (appends_ok _ _ _ _ _ c.self-2.inside.life _ _ core log t own (λ revision answered after. IsRevision revision after) c.revision.result c.in_ok-append.field-0 x (λ answered after k done. c.revision.ensures ∙ life_revision _ after.history after.moment after.unsure k))
 

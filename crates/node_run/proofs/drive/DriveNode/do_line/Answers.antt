@@ -32,6 +32,16 @@ returns-in-RestartClient-clause-does g c = λ firsts node s f.
     subst (λ (l : Line). DoesMost g.L.SourceLog.told g.L.SourceLog.fault_count g.L.SourceLog.since firsts node (seen l) c.restart_client.result c.restart_client.new.self) (sym c.in-RestartClient.is)
     (c.restart_client.ensures.does firsts node s)
 
+pub returns-in-Collector-clause-does : goal.returns-in-Collector-clause-does
+returns-in-Collector-clause-does g c = λ firsts node s f.
+    subst (λ (l : Line). DoesMost g.L.SourceLog.told g.L.SourceLog.fault_count g.L.SourceLog.since firsts node (seen l) c.collector_line.result c.collector_line.new.self) (sym c.in-Collector.is)
+    (c.collector_line.ensures.does firsts node s)
+
+pub returns-in-RestartCollector-clause-does : goal.returns-in-RestartCollector-clause-does
+returns-in-RestartCollector-clause-does g c = λ firsts node s f.
+    subst (λ (l : Line). DoesMost g.L.SourceLog.told g.L.SourceLog.fault_count g.L.SourceLog.since firsts node (seen l) c.restart_collector.result c.restart_collector.new.self) (sym c.in-RestartCollector.is)
+    (c.restart_collector.ensures.does firsts node s)
+
 pub returns-in-RestartNode-clause-does : goal.returns-in-RestartNode-clause-does
 returns-in-RestartNode-clause-does g c = λ firsts node s f.
     subst (λ (l : Line). DoesMost g.L.SourceLog.told g.L.SourceLog.fault_count g.L.SourceLog.since firsts node (seen l) c.restart_node.result c.restart_node.new.self) (sym c.in-RestartNode.is)
@@ -61,6 +71,14 @@ returns-in-RestartIndexer-clause-prints g c =
 pub returns-in-RestartClient-clause-prints : goal.returns-in-RestartClient-clause-prints
 returns-in-RestartClient-clause-prints g c =
     subst (λ (l : Line). IfOk c.restart_client.result (λ out. PrintsLine g.L.SourceLog.told g.L.SourceLog.fault_count (seen l) c.args.self.now c.restart_client.new.self out.bytes)) (sym c.in-RestartClient.is) c.restart_client.ensures.prints
+
+pub returns-in-Collector-clause-prints : goal.returns-in-Collector-clause-prints
+returns-in-Collector-clause-prints g c =
+    subst (λ (l : Line). IfOk c.collector_line.result (λ out. PrintsLine g.L.SourceLog.told g.L.SourceLog.fault_count (seen l) c.args.self.now c.collector_line.new.self out.bytes)) (sym c.in-Collector.is) c.collector_line.ensures.prints
+
+pub returns-in-RestartCollector-clause-prints : goal.returns-in-RestartCollector-clause-prints
+returns-in-RestartCollector-clause-prints g c =
+    subst (λ (l : Line). IfOk c.restart_collector.result (λ out. PrintsLine g.L.SourceLog.told g.L.SourceLog.fault_count (seen l) c.args.self.now c.restart_collector.new.self out.bytes)) (sym c.in-RestartCollector.is) c.restart_collector.ensures.prints
 
 pub returns-in-RestartNode-clause-prints : goal.returns-in-RestartNode-clause-prints
 returns-in-RestartNode-clause-prints g c =

@@ -21,7 +21,7 @@ returns-in_err-outcome-clause-does g c = λ firsts node p.
     let s = c.in_err-outcome.ensures.step (indexer_at node.indexers c.args.number) node.core node.log
     (zip_at (λ reader indexer. IndexerStands g.L.SourceLog.told g.L.SourceLog.fault_count reader indexer node.core node.log) c.args.self.now.indexers.items node.indexers
     c.args.number c.index_mut.result.now p.indexers (omega (arith, c.requires, c.args.self.now.indexers.ok.0)) c.index_mut.ensures.value) p.world_stands in
-    most_short g.L.SourceLog.told g.L.SourceLog.fault_count g.L.SourceLog.since firsts node (said.StepIndexer c.args.number) _ _ c.from_residual.result c.from_residual.ensures.1 (record { log = s.luck.log; world = s.luck.world; more = []; inner = s.luck.short; early = false; short = false })
+    most_short g.L.SourceLog.told g.L.SourceLog.fault_count g.L.SourceLog.since firsts node (said.StepIndexer c.args.number) _ _ c.from_residual.result c.from_residual.ensures.1 (record { log = s.luck.log; world = s.luck.world; more = []; ends = []; inner = s.luck.short; early = false; short = false })
     (record { said = said_by_indexer c.args.number s.outcome; node = record (with_indexer c.args.number s.after node) { core = s.behind } })
     (indexer_turns g.L.SourceLog.told g.L.SourceLog.fault_count node c.args.number c.step_indexer.new.indexer c.step_indexer.new.gate.world _ (sym p.down ∙ c.if-self.false) s)
     (stepped_parts g.L.SourceLog.told g.L.SourceLog.fault_count g.L.SourceLog.since g.met.L.SourceLog.since_then firsts c.args.self.now.gate.world c.args.self.now.indexers.items c.args.self.now.clients.items c.args.self.now.places.entries c.args.self.now.moment c.args.self.now.down node p c.args.number c.index_mut.result.now c.step_indexer.new.indexer c.step_indexer.new.gate.world _
@@ -33,7 +33,7 @@ returns-clause-does g c = λ firsts node p.
     (zip_at (λ reader indexer. IndexerStands g.L.SourceLog.told g.L.SourceLog.fault_count reader indexer node.core node.log) c.args.self.now.indexers.items node.indexers
     c.args.number c.index_mut.result.now p.indexers (omega (arith, c.requires, c.args.self.now.indexers.ok.0)) c.index_mut.ensures.value) p.world_stands in
     let x = said_some c.in_ok-outcome.outcome s.outcome s.answer in
-    most_done g.L.SourceLog.told g.L.SourceLog.fault_count g.L.SourceLog.since firsts node (said.StepIndexer c.args.number) _ c.indexer-line.result (record { log = s.luck.log; world = s.luck.world; more = []; inner = s.luck.short; early = false; short = false }) (said.indexer_said c.args.number x.0)
+    most_done g.L.SourceLog.told g.L.SourceLog.fault_count g.L.SourceLog.since firsts node (said.StepIndexer c.args.number) _ c.indexer-line.result (record { log = s.luck.log; world = s.luck.world; more = []; ends = []; inner = s.luck.short; early = false; short = false }) (said.indexer_said c.args.number x.0)
     (record (with_indexer c.args.number s.after node) { core = s.behind })
     (indexer_turns g.L.SourceLog.told g.L.SourceLog.fault_count node c.args.number c.step_indexer.new.indexer c.step_indexer.new.gate.world _ (sym p.down ∙ c.if-self.false) s ∙ ap (λ o. record { said = said_by_indexer c.args.number o; node = record (with_indexer c.args.number s.after node) { core = s.behind } }) x.1)
     (c.indexer-line.ensures.said x.0 x.2)

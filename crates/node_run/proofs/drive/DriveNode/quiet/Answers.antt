@@ -17,6 +17,14 @@ pub returns-in-RestartClient : goal.returns-in-RestartClient
 returns-in-RestartClient g c = λ firsts node p.
     quiet_along {S = g.row.S.Denot} g.L.SourceLog.told g.L.SourceLog.fault_count g.L.SourceLog.since firsts node c.args.line.now _ c.quiet_client.new.self c.in-RestartClient.is (c.quiet_client.ensures firsts node p)
 
+pub returns-in-Collector : goal.returns-in-Collector
+returns-in-Collector g c = λ firsts node p.
+    quiet_along {S = g.row.S.Denot} g.L.SourceLog.told g.L.SourceLog.fault_count g.L.SourceLog.since firsts node c.args.line.now _ c.args.self.now c.in-Collector.is p
+
+pub returns-in-RestartCollector : goal.returns-in-RestartCollector
+returns-in-RestartCollector g c = λ firsts node p.
+    quiet_along {S = g.row.S.Denot} g.L.SourceLog.told g.L.SourceLog.fault_count g.L.SourceLog.since firsts node c.args.line.now _ c.args.self.now c.in-RestartCollector.is p
+
 pub returns-in-RestartNode : goal.returns-in-RestartNode
 returns-in-RestartNode g c = λ firsts node p.
     quiet_along {S = g.row.S.Denot} g.L.SourceLog.told g.L.SourceLog.fault_count g.L.SourceLog.since firsts node c.args.line.now _ c.stop.new.self c.in-RestartNode.is (c.stop.ensures.does firsts node p)

@@ -1,0 +1,23 @@
+-- When a search is refused because it comes too late.
+use Rattle.std.specs.Prelude.{ℕ, ◌+◌, ◌≤◌}
+use Rattle.root_search.specs.declared.outcome.SearchStep.TheVariants.{Replied}
+use Rattle.search_api.specs.declared.reply.Refusal.{Refusal}
+use Rattle.search_api.specs.declared.reply.Refusal.TheVariants.{Expired}
+use Rattle.search_api.specs.declared.reply.Said.{Said}
+use Rattle.search_api.specs.declared.reply.Said.TheVariants.{Found, Deleted, Refused}
+use Rattle.node_run.specs.Node.{Outcome, client_said}
+
+-- the grace behind the plan had passed
+abbrev pub IsOver : (grace : ℕ) → Refusal → Type 0
+IsOver grace (Expired planned_at now) = planned_at + grace ≤ now
+IsOver grace refusal = Unit {0}
+
+abbrev pub SaidIsOver : (grace : ℕ) → Said → Type 0
+SaidIsOver grace (Found count hits aggregations) = Unit {0}
+SaidIsOver grace (Deleted opstamp) = Unit {0}
+SaidIsOver grace (Refused refusal) = IsOver grace refusal
+
+-- each reply that is Expired names a plan whose grace had passed
+abbrev pub ExpiresOver : (grace : ℕ) → Outcome → Type 0
+ExpiresOver grace (client_said name (Replied reply)) = SaidIsOver grace reply.said
+ExpiresOver grace outcome = Unit {0}
