@@ -1,0 +1,120 @@
+-- What a merger or a delete worker holds between its steps.
+use Rattle.std.specs.Prelude.{◌≡◌, ℕ, ◌+◌, ◌≤◌, Bool, true, false, List, [], length, map, sum_by, Option, Some, None}
+use Rattle.std.specs.List.{AllZip}
+use Rattle.index_config.specs.declared.config.IndexConfig.{IndexConfig}
+use Rattle.merge_policy.specs.Choice.{FitsSplit}
+use Rattle.meta_store.specs.History.{history, last_opstamp}
+use Rattle.meta_store.specs.Ledgers.{ledger}
+use Rattle.meta_store.specs.Left.{HasMarks, mark_of}
+use Rattle.source_checkpoint.specs.declared.delta.Part.{Part}
+use Rattle.source_log.specs.Log.{Log}
+use Rattle.split_bundle.specs.declared.placed.Placed.{Placed}
+use Rattle.split_states.specs.declared.facts.RowFacts.{RowFacts}
+use Rattle.split_states.specs.declared.rows.Row.{Row}
+use Rattle.index_world.specs.Config.{reads}
+use Rattle.index_world.specs.Core.{Core, HasStagedIn, IsConfigured, IsPlannedIn, IsUnusedIn, IsUploadedIn}
+use Rattle.index_world.specs.Index.{ranges_of}
+use Rattle.index_world.specs.Replacing.{AreFetchedIn, IsMadeOf, WerePlanned, joined}
+use Rattle.index_world.specs.Seen.{rejected_in}
+use Rattle.index_world.specs.SplitFile.{AreSplit, facts_of, file_of}
+
+-- Rows that were planned, and what each of their files holds, in the order of the plan: under which configuration, at which moment, and
+-- behind which task. And the rows whose files are still to be fetched.
+pub record Work : Type 0 where
+  pub config : IndexConfig
+  pub moment : ℕ
+  pub upto : ℕ
+  pub rows : List Row
+  pub contents : List (List Placed)
+  pub unfetched : List Row
+
+-- the documents of a replacement of rows, under its staged number: without those that tasks up to one cover
+pub record Held : Type 0 where
+  pub config : IndexConfig
+  pub number : ℕ
+  pub old : List ℕ
+  pub upto : ℕ
+  pub documents : List Placed
+  pub rejected : ℕ
+
+pub data Place : Type 0 where
+  idle : Place
+  fetching : Work → Place
+  staged : Held → Place
+  uploaded : Held → Place
+
+abbrev pub is_idle : Place → Bool
+is_idle idle = true
+is_idle (fetching work) = false
+is_idle (staged held) = false
+is_idle (uploaded held) = false
+
+-- the number that it holds, if it holds one
+abbrev pub number_held : Place → Option ℕ
+number_held idle = None
+number_held (fetching work) = None
+number_held (staged held) = Some held.number
+number_held (uploaded held) = Some held.number
+
+-- ---- planned rows
+
+abbrev pub row_numbers : List Row → List ℕ
+row_numbers rows = map (λ row. row.number) rows
+
+-- until when their files are fetched
+abbrev pub until_of : Work → ℕ
+until_of work = work.moment + work.config.deletion_grace
+
+-- a row's spans, as a replacement has to know them: their ranges, and behind which task each was taken in
+abbrev pub marks_of : Row → List (Part × ℕ)
+marks_of row = map mark_of row.spans
+
+-- how many records of their ranges are no documents, by what they say themselves
+abbrev pub rejected_of : List Row → ℕ
+rejected_of rows = sum_by (λ row. row.facts.rejected) rows
+
+-- WHAT IS KNOWN OF A PLANNED ROW: its file stands until the plan's grace is over, and what was fetched of it is its file as long as the row
+-- isn't given up; the row's spans and its facts are those that were seen.
+pub record IsRowInHand (config : IndexConfig) (until : ℕ) (log : Log) (core : Core) (row : Row) (documents : List Placed) : Type 0 where
+  pub planned : IsPlannedIn core until row.number (file_of config documents)
+  pub found : IsUploadedIn core row.number (file_of config documents)
+  pub marks : HasMarks core.history row.number (marks_of row)
+  pub facts : row.facts ≡ facts_of config documents (rejected_in config log (ranges_of row))
+  pub split : AreSplit config documents
+
+-- what is known of all of them: they are few, and together no more than a split can hold
+pub record IsWork (log : Log) (core : Core) (work : Work) : Type 0 where
+  pub configured : IsConfigured work.config core
+  pub each : AllZip (IsRowInHand work.config (until_of work) log core) work.rows work.contents
+  pub fits : FitsSplit work.rows
+  pub few : length work.rows ≤ 100
+  pub known : work.upto ≤ last_opstamp (history core.history)
+
+-- ---- a replacement
+
+abbrev pub held_file : Held → List ℕ
+held_file held = file_of held.config held.documents
+
+abbrev pub held_facts : Held → RowFacts
+held_facts held = facts_of held.config held.documents held.rejected
+
+-- its file was made of the files that were fetched of the planned rows
+pub record IsHeldMade (log : Log) (core : Core) (held : Held) : Type 0 where
+  pub files : List (List ℕ)
+  pub marks : List (List (Part × ℕ))
+  pub fetched : AreFetchedIn core held.old files
+  pub planned : WerePlanned core.history held.old marks
+  pub known : held.upto ≤ last_opstamp (history core.history)
+  pub made : IsMadeOf held.config log (ledger reads (history core.history)).tasks held.upto (joined marks) files (held_facts held) (held_file held)
+
+pub record IsStagedHeld (log : Log) (core : Core) (held : Held) : Type 0 where
+  pub configured : IsConfigured held.config core
+  pub unused : IsUnusedIn core held.number
+  pub staged : HasStagedIn core held.number [] (held_facts held)
+  pub made : IsHeldMade log core held
+
+pub record IsUploadedHeld (log : Log) (core : Core) (held : Held) : Type 0 where
+  pub configured : IsConfigured held.config core
+  pub uploaded : IsUploadedIn core held.number (held_file held)
+  pub staged : HasStagedIn core held.number [] (held_facts held)
+  pub made : IsHeldMade log core held
