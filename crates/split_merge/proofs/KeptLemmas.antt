@@ -8,7 +8,8 @@ use Rattle.split_bundle.specs.declared.placed.Placed.{Placed}
 use Rattle.split_bundle.specs.declared.split_view.SplitView.{SplitView}
 use Rattle.split_bundle.specs.declared.split_error.SplitError.{SplitError}
 use Rattle.split_bundle.specs.declared.split_error.SplitError.TheVariants as split
-use Rattle.split_merge.specs.Merging.{HasCause, IsWant, ReadsAll, fault_of}
+use Rattle.split_merge.specs.Faults.{IsWant}
+use Rattle.split_merge.specs.Merging.{HasCause, ReadsAll, fault_of}
 use Rattle.split_merge.specs.Keeping.{is_named, kept_from, RiseFrom, ViewsSplit, AreViewsOf}
 
 -- ---- places

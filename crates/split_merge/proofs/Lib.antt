@@ -1,2 +1,5 @@
 pub mod KeptLemmas
 pub mod ReadLemmas
+pub mod TableLemmas
+pub mod PlaceLemmas
+pub mod ListLemmas

@@ -1,3 +1,6 @@
 pub mod Keeping
+pub mod Numbering
+pub mod Faults
+pub mod Joining
 pub mod Merging
 pub mod Reading

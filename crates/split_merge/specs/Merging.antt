@@ -18,14 +18,6 @@ use Rattle.split_build.specs.Facts.{AreFacts}
 use Rattle.split_build.specs.Limits.{AreWithin, MakeNone}
 use Rattle.split_merge.specs.Keeping.{ViewsSplit}
 
--- want of memory
-abbrev pub IsWant : SplitError → Type 0
-IsWant (split.Memory a) = ⊤
-IsWant split.BadMagic = ⊥
-IsWant (split.Truncated at) = ⊥
-IsWant (split.BadSection section) = ⊥
-IsWant (split.BadVersion version) = ⊥
-
 -- what a fault of the view with a number is to the merge
 abbrev pub fault_of : ℕ → SplitError → MergeError
 fault_of number (split.Memory a) = Memory a

@@ -2,8 +2,10 @@
 #![tactic(auto)]
 
 mod keeping;
+mod lists;
 mod merge_error;
 mod merging;
+mod numbers;
 
 pub use merge_error::MergeError;
 pub use merging::merge;
