@@ -3,3 +3,4 @@ pub mod ReadLemmas
 pub mod TableLemmas
 pub mod PlaceLemmas
 pub mod ListLemmas
+pub mod WalkLemmas

@@ -2,5 +2,6 @@ pub mod Keeping
 pub mod Numbering
 pub mod Faults
 pub mod Joining
+pub mod Walking
 pub mod Merging
 pub mod Reading

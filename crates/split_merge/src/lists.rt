@@ -29,7 +29,7 @@ pub(crate) struct KeyList {
 }
 
 // A section that is not of its form.
-fn fault_in(section: Section) -> SplitError {
+pub(crate) fn fault_in(section: Section) -> SplitError {
     SplitError::BadSection {
         number: section.number(),
     }
