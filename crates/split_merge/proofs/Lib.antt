@@ -4,3 +4,4 @@ pub mod TableLemmas
 pub mod PlaceLemmas
 pub mod ListLemmas
 pub mod WalkLemmas
+pub mod JoinLemmas

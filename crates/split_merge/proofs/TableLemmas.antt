@@ -3,7 +3,7 @@ use Rattle.std.proofs.Common.{◌≡◌, ℕ, zero, suc, ◌+◌, ◌<◌, ◌�
 use Rattle.std.specs.Prelude.{if◌then◌else◌}
 use Rattle.split_bundle.specs.declared.split_view.SplitView.{SplitView}
 use Rattle.split_merge.specs.Keeping.{is_named}
-use Rattle.split_merge.specs.Numbering.{kept_count, no_number, table_of, tables_of}
+use Rattle.split_merge.specs.Numbering.{kept_count, kept_in, no_number, table_of, tables_of}
 
 -- ---- the same places from one on
 
@@ -72,3 +72,14 @@ tables_step rest behind place after next above left v vs before now whole table 
     ∙ ap (λ (n : ℕ). before ++ (table_of rest place next v.layout.docs ∷ tables_of rest n above vs)) after_is
     ∙ ap (λ (n : ℕ). before ++ (table_of rest place next v.layout.docs ∷ tables_of rest (place + v.layout.docs) n vs)) above_is
     ∙ ap (λ (l : List SplitView). before ++ tables_of rest place next l) (sym left_is) ∙ so_far
+
+pub kept_in_same : (a b : List ℕ) (place : ℕ) (vs : List SplitView) → ((m : ℕ) → place ≤ m → is_named m a ≡ is_named m b) → kept_in a place vs ≡ kept_in b place vs
+kept_in_same a b place [] same = refl
+kept_in_same a b place (v ∷ vs) same = rw (count_same a b place v.layout.docs same, kept_in_same a b (place + v.layout.docs) vs (λ m le. same m (omega arith))) refl
+
+pub kept_step : (rest behind : List ℕ) (place after next above : ℕ) (left : List SplitView) (v : SplitView) (vs : List SplitView) (whole : ℕ) → left ≡ v ∷ vs → after ≡ place + v.layout.docs → above ≡ next + kept_count rest place v.layout.docs
+    → ((m : ℕ) → after < m + 1 → is_named m behind ≡ is_named m rest) → next + kept_in rest place left ≡ whole → above + kept_in behind after vs ≡ whole
+kept_step rest behind place after next above left v vs whole left_is after_is above_is same so_far =
+    let here : kept_in rest place left ≡ kept_count rest place v.layout.docs + kept_in rest after vs =
+    ap (λ (l : List SplitView). kept_in rest place l) left_is ∙ ap (λ (n : ℕ). kept_count rest place v.layout.docs + kept_in rest n vs) (sym after_is) in
+    omega (arith, here, so_far, above_is, kept_in_same behind rest after vs (λ m le. same m (omega arith)))

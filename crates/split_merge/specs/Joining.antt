@@ -1,8 +1,12 @@
 -- Lists of documents under new numbers, and the list of a key that is gathered of several splits.
 use Rattle.std.specs.Prelude.{◌≡◌, ℕ, ◌+◌, Bool, true, List, [], ◌∷◌, ◌++◌, length, take, drop, Option, Some, None, nat_lt}
 use Rattle.std.specs.List.{AllByRecursion}
+use Rattle.doc_value.specs.declared.schema.Schema.{Schema}
 use Rattle.term_postings.specs.Postings.{AreRising, MayHave, documents}
 use Rattle.term_postings.specs.declared.list.Posting.{Posting}
+use Rattle.split_bundle.specs.declared.placed.Placed.{Placed}
+use Rattle.split_bundle.specs.Lists.{posting_list}
+use Rattle.split_merge.specs.Numbering.{number_in}
 use Rattle.split_merge.specs.declared.lists.KeyList.{KeyList}
 use Rattle.split_merge.specs.declared.lists.Listed.{Listed}
 
@@ -58,6 +62,12 @@ pub record Joins (kept : Bool) (number : ℕ → Option ℕ) (before now : List 
   pub numbers : documents more ≡ new_numbers number old
   pub each : AllByRecursion (λ p. CanHave kept p.positions) more
   pub now_is : now ≡ before ++ more
+
+-- the lists of a key in splits of some documents one behind another, each under its numbers
+abbrev pub joined_list : Schema → List ℕ → List (List Placed) → List (List ℕ) → List Posting
+joined_list s key [] tables = []
+joined_list s key (ds ∷ dss) [] = []
+joined_list s key (ds ∷ dss) (t ∷ ts) = renumbered (number_in t) (posting_list s ds key) ++ joined_list s key dss ts
 
 -- a gathered list holds these documents
 pub record Holds (l : KeyList) (ps : List Posting) : Type 0 where

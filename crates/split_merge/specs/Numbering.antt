@@ -26,6 +26,11 @@ abbrev pub kept_count : List ℕ → ℕ → ℕ → ℕ
 kept_count dropped place zero = 0
 kept_count dropped place (suc left) = if is_named place dropped then kept_count dropped (suc place) left else suc (kept_count dropped (suc place) left)
 
+-- how many documents of views are kept
+abbrev pub kept_in : List ℕ → ℕ → List SplitView → ℕ
+kept_in dropped place [] = 0
+kept_in dropped place (v ∷ vs) = kept_count dropped place v.layout.docs + kept_in dropped (place + v.layout.docs) vs
+
 -- the tables of views, one behind the other
 abbrev pub tables_of : List ℕ → ℕ → ℕ → List SplitView → List (List ℕ)
 tables_of dropped place next [] = []

@@ -1,8 +1,8 @@
 //! The numbers of documents among those that are kept.
 
-ghost use Rattle.std.specs.Prelude.{◌≡◌, ◌+◌, ◌<◌, ◌^◌, ℕ, IfOk, if◌then◌else◌};
+ghost use Rattle.std.specs.Prelude.{◌≡◌, ◌+◌, ◌<◌, ◌≤◌, ◌^◌, ℕ, IfOk, OnOk, if◌then◌else◌};
 ghost use Rattle.split_merge.specs.Keeping.{is_named, RiseFrom};
-ghost use Rattle.split_merge.specs.Numbering.{kept_count, no_number, number_in, table_of, tables_of};
+ghost use Rattle.split_merge.specs.Numbering.{kept_count, kept_in, no_number, number_in, table_of, tables_of};
 
 use crate::keeping::passed;
 use split_bundle::SplitView;
@@ -43,6 +43,7 @@ impl Numbers {
 fn entry_of(dropped: bool, number: u32) -> Result<(u32, u32), AllocError>
     ensures entry { IfOk result (λ x. x.0 ≡ (if dropped then no_number else number)) }
     ensures next { IfOk result (λ x. x.1 ≡ (if dropped then number else number + 1)) }
+    ensures small { IfOk result (λ x. x.1 ≤ no_number) }
 {
     if dropped {
         return Ok((NO_NUMBER, number));
@@ -74,6 +75,7 @@ fn numbered<'a>(
     ensures rise { IfOk result (λ n. RiseFrom (first + docs) n.places.now) }
     ensures same { IfOk result (λ n. (m : ℕ) → first + docs < m + 1 → is_named m n.places.now ≡ is_named m places.now) }
     ensures next { IfOk result (λ n. n.next ≡ next + kept_count places.now first docs) }
+    ensures small { IfOk result (λ n. n.next ≤ no_number) }
 {
     let mut table = Vec::with_capacity(alloc, docs as usize)?;
     let mut rest = places;
@@ -102,7 +104,8 @@ pub(crate) fn numbers_of(
     dropped: &[u64],
 ) -> Result<Vec<Numbers>, AllocError>
     requires { RiseFrom 0 dropped.now }
-    ensures { IfOk result (λ tables. tables.items ≡ tables_of dropped.now 0 0 views.now) }
+    ensures tables { IfOk result (λ tables. tables.items ≡ tables_of dropped.now 0 0 views.now) }
+    ensures few { OnOk result (kept_in dropped.now 0 views.now ≤ no_number) }
 {
     let mut tables = Vec::new(alloc);
     let mut places = dropped;

@@ -14,6 +14,7 @@ loop-doc-preserved c =
       same = λ m lt. c.passed-dropped.ensures.same m (omega (arith, lt)) ∙ c.loop-doc.invariant.same m (omega (arith, lt));
       table = table_step rest behind c.loop-doc.place c.loop-doc.number (c.args.docs - c.loop-doc.doc) more left c.passed-dropped.ensures.same c.passed-dropped.result.0 c.in_ok-entry.entry c.in_ok-entry.above c.loop-doc.table.items _ _
           c.passed-dropped.ensures.named c.in_ok-entry.ensures.entry c.in_ok-entry.ensures.next c.in_ok-push.ensures.items c.loop-doc.invariant.table;
+      small = c.in_ok-entry.ensures.small;
       count = count_step rest behind c.loop-doc.place c.loop-doc.number (c.args.docs - c.loop-doc.doc) more left c.passed-dropped.ensures.same c.passed-dropped.result.0 c.in_ok-entry.above _
           c.passed-dropped.ensures.named c.in_ok-entry.ensures.next c.loop-doc.invariant.count;
     }

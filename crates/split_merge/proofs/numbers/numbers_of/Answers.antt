@@ -3,7 +3,7 @@ use Rattle.std.proofs.lemmas.Option.{slice_get_read}
 use Rattle.split_merge.specs.Keeping.{RiseFrom}
 use Rattle.split_merge.specs.Numbering.{kept_count, table_of}
 use Rattle.split_merge.proofs.KeptLemmas.{drop_view}
-use Rattle.split_merge.proofs.TableLemmas.{tables_step}
+use Rattle.split_merge.proofs.TableLemmas.{kept_step, tables_step}
 use Rattle.split_merge.proofs.numbers.numbers_of.Goals as goal
 
 pub loop-view-preserved : goal.loop-view-preserved
@@ -20,4 +20,8 @@ loop-view-preserved c =
           (c.in_ok-numbers.ensures.numbers ∙ ap (λ (n : ℕ). table_of c.loop-view.places.now c.loop-view.first c.loop-view.next n) c.doc_count-docs.ensures.exact)
           (λ m lt. c.in_ok-numbers.ensures.same m (omega (arith, lt, c.from-first.ensures)))
           c.in_ok-push.ensures.items c.loop-view.invariant.tables;
+      small = c.in_ok-numbers.ensures.small;
+      few = kept_step c.loop-view.places.now made.places.now c.loop-view.first (c.loop-view.first + c.from-first.result) c.loop-view.next made.next _ c.view-item.result (drop (c.loop-view.view-index + 1) c.args.views.now) _
+          (drop_view c.args.views.now c.loop-view.view-index c.view-item.result there) (omega (arith, docs)) (c.in_ok-numbers.ensures.next ∙ ap (λ (n : ℕ). c.loop-view.next + kept_count c.loop-view.places.now c.loop-view.first n) c.doc_count-docs.ensures.exact)
+          (λ m lt. c.in_ok-numbers.ensures.same m (omega (arith, lt, c.from-first.ensures))) c.loop-view.invariant.few;
     }
