@@ -5,3 +5,4 @@ pub mod PlaceLemmas
 pub mod ListLemmas
 pub mod WalkLemmas
 pub mod JoinLemmas
+pub mod PastLemmas
