@@ -6,3 +6,5 @@ pub mod ListLemmas
 pub mod WalkLemmas
 pub mod JoinLemmas
 pub mod PastLemmas
+pub mod KeyListLemmas
+pub mod SpellLemmas

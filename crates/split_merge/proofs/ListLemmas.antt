@@ -115,7 +115,7 @@ none_put kept number before c l h = record {
   only = λ list stands can. ([], list, [], stands, refl, refl, refl);
 }
 
-documents_push : (ps qs : List Posting) → documents (ps ++ qs) ≡ documents ps ++ documents qs
+pub documents_push : (ps qs : List Posting) → documents (ps ++ qs) ≡ documents ps ++ documents qs
 documents_push [] qs = refl
 documents_push (p ∷ ps) qs = ap (λ (l : List ℕ). p.document ∷ l) (documents_push ps qs)
 

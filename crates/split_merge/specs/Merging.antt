@@ -26,6 +26,12 @@ fault_of number (split.Truncated at) = Split number (split.Truncated at)
 fault_of number (split.BadSection section) = Split number (split.BadSection section)
 fault_of number (split.BadVersion version) = Split number (split.BadVersion version)
 
+-- want of memory
+abbrev pub IsMemory : MergeError → Type 0
+IsMemory (Memory a) = ⊤
+IsMemory (Split number e) = ⊥
+IsMemory (Build e) = ⊥
+
 -- these documents were read, or memory was wanting
 abbrev pub ReadsAll : List Placed → Result (List Placed) MergeError → Type 0
 ReadsAll documents (Ok found) = found ≡ documents

@@ -40,12 +40,12 @@ abbrev pub terms_past : Option (List ℕ) → List Term → List Term
 terms_past last terms = filter (λ t. is_past last t.key) terms
 
 -- a walk over the dictionary of a view that stands behind a last key, if there is one
-pub record IsWalkOf (last : Option (List ℕ)) (v : SplitView) (w : KeyWalk) : Type 0 where
+pub record IsWalkOf (s : Schema) (last : Option (List ℕ)) (v : SplitView) (w : KeyWalk) : Type 0 where
   pub ahead : (key : List ℕ) → key_of w ≡ Some key → is_past last key ≡ true
-  pub only : (s : Schema) (documents : List Placed) (p : Parts) → IsViewOf v s documents p → GivesTerms w (terms_past last (terms_of s documents p.keys))
+  pub only : (documents : List Placed) (p : Parts) → IsViewOf v s documents p → GivesTerms w (terms_past last (terms_of s documents p.keys))
 
-abbrev pub AreWalks : Option (List ℕ) → List SplitView → List KeyWalk → Type 0
-AreWalks last views walks = AllZip (IsWalkOf last) views walks
+abbrev pub AreWalks : Schema → Option (List ℕ) → List SplitView → List KeyWalk → Type 0
+AreWalks s last views walks = AllZip (IsWalkOf s last) views walks
 
 -- some walk stands at a key
 abbrev pub SomeAt : List ℕ → List KeyWalk → Type 0

@@ -2,6 +2,7 @@
 #![tactic(auto)]
 
 mod keeping;
+mod key_lists;
 mod key_walks;
 mod lists;
 mod merge_error;
