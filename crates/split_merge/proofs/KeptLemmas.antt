@@ -9,7 +9,7 @@ use Rattle.split_bundle.specs.declared.split_view.SplitView.{SplitView}
 use Rattle.split_bundle.specs.declared.split_error.SplitError.{SplitError}
 use Rattle.split_bundle.specs.declared.split_error.SplitError.TheVariants as split
 use Rattle.split_merge.specs.Faults.{IsWant}
-use Rattle.split_merge.specs.Merging.{HasCause, ReadsAll, fault_of}
+use Rattle.split_merge.specs.Merging.{HasCause, IsMemory, ReadsAll, fault_of}
 use Rattle.split_merge.specs.Keeping.{is_named, kept_from, RiseFrom, ViewsSplit, AreViewsOf}
 
 -- ---- places
@@ -150,3 +150,11 @@ fault_cause s views number v split.BadMagic is only = record { view = v; is_ther
 fault_cause s views number v (split.Truncated at) is only = record { view = v; is_there = is; is_none = only }
 fault_cause s views number v (split.BadSection section) is only = record { view = v; is_there = is; is_none = only }
 fault_cause s views number v (split.BadVersion version) is only = record { view = v; is_there = is; is_none = only }
+
+-- want of memory stays so
+pub fault_memory : (number : ℕ) (e : SplitError) → IsWant e → IsMemory (fault_of number e)
+fault_memory number (split.Memory a) want = tt
+fault_memory number split.BadMagic want = want
+fault_memory number (split.Truncated at) want = want
+fault_memory number (split.BadSection section) want = want
+fault_memory number (split.BadVersion version) want = want

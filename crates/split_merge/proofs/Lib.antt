@@ -8,3 +8,4 @@ pub mod JoinLemmas
 pub mod PastLemmas
 pub mod KeyListLemmas
 pub mod SpellLemmas
+pub mod GatherLemmas

@@ -1,6 +1,7 @@
 //! The list of a key over several splits, gathered as their dictionaries are walked.
 
 ghost use Rattle.std.specs.Prelude.{◌≡◌, ◌≤◌, ◌++◌, [], ℕ, List, Option, Some, true, length, IfErr, IsOkAnd, MatchResult, OnOk};
+ghost use Rattle.std.specs.List.{AllByRecursion};
 ghost use Rattle.doc_value.specs.declared.schema.Schema.{Schema};
 ghost use Rattle.term_dict.specs.Terms.{lookup};
 ghost use Rattle.term_postings.specs.Cursors.{StandsBefore};
@@ -12,7 +13,7 @@ ghost use Rattle.split_bundle.specs.SplitViews.{IsViewOf};
 ghost use Rattle.split_merge.specs.Faults.{IsWant};
 ghost use Rattle.split_merge.specs.Joining.{CanSpell, Holds, Joins, joined_list, renumbered};
 ghost use Rattle.split_merge.specs.Keeping.{AreViewsOf};
-ghost use Rattle.split_merge.specs.Merging.{HasCause};
+ghost use Rattle.split_merge.specs.Merging.{HasCause, IsMemory};
 ghost use Rattle.split_merge.specs.Numbering.{kept_in, no_number, number_in, tables_of};
 ghost use Rattle.split_merge.specs.Walking.{AreWalks, IsLeast, IsNotBelow, IsWalkOf, is_past};
 
@@ -82,4 +83,33 @@ fn take_key(
         Ok(()) => walk.advance(),
         Err(fault) => Err(fault),
     }
+}
+
+/// Gathers the documents that splits have at a key, the least one that their walks stand at, and goes on behind it. After an
+/// `Err` nothing is said of the list and the walks.
+pub(crate) fn gather_key(
+    views: &[SplitView<'_>],
+    numbers: &[Numbers],
+    walks: &mut [KeyWalk<'_>],
+    key: &[u8],
+    kept: bool,
+    list: &mut KeyList,
+) -> Result<(), MergeError>
+    requires numbers { length numbers.now ≡ length views.now }
+    requires walks { length walks.old ≡ length views.now }
+    ensures can { (dropped : List ℕ) → numbers.now ≡ tables_of dropped 0 0 views.now → Holds list.old [] → OnOk result ((ps : List Posting) × Holds list.new ps × CanSpell kept ps) }
+    ensures walks { (s : Schema) (last : Option (List ℕ)) → kept ≡ keeps_places s key.now → is_past last key.now ≡ true → AreWalks s last views.now walks.old → AllByRecursion (IsNotBelow key.now) walks.old
+        → OnOk result (AreWalks s (Some key.now) views.now walks.new) }
+    ensures only { (s : Schema) (last : Option (List ℕ)) (lists : List (List Placed)) → kept ≡ keeps_places s key.now → is_past last key.now ≡ true → AreWalks s last views.now walks.old → AllByRecursion (IsNotBelow key.now) walks.old
+        → AreViewsOf s views.now lists → Holds list.old [] → MatchResult result (λ _. Holds list.new (joined_list s key.now lists numbers.now)) IsMemory }
+    ensures cause { (s : Schema) (last : Option (List ℕ)) → kept ≡ keeps_places s key.now → is_past last key.now ≡ true → AreWalks s last views.now walks.old → AllByRecursion (IsNotBelow key.now) walks.old
+        → Holds list.old [] → IfErr result (HasCause s views.now) }
+{
+    for i in 0..walks.len() {
+        match take_key(&views[i], &numbers[i], &mut walks[i], key, kept, list) {
+            Ok(()) => {}
+            Err(fault) => return Err(fault_of(i, fault)),
+        }
+    }
+    Ok(())
 }
