@@ -9,3 +9,5 @@ pub mod PastLemmas
 pub mod KeyListLemmas
 pub mod SpellLemmas
 pub mod GatherLemmas
+pub mod JoinedLemmas
+pub mod UpToLemmas

@@ -227,7 +227,7 @@ stands_past_key last w key ts rise gives past not_below elsewhere = by (terms_pa
 
 -- ---- a key that no document says
 
-has_term : (s : Schema) (ds : List Placed) (start place : ℕ) (keys : List (List ℕ)) (key : List ℕ) → IsAmong keys key → lookup key (terms_from s ds start place keys) ≡ None → ⊥
+pub has_term : (s : Schema) (ds : List Placed) (start place : ℕ) (keys : List (List ℕ)) (key : List ℕ) → IsAmong keys key → lookup key (terms_from s ds start place keys) ≡ None → ⊥
 has_term s ds start place [] key among none = absurd among
 has_term s ds start place (k ∷ ks) key (inl is) none =
     let first = looked_first (term_of s ds k start place) (terms_from s ds (start + length (list_of s ds k)) (place + length (places_in s ds k)) ks) in

@@ -3,5 +3,6 @@ pub mod Numbering
 pub mod Faults
 pub mod Joining
 pub mod Walking
+pub mod Terms
 pub mod Merging
 pub mod Reading

@@ -58,6 +58,12 @@ HasCause s views (Memory a) = ⊤
 HasCause s views (Split number e) = HasFault s views number e
 HasCause s views (Build e) = ⊤
 
+-- want of memory, or a fault of a split that is named only where it is of no documents
+abbrev pub Blames : Schema → List SplitView → MergeError → Type 0
+Blames s views (Memory a) = ⊤
+Blames s views (Split number e) = HasFault s views number e
+Blames s views (Build e) = ⊥
+
 -- what a refusal of the builder is to the merge
 abbrev pub refusal_of : BuildError → MergeError
 refusal_of (build.Memory a) = Memory a

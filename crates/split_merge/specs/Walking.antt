@@ -5,6 +5,7 @@ use Rattle.std.specs.List.{AllByRecursion, AllZip}
 use Rattle.doc_value.specs.declared.schema.Schema.{Schema}
 use Rattle.term_dict.specs.Keys.{is_below}
 use Rattle.term_dict.specs.Readers.{Lends}
+use Rattle.term_dict.specs.declared.index.BlockStart.{BlockStart}
 use Rattle.term_dict.specs.declared.term.Term.{Term}
 use Rattle.term_dict.specs.declared.term.TermInfo.{TermInfo}
 use Rattle.split_bundle.specs.declared.placed.Placed.{Placed}
@@ -43,6 +44,10 @@ terms_past last terms = filter (λ t. is_past last t.key) terms
 pub record IsWalkOf (s : Schema) (last : Option (List ℕ)) (v : SplitView) (w : KeyWalk) : Type 0 where
   pub ahead : (key : List ℕ) → key_of w ≡ Some key → is_past last key ≡ true
   pub only : (documents : List Placed) (p : Parts) → IsViewOf v s documents p → GivesTerms w (terms_past last (terms_of s documents p.keys))
+
+-- the index of a split's dictionary
+abbrev pub IsIndexOf : Schema → SplitView → List BlockStart → Type 0
+IsIndexOf s v index = (documents : List Placed) (p : Parts) → IsViewOf v s documents p → index ≡ p.index
 
 abbrev pub AreWalks : Schema → Option (List ℕ) → List SplitView → List KeyWalk → Type 0
 AreWalks s last views walks = AllZip (IsWalkOf s last) views walks

@@ -13,7 +13,7 @@ ghost use Rattle.split_bundle.specs.SplitViews.{IsViewOf};
 ghost use Rattle.split_merge.specs.Faults.{IsWant};
 ghost use Rattle.split_merge.specs.Joining.{CanSpell, Holds, Joins, joined_list, renumbered};
 ghost use Rattle.split_merge.specs.Keeping.{AreViewsOf};
-ghost use Rattle.split_merge.specs.Merging.{HasCause, IsMemory};
+ghost use Rattle.split_merge.specs.Merging.{Blames};
 ghost use Rattle.split_merge.specs.Numbering.{kept_in, no_number, number_in, tables_of};
 ghost use Rattle.split_merge.specs.Walking.{AreWalks, IsLeast, IsNotBelow, IsWalkOf, is_past};
 
@@ -101,9 +101,9 @@ pub(crate) fn gather_key(
     ensures walks { (s : Schema) (last : Option (List ℕ)) → kept ≡ keeps_places s key.now → is_past last key.now ≡ true → AreWalks s last views.now walks.old → AllByRecursion (IsNotBelow key.now) walks.old
         → OnOk result (AreWalks s (Some key.now) views.now walks.new) }
     ensures only { (s : Schema) (last : Option (List ℕ)) (lists : List (List Placed)) → kept ≡ keeps_places s key.now → is_past last key.now ≡ true → AreWalks s last views.now walks.old → AllByRecursion (IsNotBelow key.now) walks.old
-        → AreViewsOf s views.now lists → Holds list.old [] → MatchResult result (λ _. Holds list.new (joined_list s key.now lists numbers.now)) IsMemory }
+        → AreViewsOf s views.now lists → Holds list.old [] → OnOk result (Holds list.new (joined_list s key.now lists numbers.now)) }
     ensures cause { (s : Schema) (last : Option (List ℕ)) → kept ≡ keeps_places s key.now → is_past last key.now ≡ true → AreWalks s last views.now walks.old → AllByRecursion (IsNotBelow key.now) walks.old
-        → Holds list.old [] → IfErr result (HasCause s views.now) }
+        → Holds list.old [] → IfErr result (Blames s views.now) }
 {
     for i in 0..walks.len() {
         match take_key(&views[i], &numbers[i], &mut walks[i], key, kept, list) {

@@ -8,6 +8,7 @@ mod lists;
 mod merge_error;
 mod merging;
 mod numbers;
+mod terms;
 
 pub use merge_error::MergeError;
 pub use merging::merge;

@@ -1,10 +1,10 @@
 use Rattle.std.proofs.Common.{◌≡◌, ◌<◌, ◌+◌, ◌∙◌, ℕ, suc, [], List, Some, drop, get_or, length, refl, sym, subst, set, arith}
 use Rattle.std.proofs.lemmas.Option.{slice_get_read}
 use Rattle.split_build.proofs.Zipped.{Partly, partly_all}
-use Rattle.split_merge.specs.Merging.{HasCause, IsMemory}
+use Rattle.split_merge.specs.Merging.{Blames}
 use Rattle.split_merge.specs.Walking.{IsWalkOf}
 use Rattle.split_merge.proofs.GatherLemmas.{IsReady, all_joined, all_ready, drop_is, joins_more, ready_at, set_here, spells_more}
-use Rattle.split_merge.proofs.KeptLemmas.{at_view, fault_cause, fault_memory, views_end}
+use Rattle.split_merge.proofs.KeptLemmas.{at_view, fault_blames, views_end}
 use Rattle.split_merge.proofs.SpellLemmas.{none_yet}
 use Rattle.split_merge.proofs.key_lists.gather_key.Goals as goal
 
@@ -16,17 +16,6 @@ loop-i-init c = record {
   only = λ s last lists kept past are not_below views h. record { list = []; holds = h; whole_is = refl };
 }
 
-pub returns-in-Err-clause-only : goal.returns-in-Err-clause-only
-returns-in-Err-clause-only c = λ s last lists kept past are not_below views h.
-    let i = c.loop-i.i in
-    let there = slice_get_read c.args.views.now (length c.args.views.now) i c.index-views-i.result refl (omega (arith, c.loop-i-test.true, c.loop-i.auto.walks, c.requires.walks)) c.index-views-i.is in
-    let at = at_view s c.args.views.now lists i c.index-views-i.result views there in
-    let ready = ready_at (IsWalkOf s (Some c.args.key.now)) (IsReady s last c.args.key.now) i c.args.views.now c.loop-i.walks c.index-views-i.result c.index-views-i.result (get_or c.loop-i.walks i c.index-walks-i.result) c.index-walks-i.result
-    (omega (arith, c.loop-i-test.true, c.loop-i.auto.walks)) c.index-views-i.is refl (c.loop-i.invariant.walks s last kept past are not_below) in
-    let so_far = c.loop-i.invariant.only s last lists kept past are not_below views h in
-    let want = c.in-Err.ensures.only s last at.documents at.views.0 so_far.list kept past ready.walk ready.not_below at.views.1 so_far.holds in
-    subst IsMemory (sym c.fault_of.ensures) (fault_memory i c.in-Err.fault want)
-
 pub returns-in-Err-clause-cause : goal.returns-in-Err-clause-cause
 returns-in-Err-clause-cause c = λ s last kept past are not_below h.
     let i = c.loop-i.i in
@@ -34,8 +23,8 @@ returns-in-Err-clause-cause c = λ s last kept past are not_below h.
     let ready = ready_at (IsWalkOf s (Some c.args.key.now)) (IsReady s last c.args.key.now) i c.args.views.now c.loop-i.walks c.index-views-i.result c.index-views-i.result (get_or c.loop-i.walks i c.index-walks-i.result) c.index-walks-i.result
     (omega (arith, c.loop-i-test.true, c.loop-i.auto.walks)) c.index-views-i.is refl (c.loop-i.invariant.walks s last kept past are not_below) in
     let held = c.loop-i.invariant.held h in
-    subst (HasCause s c.args.views.now) (sym c.fault_of.ensures)
-    (fault_cause s c.args.views.now i c.index-views-i.result c.in-Err.fault there (λ ds views. c.in-Err.ensures.only s last ds views.0 held.0 kept past ready.walk ready.not_below views.1 held.1))
+    subst (Blames s c.args.views.now) (sym c.fault_of.ensures)
+    (fault_blames s c.args.views.now i c.index-views-i.result c.in-Err.fault there (λ ds views. c.in-Err.ensures.only s last ds views.0 held.0 kept past ready.walk ready.not_below views.1 held.1))
 
 pub loop-i-preserved : goal.loop-i-preserved
 loop-i-preserved c =
