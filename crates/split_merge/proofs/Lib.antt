@@ -11,3 +11,4 @@ pub mod SpellLemmas
 pub mod GatherLemmas
 pub mod JoinedLemmas
 pub mod UpToLemmas
+pub mod StandLemmas

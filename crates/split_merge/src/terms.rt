@@ -198,6 +198,36 @@ impl JoinedTerms {
     }
 }
 
+// The parts of a split that the keys of kept documents make, by walks that stand at the first terms.
+fn join_walks(
+    alloc: Global,
+    schema: &Schema,
+    views: &[SplitView<'_>],
+    numbers: &[Numbers],
+    walks: &mut [KeyWalk<'_>],
+) -> Result<TermParts, MergeError>
+    requires numbers { (dropped : List ℕ) × (numbers.now ≡ tables_of dropped 0 0 views.now) }
+    requires walks { AreWalks schema.now None views.now walks.old }
+    ensures only { (dropped : List ℕ) (lists : List (List Placed)) → numbers.now ≡ tables_of dropped 0 0 views.now → kept_in dropped 0 views.now ≤ no_number → AreViewsOf schema.now views.now lists
+        → IfOk result (AreTermParts schema.now (kept dropped (joined lists))) }
+    ensures cause { IfErr result (Blames schema.now views.now) }
+{
+    let mut list = KeyList::vacant(alloc);
+    let mut terms = JoinedTerms::vacant(alloc);
+    for _turn in 0..u64::MAX {
+        let Some(key) = least_key(walks) else {
+            return Ok(terms.finish());
+        };
+        let kept = keeps_places(schema, key);
+        list.clear();
+        match gather_key(views, numbers, walks, key, kept, &mut list) {
+            Ok(()) => terms.take(alloc, key, kept, &list)?,
+            Err(fault) => return Err(fault),
+        }
+    }
+    Err(MergeError::Memory(AllocError))
+}
+
 /// The parts of a split that the keys of kept documents make, of the dictionaries and the lists of their splits.
 pub(crate) fn join_terms(
     alloc: Global,
@@ -210,20 +240,11 @@ pub(crate) fn join_terms(
         → IfOk result (AreTermParts schema.now (kept dropped (joined lists))) }
     ensures cause { IfErr result (Blames schema.now views.now) }
 {
-    let indexes = indexes_of(alloc, views)?;
-    let mut walks = walks_over(alloc, views, &indexes)?;
-    let mut list = KeyList::vacant(alloc);
-    let mut terms = JoinedTerms::vacant(alloc);
-    for _turn in 0..u64::MAX {
-        let Some(key) = least_key(&walks) else {
-            return Ok(terms.finish());
-        };
-        let kept = keeps_places(schema, key);
-        list.clear();
-        match gather_key(views, numbers, &mut walks, key, kept, &mut list) {
-            Ok(()) => terms.take(alloc, key, kept, &list)?,
-            Err(fault) => return Err(fault),
-        }
+    match indexes_of(alloc, views) {
+        Ok(indexes) => match walks_over(alloc, views, &indexes) {
+            Ok(mut walks) => join_walks(alloc, schema, views, numbers, &mut walks),
+            Err(fault) => Err(fault),
+        },
+        Err(fault) => Err(fault),
     }
-    Err(MergeError::Memory(AllocError))
 }
