@@ -12,3 +12,4 @@ pub mod GatherLemmas
 pub mod JoinedLemmas
 pub mod UpToLemmas
 pub mod StandLemmas
+pub mod GainLemmas

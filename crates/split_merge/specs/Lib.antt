@@ -6,3 +6,5 @@ pub mod Walking
 pub mod Terms
 pub mod Merging
 pub mod Reading
+pub mod Lent
+pub mod Facts

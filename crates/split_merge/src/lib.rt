@@ -1,9 +1,11 @@
 //! A split made of splits: their documents one behind another, without those that are dropped.
 #![tactic(auto)]
 
+mod facts;
 mod keeping;
 mod key_lists;
 mod key_walks;
+mod lent;
 mod lists;
 mod merge_error;
 mod merging;
