@@ -10,10 +10,13 @@ use Rattle.query_ast.specs.Meaning.{values_in}
 use Rattle.split_states.specs.declared.facts.Times.{Times}
 use Rattle.split_bundle.specs.declared.placed.Placed.{Placed}
 use Rattle.split_build.specs.declared.tags.TagLog.{TagLog}
-use Rattle.split_build.specs.HeldTags.{HasTerms, HasTermsOf}
-use Rattle.split_build.specs.Tags.{term_of, terms_in}
+use Rattle.doc_value.specs.declared.schema.Schema.{Schema}
+use Rattle.split_build.specs.HeldTags.{HasTags, HasTerms, HasTermsOf}
+use Rattle.split_build.specs.Tags.{tag_numbers, term_of, terms_in}
 use Rattle.split_build.specs.Times.{AreTimes, second_of, seconds_in}
 use Rattle.split_build.proofs.TakenLemmas.{seconds_more, terms_more}
+use Rattle.split_merge.specs.declared.facts.FieldFacts.{FieldFacts}
+use Rattle.split_merge.specs.Facts.{HasFacts}
 use Rattle.split_merge.specs.Lent.{Gains}
 
 flat_more : {X : Type 0} (f : Value → List X) (vs ws : List Value) → flat_map f (vs ++ ws) ≡ flat_map f vs ++ flat_map f ws
@@ -90,3 +93,63 @@ gains_one fs number vs v below = record {
   where
     here : (ws : List Value) → values_in (fs ++ record { number = number; values = ws } ∷ []) number ≡ ws
     here ws = none_in fs number below (record { number = number; values = ws }) ∙ rw (eq-eqb number number refl) refl
+
+-- ---- documents with the same values
+
+module _ (ds : List Placed) (d e : Placed) (same : (n : ℕ) → values_in e.doc n ≡ values_in d.doc n) where
+  same_terms : (n : ℕ) (log : TagLog) → HasTermsOf (ds ++ d ∷ []) n log → HasTermsOf (ds ++ e ∷ []) n log
+  same_terms n log h = record {
+    number_is = h.number_is;
+    terms = subst (λ (ts : List (List ℕ)). HasTerms log.terms.items ts) (terms_more n ds d ∙ ap (λ (vs : List Value). terms_in n ds ++ flat_map term_of vs) (sym (same n)) ∙ sym (terms_more n ds e)) h.terms;
+  }
+
+  same_tags : (ns : List ℕ) (logs : List TagLog) → HasTags (ds ++ d ∷ []) ns logs → HasTags (ds ++ e ∷ []) ns logs
+  same_tags [] [] h = tt
+  same_tags [] (log ∷ logs) h = absurd h
+  same_tags (n ∷ ns) [] h = absurd h
+  same_tags (n ∷ ns) (log ∷ logs) h = (same_terms n log h.0, same_tags ns logs h.1)
+
+  same_times : (o : Option ℕ) (times : Option Times) → AreTimes (seconds_in o (ds ++ d ∷ [])) times → AreTimes (seconds_in o (ds ++ e ∷ [])) times
+  same_times None times h = h
+  same_times (Some n) times h =
+      subst (λ (zs : List ℤ). AreTimes zs times) (seconds_more n ds d ∙ ap (λ (vs : List Value). seconds_in (Some n) ds ++ flat_map second_of vs) (sym (same n)) ∙ sym (seconds_more n ds e)) h
+
+  pub same_facts : (f : FieldFacts) (s : Schema) → HasFacts f s (ds ++ d ∷ []) → HasFacts f s (ds ++ e ∷ [])
+  same_facts f s h = record { timestamp = h.timestamp; tags = same_tags (tag_numbers 0 s.fields) f.tags.items h.tags; times = same_times s.timestamp f.times h.times }
+
+-- a field without values
+pub none_gained : (fs : List DocField) (number : ℕ) → AllByRecursion (λ f. f.number < number) fs → (n : ℕ) → values_in (fs ++ record { number = number; values = [] } ∷ []) n ≡ values_in fs n
+none_gained [] number below n = by (number == n)
+  where
+    by : (b : Bool) → (if b then [] else values_in [] n) ≡ values_in [] n
+    by true = refl
+    by false = refl
+none_gained (f ∷ fs) number below n = by (f.number == n) (none_gained fs number below.1 n)
+  where
+    by : (b : Bool) → values_in (fs ++ record { number = number; values = [] } ∷ []) n ≡ values_in fs n
+        → (if b then f.values else values_in (fs ++ record { number = number; values = [] } ∷ []) n) ≡ (if b then f.values else values_in fs n)
+    by true e = refl
+    by false e = e
+
+-- a document without values
+pub none_added : (f : FieldFacts) (s : Schema) (ds : List Placed) (d : Placed) → d.doc ≡ [] → HasFacts f s ds → HasFacts f s (ds ++ d ∷ [])
+none_added f s ds d none h = record { timestamp = h.timestamp; tags = tags (tag_numbers 0 s.fields) f.tags.items h.tags; times = times s.timestamp h.times }
+  where
+    empty : (n : ℕ) → values_in d.doc n ≡ []
+    empty n = ap (λ (doc : List DocField). values_in doc n) none
+
+    terms : (n : ℕ) (log : TagLog) → HasTermsOf ds n log → HasTermsOf (ds ++ d ∷ []) n log
+    terms n log k = record {
+      number_is = k.number_is;
+      terms = subst (λ (ts : List (List ℕ)). HasTerms log.terms.items ts) (sym (terms_more n ds d ∙ ap (λ (vs : List Value). terms_in n ds ++ flat_map term_of vs) (empty n) ∙ append-nil (terms_in n ds))) k.terms;
+    }
+
+    tags : (ns : List ℕ) (logs : List TagLog) → HasTags ds ns logs → HasTags (ds ++ d ∷ []) ns logs
+    tags [] [] k = tt
+    tags [] (log ∷ logs) k = absurd k
+    tags (n ∷ ns) [] k = absurd k
+    tags (n ∷ ns) (log ∷ logs) k = (terms n log k.0, tags ns logs k.1)
+
+    times : (o : Option ℕ) → AreTimes (seconds_in o ds) f.times → AreTimes (seconds_in o (ds ++ d ∷ [])) f.times
+    times None k = k
+    times (Some n) k = subst (λ (zs : List ℤ). AreTimes zs f.times) (sym (seconds_more n ds d ∙ ap (λ (vs : List Value). seconds_in (Some n) ds ++ flat_map second_of vs) (empty n) ∙ append-nil (seconds_in (Some n) ds))) k

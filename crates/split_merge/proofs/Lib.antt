@@ -13,3 +13,4 @@ pub mod JoinedLemmas
 pub mod UpToLemmas
 pub mod StandLemmas
 pub mod GainLemmas
+pub mod ScanLemmas

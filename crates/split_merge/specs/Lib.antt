@@ -8,3 +8,4 @@ pub mod Merging
 pub mod Reading
 pub mod Lent
 pub mod Facts
+pub mod Scanning

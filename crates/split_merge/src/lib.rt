@@ -10,6 +10,7 @@ mod lists;
 mod merge_error;
 mod merging;
 mod numbers;
+mod scanning;
 mod terms;
 
 pub use merge_error::MergeError;
