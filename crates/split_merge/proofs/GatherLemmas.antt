@@ -1,16 +1,16 @@
 -- A key is taken from split after split.
-use Rattle.std.proofs.Common.{◌≡◌, ℕ, zero, suc, ◌+◌, ◌<◌, ◌≤◌, Bool, true, false, List, [], ◌∷◌, ◌++◌, length, drop, get_or, set, Option, Some, None, Result, Ok, Err, refl, sym, ap, subst, ◌∙◌, arith, append_assoc}
+use Rattle.std.proofs.Common.{◌≡◌, ℕ, zero, suc, ◌+◌, ◌<◌, Bool, List, [], ◌∷◌, ◌++◌, length, drop, get_or, set, Option, sym, ap, subst, ◌∙◌, arith, append_assoc}
 use Rattle.std.specs.List.{AllByRecursion, AllZip}
 use Rattle.std.proofs.lemmas.List.{append-nil}
 use Rattle.doc_value.specs.declared.schema.Schema.{Schema}
 use Rattle.term_postings.specs.declared.list.Posting.{Posting}
 use Rattle.split_bundle.specs.declared.placed.Placed.{Placed}
 use Rattle.split_bundle.specs.declared.split_view.SplitView.{SplitView}
-use Rattle.split_bundle.specs.Lists.{keeps_places, posting_list}
+use Rattle.split_bundle.specs.Lists.{posting_list}
 use Rattle.split_build.proofs.Zipped.{Partly}
 use Rattle.split_merge.specs.declared.key_walks.KeyWalk.{KeyWalk}
 use Rattle.split_merge.specs.declared.lists.KeyList.{KeyList}
-use Rattle.split_merge.specs.Joining.{CanSpell, Holds, Joins, joined_list, renumbered}
+use Rattle.split_merge.specs.Joining.{Holds, Joins, joined_list, renumbered}
 use Rattle.split_merge.specs.Numbering.{kept_count, number_in, tables_of}
 use Rattle.split_merge.specs.Walking.{AreWalks, IsNotBelow, IsWalkOf}
 use Rattle.split_merge.proofs.SpellLemmas.{CanFollow, can_follow}

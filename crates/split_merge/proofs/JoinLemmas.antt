@@ -1,6 +1,6 @@
 -- The list of a key over documents that are kept is the lists of the splits under their numbers, one behind another.
-use Rattle.std.proofs.Common.{◌≡◌, ℕ, zero, suc, ◌+◌, ◌<◌, ◌≤◌, Bool, true, false, List, [], ◌∷◌, ◌++◌, length, Option, Some, None, refl, sym, ap, ap₂, subst, ◌∙◌, arith, append_assoc, length-append}
-use Rattle.std.specs.Prelude.{if◌then◌else◌, ◌==◌, slice_get}
+use Rattle.std.proofs.Common.{◌≡◌, ℕ, suc, ◌+◌, ◌<◌, ◌≤◌, Bool, true, false, List, [], ◌∷◌, ◌++◌, length, Option, Some, None, refl, sym, ap, ap₂, ◌∙◌, arith}
+use Rattle.std.specs.Prelude.{if◌then◌else◌}
 use Rattle.std.proofs.lemmas.Bool.{ne_eqb}
 use Rattle.doc_value.specs.declared.schema.Schema.{Schema}
 use Rattle.term_postings.specs.declared.list.Posting.{Posting}
@@ -10,7 +10,7 @@ use Rattle.split_bundle.specs.Keys.{keys_of}
 use Rattle.split_bundle.specs.Lists.{has_key, keeps_places, places_of, posted, posting_list}
 use Rattle.split_merge.specs.Joining.{joined_list, renumbered, with_number}
 use Rattle.split_merge.specs.Keeping.{AreViewsOf, ViewsSplit, is_named, joined, kept, kept_from}
-use Rattle.split_merge.specs.Numbering.{kept_count, kept_in, no_number, number_in, number_of, table_of, tables_of}
+use Rattle.split_merge.specs.Numbering.{kept_count, kept_in, no_number, number_in, table_of, tables_of}
 use Rattle.split_merge.proofs.KeptLemmas.{kept_append}
 
 -- ---- one split

@@ -1,5 +1,5 @@
 -- A key is taken from the dictionary of a split.
-use Rattle.std.proofs.Common.{◌≡◌, ℕ, Bool, true, false, List, [], ◌∷◌, ◌++◌, length, Option, Some, None, Result, Ok, Err, refl, sym, ap, subst, ◌∙◌}
+use Rattle.std.proofs.Common.{◌≡◌, ℕ, Bool, true, false, List, [], ◌∷◌, ◌++◌, Option, Some, Result, Ok, Err, refl, sym, ap, subst, ◌∙◌}
 use Rattle.std.specs.Prelude.{MatchResult, OnOk}
 use Rattle.std.specs.Borrow.{Bor}
 use Rattle.std.specs.List.{AllByRecursion}
@@ -7,7 +7,7 @@ use Rattle.std.proofs.lemmas.List.{append-nil}
 use Rattle.doc_value.specs.declared.schema.Schema.{Schema}
 use Rattle.fast_fields.proofs.Below.{neither_below}
 use Rattle.term_dict.specs.Keys.{is_below}
-use Rattle.term_dict.specs.Terms.{IsRising, lookup}
+use Rattle.term_dict.specs.Terms.{IsRising}
 use Rattle.term_dict.specs.declared.term.Term.{Term}
 use Rattle.term_dict.specs.declared.term.TermInfo.{TermInfo}
 use Rattle.term_postings.specs.Postings.{AreDocuments, Fits}

@@ -1,5 +1,5 @@
 -- Lists that grow by a document.
-use Rattle.std.proofs.Common.{◌≡◌, ℕ, zero, suc, ◌+◌, ◌<◌, ◌≤◌, Bool, true, false, List, [], ◌∷◌, ◌++◌, length, take, drop, map, Option, Some, None, Result, Ok, Err, refl, sym, ap, subst, ◌∙◌, arith, append_assoc, length-append, length-drop}
+use Rattle.std.proofs.Common.{◌≡◌, ℕ, ◌+◌, ◌<◌, ◌≤◌, Bool, true, false, List, [], ◌∷◌, ◌++◌, length, take, drop, Option, Some, None, Result, Ok, Err, refl, sym, ap, subst, ◌∙◌, arith, append_assoc, length-append, length-drop}
 use Rattle.std.specs.Prelude.{MatchResult}
 use Rattle.std.specs.List.{AllByRecursion}
 use Rattle.std.proofs.lemmas.List.{append-nil, take-append-le, drop-append-le, take_all, nil_from_length, append_cancel_left, map_push}
@@ -10,7 +10,7 @@ use Rattle.term_postings.specs.declared.cursor.Cursor.{Cursor}
 use Rattle.term_postings.specs.Rows.{lent, lent_one}
 use Rattle.term_postings.specs.declared.list.Posting.{Posting}
 use Rattle.term_postings.specs.declared.list.Row.{Row}
-use Rattle.term_postings.proofs.Lists.{all_both, all_left, all_right}
+use Rattle.term_postings.proofs.Lists.{all_both, all_right}
 use Rattle.split_bundle.specs.declared.split_error.SplitError.{SplitError}
 use Rattle.split_merge.specs.Faults.{IsWant}
 use Rattle.split_merge.specs.Joining.{CanHave, CanSpell, Holds, Joins, counted, cut, is_above, new_numbers, renumbered, with_new, with_number}
@@ -190,8 +190,7 @@ module _ (kept : Bool) (number : ℕ → Option ℕ) (before : List Posting) (ta
         let here = (all_right (λ q. CanHave kept q.positions) o.0 (p ∷ drop 1 o.1) each).0 in
         let stands_next : StandsBefore kept next (drop 1 o.1) p.positions = subst (λ (ps : List Posting). StandsBefore kept next (drop 1 o.1) (first_positions ps o.2)) first.1 g.1 in
         let x = given (drop 1 o.1) p.positions stands_next here in
-        let lasts : renumbered number (p ∷ []) ≡ with_number (number document) p.positions [] = ap (λ (n : ℕ). with_number (number n) p.positions []) first.2 in
-        (
+        let lasts : renumbered number (p ∷ []) ≡ with_number (number document) p.positions [] = ap (λ (n : ℕ). with_number (number n) p.positions []) first.2 in (
           o.0 ++ p ∷ [],
           drop 1 o.1,
           x.1.0,

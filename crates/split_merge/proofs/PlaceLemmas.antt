@@ -1,5 +1,5 @@
 -- Positions that are taken one after the other, and lists that grow.
-use Rattle.std.proofs.Common.{◌≡◌, ℕ, zero, suc, ◌+◌, ◌<◌, ◌≤◌, Bool, true, false, List, [], ◌∷◌, ◌++◌, length, take, drop, Option, Some, None, Result, Ok, Err, refl, sym, ap, subst, ◌∙◌, arith, append_assoc, length-append}
+use Rattle.std.proofs.Common.{◌≡◌, ℕ, ◌+◌, ◌<◌, ◌≤◌, true, false, List, [], ◌∷◌, ◌++◌, length, drop, Option, Some, None, Result, Ok, Err, refl, sym, ap, subst, ◌∙◌, arith, append_assoc, length-append}
 use Rattle.std.specs.List.{AllByRecursion}
 use Rattle.std.proofs.lemmas.List.{append-nil}
 use Rattle.byte_fields.specs.declared.corrupt.Corrupt.{Corrupt}
@@ -9,7 +9,7 @@ use Rattle.term_postings.specs.declared.cursor.Cursor.{Cursor}
 use Rattle.term_postings.specs.declared.list.Posting.{Posting}
 use Rattle.std.proofs.lemmas.Bool.{lt-ltb}
 use borrow.Author.Tests.{ltb-true}
-use Rattle.term_postings.proofs.Lists.{all_both, all_left, all_right}
+use Rattle.term_postings.proofs.Lists.{all_both, all_right}
 use Rattle.split_merge.specs.Joining.{is_above}
 
 -- ---- numbers that rise

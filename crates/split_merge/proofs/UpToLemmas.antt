@@ -88,9 +88,9 @@ walk_near s last v w ds key walk views past stands = by (key_of w) refl
     near other at false not_up = record { other = other; at = at; near = not_up }
     near other at true up = gone (λ own own_at. let same : own ≡ other = some_key (sym own_at ∙ at) in subst (λ (k : List ℕ). is_below k key ≡ false) (sym same) (not_both key other up))
         (λ at_key.
-          let same : key ≡ other = some_key (sym at_key ∙ at) in
-          let wrong : true ≡ false = sym (subst (λ (k : List ℕ). is_below key k ≡ true) (sym same) up) ∙ not_itself key in
-          absurd cc)
+        let same : key ≡ other = some_key (sym at_key ∙ at) in
+        let wrong : true ≡ false = sym (subst (λ (k : List ℕ). is_below key k ≡ true) (sym same) up) ∙ not_itself key in
+        absurd cc)
       where
         some_key : {x y : List ℕ} → ◌≡◌ {A = Option (List ℕ)} (Some x) (Some y) → x ≡ y
         some_key e = cc

@@ -1,10 +1,10 @@
 -- Walks over terms, and the least key of several.
-use Rattle.std.proofs.Common.{◌≡◌, ℕ, zero, suc, ◌+◌, ◌<◌, ◌≤◌, Bool, true, false, List, [], ◌∷◌, ◌++◌, length, take, drop, filter, Option, Some, None, Result, Ok, Err, refl, sym, ap, subst, ◌∙◌, arith, inl, inr, append_assoc, nat_eq}
-use Rattle.std.specs.Prelude.{◌⊎◌, if◌then◌else◌}
+use Rattle.std.proofs.Common.{◌≡◌, ℕ, Bool, true, false, List, [], ◌∷◌, ◌++◌, drop, filter, Option, Some, None, Result, Ok, Err, refl, sym, ap, subst, ◌∙◌, inl, inr, nat_eq}
+use Rattle.std.specs.Prelude.{if◌then◌else◌}
 use Rattle.std.specs.Borrow.{Bor}
 use Rattle.std.specs.List.{AllByRecursion, starts_with}
 use Rattle.byte_fields.specs.declared.corrupt.Corrupt.{Corrupt}
-use Rattle.fast_fields.proofs.Below.{below_then, below_itself, neither_below}
+use Rattle.fast_fields.proofs.Below.{below_then, below_itself}
 use Rattle.term_dict.specs.Keys.{is_below}
 use Rattle.term_dict.specs.Lent.{GivesFirst}
 use Rattle.term_dict.specs.Readers.{Lends}
@@ -14,7 +14,7 @@ use Rattle.term_dict.specs.declared.term.Term.{Term}
 use Rattle.term_dict.specs.declared.term.TermInfo.{TermInfo}
 use Rattle.term_postings.proofs.Lists.{all_both}
 use Rattle.split_merge.specs.declared.key_walks.KeyWalk.{KeyWalk}
-use Rattle.split_merge.specs.Walking.{AreEnded, GivesTerms, IsAt, IsLeast, IsNotBelow, LeastOf, SomeAt, key_in, key_of, lesser}
+use Rattle.split_merge.specs.Walking.{AreEnded, GivesTerms, IsAt, IsNotBelow, LeastOf, SomeAt, key_in, key_of, lesser}
 
 -- ---- a walk
 

@@ -12,7 +12,7 @@ use Rattle.split_bundle.specs.declared.placed.Placed.{Placed}
 use Rattle.split_bundle.specs.declared.split_error.SplitError.{SplitError}
 use Rattle.split_bundle.specs.declared.split_error.SplitError.TheVariants.{Memory, BadMagic, Truncated, BadSection, BadVersion}
 use Rattle.split_bundle.specs.DocReading.{doc_fields_at, kind_at, may_have}
-use Rattle.split_bundle.specs.Documents.{doc_bytes, field_bytes, value_bytes}
+use Rattle.split_bundle.specs.Documents.{field_bytes, value_bytes}
 use Rattle.split_bundle.specs.Held.{AreHeld, IsHeld, IsHeldValue}
 use Rattle.split_build.specs.Bodies.{body_of}
 use Rattle.split_merge.specs.declared.facts.FieldFacts.{FieldFacts}

@@ -82,13 +82,7 @@ impl<'a> KeyWalk<'a> {
         ensures { MatchOption result (key_of self.now ≡ Some key.now → ⊥) (λ info. IsAt self.now key.now info) }
     {
         match self.next {
-            Some((own, info)) => {
-                if is_same(own, key) {
-                    Some(info)
-                } else {
-                    None
-                }
-            }
+            Some((own, info)) => { if is_same(own, key) { Some(info) } else { None } }
             None => None,
         }
     }

@@ -14,8 +14,8 @@ pub loop-i-preserved : goal.loop-i-preserved
 loop-i-preserved c =
     let next : suc c.loop-i.i ≡ c.loop-i.i + 1 = omega arith in
     let changed : (log : TagLog) → ((n : ℕ) (ds : List Placed) (d e : Placed) → Gains c.args.number (value_of c.args.value) d.doc e.doc → HasTermsOf (ds ++ d ∷ []) n c.index_mut-log.result.now → HasTermsOf (ds ++ e ∷ []) n log)
-        → (numbers : List ℕ) (ds : List Placed) (d e : Placed) → Gains c.args.number (value_of c.args.value) d.doc e.doc → HasTags (ds ++ d ∷ []) numbers c.args.logs.now.items
-        → Partly (HasTermsOf (ds ++ e ∷ [])) (HasTermsOf (ds ++ d ∷ [])) (c.loop-i.i + 1) numbers (set c.loop-i.logs.items c.loop-i.i log) = λ log change numbers ds d e gains h.
+    → (numbers : List ℕ) (ds : List Placed) (d e : Placed) → Gains c.args.number (value_of c.args.value) d.doc e.doc → HasTags (ds ++ d ∷ []) numbers c.args.logs.now.items
+    → Partly (HasTermsOf (ds ++ e ∷ [])) (HasTermsOf (ds ++ d ∷ [])) (c.loop-i.i + 1) numbers (set c.loop-i.logs.items c.loop-i.i log) = λ log change numbers ds d e gains h.
     subst (λ (k : ℕ). Partly (HasTermsOf (ds ++ e ∷ [])) (HasTermsOf (ds ++ d ∷ [])) k numbers (set c.loop-i.logs.items c.loop-i.i log)) next
     (partly_set (HasTermsOf (ds ++ e ∷ [])) (HasTermsOf (ds ++ d ∷ [])) c.loop-i.i numbers c.loop-i.logs.items log c.index_mut-log.result.now (omega (arith, c.loop-i-test.true, c.loop-i.invariant.size))
     (λ n t. change n ds d e gains (subst (λ (l : TagLog). HasTermsOf (ds ++ d ∷ []) n l) (sym c.index_mut-log.ensures.value) t))

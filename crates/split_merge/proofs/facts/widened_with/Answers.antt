@@ -1,4 +1,4 @@
-use Rattle.std.proofs.Common.{◌≡◌, ◌∷◌, [], ◌++◌, ℤ, List, sym, subst, arith, w64, to_z, of_z, SFits, rules}
+use Rattle.std.proofs.Common.{◌≡◌, ◌∷◌, [], ◌++◌, ℤ, sym, subst, arith, w64, to_z, of_z, SFits, rules}
 use Rattle.std.proofs.lemmas.Int.{ints}
 use Rattle.split_build.specs.Times.{AreEnds, second_of}
 use Rattle.split_merge.specs.declared.lent.LentValue.{LentValue}

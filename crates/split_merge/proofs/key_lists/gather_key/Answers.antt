@@ -1,4 +1,4 @@
-use Rattle.std.proofs.Common.{◌≡◌, ◌<◌, ◌+◌, ◌∙◌, ℕ, suc, [], List, Some, drop, get_or, length, refl, sym, subst, set, arith}
+use Rattle.std.proofs.Common.{◌≡◌, ◌<◌, ◌+◌, ℕ, suc, [], Some, drop, get_or, length, refl, sym, subst, set, arith}
 use Rattle.std.proofs.lemmas.Option.{slice_get_read}
 use Rattle.split_build.proofs.Zipped.{Partly, partly_all}
 use Rattle.split_merge.specs.Merging.{Blames}

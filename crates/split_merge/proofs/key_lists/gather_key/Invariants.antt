@@ -1,4 +1,4 @@
-use Rattle.std.proofs.Common.{◌≡◌, ℕ, true, [], List, Option, Some, drop, length}
+use Rattle.std.proofs.Common.{◌≡◌, ℕ, true, [], List, Option, Some, drop}
 use Rattle.std.specs.List.{AllByRecursion}
 use Rattle.doc_value.specs.declared.schema.Schema.{Schema}
 use Rattle.term_postings.specs.declared.list.Posting.{Posting}

@@ -1,4 +1,4 @@
-use Rattle.std.proofs.Common.{true, Bool, subst}
+use Rattle.std.proofs.Common.{Bool, subst}
 use Rattle.term_postings.specs.Cursors.{StandsBefore}
 use Rattle.split_merge.proofs.ListLemmas.{given_kept}
 use Rattle.split_merge.proofs.lists.take_kept.Goals as goal

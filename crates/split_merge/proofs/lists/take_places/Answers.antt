@@ -1,4 +1,4 @@
-use Rattle.std.proofs.Common.{◌∙◌, ◌≡◌, ℕ, Ok, Option, sym, subst, arith, false}
+use Rattle.std.proofs.Common.{◌∙◌, ℕ, Ok, Option, sym, subst, arith}
 use Rattle.split_merge.proofs.PlaceLemmas.{GivesPlace, no_places, one_place, place_above, all_places, no_fault}
 use Rattle.split_merge.proofs.lists.take_places.Goals as goal
 

@@ -1,4 +1,4 @@
-use Rattle.std.proofs.Common.{◌≡◌, ℕ, suc, ◌+◌, ◌-◌, ◌∙◌, arith}
+use Rattle.std.proofs.Common.{◌≡◌, suc, ◌+◌, ◌-◌, ◌∙◌, arith}
 use Rattle.split_merge.proofs.TableLemmas.{table_step, count_step}
 use Rattle.split_merge.proofs.numbers.numbered.Goals as goal
 

@@ -1,5 +1,4 @@
-use Rattle.std.proofs.Common.{List, [], ℕ, Some, ◌∙◌, ◌<◌, ◌+◌, ◌^◌, length, refl, sym, ap, arith}
-use Rattle.split_merge.specs.Joining.{Holds}
+use Rattle.std.proofs.Common.{List, [], ℕ, ◌∙◌, length, ap, arith}
 use Rattle.split_merge.specs.Walking.{IsWalkOf}
 use Rattle.split_merge.proofs.StandLemmas.{past_of, stands_first, stands_last, stands_next, tables_length}
 use Rattle.split_merge.proofs.UpToLemmas.{zip_length}

@@ -1,4 +1,4 @@
-use Rattle.std.proofs.Common.{◌<◌, None, length, drop, refl, sym, subst, arith}
+use Rattle.std.proofs.Common.{◌<◌, None, length, refl, sym, subst, arith}
 use Rattle.std.proofs.lemmas.Option.{slice_get_read}
 use Rattle.split_merge.specs.Merging.{Blames}
 use Rattle.split_merge.specs.Walking.{IsIndexOf, IsWalkOf}

@@ -1,4 +1,4 @@
-use Rattle.std.proofs.Common.{◌≡◌, ◌++◌, ◌∷◌, [], ℕ, sym, subst, ◌∙◌}
+use Rattle.std.proofs.Common.{◌++◌, ◌∷◌, [], ℕ, sym, subst}
 use Rattle.std.specs.Prelude.{Option}
 use Rattle.split_build.specs.Tags.{tag_numbers}
 use Rattle.split_build.specs.Times.{AreTimes, seconds_in}

@@ -1,4 +1,4 @@
-use Rattle.std.proofs.Common.{ℕ, ◌+◌, ◌≡◌, ◌<◌, ◌^◌, [], length, refl, sym, ◌∙◌, arith}
+use Rattle.std.proofs.Common.{ℕ, [], refl, sym, ◌∙◌}
 use Rattle.split_merge.specs.Scanning.{holding}
 use Rattle.split_merge.proofs.GainLemmas.{none_added}
 use Rattle.split_merge.proofs.ScanLemmas.{document_taken, end_stop, fields_fail, head_stop, scan_fails, scan_stop}

@@ -1,4 +1,4 @@
-use Rattle.std.proofs.Common.{ℕ, arith, refl}
+use Rattle.std.proofs.Common.{ℕ, arith}
 use Rattle.split_merge.proofs.ScanLemmas.{fields_all, fields_first, fields_next, fields_stop, scan_fails}
 use Rattle.split_merge.proofs.facts.FieldFacts.take_fields.Goals as goal
 

@@ -2,7 +2,7 @@ use Rattle.std.proofs.Common.{ℕ, ◌++◌, ◌∷◌, [], ◌+◌, arith, refl
 use Rattle.split_merge.specs.Lent.{value_of}
 use Rattle.split_merge.specs.Scanning.{holding}
 use Rattle.split_merge.proofs.GainLemmas.{gains_one}
-use Rattle.split_merge.proofs.ScanLemmas.{scan_stop, values_all, values_first, values_next, values_stop}
+use Rattle.split_merge.proofs.ScanLemmas.{scan_stop, values_all, values_next, values_stop}
 use Rattle.split_merge.proofs.facts.FieldFacts.take_values.Goals as goal
 
 pub returns-in-Err-clause-exact : goal.returns-in-Err-clause-exact

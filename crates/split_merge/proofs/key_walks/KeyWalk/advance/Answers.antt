@@ -1,5 +1,4 @@
-use Rattle.std.proofs.Common.{◌∙◌, drop, Ok, Option, sym, subst}
-use Rattle.std.specs.Borrow.{Bor}
+use Rattle.std.proofs.Common.{◌∙◌, Option, sym, subst}
 use Rattle.term_dict.specs.Lent.{GivesFirst}
 use Rattle.split_merge.proofs.WalkLemmas.{Found, gives_terms, next_above, no_fault, read}
 use Rattle.split_merge.proofs.key_walks.KeyWalk.advance.Goals as goal

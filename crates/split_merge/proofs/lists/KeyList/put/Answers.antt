@@ -1,4 +1,4 @@
-use Rattle.std.proofs.Common.{◌≡◌, ◌++◌, ◌+◌, ◌∙◌, ℕ, Ok, Option, Some, refl, sym, ap, subst, arith}
+use Rattle.std.proofs.Common.{◌++◌, ◌+◌, ◌∙◌, ℕ, Ok, Option, Some, refl, sym, ap, subst, arith}
 use Rattle.split_merge.specs.Joining.{is_above}
 use Rattle.split_merge.specs.Numbering.{number_in}
 use Rattle.split_merge.proofs.ListLemmas.{GivesNext, PutsList, all_put, document_above, document_there, found_next, joins, none_put, one_put_by}

@@ -1,8 +1,8 @@
-use Rattle.std.proofs.Common.{◌≡◌, ◌∙◌, ◌-◌, List, ℕ, ap, refl, length, arith}
+use Rattle.std.proofs.Common.{◌∙◌, ◌-◌, refl, arith}
 use Rattle.term_dict.specs.declared.term.TermInfo.{TermInfo}
 use Rattle.split_bundle.specs.Lists.{posting_list, terms_of}
 use Rattle.split_build.proofs.WrittenLemmas.{IsInfo, listed, terms_go_on}
-use Rattle.split_merge.proofs.JoinedLemmas.{not_shorter, term_is, written_more}
+use Rattle.split_merge.proofs.JoinedLemmas.{term_is, written_more}
 use Rattle.split_merge.proofs.terms.JoinedTerms.write.Goals as goal
 
 pub returns-clause-written : goal.returns-clause-written
