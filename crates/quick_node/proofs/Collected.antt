@@ -1,12 +1,12 @@
 -- What a step of the collector leaves: it deletes the file of one number at most, whose row was not published and is marked or gone. And what its
 -- outcome comes from.
-use Rattle.std.proofs.Common.{◌≡◌, ◌⊎◌, ℕ, zero, suc, ◌+◌, ◌<◌, ◌≤◌, ◌==◌, Bool, true, false, List, [], ◌∷◌, ◌++◌, length, max, refl, sym, ap, ◌∙◌, subst, inl, inr, arith, eqb-true}
+use Rattle.std.proofs.Common.{◌≡◌, ◌⊎◌, ℕ, zero, suc, ◌+◌, ◌<◌, ◌≤◌, ◌==◌, Bool, true, false, List, [], ◌∷◌, ◌++◌, length, refl, sym, ap, ◌∙◌, subst, inl, inr, arith, eqb-true}
 use Rattle.std.proofs.lemmas.Bool.{eqb-false, leb-true}
 use Rattle.std.proofs.lemmas.List.{append-nil, length-append}
 use Rattle.std.proofs.lemmas.Slice.Eq.{bytes_eq-Decides}
 use Rattle.std.proofs.Math.Seq.{take-length}
 use Rattle.std.specs.List.{AllByRecursion}
-use Rattle.std.specs.Prelude.{◌&&◌, Option, Some, None, Result, Ok, Err, ⊤, bytes_eq, cond, filter, find, if◌then◌else◌, is_some, nat_le, nat_lt, not, slice_get}
+use Rattle.std.specs.Prelude.{◌&&◌, Option, Some, None, Result, Ok, Err, ⊤, bytes_eq, filter, find, if◌then◌else◌, is_some, nat_lt, not, slice_get}
 use Rattle.index_config.specs.declared.config.IndexConfig.{IndexConfig}
 use Rattle.index_config.proofs.Ranges.{accepted-ranges}
 use Rattle.meta_journal.specs.Places.{split_key}
@@ -25,25 +25,23 @@ use Rattle.split_states.specs.Rows.{row_at}
 use Rattle.split_states.specs.declared.rows.Row.{Row}
 use Rattle.split_states.specs.declared.rows.RowState.{RowState}
 use Rattle.split_states.specs.declared.rows.RowState.TheVariants.{Staged, Published, Marked}
-use Rattle.index_world.specs.Calls.{is_at_once, Call, Fate, Gives, gives, Trouble, faulted, no_memory, Unmade, refused, troubled, asked_clock, asking, begun, deleted_by, file_deleted, got_file, marked_by, may_fail, or_short, troubled_by, without_file}
-use Rattle.index_world.specs.Collecting.{answered_by, config_taken, doom_call, doom_next, doomed_by, is_swept, list_call, mark_stale_call, may_go, next_doomed, remove_call, removal_offer, stale_offer, sweep_call, sweep_if, with_doomed}
+use Rattle.index_world.specs.Calls.{is_at_once, Call, Fate, Gives, Trouble, faulted, no_memory, Unmade, refused, troubled, asked_clock, asking, begun, deleted_by, file_deleted, got_file, marked_by, may_fail, or_short, troubled_by, without_file}
+use Rattle.index_world.specs.Collecting.{answered_by, config_taken, doom_call, doom_next, doomed_by, is_swept, list_call, mark_stale_call, may_go, next_doomed, remove_call, removal_offer, stale_offer, sweep_if, with_doomed}
 use Rattle.index_world.specs.Config.{reads}
 use Rattle.index_world.specs.Configuration.{configuration, config_or, index_of}
 use Rattle.index_world.specs.Core.{Core, File, file_at, is_in, release_of, taken_at}
 use Rattle.index_world.proofs.Asking.{Begun, begun_history}
-use Rattle.index_world.proofs.Configured.{configured_read, legal_front}
+use Rattle.index_world.proofs.Configured.{configured_read}
 use Rattle.index_world.proofs.Dooming.{doomed_is_free, swept_is_free}
-use Rattle.index_world.proofs.Lasting.{own_number}
 use Rattle.index_world.proofs.Numbers.{revision_is}
 use Rattle.index_world.proofs.StoreKeys.{none_some, true_is_false}
-use Rattle.split_collector.specs.Outcomes.{Outcome, MarkedStale, Doomed, Removed, Swept, Nothing, Refused, Faulted}
+use Rattle.split_collector.specs.Outcomes.{Outcome, MarkedStale, Doomed, Removed}
 use Rattle.split_collector.specs.Steps.{CallLuck, Luck, Stand, alone, end_at, ends_behind, failed_with, first_fate, least_left, max_calls, other_fates, outcome_at, outcome_unless, outcomes, page_by, step_collector, turned}
 use Rattle.split_collector.specs.Turns.{Turn, behind_delete, behind_doom, behind_list, counted, ended, next_behind, page_turn, paging, to_doom, to_list, to_mark, to_remove, to_sweep}
 use Rattle.node_run.proofs.CallTells.{AreLow}
-use Rattle.node_run.proofs.CollectorMoves.{answered_same, unmade_same}
 use Rattle.quick_node.specs.Collects.{DidBetween}
 use Rattle.quick_node.proofs.CollectorKeeps.{Appended, Counts, Idle, IsMarks, IsRemovals, Ready, begins_tried, begun_idle, idle_tried, removal_fits, same_asked, stale_fits, takes_few, takes_one}
-use Rattle.quick_node.proofs.Files.{Few, Freed, Grown, Leaves, One, Still, Takes, before, begun_still, got_still, grown_on, leaves_of, one_few, same_journal, takes_none, weaker}
+use Rattle.quick_node.proofs.Files.{Few, Freed, Grown, Leaves, One, Still, Takes, before, begun_still, grown_on, leaves_of, one_few, same_journal, takes_none, weaker}
 use Rattle.quick_node.proofs.EntryRows.{still_there}
 
 -- ---- the file of one key is deleted
@@ -212,7 +210,7 @@ freed_leaves start core after number i c f =
       files = λ key bytes e. by key bytes (c.files key bytes (i.ready.files key bytes e));
       more = i.more;
       grown = c.history ∙ i.ready.grown;
-      few = one_few i.more i.ready.one;
+      few = inl (one_few i.more i.ready.one);
       journal = grown_on start core after i.ready.journal c.journal;
     }
   where

@@ -1,6 +1,6 @@
 -- What an entry leaves of rows: a published row stands, and is published still unless the entry marks it; which entries mark none; and a number that was
 -- staged and has no row gets none again.
-use Rattle.std.proofs.Common.{◌≡◌, ◌⊎◌, ℕ, ◌≤◌, ◌==◌, Bool, true, false, cond, List, [], ◌∷◌, ◌++◌, map, Option, Some, None, refl, sym, ap, ◌∙◌, subst, inl, inr, append_assoc, arith, eqb-true, ne_eqb, option_map}
+use Rattle.std.proofs.Common.{◌≡◌, ◌⊎◌, ℕ, ◌≤◌, ◌==◌, Bool, true, false, cond, List, [], ◌∷◌, ◌++◌, map, Option, Some, None, refl, sym, ap, ◌∙◌, subst, inl, inr, append_assoc, arith, ne_eqb, option_map}
 use Rattle.std.proofs.lemmas.Bool.{cases_Bool, eqb-false}
 use Rattle.std.proofs.lemmas.List.{append-nil}
 use Rattle.std.proofs.lemmas.List.Sums.{fold-append}
@@ -193,7 +193,7 @@ gone_on h m (MarkStaged numbers) n may low none = none_changed numbers (rows h) 
 gone_on h m (Remove numbers) n may low none = none_without numbers (rows h) n none
 gone_on h m (Retire numbers) n may low none = none_changed numbers (rows h) (marked m) n (λ x. refl) none
 
-legal_before : (entries more : List Entry) → Legal reads (history (entries ++ more)) → Legal reads (history entries)
+pub legal_before : (entries more : List Entry) → Legal reads (history (entries ++ more)) → Legal reads (history entries)
 legal_before entries more legal = legal_front (history entries) more (subst (Legal reads) (fold-append ◌▸◌ Start entries more) legal)
 
 -- IT STAYS SO, whatever comes

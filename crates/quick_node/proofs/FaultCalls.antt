@@ -1,49 +1,16 @@
 -- A fault of the store that a call of the world answers has the counts before the call and behind it, of which the second rose.
-use Rattle.std.proofs.Common.{◌≡◌, ℕ, ◌≤◌, ◌<◌, Bool, true, false, List, [], ◌∷◌, ◌++◌, flat_map, map, refl, sym, ap, subst, arith}
-use Rattle.std.specs.Prelude.{Option, Some, None, Result, Ok, Err, ⊤, if◌then◌else◌, ◌==◌, ◌||◌, is_some, min, nat_lt, length, nat_le}
+use Rattle.std.proofs.Common.{◌≡◌, ℕ, ◌≤◌, Bool, true, false, List, [], ◌∷◌, refl, sym, subst, arith}
+use Rattle.std.specs.Prelude.{Option, Some, None, Result, Ok, Err, ⊤, ◌||◌, is_some, nat_le}
 use Rattle.byte_fields.specs.Causes.{Rose}
-use Rattle.meta_journal.specs.Places.{split_key}
 use Rattle.meta_journal.specs.declared.entry.Act.{Act}
-use Rattle.meta_journal.specs.declared.entry.Act.TheVariants.{Publish}
 use Rattle.meta_journal.specs.declared.entry.Entry.{Entry}
 use Rattle.meta_store.specs.declared.refusal.Refusal.{Refusal}
-use Rattle.meta_store.specs.declared.refusal.Refusal.TheVariants.{MomentBack, NotCreated, AlreadyCreated, BadConfig, NotNext, Delta, State, BadTask, UptoAhead, TooManyTasks, TooManyRows, TooManySpans}
-use Rattle.source_checkpoint.specs.declared.delta.StaleDelta.{StaleDelta}
-use Rattle.source_checkpoint.specs.declared.delta.StaleDelta.TheVariants as deltas
-use Rattle.source_checkpoint.specs.declared.ledger.Checkpoint.{Checkpoint}
-use Rattle.source_log.specs.Log.{Log}
 use Rattle.index_world.specs.Calls.{Effect, done_at_once, done_late, done_never, is_at_once, Fate, Call, Fault, store_fault, is_foreign, is_full, is_expired, Grace, unless_over, Trouble, faulted, no_memory, Unmade, refused, troubled, Unread, not_read, Gives, gives, Made, made, exists, failed, Making, risen, may_fail, begun, tried, made_behind, made_at, create_at_end, taken_in, or_short, unless_short, asked_clock, asking, and_then, and_then_by, taken_unless, got_at, get_at_end, settle_made, settle_with, settled, fence_of, entry_of, may_append, last_made, last_unless, last_create, troubled_by, as_unmade, adopted_made, first_unless, transact, appended, looked, settled_and_copied, asked_and_looked, asked, file_by, file_made, got_file, file_got, fetched, with_standing, read_journal, unless_empty, load_by, loaded}
 use Rattle.index_world.specs.Calls as calls
 use Rattle.index_world.specs.Core.{Core, last_count, file_at}
-use Rattle.index_world.specs.Gate.{stage_act}
-use Rattle.index_world.specs.Seen.{visible_at}
-use Rattle.index_world.specs.SplitFile.{file_of}
-use Rattle.indexing_run.specs.Outcomes.{IndexerOutcome}
-use Rattle.indexing_run.specs.Places.{Batch, Held, Place, idle, reading, staged, uploaded, Indexer}
-use Rattle.indexing_run.specs.Steps.{Stepped, log_may_fail, log_called, checkpoints_by, take_checkpoints, idle_by, read_by, read_given, step_read, stage_by, step_stage, batch_facts, upload_by, step_upload, publish_by, publish_refused, step_publish, step_batch, step_place, step_indexer}
-use Rattle.indexing_run.specs.Steps as indexing
-use Rattle.agg_nested.specs.Answers.{all_buckets, nested_answer, told}
-use Rattle.agg_nested.specs.declared.answer.NestedAnswer.{NestedAnswer}
-use Rattle.agg_model.specs.Answers.{most_buckets}
-use Rattle.doc_tallies.specs.Picked.{docs_of}
-use Rattle.doc_value.specs.declared.schema.Schema.{Schema}
-use Rattle.split_bundle.specs.declared.placed.Placed.{Placed}
-use Rattle.search_api.specs.Resolved.{Search}
-use Rattle.search_api.specs.declared.reply.Refusal.{Refusal as Unfit}
-use Rattle.search_api.specs.declared.reply.Refusal.TheVariants as refusals
-use Rattle.search_api.specs.declared.reply.Said.TheVariants as given
-use Rattle.search_api.specs.declared.unanswered.Unanswered.{Unanswered}
-use Rattle.search_api.specs.declared.unanswered.Unanswered.TheVariants as reasons
-use Rattle.root_search.specs.Answer.{answer, matching, printed, shown}
-use Rattle.root_search.specs.Requests.{asked_of}
-use Rattle.root_search.specs.Steps.{Request, no_request, opened, planned, Plan, Client, config_at, config_in, plan_by, fetch_by, fetched_each, unless_fault, next_step, step_request, step_client}
-use Rattle.root_search.specs.Steps as searching
-use Rattle.root_search.specs.declared.outcome.SearchStep.{SearchStep}
-use Rattle.node_run.specs.Node.{Node, Line, At, Assign, StepIndexer, RestartIndexer, RestartClient, StepCollector, RestartCollector, RestartNode, Open, StepClient, Outcome}
-use Rattle.node_run.specs.Turns.{Luck, Turned, indexer_at, indexing_luck, searching_luck, said_by_indexer, said_by_client, assign_at, indexer_turn_by, client_turn_by, client_named, open_by, restart_by, full_turn, quiet, or_quiet, turn_by, Turn, Turns}
-use Rattle.node_run.proofs.Refusals.{OfText, asked_of_text}
-use Rattle.node_run.specs.Telling.{IsOfText}
-use Rattle.quick_node.specs.Faults.{Interval, AreBetween, fault_told, indexer_told, refusal_told, said_told, search_told, store_told}
+use Rattle.agg_nested.specs.Answers.{told}
+use Rattle.root_search.specs.Steps.{fetched_each, unless_fault}
+use Rattle.quick_node.specs.Faults.{Interval, AreBetween, fault_told}
 use Rattle.quick_node.proofs.Exact.{begun_count, failed_rose}
 
 abbrev pub trouble_told : Trouble → List Interval
@@ -295,7 +262,7 @@ unless_over_good : (over : Bool) (planned_at : ℕ) (core : Core) (otherwise : G
 unless_over_good true planned_at core otherwise bound g = record { says = omega arith; on = omega arith; bound = bound }
 unless_over_good false planned_at core otherwise bound g = g
 
-fetched_good : (grace : Grace) (fate : Fate) (core : Core) → core.store_faults ≤ last_count → Good trouble_told core.store_faults (fetched grace fate core)
+pub fetched_good : (grace : Grace) (fate : Fate) (core : Core) → core.store_faults ≤ last_count → Good trouble_told core.store_faults (fetched grace fate core)
 fetched_good grace fate core bound =
     asking_good trouble_told fate.unasked no_memory core (λ c. unless_over (nat_le grace.until c.moment) grace.planned_at c (file_got fate.first c)) refl bound
     (unless_over_good (nat_le grace.until (asked_clock core).moment) grace.planned_at (asked_clock core) (file_got fate.first (asked_clock core)) bound (file_got_good fate.first (asked_clock core) bound))

@@ -1,5 +1,5 @@
 -- What the collector said of each line is so of the journal at exit.
-use Rattle.std.proofs.Common.{◌≡◌, ℕ, zero, suc, ◌+◌, ◌<◌, ◌≤◌, List, [], ◌∷◌, ◌++◌, length, refl, sym, ap, ◌∙◌, subst, inl, inr, arith}
+use Rattle.std.proofs.Common.{◌≡◌, ℕ, zero, suc, ◌+◌, ◌≤◌, List, [], ◌∷◌, ◌++◌, length, sym, ap, ◌∙◌, subst, inl, inr, arith}
 use Rattle.std.proofs.lemmas.List.{length-append, take-append-le}
 use Rattle.std.specs.Prelude.{◌⊎◌, Some, None, Ok, slice_get, take}
 use Rattle.meta_journal.specs.declared.entry.Entry.{Entry}
@@ -10,8 +10,7 @@ use Rattle.split_states.specs.Rows.{row_at}
 use Rattle.index_world.specs.Config.{reads}
 use Rattle.split_collector.specs.Outcomes.{Outcome as CollectorOutcome, MarkedStale, Doomed, Removed, Swept, Nothing, Refused, Faulted}
 use Rattle.node_run.specs.Node.{Node, Line, Outcome, collector_said}
-use Rattle.node_run.specs.Turns.{Turn, Turns}
-use Rattle.node_run.proofs.CallMoves.{Grows}
+use Rattle.node_run.specs.Turns.{Turns}
 use Rattle.node_run.proofs.Moving.{turn_later, turns_later}
 use Rattle.quick_node.specs.Collects.{Collects, CollectsFrom, DidBetween}
 use Rattle.quick_node.specs.Serve.{IsPrefixOf, Along, AnswersAlong, NoneAlong, RunAlong, TurnsAlong}

@@ -3,12 +3,13 @@ pub mod Printing
 pub mod Ended
 pub mod Weights
 pub mod Judged
-pub mod Slices
+pub mod Corrupted
 pub mod Rejected
 pub mod Spelling
 pub mod Holding
 pub mod Stepping
 pub mod PlannedRows
+pub mod PlannedOnce
 pub mod Making
 pub mod Planning
 pub mod Planned
@@ -18,3 +19,8 @@ pub mod Done
 pub mod Merging
 pub mod Stays
 pub mod Idling
+pub mod Losing
+pub mod Asked
+pub mod DropSets
+pub mod DropLeaves
+pub mod Leaving
