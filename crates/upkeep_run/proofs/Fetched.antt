@@ -24,7 +24,7 @@ use Rattle.upkeep_run.specs.Asking.{ask_at_work, ask_of, whole}
 use Rattle.upkeep_run.specs.Ending.{Ends, TellsJudged, with_file}
 use Rattle.upkeep_run.specs.Outcomes as outcomes
 use Rattle.upkeep_run.specs.Outcomes.{UpkeepOutcome}
-use Rattle.upkeep_run.specs.Places.{IsRowInHand, IsWork, Work, fetching, until_of}
+use Rattle.upkeep_run.specs.Places.{IsPlannedFor, IsRowInHand, IsWork, Work, fetching, until_of}
 use Rattle.upkeep_run.specs.Standing.{Answers, PlaceStands, StepsAs, WorkStands}
 use Rattle.upkeep_run.specs.Steps.{Luck, fetch_by, fetch_given, grace_in, or_short, step_work, step_worker, trouble_outcome}
 use Rattle.upkeep_run.specs.declared.outcome.UpkeepOutcome.{UpkeepOutcome as Said}
@@ -71,7 +71,7 @@ module _ (core : Core) (log : Log) (held : HeldWork) (work : Work) (said_row : P
   file = file_of work.config next.documents
 
   module _ {W : Type 0} (Stands : W → Core → Log → Type 0) (Between : Core → Core → Type 0) (Owns : W → ℕ → Type 0) (Adds : W → List CallMade → W → Type 0) (aim : Aim) (old new : W)
-      (between : (core mid : Core) → Between core mid → GoesFor Nobody core mid) (sound : (after : Core) → Stands new after log → IsSoundCore after log) (result : Result Piece WorldError) where
+      (between : (core mid : Core) → Between core mid → GoesFor Nobody core mid) (sound : (after : Core) → Stands new after log → IsSoundCore after log) (result : Result Piece WorldError) (for_aim : IsPlannedFor aim work) where
     abbrev Steps : Result Said AllocError → HeldPlace → Type 0
     Steps answered kept = StepsAs Stands Between Owns Adds aim answered (fetching work) core log kept old new
 
@@ -169,7 +169,7 @@ module _ (core : Core) (log : Log) (held : HeldWork) (work : Work) (said_row : P
             (fetch_called (Some (outcomes.Fetched next.row.number)) (λ short. absurd (subst IsShort was short)))
             (fetch_did false met.answer met.did ∙ ap (λ a. or_short false (fetch_by a work next.row.number (drop (suc held.next) work.rows) met.after)) given.0)
             (subst (λ o. Answers (Ok o) (Some (outcomes.Fetched next.row.number))) (sym both.0) (ap outcomes.Fetched next_number))
-            (subst (λ k. PlaceStands aim log met.after k (fetching (record work { unfetched = drop (suc held.next) work.rows }))) (sym both.1) (record work { unfetched = drop (suc held.next) work.rows }, refl, more_stands, more_is_work))
+            (subst (λ k. PlaceStands aim log met.after k (fetching (record work { unfetched = drop (suc held.next) work.rows }))) (sym both.1) (record work { unfetched = drop (suc held.next) work.rows }, refl, more_stands, more_is_work, record { some = for_aim.some; apart = for_aim.apart; one = for_aim.one }))
             (λ n st e. cc)
 
     -- as the gate is asked

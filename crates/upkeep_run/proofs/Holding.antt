@@ -56,6 +56,8 @@ module _ (core after : Core) (log : Log) (g : GoesFor Nobody core after) (legal 
   pub made_stays : (held : Held) → IsHeldMade log core held → IsHeldMade log after held
   made_stays held m =
       record {
+        some = m.some;
+        apart = m.apart;
         files = m.files;
         marks = m.marks;
         fetched = fetched_on Nobody core after held.old m.files g.keeps m.fetched;

@@ -3,11 +3,13 @@ pub mod Printing
 pub mod Ended
 pub mod Weights
 pub mod Judged
+pub mod Corrupted
 pub mod Rejected
 pub mod Spelling
 pub mod Holding
 pub mod Stepping
 pub mod PlannedRows
+pub mod PlannedOnce
 pub mod Making
 pub mod Planning
 pub mod Planned
@@ -17,3 +19,4 @@ pub mod Done
 pub mod Merging
 pub mod Stays
 pub mod Idling
+pub mod Losing

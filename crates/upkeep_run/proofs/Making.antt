@@ -34,8 +34,9 @@ use Rattle.index_world.specs.Seen.{meaning, place_of, rejected_in}
 use Rattle.index_world.specs.SplitFile.{AreSplit, facts_of, file_of, most}
 use Rattle.upkeep_run.specs.Ending.{facts_said, rejected_by, rejected_said}
 use Rattle.upkeep_run.specs.Judging.{AreSplits}
-use Rattle.upkeep_run.specs.Places.{IsHeldMade, IsRowInHand, IsWork, Work, held_facts, held_file, marks_of, rejected_of, row_numbers, until_of}
+use Rattle.upkeep_run.specs.Places.{IsHeldMade, IsPlannedFor, IsRowInHand, IsWork, Work, held_facts, held_file, marks_of, rejected_of, row_numbers, until_of}
 use Rattle.upkeep_run.specs.Steps.{documents_of, held_of}
+use Rattle.upkeep_run.specs.declared.work.Aim.{Aim}
 use Rattle.upkeep_run.specs.declared.work.Aim.TheVariants.{Merging}
 use Rattle.upkeep_run.proofs.Rejected.{rejected_joined, weights_joined}
 
@@ -71,6 +72,9 @@ kept_all : (place : ℕ) (ds : List Placed) → keeping.kept_from place [] ds �
 kept_all place [] = refl
 kept_all place (d ∷ ds) = ap (λ l. d ∷ l) (kept_all (suc place) ds)
 
+pub kept_none : (lists : List (List Placed)) → keeping.kept [] (keeping.joined lists) ≡ keeping.joined lists
+kept_none lists = kept_all 0 (keeping.joined lists)
+
 joined_alike : (lists : List (List Placed)) → keeping.joined lists ≡ joined lists
 joined_alike [] = refl
 joined_alike (ds ∷ lists) = ap (λ l. ds ++ l) (joined_alike lists)
@@ -98,10 +102,10 @@ rejected_is : (config : IndexConfig) (ds : List Placed) (n : ℕ) → (facts_of 
 unfolding form_facts
 rejected_is config ds n = refl
 
-abbrev with_rejected : ℕ → RowFacts → RowFacts
+abbrev pub with_rejected : ℕ → RowFacts → RowFacts
 with_rejected n facts = record facts { rejected = n }
 
-rejected_as : (config : IndexConfig) (ds : List Placed) (n : ℕ) → with_rejected (min n most) (facts_of config ds 0) ≡ facts_of config ds n
+pub rejected_as : (config : IndexConfig) (ds : List Placed) (n : ℕ) → with_rejected (min n most) (facts_of config ds 0) ≡ facts_of config ds n
 unfolding form_facts
 rejected_as config ds n = refl
 
@@ -190,6 +194,10 @@ sum_said (row ∷ rows) =
     let other = sum_by-cons (λ (r : Row). r.facts.rejected) row rows in
     omega (arith, rest, one, other)
 
+pub no_numbers : (rows : List Row) → row_numbers rows ≡ [] → rows ≡ []
+no_numbers [] e = refl
+no_numbers (row ∷ rows) e = cc e
+
 -- ---- a split that was made of all their documents
 
 -- whatever documents the files stand for, it is built of all of them
@@ -214,7 +222,7 @@ module _ (log : Log) (core : Core) (work : Work) (built : BuiltSplit) (is : IsLo
       ∙ ap (with_rejected (min (rejected_of work.rows) most)) (made work.contents own).2
       ∙ rejected_as work.config (documents_of work) (rejected_of work.rows)
 
-  module _ (number : ℕ) where
+  module _ (number : ℕ) (aim : Aim) (for_aim : IsPlannedFor aim work) where
     tasks : List DeleteTask
     tasks = (ledger reads (history core.history)).tasks
 
@@ -228,6 +236,8 @@ module _ (log : Log) (core : Core) (work : Work) (built : BuiltSplit) (is : IsLo
     pub merge_is_made : IsHeldMade log core (held_of Merging work core number)
     merge_is_made =
         record {
+          some = λ none. for_aim.some (no_numbers work.rows none);
+          apart = for_aim.apart;
           files = files;
           marks = map marks_of work.rows;
           fetched = fetched_are work.config (until_of work) log core work.rows work.contents w.each;

@@ -31,7 +31,7 @@ use Rattle.upkeep_run.specs.Ending.{Told, facts_said, unstaged_said}
 use Rattle.upkeep_run.specs.Judging.{AreSplits}
 use Rattle.upkeep_run.specs.Outcomes as outcomes
 use Rattle.upkeep_run.specs.Outcomes.{UpkeepOutcome}
-use Rattle.upkeep_run.specs.Places.{Held, IsWork, Work, fetching, held_facts, row_numbers, staged, until_of}
+use Rattle.upkeep_run.specs.Places.{Held, IsPlannedFor, IsWork, Work, fetching, held_facts, row_numbers, staged, until_of}
 use Rattle.upkeep_run.specs.Standing.{Answers, PlaceStands, StagedTold, Stages, StepsAs, WorkStands}
 use Rattle.upkeep_run.specs.Steps.{held_of, stage_by, stage_given, stage_outcome, step_work, step_worker}
 use Rattle.upkeep_run.specs.declared.outcome.UpkeepOutcome.{UpkeepOutcome as Said}
@@ -52,7 +52,7 @@ past_drop [] (suc n) e le = absurd (omega (arith, le))
 past_drop (row ∷ rows) zero e le = cc
 past_drop (row ∷ rows) (suc n) e le = ap suc (past_drop rows n e (omega (arith, le)))
 
-numbers_said : (rows : List Row) → numbers_of (map worked_row rows) ≡ row_numbers rows
+pub numbers_said : (rows : List Row) → numbers_of (map worked_row rows) ≡ row_numbers rows
 numbers_said [] = refl
 numbers_said (row ∷ rows) = ap (λ l. row.number ∷ l) (numbers_said rows)
 
@@ -117,7 +117,7 @@ module _ (core : Core) (log : Log) (held : HeldWork) (work : Work) (ws : WorkSta
         ends_idle Stands Between Owns Adds Merging core log old new (fetching work) kept answered core core (by_world no_room) None
         (none_called Stands Between Owns Adds None (ask_of Merging (fetching work) core) (None ≡ None) core log old new stands passed own refl) (merge_step no_room core) answer is
 
-    module _ (built : BuiltSplit) (is : IsLog log) (made : IsBuiltOf work.config (map (file_of work.config) work.contents) built) (between : (core mid : Core) → Between core mid → GoesFor Nobody core mid)
+    module _ (for_aim : IsPlannedFor Merging work) (built : BuiltSplit) (is : IsLog log) (made : IsBuiltOf work.config (map (file_of work.config) work.contents) built) (between : (core mid : Core) → Between core mid → GoesFor Nobody core mid)
         (sound : (after : Core) → Stands new after log → IsSoundCore after log) where
       abbrev facts : RowFacts
       facts = facts_said held.plan.rows built
@@ -170,7 +170,7 @@ module _ (core : Core) (log : Log) (held : HeldWork) (work : Work) (ws : WorkSta
                   configured = goes.keeps.configured work.config i.configured;
                   unused = in_hand.unused;
                   staged = in_hand.staged;
-                  made = made_stays core after log goes (sound_legal after log (sound after d.acts.stands)) (held_of Merging work core number) (merge_is_made log core work built is i made number);
+                  made = made_stays core after log goes (sound_legal after log (sound after d.acts.stands)) (held_of Merging work core number) (merge_is_made log core work built is i made number Merging for_aim);
                 },
               ))
               (λ n st e. absurd (fresh n (w.apart n st) (w.number ∙ same_number e)))

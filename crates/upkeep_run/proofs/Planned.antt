@@ -33,7 +33,7 @@ use Rattle.upkeep_run.specs.declared.work.Aim.TheVariants.{Deleting, Merging}
 use Rattle.upkeep_run.specs.declared.work.Place.{Place as HeldPlace}
 use Rattle.upkeep_run.specs.declared.work.Place.TheVariants as places
 use Rattle.upkeep_run.specs.declared.work.Work.{Work as HeldWork}
-use Rattle.upkeep_run.proofs.Planning.{plan_is_work}
+use Rattle.upkeep_run.proofs.Planning.{plan_is_for, plan_is_work}
 use Rattle.upkeep_run.proofs.Stepping.{by_world, called_of, ends_at, ends_idle, trouble_none}
 
 -- ---- the rows of a plan
@@ -118,6 +118,7 @@ module _ {W : Type 0} (Stands : W → Core → Log → Type 0) (Between : Core �
               unfetched = ap (λ n. drop n work.rows) (sym first);
             },
             plan_is_work after log (sound after d.acts.stands) aim,
+            plan_is_for after log (sound after d.acts.stands) aim (λ none. some (sym count_is ∙ ap length none)),
           ))
           (λ n st e. cc)
 

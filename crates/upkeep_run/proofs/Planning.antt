@@ -31,11 +31,12 @@ use Rattle.std.proofs.lemmas.List.Sums.{sum_by-cons}
 use Rattle.split_bundle.specs.Documents.{total_weight}
 use Rattle.split_states.specs.declared.facts.RowFacts.{RowFacts}
 use Rattle.upkeep_run.proofs.Making.{docs_are, weight_is}
-use Rattle.upkeep_run.specs.Places.{IsRowInHand, IsWork}
+use Rattle.upkeep_run.specs.Places.{IsPlannedFor, IsRowInHand, IsWork}
 use Rattle.upkeep_run.specs.Steps.{config_in, contents_in, rows_in, work_in}
 use Rattle.upkeep_run.specs.declared.work.Aim.{Aim}
 use Rattle.upkeep_run.specs.declared.work.Aim.TheVariants.{Deleting, Merging}
 use Rattle.upkeep_run.proofs.Holding.{sound_legal}
+use Rattle.upkeep_run.proofs.PlannedOnce.{delete_once, merge_once, rows_apart}
 use Rattle.upkeep_run.proofs.PlannedRows.{delete_rows, merge_rows}
 
 published_state : (state : RowState) → is_published state ≡ true → state ≡ Published
@@ -118,3 +119,19 @@ module _ (core : Core) (log : Log) (s : IsSoundCore core log) where
       let r = delete_rows InHand (rows (history core.history)) each_row (config_of reads (history core.history)) core.moment (last_opstamp (history core.history)) in
       let few = r.1 in
       record { configured = config_stands core log s; each = zipped (rows_in Deleting core) r.0; fits = one_fits (rows_in Deleting core) r.0 few; few = omega (arith, few); known = omega arith }
+
+  -- each of its rows once, and of deletes one
+  pub plan_is_for : (aim : Aim) → (rows_in aim core ≡ [] → ⊥) → IsPlannedFor aim (work_in aim log core)
+  plan_is_for Merging some =
+      let apart = (sound reads (history core.history) (sound_legal core log s)).held.apart in
+      record {
+        some = some;
+        apart = merge_once (rows (history core.history)) (rows_apart (rows (history core.history)) apart) (each_found (rows (history core.history)) apart) (config_of reads (history core.history)) core.moment (last_opstamp (history core.history));
+        one = tt;
+      }
+  plan_is_for Deleting some =
+      record {
+        some = some;
+        apart = delete_once (rows (history core.history)) (config_of reads (history core.history)) core.moment (last_opstamp (history core.history));
+        one = (delete_rows InHand (rows (history core.history)) each_row (config_of reads (history core.history)) core.moment (last_opstamp (history core.history))).1;
+      }

@@ -30,6 +30,6 @@ module _ (aim : Aim) (core after : Core) (log : Log) (one : Option ℕ) (g : Goe
   -- a worker stands for the same where the core went on by a call about another number than the one that it holds
   pub worker_stays : (kept : HeldPlace) (place : Place) → ((n : ℕ) → number_held place ≡ Some n → IsOther one n) → PlaceStands aim log core kept place → PlaceStands aim log after kept place
   worker_stays places.Idle place other s = s
-  worker_stays (places.Fetching held) place other s = (s.0, s.1, s.2, work_stays core after log others legal s.0 s.3)
+  worker_stays (places.Fetching held) place other s = (s.0, s.1, s.2, work_stays core after log others legal s.0 s.3, s.4)
   worker_stays (places.Staged plan token bytes) place other s = (s.0, s.1, s.2, s.3, s.4, staged_stays s.0 (other s.0.number (ap number_held s.1)) s.5)
   worker_stays (places.Uploaded plan token) place other s = (s.0, s.1, s.2, s.3, uploaded_stays core after log others legal s.0 s.4)

@@ -139,11 +139,15 @@ EndsFetch row Gave work old new outcome place =
 abbrev pub EndsStage : (Answered → Type 0) → Plan → BuiltSplit → Said → HeldPlace → Type 0
 EndsStage Gave plan built outcome place = (answer : Result Staged WorldError) × Gave (stage_answered [] (facts_said plan.rows built) answer) × TellsStaged plan built answer outcome place
 
--- The files gave no split, and nothing was asked; or the gate was asked to stage what they gave.
+-- The files, without the documents at the places that are dropped, gave no split, and nothing was asked; or the gate was asked to stage
+-- what they gave.
+abbrev pub EndsLeft : (dropped : List ℕ) → (Answered → Type 0) → IndexConfig → HeldWork → Said → HeldPlace → Type 0
+EndsLeft dropped Gave config work outcome place =
+    ((error : MergeError) × MergesFiles config.schema dropped work.files (Err error) × (unmerged_said work.plan.rows error ≡ Ok outcome) × (place ≡ places.Idle))
+    ⊎ ((built : BuiltSplit) × MergesFiles config.schema dropped work.files (Ok built) × EndsStage Gave work.plan built outcome place)
+
 abbrev pub EndsMerge : (Answered → Type 0) → IndexConfig → HeldWork → Said → HeldPlace → Type 0
-EndsMerge Gave config work outcome place =
-    ((error : MergeError) × MergesFiles config.schema [] work.files (Err error) × (unmerged_said work.plan.rows error ≡ Ok outcome) × (place ≡ places.Idle))
-    ⊎ ((built : BuiltSplit) × MergesFiles config.schema [] work.files (Ok built) × EndsStage Gave work.plan built outcome place)
+EndsMerge Gave config work = EndsLeft [] Gave config work
 
 abbrev pub EndsAt : Option PlanRow → (Answered → Type 0) → IndexConfig → HeldWork → (old new : Option State) → Said → HeldPlace → Type 0
 EndsAt None Gave config work old new = EndsMerge Gave config work

@@ -58,6 +58,12 @@ AreSplits s [] (ds ∷ lists) = ⊥
 AreSplits s (bytes ∷ files) [] = ⊥
 AreSplits s (bytes ∷ files) (ds ∷ lists) = IsSplit s bytes ds × AreSplits s files lists
 
+-- a file that is named is a split of no documents
+abbrev pub HasNoSplit : Schema → List (List ℕ) → MergeError → Type 0
+HasNoSplit s files (Memory a) = ⊤
+HasNoSplit s files (Split number e) = (bytes : List ℕ) × (slice_get files number ≡ Some bytes) × ((documents : List Placed) → IsSplit s bytes documents → ⊥)
+HasNoSplit s files (Build e) = ⊤
+
 -- of the file with a number no footer is read
 pub record IsUnread (files : List (List ℕ)) (number : ℕ) (e : SplitError) : Type 0 where
   pub bytes : List ℕ

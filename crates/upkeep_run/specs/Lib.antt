@@ -5,3 +5,5 @@ pub mod Asking
 pub mod Judging
 pub mod Ending
 pub mod Standing
+pub mod Losing
+pub mod Corrupting

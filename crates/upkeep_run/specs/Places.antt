@@ -1,5 +1,5 @@
 -- What a merger or a delete worker holds between its steps.
-use Rattle.std.specs.Prelude.{◌≡◌, ℕ, ◌+◌, ◌≤◌, Bool, true, false, List, [], length, map, sum_by, Option, Some, None}
+use Rattle.std.specs.Prelude.{◌≡◌, ◌≢◌, ℕ, ◌+◌, ◌≤◌, Bool, true, false, List, [], length, map, sum_by, Option, Some, None}
 use Rattle.std.specs.List.{AllZip}
 use Rattle.index_config.specs.declared.config.IndexConfig.{IndexConfig}
 use Rattle.merge_policy.specs.Choice.{FitsSplit}
@@ -9,6 +9,7 @@ use Rattle.meta_store.specs.Left.{HasMarks, mark_of}
 use Rattle.source_checkpoint.specs.declared.delta.Part.{Part}
 use Rattle.source_log.specs.Log.{Log}
 use Rattle.split_bundle.specs.declared.placed.Placed.{Placed}
+use Rattle.split_states.specs.Answers.{AreApart}
 use Rattle.split_states.specs.declared.facts.RowFacts.{RowFacts}
 use Rattle.split_states.specs.declared.rows.Row.{Row}
 use Rattle.index_world.specs.Config.{reads}
@@ -17,6 +18,8 @@ use Rattle.index_world.specs.Index.{ranges_of}
 use Rattle.index_world.specs.Replacing.{AreFetchedIn, IsMadeOf, WerePlanned, joined}
 use Rattle.index_world.specs.Seen.{rejected_in}
 use Rattle.index_world.specs.SplitFile.{AreSplit, facts_of, file_of}
+use Rattle.upkeep_run.specs.declared.work.Aim.{Aim}
+use Rattle.upkeep_run.specs.declared.work.Aim.TheVariants.{Deleting, Merging}
 
 -- Rows that were planned, and what each of their files holds, in the order of the plan: under which configuration, at which moment, and
 -- behind which task. And the rows whose files are still to be fetched.
@@ -82,6 +85,11 @@ pub record IsRowInHand (config : IndexConfig) (until : ℕ) (log : Log) (core : 
   pub facts : row.facts ≡ facts_of config documents (rejected_in config log (ranges_of row))
   pub split : AreSplit config documents
 
+-- deletes are of one row at most
+abbrev pub IsOneOfDeletes : Aim → List Row → Type 0
+IsOneOfDeletes Merging rows = Unit {0}
+IsOneOfDeletes Deleting rows = length rows ≤ 1
+
 -- what is known of all of them: they are few, and together no more than a split can hold
 pub record IsWork (log : Log) (core : Core) (work : Work) : Type 0 where
   pub configured : IsConfigured work.config core
@@ -89,6 +97,12 @@ pub record IsWork (log : Log) (core : Core) (work : Work) : Type 0 where
   pub fits : FitsSplit work.rows
   pub few : length work.rows ≤ 100
   pub known : work.upto ≤ last_opstamp (history core.history)
+
+-- what a plan's rows are: some, each once, and one of deletes
+pub record IsPlannedFor (aim : Aim) (work : Work) : Type 0 where
+  pub some : work.rows ≢ []
+  pub apart : AreApart (row_numbers work.rows)
+  pub one : IsOneOfDeletes aim work.rows
 
 -- ---- a replacement
 
@@ -100,6 +114,8 @@ held_facts held = facts_of held.config held.documents held.rejected
 
 -- its file was made of the files that were fetched of the planned rows
 pub record IsHeldMade (log : Log) (core : Core) (held : Held) : Type 0 where
+  pub some : held.old ≢ []
+  pub apart : AreApart held.old
   pub files : List (List ℕ)
   pub marks : List (List (Part × ℕ))
   pub fetched : AreFetchedIn core held.old files

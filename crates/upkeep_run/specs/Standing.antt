@@ -20,7 +20,7 @@ use Rattle.upkeep_run.specs.Asking.{ask_of}
 use Rattle.upkeep_run.specs.Ending.{Told, facts_said, unstaged_said, upto_of}
 use Rattle.upkeep_run.specs.Outcomes.{UpkeepOutcome, Faulted}
 use Rattle.upkeep_run.specs.Outcomes as outcomes
-use Rattle.upkeep_run.specs.Places.{Held, IsStagedHeld, IsUploadedHeld, IsWork, Place, Work, fetching, held_file, idle, number_held, staged, uploaded}
+use Rattle.upkeep_run.specs.Places.{Held, IsStagedHeld, IsPlannedFor, IsUploadedHeld, IsWork, Place, Work, fetching, held_file, idle, number_held, staged, uploaded}
 use Rattle.upkeep_run.specs.Steps.{Luck, step_worker}
 use Rattle.upkeep_run.specs.declared.work.Aim.{Aim}
 use Rattle.upkeep_run.specs.declared.outcome.UpkeepOutcome.{UpkeepOutcome as Said}
@@ -83,7 +83,7 @@ pub record PlanHolds (aim : Aim) (plan : Plan) (held : Held) : Type 0 where
 -- what is held is what the place says, made of planned rows and in hand
 abbrev pub PlaceStands : Aim → Log → Core → HeldPlace → Place → Type 0
 PlaceStands aim log core places.Idle place = place ≡ idle
-PlaceStands aim log core (places.Fetching held) place = (work : Work) × (place ≡ fetching work) × WorkStands held work × IsWork log core work
+PlaceStands aim log core (places.Fetching held) place = (work : Work) × (place ≡ fetching work) × WorkStands held work × IsWork log core work × IsPlannedFor aim work
 PlaceStands aim log core (places.Staged plan token bytes) place =
     (held : Held) × (place ≡ staged held) × PlanHolds aim plan held × (token.number ≡ held.number) × (bytes ≡ held_file held) × IsStagedHeld log core held
 PlaceStands aim log core (places.Uploaded plan token) place =

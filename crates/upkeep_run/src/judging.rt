@@ -1,6 +1,6 @@
 //! What fetched files say, whatever their bytes are.
 
-ghost use Rattle.std.specs.Prelude.{◌≡◌, ◌↔◌, ◌<◌, ◌==◌, ◌&&◌, ℕ, List, Option, Some, length, IsTrue};
+ghost use Rattle.std.specs.Prelude.{◌≡◌, ◌↔◌, ◌<◌, ◌==◌, ◌&&◌, ℕ, List, Option, Some, length, IfErr, IsTrue};
 ghost use Rattle.doc_value.specs.Documents.{IsSchema};
 ghost use Rattle.doc_value.specs.declared.schema.Schema.{Schema};
 ghost use Rattle.meta_store.specs.declared.planning.RowWork.{RowWork as Known};
@@ -11,7 +11,7 @@ ghost use Rattle.split_bundle.specs.SplitViews.{IsViewOf};
 ghost use Rattle.split_bundle.specs.Splits.{IsSplitOf};
 ghost use Rattle.split_merge.specs.Keeping.{RiseFrom, joined, kept};
 ghost use Rattle.split_merge.specs.Merging.{Merges, fault_of};
-ghost use Rattle.upkeep_run.specs.Judging.{AgreesWith, AreSplits, IsJudged, MergesFiles, weights_of};
+ghost use Rattle.upkeep_run.specs.Judging.{AgreesWith, AreSplits, HasNoSplit, IsJudged, MergesFiles, weights_of};
 
 use byte_fields::Bytes;
 use doc_value::Schema;
@@ -89,6 +89,8 @@ pub(crate) fn merged(
     requires rise { RiseFrom 0 dropped.now }
     // Of files of splits: what is built of the documents that are kept.
     ensures only { (lists : List (List Placed)) → AreSplits schema.now files.now lists → Merges schema.now (kept dropped.now (joined lists)) result }
+    // Of any files: one that is named is a split of no documents.
+    ensures cause { IfErr result (HasNoSplit schema.now files.now) }
     // Of any files: what is merged of what is read of them.
     ensures exact { MergesFiles schema.now dropped.now files.now result }
 {

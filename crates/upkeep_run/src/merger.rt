@@ -3,8 +3,9 @@
 ghost use Rattle.std.specs.Prelude.{◌≡◌, ◌↔◌, [], IsTrue, slice_get};
 ghost use Rattle.source_log.specs.Log.{IsLog, Log};
 ghost use Rattle.index_world.specs.Core.{Core};
+ghost use Rattle.upkeep_run.specs.Corrupting.{CorruptAt, CorruptStep, MergedCorrupt};
 ghost use Rattle.upkeep_run.specs.Ending.{Ends, EndsMerge, EndsAt, EndsStep};
-ghost use Rattle.upkeep_run.specs.Places.{IsWork, Place as Stand, Work as Planned, fetching, idle, is_idle};
+ghost use Rattle.upkeep_run.specs.Places.{IsPlannedFor, IsWork, Place as Stand, Work as Planned, fetching, idle, is_idle};
 ghost use Rattle.upkeep_run.specs.Standing.{HoldsOwn, PlaceStands, StepsAs, WorkStands};
 ghost use Rattle.upkeep_run.specs.declared.work.Aim.TheVariants.{Merging};
 
@@ -63,7 +64,8 @@ impl Merger {
         ensures same { G.bytes_fetched gate.new ≡ G.bytes_fetched gate.old }
         // Whatever the gate tells.
         ensures ends { Ends (EndsMerge (λ call. G.Answers gate.old call gate.new) (G.configured gate.old) work) result self.new.place }
-        ensures step { (core : Core) (log : Log) (planned : Planned) → IsLog log → G.Stands gate.old core log → WorkStands work planned → IsWork log core planned → planned.unfetched ≡ [] →
+        ensures corrupt { MergedCorrupt (G.configured gate.old) work (λ call. G.Answers gate.old call gate.new) result }
+        ensures step { (core : Core) (log : Log) (planned : Planned) → IsLog log → G.Stands gate.old core log → WorkStands work planned → IsWork log core planned → IsPlannedFor Merging planned → planned.unfetched ≡ [] →
             StepsAs G.Stands G.Between G.Owns G.Adds Merging result (fetching planned) core log self.new.place gate.old gate.new }
     {
         let Work { plan, files, .. } = work;
@@ -90,7 +92,8 @@ impl Merger {
         ensures owns { HoldsOwn G.Owns gate.new self.new.place }
         // Whatever the gate tells.
         ensures ends { Ends (EndsAt (slice_get work.plan.rows work.next) (λ call. G.Answers gate.old call gate.new) (G.configured gate.old) work (G.told gate.old) (G.told gate.new)) result self.new.place }
-        ensures step { (core : Core) (log : Log) (planned : Planned) → IsLog log → G.Stands gate.old core log → WorkStands work planned → IsWork log core planned →
+        ensures corrupt { CorruptAt (slice_get work.plan.rows work.next) (λ call. G.Answers gate.old call gate.new) (G.configured gate.old) work result }
+        ensures step { (core : Core) (log : Log) (planned : Planned) → IsLog log → G.Stands gate.old core log → WorkStands work planned → IsWork log core planned → IsPlannedFor Merging planned →
             StepsAs G.Stands G.Between G.Owns G.Adds Merging result (fetching planned) core log self.new.place gate.old gate.new }
     {
         if (work.next as usize) < work.plan.rows.len() {
@@ -114,6 +117,9 @@ impl Merger {
         ensures ends { EndsStep G.told G.configured G.Answers self.old.place result self.new.place gate.old gate.new }
         ensures step { (place : Stand) (core : Core) (log : Log) → IsLog log → PlaceStands Merging log core self.old.place place → G.Stands gate.old core log →
             StepsAs G.Stands G.Between G.Owns G.Adds Merging result place core log self.new.place gate.old gate.new }
+        // Whatever the gate tells: a planned row's file is corrupt exactly where its bytes stand for no documents or for others than the
+        // row's facts say, or where all files together pass the limits of a split.
+        ensures corrupt { CorruptStep G.configured G.Answers self.old.place result gate.old gate.new }
     {
         match mem::replace(&mut self.place, Place::Idle) {
             Place::Idle => plan(alloc, gate, Aim::Merging, &mut self.place),

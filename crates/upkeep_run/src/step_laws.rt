@@ -13,11 +13,13 @@ ghost use Rattle.source_log.specs.Log.{Log};
 ghost use Rattle.index_world.specs.Calls.{asked_and_looked};
 ghost use Rattle.index_world.specs.Config.{reads};
 ghost use Rattle.index_world.specs.Core.{Core, IsOther};
+ghost use Rattle.index_world.specs.Gate.{IsSoundCore};
 ghost use Rattle.index_world.specs.World.{GoesOn};
+ghost use Rattle.upkeep_run.specs.Losing.{CanRaise, CanReplace, LosesUnless};
 ghost use Rattle.upkeep_run.specs.Outcomes.{Nothing};
-ghost use Rattle.upkeep_run.specs.Places.{Place, idle, number_held};
+ghost use Rattle.upkeep_run.specs.Places.{Held, IsUploadedHeld, IsWork, Place, Work, fetching, idle, number_held, uploaded};
 ghost use Rattle.upkeep_run.specs.Standing.{PlaceStands};
-ghost use Rattle.upkeep_run.specs.Steps.{Luck, rows_in, step_worker};
+ghost use Rattle.upkeep_run.specs.Steps.{Luck, drops_none, first_number, rows_in, step_worker};
 ghost use Rattle.upkeep_run.specs.declared.work.Aim.{Aim};
 ghost use Rattle.upkeep_run.specs.declared.work.Aim.TheVariants.{Deleting, Merging};
 ghost use Rattle.upkeep_run.specs.declared.work.Place.{Place as HeldPlace};
@@ -39,4 +41,14 @@ pub fn nothing_is_exact()
 pub fn others_leave_it()
     ensures { (aim : Aim) (core after : Core) (log : Log) (one : Option ℕ) (kept : HeldPlace) (place : Place) → GoesOn one core after → Legal reads (history after.history) →
         ((n : ℕ) → number_held place ≡ Some n → IsOther one n) → PlaceStands aim log core kept place → PlaceStands aim log after kept place }
+{}
+
+/// Planned rows are lost exactly where one of them isn't published or the own row isn't staged for a replacement: a step that replaces
+/// is Lost where the history that it came to has no such rows, and Replaced where the one before its entry has. So is one that raises.
+pub fn lost_is_exact()
+    ensures replaces { (aim : Aim) (luck : Luck) (log : Log) (core : Core) (held : Held) → let step = step_worker aim luck log (uploaded held) core in
+        IsUploadedHeld log core held → GoesOn (Some held.number) core step.core → IsSoundCore step.core log → LosesUnless (λ rows. CanReplace rows held.number held.old) step.outcome step.core }
+    ensures raises { (luck : Luck) (log : Log) (core : Core) (work : Work) → let step = step_worker Deleting luck log (fetching work) core in
+        work.unfetched ≡ [] → drops_none work core ≡ true → IsWork log core work → GoesOn None core step.core → IsSoundCore step.core log →
+        LosesUnless (λ rows. CanRaise rows (first_number work.rows)) step.outcome step.core }
 {}

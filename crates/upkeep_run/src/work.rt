@@ -13,8 +13,9 @@ ghost use Rattle.index_world.specs.Calls.{Trouble, Unmade};
 ghost use Rattle.index_world.specs.Core.{Core, IsUnusedIn};
 ghost use Rattle.index_world.specs.Gate.{IsTrouble, IsUnmade};
 ghost use Rattle.index_world.specs.Replacing.{IsReplaceable, numbers_of};
+ghost use Rattle.upkeep_run.specs.Corrupting.{CorruptFetch, FetchedCorrupt};
 ghost use Rattle.upkeep_run.specs.Ending.{Ends, EndsFetch, EndsPlan, EndsReplace, EndsStage, EndsUpload, JudgesFile, TellsJudged, fault_said, lost_said, number_at, rejected_by, rejected_said, unmerged_said, unstaged_said, with_file};
-ghost use Rattle.upkeep_run.specs.Places.{Held, IsStagedHeld, IsUploadedHeld, IsWork, Work as Planned, fetching, held_file, idle, staged as staged_at, uploaded as uploaded_at};
+ghost use Rattle.upkeep_run.specs.Places.{Held, IsPlannedFor, IsStagedHeld, IsUploadedHeld, IsWork, Work as Planned, fetching, held_file, idle, staged as staged_at, uploaded as uploaded_at};
 ghost use Rattle.upkeep_run.specs.Standing.{Answers, HoldsNone, HoldsOwn, PlanHolds, Stages, StepsAs, WorkStands};
 ghost use Rattle.upkeep_run.specs.declared.work.Aim.{Aim};
 ghost use Rattle.upkeep_run.specs.Steps.{choice_of, lost_outcome, stage_outcome, trouble_outcome};
@@ -259,6 +260,7 @@ fn taken(place: &mut Place, work: Work, bytes: Bytes) -> Result<UpkeepOutcome, A
     requires next { work.next < length work.plan.rows }
     ensures none { HoldsNone place.new }
     ensures ends { (row : Row) → slice_get work.plan.rows work.next ≡ Some row → Ends (JudgesFile row work bytes) result place.new }
+    ensures corrupt { (row : Row) → slice_get work.plan.rows work.next ≡ Some row → FetchedCorrupt row bytes result }
     // The file of a split is taken where the row says as many documents of the same weight.
     ensures takes { (row : Row) (known : Known) (s : Schema) (documents : List Placed) → slice_get work.plan.rows work.next ≡ Some row → row.work ≡ Some known → IsSplit s bytes documents →
         length documents ≡ known.docs → total_weight documents ≡ known.weight → Ends (TellsJudged row work bytes true) result place.new }
@@ -288,7 +290,8 @@ pub(crate) fn fetch<G: Gate>(
     // Whatever the gate tells.
     ensures ends { (row : Row) → slice_get work.plan.rows work.next ≡ Some row →
         Ends (EndsFetch row (λ call. G.Answers gate.old call gate.new) work (G.told gate.old) (G.told gate.new)) result place.new }
-    ensures step { (aim : Aim) (core : Core) (log : Log) (planned : Planned) → G.Stands gate.old core log → WorkStands work planned → IsWork log core planned →
+    ensures corrupt { (row : Row) → slice_get work.plan.rows work.next ≡ Some row → CorruptFetch row (λ call. G.Answers gate.old call gate.new) work result }
+    ensures step { (aim : Aim) (core : Core) (log : Log) (planned : Planned) → G.Stands gate.old core log → WorkStands work planned → IsWork log core planned → IsPlannedFor aim planned →
         StepsAs G.Stands G.Between G.Owns G.Adds aim result (fetching planned) core log place.new gate.old gate.new }
 {
     match gate.fetch(alloc, &work.plan, work.next, 0, u64::MAX) {

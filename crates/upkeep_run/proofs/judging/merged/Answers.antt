@@ -5,7 +5,9 @@ use Rattle.split_bundle.specs.declared.placed.Placed.{Placed}
 use Rattle.split_bundle.specs.declared.split_view.SplitView.{SplitView}
 use Rattle.split_merge.specs.Keeping.{AreViewsOf}
 use Rattle.split_merge.specs.declared.merge_error.MergeError.{MergeError}
-use Rattle.upkeep_run.specs.Judging.{AreRead, MergesFiles}
+use Rattle.std.specs.List.{AllZip}
+use Rattle.upkeep_run.specs.Judging.{AreRead, HasNoSplit, MergesFiles}
+use Rattle.upkeep_run.proofs.Corrupted.{Viewed, if_no_split, unread_none, zip_more}
 use Rattle.upkeep_run.proofs.Judged.{all_lists, file_at, of_unread, of_views, read_more, splits_at, views_more}
 use Rattle.upkeep_run.proofs.judging.merged.Goals as goal
 
@@ -28,6 +30,11 @@ loop-number-preserved c =
           subst (λ (vs : List SplitView). AreRead (take (c.loop-number.number + 1) c.args.files.now) vs) (sym c.in-Ok-push.ensures.items)
           (subst (λ (m : ℕ). AreRead (take m c.args.files.now) (c.loop-number.views.items ++ c.in-Ok.view ∷ [])) next
           (read_more c.args.files.now c.loop-number.views.items c.loop-number.number c.as_slice.result.now c.in-Ok.view there (record { bytes_are = c.in-Ok.ensures.whole; footer = c.in-Ok.ensures.exact }) c.loop-number.invariant.read));
+      each =
+          subst (λ (vs : List SplitView). AllZip (Viewed c.args.schema.now) (take (c.loop-number.number + 1) c.args.files.now) vs) (sym c.in-Ok-push.ensures.items)
+          (subst (λ (m : ℕ). AllZip (Viewed c.args.schema.now) (take m c.args.files.now) (c.loop-number.views.items ++ c.in-Ok.view ∷ [])) next
+          (zip_more (Viewed c.args.schema.now) c.args.files.now c.loop-number.views.items c.loop-number.number c.as_slice.result.now c.in-Ok.view there
+          (λ documents split. (split.parts, c.in-Ok.ensures.only c.args.schema.now documents split.parts split.is_split split.bytes_are)) c.loop-number.invariant.each));
       only = λ lists are.
           let at = splits_at c.args.schema.now c.args.files.now lists c.loop-number.number c.as_slice.result.now there are in
           subst (λ (vs : List SplitView). AreViewsOf c.args.schema.now vs (take (c.loop-number.number + 1) lists)) (sym c.in-Ok-push.ensures.items)
@@ -50,3 +57,15 @@ returns-clause-exact c =
           (subst (λ (fs : List (List ℕ)). AreRead fs c.loop-number.views.items) (take_all c.loop-number.number c.args.files.now (omega (arith, c.loop-number-test.false))) c.loop-number.invariant.read),
       c.merge.ensures.exact,
     )
+
+pub returns-in-Err-clause-cause : goal.returns-in-Err-clause-cause
+returns-in-Err-clause-cause c =
+    subst (λ (e : MergeError). HasNoSplit c.args.schema.now c.args.files.now e) (sym c.unread.ensures)
+    (unread_none c.args.schema.now c.args.files.now c.loop-number.number c.as_slice.result.now c.in-Err.error (file_at c.args.files.now c.loop-number.number c.index-files-number.result c.as_slice.result.now (omega (arith, c.loop-number-test.true)) (c.as_slice.ensures ∙ c.index-files-number.is))
+    (λ documents split. absurd (c.in-Err.ensures.only c.args.schema.now documents split.parts split.is_split split.bytes_are)))
+
+pub returns-clause-cause : goal.returns-clause-cause
+returns-clause-cause c =
+    if_no_split c.args.schema.now c.args.files.now c.as_slice-2.result.now c.merge.result
+    (subst (λ (vs : List SplitView). AllZip (Viewed c.args.schema.now) c.args.files.now vs) (sym c.as_slice-2.ensures.value)
+    (subst (λ (fs : List (List ℕ)). AllZip (Viewed c.args.schema.now) fs c.loop-number.views.items) (take_all c.loop-number.number c.args.files.now (omega (arith, c.loop-number-test.false))) c.loop-number.invariant.each)) c.merge.ensures.cause

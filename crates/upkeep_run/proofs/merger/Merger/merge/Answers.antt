@@ -1,11 +1,18 @@
-use Rattle.std.proofs.Common.{◌∙◌, ℕ, List, sym, ap, subst}
+use Rattle.std.proofs.Common.{◌∙◌, ℕ, List, refl, sym, ap, subst, Ok, Err}
 use Rattle.std.specs.Prelude.{None}
 use Rattle.std.proofs.Math.Logic.{∥∥₁_elim}
 use Rattle.index_world.specs.Configuration.{configuration}
 use Rattle.index_world.specs.Core.{journal_of}
 use Rattle.split_build.proofs.Mere.{schema_prop}
 use Rattle.upkeep_run.specs.Ending.{Told, unmerged_said}
-use Rattle.upkeep_run.specs.Judging.{AreSplits}
+use Rattle.index_config.specs.declared.config.IndexConfig.{IndexConfig}
+use Rattle.index_world.specs.Answering.{Answered}
+use Rattle.split_bundle.specs.declared.placed.Placed.{Placed}
+use Rattle.split_merge.specs.Merging.{Merges}
+use Rattle.upkeep_run.specs.Corrupting.{MergedCorrupt}
+use Rattle.upkeep_run.specs.Judging.{AreSplits, HasNoSplit}
+use Rattle.upkeep_run.proofs.Corrupted.{staged_corrupt, unmerged_corrupt}
+use Rattle.upkeep_run.proofs.Making.{kept_none}
 use Rattle.upkeep_run.specs.Standing.{Answers}
 use Rattle.upkeep_run.specs.Steps.{stage_outcome}
 use Rattle.upkeep_run.proofs.Merging.{built_of, merge_short, merge_stages, no_fault}
@@ -19,17 +26,17 @@ pub merged-built-requires-clause-schema : goal.merged-built-requires-clause-sche
 merged-built-requires-clause-schema g c = ∥∥₁_elim c.config.ensures.schema (schema_prop c.config.result.now.schema) (λ x. x)
 
 pub returns-in-Ok-clause-step : goal.returns-in-Ok-clause-step
-returns-in-Ok-clause-step g c = λ core log planned is stands ws i done.
+returns-in-Ok-clause-step g c = λ core log planned is stands ws i p done.
     let config = c.config.result.now in
     let same = same_config (configuration (journal_of core)) config planned.config (c.config.ensures.step core log stands) i.configured in
     let made = built_of core log c.args.work planned ws i done c.in-Ok.split config same
     (λ lists are. c.in-Ok.ensures.only lists (subst (λ (fs : List (List ℕ)). AreSplits config.schema fs lists) (sym c.as_slice.ensures) are)) (λ documents built. c.built_is_one.ensures config.schema documents built) in
-    merge_stages core log c.args.work planned ws i done g.G.Gate.Stands g.G.Gate.Between g.G.Gate.Owns g.G.Gate.Adds c.args.gate.now c.stage.new.gate c.in-Ok.split is made g.met.G.Gate.between_goes
+    merge_stages core log c.args.work planned ws i done g.G.Gate.Stands g.G.Gate.Between g.G.Gate.Owns g.G.Gate.Adds c.args.gate.now c.stage.new.gate p c.in-Ok.split is made g.met.G.Gate.between_goes
     (λ after there. g.met.G.Gate.is_sound c.stage.new.gate after log there) c.stage.new.place c.stage.result
     (λ error e unmade u. subst (λ (r : Told). Answers r (stage_outcome unmade)) (sym e) (unstaged_answers error unmade u)) (c.stage.ensures.step core log stands)
 
 pub returns-in-Err-clause-step : goal.returns-in-Err-clause-step
-returns-in-Err-clause-step g c = λ core log planned is stands ws i done.
+returns-in-Err-clause-step g c = λ core log planned is stands ws i p done.
     let config = c.config.result.now in
     let same = same_config (configuration (journal_of core)) config planned.config (c.config.ensures.step core log stands) i.configured in
     let none = no_fault core log c.args.work planned ws i done c.in-Err.error config same
@@ -41,3 +48,19 @@ pub stage-requires-clause-can : goal.stage-requires-clause-can
 stage-requires-clause-can g c =
     ∥∥₁_elim c.config.ensures.schema (can_spell_prop c.in-Ok.split.facts)
     (λ s. files_can c.config.result.now.schema c.as_slice.result.now c.in-Ok.split s.few c.in-Ok.ensures.exact c.facts_fit.ensures.size c.facts_fit.ensures.times)
+
+pub returns-in-Ok-clause-corrupt : goal.returns-in-Ok-clause-corrupt
+returns-in-Ok-clause-corrupt g c =
+    let schema = ap (λ (k : IndexConfig). k.schema) c.config.ensures.value in
+    subst (λ (k : IndexConfig). MergedCorrupt k c.args.work (λ (call : Answered). g.G.Gate.Answers c.args.gate.now call c.stage.new.gate) c.stage.result) c.config.ensures.value
+    (staged_corrupt c.config.result.now c.args.work (λ (call : Answered). g.G.Gate.Answers c.args.gate.now call c.stage.new.gate) c.config.result.now.schema refl c.in-Ok.split
+    (λ lists are. subst (λ (ds : List Placed). Merges c.config.result.now.schema ds (Ok c.in-Ok.split)) (kept_none lists) (c.in-Ok.ensures.only lists (subst (λ (fs : List (List ℕ)). AreSplits c.config.result.now.schema fs lists) (sym c.as_slice.ensures) are)))
+    c.stage.result c.stage.new.place c.stage.ensures.ends)
+
+pub returns-in-Err-clause-corrupt : goal.returns-in-Err-clause-corrupt
+returns-in-Err-clause-corrupt g c =
+    subst (λ (k : IndexConfig). MergedCorrupt k c.args.work (λ (call : Answered). g.G.Gate.Answers c.args.gate.now call c.args.gate.now) c.unmerged.result) c.config.ensures.value
+    (unmerged_corrupt c.config.result.now c.args.work (λ (call : Answered). g.G.Gate.Answers c.args.gate.now call c.args.gate.now) c.config.result.now.schema refl c.in-Err.error
+    (subst (λ (fs : List (List ℕ)). HasNoSplit c.config.result.now.schema fs c.in-Err.error) c.as_slice.ensures c.in-Err.ensures.cause)
+    (λ lists are. subst (λ (ds : List Placed). Merges c.config.result.now.schema ds (Err c.in-Err.error)) (kept_none lists) (c.in-Err.ensures.only lists (subst (λ (fs : List (List ℕ)). AreSplits c.config.result.now.schema fs lists) (sym c.as_slice.ensures) are)))
+    c.unmerged.result (c.unmerged.ensures ∙ ap (λ rows. unmerged_said rows c.in-Err.error) c.as_slice-in-Err.ensures))

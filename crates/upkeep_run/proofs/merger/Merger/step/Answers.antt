@@ -7,6 +7,7 @@ use Rattle.upkeep_run.specs.Standing.{HoldsOwn, PlaceStands, StepsAs}
 use Rattle.upkeep_run.specs.declared.work.Aim.TheVariants.{Merging}
 use Rattle.upkeep_run.specs.declared.work.Place.{Place as HeldPlace}
 use Rattle.upkeep_run.specs.declared.work.Place.TheVariants as places
+use Rattle.upkeep_run.proofs.Corrupted.{corrupt_from, plan_gives, replace_gives, upload_gives}
 use Rattle.upkeep_run.proofs.Ended.{ends_from}
 use Rattle.upkeep_run.proofs.Holding.{idle_owns, may_replace}
 use Rattle.upkeep_run.proofs.merger.Merger.step.Goals as goal
@@ -19,7 +20,7 @@ returns-in-Idle-clause-step g c = λ place core log is s stands.
 pub returns-in-Fetching-clause-step : goal.returns-in-Fetching-clause-step
 returns-in-Fetching-clause-step g c = λ place core log is s stands.
     let at = subst (λ k. PlaceStands Merging log core k place) (sym c.replace.ensures.value ∙ c.in-Fetching.is) s in
-    subst (λ (p : Place). StepsAs g.G.Gate.Stands g.G.Gate.Between g.G.Gate.Owns g.G.Gate.Adds Merging c.work_on.result p core log c.work_on.new.self.place c.args.gate.now c.work_on.new.gate) (sym at.1) (c.work_on.ensures.step core log at.0 is stands at.2 at.3)
+    subst (λ (p : Place). StepsAs g.G.Gate.Stands g.G.Gate.Between g.G.Gate.Owns g.G.Gate.Adds Merging c.work_on.result p core log c.work_on.new.self.place c.args.gate.now c.work_on.new.gate) (sym at.1) (c.work_on.ensures.step core log at.0 is stands at.2 at.3 at.4)
 
 pub returns-in-Staged-clause-step : goal.returns-in-Staged-clause-step
 returns-in-Staged-clause-step g c = λ place core log is s stands.
@@ -65,3 +66,22 @@ pub returns-in-Uploaded-clause-ends : goal.returns-in-Uploaded-clause-ends
 returns-in-Uploaded-clause-ends g c =
     ends_from g.G.Gate.told g.G.Gate.configured g.G.Gate.Answers c.args.self.now.place c.replace_rows.result c.replace.new.dest c.args.gate.now c.replace_rows.new.gate (places.Uploaded c.in-Uploaded.plan c.in-Uploaded.uploaded) (sym c.replace.ensures.value ∙ c.in-Uploaded.is)
     (subst (λ (k : HeldPlace). Ends (EndsReplace 0 (λ (call : Answered). g.G.Gate.Answers c.args.gate.now call c.replace_rows.new.gate) c.in-Uploaded.plan c.in-Uploaded.uploaded.number) c.replace_rows.result k) (sym c.replace.ensures.after) c.replace_rows.ensures.ends)
+
+pub returns-in-Idle-clause-corrupt : goal.returns-in-Idle-clause-corrupt
+returns-in-Idle-clause-corrupt g c =
+    corrupt_from g.G.Gate.configured g.G.Gate.Answers c.args.self.now.place c.plan.result c.args.gate.now c.plan.new.gate places.Idle (sym c.replace.ensures.value ∙ c.in-Idle.is)
+    (plan_gives Merging (λ (call : Answered). g.G.Gate.Answers c.args.gate.now call c.plan.new.gate) c.plan.result c.plan.new.place c.plan.ensures.ends)
+
+pub returns-in-Fetching-clause-corrupt : goal.returns-in-Fetching-clause-corrupt
+returns-in-Fetching-clause-corrupt g c =
+    corrupt_from g.G.Gate.configured g.G.Gate.Answers c.args.self.now.place c.work_on.result c.args.gate.now c.work_on.new.gate (places.Fetching c.in-Fetching.work) (sym c.replace.ensures.value ∙ c.in-Fetching.is) c.work_on.ensures.corrupt
+
+pub returns-in-Staged-clause-corrupt : goal.returns-in-Staged-clause-corrupt
+returns-in-Staged-clause-corrupt g c =
+    corrupt_from g.G.Gate.configured g.G.Gate.Answers c.args.self.now.place c.upload.result c.args.gate.now c.upload.new.gate (places.Staged c.in-Staged.plan c.in-Staged.staged c.in-Staged.bytes) (sym c.replace.ensures.value ∙ c.in-Staged.is)
+    (upload_gives (λ (call : Answered). g.G.Gate.Answers c.args.gate.now call c.upload.new.gate) c.in-Staged.plan c.in-Staged.staged.number c.in-Staged.bytes (g.G.Gate.told c.args.gate.now) (g.G.Gate.told c.upload.new.gate) c.upload.result c.upload.new.place c.upload.ensures.ends)
+
+pub returns-in-Uploaded-clause-corrupt : goal.returns-in-Uploaded-clause-corrupt
+returns-in-Uploaded-clause-corrupt g c =
+    corrupt_from g.G.Gate.configured g.G.Gate.Answers c.args.self.now.place c.replace_rows.result c.args.gate.now c.replace_rows.new.gate (places.Uploaded c.in-Uploaded.plan c.in-Uploaded.uploaded) (sym c.replace.ensures.value ∙ c.in-Uploaded.is)
+    (replace_gives 0 (λ (call : Answered). g.G.Gate.Answers c.args.gate.now call c.replace_rows.new.gate) c.in-Uploaded.plan c.in-Uploaded.uploaded.number c.replace_rows.result places.Idle c.replace_rows.ensures.ends)

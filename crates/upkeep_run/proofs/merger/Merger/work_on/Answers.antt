@@ -3,6 +3,7 @@ use Rattle.std.specs.Prelude.{Option}
 use Rattle.meta_store.specs.declared.planning.PlanRow.{PlanRow}
 use Rattle.index_world.specs.Answering.{Answered}
 use Rattle.split_merge.proofs.KeptLemmas.{drop_at}
+use Rattle.upkeep_run.specs.Corrupting.{CorruptAt}
 use Rattle.upkeep_run.specs.Ending.{Ends, EndsAt}
 use Rattle.upkeep_run.proofs.Done.{all_done, none_at}
 use Rattle.upkeep_run.proofs.merger.Merger.work_on.Goals as goal
@@ -18,5 +19,15 @@ returns-clause-ends g c =
     (sym (none_at c.args.work.plan.rows c.args.work.next (omega (arith, c.if-work-len.false, c.len.ensures)))) c.merge.ensures.ends
 
 pub returns-clause-step : goal.returns-clause-step
-returns-clause-step g c = λ core log planned is stands ws i.
-    c.merge.ensures.step core log planned is stands ws i (all_done c.args.work planned ws (omega (arith, c.if-work-len.false, c.len.ensures)))
+returns-clause-step g c = λ core log planned is stands ws i p.
+    c.merge.ensures.step core log planned is stands ws i p (all_done c.args.work planned ws (omega (arith, c.if-work-len.false, c.len.ensures)))
+
+pub returns-then-work-len-clause-corrupt : goal.returns-then-work-len-clause-corrupt
+returns-then-work-len-clause-corrupt g c =
+    let at = drop_at c.args.work.plan.rows c.args.work.next (omega (arith, c.if-work-len.true, c.len.ensures)) in
+    subst (λ (o : Option PlanRow). CorruptAt o (λ (call : Answered). g.G.Gate.Answers c.args.gate.now call c.fetch.new.gate) (g.G.Gate.configured c.args.gate.now) c.args.work c.fetch.result) (sym at.1) (c.fetch.ensures.corrupt at.0 at.1)
+
+pub returns-clause-corrupt : goal.returns-clause-corrupt
+returns-clause-corrupt g c =
+    subst (λ (o : Option PlanRow). CorruptAt o (λ (call : Answered). g.G.Gate.Answers c.args.gate.now call c.merge.new.gate) (g.G.Gate.configured c.args.gate.now) c.args.work c.merge.result)
+    (sym (none_at c.args.work.plan.rows c.args.work.next (omega (arith, c.if-work-len.false, c.len.ensures)))) c.merge.ensures.corrupt
