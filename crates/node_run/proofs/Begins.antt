@@ -4,7 +4,7 @@ use Rattle.std.specs.Prelude.{◌==◌, decimal, codes}
 use Rattle.byte_fields.specs.ClientName.{IsClientName}
 use Rattle.indexing_run.specs.Outcomes.{words}
 use Rattle.node_run.specs.Lines.{Spells, AreNames}
-use Rattle.node_run.specs.Node.{Line, At, Assign, StepIndexer, RestartIndexer, RestartClient, StepCollector, RestartCollector, RestartNode, Open, StepClient}
+use Rattle.node_run.specs.Node.{Line, At, Assign, StepIndexer, RestartIndexer, RestartClient, StepMerger, RestartMerger, StepCollector, RestartCollector, RestartNode, Open, StepClient}
 
 abbrev byte_at : ℕ → List ℕ → ℕ
 byte_at k [] = 0

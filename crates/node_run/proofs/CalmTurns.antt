@@ -13,7 +13,7 @@ use Rattle.root_search.specs.Steps.{Searched, step_client}
 use Rattle.split_collector.specs.Steps.{step_collector}
 use Rattle.split_collector.specs.Steps as collecting
 use Rattle.node_run.specs.Calm.{IsStill, log_counts, IsOfThese}
-use Rattle.node_run.specs.Node.{Node, Line, At, Assign, StepIndexer, RestartIndexer, RestartClient, StepCollector, RestartCollector, RestartNode, Open, StepClient, Outcome}
+use Rattle.node_run.specs.Node.{Node, Line, At, Assign, StepIndexer, RestartIndexer, RestartClient, StepMerger, RestartMerger, StepCollector, RestartCollector, RestartNode, Open, StepClient, Outcome}
 use Rattle.node_run.specs.Turns.{Luck, calm, Turned, indexer_at, client_named, indexing_luck, searching_luck, said_by_indexer, said_by_client, indexer_stepped, indexer_turn_by, client_stepped, client_turn_by, collecting_luck, said_by_collector, collector_stepped, collector_turn_by, restart_by, restart_given, full_turn, or_quiet, turn_by, turn, Turns, run_turned, turns, turns_with, with_calm}
 use Rattle.node_run.proofs.Calming.{Same, Calms}
 use Rattle.node_run.proofs.CalmSteps.{StepCalms, SearchCalms, calm_indexing, calm_searching, loaded_calms, indexer_calms, client_calms}

@@ -13,7 +13,7 @@ use Rattle.byte_fields.specs.ClientName.{IsClientName}
 use Rattle.byte_fields.specs.ClientName as clients
 use Rattle.indexing_run.specs.Outcomes.{words}
 use Rattle.node_run.specs.Lines.{line_text, IsWellFormed, Spells}
-use Rattle.node_run.specs.Node.{Line, At, Assign, StepIndexer, RestartIndexer, RestartClient, StepCollector, RestartCollector, RestartNode, Open, StepClient}
+use Rattle.node_run.specs.Node.{Line, At, Assign, StepIndexer, RestartIndexer, RestartClient, StepMerger, RestartMerger, StepCollector, RestartCollector, RestartNode, Open, StepClient}
 
 -- ---- words without a blank
 

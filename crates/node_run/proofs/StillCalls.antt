@@ -17,7 +17,7 @@ use Rattle.indexing_run.specs.Steps.{Stepped, stepped, log_may_fail, log_called,
 use Rattle.root_search.specs.Requests.{asked_of}
 use Rattle.root_search.specs.Steps.{Request, no_request, opened, planned, Plan, Client, config_in, next_step, step_request, step_client}
 use Rattle.node_run.specs.Calm.{IsStill}
-use Rattle.node_run.specs.Node.{Node, Line, At, Assign, StepIndexer, RestartIndexer, RestartClient, StepCollector, RestartCollector, RestartNode, Open, StepClient}
+use Rattle.node_run.specs.Node.{Node, Line, At, Assign, StepIndexer, RestartIndexer, RestartClient, StepMerger, RestartMerger, StepCollector, RestartCollector, RestartNode, Open, StepClient}
 use Rattle.node_run.specs.Turns.{calm, indexer_at, client_named, indexer_turn_by, client_turn_by, collector_turn_by, turn}
 use Rattle.node_run.proofs.Calming.{asked_still, calm_risen, fetched_calm}
 use Rattle.node_run.proofs.CalmSteps.{calm_indexing, calm_searching, load_still}
