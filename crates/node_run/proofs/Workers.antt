@@ -1,8 +1,7 @@
 -- What a worker holds beside the indexers: where it stays, and that no indexer holds its number.
 use Rattle.std.proofs.Common.{◌≡◌, ℕ, ◌<◌, List, [], ◌∷◌, length, true, refl, sym, ap, ◌∙◌, subst}
-use Rattle.std.specs.List.{AllByRecursion, AllZip}
-use Rattle.std.specs.Prelude.{Option, Some, None, Result, Ok, ⊤, slice_set}
-use Rattle.std.specs.declared.alloc.AllocError.{AllocError}
+use Rattle.std.specs.List.{AllByRecursion}
+use Rattle.std.specs.Prelude.{Option, Some, None, Ok, slice_set}
 use Rattle.source_log.specs.Log.{Log}
 use Rattle.index_world.specs.Core.{Core, IsOther, journal_of}
 use Rattle.index_world.specs.Index.{has_staged}
