@@ -1,2 +1,16 @@
 pub mod KeptLemmas
 pub mod ReadLemmas
+pub mod TableLemmas
+pub mod PlaceLemmas
+pub mod ListLemmas
+pub mod WalkLemmas
+pub mod JoinLemmas
+pub mod PastLemmas
+pub mod KeyListLemmas
+pub mod SpellLemmas
+pub mod GatherLemmas
+pub mod JoinedLemmas
+pub mod UpToLemmas
+pub mod StandLemmas
+pub mod GainLemmas
+pub mod ScanLemmas

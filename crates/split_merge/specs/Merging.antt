@@ -18,14 +18,6 @@ use Rattle.split_build.specs.Facts.{AreFacts}
 use Rattle.split_build.specs.Limits.{AreWithin, MakeNone}
 use Rattle.split_merge.specs.Keeping.{ViewsSplit}
 
--- want of memory
-abbrev pub IsWant : SplitError → Type 0
-IsWant (split.Memory a) = ⊤
-IsWant split.BadMagic = ⊥
-IsWant (split.Truncated at) = ⊥
-IsWant (split.BadSection section) = ⊥
-IsWant (split.BadVersion version) = ⊥
-
 -- what a fault of the view with a number is to the merge
 abbrev pub fault_of : ℕ → SplitError → MergeError
 fault_of number (split.Memory a) = Memory a
@@ -33,6 +25,12 @@ fault_of number split.BadMagic = Split number split.BadMagic
 fault_of number (split.Truncated at) = Split number (split.Truncated at)
 fault_of number (split.BadSection section) = Split number (split.BadSection section)
 fault_of number (split.BadVersion version) = Split number (split.BadVersion version)
+
+-- want of memory
+abbrev pub IsMemory : MergeError → Type 0
+IsMemory (Memory a) = ⊤
+IsMemory (Split number e) = ⊥
+IsMemory (Build e) = ⊥
 
 -- these documents were read, or memory was wanting
 abbrev pub ReadsAll : List Placed → Result (List Placed) MergeError → Type 0
@@ -59,6 +57,12 @@ abbrev pub HasCause : Schema → List SplitView → MergeError → Type 0
 HasCause s views (Memory a) = ⊤
 HasCause s views (Split number e) = HasFault s views number e
 HasCause s views (Build e) = ⊤
+
+-- want of memory, or a fault of a split that is named only where it is of no documents
+abbrev pub Blames : Schema → List SplitView → MergeError → Type 0
+Blames s views (Memory a) = ⊤
+Blames s views (Split number e) = HasFault s views number e
+Blames s views (Build e) = ⊥
 
 -- what a refusal of the builder is to the merge
 abbrev pub refusal_of : BuildError → MergeError

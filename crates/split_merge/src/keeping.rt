@@ -7,7 +7,8 @@ ghost use Rattle.doc_value.specs.Documents.{IsOfSchema};
 ghost use Rattle.split_bundle.specs.declared.placed.Placed.{Placed};
 ghost use Rattle.split_bundle.specs.Reading.{MayGive};
 ghost use Rattle.split_merge.specs.Keeping.{is_named, kept_from, kept, joined, RiseFrom, ViewsSplit, AreViewsOf};
-ghost use Rattle.split_merge.specs.Merging.{ReadsAll, HasCause, IsWant, fault_of};
+ghost use Rattle.split_merge.specs.Faults.{IsWant};
+ghost use Rattle.split_merge.specs.Merging.{ReadsAll, HasCause, fault_of};
 ghost use Rattle.split_merge.specs.Reading.{MayFind, behind, document_of, documents_of, read_kept, unless};
 
 use crate::MergeError;
@@ -16,7 +17,7 @@ use split_bundle::{PlacedList, SplitError, SplitView};
 use std::alloc::Global;
 
 // Whether a place is one of some that rise from it on, and those behind it.
-fn passed(places: &[u64], place: u128) -> (bool, &[u64])
+pub(crate) fn passed(places: &[u64], place: u128) -> (bool, &[u64])
     requires { RiseFrom place places.now }
     ensures named { result.0 ≡ is_named place places.now }
     ensures rise { RiseFrom (place + 1) result.1.now }
@@ -92,7 +93,7 @@ fn take_view<'a>(
 }
 
 // What a fault of the view with a number is to the merge.
-fn fault_of(view: usize, error: SplitError) -> MergeError
+pub(crate) fn fault_of(view: usize, error: SplitError) -> MergeError
     ensures { result ≡ fault_of view error }
 {
     match error {
