@@ -62,3 +62,4 @@ pub mod AskedLaws
 pub mod SweepPages
 pub mod Swept
 pub mod SweepLists
+pub mod Slices

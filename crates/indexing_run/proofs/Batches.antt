@@ -25,7 +25,7 @@ use Rattle.split_bundle.specs.declared.placed.Placed.{Placed}
 use Rattle.indexing_run.specs.Making.{IsNew, Follows, AreOthers, AreNew, IsQueue, EndWithin, IsBatch, AreApart}
 use Rattle.indexing_run.specs.Places.{Batch}
 use Rattle.indexing_run.specs.Steps.{start_of, Taken, with_record, taken_from, extended, parts_after, is_closed, is_empty, queue_after, batch_after, read_limit, max_batch_weight, first_moment, batch_facts, fresh_batch, marks_at}
-use Rattle.indexing_run.proofs.Slices.{part_of, part_more, part_none}
+use Rattle.index_world.proofs.Slices.{part_of, part_more, part_none}
 
 pub weight-snoc : (xs : List Placed) (x : Placed) → weight (xs ++ x ∷ []) ≡ weight xs + weight_of x
 weight-snoc [] x = omega arith

@@ -1,8 +1,6 @@
-pub mod Slices
 pub mod Batches
 pub mod Light
 pub mod Gathered
-pub mod Spelling
 pub mod Queues
 pub mod Takes
 pub mod Steps

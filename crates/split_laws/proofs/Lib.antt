@@ -1,3 +1,4 @@
 pub mod Times
 pub mod Tags
 pub mod Built
+pub mod Spelling

@@ -3,7 +3,6 @@ pub mod Printing
 pub mod Ended
 pub mod Weights
 pub mod Judged
-pub mod Slices
 pub mod Rejected
 pub mod Spelling
 pub mod Holding

@@ -7,7 +7,7 @@ use Rattle.doc_value.specs.declared.doc.DocField.{DocField}
 use Rattle.index_config.specs.declared.config.IndexConfig.{IndexConfig}
 use Rattle.index_world.specs.Accepted.{accepted}
 use Rattle.index_world.specs.Seen.{onto, accepted_from, accepted_records, accepted_part, accepted_in, record_count, rejected_in}
-use Rattle.upkeep_run.proofs.Slices.{part_of, part_more, part_none}
+use Rattle.index_world.proofs.Slices.{part_of, part_more, part_none}
 use Rattle.source_checkpoint.specs.declared.delta.Part.{Part}
 use Rattle.source_log.specs.Log.{Log, IsLog, records_of}
 use Rattle.split_bundle.specs.Documents.{weight, total_weight}

@@ -1,5 +1,5 @@
 use Rattle.std.proofs.Math.Logic.{∥∥₁_elim, ∥∥₁_map}
-use Rattle.indexing_run.proofs.Spelling.{can_spell, can_spell_prop}
+use Rattle.split_laws.proofs.Spelling.{can_spell, can_spell_prop}
 use Rattle.indexing_run.proofs.documents.Documents.finish.Goals as goal
 
 pub finish-requires : goal.finish-requires

@@ -10,7 +10,8 @@ use Rattle.upkeep_run.specs.Standing.{Answers}
 use Rattle.upkeep_run.specs.Steps.{stage_outcome}
 use Rattle.upkeep_run.proofs.Merging.{built_of, merge_short, merge_stages, no_fault}
 use Rattle.upkeep_run.proofs.Planning.{same_config}
-use Rattle.upkeep_run.proofs.Spelling.{can_spell_prop, files_can}
+use Rattle.split_laws.proofs.Spelling.{can_spell_prop}
+use Rattle.upkeep_run.proofs.Spelling.{files_can}
 use Rattle.upkeep_run.proofs.Told.{unstaged_answers}
 use Rattle.upkeep_run.proofs.merger.Merger.merge.Goals as goal
 

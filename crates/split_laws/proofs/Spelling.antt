@@ -147,7 +147,7 @@ field_can documents number low = (
 
 -- ---- the tag fields
 
-fields_can : (documents : List Placed) (number : ℕ) (fields : List Field) → number + length fields < 2 ^ 64 → AllByRecursion CanSpellField (map (field_tags documents) (tag_fields number fields))
+pub fields_can : (documents : List Placed) (number : ℕ) (fields : List Field) → number + length fields < 2 ^ 64 → AllByRecursion CanSpellField (map (field_tags documents) (tag_fields number fields))
 fields_can documents number [] low = tt
 fields_can documents number (f ∷ fields) low = by f.tag (fields_can documents (suc number) fields (omega (arith, low)))
   where
@@ -168,7 +168,7 @@ low_more : (before : Option FieldTags) (number : ℕ) → IsLow before number �
 low_more None number low = tt
 low_more (Some before) number low = omega (arith, low)
 
-fields_rise : (documents : List Placed) (before : Option FieldTags) (number : ℕ) (fields : List Field) → IsLow before number → RisesFrom IsFieldBelow before (map (field_tags documents) (tag_fields number fields))
+pub fields_rise : (documents : List Placed) (before : Option FieldTags) (number : ℕ) (fields : List Field) → IsLow before number → RisesFrom IsFieldBelow before (map (field_tags documents) (tag_fields number fields))
 fields_rise documents before number [] low = tt
 fields_rise documents before number (f ∷ fields) low =
     by f.tag (fields_rise documents (Some (field_tags documents number)) (suc number) fields (omega arith)) (fields_rise documents before (suc number) fields (low_more before number low))
@@ -179,7 +179,7 @@ fields_rise documents before number (f ∷ fields) low =
     by true here rest = (low_behind documents before number low, here)
     by false here rest = rest
 
-fields_few : (documents : List Placed) (number : ℕ) (fields : List Field) → length (map (field_tags documents) (tag_fields number fields)) ≤ length fields
+pub fields_few : (documents : List Placed) (number : ℕ) (fields : List Field) → length (map (field_tags documents) (tag_fields number fields)) ≤ length fields
 fields_few documents number [] = omega arith
 fields_few documents number (f ∷ fields) = by f.tag (fields_few documents (suc number) fields)
   where
