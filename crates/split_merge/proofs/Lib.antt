@@ -14,3 +14,7 @@ pub mod UpToLemmas
 pub mod StandLemmas
 pub mod GainLemmas
 pub mod ScanLemmas
+pub mod PlacedLemmas
+pub mod KeepLemmas
+pub mod FiledLemmas
+pub mod MergeLemmas

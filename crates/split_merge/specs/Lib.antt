@@ -9,3 +9,4 @@ pub mod Reading
 pub mod Lent
 pub mod Facts
 pub mod Scanning
+pub mod Kept

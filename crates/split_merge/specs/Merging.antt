@@ -5,6 +5,7 @@ use Rattle.split_bundle.specs.declared.placed.Placed.{Placed}
 use Rattle.split_bundle.specs.declared.split_error.SplitError.{SplitError}
 use Rattle.split_bundle.specs.declared.split_error.SplitError.TheVariants as split
 use Rattle.split_bundle.specs.declared.split_view.SplitView.{SplitView}
+use Rattle.split_bundle.specs.Columns.{AreColumns, fast_fields}
 use Rattle.split_bundle.specs.Documents.{documents_section}
 use Rattle.split_bundle.specs.Files.{Parts, file_bytes}
 use Rattle.split_bundle.specs.Splits.{ArePartitions}
@@ -79,14 +80,15 @@ Merges s documents (Err (Build (build.Memory a))) = ⊥
 Merges s documents (Err (Build (build.TooManyDocs count))) = MakeNone documents (build.TooManyDocs count)
 Merges s documents (Err (Build (build.TooLarge weight))) = MakeNone documents (build.TooLarge weight)
 
--- The documents of the file are these and no others, with their facts and within the limits, whatever stands in the sections that
--- are found by them.
+-- The documents of the file and its columns are these and no others, with their facts and within the limits, whatever stands in the
+-- dictionary and the lists.
 pub record HoldsDocuments (s : Schema) (documents : List Placed) (b : BuiltSplit) : Type 0 where
   pub parts : Parts
   pub bytes_are : b.bytes ≡ file_bytes parts
   pub docs : parts.docs ≡ length documents
   pub partitions : ArePartitions documents parts.partitions
   pub documents_are : parts.documents ≡ documents_section parts.partitions documents
+  pub columns : AreColumns documents 0 (fast_fields s) parts.column_starts parts.columns
   pub facts : AreFacts s documents 0 b.bytes b.facts
   pub within : AreWithin documents
 

@@ -3,6 +3,7 @@
 
 mod facts;
 mod keeping;
+mod kept;
 mod key_lists;
 mod key_walks;
 mod lent;
