@@ -17,10 +17,10 @@ returns-in-Err c =
     let fault = c.in-Err.ensures.exact so_far.0 so_far.1 in
     record {
       exact = subst (λ e. KeepsAll c.args.schema.now (Err e) (read_kept c.args.schema.now c.args.dropped.now c.args.views.now)) (sym c.fault_of.ensures)
-          (view_fault {X = Bor (List ℕ)} c.take_view.new.documents c.args.schema.now c.in-Err.error c.loop-number.rest.now so_far.0 c.loop-number.number c.loop-number.first _ c.index-views-number.result (drop (c.loop-number.number + 1) c.args.views.now) _
+          (view_fault (Bor (List ℕ)) c.take_view.new.documents c.args.schema.now c.in-Err.error c.loop-number.rest.now so_far.0 c.loop-number.number c.loop-number.first _ c.index-views-number.result (drop (c.loop-number.number + 1) c.args.views.now) _
           (drop_view c.args.views.now c.loop-number.number c.index-views-number.result there) so_far.2 fault);
       cause = rw c.fault_of.ensures (fault_cause c.args.schema.now c.args.views.now c.loop-number.number c.index-views-number.result c.in-Err.error there
-          (λ ds views. view_want {X = Bor (List ℕ)} c.take_view.new.documents c.args.schema.now c.index-views-number.result ds so_far.0 c.loop-number.rest.now c.loop-number.first c.in-Err.error views fault));
+          (λ ds views. view_want (Bor (List ℕ)) c.take_view.new.documents c.args.schema.now c.index-views-number.result ds so_far.0 c.loop-number.rest.now c.loop-number.first c.in-Err.error views fault));
     }
 
 pub loop-number-preserved : goal.loop-number-preserved

@@ -11,14 +11,16 @@ loop-doc-init c = record {
   place = omega arith;
   rise = c.requires.rise;
   same = λ m lt. refl;
-  exact = λ before h. (before, h, refl);
+  exact = λ before h.
+      let all : c.args.view.now.layout.docs - 0 ≡ c.args.view.now.layout.docs = omega arith in
+      (before, h, ap (λ (n : ℕ). behind (Ok before) (documents_of c.args.schema.now c.args.places.now c.args.view.now c.args.first 0 n)) all);
 }
 
 pub returns-in-Err-clause-exact : goal.returns-in-Err-clause-exact
 returns-in-Err-clause-exact c = λ before h.
     let so_far = c.loop-doc.invariant.exact before h in
     let left : c.args.view.now.layout.docs - c.loop-doc.doc ≡ suc (c.args.view.now.layout.docs - (c.loop-doc.doc + 1)) = omega (arith, c.loop-doc-test.true, c.doc_count-doc-end.ensures.exact) in
-    keeps_more {X = ⊤} {Y = Bor (List ℕ)} c.take_next.new.documents c.take_next.new.documents c.args.schema.now c.in-Err.fault _ _
+    keeps_more ⊤ (Bor (List ℕ)) c.take_next.new.documents c.take_next.new.documents c.args.schema.now c.in-Err.fault _ _
     (documents_fault c.args.schema.now c.args.view.now c.loop-doc.rest.now c.passed-dropped.result.0 so_far.0 c.loop-doc.place c.loop-doc.doc _ _ _ c.passed-dropped.ensures.named left so_far.2)
     (c.in-Err.ensures so_far.0 so_far.1)
 
