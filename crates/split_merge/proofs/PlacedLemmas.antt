@@ -21,7 +21,7 @@ use Rattle.split_bundle.proofs.Footers.{length-file}
 use Rattle.split_bundle.proofs.ViewsLent.{all_there, pieces_are}
 use Rattle.split_bundle.proofs.WholeFiles.{never_missing}
 use Rattle.split_merge.specs.declared.merge_error.MergeError.{MergeError}
-use Rattle.split_merge.specs.Keeping.{AreViewsOf, ViewsSplit, is_named, joined, kept, kept_from}
+use Rattle.split_merge.specs.Keeping.{AreViewsOf, is_named, joined, kept, kept_from}
 use Rattle.split_merge.specs.Reading.{behind, document_of, documents_of, of_view, read_from, read_kept, unless}
 use Rattle.split_merge.proofs.KeptLemmas.{drop_at, kept_append}
 

@@ -1,4 +1,4 @@
-use Rattle.std.proofs.Common.{◌++◌, ◌∷◌, [], ◌≡◌}
+use Rattle.std.proofs.Common.{◌++◌, ◌∷◌, []}
 use Rattle.std.specs.Prelude.{⊤}
 use Rattle.split_merge.proofs.KeepLemmas.{none_read, one_fault, one_read}
 use Rattle.split_merge.proofs.keeping.take_next.Goals as goal

@@ -1,4 +1,4 @@
-use Rattle.std.proofs.Common.{◌∙◌, List, ap}
+use Rattle.std.proofs.Common.{◌∙◌}
 use Rattle.split_merge.specs.Keeping.{joined, kept}
 use Rattle.split_merge.proofs.KeptLemmas.{blames_memory}
 use Rattle.split_merge.proofs.merging.join_within.Goals as goal
@@ -9,9 +9,9 @@ join_terms-requires c = (c.args.dropped.now, c.deref.ensures.value ∙ c.in_ok-n
 pub finish-requires-clause-kept : goal.finish-requires-clause-kept
 finish-requires-clause-kept c = c.requires.kept
 
-pub returns-in-Ok-clause-only : goal.returns-in-Ok-clause-only
-returns-in-Ok-clause-only c = λ lists h within are.
-    c.in_ok-finish.ensures.built (kept c.args.dropped.now (joined lists)) h within
+pub returns-in_ok-finish-in-Ok-clause-only : goal.returns-in_ok-finish-in-Ok-clause-only
+returns-in_ok-finish-in-Ok-clause-only c = λ lists h within are.
+    c.in_ok-finish-in-Ok.ensures.built (kept c.args.dropped.now (joined lists)) h within
     (c.in-Ok.ensures.only c.args.dropped.now lists (c.deref.ensures.value ∙ c.in_ok-numbers.ensures.tables) c.in_ok-numbers.ensures.few are)
 
 pub returns-in-Err-clause-only : goal.returns-in-Err-clause-only

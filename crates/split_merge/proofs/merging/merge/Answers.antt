@@ -1,4 +1,4 @@
-use Rattle.std.proofs.Common.{◌≡◌, ◌∙◌, List, Ok, Result, sym, subst}
+use Rattle.std.proofs.Common.{◌∙◌, List, Result, sym, subst}
 use Rattle.split_bundle.specs.declared.placed.Placed.{Placed}
 use Rattle.split_merge.specs.declared.merge_error.MergeError.{MergeError}
 use Rattle.split_merge.specs.Keeping.{joined, kept}

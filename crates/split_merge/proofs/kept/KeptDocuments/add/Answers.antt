@@ -1,4 +1,4 @@
-use Rattle.std.proofs.Common.{◌≡◌, ◌∙◌, ◌++◌, ◌∷◌, [], List, ℕ, ap, refl, subst, sym, length, length-append, arith}
+use Rattle.std.proofs.Common.{◌≡◌, ◌∙◌, ◌++◌, ◌∷◌, [], List, ℕ, ap, refl, subst, sym, length-append, arith}
 use Rattle.std.specs.Prelude.{Option}
 use Rattle.doc_value.specs.Documents.{IsOfSchema}
 use Rattle.split_bundle.specs.Held.{IsHeld}
