@@ -20,8 +20,12 @@ use source_checkpoint::Partition;
 use source_log::SourceLog;
 use std::alloc::{AllocError, Global};
 use std::fs::{self, Files};
-use std::thread::Threads;
+use std::thread::{self, Threads};
+use std::time::{Clock, Duration};
 use std::{env, io};
+
+/// So many seconds a folder has stood unchanged before the names that were read of it serve more than one page.
+const STILL: u64 = 3;
 
 // The text of an answer: these words, or `-` where there are none.
 fn joined(alloc: Global, words: &[String]) -> Result<String, AllocError> {
@@ -188,13 +192,13 @@ fn laid<F: Files>(files: &F, alloc: Global, asked: &str, rest: &str) -> io::Resu
     Ok(String::from_str(alloc, "ok")?)
 }
 
-// Answers the lines of the standard input.
-fn answer_all<Rt: Threads + Sync + Input + Print + Files, S: ObjectStore, L: SourceLog>(
-    rt: &Rt,
-    alloc: Global,
-    store: &mut S,
-    log: &mut L,
-) -> io::Result<()> {
+// Answers the lines of the standard input. The reader is another store over the same folder.
+fn answer_all<
+    Rt: Threads + Sync + Input + Print + Files + Clock,
+    S: ObjectStore,
+    R: ObjectStore,
+    L: SourceLog,
+>(rt: &Rt, alloc: Global, store: &mut S, reader: &mut R, log: &mut L) -> io::Result<()> {
     for line in rt.lines(alloc) {
         let line = line?;
         let (asked, rest) = line.split_once(' ').unwrap_or((line.as_str(), ""));
@@ -202,9 +206,14 @@ fn answer_all<Rt: Threads + Sync + Input + Print + Files, S: ObjectStore, L: Sou
             play_table(rt, alloc, number(Some(rest)).max(1))?;
             continue;
         }
+        if asked == "wait" {
+            thread::sleep(rt, Duration::from_secs(STILL));
+            continue;
+        }
         let answer = match asked {
             "folder" | "file" => laid(rt, alloc, asked, rest)?,
             "partitions" | "read" => logged(alloc, log, asked, rest)?,
+            "page" => stored(alloc, reader, "list", rest)?,
             _ => stored(alloc, store, asked, rest)?,
         };
         println!(rt; "{answer}")?;
@@ -227,5 +236,6 @@ fn main(rt: HostRuntime) -> io::Result<()> {
     let word = env::args(&rt)?.nth(1);
     let mut log = FileLog::over(rt.alloc(), &rt, "logs")?;
     let mut store = store_of(&rt, word.as_deref())?;
-    answer_all(&rt, rt.alloc(), &mut store, &mut log)
+    let mut reader = FolderStore::reading(rt.alloc(), &rt, "store")?;
+    answer_all(&rt, rt.alloc(), &mut store, &mut reader, &mut log)
 }

@@ -9,6 +9,7 @@ use std::alloc::{AllocError, Allocator};
 use std::cell::Cell;
 use std::fs::{Files, Metadata, OpenFile, OpenOptions};
 use std::io::{self, ErrorKind, Read, Seek, SeekFrom, Write};
+use std::time::{Clock, Duration};
 
 /// A disk in memory as the system's files.
 #[derive(Drop)]
@@ -173,6 +174,17 @@ impl Files for MemoryFiles {
         let mut state = self.disk.state()?;
         let turn = state.turn()?;
         turn.end(state.link(original, link))
+    }
+}
+
+// It has no time.
+impl Clock for MemoryFiles {
+    fn monotonic(&self) -> io::Result<Duration> {
+        Err(unsupported())
+    }
+
+    fn since_1970(&self) -> io::Result<Duration> {
+        Err(unsupported())
     }
 }
 

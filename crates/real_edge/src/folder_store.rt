@@ -5,7 +5,7 @@ ghost use Rattle.byte_fields.specs.Causes.{Rose};
 
 use crate::faults::{Faults, Reason, Trouble, tried};
 use crate::folder_path::FolderPath;
-use crate::folder_walk::keys_in;
+use crate::folder_walk::Walk;
 use crate::leftovers::remove_leftovers;
 use crate::object_making::{Maker, remove_object};
 use crate::object_reading::read_piece;
@@ -30,6 +30,8 @@ struct Folder<'a, F: WriterLock> {
     files: &'a F,
     place: FolderPath,
     writer: Option<Writer<F::File>>,
+    /// What gave the last page of a listing, where the page behind it may go on from there.
+    walk: Option<Walk>,
 }
 
 /// Objects in a folder: each is a plain file, and the parts of its key are folders. It tells nothing.
@@ -79,7 +81,17 @@ impl<'a, F: WriterLock> Folder<'a, F> {
         Ok(())
     }
 
+    // No page goes on from names among which this key may come or go.
+    fn forget(&mut self, key: &Key) {
+        if let Some(walk) = &self.walk {
+            if walk.seeks(key) {
+                self.walk = None;
+            }
+        }
+    }
+
     fn make(&mut self, alloc: Global, key: &Key, content: &[u8]) -> Result<bool, Trouble> {
+        self.forget(key);
         self.begin(alloc)?;
         let Some(name) = key_name(key) else {
             self.place.go_back()?;
@@ -111,6 +123,7 @@ impl<'a, F: WriterLock> Folder<'a, F> {
     }
 
     fn remove(&mut self, key: &Key) -> Result<(), Trouble> {
+        self.forget(key);
         self.lock()?;
         let Some(name) = key_name(key) else {
             return self.place.require(self.files);
@@ -120,6 +133,21 @@ impl<'a, F: WriterLock> Folder<'a, F> {
             return Err(Trouble::of("removing", "the store is only read"));
         }
         remove_object(self.files, &mut self.place)
+    }
+
+    // What gives the page behind a key: the walk that gave the page before it, where it can go on, or else a new one.
+    fn walk_to(
+        &mut self,
+        alloc: Global,
+        prefix: &Key,
+        after: Option<&Key>,
+    ) -> Result<Walk, Trouble> {
+        if let Some(walk) = self.walk.take() {
+            if walk.can_go_on(self.files, &mut self.place, prefix, after)? {
+                return Ok(walk);
+            }
+        }
+        Walk::start(self.files, alloc, &mut self.place, prefix, after)
     }
 
     fn keys(
@@ -132,7 +160,15 @@ impl<'a, F: WriterLock> Folder<'a, F> {
         ensures bound { IfOk result (λ keys. length keys ≤ max) }
     {
         self.begin(alloc)?;
-        keys_in(self.files, alloc, &mut self.place, prefix, after, max)
+        let mut walk = self.walk_to(alloc, prefix, after)?;
+        let keys = walk.page(self.files, alloc, &mut self.place, max)?;
+        let is_full = keys.len() >= max as usize;
+        if let Some(last) = keys.as_slice().last() {
+            if is_full && walk.rest(self.files, &mut self.place, last)? {
+                self.walk = Some(walk);
+            }
+        }
+        Ok(keys)
     }
 }
 
@@ -150,6 +186,7 @@ impl<'a, F: WriterLock> FolderStore<'a, F> {
                 files,
                 place,
                 writer,
+                walk: None,
             },
             faults,
             given: 0,

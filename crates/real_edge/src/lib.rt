@@ -5,7 +5,9 @@
 
 mod faults;
 mod file_log;
+mod folder_names;
 mod folder_path;
+mod folder_read;
 mod folder_store;
 mod folder_walk;
 mod leftovers;

@@ -4,12 +4,13 @@ use crate::faults::{Trouble, tried};
 use crate::folder_path::{Standing, standing_at};
 use std::fs::{File, Files, OpenFile, OpenOptions, TryLockError};
 use std::io::{self, ErrorKind};
+use std::time::Clock;
 
 /// The name of the locked file, which is no key.
 pub const LOCK: &str = ".lock";
 
-/// Files that can be locked, each for one open of it alone, until that is dropped.
-pub trait WriterLock: Files {
+/// Files that can be locked, each for one open of it alone, until that is dropped; and the clock by whose moments they change.
+pub trait WriterLock: Files + Clock {
     /// Takes the lock without waiting. Whether no other open has it.
     fn try_lock(&self, file: &Self::File) -> io::Result<bool>;
 }

@@ -8,7 +8,10 @@ use Rattle.split_bundle.specs.declared.placed.Placed.{Placed}
 use Rattle.split_bundle.specs.declared.split_view.SplitView.{SplitView}
 use Rattle.split_bundle.specs.declared.split_error.SplitError.{SplitError}
 use Rattle.split_bundle.specs.declared.split_error.SplitError.TheVariants as split
-use Rattle.split_merge.specs.Merging.{HasCause, IsWant, ReadsAll, fault_of}
+use Rattle.split_merge.specs.Faults.{IsWant}
+use Rattle.split_merge.specs.declared.merge_error.MergeError.{MergeError}
+use Rattle.split_merge.specs.declared.merge_error.MergeError.TheVariants.{Memory, Split, Build}
+use Rattle.split_merge.specs.Merging.{Blames, HasCause, HasFault, IsFaulty, IsMemory, ReadsAll, fault_of}
 use Rattle.split_merge.specs.Keeping.{is_named, kept_from, RiseFrom, ViewsSplit, AreViewsOf}
 
 -- ---- places
@@ -149,3 +152,31 @@ fault_cause s views number v split.BadMagic is only = record { view = v; is_ther
 fault_cause s views number v (split.Truncated at) is only = record { view = v; is_there = is; is_none = only }
 fault_cause s views number v (split.BadSection section) is only = record { view = v; is_there = is; is_none = only }
 fault_cause s views number v (split.BadVersion version) is only = record { view = v; is_there = is; is_none = only }
+
+pub fault_blames : (s : Schema) (views : List SplitView) (number : ℕ) (v : SplitView) (e : SplitError) → slice_get views number ≡ Some v → ((documents : List Placed) → ViewsSplit s v documents → IsWant e) → Blames s views (fault_of number e)
+fault_blames s views number v (split.Memory a) is only = tt
+fault_blames s views number v split.BadMagic is only = record { view = v; is_there = is; is_none = only }
+fault_blames s views number v (split.Truncated at) is only = record { view = v; is_there = is; is_none = only }
+fault_blames s views number v (split.BadSection section) is only = record { view = v; is_there = is; is_none = only }
+fault_blames s views number v (split.BadVersion version) is only = record { view = v; is_there = is; is_none = only }
+
+pub blames_cause : (s : Schema) (views : List SplitView) (e : MergeError) → Blames s views e → HasCause s views e
+blames_cause s views (Memory a) blames = tt
+blames_cause s views (Split number e) blames = blames
+blames_cause s views (Build e) blames = tt
+
+-- of views of splits it is want of memory
+pub blames_memory : (s : Schema) (views : List SplitView) (lists : List (List Placed)) (e : MergeError) → AreViewsOf s views lists → Blames s views e → IsMemory e
+blames_memory s views lists (Memory a) are blames = tt
+blames_memory s views lists (Split number e) are blames = by e blames
+  where
+    none : IsFaulty s views number → ⊥
+    none faulty = let at = at_view s views lists number faulty.view are faulty.is_there in faulty.is_none at.documents at.views
+
+    by : (e : SplitError) → HasFault s views number e → ⊥
+    by (split.Memory a) faulty = faulty
+    by split.BadMagic faulty = none faulty
+    by (split.Truncated at) faulty = none faulty
+    by (split.BadSection section) faulty = none faulty
+    by (split.BadVersion version) faulty = none faulty
+blames_memory s views lists (Build e) are blames = blames

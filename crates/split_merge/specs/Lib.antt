@@ -1,3 +1,12 @@
 pub mod Keeping
+pub mod Numbering
+pub mod Faults
+pub mod Joining
+pub mod Walking
+pub mod Terms
 pub mod Merging
 pub mod Reading
+pub mod Lent
+pub mod Facts
+pub mod Scanning
+pub mod Kept

@@ -5,6 +5,7 @@ use Rattle.split_bundle.specs.declared.placed.Placed.{Placed}
 use Rattle.split_bundle.specs.declared.split_error.SplitError.{SplitError}
 use Rattle.split_bundle.specs.declared.split_error.SplitError.TheVariants as split
 use Rattle.split_bundle.specs.declared.split_view.SplitView.{SplitView}
+use Rattle.split_bundle.specs.Columns.{AreColumns, fast_fields}
 use Rattle.split_bundle.specs.Documents.{documents_section}
 use Rattle.split_bundle.specs.Files.{Parts, file_bytes}
 use Rattle.split_bundle.specs.Splits.{ArePartitions}
@@ -18,14 +19,6 @@ use Rattle.split_build.specs.Facts.{AreFacts}
 use Rattle.split_build.specs.Limits.{AreWithin, MakeNone}
 use Rattle.split_merge.specs.Keeping.{ViewsSplit}
 
--- want of memory
-abbrev pub IsWant : SplitError → Type 0
-IsWant (split.Memory a) = ⊤
-IsWant split.BadMagic = ⊥
-IsWant (split.Truncated at) = ⊥
-IsWant (split.BadSection section) = ⊥
-IsWant (split.BadVersion version) = ⊥
-
 -- what a fault of the view with a number is to the merge
 abbrev pub fault_of : ℕ → SplitError → MergeError
 fault_of number (split.Memory a) = Memory a
@@ -33,6 +26,12 @@ fault_of number split.BadMagic = Split number split.BadMagic
 fault_of number (split.Truncated at) = Split number (split.Truncated at)
 fault_of number (split.BadSection section) = Split number (split.BadSection section)
 fault_of number (split.BadVersion version) = Split number (split.BadVersion version)
+
+-- want of memory
+abbrev pub IsMemory : MergeError → Type 0
+IsMemory (Memory a) = ⊤
+IsMemory (Split number e) = ⊥
+IsMemory (Build e) = ⊥
 
 -- these documents were read, or memory was wanting
 abbrev pub ReadsAll : List Placed → Result (List Placed) MergeError → Type 0
@@ -60,6 +59,12 @@ HasCause s views (Memory a) = ⊤
 HasCause s views (Split number e) = HasFault s views number e
 HasCause s views (Build e) = ⊤
 
+-- want of memory, or a fault of a split that is named only where it is of no documents
+abbrev pub Blames : Schema → List SplitView → MergeError → Type 0
+Blames s views (Memory a) = ⊤
+Blames s views (Split number e) = HasFault s views number e
+Blames s views (Build e) = ⊥
+
 -- what a refusal of the builder is to the merge
 abbrev pub refusal_of : BuildError → MergeError
 refusal_of (build.Memory a) = Memory a
@@ -75,14 +80,15 @@ Merges s documents (Err (Build (build.Memory a))) = ⊥
 Merges s documents (Err (Build (build.TooManyDocs count))) = MakeNone documents (build.TooManyDocs count)
 Merges s documents (Err (Build (build.TooLarge weight))) = MakeNone documents (build.TooLarge weight)
 
--- The documents of the file are these and no others, with their facts and within the limits, whatever stands in the sections that
--- are found by them.
+-- The documents of the file and its columns are these and no others, with their facts and within the limits, whatever stands in the
+-- dictionary and the lists.
 pub record HoldsDocuments (s : Schema) (documents : List Placed) (b : BuiltSplit) : Type 0 where
   pub parts : Parts
   pub bytes_are : b.bytes ≡ file_bytes parts
   pub docs : parts.docs ≡ length documents
   pub partitions : ArePartitions documents parts.partitions
   pub documents_are : parts.documents ≡ documents_section parts.partitions documents
+  pub columns : AreColumns documents 0 (fast_fields s) parts.column_starts parts.columns
   pub facts : AreFacts s documents 0 b.bytes b.facts
   pub within : AreWithin documents
 

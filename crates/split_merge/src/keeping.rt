@@ -1,22 +1,21 @@
 //! The documents that are kept of splits one behind another.
 
-ghost use Rattle.std.specs.Prelude.{◌≡◌, ◌+◌, ◌<◌, ◌^◌, ◌++◌, ◌∷◌, [], ℕ, List, Some, slice_get, IfOk, IfErr, OnOk, MatchResult, if◌then◌else◌};
-ghost use Rattle.std.specs.List.{AllByRecursion};
-ghost use Rattle.doc_value.specs.declared.schema.Schema.{Schema};
-ghost use Rattle.doc_value.specs.Documents.{IsOfSchema};
+ghost use Rattle.std.specs.Prelude.{◌≡◌, ◌+◌, ◌<◌, ◌^◌, ℕ, List, Ok, IfOk, IfErr};
+ghost use Rattle.doc_value.specs.Documents.{IsSchema};
 ghost use Rattle.split_bundle.specs.declared.placed.Placed.{Placed};
-ghost use Rattle.split_bundle.specs.Reading.{MayGive};
-ghost use Rattle.split_merge.specs.Keeping.{is_named, kept_from, kept, joined, RiseFrom, ViewsSplit, AreViewsOf};
-ghost use Rattle.split_merge.specs.Merging.{ReadsAll, HasCause, IsWant, fault_of};
-ghost use Rattle.split_merge.specs.Reading.{MayFind, behind, document_of, documents_of, read_kept, unless};
+ghost use Rattle.split_merge.specs.Keeping.{is_named, RiseFrom};
+ghost use Rattle.split_merge.specs.Kept.{HasKept, Keeps, KeepsAll};
+ghost use Rattle.split_merge.specs.Merging.{HasCause, fault_of};
+ghost use Rattle.split_merge.specs.Reading.{behind, document_of, documents_of, read_kept, unless};
 
 use crate::MergeError;
+use crate::kept::KeptDocuments;
 use doc_value::Schema;
-use split_bundle::{PlacedList, SplitError, SplitView};
+use split_bundle::{SplitError, SplitView};
 use std::alloc::Global;
 
 // Whether a place is one of some that rise from it on, and those behind it.
-fn passed(places: &[u64], place: u128) -> (bool, &[u64])
+pub(crate) fn passed(places: &[u64], place: u128) -> (bool, &[u64])
     requires { RiseFrom place places.now }
     ensures named { result.0 ≡ is_named place places.now }
     ensures rise { RiseFrom (place + 1) result.1.now }
@@ -41,21 +40,21 @@ fn take_next(
     view: &SplitView<'_>,
     doc: u32,
     dropped: bool,
-    list: &mut PlacedList,
+    documents: &mut KeptDocuments,
 ) -> Result<(), SplitError>
     requires { doc < view.now.layout.docs }
-    ensures only { (documents : List Placed) (d : Placed) → ViewsSplit schema.now view.now documents → slice_get documents doc ≡ Some d
-        → MatchResult result (λ _. list.new ≡ list.old ++ (if dropped then [] else d ∷ [])) IsWant }
-    ensures of_schema { AllByRecursion (λ d. IsOfSchema schema.now d.doc) list.old → OnOk result (AllByRecursion (λ d. IsOfSchema schema.now d.doc) list.new) }
-    // Over any bytes.
-    ensures exact { MayGive (λ _. list.new) result (behind (Ok list.old) (unless dropped (document_of schema.now view.now doc))) }
+    ensures { (before : List Placed) → HasKept documents.old schema.now before → Keeps documents.new schema.now result (behind (Ok before) (unless dropped (document_of schema.now view.now doc))) }
 {
     if dropped {
         return Ok(());
     }
-    let placed = view.placed(alloc, schema, doc)?;
-    list.push(placed)?;
-    Ok(())
+    match view.placed(alloc, schema, doc) {
+        Ok(placed) => {
+            documents.add(alloc, &placed)?;
+            Ok(())
+        }
+        Err(fault) => Err(fault),
+    }
 }
 
 // Takes the documents of a split, of which the first has a place, without those whose places are named. It gives the
@@ -66,23 +65,20 @@ fn take_view<'a>(
     view: &SplitView<'_>,
     places: &'a [u64],
     first: u128,
-    list: &mut PlacedList,
+    documents: &mut KeptDocuments,
 ) -> Result<&'a [u64], SplitError>
     requires rise { RiseFrom first places.now }
     requires room { first + 2 ^ 32 < 2 ^ 128 }
     ensures behind { IfOk result (λ b. RiseFrom (first + view.now.layout.docs) b.now) }
     ensures same { IfOk result (λ b. (m : ℕ) → first + view.now.layout.docs < m + 1 → is_named m b.now ≡ is_named m places.now) }
-    ensures only { (documents : List Placed) → ViewsSplit schema.now view.now documents
-        → MatchResult result (λ _. list.new ≡ list.old ++ kept_from first places.now documents) IsWant }
-    ensures of_schema { AllByRecursion (λ d. IsOfSchema schema.now d.doc) list.old → OnOk result (AllByRecursion (λ d. IsOfSchema schema.now d.doc) list.new) }
-    // Over any bytes.
-    ensures exact { MayGive (λ _. list.new) result (behind (Ok list.old) (documents_of schema.now places.now view.now first 0 view.now.layout.docs)) }
+    ensures exact { (before : List Placed) → HasKept documents.old schema.now before
+        → Keeps documents.new schema.now result (behind (Ok before) (documents_of schema.now places.now view.now first 0 view.now.layout.docs)) }
 {
     let mut rest = places;
     let mut place = first;
     for doc in 0..view.doc_count() {
         let (dropped, behind) = passed(rest, place);
-        match take_next(alloc, schema, view, doc, dropped, list) {
+        match take_next(alloc, schema, view, doc, dropped, documents) {
             Ok(()) => rest = behind,
             Err(fault) => return Err(fault),
         }
@@ -92,7 +88,7 @@ fn take_view<'a>(
 }
 
 // What a fault of the view with a number is to the merge.
-fn fault_of(view: usize, error: SplitError) -> MergeError
+pub(crate) fn fault_of(view: usize, error: SplitError) -> MergeError
     ensures { result ≡ fault_of view error }
 {
     match error {
@@ -122,23 +118,21 @@ pub(crate) fn kept_documents(
     schema: &Schema,
     views: &[SplitView<'_>],
     dropped: &[u64],
-) -> Result<PlacedList, MergeError>
-    requires { RiseFrom 0 dropped.now }
-    ensures only { (lists : List (List Placed)) → AreViewsOf schema.now views.now lists → ReadsAll (kept dropped.now (joined lists)) result }
-    ensures of_schema { IfOk result (λ list. AllByRecursion (λ d. IsOfSchema schema.now d.doc) list) }
+) -> Result<KeptDocuments, MergeError>
+    requires schema { IsSchema schema.now }
+    requires rise { RiseFrom 0 dropped.now }
+    ensures exact { KeepsAll schema.now result (read_kept schema.now dropped.now views.now) }
     ensures cause { IfErr result (HasCause schema.now views.now) }
-    // Of any views.
-    ensures exact { MayFind result (read_kept schema.now dropped.now views.now) }
 {
-    let mut list = PlacedList::vacant(alloc);
+    let mut documents = KeptDocuments::vacant(alloc, schema)?;
     let mut rest = dropped;
     let mut first = 0;
     for (number, view) in views.iter().enumerate() {
-        match take_view(alloc, schema, view, rest, first, &mut list) {
+        match take_view(alloc, schema, view, rest, first, &mut documents) {
             Ok(behind) => rest = behind,
             Err(error) => return Err(fault_of(number, error)),
         }
         first += u128::from(view.doc_count());
     }
-    Ok(list)
+    Ok(documents)
 }

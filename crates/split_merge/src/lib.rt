@@ -1,9 +1,18 @@
 //! A split made of splits: their documents one behind another, without those that are dropped.
 #![tactic(auto)]
 
+mod facts;
 mod keeping;
+mod kept;
+mod key_lists;
+mod key_walks;
+mod lent;
+mod lists;
 mod merge_error;
 mod merging;
+mod numbers;
+mod scanning;
+mod terms;
 
 pub use merge_error::MergeError;
 pub use merging::merge;

@@ -13,3 +13,4 @@ pub use delete_worker::DeleteWorker;
 pub use merger::Merger;
 pub use outcome::{UpkeepOutcome, print_outcome};
 pub use step_laws::{lost_is_exact, nothing_is_exact, others_leave_it};
+pub use work::Aim;

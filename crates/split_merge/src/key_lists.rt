@@ -1,0 +1,115 @@
+//! The list of a key over several splits, gathered as their dictionaries are walked.
+
+ghost use Rattle.std.specs.Prelude.{◌≡◌, ◌≤◌, ◌++◌, [], ℕ, List, Option, Some, true, length, IfErr, IsOkAnd, MatchResult, OnOk};
+ghost use Rattle.std.specs.List.{AllByRecursion};
+ghost use Rattle.doc_value.specs.declared.schema.Schema.{Schema};
+ghost use Rattle.term_dict.specs.Terms.{lookup};
+ghost use Rattle.term_postings.specs.Cursors.{StandsBefore};
+ghost use Rattle.term_postings.specs.declared.list.Posting.{Posting};
+ghost use Rattle.split_bundle.specs.declared.placed.Placed.{Placed};
+ghost use Rattle.split_bundle.specs.Files.{Parts};
+ghost use Rattle.split_bundle.specs.Lists.{keeps_places, posting_list, terms_of};
+ghost use Rattle.split_bundle.specs.SplitViews.{IsViewOf};
+ghost use Rattle.split_merge.specs.Faults.{IsWant};
+ghost use Rattle.split_merge.specs.Joining.{CanSpell, Holds, Joins, joined_list, renumbered};
+ghost use Rattle.split_merge.specs.Keeping.{AreViewsOf};
+ghost use Rattle.split_merge.specs.Merging.{Blames};
+ghost use Rattle.split_merge.specs.Numbering.{kept_in, no_number, number_in, tables_of};
+ghost use Rattle.split_merge.specs.Walking.{AreWalks, IsLeast, IsNotBelow, IsWalkOf, is_past};
+
+use crate::MergeError;
+use crate::keeping::fault_of;
+use crate::key_walks::KeyWalk;
+use crate::lists::KeyList;
+use crate::numbers::Numbers;
+use split_bundle::{SplitError, SplitView};
+use term_dict::TermInfo;
+use term_postings::Cursor;
+
+// A cursor before the documents of a term of a split. `kept` says whether its list has positions.
+fn cursor_over<'a>(
+    view: &SplitView<'a>,
+    info: &TermInfo,
+    kept: bool,
+) -> Result<Cursor<'a>, SplitError>
+    ensures { (s : Schema) (documents : List Placed) (p : Parts) (key : List ℕ) → IsViewOf view.now s documents p → lookup key (terms_of s documents p.keys) ≡ Some info.now → kept ≡ keeps_places s key
+        → IsOkAnd result (λ c. StandsBefore kept c (posting_list s documents key) []) }
+{
+    if kept {
+        view.postings_at(info, true)
+    } else {
+        view.documents_at(info, false)
+    }
+}
+
+// Adds the documents of a term of a split that have a number. After an `Err` nothing is said of the list.
+fn put_term(
+    view: &SplitView<'_>,
+    numbers: &Numbers,
+    info: &TermInfo,
+    kept: bool,
+    list: &mut KeyList,
+) -> Result<(), SplitError>
+    ensures joins { (ps : List Posting) → Holds list.old ps → OnOk result ((now : List Posting) × Holds list.new now × Joins kept (number_in numbers.now) ps now) }
+    ensures only { (s : Schema) (documents : List Placed) (p : Parts) (key : List ℕ) (ps : List Posting) → IsViewOf view.now s documents p → lookup key (terms_of s documents p.keys) ≡ Some info.now → kept ≡ keeps_places s key → Holds list.old ps
+        → MatchResult result (λ _. Holds list.new (ps ++ renumbered (number_in numbers.now) (posting_list s documents key))) IsWant }
+{
+    match cursor_over(view, info, kept) {
+        Ok(cursor) => list.put(cursor, info.docs, kept, numbers),
+        Err(fault) => Err(fault),
+    }
+}
+
+// Adds the documents that a split has at a key, and goes on behind it. After an `Err` nothing is said of the list and the
+// walk.
+fn take_key(
+    view: &SplitView<'_>,
+    numbers: &Numbers,
+    walk: &mut KeyWalk<'_>,
+    key: &[u8],
+    kept: bool,
+    list: &mut KeyList,
+) -> Result<(), SplitError>
+    ensures joins { (ps : List Posting) → Holds list.old ps → OnOk result ((now : List Posting) × Holds list.new now × Joins kept (number_in numbers.now) ps now) }
+    ensures walk { (s : Schema) (last : Option (List ℕ)) → kept ≡ keeps_places s key.now → is_past last key.now ≡ true → IsWalkOf s last view.now walk.old → IsNotBelow key.now walk.old
+        → OnOk result (IsWalkOf s (Some key.now) view.now walk.new) }
+    ensures only { (s : Schema) (last : Option (List ℕ)) (documents : List Placed) (p : Parts) (ps : List Posting) → kept ≡ keeps_places s key.now → is_past last key.now ≡ true → IsWalkOf s last view.now walk.old → IsNotBelow key.now walk.old
+        → IsViewOf view.now s documents p → Holds list.old ps → MatchResult result (λ _. Holds list.new (ps ++ renumbered (number_in numbers.now) (posting_list s documents key.now))) IsWant }
+{
+    let Some(info) = walk.at(key) else {
+        return Ok(());
+    };
+    match put_term(view, numbers, &info, kept, list) {
+        Ok(()) => walk.advance(),
+        Err(fault) => Err(fault),
+    }
+}
+
+/// Gathers the documents that splits have at a key, the least one that their walks stand at, and goes on behind it. After an
+/// `Err` nothing is said of the list and the walks.
+pub(crate) fn gather_key(
+    views: &[SplitView<'_>],
+    numbers: &[Numbers],
+    walks: &mut [KeyWalk<'_>],
+    key: &[u8],
+    kept: bool,
+    list: &mut KeyList,
+) -> Result<(), MergeError>
+    requires numbers { length numbers.now ≡ length views.now }
+    requires walks { length walks.old ≡ length views.now }
+    ensures can { (dropped : List ℕ) → numbers.now ≡ tables_of dropped 0 0 views.now → Holds list.old [] → OnOk result ((ps : List Posting) × Holds list.new ps × CanSpell kept ps) }
+    ensures walks { (s : Schema) (last : Option (List ℕ)) → kept ≡ keeps_places s key.now → is_past last key.now ≡ true → AreWalks s last views.now walks.old → AllByRecursion (IsNotBelow key.now) walks.old
+        → OnOk result (AreWalks s (Some key.now) views.now walks.new) }
+    ensures only { (s : Schema) (last : Option (List ℕ)) (lists : List (List Placed)) → kept ≡ keeps_places s key.now → is_past last key.now ≡ true → AreWalks s last views.now walks.old → AllByRecursion (IsNotBelow key.now) walks.old
+        → AreViewsOf s views.now lists → Holds list.old [] → OnOk result (Holds list.new (joined_list s key.now lists numbers.now)) }
+    ensures cause { (s : Schema) (last : Option (List ℕ)) → kept ≡ keeps_places s key.now → is_past last key.now ≡ true → AreWalks s last views.now walks.old → AllByRecursion (IsNotBelow key.now) walks.old
+        → Holds list.old [] → IfErr result (Blames s views.now) }
+{
+    for i in 0..walks.len() {
+        match take_key(&views[i], &numbers[i], &mut walks[i], key, kept, list) {
+            Ok(()) => {}
+            Err(fault) => return Err(fault_of(i, fault)),
+        }
+    }
+    Ok(())
+}
