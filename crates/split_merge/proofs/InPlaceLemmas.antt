@@ -120,30 +120,30 @@ keeps_one s v doc place name x is part = is ∙ ap (λ (r : Result (List ℕ) Sp
 stops : (before : List Placed) (read : Result Placed SplitError) (f : SplitError) → read ≡ Err f → behind (Ok before) (alone read) ≡ Err f
 stops before read f is = ap (λ (r : Result Placed SplitError). behind (Ok before) (alone r)) is
 
-pub keeps_stop : {X : Type 0} (k : KeptDocuments) (s : Schema) (e : SplitError) (before : List Placed) (read : Result Placed SplitError) → read ≡ Err e → Keeps {X = X} k s (Err e) (behind (Ok before) (alone read))
-keeps_stop k s (split.Memory a) before read is = tt
-keeps_stop k s split.BadMagic before read is = stops before read split.BadMagic is
-keeps_stop k s (split.Truncated at) before read is = stops before read (split.Truncated at) is
-keeps_stop k s (split.BadSection number) before read is = stops before read (split.BadSection number) is
-keeps_stop k s (split.BadVersion version) before read is = stops before read (split.BadVersion version) is
+pub keeps_stop : (X : Type 0) (k : KeptDocuments) (s : Schema) (e : SplitError) (before : List Placed) (read : Result Placed SplitError) → read ≡ Err e → Keeps {X = X} k s (Err e) (behind (Ok before) (alone read))
+keeps_stop X k s (split.Memory a) before read is = tt
+keeps_stop X k s split.BadMagic before read is = stops before read split.BadMagic is
+keeps_stop X k s (split.Truncated at) before read is = stops before read (split.Truncated at) is
+keeps_stop X k s (split.BadSection number) before read is = stops before read (split.BadSection number) is
+keeps_stop X k s (split.BadVersion version) before read is = stops before read (split.BadVersion version) is
 
 -- a document whose bytes are not of the form
-pub keeps_scan : {X Y : Type 0} (holds : Y → ℕ × (ℕ × List DocField) → Type 0) (k : KeptDocuments) (s : Schema) (v : SplitView) (doc : ℕ) (bytes : List ℕ) (e : SplitError) (before : List Placed) → doc_part v.layout (pieces_of v) doc ≡ Ok bytes
+pub keeps_scan : (X Y : Type 0) (holds : Y → ℕ × (ℕ × List DocField) → Type 0) (k : KeptDocuments) (s : Schema) (v : SplitView) (doc : ℕ) (bytes : List ℕ) (e : SplitError) (before : List Placed) → doc_part v.layout (pieces_of v) doc ≡ Ok bytes
     → Scans holds (Err e) (document_at s.fields bytes) → Keeps {X = X} k s (Err e) (behind (Ok before) (alone (document_of s v doc)))
-keeps_scan holds k s v doc bytes (split.Memory a) before part scans = tt
-keeps_scan holds k s v doc bytes split.BadMagic before part scans = absurd scans
-keeps_scan holds k s v doc bytes (split.Truncated at) before part scans = absurd scans
-keeps_scan holds k s v doc bytes (split.BadSection number) before part scans =
+keeps_scan X Y holds k s v doc bytes (split.Memory a) before part scans = tt
+keeps_scan X Y holds k s v doc bytes split.BadMagic before part scans = absurd scans
+keeps_scan X Y holds k s v doc bytes (split.Truncated at) before part scans = absurd scans
+keeps_scan X Y holds k s v doc bytes (split.BadSection number) before part scans =
     stops before (document_of s v doc) (split.BadSection number) (document_stops s v doc bytes scans.1 part scans.2 ∙ ap (λ (n : ℕ). bad n) (sym scans.0))
   where
     bad : ℕ → Result Placed SplitError
     bad n = Err (split.BadSection n)
-keeps_scan holds k s v doc bytes (split.BadVersion version) before part scans = absurd scans
+keeps_scan X Y holds k s v doc bytes (split.BadVersion version) before part scans = absurd scans
 
 -- whose partition does not read
-pub keeps_partition : {X : Type 0} (k : KeptDocuments) (s : Schema) (v : SplitView) (doc place : ℕ) (x : ℕ × List DocField) (e : SplitError) (before : List Placed) → document_of s v doc ≡ with_partition v.footer.now v.layout.partitions place x
+pub keeps_partition : (X : Type 0) (k : KeptDocuments) (s : Schema) (v : SplitView) (doc place : ℕ) (x : ℕ × List DocField) (e : SplitError) (before : List Placed) → document_of s v doc ≡ with_partition v.footer.now v.layout.partitions place x
     → MayGive {X = List ℕ} {Y = List ℕ} (λ p. p) (Err e) (partition_in v.footer.now v.layout.partitions place) → Keeps {X = X} k s (Err e) (behind (Ok before) (alone (document_of s v doc)))
-keeps_partition {X} k s v doc place x e before is gives = by e gives
+keeps_partition X k s v doc place x e before is gives = by e gives
   where
     at : (f : SplitError) → partition_in v.footer.now v.layout.partitions place ≡ Err f → document_of s v doc ≡ Err f
     at f part = is ∙ ap (λ (r : Result (List ℕ) SplitError). and_then r (λ n. Ok (placed_at n x))) part

@@ -133,7 +133,7 @@ impl KeptDocuments {
         match self.facts.take_document(alloc, &schema.fields, bytes) {
             Ok((place, from)) => match partition_at(alloc, schema, view, known, place, doc) {
                 Ok(partition) => {
-                    let body = &bytes[from..];
+                    let (_place, body) = bytes.split_at(from);
                     self.documents.add(&partition, body)?;
                     self.weight = self
                         .weight

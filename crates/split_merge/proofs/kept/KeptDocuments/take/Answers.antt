@@ -10,4 +10,4 @@ returns-in-Ok-clause-exact c = λ before h known. c.take_bytes.ensures.exact bef
 
 pub returns-in-Err-clause-exact : goal.returns-in-Err-clause-exact
 returns-in-Err-clause-exact c = λ before h known.
-    keeps_stop {X = ⊤} c.args.self.now c.args.schema.now c.in-Err.fault before _ (part_fault c.args.schema.now c.args.view.now c.args.doc c.in-Err.fault c.in-Err.ensures.exact)
+    keeps_stop ⊤ c.args.self.now c.args.schema.now c.in-Err.fault before _ (part_fault c.args.schema.now c.args.view.now c.args.doc c.in-Err.fault c.in-Err.ensures.exact)
