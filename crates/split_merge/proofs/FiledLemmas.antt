@@ -1,33 +1,27 @@
 -- The file of documents that are kept.
-use Rattle.std.proofs.Common.{◌≡◌, ℕ, zero, suc, ◌+◌, ◌<◌, ◌≤◌, ◌^◌, List, [], ◌∷◌, ◌++◌, length, min, refl, sym, ap, subst, ◌∙◌, arith}
+use Rattle.std.proofs.Common.{◌≡◌, ℕ, zero, suc, ◌+◌, ◌<◌, ◌^◌, List, [], ◌∷◌, ◌++◌, length, min, refl, sym, ap, subst, ◌∙◌, arith}
 use Rattle.std.specs.Prelude.{Option}
-use Rattle.std.specs.List.{AllByRecursion}
 use Rattle.sha2.specs.Sha256.{sha256}
 use Rattle.doc_value.specs.declared.schema.Schema.{Schema}
-use Rattle.doc_value.specs.Documents.{IsOfSchema, IsSchema}
+use Rattle.doc_value.specs.Documents.{IsSchema}
 use Rattle.split_states.specs.declared.facts.Times.{Times}
 use Rattle.split_bundle.specs.declared.placed.Placed.{Placed}
 use Rattle.split_bundle.specs.Columns.{fast_fields}
 use Rattle.split_bundle.specs.Documents.{total_weight}
-use Rattle.split_bundle.specs.Held.{IsHeld}
 use Rattle.split_bundle.specs.Splits.{AreDocumentsOf, IsSplit}
 use Rattle.split_build.specs.declared.builder.BuiltSplit.{BuiltSplit}
 use Rattle.split_build.specs.declared.file.FileParts.{FileParts}
-use Rattle.split_build.specs.declared.term_parts.TermParts.{TermParts}
 use Rattle.split_build.specs.Bodies.{body_of}
 use Rattle.split_build.specs.Builders.{IsBuilt}
 use Rattle.split_build.specs.Facts.{AreFacts}
 use Rattle.split_build.specs.Filed.{IsFileOf, parts_of}
-use Rattle.split_build.specs.HeldColumns.{HasColumns}
-use Rattle.split_build.specs.HeldDocuments.{HasDocuments}
-use Rattle.split_build.specs.HeldTags.{HasTags}
 use Rattle.split_build.specs.Limits.{AreWithin, most}
 use Rattle.split_build.specs.Sections.{ArePartsOf}
 use Rattle.split_build.specs.Tags.{AreTagsOf, tag_numbers}
 use Rattle.split_build.specs.Times.{AreTimes, seconds_in}
 use Rattle.split_build.specs.WrittenTerms.{AreTermParts}
 use Rattle.split_build.proofs.BuiltLemmas.{is_split}
-use Rattle.split_build.proofs.TakenLemmas.{all_push, body_weighs, weight_more}
+use Rattle.split_build.proofs.TakenLemmas.{body_weighs, weight_more}
 use Rattle.split_merge.specs.declared.kept.KeptDocuments.{KeptDocuments}
 use Rattle.split_merge.specs.Kept.{AreSectionsOf, AreToWrite, HasKept}
 use Rattle.split_merge.specs.Merging.{HoldsDocuments}

@@ -1,4 +1,4 @@
-use Rattle.std.proofs.Common.{◌≡◌, ◌∙◌, List, ℕ, ap, sym, refl, arith, rules}
+use Rattle.std.proofs.Common.{◌≡◌, ap, arith, rules}
 use Rattle.std.specs.Prelude.{IsUtf8}
 use Rattle.doc_value.specs.declared.doc.Value.TheVariants as values
 use Rattle.split_build.specs.HeldColumns.{texts_of}

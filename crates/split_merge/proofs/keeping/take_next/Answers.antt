@@ -1,7 +1,5 @@
-use Rattle.std.proofs.Common.{sym, subst}
-use Rattle.std.specs.Prelude.{⊤, Bool}
-use Rattle.split_merge.specs.Kept.{Keeps}
-use Rattle.split_merge.specs.Reading.{behind, document_of, unless}
+use Rattle.std.specs.Prelude.{⊤}
+use Rattle.split_merge.specs.Reading.{document_of}
 use Rattle.split_merge.proofs.KeepLemmas.{none_read, unless_not}
 use Rattle.split_merge.proofs.keeping.take_next.Goals as goal
 

@@ -1,7 +1,6 @@
-use Rattle.std.proofs.Common.{List, sym, subst, Err}
+use Rattle.std.proofs.Common.{sym, subst, Err}
 use Rattle.split_merge.specs.Keeping.{joined, kept}
 use Rattle.split_merge.specs.Merging.{HasCause, Merges, MergesRead}
-use Rattle.split_merge.proofs.KeptLemmas.{blames_cause}
 use Rattle.split_merge.proofs.MergeLemmas.{merges_by, reads_by, refused_cause, refused_merges, refused_reads}
 use Rattle.split_merge.proofs.merging.join_documents.Goals as goal
 

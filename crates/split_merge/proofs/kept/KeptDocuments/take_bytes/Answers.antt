@@ -1,7 +1,6 @@
-use Rattle.std.proofs.Common.{◌≡◌, ◌∙◌, ◌++◌, ◌∷◌, [], List, ℕ, Ok, ap, refl, subst, sym, length, drop, arith}
+use Rattle.std.proofs.Common.{◌≡◌, ◌∙◌, ◌++◌, ◌∷◌, [], ℕ, Ok, ap, refl, arith}
 use Rattle.std.specs.Prelude.{⊤}
 use Rattle.doc_value.specs.Documents.{IsOfSchema}
-use Rattle.split_bundle.specs.declared.placed.Placed.{Placed}
 use Rattle.split_bundle.specs.Held.{IsHeld}
 use Rattle.split_build.specs.Bodies.{body_of}
 use Rattle.split_build.proofs.TakenLemmas.{all_push}
