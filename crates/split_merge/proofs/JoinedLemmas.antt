@@ -19,13 +19,6 @@ use Rattle.split_merge.specs.Terms.{HasJoined}
 longer : (xs ys zs : List ℕ) → zs ≡ xs ++ ys → length zs ≡ length xs + length ys
 longer xs ys zs is = ap (λ (l : List ℕ). length l) is ∙ length-append xs ys
 
--- what was appended has room
-pub not_shorter : (kept : Bool) (ps : List Posting) (postings places now now_places : List ℕ) → AppendsList kept ps postings places now now_places → (length postings ≤ length now) × (length places ≤ length now_places)
-not_shorter kept ps postings places now now_places h = (
-  omega (arith, longer postings (list_bytes kept ps) now h.postings_are),
-  omega (arith, longer places (position_bytes ps) now_places h.positions_are),
-)
-
 module _ (s : Schema) (ds : List Placed) (keys : List (List ℕ)) (key : List ℕ) (info : TermInfo) (old : JoinedTerms) (now_postings now_positions : List ℕ) (h : HasJoined old s ds keys)
     (l : IsListed s ds key old.postings.items old.positions.items now_postings now_positions) where
   pub term_is : IsInfo s ds key info old.postings.items old.positions.items now_postings now_positions → terms_of s ds keys ++ term_with key info ∷ [] ≡ terms_of s ds (keys ++ key ∷ [])
