@@ -1,13 +1,11 @@
 -- A key is written behind others.
-use Rattle.std.proofs.Common.{◌≡◌, ℕ, ◌+◌, ◌≤◌, Bool, List, [], ◌∷◌, ◌++◌, length, sym, ◌∙◌, ap, subst, arith, length-append}
+use Rattle.std.proofs.Common.{◌≡◌, ℕ, ◌+◌, List, [], ◌∷◌, ◌++◌, length, sym, ◌∙◌, ap, subst, arith, length-append}
 use Rattle.std.specs.List.{flat_map}
 use Rattle.doc_value.specs.declared.schema.Schema.{Schema}
 use Rattle.term_dict.specs.declared.term.Term.{Term}
 use Rattle.term_dict.specs.declared.term.TermInfo.{TermInfo}
 use Rattle.term_dict.specs.Builders.{HasTaken, term_with}
-use Rattle.term_postings.specs.Postings.{AreDocuments, list_bytes, position_bytes}
-use Rattle.term_postings.specs.Rows.{AppendsList}
-use Rattle.term_postings.specs.declared.list.Posting.{Posting}
+use Rattle.term_postings.specs.Postings.{AreDocuments}
 use Rattle.term_postings.proofs.Lists.{all_both}
 use Rattle.split_bundle.specs.declared.placed.Placed.{Placed}
 use Rattle.split_bundle.specs.Lists.{keeps_places, posting_list, list_of, places_in, term_of, terms_of}

@@ -1,4 +1,4 @@
-use Rattle.std.proofs.Common.{◌≡◌, ◌∙◌, ◌<◌, ◌^◌, List, ℕ, ap, refl, subst, sym, length, arith}
+use Rattle.std.proofs.Common.{◌∙◌, ◌<◌, ◌^◌, List, ℕ, ap, refl, subst, sym, length, arith}
 use Rattle.sha2.specs.Sha256.{sha256}
 use Rattle.split_build.specs.declared.term_parts.TermParts.{TermParts}
 use Rattle.split_build.specs.Tags.{tag_numbers}
