@@ -33,3 +33,6 @@ pub mod Pruned
 pub mod PlannedRows
 pub mod Found
 pub mod Steps
+pub mod TaskCalls
+pub mod TaskReads
+pub mod DeleteLaws
