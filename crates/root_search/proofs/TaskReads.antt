@@ -119,7 +119,11 @@ fields_read fields defaults (Some paths) ns rise texts h = paths_read fields pat
 
 -- ---- a delete
 
--- what a delete over a schema is made of
+-- what a delete over a schema is, within these times
+abbrev deletion_of : Schema → List ℕ → Selection → TimeRange → Deletion
+deletion_of schema defaults s times = record { text = s.query; fields = searched_paths schema.fields defaults s.fields; times = times }
+
+-- and of what it is made
 record IsDeletion (schema : Schema) (defaults : List ℕ) (s : Selection) (deletion : Deletion) : Type 0 where
   pub numbers : List ℕ
   pub query : Sought
@@ -133,20 +137,19 @@ unfolding delete_in
 deletion_is schema defaults s deletion h = by_fields (searched schema.fields defaults s.fields) refl h
   where
     by_query : (numbers : List ℕ) → searched schema.fields defaults s.fields ≡ Ok numbers → (times : TimeRange) → (r : Result Sought Unanswered) → query_in schema numbers s.query ≡ r
-        → (r >>= λ query. Ok (record { text = s.query; fields = searched_paths schema.fields defaults s.fields; times = times })) ≡ Ok deletion → IsDeletion schema defaults s deletion
+        → (r >>= λ query. Ok (deletion_of schema defaults s times)) ≡ Ok deletion → IsDeletion schema defaults s deletion
     by_query numbers p times (Ok query) q k =
-        let made : Deletion = record { text = s.query; fields = searched_paths schema.fields defaults s.fields; times = times } in
-        let same : made ≡ deletion = ok_one {E = Unanswered} made deletion k in
+        let same : deletion_of schema defaults s times ≡ deletion = ok_one {E = Unanswered} (deletion_of schema defaults s times) deletion k in
         record { numbers = numbers; query = query; fields_are = p; query_is = q; text = ap (λ (d : Deletion). d.text) (sym same); fields = ap (λ (d : Deletion). d.fields) (sym same) }
     by_query numbers p times (Err x) q k = absurd (never_ok x deletion k)
 
     by_times : (numbers : List ℕ) → searched schema.fields defaults s.fields ≡ Ok numbers → (r : Result TimeRange Unanswered)
-        → (r >>= λ times. query_in schema numbers s.query >>= λ query. Ok (record { text = s.query; fields = searched_paths schema.fields defaults s.fields; times = times })) ≡ Ok deletion → IsDeletion schema defaults s deletion
+        → (r >>= λ times. query_in schema numbers s.query >>= λ query. Ok (deletion_of schema defaults s times)) ≡ Ok deletion → IsDeletion schema defaults s deletion
     by_times numbers p (Ok times) k = by_query numbers p times (query_in schema numbers s.query) refl k
     by_times numbers p (Err x) k = absurd (never_ok x deletion k)
 
     by_fields : (r : Result (List ℕ) Unanswered) → searched schema.fields defaults s.fields ≡ r
-        → (r >>= λ numbers. timed schema s.times >>= λ times. query_in schema numbers s.query >>= λ query. Ok (record { text = s.query; fields = searched_paths schema.fields defaults s.fields; times = times })) ≡ Ok deletion → IsDeletion schema defaults s deletion
+        → (r >>= λ numbers. timed schema s.times >>= λ times. query_in schema numbers s.query >>= λ query. Ok (deletion_of schema defaults s times)) ≡ Ok deletion → IsDeletion schema defaults s deletion
     by_fields (Ok numbers) p k = by_times numbers p (timed schema s.times) k
     by_fields (Err x) p k = absurd (never_ok x deletion k)
 
