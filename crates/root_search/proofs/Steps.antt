@@ -86,12 +86,12 @@ plan_short answer asked client core e = ap (λ (r : Result ⊤ Trouble). (plan_b
     by (Err (reasons.Memory m)) = refl
 
 -- the core behind the task of a delete, which answers nothing without memory
-delete_core : (answer : Result ⊤ Unmade) (client : Client) (core : Core) → (delete_by answer client core).core ≡ core
+pub delete_core : (answer : Result ⊤ Unmade) (client : Client) (core : Core) → (delete_by answer client core).core ≡ core
 delete_core (Ok done) client core = refl
 delete_core (Err (calls.refused refusal)) client core = refl
 delete_core (Err (troubled trouble)) client core = trouble_core client.front trouble client core
 
-delete_short : (answer : Result ⊤ Unmade) (client : Client) (core : Core) → answer ≡ Err (troubled no_memory) → (delete_by answer client core).outcome ≡ None
+pub delete_short : (answer : Result ⊤ Unmade) (client : Client) (core : Core) → answer ≡ Err (troubled no_memory) → (delete_by answer client core).outcome ≡ None
 delete_short answer client core e = ap (λ (r : Result ⊤ Unmade). (delete_by r client core).outcome) e
 
 fetch_core : (answer : Result ⊤ Trouble) (plan : Plan) (number : ℕ) (more : List ℕ) (client : Client) (core : Core) → (fetch_by answer plan number more client core).core ≡ core
