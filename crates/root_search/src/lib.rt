@@ -1,4 +1,4 @@
-//! Searches of clients: what each of their steps answers.
+//! Searches and deletes of clients: what each of their steps answers.
 #![tactic(auto)]
 
 mod answer_laws;
