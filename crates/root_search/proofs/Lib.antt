@@ -14,7 +14,7 @@ pub mod Fetches
 pub mod CallsMade
 pub mod RowReads
 pub mod Planning
-pub mod Asking
+pub mod ReadTexts
 pub mod Leaving
 pub mod Unread
 pub mod Tails

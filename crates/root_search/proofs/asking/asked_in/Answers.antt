@@ -3,7 +3,7 @@ use Rattle.search_api.specs.Requests.{request_of}
 use Rattle.search_api.specs.Resolved.{Asked, view}
 use Rattle.search_api.specs.Unanswered.{Shows}
 use Rattle.search_api.specs.declared.unanswered.Unanswered.{Unanswered}
-use Rattle.root_search.proofs.Asking.{asked_as}
+use Rattle.root_search.proofs.ReadTexts.{asked_as}
 use Rattle.root_search.proofs.asking.asked_in.Goals as goal
 
 pub returns-clause-asked : goal.returns-clause-asked

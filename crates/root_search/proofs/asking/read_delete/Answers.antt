@@ -1,5 +1,5 @@
 use Rattle.std.proofs.Common.{◌∙◌}
-use Rattle.root_search.proofs.Asking.{ask_is}
+use Rattle.root_search.proofs.ReadTexts.{ask_is}
 use Rattle.root_search.proofs.asking.read_delete.Goals as goal
 
 pub returns : goal.returns

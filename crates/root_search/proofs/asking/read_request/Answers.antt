@@ -3,7 +3,7 @@ use Rattle.search_api.specs.Answerable.{CanAnswer}
 use Rattle.search_api.specs.Resolved.{search_view, view}
 use Rattle.search_api.specs.declared.resolved.Resolved.{Resolved}
 use Rattle.root_search.specs.Requests.{asked_of}
-use Rattle.root_search.proofs.Asking.{delete_read, search_read}
+use Rattle.root_search.proofs.ReadTexts.{delete_read, search_read}
 use Rattle.root_search.proofs.Schemas.{intervals_kept, sort_narrow}
 use Rattle.root_search.proofs.asking.read_request.Goals as goal
 
