@@ -18,12 +18,6 @@ use Rattle.root_search.specs.Requests.{ask_of, read_or}
 use Rattle.root_search.specs.declared.reads.ReadRequest.TheVariants as reads
 use Rattle.root_search.specs.declared.reads.ReadSearch.{ReadSearch}
 
-pub search_read : (s : Schema) (asked : Result Asked Unanswered) (r : Resolved) (search : SearchAsk) (read : ReadSearch) → asked ≡ Ok (view r) → r ≡ given.Search search → IsRead s (search_view search) read → Reads s asked (Ok (reads.Search read))
-search_read s asked r search read same is read_is = (search_view search, same ∙ ap (λ (x : Resolved). Ok (view x)) is, read_is)
-
-pub delete_read : (s : Schema) (asked : Result Asked Unanswered) (r : Resolved) (deletion : Deletion) (ask : DeleteAsk) → asked ≡ Ok (view r) → r ≡ given.Delete deletion → IsReadDelete deletion ask → Reads s asked (Ok (reads.Delete ask))
-delete_read s asked r deletion ask same is read_is = (deletion, same ∙ ap (λ (x : Resolved). Ok (view x)) is, read_is)
-
 -- a text that is a request asks what that asks of the schema
 pub asked_as : (config : IndexConfig) (r : Result Request RequestError) (request : Request) → r ≡ Ok request → (read_or r >>= resolved config.schema config.default_fields) ≡ resolved config.schema config.default_fields request
 asked_as config r request is = ap (λ (q : Result Request RequestError). read_or q >>= resolved config.schema config.default_fields) is

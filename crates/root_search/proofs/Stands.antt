@@ -10,12 +10,11 @@ use Rattle.meta_store.specs.History.{History, history}
 use Rattle.meta_store.specs.History.History.{Start, ◌▸◌}
 use Rattle.meta_store.specs.Ledgers.{ledger}
 use Rattle.meta_store.specs.Planning.{planned_row, searched}
-use Rattle.meta_store.specs.Readings.{config_of}
 use Rattle.meta_store.specs.Rows.{rows}
 use Rattle.meta_store.specs.State.{Legal}
 use Rattle.index_config.specs.declared.config.IndexConfig.{IndexConfig}
 use Rattle.index_world.specs.Config.{reads}
-use Rattle.index_world.specs.Configuration.{configuration, config_or, index_of}
+use Rattle.index_world.specs.Configuration.{configuration, config_or}
 use Rattle.source_log.specs.Log.{Log}
 use Rattle.split_states.specs.Rows.{row_at}
 use Rattle.split_states.specs.declared.rows.Row.{Row}
@@ -28,7 +27,7 @@ use Rattle.split_bundle.specs.declared.placed.Placed.{Placed}
 use Rattle.leaf_search.specs.Answers.{IsAsked}
 use Rattle.root_search.specs.RowFacts.{HasFactsOf}
 use Rattle.search_api.specs.Resolved.{Search}
-use Rattle.index_world.proofs.Configured.{configured-take, configured-unread, configured_fold, legal_front}
+use Rattle.index_world.proofs.Configured.{configured-take, configured-unread, legal_front}
 use Rattle.index_world.proofs.InCore.{planned_goes, shown_goes}
 use Rattle.index_world.proofs.StoreChanges.{All-each}
 use Rattle.root_search.specs.SplitParts.{HasNeeded, IsFooterIn}
@@ -230,8 +229,8 @@ legal_before entries all more grown legal = legal_front (history entries) more (
 
 configured_more : (entries all more : List Entry) (config : IndexConfig) → all ≡ entries ++ more → Legal reads (history all) → configuration entries ≡ Some config → configuration all ≡ Some config
 configured_more entries all more config grown legal is =
-    let whole : history all ≡ fold ◌▸◌ (history entries) more = ap history grown ∙ history_more entries more in
-    subst (λ (h : History). index_of (config_of reads h) ≡ Some config) (sym whole) (configured_fold (history entries) more config (subst (Legal reads) whole legal) is)
+    let front : take (length entries) all ≡ entries = ap (take (length entries)) grown ∙ (take-append-le (length entries) entries more (omega arith) ∙ take_all (length entries) entries (omega arith)) in
+    configured-take (length entries) all legal config (ap configuration front ∙ is)
 
 -- what others did before a call left the configuration
 pub config_before : (core mid after : Core) (log : Log) (config : IndexConfig) → IsSoundCore core log → IsSoundCore after log → IsConfigured config core → (first : List Entry) → mid.history ≡ core.history ++ first

@@ -80,8 +80,9 @@ fn kept_text(alloc: Global, text: &Text) -> Result<KeptText, AllocError>
     ensures can { IfOk result (λ kept. IsText kept) }
 {
     let bytes = text.as_str().as_bytes();
-    let _count = bytes.len();
-    KeptText::from_slice(alloc, bytes)
+    let kept = KeptText::from_slice(alloc, bytes)?;
+    let _count = kept.len();
+    Ok(kept)
 }
 
 fn kept_texts(alloc: Global, texts: &[Text]) -> Result<Texts, AllocError>
